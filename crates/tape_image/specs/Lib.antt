@@ -1,0 +1,12 @@
+pub mod Tape
+pub mod Word
+pub mod Spelling
+pub mod Begins
+pub mod Fault
+pub mod Reader
+pub mod Step
+pub mod State
+pub mod Next
+pub mod Device
+pub mod Kind
+pub mod Front
