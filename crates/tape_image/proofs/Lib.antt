@@ -1,6 +1,12 @@
 pub mod Words
 pub mod Leads
 pub mod Stops
+pub mod Spellings
+pub mod OneStop
+pub mod Uniqueness
+pub mod Existence
 pub mod Taken
 pub mod Blocks
 pub mod Steps
+pub mod Walks
+pub mod Callers

@@ -55,7 +55,7 @@ item_known (Some xs) (Some ms) (Some ys) gaps bytes p at n item a lead place b l
 -- gaps were taken, and then the bytes of an end, where more may follow them
 pub end_known : (old mid new : Option (List ℕ)) (gaps bytes : List ℕ) (p at q : ℕ) (ending : Ending) → at ≤ image_limit → Consumes old mid gaps → Leads gaps [] [] → p + length gaps ≡ at
     → Consumes mid new bytes → length bytes ≡ end_len ending → at + end_len ending ≡ q → ((ys : List ℕ) → new ≡ Some ys → Stops at (bytes ++ ys) (ends ending))
-    → IfKnown old new (TakesEnd p ending q)
+    → IfKnown old new (TakesEnd p [] ending q)
 end_known None mid new gaps bytes p at q ending near a lead place b long behind s = tt
 end_known (Some xs) None new gaps bytes p at q ending near a lead place b long behind s = absurd a
 end_known (Some xs) (Some ms) None gaps bytes p at q ending near a lead place b long behind s = absurd b
@@ -71,7 +71,7 @@ end_known (Some xs) (Some ms) (Some ys) gaps bytes p at q ending near a lead pla
     }
 
 pub marked_known : (old mid new : Option (List ℕ)) (gaps : List ℕ) (p at : ℕ) → at ≤ image_limit → Consumes old mid gaps → Leads gaps [] [] → p + length gaps ≡ at → TookEnd at mid new
-    → IfKnown old new (TakesEnd p Marked (at + 4))
+    → IfKnown old new (TakesEnd p [] Marked (at + 4))
 marked_known old mid new gaps p at near a lead place end =
     end_known old mid new gaps end.bytes p at (at + 4) Marked near a lead place end.taken end.is.four refl (λ ys _. marked_stops at end.bytes ys end.is end.within)
 
@@ -81,13 +81,13 @@ nothing_left at new ys end e =
     nothing none refl
 
 pub physical_known : (old mid new : Option (List ℕ)) (gaps : List ℕ) (p at : ℕ) → at ≤ image_limit → Consumes old mid gaps → Leads gaps [] [] → p + length gaps ≡ at → Consumes mid new [] → IsAtEnd new
-    → IfKnown old new (TakesEnd p Physical at)
+    → IfKnown old new (TakesEnd p [] Physical at)
 physical_known old mid new gaps p at near a lead place b end =
     end_known old mid new gaps [] p at at Physical near a lead place b refl (omega arith) (λ ys e. nothing_left at new ys end e)
 
 -- bytes behind gaps show a cause
 cause_of : (cause : ImageCause) (p at : ℕ) (xs gaps bytes ys : List ℕ) → at ≤ image_limit → xs ≡ gaps ++ (bytes ++ ys) → Leads gaps [] [] → p + length gaps ≡ at → Shows cause at bytes → (cause ≡ Truncated → ys ≡ [])
-    → IsCause cause p at xs (gaps ++ bytes)
+    → IsCause cause p [] at xs (gaps ++ bytes)
 cause_of Device p at xs gaps bytes ys near e lead place (stop, stops, cut) all = (stop, stops_behind p at (gaps ++ bytes) gaps bytes stop refl lead place near stops, cut)
 cause_of OutOfMemory p at xs gaps bytes ys near e lead place shows all = absurd shows
 cause_of Truncated p at xs gaps bytes ys near e lead place shows all =
@@ -106,7 +106,7 @@ cause_of LengthsDiffer p at xs gaps bytes ys near e lead place (stops, size) all
 
 -- gaps were taken, and then bytes that show a cause
 pub fault_known : (cause : ImageCause) (old mid new : Option (List ℕ)) (gaps : List ℕ) (p at : ℕ) → at ≤ image_limit → Consumes old mid gaps → Leads gaps [] [] → p + length gaps ≡ at → Faults at mid new cause
-    → IfKnown old new (TakesFault p (record { place = at; cause = cause }))
+    → IfKnown old new (TakesFault p [] (record { place = at; cause = cause }))
 fault_known cause None mid new gaps p at near a lead place f = tt
 fault_known cause (Some xs) None new gaps p at near a lead place f = absurd a
 fault_known cause (Some xs) (Some ms) None gaps p at near a lead place f = absurd f.taken

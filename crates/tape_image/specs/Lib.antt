@@ -10,3 +10,5 @@ pub mod Next
 pub mod Device
 pub mod Kind
 pub mod Front
+pub mod Calls
+pub mod Laws

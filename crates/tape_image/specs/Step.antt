@@ -27,10 +27,11 @@ pub record TakesItem (p : ℕ) (item : TapeItem) (q : ℕ) (xs ys : List ℕ) : 
   pub spelled : IsSpelling spelling (item ∷ [])
   pub place : p + (length gaps + length spelling) ≡ q
 
--- the bytes xs at place p are gaps and then end, at place end; up to place q the gaps and an end word are taken, and ys is left
-pub record TakesEnd (p : ℕ) (ending : Ending) (q : ℕ) (xs ys : List ℕ) : Type 0 where
+-- The bytes xs at place p begin with these items, and then end, at place end. Up to place q they are taken, an end
+-- word with them, and ys is left.
+pub record TakesEnd (p : ℕ) (items : List TapeItem) (ending : Ending) (q : ℕ) (xs ys : List ℕ) : Type 0 where
   pub end : ℕ
-  pub begins : Begins p xs [] end (ends ending)
+  pub begins : Begins p xs items end (ends ending)
   pub behind : end + end_len ending ≡ q
   pub taken : List ℕ
   pub whole : xs ≡ taken ++ ys
@@ -40,22 +41,24 @@ pub record TakesEnd (p : ℕ) (ending : Ending) (q : ℕ) (xs ys : List ℕ) : T
 abbrev pub IsCutOff : Stop → Type 0
 IsCutOff stop = (stop ≡ ends Physical) ⊎ (stop ≡ faults Truncated)
 
--- Why a fault stands at place q, where of the bytes xs at place p the device gave those in `given`. A device that
--- fails hides what follows what it gave. Every other cause is told by the bytes xs, and as soon as it can be: a
--- reserved or too long word before a byte behind it is taken, unequal words with the last byte of the second.
-abbrev pub IsCause : ImageCause → ℕ → ℕ → List ℕ → List ℕ → Type 0
-IsCause Device p q xs given = (stop : Stop) × Begins p given [] q stop × IsCutOff stop
-IsCause OutOfMemory p q xs given = ⊥
-IsCause Truncated p q xs given = Begins p xs [] q (faults Truncated) × (given ≡ xs)
-IsCause (Reserved w) p q xs given = Begins p xs [] q (faults (Reserved w)) × (p + length given ≡ q + 4)
-IsCause TooLong p q xs given = Begins p xs [] q (faults TooLong) × (p + length given ≡ q + 4)
-IsCause LengthsDiffer p q xs given = (b : Begins p xs [] q (faults LengthsDiffer)) × (n : ℕ) × (extent_of (little_number 4 b.rest) ≡ Some n) × (p + length given ≡ q + n)
+-- Why, behind these items, a fault stands at place q, where of the bytes xs at place p the device gave those in
+-- `given`. A device that fails hides what follows what it gave. Every other cause is told by the bytes xs, and as
+-- soon as it can be: a reserved or too long word before a byte behind it is taken, unequal words with the last
+-- byte of the second.
+abbrev pub IsCause : ImageCause → ℕ → List TapeItem → ℕ → List ℕ → List ℕ → Type 0
+IsCause Device p items q xs given = (stop : Stop) × Begins p given items q stop × IsCutOff stop
+IsCause OutOfMemory p items q xs given = ⊥
+IsCause Truncated p items q xs given = Begins p xs items q (faults Truncated) × (given ≡ xs)
+IsCause (Reserved w) p items q xs given = Begins p xs items q (faults (Reserved w)) × (p + length given ≡ q + 4)
+IsCause TooLong p items q xs given = Begins p xs items q (faults TooLong) × (p + length given ≡ q + 4)
+IsCause LengthsDiffer p items q xs given = (b : Begins p xs items q (faults LengthsDiffer)) × (n : ℕ) × (extent_of (little_number 4 b.rest) ≡ Some n) × (p + length given ≡ q + n)
 
--- the bytes xs at place p are what the device gave, which has the cause at place q, and ys, which it has left
-pub record TakesFault (p : ℕ) (fault : ImageFault) (xs ys : List ℕ) : Type 0 where
+-- The bytes xs at place p are what the device gave, which has these items and then the fault's cause, and ys, which
+-- it has left.
+pub record TakesFault (p : ℕ) (items : List TapeItem) (fault : ImageFault) (xs ys : List ℕ) : Type 0 where
   pub given : List ℕ
   pub whole : xs ≡ given ++ ys
-  pub cause : IsCause fault.cause p fault.place xs given
+  pub cause : IsCause fault.cause p items fault.place xs given
 
 -- it gave the item and goes on behind it
 pub record GivesItem (old : Reader) (item : TapeItem) (new : Reader) : Type 0 where
@@ -71,7 +74,7 @@ pub record MeetsEnd (old new : Reader) : Type 0 where
   pub ended : new.status ≡ ended ending
   pub moves : old.place + end_len ending ≤ new.place
   pub within : new.place ≤ image_limit
-  pub takes : IfKnown old.left new.left (TakesEnd old.place ending new.place)
+  pub takes : IfKnown old.left new.left (TakesEnd old.place [] ending new.place)
 
 -- it met a fault
 pub record MeetsFault (old : Reader) (fault : ImageFault) (new : Reader) : Type 0 where
@@ -80,7 +83,7 @@ pub record MeetsFault (old : Reader) (fault : ImageFault) (new : Reader) : Type 
   pub moves : old.place ≤ new.place
   pub within : new.place ≤ image_limit
   pub memory : fault.cause ≢ OutOfMemory
-  pub takes : IfKnown old.left new.left (TakesFault old.place fault)
+  pub takes : IfKnown old.left new.left (TakesFault old.place [] fault)
 
 -- what a call answers and leaves while the reader goes on
 abbrev pub Meets : Reader → Result (Option TapeItem) ImageFault → Reader → Type 0

@@ -1,0 +1,38 @@
+//! Laws of the definitions that the reader's contract cites: calls that do nothing, whose contract is the law.
+
+ghost use Rattle.tape_image.specs.Laws.{SpellingsAreUnique, NoSpellingBeginsAnother, SpellingOrStop, NeverBoth, OneStop, EndWordEnds};
+ghost use Rattle.tape_image.specs.Laws.{BeginsIsUnique, BeginsExists, BeginsWithItems, SpelledBegins};
+ghost use Rattle.tape_image.specs.Calls.{GiveUpToEnd, GiveUpToFault};
+
+/// Two spellings that begin the same bytes are one, and no spelling begins another.
+pub fn no_spelling_begins_another()
+    ensures unique { SpellingsAreUnique }
+    ensures prefix { NoSpellingBeginsAnother }
+{}
+
+/// At each place of an image stands either a spelling that ends within the limit, or one stop.
+pub fn a_spelling_or_a_stop_stands()
+    ensures some { SpellingOrStop }
+    ensures apart { NeverBoth }
+    ensures one { OneStop }
+    ensures end_word { EndWordEnds }
+{}
+
+/// Any bytes begin with one list of items, and stop at one place for one reason.
+pub fn bytes_begin_with_one_list_of_items()
+    ensures unique { BeginsIsUnique }
+    ensures exists { BeginsExists }
+    ensures items { BeginsWithItems }
+{}
+
+/// Bytes that spell items up to the end of medium, within the limit, begin with these items and end there.
+pub fn spelled_bytes_begin_with_their_items()
+    ensures { SpelledBegins }
+{}
+
+/// However a device cuts its bytes: up to the end or a fault, the calls of `ImageReader::next` give the items that
+/// the bytes begin with, and no others.
+pub fn calls_give_the_items_that_bytes_begin_with()
+    ensures end { GiveUpToEnd }
+    ensures fault { GiveUpToFault }
+{}
