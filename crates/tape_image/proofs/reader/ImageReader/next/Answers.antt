@@ -74,6 +74,7 @@ returns-in-Ok-Mark g c =
           goes_on = ap status_of c.in-Going.is;
           fits = tt;
           moves = omega (arith, c.settle-at.ensures.place.0);
+          extent = omega (arith, c.settle-at.ensures.place.0);
           within = here.within;
           takes = item_known _ _ _ walk.gaps here.bytes _ _ 4 mark walk.taken walk.lead walk.place here.taken here.count here.spelled;
         })),
@@ -93,7 +94,8 @@ returns-in-Ok-Bad g c =
         rw (← c.self.view_is) (moves _ _ _ refl (ap status_of c.in-Going.is) (record {
           goes_on = ap status_of c.in-Going.is;
           fits = tt;
-          moves = omega (arith, c.settle-at.ensures.place.0, size, here.1);
+          moves = omega (arith, c.settle-at.ensures.place.0, size);
+          extent = omega (arith, c.settle-at.ensures.place.0, size, here.1);
           within = omega (arith, here.0.within, size);
           takes = item_known _ _ _ walk.gaps here.0.bytes _ _ c.extent_of_block.result bad walk.taken walk.lead walk.place here.0.taken (here.0.count ∙ sym size) here.0.spelled;
         })),
@@ -115,7 +117,8 @@ returns-in-Ok-Block g c =
         rw (← c.self.view_is) (moves _ _ _ refl (ap status_of c.in-Going.is) (record {
           goes_on = ap status_of c.in-Going.is;
           fits = rw same (omega (arith, long, here.1), omega (arith, long, here.2));
-          moves = rw same (omega (arith, c.settle-at.ensures.place.0, size, long));
+          moves = omega (arith, c.settle-at.ensures.place.0, size);
+          extent = rw same (omega (arith, c.settle-at.ensures.place.0, size, long));
           within = omega (arith, here.0.within, size);
           takes = rw same (item_known _ _ _ walk.gaps here.0.bytes _ _ c.extent_of_block-in-Ok-Block.result (block (take len c.settle-at.new.buffer)) walk.taken walk.lead walk.place here.0.taken (here.0.count ∙ sym size) here.0.spelled);
         })),
