@@ -126,7 +126,13 @@ IfKnown-at (Some zs) (Some ys) P xs e h =
     let same : zs ≡ xs = cc in
     (ys, refl, subst (λ (l : List ℕ). P l ys) same h)
 
--- likewise, with the bytes after left out
+-- what follows from a fact of known bytes
+pub IfKnown-map : (old new : Option (List ℕ)) (P Q : List ℕ → List ℕ → Type 0) → ((xs ys : List ℕ) → P xs ys → Q xs ys) → IfKnown old new P → IfKnown old new Q
+IfKnown-map None new P Q f h = tt
+IfKnown-map (Some xs) None P Q f h = absurd h
+IfKnown-map (Some xs) (Some ys) P Q f h = f xs ys h
+
+-- a fact of known bytes, with those after it left out
 pub IfKnown-some : (old new : Option (List ℕ)) (P : List ℕ → List ℕ → Type 0) → IfKnown old new P → IfSome old (λ xs. (ys : List ℕ) × (new ≡ Some ys) × P xs ys)
 IfKnown-some None new P h = tt
 IfKnown-some (Some xs) None P h = absurd h

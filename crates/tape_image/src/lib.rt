@@ -8,6 +8,8 @@ mod front;
 mod item;
 mod laws;
 mod reader;
+#[cfg(test)]
+mod tests;
 mod word;
 
 pub use fault::{ImageCause, ImageFault};

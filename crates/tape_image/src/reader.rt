@@ -152,6 +152,7 @@ impl<'r, R: Read> ImageReader<'r, R> {
     pub fn place(&self) -> u64
         ensures { result ≡ self.now.place }
     {
+        // Bytes that were read for an item that is not whole are not counted.
         self.place
     }
 
