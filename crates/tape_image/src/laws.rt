@@ -1,6 +1,7 @@
 //! Laws of the definitions that the reader's contract cites: calls that do nothing, whose contract is the law.
 
-ghost use Rattle.tape_image.specs.Laws.{SpellingsAreUnique, NoSpellingBeginsAnother, SpellingOrStop, NeverBoth, OneStop, EndWordEnds};
+ghost use Rattle.tape_image.specs.Laws.{SpellingsAreUnique, NoSpellingBeginsAnother};
+ghost use Rattle.tape_image.specs.Laws.{SpellingOrStop, NeverBoth, OneStop, EndWordEnds};
 ghost use Rattle.tape_image.specs.Laws.{BeginsIsUnique, BeginsExists, BeginsWithItems, SpelledBegins};
 ghost use Rattle.tape_image.specs.Calls.{GiveUpToEnd, GiveUpToFault};
 

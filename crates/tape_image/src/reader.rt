@@ -91,13 +91,15 @@ impl<'r, R: Read> ImageReader<'r, R> {
         }
     }
 
-    /// The next item, with the gaps before it passed by, or `None` at the end of medium. The block is lent out of
-    /// the reader's buffer. The call takes no memory, and reads nothing behind an end word.
+    /// The next item, with the gaps before it passed by, or `None` at the end of medium. A block is lent out of
+    /// the reader's buffer. The call takes no memory, and reads nothing behind an end word. The end of medium and
+    /// a fault are answered for good.
     ///
     /// # Errors
     ///
-    /// Any cause but `OutOfMemory`, at the place of the item under way. The end of medium and a fault are
-    /// answered for good.
+    /// Any cause but `OutOfMemory`, at the place of the word that begins the item under way: `Reserved` and
+    /// `TooLong` by that word alone, then `Truncated`, or `Device` where the reader fails, and `LengthsDiffer`
+    /// once the whole block was read.
     pub fn next(&mut self) -> Result<Option<Item<'_>>, ImageFault>
         ensures* ends { sem 𝓛 (EndsAs R.row R.Read self.entry result) }
     {
