@@ -1,0 +1,4 @@
+pub mod DigitLaws
+pub mod Steps
+pub mod First
+pub mod Second

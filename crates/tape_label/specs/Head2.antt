@@ -1,0 +1,26 @@
+-- The second header or trailer label.
+use Rattle.std.specs.Prelude.{◌≡◌, ℕ, ◌≤◌, ◌⊎◌, List, [], ◌∷◌, codes}
+use Rattle.tape_label.specs.declared.values.Kind.{Kind}
+use Rattle.tape_label.specs.declared.values.Head2.{Head2}
+use Rattle.tape_label.specs.Formats.{letter, least_record}
+use Rattle.tape_label.specs.Kinds.{HasKind, IsSecond}
+use Rattle.tape_label.specs.Positions.{positions, HasNumber}
+
+-- the buffer offset in two digits, or two spaces for 0
+abbrev pub HasOffset : List ℕ → ℕ → Type 0
+HasOffset label offset = HasNumber label 51 52 0 offset ⊎ ((positions label 51 52 ≡ codes "  ") × (offset ≡ 0))
+
+-- the second label of these fields, which is of this kind; positions 16 to 50 and 53 to 80 may hold anything
+pub record IsHead2 (label : List ℕ) (which : Kind) (fields : Head2) : Type 0 where
+  pub second : IsSecond which
+  pub kind : HasKind label which
+  pub format : positions label 5 5 ≡ letter fields.format ∷ []
+  pub block_len : HasNumber label 6 10 0 fields.block_len
+  pub rec_len : HasNumber label 11 15 (least_record fields.format) fields.rec_len
+  pub offset : HasOffset label fields.offset
+
+-- Its numbers fit their digits, and records of a fixed length are not empty.
+pub record Head2Fits (fields : Head2) : Type 0 where
+  pub block_len : fields.block_len ≤ 99999
+  pub rec_len : (least_record fields.format ≤ fields.rec_len) × (fields.rec_len ≤ 99999)
+  pub offset : fields.offset ≤ 99

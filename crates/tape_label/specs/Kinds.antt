@@ -1,0 +1,41 @@
+-- The kinds of labels, told by the size of a block and its first four characters.
+use Rattle.std.specs.Prelude.{◌≡◌, ◌==◌, ℕ, List, [], ◌∷◌, length, codes, Bool, if◌then◌else◌, Option, None}
+use Rattle.std.specs.List.{find}
+use Rattle.std.specs.Str.{bytes_eq}
+use Rattle.tape_label.specs.declared.values.Kind.{Kind}
+use Rattle.tape_label.specs.declared.values.Kind.TheVariants.{Vol1, Hdr1, Hdr2, Eof1, Eof2, Eov1, Eov2}
+use Rattle.tape_label.specs.Positions.{positions}
+
+-- the first four characters of each kind
+abbrev pub identifier : Kind → List ℕ
+identifier Vol1 = codes "VOL1"
+identifier Hdr1 = codes "HDR1"
+identifier Hdr2 = codes "HDR2"
+identifier Eof1 = codes "EOF1"
+identifier Eof2 = codes "EOF2"
+identifier Eov1 = codes "EOV1"
+identifier Eov2 = codes "EOV2"
+
+-- a label of this kind, whatever its fields hold
+pub record HasKind (label : List ℕ) (kind : Kind) : Type 0 where
+  pub size : length label ≡ 80
+  pub named : positions label 1 4 ≡ identifier kind
+
+-- the kind of a first trailer label: that of a file's end, or of a section whose file goes on
+abbrev pub trailer : Bool → Kind
+trailer eof = if eof then Eof1 else Eov1
+
+-- the kinds of second labels, which have one layout
+abbrev pub IsSecond : Kind → Type 0
+IsSecond Hdr2 = Unit {0}
+IsSecond Eof2 = Unit {0}
+IsSecond Eov2 = Unit {0}
+IsSecond _ = ⊥
+
+-- the kind whose identifier this is
+abbrev pub kind_named : List ℕ → Option Kind
+kind_named text = find (λ kind. bytes_eq text (identifier kind)) (Vol1 ∷ Hdr1 ∷ Hdr2 ∷ Eof1 ∷ Eof2 ∷ Eov1 ∷ Eov2 ∷ [])
+
+-- the kind of the label that a block is, if it is one
+unfoldable pub kind_at : List ℕ → Option Kind
+kind_at block = if length block == 80 then kind_named (positions block 1 4) else None

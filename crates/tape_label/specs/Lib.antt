@@ -1,0 +1,11 @@
+pub mod Characters
+pub mod Digits
+pub mod Faults
+pub mod Formats
+pub mod Head1
+pub mod Head2
+pub mod Kinds
+pub mod Positions
+pub mod Reading
+pub mod Trail1
+pub mod Vol1

@@ -1,0 +1,19 @@
+//! The labels of a tape volume (ECMA-13, 4th edition): blocks of 80 characters with fields at fixed positions.
+#![tactic(auto)]
+
+mod at;
+mod characters;
+mod digits;
+mod fault;
+mod field;
+mod identify;
+mod reading;
+mod values;
+
+pub use characters::{first_other, is_a_character};
+pub use digits::{digits_of, digits_value};
+pub use fault::LabelFault;
+pub use field::Field;
+pub use identify::kind;
+pub use reading::{read_head1, read_head2, read_trail1, read_vol1};
+pub use values::{Format, Head1, Head2, Kind, Trail1, Vol1};

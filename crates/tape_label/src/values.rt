@@ -1,0 +1,140 @@
+//! What the labels say.
+
+ghost use Rattle.std.specs.Prelude.{◌≡◌, ◌↔◌, IsTrue};
+
+use crate::field::Field;
+
+/// A volume label, `VOL1` (ECMA-13, 4th edition, "Volume Header Label").
+#[derive(Clone, Copy, Debug, PartialEq, Eq, Hash)]
+pub struct Vol1 {
+    /// The volume identifier, at positions 5 to 10.
+    pub volume: Field<6>,
+    /// The accessibility, at position 11: a space where anyone may read the volume.
+    pub access: u8,
+    /// The identifier of the system that wrote the label, at positions 25 to 37.
+    pub implementation: Field<13>,
+    /// The owner of the volume, at positions 38 to 51.
+    pub owner: Field<14>,
+    /// The version of the label standard, at position 80: `4` for the fourth edition. It is not judged.
+    pub version: u8,
+}
+
+/// A first header label, `HDR1` (ECMA-13, 4th edition, "First File Header Label").
+#[derive(Clone, Copy, Debug, PartialEq, Eq, Hash)]
+pub struct Head1 {
+    /// The file identifier, at positions 5 to 21.
+    pub file_id: Field<17>,
+    /// The file set identifier, at positions 22 to 27: the same in all files of the set.
+    pub set_id: Field<6>,
+    /// The file section number, 1 to 9,999, at positions 28 to 31.
+    pub sect: u16,
+    /// The file sequence number, 1 to 9,999, at positions 32 to 35: the file's place in its set.
+    pub sequence: u16,
+    /// The generation number, at positions 36 to 39, kept as characters.
+    pub generation: Field<4>,
+    /// The generation version number, at positions 40 and 41, kept as characters.
+    pub gen_version: Field<2>,
+    /// The creation date, at positions 42 to 47, kept as characters.
+    pub created: Field<6>,
+    /// The expiration date, at positions 48 to 53, kept as characters.
+    pub expires: Field<6>,
+    /// The accessibility, at position 54: a space where anyone may read the file.
+    pub access: u8,
+    /// The identifier of the system that wrote the label, at positions 61 to 73.
+    pub implementation: Field<13>,
+}
+
+/// How records stand in blocks (ECMA-13, 4th edition, "Second File Header Label", record format).
+#[derive(Clone, Copy, Debug, PartialEq, Eq, Hash)]
+pub enum Format {
+    /// `F`: each record has the record length.
+    Fixed,
+    /// `D`: each record has its length before it.
+    Counted,
+    /// `S`: records in segments, which may run on over blocks and volumes.
+    Spanned,
+}
+
+impl Format {
+    ghost use Rattle.tape_label.specs.Formats.{letter};
+
+    /// The format's letter in a label: `F`, `D` or `S`.
+    pub fn letter(&self) -> u8
+        ensures { result ≡ letter self.now }
+    {
+        match self {
+            Format::Fixed => b'F',
+            Format::Counted => b'D',
+            Format::Spanned => b'S',
+        }
+    }
+}
+
+/// A second header or trailer label, `HDR2`, `EOF2` or `EOV2` (ECMA-13, 4th edition, "Second File Header Label").
+#[derive(Clone, Copy, Debug, PartialEq, Eq, Hash)]
+pub struct Head2 {
+    /// The record format, at position 5.
+    pub format: Format,
+    /// The greatest length of a block in bytes, 0 to 99,999, at positions 6 to 10.
+    pub block_len: u32,
+    /// The record length in bytes, 0 to 99,999, at positions 11 to 15; at least 1 where the format is `Fixed`.
+    pub rec_len: u32,
+    /// The bytes before the first record of each block, 0 to 99, at positions 51 and 52.
+    pub offset: u8,
+}
+
+/// A first trailer label (ECMA-13, 4th edition, end of file and end of volume labels).
+#[derive(Clone, Copy, Debug, PartialEq, Eq, Hash)]
+pub struct Trail1 {
+    /// `EOF1`, where the file ends; else `EOV1`, where it goes on in another volume.
+    pub eof: bool,
+    /// What the label has in common with the first header label of its section.
+    pub head: Head1,
+    /// The blocks of the section, 0 to 999,999, at positions 55 to 60.
+    pub blocks: u32,
+}
+
+/// The labels that are read and written.
+#[derive(Clone, Copy, Debug, PartialEq, Eq, Hash)]
+pub enum Kind {
+    /// `VOL1`, the volume label.
+    Vol1,
+    /// `HDR1`, the first header label of a section.
+    Hdr1,
+    /// `HDR2`, the second header label of a section.
+    Hdr2,
+    /// `EOF1`, the first trailer label of a file's last section.
+    Eof1,
+    /// `EOF2`, the second trailer label of a file's last section.
+    Eof2,
+    /// `EOV1`, the first trailer label of a section whose file goes on in another volume.
+    Eov1,
+    /// `EOV2`, the second trailer label of a section whose file goes on in another volume.
+    Eov2,
+}
+
+impl Kind {
+    ghost use Rattle.tape_label.specs.Kinds.{identifier, IsSecond};
+
+    /// The four characters that begin a label of this kind.
+    pub fn identifier(&self) -> &'static [u8; 4]
+        ensures { result.now ≡ identifier self.now }
+    {
+        match self {
+            Kind::Vol1 => b"VOL1",
+            Kind::Hdr1 => b"HDR1",
+            Kind::Hdr2 => b"HDR2",
+            Kind::Eof1 => b"EOF1",
+            Kind::Eof2 => b"EOF2",
+            Kind::Eov1 => b"EOV1",
+            Kind::Eov2 => b"EOV2",
+        }
+    }
+
+    /// Whether this is a second label: `HDR2`, `EOF2` or `EOV2`.
+    pub fn is_second(&self) -> bool
+        ensures { IsTrue result ↔ IsSecond self.now }
+    {
+        matches!(self, Kind::Hdr2 | Kind::Eof2 | Kind::Eov2)
+    }
+}
