@@ -2,3 +2,5 @@ pub mod DigitLaws
 pub mod Steps
 pub mod First
 pub mod Second
+pub mod Pieces
+pub mod Texts

@@ -9,3 +9,4 @@ pub mod Positions
 pub mod Reading
 pub mod Trail1
 pub mod Vol1
+pub mod Written

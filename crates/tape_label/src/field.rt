@@ -23,6 +23,29 @@ impl<const N: usize> Model for Field<N> {
 }
 
 impl<const N: usize> Field<N> {
+    /// The text with spaces on its right, up to the field's length (ECMA-13, 4th edition, "a-characters").
+    ///
+    /// # Errors
+    ///
+    /// `FieldLength` where the text has more than `N` bytes; then `NotACharacter` with the place of the first byte
+    /// that is no a-character.
+    pub fn new(text: &str) -> Result<Field<N>, LabelFault>
+        ensures long { N < length text.now → result ≡ Err LabelFault.FieldLength }
+        ensures other { length text.now ≤ N → IfSome (first_other text.now) (λ place. result ≡ Err (LabelFault.NotACharacter place)) }
+        ensures fits { length text.now ≤ N → IfNone (first_other text.now) (result ≡ Ok (text.now ++ replicate (N - length text.now) 32)) }
+    {
+        let text = text.as_bytes();
+        if text.len() > N {
+            return Err(LabelFault::FieldLength);
+        }
+        if let Some(place) = first_other(text) {
+            return Err(LabelFault::NotACharacter(place));
+        }
+        let mut characters = [b' '; N];
+        characters[..text.len()].copy_from_slice(text);
+        Ok(Field { characters })
+    }
+
     /// The field of just these bytes, whatever they are.
     pub fn of_bytes(bytes: [u8; N]) -> Field<N>
         ensures { result ≡ bytes.entry }

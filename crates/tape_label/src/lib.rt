@@ -8,7 +8,9 @@ mod fault;
 mod field;
 mod identify;
 mod reading;
+mod text;
 mod values;
+mod writing;
 
 pub use characters::{first_other, is_a_character};
 pub use digits::{digits_of, digits_value};
@@ -17,3 +19,4 @@ pub use field::Field;
 pub use identify::kind;
 pub use reading::{read_head1, read_head2, read_trail1, read_vol1};
 pub use values::{Format, Head1, Head2, Kind, Trail1, Vol1};
+pub use writing::{write_head1, write_head2, write_trail1, write_vol1};

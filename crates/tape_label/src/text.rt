@@ -1,0 +1,110 @@
+//! The texts of labels, put together piece by piece.
+
+ghost use Rattle.std.specs.Prelude.{◌≡◌, ◌<◌, ◌≤◌, ◌+◌, ◌^◌, ◌++◌, length, replicate};
+ghost use Rattle.arrayvec.specs.ArrayVec.{array_vec_len};
+ghost use Rattle.tape_label.specs.Digits.{digits};
+ghost use Rattle.tape_label.specs.Head1.{HeadFits};
+ghost use Rattle.tape_label.specs.Head2.{Head2Fits};
+ghost use Rattle.tape_label.specs.Kinds.{identifier};
+ghost use Rattle.tape_label.specs.Written.{text_of, HaveWidths, vol1_pieces, head_pieces, head2_pieces};
+
+use crate::digits::digits_of;
+use crate::values::{Head1, Head2, Kind, Vol1};
+use arrayvec::ArrayVec;
+
+const SPACES: [u8; 80] = [b' '; 80];
+
+fn put(label: &mut ArrayVec<u8, 80>, text: &[u8])
+    requires { array_vec_len label.old + length text.now ≤ 80 }
+    ensures items { label.new.items ≡ label.old.items ++ text.now }
+    ensures len { array_vec_len label.new ≡ array_vec_len label.old + length text.now }
+{
+    match label.try_extend_from_slice(text) {
+        Ok(()) => {}
+        Err(_) => unreachable!(),
+    }
+}
+
+fn put_spaces(label: &mut ArrayVec<u8, 80>, count: usize)
+    requires { array_vec_len label.old + count ≤ 80 }
+    ensures items { label.new.items ≡ label.old.items ++ replicate count 32 }
+    ensures len { array_vec_len label.new ≡ array_vec_len label.old + count }
+{
+    put(label, &SPACES[..count]);
+}
+
+fn put_number<const W: usize>(label: &mut ArrayVec<u8, 80>, number: u64)
+    requires fits { number < 10 ^ W }
+    requires room { array_vec_len label.old + W ≤ 80 }
+    ensures items { label.new.items ≡ label.old.items ++ digits W number }
+    ensures len { array_vec_len label.new ≡ array_vec_len label.old + W }
+{
+    put(label, &digits_of::<W>(number));
+}
+
+fn whole(label: ArrayVec<u8, 80>) -> [u8; 80]
+    requires { array_vec_len label ≡ 80 }
+    ensures { result ≡ label.items }
+{
+    match label.into_inner() {
+        Ok(characters) => characters,
+        Err(_) => unreachable!(),
+    }
+}
+
+pub(crate) fn vol1_text(fields: &Vol1) -> [u8; 80]
+    ensures text { result ≡ text_of (vol1_pieces fields.now) }
+    ensures widths { HaveWidths (vol1_pieces fields.now) }
+{
+    let mut label = ArrayVec::new();
+    put(&mut label, Kind::Vol1.identifier());
+    put(&mut label, fields.volume.bytes());
+    label.push(fields.access);
+    put_spaces(&mut label, 13);
+    put(&mut label, fields.implementation.bytes());
+    put(&mut label, fields.owner.bytes());
+    put_spaces(&mut label, 28);
+    label.push(fields.version);
+    whole(label)
+}
+
+/// A first header or trailer label with this block count.
+pub(crate) fn head_text(kind: Kind, fields: &Head1, blocks: u32) -> [u8; 80]
+    requires fits { HeadFits fields.now }
+    requires blocks { blocks ≤ 999999 }
+    ensures text { result ≡ text_of (head_pieces kind fields.now blocks) }
+    ensures widths { HaveWidths (head_pieces kind fields.now blocks) }
+{
+    let mut label = ArrayVec::new();
+    put(&mut label, kind.identifier());
+    put(&mut label, fields.file_id.bytes());
+    put(&mut label, fields.set_id.bytes());
+    put_number::<4>(&mut label, u64::from(fields.sect));
+    put_number::<4>(&mut label, u64::from(fields.sequence));
+    put(&mut label, fields.generation.bytes());
+    put(&mut label, fields.gen_version.bytes());
+    put(&mut label, fields.created.bytes());
+    put(&mut label, fields.expires.bytes());
+    label.push(fields.access);
+    put_number::<6>(&mut label, u64::from(blocks));
+    put(&mut label, fields.implementation.bytes());
+    put_spaces(&mut label, 7);
+    whole(label)
+}
+
+/// A second header or trailer label.
+pub(crate) fn head2_text(kind: Kind, fields: &Head2) -> [u8; 80]
+    requires { Head2Fits fields.now }
+    ensures text { result ≡ text_of (head2_pieces kind fields.now) }
+    ensures widths { HaveWidths (head2_pieces kind fields.now) }
+{
+    let mut label = ArrayVec::new();
+    put(&mut label, kind.identifier());
+    label.push(fields.format.letter());
+    put_number::<5>(&mut label, u64::from(fields.block_len));
+    put_number::<5>(&mut label, u64::from(fields.rec_len));
+    put_spaces(&mut label, 35);
+    put_number::<2>(&mut label, u64::from(fields.offset));
+    put_spaces(&mut label, 28);
+    whole(label)
+}
