@@ -9,8 +9,8 @@ use Rattle.tape_label.specs.declared.values.Trail1.{Trail1}
 use Rattle.tape_label.specs.Kinds.{identifier, trailer}
 use Rattle.tape_label.specs.Positions.{positions}
 use Rattle.tape_label.specs.Vol1.{IsVol1}
-use Rattle.tape_label.specs.Head1.{HasHead, IsHead1, HeadFits}
-use Rattle.tape_label.specs.Trail1.{IsTrail1, TrailFits}
+use Rattle.tape_label.specs.Head1.{HasHead, IsHead1}
+use Rattle.tape_label.specs.Trail1.{IsTrail1}
 use Rattle.tape_label.specs.Reading.{◌>>=◌, eighty, begins_as, of_kind, number_at, vol1_fields, vol1_at, head_fields, head_at, head1_at, end_at, trail1_at}
 use Rattle.tape_label.proofs.Steps.{bind_ok, done, ok_is, number_found, number_again, character_found, character_is, size_found, size_again, begins_found, named_found, named_again}
 
@@ -64,13 +64,6 @@ head_again label h size has =
     let access = character_is label 53 h.access (omega arith) has.access in
     rw (number_again label 28 31 1 h.sect has.sect, number_again label 32 35 1 h.sequence has.sequence, has.file_id, has.set_id, has.generation, has.gen_version, has.created, has.expires, access, has.implementation) refl
 
--- Numbers that were read can be written.
-pub HasHead-fits : (label : List ℕ) (h : Head1) → HasHead label h → HeadFits h
-HasHead-fits label h has = record {
-  sect = (has.sect.at_least, omega (arith, has.sect.fits));
-  sequence = (has.sequence.at_least, omega (arith, has.sequence.fits));
-}
-
 -- ---- first header labels
 
 pub head1_found : (label : List ℕ) (h : Head1) → head1_at label ≡ Ok h → IsHead1 label h
@@ -114,7 +107,7 @@ trail1_found label t e =
     let d = bind_ok (number_at label 55 60 0) (λ blocks. Ok (record { eof = b.0; head = c.0; blocks = blocks })) t c.2 in
     let size = size_found label a.0 a.1 in
     let made : Trail1 = record { eof = b.0; head = c.0; blocks = d.0 } in
-    subst (λ (t : Trail1). IsTrail1 label t) (ok_is made t d.2) record {
+    subst (λ (t : Trail1). IsTrail1 label t) {x = made} (ok_is made t d.2) record {
       kind = record { size = size; named = end_found label b.0 b.1 };
       head = head_found label c.0 size c.1;
       blocks = number_found label 55 60 0 d.0 (omega arith) d.1;
@@ -124,6 +117,3 @@ pub trail1_again : (label : List ℕ) (t : Trail1) → IsTrail1 label t → trai
 unfolding trail1_at
 trail1_again label t is =
     rw (size_again label is.kind.size, end_again label t.eof is.kind.named, head_again label t.head is.kind.size is.head, number_again label 55 60 0 t.blocks is.blocks) refl
-
-pub IsTrail1-fits : (label : List ℕ) (t : Trail1) → IsTrail1 label t → TrailFits t
-IsTrail1-fits label t is = record { head = HasHead-fits label t.head is.head; blocks = omega (arith, is.blocks.fits) }

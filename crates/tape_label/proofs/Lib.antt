@@ -4,3 +4,4 @@ pub mod First
 pub mod Second
 pub mod Pieces
 pub mod Texts
+pub mod Apart

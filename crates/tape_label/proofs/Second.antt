@@ -90,7 +90,7 @@ head2_found label h e =
     let which = second_found label b.0 b.1 in
     let made : Head2 = record { format = f.0; block_len = l.0; rec_len = r.0; offset = o.0 } in (
       which.0,
-      subst (λ (h : Head2). IsHead2 label which.0 h) (ok_is made h o.2) record {
+      subst (λ (h : Head2). IsHead2 label which.0 h) {x = made} (ok_is made h o.2) record {
         second = which.1;
         kind = record { size = size; named = which.2 };
         format = format_found label f.0 (omega arith) f.1;

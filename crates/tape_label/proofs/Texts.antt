@@ -1,12 +1,12 @@
 -- The text of a label is a label of its fields.
-use Rattle.std.proofs.Common.{◌≡◌, ℕ, ◌^◌, ◌<◌, ◌≤◌, List, [], ◌∷◌, length, refl, arith, inl}
+use Rattle.std.proofs.Common.{ℕ, List, arith, inl}
 use Rattle.tape_label.specs.declared.values.Kind.{Kind}
 use Rattle.tape_label.specs.declared.values.Kind.TheVariants as kinds
 use Rattle.tape_label.specs.declared.values.Vol1.{Vol1}
 use Rattle.tape_label.specs.declared.values.Head1.{Head1}
 use Rattle.tape_label.specs.declared.values.Head2.{Head2}
 use Rattle.tape_label.specs.declared.values.Trail1.{Trail1}
-use Rattle.tape_label.specs.Kinds.{identifier, trailer, IsSecond}
+use Rattle.tape_label.specs.Kinds.{trailer, IsSecond}
 use Rattle.tape_label.specs.Vol1.{IsVol1}
 use Rattle.tape_label.specs.Head1.{HasHead, IsHead1, HeadFits}
 use Rattle.tape_label.specs.Head2.{IsHead2, Head2Fits}

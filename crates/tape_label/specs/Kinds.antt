@@ -25,6 +25,12 @@ pub record HasKind (label : List ℕ) (kind : Kind) : Type 0 where
 abbrev pub trailer : Bool → Kind
 trailer eof = if eof then Eof1 else Eov1
 
+-- the kinds of first trailer labels, which have one layout
+abbrev pub IsFirstTrailer : Kind → Type 0
+IsFirstTrailer Eof1 = Unit {0}
+IsFirstTrailer Eov1 = Unit {0}
+IsFirstTrailer _ = ⊥
+
 -- the kinds of second labels, which have one layout
 abbrev pub IsSecond : Kind → Type 0
 IsSecond Hdr2 = Unit {0}

@@ -5,6 +5,7 @@ pub mod Formats
 pub mod Head1
 pub mod Head2
 pub mod Kinds
+pub mod Laws
 pub mod Positions
 pub mod Reading
 pub mod Trail1

@@ -7,6 +7,7 @@ mod digits;
 mod fault;
 mod field;
 mod identify;
+pub mod laws;
 mod reading;
 mod text;
 mod values;

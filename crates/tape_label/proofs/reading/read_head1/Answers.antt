@@ -1,6 +1,7 @@
 use Rattle.std.proofs.Common.{sym, ◌∙◌}
 use Rattle.tape_label.specs.Head1.{IsHead1}
 use Rattle.tape_label.proofs.Steps.{is_found}
+use Rattle.tape_label.proofs.Apart.{head1_refuses}
 use Rattle.tape_label.proofs.First.{head1_found, head1_again}
 use Rattle.tape_label.proofs.reading.read_head1.Goals as goal
 
@@ -9,3 +10,6 @@ returns-clause-found c = is_found c.head1_at.result (IsHead1 c.args.label.now) (
 
 pub returns-clause-only : goal.returns-clause-only
 returns-clause-only c = λ x is. c.head1_at.ensures ∙ head1_again c.args.label.now x is
+
+pub returns-clause-other : goal.returns-clause-other
+returns-clause-other c = λ kind has other. c.head1_at.ensures ∙ head1_refuses c.args.label.now kind has other

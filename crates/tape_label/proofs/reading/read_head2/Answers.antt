@@ -2,6 +2,7 @@ use Rattle.std.proofs.Common.{sym, ◌∙◌}
 use Rattle.tape_label.specs.declared.values.Kind.{Kind}
 use Rattle.tape_label.specs.Head2.{IsHead2}
 use Rattle.tape_label.proofs.Steps.{is_found}
+use Rattle.tape_label.proofs.Apart.{head2_refuses}
 use Rattle.tape_label.proofs.Second.{head2_found, head2_again}
 use Rattle.tape_label.proofs.reading.read_head2.Goals as goal
 
@@ -10,3 +11,6 @@ returns-clause-found c = is_found c.head2_at.result (λ h. (k : Kind) × IsHead2
 
 pub returns-clause-only : goal.returns-clause-only
 returns-clause-only c = λ k x is. c.head2_at.ensures ∙ head2_again c.args.label.now k x is
+
+pub returns-clause-other : goal.returns-clause-other
+returns-clause-other c = λ kind has other. c.head2_at.ensures ∙ head2_refuses c.args.label.now kind has other

@@ -1,4 +1,4 @@
-use Rattle.std.proofs.Common.{◌≡◌, ◌++◌, ℕ, List, length, take, replicate, ap, refl, arith}
+use Rattle.std.proofs.Common.{ℕ, refl, arith}
 use Rattle.std.proofs.lemmas.List.{take-replicate}
 use Rattle.tape_label.proofs.text.put_spaces.Goals as goal
 

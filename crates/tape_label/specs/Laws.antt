@@ -1,0 +1,18 @@
+-- Laws about labels. Each is the contract of a call of the module `laws`.
+use Rattle.std.specs.Prelude.{◌≡◌, ℕ, List}
+use Rattle.tape_label.specs.declared.values.Kind.{Kind}
+use Rattle.tape_label.specs.declared.values.Head2.{Head2}
+use Rattle.tape_label.specs.Kinds.{HasKind}
+use Rattle.tape_label.specs.Head2.{IsHead2}
+
+-- A block is a label of one kind at most.
+abbrev pub HasOneKind : List ℕ → Type 0
+HasOneKind block = (a b : Kind) → HasKind block a → HasKind block b → a ≡ b
+
+-- The block is not both: a label of one sort with some fields, and one of the other sort with some fields.
+abbrev pub IsNotBoth : {A B : Type 0} → (List ℕ → A → Type 0) → (List ℕ → B → Type 0) → List ℕ → Type 0
+IsNotBoth {A} {B} One Other block = (a : A) (b : B) → One block a → Other block b → ⊥
+
+-- a second label of some kind
+abbrev pub IsSecondLabel : List ℕ → Head2 → Type 0
+IsSecondLabel block fields = (which : Kind) × IsHead2 block which fields

@@ -1,0 +1,82 @@
+//! Laws about labels, each as the contract of a call.
+
+ghost use Rattle.std.specs.Prelude.{◌≡◌, ◌<◌, ◌≤◌, ◌^◌, ◌↔◌, IsTrue, Ok, Some};
+ghost use Rattle.tape_label.specs.Vol1.{IsVol1};
+ghost use Rattle.tape_label.specs.Head1.{IsHead1, HeadFits};
+ghost use Rattle.tape_label.specs.Head2.{Head2Fits};
+ghost use Rattle.tape_label.specs.Trail1.{IsTrail1, TrailFits};
+ghost use Rattle.tape_label.specs.Kinds.{IsSecond};
+ghost use Rattle.tape_label.specs.Laws.{HasOneKind, IsNotBoth, IsSecondLabel};
+
+use crate::digits::{digits_of, digits_value};
+use crate::fault::LabelFault;
+use crate::field::Field;
+use crate::reading::{read_head1, read_head2, read_trail1, read_vol1};
+use crate::values::{Head1, Head2, Kind, Trail1, Vol1};
+use crate::writing::{write_head1, write_head2, write_trail1, write_vol1};
+
+/// A number that fits its digits is read from them again.
+pub fn digits_again<const W: usize>(number: u64) -> Option<u64>
+    requires width { W ≤ 19 }
+    requires fits { number < 10 ^ W }
+    ensures { result ≡ Some number }
+{
+    digits_value(&digits_of::<W>(number))
+}
+
+/// A volume label that was written is read again.
+pub fn vol1_again(fields: &Vol1) -> Result<Vol1, LabelFault>
+    ensures { result ≡ Ok fields.now }
+{
+    read_vol1(&write_vol1(fields))
+}
+
+/// A first header label that was written is read again.
+pub fn head1_again(fields: &Head1) -> Result<Head1, LabelFault>
+    requires { HeadFits fields.now }
+    ensures { result ≡ Ok fields.now }
+{
+    read_head1(&write_head1(fields))
+}
+
+/// A second label that was written is read again.
+pub fn head2_again(fields: &Head2, kind: Kind) -> Result<Head2, LabelFault>
+    requires second { IsSecond kind }
+    requires fits { Head2Fits fields.now }
+    ensures { result ≡ Ok fields.now }
+{
+    read_head2(&write_head2(fields, kind))
+}
+
+/// A first trailer label that was written is read again.
+pub fn trail1_again(fields: &Trail1) -> Result<Trail1, LabelFault>
+    requires { TrailFits fields.now }
+    ensures { result ≡ Ok fields.now }
+{
+    read_trail1(&write_trail1(fields))
+}
+
+/// How many of the four reading calls read the block: one at most, since no block is two kinds of label. None is both
+/// a header and a trailer, and no header or trailer is a volume label.
+pub fn readings(block: &[u8]) -> usize
+    ensures at_most_one { result ≤ 1 }
+    ensures kinds { HasOneKind block.now }
+    ensures volume_or_header { IsNotBoth IsVol1 IsHead1 block.now }
+    ensures volume_or_second { IsNotBoth IsVol1 IsSecondLabel block.now }
+    ensures volume_or_trailer { IsNotBoth IsVol1 IsTrail1 block.now }
+    ensures header_or_second { IsNotBoth IsHead1 IsSecondLabel block.now }
+    ensures header_or_trailer { IsNotBoth IsHead1 IsTrail1 block.now }
+    ensures second_or_trailer { IsNotBoth IsSecondLabel IsTrail1 block.now }
+{
+    usize::from(read_vol1(block).is_ok())
+        + usize::from(read_head1(block).is_ok())
+        + usize::from(read_head2(block).is_ok())
+        + usize::from(read_trail1(block).is_ok())
+}
+
+/// Two fields are equal exactly where their bytes are.
+pub fn same_field<const N: usize>(a: &Field<N>, b: &Field<N>) -> bool
+    ensures { IsTrue result ↔ (a.now ≡ b.now) }
+{
+    a == b
+}
