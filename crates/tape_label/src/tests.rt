@@ -1,0 +1,81 @@
+//! Labels with bytes that were written out from the description of the format.
+
+mod fields;
+mod reading;
+mod writing;
+
+ghost use Rattle.tape_label.specs.Head1.{HeadFits};
+ghost use Rattle.tape_label.specs.Trail1.{TrailFits};
+ghost use Rattle.tape_label.specs.Head2.{Head2Fits};
+
+use super::*;
+
+// The labels of a volume with one file of 25 records of 80 bytes, in three blocks of up to 800 bytes.
+const VOL1: &[u8; 80] =
+    b"VOL1ABC001                                                                     4";
+
+const HDR1: &[u8; 80] =
+    b"HDR1PAYROLL          ABC00100010001000100 00000 00000 000000                    ";
+
+const HDR2: &[u8; 80] =
+    b"HDR2F0080000080                                   00                            ";
+
+const EOF1: &[u8; 80] =
+    b"EOF1PAYROLL          ABC00100010001000100 00000 00000 000003                    ";
+
+const EOF2: &[u8; 80] =
+    b"EOF2F0080000080                                   00                            ";
+
+const EOV1: &[u8; 80] =
+    b"EOV1PAYROLL          ABC00100010001000100 00000 00000 000003                    ";
+
+const EOV2: &[u8; 80] =
+    b"EOV2F0080000080                                   00                            ";
+
+fn volume() -> Vol1 {
+    Vol1 {
+        volume: Field::of_bytes(*b"ABC001"),
+        access: b' ',
+        implementation: Field::of_bytes([b' '; 13]),
+        owner: Field::of_bytes([b' '; 14]),
+        version: b'4',
+    }
+}
+
+fn head() -> Head1
+    ensures { HeadFits result }
+{
+    Head1 {
+        file_id: Field::of_bytes(*b"PAYROLL          "),
+        set_id: Field::of_bytes(*b"ABC001"),
+        sect: 1,
+        sequence: 1,
+        generation: Field::of_bytes(*b"0001"),
+        gen_version: Field::of_bytes(*b"00"),
+        created: Field::of_bytes(*b" 00000"),
+        expires: Field::of_bytes(*b" 00000"),
+        access: b' ',
+        implementation: Field::of_bytes([b' '; 13]),
+    }
+}
+
+fn second() -> Head2
+    ensures { Head2Fits result }
+{
+    Head2 {
+        format: Format::Fixed,
+        block_len: 800,
+        rec_len: 80,
+        offset: 0,
+    }
+}
+
+fn trailer(eof: bool) -> Trail1
+    ensures { TrailFits result }
+{
+    Trail1 {
+        eof,
+        head: head(),
+        blocks: 3,
+    }
+}
