@@ -1,6 +1,6 @@
 -- Second header and trailer labels: what their function gives is the label that is spelled so, and what is spelled so
 -- it gives.
-use Rattle.std.proofs.Common.{◌≡◌, ℕ, ◌+◌, ◌<◌, List, [], ◌∷◌, length, get_or, Bool, true, false, cond, eqb, Ok, Err, refl, sym, subst, arith, rules, inl, inr, ◌⊎◌}
+use Rattle.std.proofs.Common.{◌≡◌, ℕ, ◌+◌, ◌/◌, ◌%◌, ◌<◌, List, [], ◌∷◌, length, get_or, Bool, true, false, cond, eqb, Ok, Err, refl, sym, subst, arith, rules, inl, inr, ◌⊎◌}
 use Rattle.std.specs.Str.{bytes_eq}
 use Rattle.std.specs.Prelude.{codes, ◌||◌}
 use Rattle.std.proofs.lemmas.Bool.{eqb-true}
@@ -73,7 +73,7 @@ no_space n = search rules
 offset_again : (label : List ℕ) (n : ℕ) → HasOffset label n → offset_at label ≡ Ok n
 unfolding offset_at
 offset_again label n (inl h) =
-    let digits_there : bytes_eq (positions label 51 52) (codes "  ") ≡ false = rw (h.spelled, no_space) refl in
+    let digits_there : bytes_eq (positions label 51 52) (codes "  ") ≡ false = rw (h.spelled, no_space ((n / 10) % 10)) refl in
     rw digits_there (number_again label 51 52 0 n h)
 offset_again label n (inr h) = rw (h.0, h.1) refl
 

@@ -1,9 +1,11 @@
 -- Laws about labels. Each is the contract of a call of the module `laws`.
-use Rattle.std.specs.Prelude.{◌≡◌, ℕ, List}
+use Rattle.std.specs.Prelude.{◌≡◌, ℕ, ◌+◌, List, Result, Ok, Err}
+use Rattle.tape_label.specs.declared.fault.LabelFault.{LabelFault}
 use Rattle.tape_label.specs.declared.values.Kind.{Kind}
 use Rattle.tape_label.specs.declared.values.Head2.{Head2}
 use Rattle.tape_label.specs.Kinds.{HasKind}
 use Rattle.tape_label.specs.Head2.{IsHead2}
+use Rattle.tape_label.specs.Reading.{vol1_at, head1_at, head2_at, trail1_at}
 
 -- A block is a label of one kind at most.
 abbrev pub HasOneKind : List ℕ → Type 0
@@ -16,3 +18,13 @@ IsNotBoth {A} {B} One Other block = (a : A) (b : B) → One block a → Other bl
 -- a second label of some kind
 abbrev pub IsSecondLabel : List ℕ → Head2 → Type 0
 IsSecondLabel block fields = (which : Kind) × IsHead2 block which fields
+
+-- one for a block that was read
+abbrev pub one_if_read : {A : Type 0} → Result A LabelFault → ℕ
+one_if_read (Ok fields) = 1
+one_if_read (Err fault) = 0
+
+-- how many of the four reading calls read the block
+abbrev pub readings : List ℕ → ℕ
+readings block =
+    one_if_read (vol1_at block) + one_if_read (head1_at block) + one_if_read (head2_at block) + one_if_read (trail1_at block)

@@ -6,7 +6,7 @@ ghost use Rattle.tape_label.specs.Head1.{IsHead1, HeadFits};
 ghost use Rattle.tape_label.specs.Head2.{Head2Fits};
 ghost use Rattle.tape_label.specs.Trail1.{IsTrail1, TrailFits};
 ghost use Rattle.tape_label.specs.Kinds.{IsSecond};
-ghost use Rattle.tape_label.specs.Laws.{HasOneKind, IsNotBoth, IsSecondLabel};
+ghost use Rattle.tape_label.specs.Laws.{HasOneKind, IsNotBoth, IsSecondLabel, readings};
 
 use crate::digits::{digits_of, digits_value};
 use crate::fault::LabelFault;
@@ -59,6 +59,7 @@ pub fn trail1_again(fields: &Trail1) -> Result<Trail1, LabelFault>
 /// How many of the four reading calls read the block: one at most, since no block is two kinds of label. None is both
 /// a header and a trailer, and no header or trailer is a volume label.
 pub fn readings(block: &[u8]) -> usize
+    ensures count { result ≡ readings block.now }
     ensures at_most_one { result ≤ 1 }
     ensures kinds { HasOneKind block.now }
     ensures volume_or_header { IsNotBoth IsVol1 IsHead1 block.now }
