@@ -1,10 +1,10 @@
 -- A number and its digits with leading zeros are told by each other.
-use Rattle.std.proofs.Common.{◌≡◌, ℕ, zero, suc, ◌+◌, ◌-◌, ◌*◌, ◌/◌, ◌%◌, ◌^◌, ◌<◌, ◌≤◌, Bool, true, false, List, [], ◌∷◌, ◌++◌, length, arith, add-one, refl, sym, ap, ◌∙◌, append_assoc, rules}
+use Rattle.std.proofs.Common.{◌≡◌, ℕ, zero, suc, ◌+◌, ◌-◌, ◌*◌, ◌/◌, ◌%◌, ◌^◌, ◌<◌, ◌≤◌, Bool, true, false, List, [], ◌∷◌, ◌++◌, length, drop, arith, add-one, refl, sym, ap, ◌∙◌, append_assoc, rules}
 use Rattle.std.specs.Prelude.{◌&&◌}
 use Rattle.std.specs.Str.{all_ascii_digits}
 use Rattle.std.specs.Char.{is_ascii_digit}
 use Rattle.std.proofs.Math.Nat.{pow-suc, pow-le-pow_right}
-use Rattle.std.proofs.lemmas.List.{append-nil}
+use Rattle.std.proofs.lemmas.List.{append-nil, drop_all}
 use Rattle.std.proofs.lemmas.Grind.{common_steps}
 use Rattle.tape_label.specs.Digits.{digits, number_after, number_of}
 
@@ -99,3 +99,10 @@ pub fits_nineteen : (n i : ℕ) → n < 10 ^ i → i < 19 → n < 10 ^ 18
 fits_nineteen n i small lt =
     let at_most : 10 ^ i ≤ 10 ^ 18 = pow-le-pow_right (omega arith) {i = i} {j = 18} (omega arith) in
     omega arith
+
+-- the loop at its end: all bytes are digits, and the number is theirs
+pub read_all : (number i : ℕ) (text : List ℕ) → length text ≤ i → number_after number (drop i text) ≡ number_of text
+    → all_ascii_digits (drop i text) ≡ all_ascii_digits text → (all_ascii_digits text ≡ true) × (number ≡ number_of text)
+read_all number i text le value tests =
+    let rest : drop i text ≡ [] = drop_all i text le in
+    (sym (rw rest at tests), rw rest at value)

@@ -31,8 +31,10 @@ impl<const N: usize> Field<N> {
     /// that is no a-character.
     pub fn new(text: &str) -> Result<Field<N>, LabelFault>
         ensures long { N < length text.now → result ≡ Err LabelFault.FieldLength }
-        ensures other { length text.now ≤ N → IfSome (first_other text.now) (λ place. result ≡ Err (LabelFault.NotACharacter place)) }
-        ensures fits { length text.now ≤ N → IfNone (first_other text.now) (result ≡ Ok (text.now ++ replicate (N - length text.now) 32)) }
+        ensures other { length text.now ≤ N
+            → IfSome (first_other text.now) (λ place. result ≡ Err (LabelFault.NotACharacter place)) }
+        ensures fits { length text.now ≤ N
+            → IfNone (first_other text.now) (result ≡ Ok (text.now ++ replicate (N - length text.now) 32)) }
     {
         let text = text.as_bytes();
         if text.len() > N {

@@ -1,6 +1,6 @@
 //! Labels read: exactly those that have their fields, and of the others the first fault.
 
-ghost use Rattle.std.specs.Prelude.{◌≡◌, IfOk, Ok, Err, length};
+ghost use Rattle.std.specs.Prelude.{◌≡◌, ◌≢◌, IfOk, Ok, Err, length};
 ghost use Rattle.tape_label.specs.Vol1.{IsVol1};
 ghost use Rattle.tape_label.specs.Head1.{IsHead1};
 ghost use Rattle.tape_label.specs.Head2.{IsHead2};
@@ -25,7 +25,7 @@ pub fn read_vol1(label: &[u8]) -> Result<Vol1, LabelFault>
     // whatever is the label of some fields is read,
     ensures only { (fields : Vol1) → IsVol1 label.now fields → result ≡ Ok fields }
     // a label of another kind is refused as such, whatever its fields hold,
-    ensures other { (kind : Kind) → HasKind label.now kind → (kind ≡ Kind.Vol1 → ⊥) → result ≡ Err LabelFault.Identifier }
+    ensures other { (kind : Kind) → HasKind label.now kind → kind ≢ Kind.Vol1 → result ≡ Err LabelFault.Identifier }
     // and anything else has the first fault.
     ensures fault { result ≡ vol1_at label.now }
 {
@@ -42,7 +42,7 @@ pub fn read_vol1(label: &[u8]) -> Result<Vol1, LabelFault>
 pub fn read_head1(label: &[u8]) -> Result<Head1, LabelFault>
     ensures found { IfOk result (IsHead1 label.now) }
     ensures only { (fields : Head1) → IsHead1 label.now fields → result ≡ Ok fields }
-    ensures other { (kind : Kind) → HasKind label.now kind → (kind ≡ Kind.Hdr1 → ⊥) → result ≡ Err LabelFault.Identifier }
+    ensures other { (kind : Kind) → HasKind label.now kind → kind ≢ Kind.Hdr1 → result ≡ Err LabelFault.Identifier }
     ensures fault { result ≡ head1_at label.now }
 {
     head1_at(label)
@@ -59,7 +59,7 @@ pub fn read_head1(label: &[u8]) -> Result<Head1, LabelFault>
 pub fn read_head2(label: &[u8]) -> Result<Head2, LabelFault>
     ensures found { IfOk result (λ fields. (which : Kind) × IsHead2 label.now which fields) }
     ensures only { (which : Kind) (fields : Head2) → IsHead2 label.now which fields → result ≡ Ok fields }
-    ensures other { (kind : Kind) → HasKind label.now kind → (IsSecond kind → ⊥) → result ≡ Err LabelFault.Identifier }
+    ensures other { (kind : Kind) → HasKind label.now kind → (¬ IsSecond kind) → result ≡ Err LabelFault.Identifier }
     ensures fault { result ≡ head2_at label.now }
 {
     head2_at(label)
@@ -74,7 +74,7 @@ pub fn read_head2(label: &[u8]) -> Result<Head2, LabelFault>
 pub fn read_trail1(label: &[u8]) -> Result<Trail1, LabelFault>
     ensures found { IfOk result (IsTrail1 label.now) }
     ensures only { (fields : Trail1) → IsTrail1 label.now fields → result ≡ Ok fields }
-    ensures other { (kind : Kind) → HasKind label.now kind → (IsFirstTrailer kind → ⊥) → result ≡ Err LabelFault.Identifier }
+    ensures other { (kind : Kind) → HasKind label.now kind → (¬ IsFirstTrailer kind) → result ≡ Err LabelFault.Identifier }
     ensures fault { result ≡ trail1_at label.now }
 {
     trail1_at(label)

@@ -79,3 +79,15 @@ fn numbers_of_faults(rt: HostRuntime) {
     assert_eq!(rt; LabelFault::NotACharacter(3).number(), 6);
     assert_eq!(rt; LabelFault::FieldLength.number(), 7);
 }
+
+#[test]
+fn texts_of_faults(rt: HostRuntime) -> Result<(), Fail> {
+    let not_digits = format!(in rt.alloc(); "{}", LabelFault::NotDigits(28))?;
+    assert_eq!(rt;
+        not_digits.as_str(),
+        "the number at position 28 is not all digits"
+    );
+    let other = format!(in rt.alloc(); "{}", LabelFault::NotACharacter(3))?;
+    assert_eq!(rt; other.as_str(), "the byte at place 3 is no a-character");
+    Ok(())
+}
