@@ -35,10 +35,15 @@ fn kinds_by_length_and_identifier(rt: HostRuntime) {
 
 #[test]
 fn only_eighty_characters_are_a_label(rt: HostRuntime) {
-    let mut longer = [b' '; 81];
-    longer[..80].copy_from_slice(VOL1);
-    assert_eq!(rt; kind(&longer), None);
-    assert_eq!(rt; read_vol1(&longer), Err(LabelFault::NotEighty));
+    for label in [VOL1, HDR1, HDR2, EOF1] {
+        let mut longer = [b' '; 81];
+        longer[..80].copy_from_slice(label);
+        assert_eq!(rt; kind(&longer), None);
+        assert_eq!(rt; read_vol1(&longer), Err(LabelFault::NotEighty));
+        assert_eq!(rt; read_head1(&longer), Err(LabelFault::NotEighty));
+        assert_eq!(rt; read_head2(&longer), Err(LabelFault::NotEighty));
+        assert_eq!(rt; read_trail1(&longer), Err(LabelFault::NotEighty));
+    }
     assert_eq!(rt; kind(&VOL1[..79]), None);
     assert_eq!(rt; read_vol1(&VOL1[..79]), Err(LabelFault::NotEighty));
     assert_eq!(rt; read_head1(&HDR1[..79]), Err(LabelFault::NotEighty));
