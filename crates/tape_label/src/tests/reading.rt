@@ -135,6 +135,11 @@ fn fields_of_a_second_label(rt: HostRuntime) {
         read_head2(offset_with_a_space),
         Err(LabelFault::NotDigits(51))
     );
+}
+
+/// A record length of 0 reads where records are not of a fixed length.
+#[test]
+fn second_labels_without_a_record_length(rt: HostRuntime) {
     let spanned =
         b"EOV2S0999900000                                   99                            ";
     let expected = Head2 {
