@@ -1,0 +1,6 @@
+pub mod FrontLaws
+pub mod JudgedLaws
+pub mod PartsLaws
+pub mod TestLaws
+pub mod UnitLaws
+pub mod YieldLaws

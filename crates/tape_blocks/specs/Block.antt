@@ -1,0 +1,73 @@
+-- What a block of labelled tape holds: behind the buffer offset the units of parts, and then padding.
+use Rattle.std.specs.Prelude.{◌≡◌, ℕ, ◌+◌, ◌<◌, ◌≤◌, ◌==◌, not, List, [], ◌∷◌, ◌++◌, length, drop, Option, None}
+use Rattle.std.specs.List.{position, flat_map, AllByRecursion}
+use Rattle.tape_label.specs.Digits.{digits}
+use Rattle.tape_label.specs.declared.values.Format.{Format}
+use Rattle.tape_label.specs.declared.values.Format.TheVariants.{Fixed, Counted, Spanned}
+use Rattle.tape_blocks.specs.declared.part.Span.{Span}
+use Rattle.tape_blocks.specs.declared.part.Span.TheVariants.{Whole, First, Middle, Last}
+
+-- a part: a record or a piece of one, wherever its bytes lie
+pub record Portion : Type 0 where
+  pub span : Span
+  pub bytes : List ℕ
+
+-- ---- how a part is spelled
+
+-- the digits 0 to 3
+abbrev pub indicator : Span → ℕ
+indicator Whole = 48
+indicator First = 49
+indicator Middle = 50
+indicator Last = 51
+
+-- how many characters stand before a part's content
+abbrev pub head_len : Format → ℕ
+head_len Fixed = 0
+head_len Counted = 4
+head_len Spanned = 5
+
+-- the characters before a part's content: nothing, a count of the whole unit in four digits, or an indicator and such a count
+abbrev pub head : Format → Portion → List ℕ
+head Fixed p = []
+head Counted p = digits 4 (4 + length p.bytes)
+head Spanned p = indicator p.span ∷ digits 4 (5 + length p.bytes)
+
+-- the unit of a part
+abbrev pub spelling : Format → Portion → List ℕ
+spelling format p = head format p ++ p.bytes
+
+-- the units of parts, one behind another
+abbrev pub spellings : Format → List Portion → List ℕ
+spellings format parts = flat_map (spelling format) parts
+
+-- a part that the format can spell: a whole record of just this length, a whole record, or any part; the unit's length has four digits
+abbrev pub IsUnit : Format → ℕ → Portion → Type 0
+IsUnit Fixed rec_len p = (p.span ≡ Whole) × (length p.bytes ≡ rec_len)
+IsUnit Counted rec_len p = (p.span ≡ Whole) × (4 + length p.bytes < 10000)
+IsUnit Spanned rec_len p = 5 + length p.bytes < 10000
+
+-- ---- padding
+
+-- the first place of a byte that is no circumflex
+abbrev pub first_other : List ℕ → Option ℕ
+first_other bytes = position (λ c. not (c == 94)) bytes
+
+-- circumflexes, of which format F has fewer than a record's length
+abbrev pub IsPadding : Format → ℕ → List ℕ → Type 0
+IsPadding Fixed rec_len bytes = (first_other bytes ≡ None) × (length bytes < rec_len)
+IsPadding Counted rec_len bytes = first_other bytes ≡ None
+IsPadding Spanned rec_len bytes = first_other bytes ≡ None
+
+-- ---- blocks
+
+-- behind the offset stand the units of these parts, and then this rest
+pub record BeginsWith (format : Format) (rec_len offset : ℕ) (block : List ℕ) (parts : List Portion) (rest : List ℕ) : Type 0 where
+  pub reaches : offset ≤ length block
+  pub units : AllByRecursion (IsUnit format rec_len) parts
+  pub body : drop offset block ≡ spellings format parts ++ rest
+
+-- behind the offset stand the units of these parts, in their order, and then padding to the block's end
+abbrev pub Holds : Format → ℕ → ℕ → List ℕ → List Portion → Type 0
+Holds format rec_len offset block parts =
+    (padding : List ℕ) × BeginsWith format rec_len offset block parts padding × IsPadding format rec_len padding

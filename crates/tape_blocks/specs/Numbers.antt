@@ -1,0 +1,20 @@
+-- The fixed numbers of the faults.
+use Rattle.std.specs.Prelude.{ℕ}
+use Rattle.tape_blocks.specs.declared.fault.BlockCause.{BlockCause}
+use Rattle.tape_blocks.specs.declared.fault.BlockCause.TheVariants.{ShortOffset, NotMultiple, BadCount, PastEnd, BadIndicator, SpanBroken, BadPadding}
+use Rattle.tape_blocks.specs.declared.fault.PackFault.{PackFault}
+use Rattle.tape_blocks.specs.declared.fault.PackFault.TheVariants.{RecordLength, ShapeRange, OutOfMemory}
+
+abbrev pub cause_number : BlockCause → ℕ
+cause_number ShortOffset = 1
+cause_number NotMultiple = 2
+cause_number BadCount = 3
+cause_number PastEnd = 4
+cause_number BadIndicator = 5
+cause_number SpanBroken = 6
+cause_number BadPadding = 7
+
+abbrev pub pack_fault_number : PackFault → ℕ
+pack_fault_number RecordLength = 8
+pack_fault_number ShapeRange = 9
+pack_fault_number OutOfMemory = 10

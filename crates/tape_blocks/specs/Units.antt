@@ -1,0 +1,53 @@
+-- The unit that stands at the front of some bytes, or why none does: what one step over a block finds.
+use Rattle.std.specs.Prelude.{◌≡◌, ℕ, ◌-◌, ◌==◌, nat_lt, not, Bool, true, false, List, [], ◌∷◌, length, take, drop, Option, Some, None, Result, Ok, Err, if◌then◌else◌}
+use Rattle.std.specs.Str.{all_ascii_digits}
+use Rattle.tape_label.specs.Digits.{number_of}
+use Rattle.tape_label.specs.declared.values.Format.{Format}
+use Rattle.tape_label.specs.declared.values.Format.TheVariants.{Fixed, Counted, Spanned}
+use Rattle.tape_blocks.specs.declared.fault.BlockCause.{BlockCause}
+use Rattle.tape_blocks.specs.declared.fault.BlockCause.TheVariants.{NotMultiple, BadCount, PastEnd, BadIndicator, BadPadding}
+use Rattle.tape_blocks.specs.declared.fault.BlockFault.{BlockFault}
+use Rattle.tape_blocks.specs.declared.part.Span.{Span}
+use Rattle.tape_blocks.specs.declared.part.Span.TheVariants.{Whole, First, Middle, Last}
+use Rattle.tape_blocks.specs.declared.unit.Found.{Found}
+use Rattle.tape_blocks.specs.Block.{first_other}
+
+abbrev pub fault : ℕ → BlockCause → BlockFault
+fault place cause = record { place = place; cause = cause }
+
+-- the span that a byte indicates
+abbrev pub span_by : ℕ → Option Span
+span_by c =
+    if c == 48 then Some Whole else (if c == 49 then Some First else (if c == 50 then Some Middle else (if c == 51 then Some Last else None)))
+
+-- no unit, if there are circumflexes alone
+abbrev pub padding_by : Option ℕ → Result (Option Found) BlockFault
+padding_by None = Ok None
+padding_by (Some place) = Err (fault place BadPadding)
+
+abbrev pub short_by : Option ℕ → Result (Option Found) BlockFault
+short_by None = Ok None
+short_by (Some place) = Err (fault 0 NotMultiple)
+
+-- a unit whose head ends with four digits, which count it
+abbrev pub counted : Span → ℕ → List ℕ → Result (Option Found) BlockFault
+counted span head bytes =
+    let count = take 4 (drop (head - 4) bytes)
+    in if nat_lt (length bytes) head then Err (fault 0 BadCount)
+    else (if not (all_ascii_digits count) then Err (fault 0 BadCount)
+    else (if nat_lt (number_of count) head then Err (fault 0 BadCount)
+    else (if nat_lt (length bytes) (number_of count) then Err (fault 0 PastEnd)
+    else Ok (Some record { span = span; head = head; len = number_of count }))))
+
+abbrev pub spanned : Option Span → List ℕ → Result (Option Found) BlockFault
+spanned None bytes = Err (fault 0 BadIndicator)
+spanned (Some span) bytes = counted span 5 bytes
+
+-- the unit, or none where padding stands
+unfoldable pub unit_at : Format → ℕ → List ℕ → Result (Option Found) BlockFault
+unit_at Fixed rec_len bytes =
+    if nat_lt (length bytes) rec_len then short_by (first_other bytes) else Ok (Some record { span = Whole; head = 0; len = rec_len })
+unit_at Counted rec_len [] = Ok None
+unit_at Counted rec_len (c ∷ cs) = if c == 94 then padding_by (first_other (c ∷ cs)) else counted Whole 4 (c ∷ cs)
+unit_at Spanned rec_len [] = Ok None
+unit_at Spanned rec_len (c ∷ cs) = if c == 94 then padding_by (first_other (c ∷ cs)) else spanned (span_by c) (c ∷ cs)

@@ -1,0 +1,100 @@
+//! Blocks checked.
+
+ghost use Rattle.std.specs.Prelude.{◌≡◌, Bool, List, IfOk, IfErr, Ok};
+ghost use Rattle.tape_blocks.specs.Block.{Portion, Holds};
+ghost use Rattle.tape_blocks.specs.Faults.{HasFault, bool_eq};
+ghost use Rattle.tape_blocks.specs.Judged.{judged};
+ghost use Rattle.tape_blocks.specs.Spans.{InOrder, continues, leaves};
+
+use crate::fault::{BlockCause, BlockFault};
+use crate::part::Span;
+use crate::shape::Shape;
+use crate::unit::unit_at;
+
+fn continues(span: Span) -> bool
+    ensures { result ≡ continues span }
+{
+    matches!(span, Span::Middle | Span::Last)
+}
+
+// Whether the span may stand where a record is begun or not.
+fn may_follow(span: Span, begun: bool) -> bool
+    ensures { result ≡ bool_eq (continues span) begun }
+{
+    if begun {
+        continues(span)
+    } else {
+        !continues(span)
+    }
+}
+
+fn leaves(span: Span) -> bool
+    ensures { result ≡ leaves span }
+{
+    matches!(span, Span::First | Span::Middle)
+}
+
+// Walks over the units.
+fn judge(shape: &Shape, begun: bool, block: &[u8]) -> Result<bool, BlockFault>
+    ensures { result ≡ judged shape.now.format shape.now.rec_len shape.now.offset begun block.now }
+{
+    let offset = usize::from(shape.offset);
+    if block.len() < offset {
+        return Err(BlockFault {
+            place: 0,
+            cause: BlockCause::ShortOffset,
+        });
+    }
+    let mut going = begun;
+    let mut place = offset;
+    'units: loop {
+        match unit_at(shape.format, shape.rec_len as usize, &block[place..]) {
+            Err(fault) => {
+                return Err(BlockFault {
+                    place: place + fault.place,
+                    cause: fault.cause,
+                });
+            }
+            Ok(None) => return Ok(going),
+            Ok(Some(found)) => {
+                if !may_follow(found.span, going) {
+                    return Err(BlockFault {
+                        place,
+                        cause: BlockCause::SpanBroken,
+                    });
+                }
+                going = leaves(found.span);
+                place += found.len;
+            }
+        }
+    }
+}
+
+/// Whether a block holds records of this shape, and whether one of them is begun at the block's end
+/// (ECMA-13, 4th edition: fixed-length, variable-length and spanned records).
+///
+/// `begun` tells whether a record is begun where the block begins. The block's length is compared with none: a block may
+/// be longer than the shape says. Behind the offset come the records, or segments in format S, and behind these padding:
+/// circumflexes, in format F fewer than a record's length. A block without any record is accepted.
+///
+/// # Errors
+///
+/// The fault stands where the longest front of records in order ends, or at 0 where the block is shorter than its
+/// offset. Its cause is the first in the order of [`BlockCause`] that applies there, with `BadIndicator` before
+/// `BadCount`; `BadPadding` stands at the first byte behind the front that is no circumflex.
+pub fn check_block(shape: &Shape, begun: bool, block: &[u8]) -> Result<bool, BlockFault>
+    // What passes holds parts in span order, and leaves a record begun or not as it says.
+    ensures found { IfOk result (λ end. (parts : List Portion)
+        × Holds shape.now.format shape.now.rec_len shape.now.offset block.now parts
+        × InOrder begun parts end) }
+    // What holds parts in span order passes.
+    ensures only { (parts : List Portion) (end : Bool)
+        → Holds shape.now.format shape.now.rec_len shape.now.offset block.now parts
+        → InOrder begun parts end → result ≡ Ok end }
+    // Which fault it is, and where it stands.
+    ensures fault { IfErr result (HasFault shape.now.format shape.now.rec_len shape.now.offset begun block.now) }
+    // The answer as a function on lists.
+    ensures exact { result ≡ judged shape.now.format shape.now.rec_len shape.now.offset begun block.now }
+{
+    judge(shape, begun, block)
+}
