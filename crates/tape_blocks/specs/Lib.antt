@@ -1,7 +1,10 @@
 pub mod Block
 pub mod Faults
 pub mod Judged
+pub mod Laws
 pub mod Numbers
+pub mod Packed
+pub mod Packing
 pub mod Parts
 pub mod PartsLeft
 pub mod Spans

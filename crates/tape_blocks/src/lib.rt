@@ -3,13 +3,20 @@
 
 mod check;
 mod fault;
+pub mod laws;
+mod offer;
+mod packer;
 mod part;
 mod parts;
+mod put;
 mod shape;
 mod unit;
+mod writing;
 
 pub use check::check_block;
 pub use fault::{BlockCause, BlockFault, PackFault};
+pub use offer::Offer;
+pub use packer::Packer;
 pub use part::{Part, Span};
 pub use parts::Parts;
 pub use shape::Shape;

@@ -1,0 +1,5 @@
+use Rattle.tape_blocks.proofs.JoinLaws.{passes_for_one}
+use Rattle.tape_blocks.proofs.laws.one_begun.Goals as goal
+
+pub returns : goal.returns
+returns c = λ rec_len offset parts b d e f. passes_for_one rec_len offset c.args._block.now parts b d e f

@@ -1,0 +1,38 @@
+-- What the bytes of a packer stand for: the parts of its block under way are read off them.
+use Rattle.std.specs.Prelude.{◌≡◌, ℕ, ◌<◌, ◌≤◌, true, List, length, take, drop, replicate, vec_capacity}
+use Rattle.std.specs.List.{AllByRecursion}
+use Rattle.tape_label.specs.declared.values.Format.TheVariants.{Spanned}
+use Rattle.tape_blocks.specs.declared.shape.Shape.{Shape}
+use Rattle.tape_blocks.specs.declared.packer.Packer.TheInside.{Inside}
+use Rattle.tape_blocks.specs.Block.{Portion, IsUnit, spellings}
+use Rattle.tape_blocks.specs.Packing.{Packing, IsWritable}
+use Rattle.tape_blocks.specs.Parts.{parts_of}
+
+-- the bytes of the block under way, behind its offset
+abbrev pub body_of : Shape → List ℕ → ℕ → List ℕ
+body_of shape items len = drop shape.offset (take len items)
+
+-- its parts
+abbrev pub parts_in : Shape → List ℕ → ℕ → List Portion
+parts_in shape items len = parts_of shape.format shape.rec_len (body_of shape items len)
+
+-- what callers see of a packer
+abbrev pub packing : Inside → Packing
+packing a = record { shape = a.shape; parts = parts_in a.shape a.block.items a.len; begun = a.begun; closed = a.closed }
+
+-- The first bytes, as many as are under way, are the offset's spaces and the units of these parts.
+pub record Keeps (shape : Shape) (items : List ℕ) (len : ℕ) (parts : List Portion) : Type 0 where
+  pub front : take shape.offset items ≡ replicate shape.offset 32
+  pub begins : shape.offset ≤ len
+  pub inside : len ≤ length items
+  pub within : len ≤ shape.block_len
+  pub units : AllByRecursion (IsUnit shape.format shape.rec_len) parts
+  pub body : body_of shape items len ≡ spellings shape.format parts
+
+-- what each call of a packer keeps
+pub record IsKept (a : Inside) : Type 0 where
+  pub writable : IsWritable a.shape
+  pub room : a.shape.block_len ≤ vec_capacity a.block
+  pub keeps : Keeps a.shape a.block.items a.len (parts_in a.shape a.block.items a.len)
+  pub closed : a.closed ≡ true → a.shape.offset < a.len
+  pub begun : a.begun ≡ true → a.shape.format ≡ Spanned

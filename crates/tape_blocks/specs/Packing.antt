@@ -1,0 +1,140 @@
+-- Records packed into blocks: the shapes that are written, the text of a block, and what each call of a packer does.
+use Rattle.std.specs.Prelude.{◌≡◌, ◌≢◌, ℕ, ◌+◌, ◌-◌, ◌<◌, ◌≤◌, ◌⊎◌, Bool, true, false, if◌then◌else◌, List, [], ◌∷◌, ◌++◌, length, take, replicate, max}
+use Rattle.tape_label.specs.declared.values.Format.{Format}
+use Rattle.tape_label.specs.declared.values.Format.TheVariants.{Fixed, Counted, Spanned}
+use Rattle.tape_blocks.specs.declared.shape.Shape.{Shape}
+use Rattle.tape_blocks.specs.declared.offer.Offer.{Offer}
+use Rattle.tape_blocks.specs.declared.offer.Offer.TheVariants.{Taken, BlockReady}
+use Rattle.tape_blocks.specs.Block.{Portion, spellings, Holds}
+use Rattle.tape_blocks.specs.Spans.{span_of}
+
+-- ---- shapes and records that are written
+
+-- format, record length, block length, offset, and whether each block is padded in full
+abbrev pub HasWritableRecords : Format → ℕ → ℕ → ℕ → Bool → Type 0
+HasWritableRecords Fixed rec_len block_len offset pad_full = (18 ≤ rec_len) × (offset + rec_len ≤ block_len) × (pad_full ≡ false)
+HasWritableRecords Counted rec_len block_len offset pad_full = (4 ≤ rec_len) × (rec_len ≤ 9999) × (offset + rec_len ≤ block_len)
+HasWritableRecords Spanned rec_len block_len offset pad_full = (rec_len ≡ 0) × (block_len ≤ 9999) × (offset + 6 ≤ block_len) × (pad_full ≡ false)
+
+-- the shapes that are written
+pub record IsWritable (shape : Shape) : Type 0 where
+  pub least : 18 ≤ shape.block_len
+  pub most : shape.block_len ≤ 99999
+  pub front : shape.offset ≤ 99
+  pub units : HasWritableRecords shape.format shape.rec_len shape.block_len shape.offset shape.pad_full
+
+-- the lengths of the records of a shape; in format D the record length counts the four digits
+abbrev pub HasRecordLength : Format → ℕ → ℕ → Type 0
+HasRecordLength Fixed rec_len n = n ≡ rec_len
+HasRecordLength Counted rec_len n = n + 4 ≤ rec_len
+HasRecordLength Spanned rec_len n = n ≤ 4294967295
+
+-- ---- the text of a block
+
+-- how long a block with these parts is before it is padded
+abbrev pub size_of : Shape → List Portion → ℕ
+size_of shape parts = shape.offset + length (spellings shape.format parts)
+
+-- format, whether each block is padded in full, block length, and how long the block is before
+abbrev pub padded_by : Format → Bool → ℕ → ℕ → ℕ
+padded_by Fixed pad_full block_len n = n
+padded_by Counted pad_full block_len n = if pad_full then block_len else max n 18
+padded_by Spanned pad_full block_len n = max n 18
+
+-- how long a block of n bytes is when it is padded
+abbrev pub padded_len : Shape → ℕ → ℕ
+padded_len shape n = padded_by shape.format shape.pad_full shape.block_len n
+
+-- the block with these parts: the offset's spaces, the units, and circumflexes up to the padded length
+abbrev pub written : Shape → List Portion → List ℕ
+written shape parts =
+    (replicate shape.offset 32 ++ spellings shape.format parts)
+    ++ replicate (padded_len shape (size_of shape parts) - size_of shape parts) 94
+
+-- ---- when a block is closed
+
+-- the free bytes that the next part needs, where the rest of its record has n bytes: in format S a segment begins where 6 are free
+abbrev pub least_room : Format → ℕ → ℕ
+least_room Fixed n = n
+least_room Counted n = 4 + n
+least_room Spanned n = 6
+
+abbrev pub HasRoom : Shape → List Portion → ℕ → Type 0
+HasRoom shape parts n = size_of shape parts + least_room shape.format n ≤ shape.block_len
+
+-- the opposite
+abbrev pub IsFull : Shape → List Portion → ℕ → Type 0
+IsFull shape parts n = shape.block_len < size_of shape parts + least_room shape.format n
+
+-- ---- a packer
+
+-- the block under way: its parts, whether the record of the last part goes on, and whether the block is closed
+pub record Packing : Type 0 where
+  pub shape : Shape
+  pub parts : List Portion
+  pub begun : Bool
+  pub closed : Bool
+
+abbrev pub the_packing : Shape → List Portion → Bool → Bool → Packing
+the_packing shape parts begun closed = record { shape = shape; parts = parts; begun = begun; closed = closed }
+
+-- with one part more, whose record goes on or not; where it goes on the block is closed
+abbrev pub with_part : Packing → Bool → List ℕ → Packing
+with_part p goes_on bytes = record {
+  shape = p.shape;
+  parts = p.parts ++ record { span = span_of p.begun goes_on; bytes = bytes } ∷ [];
+  begun = goes_on;
+  closed = goes_on;
+}
+
+-- The block was closed before: nothing is taken, and nothing changes.
+pub record StaysClosed (old : Packing) (n : ℕ) (new : Packing) : Type 0 where
+  pub closed : old.closed ≡ true
+  pub none : n ≡ 0
+  pub same : new ≡ old
+
+-- The block is full: nothing is taken, and it is closed.
+pub record Closes (old : Packing) (rest : List ℕ) (n : ℕ) (new : Packing) : Type 0 where
+  pub opened : old.closed ≡ false
+  pub none : n ≡ 0
+  pub full : IsFull old.shape old.parts (length rest)
+  pub same : new ≡ record { shape = old.shape; parts = old.parts; begun = old.begun; closed = true }
+
+-- A segment that does not end its record fills the block.
+pub record Fills (old : Packing) (rest : List ℕ) (n : ℕ) (new : Packing) : Type 0 where
+  pub opened : old.closed ≡ false
+  pub spanned : old.shape.format ≡ Spanned
+  pub room : HasRoom old.shape old.parts (length rest)
+  pub some : 0 < n
+  pub more : n < length rest
+  pub part : new ≡ with_part old true (take n rest)
+  pub filled : size_of new.shape new.parts ≡ new.shape.block_len
+
+-- The rest of the record ends in the block.
+pub record Ends (old : Packing) (rest : List ℕ) (new : Packing) : Type 0 where
+  pub opened : old.closed ≡ false
+  pub room : HasRoom old.shape old.parts (length rest)
+  pub part : new ≡ with_part old false rest
+  pub within : size_of new.shape new.parts ≤ new.shape.block_len
+
+-- what an offer of the rest of a record does; a block that is ready holds a part
+abbrev pub Offers : Packing → List ℕ → Offer → Packing → Type 0
+Offers old rest Taken new = Ends old rest new
+Offers old rest (BlockReady n) new = (new.parts ≢ []) × (StaysClosed old n new ⊎ (Closes old rest n new ⊎ Fills old rest n new))
+
+-- A record begins here, and its length is not one of the shape.
+pub record IsRefused (p : Packing) (rest : List ℕ) : Type 0 where
+  pub opened : p.closed ≡ false
+  pub begins : p.begun ≡ false
+  pub length_is : HasRecordLength p.shape.format p.shape.rec_len (length rest) → ⊥
+
+-- what is left when the block was taken: no part, and a record that was begun goes on
+abbrev pub emptied : Packing → Packing
+emptied p = record { shape = p.shape; parts = []; begun = p.begun; closed = false }
+
+-- The text is the block under way, which holds the packer's parts and is no longer than a block may be.
+pub record Given (p : Packing) (text : List ℕ) : Type 0 where
+  pub some : p.parts ≢ []
+  pub text_is : text ≡ written p.shape p.parts
+  pub holds : Holds p.shape.format p.shape.rec_len p.shape.offset text p.parts
+  pub within : length text ≤ p.shape.block_len

@@ -1,0 +1,60 @@
+//! Laws about blocks and their parts, each as the contract of a call.
+
+ghost use Rattle.std.specs.Prelude.{◌≡◌, ◌≤◌, Bool, List, map, IfOk};
+ghost use Rattle.tape_label.specs.declared.values.Format.TheVariants.{Fixed};
+ghost use Rattle.tape_blocks.specs.Block.{Portion, Holds};
+ghost use Rattle.tape_blocks.specs.Laws.{HoldsOneList, PassesForOne, JudgedAsHeld, JoinsOn, BegunIsRest};
+ghost use Rattle.tape_blocks.specs.Spans.{InOrder};
+
+use crate::part::Span;
+use crate::parts::Parts;
+use crate::shape::Shape;
+use std::alloc::{AllocError, Global};
+use tape_label::Format;
+
+/// A block holds at most one list of parts.
+pub fn one_list_of_parts(_block: &[u8])
+    ensures { HoldsOneList _block.now }
+{}
+
+/// A block of format S with a part passes for at most one value of `begun`.
+pub fn one_begun(_block: &[u8])
+    ensures { PassesForOne _block.now }
+{}
+
+/// What the answer of a check says of a block, and what a block says of the answer, for callers that know the answer as a
+/// function on lists.
+pub fn judged_as_held(_format: Format, _rec_len: u32, _offset: u8, _begun: bool, _block: &[u8])
+    requires { _format ≡ Fixed → 1 ≤ _rec_len }
+    ensures { JudgedAsHeld _format _rec_len _offset _begun _block.now }
+{}
+
+/// What a list of parts followed by another joins to.
+pub fn joins_on()
+    ensures { JoinsOn }
+{}
+
+/// Where a record is begun behind parts in span order.
+pub fn begun_is_rest()
+    ensures { BegunIsRest }
+{}
+
+/// The spans of a checked block's parts, in order: what a `for` over the parts has seen are the parts that the block holds.
+///
+/// # Errors
+///
+/// Only where memory is refused.
+pub fn spans_of(alloc: Global, shape: &Shape, block: &[u8]) -> Result<Vec<Span>, AllocError>
+    requires { (begun : Bool) × (end : Bool) × (parts : List Portion)
+        × Holds shape.now.format shape.now.rec_len shape.now.offset block.now parts
+        × InOrder begun parts end }
+    ensures { IfOk result (λ spans. (parts : List Portion)
+        → Holds shape.now.format shape.now.rec_len shape.now.offset block.now parts
+        → spans.items ≡ map (λ p. p.span) parts) }
+{
+    let mut spans = Vec::new(alloc);
+    for part in Parts::new(shape, block) {
+        spans.push(part.span)?;
+    }
+    Ok(spans)
+}

@@ -1,0 +1,87 @@
+//! Which shapes and records are written, and how long their units and blocks are.
+
+ghost use Rattle.std.specs.Prelude.{◌≡◌, ◌≤◌, IsTrue, ◌↔◌};
+ghost use Rattle.tape_blocks.specs.Block.{head_len};
+ghost use Rattle.tape_blocks.specs.Packing.{IsWritable, HasRecordLength, padded_len, least_room};
+ghost use Rattle.tape_blocks.specs.Spans.{span_of};
+
+use crate::part::Span;
+use crate::shape::Shape;
+use tape_label::Format;
+
+/// Whether blocks of this shape are written.
+pub(crate) fn is_writable(shape: &Shape) -> bool
+    ensures { IsTrue result ↔ IsWritable shape.now }
+{
+    let block_len = shape.block_len;
+    let rec_len = shape.rec_len;
+    let offset = u32::from(shape.offset);
+    if block_len < 18 || block_len > 99_999 || offset > 99 {
+        return false;
+    }
+    match shape.format {
+        Format::Fixed => rec_len >= 18
+            && rec_len <= block_len - offset.min(block_len)
+            && !shape.pad_full,
+        Format::Counted => rec_len >= 4 && rec_len <= 9_999 && offset + rec_len <= block_len,
+        Format::Spanned => {
+            rec_len == 0 && block_len <= 9_999 && offset + 6 <= block_len && !shape.pad_full
+        }
+    }
+}
+
+/// Whether a record of this length is written.
+pub(crate) fn has_record_length(format: Format, rec_len: u32, len: usize) -> bool
+    ensures { IsTrue result ↔ HasRecordLength format rec_len len }
+{
+    match format {
+        Format::Fixed => len == rec_len as usize,
+        Format::Counted => len <= rec_len as usize && rec_len as usize - len >= 4,
+        Format::Spanned => len <= 4_294_967_295,
+    }
+}
+
+/// How many characters stand before a part's content.
+pub(crate) fn head_len(format: Format) -> usize
+    ensures { result ≡ head_len format }
+{
+    match format {
+        Format::Fixed => 0,
+        Format::Counted => 4,
+        Format::Spanned => 5,
+    }
+}
+
+/// Whether so many free bytes are enough for the next part, where the rest of its record has `len` bytes.
+pub(crate) fn has_room(format: Format, free: usize, len: usize) -> bool
+    ensures { IsTrue result ↔ (least_room format len ≤ free) }
+{
+    match format {
+        Format::Fixed => len <= free,
+        Format::Counted => free >= 4 && len <= free - 4,
+        Format::Spanned => free >= 6,
+    }
+}
+
+/// The span of a part that goes on with a record or begins one, and leaves it begun or ends it.
+pub(crate) fn span(begun: bool, goes_on: bool) -> Span
+    ensures { result ≡ span_of begun goes_on }
+{
+    match (begun, goes_on) {
+        (false, false) => Span::Whole,
+        (false, true) => Span::First,
+        (true, true) => Span::Middle,
+        (true, false) => Span::Last,
+    }
+}
+
+/// How long a block of `len` bytes is when it is padded.
+pub(crate) fn padded_len(shape: &Shape, len: usize) -> usize
+    ensures { result ≡ padded_len shape.now len }
+{
+    match shape.format {
+        Format::Fixed => len,
+        Format::Counted if shape.pad_full => shape.block_len as usize,
+        Format::Counted | Format::Spanned => len.max(18),
+    }
+}
