@@ -3,6 +3,8 @@ pub mod JoinLaws
 pub mod JudgedLaws
 pub mod PackLaws
 pub mod PartsLaws
+pub mod RecordLaws
+pub mod RunLaws
 pub mod TestLaws
 pub mod UnitLaws
 pub mod YieldLaws

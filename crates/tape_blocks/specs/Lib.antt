@@ -7,5 +7,8 @@ pub mod Packed
 pub mod Packing
 pub mod Parts
 pub mod PartsLeft
+pub mod Records
+pub mod Run
 pub mod Spans
+pub mod Tight
 pub mod Units

@@ -1,0 +1,41 @@
+-- Whole records packed, and whole lists of them.
+use Rattle.std.specs.Prelude.{ℕ, ◌≡◌, false, List, [], ◌∷◌, ◌++◌, map, length}
+use Rattle.std.specs.declared.alloc.Global.{Global}
+use Rattle.std.specs.declared.vec.Vec.{Vec}
+use Rattle.std.specs.List.{Contains}
+use Rattle.tape_blocks.specs.declared.fault.PackFault.{PackFault}
+use Rattle.tape_blocks.specs.declared.fault.PackFault.TheVariants.{RecordLength, ShapeRange, OutOfMemory}
+use Rattle.tape_blocks.specs.declared.shape.Shape.{Shape}
+use Rattle.tape_blocks.specs.Packing.{Packing, IsWritable, HasRecordLength}
+use Rattle.tape_blocks.specs.Run.{RunOf}
+use Rattle.tape_blocks.specs.Tight.{Filled, bytes_of_all}
+
+abbrev pub contents : List (Vec ℕ Global) → List (List ℕ)
+contents vs = map (λ v. v.items) vs
+
+-- Some record has a length that the shape has not.
+abbrev pub HasOtherLength : Shape → List (List ℕ) → Type 0
+HasOtherLength shape records =
+    (r : List ℕ) × Contains records r × (HasRecordLength shape.format shape.rec_len (length r) → ⊥)
+
+-- why records are not packed
+abbrev pub IsRefusedFor : Shape → List (List ℕ) → PackFault → Type 0
+IsRefusedFor shape records RecordLength = HasOtherLength shape records
+IsRefusedFor shape records ShapeRange = IsWritable shape → ⊥
+IsRefusedFor shape records OutOfMemory = Unit {0}
+
+-- why one record is not packed
+abbrev pub IsRefusedOne : Shape → List ℕ → PackFault → Type 0
+IsRefusedOne shape whole RecordLength = HasRecordLength shape.format shape.rec_len (length whole) → ⊥
+IsRefusedOne shape whole ShapeRange = ⊥
+IsRefusedOne shape whole OutOfMemory = Unit {0}
+
+abbrev pub RefusesRecord : Packing → List ℕ → PackFault → Type 0
+RefusesRecord old whole e = (taken : List Filled) (records : List (List ℕ)) → RunOf taken old records → IsRefusedOne old.shape whole e
+
+-- From each run that led here there is one with this record too, and what was taken for it stands behind the texts.
+pub record PutsRecord (old : Packing) (texts : List (List ℕ)) (whole : List ℕ) (new : Packing) (more : List (List ℕ)) : Type 0 where
+  pub shape : new.shape ≡ old.shape
+  pub ended : new.begun ≡ false
+  pub run : (taken : List Filled) (records : List (List ℕ)) → RunOf taken old records
+      → (filled : List Filled) × (texts ++ bytes_of_all filled ≡ more) × RunOf (taken ++ filled) new (records ++ whole ∷ [])
