@@ -22,3 +22,6 @@ pub use packing::pack_all;
 pub use part::{Part, Span};
 pub use parts::Parts;
 pub use shape::Shape;
+
+#[cfg(test)]
+mod tests;
