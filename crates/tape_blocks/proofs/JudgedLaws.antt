@@ -9,7 +9,7 @@ use Rattle.tape_label.specs.declared.values.Format.TheVariants.{Fixed}
 use Rattle.tape_blocks.specs.declared.fault.BlockCause.TheVariants.{ShortOffset, SpanBroken}
 use Rattle.tape_blocks.specs.declared.fault.BlockFault.{BlockFault}
 use Rattle.tape_blocks.specs.declared.unit.Found.{Found}
-use Rattle.tape_blocks.specs.Block.{Portion, spelling, spellings, IsUnit, BeginsWith, Holds}
+use Rattle.tape_blocks.specs.Block.{Portion, spelling, spellings, IsUnit, Holds}
 use Rattle.tape_blocks.specs.Faults.{bool_eq, first_fault, tests, IsFront, FaultStands, HasFault}
 use Rattle.tape_blocks.specs.Judged.{in_order, begun_behind, unless_fault, judged_behind, judged}
 use Rattle.tape_blocks.specs.Parts.{portion, parts_of}

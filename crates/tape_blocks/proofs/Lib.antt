@@ -3,8 +3,10 @@ pub mod JoinLaws
 pub mod JudgedLaws
 pub mod PackLaws
 pub mod PartsLaws
+pub mod PutsLaws
 pub mod RecordLaws
 pub mod RunLaws
 pub mod TestLaws
+pub mod TightLaws
 pub mod UnitLaws
 pub mod YieldLaws

@@ -3,14 +3,13 @@ use Rattle.std.proofs.Common.{◌≡◌, ◌≢◌, ℕ, zero, suc, ◌+◌, ◌
 use Rattle.std.specs.List.{AllByRecursion, position_or_len}
 use Rattle.std.proofs.lemmas.Bool.{le-ltb}
 use Rattle.std.proofs.lemmas.List.{length-drop, length-take, length-replicate, take-take, take-append-drop, take_all, drop_all, drop_at, take-append-le, drop-append-le, append-nil, take-replicate}
-use Rattle.std.proofs.lemmas.List.Concat.{flat_map-cons, flat_map-append}
+use Rattle.std.proofs.lemmas.List.Concat.{flat_map-cons}
 use Rattle.tape_label.specs.declared.values.Format.{Format}
 use Rattle.tape_label.specs.declared.values.Format.TheVariants.{Fixed, Counted, Spanned}
 use Rattle.tape_blocks.specs.declared.shape.Shape.{Shape}
 use Rattle.tape_blocks.specs.Block.{Portion, head_len, spelling, spellings, IsUnit, IsPadding, first_other, Holds}
 use Rattle.tape_blocks.specs.Packed.{body_of, parts_in, Keeps}
-use Rattle.tape_blocks.specs.Packing.{Given, the_packing, IsWritable, HasWritableRecords, HasRecordLength, size_of, written, padded_by, padded_len, least_room}
-use Rattle.tape_blocks.specs.Spans.{span_of}
+use Rattle.tape_blocks.specs.Packing.{Given, the_packing, IsWritable, HasWritableRecords, size_of, written, padded_by, padded_len}
 use Rattle.tape_blocks.proofs.FrontLaws.{all_append, spellings_push}
 use Rattle.tape_blocks.proofs.PartsLaws.{parts_are}
 use Rattle.tape_blocks.proofs.UnitLaws.{length-spelling}

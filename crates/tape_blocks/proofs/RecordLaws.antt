@@ -8,10 +8,15 @@ use Rattle.std.proofs.lemmas.List.Elements.{Contains-append_left, Contains-appen
 use Rattle.tape_blocks.specs.declared.fault.PackFault.{PackFault}
 use Rattle.tape_blocks.specs.declared.fault.PackFault.TheVariants.{RecordLength, ShapeRange, OutOfMemory}
 use Rattle.tape_blocks.specs.declared.shape.Shape.{Shape}
-use Rattle.tape_blocks.specs.Records.{contents, IsRefusedFor, IsRefusedOne}
+use Rattle.tape_blocks.specs.Packing.{HasRecordLength}
+use Rattle.tape_blocks.specs.Records.{contents, AreRecordsOf, IsRefusedFor, IsRefusedOne}
 
 pub one_more : (vs : List (Vec ℕ Global)) (i : ℕ) (v : Vec ℕ Global) → i < length vs → v ≡ get_or vs i v → contents (take (i + 1) vs) ≡ contents (take i vs) ++ v.items ∷ []
 one_more vs i v lt is = ap contents (take_more vs i v lt) ∙ map-append (λ (x : Vec ℕ Global). x.items) (take i vs) (get_or vs i v ∷ []) ∙ ap (λ (x : Vec ℕ Global). contents (take i vs) ++ x.items ∷ []) (sym is)
+
+pub lengths_push : (shape : Shape) (rs : List (List ℕ)) (r : List ℕ) → AreRecordsOf shape rs → HasRecordLength shape.format shape.rec_len (length r) → AreRecordsOf shape (rs ++ r ∷ [])
+lengths_push shape [] r all is = (is, tt)
+lengths_push shape (x ∷ rs) r all is = (all.0, lengths_push shape rs r all.1 is)
 
 pub has_record : (vs : List (Vec ℕ Global)) (i : ℕ) (r : List ℕ) → contents (take (i + 1) vs) ≡ contents (take i vs) ++ r ∷ [] → Contains (contents vs) r
 has_record vs i r e =

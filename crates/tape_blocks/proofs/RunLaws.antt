@@ -1,64 +1,22 @@
--- Each offer keeps what stands after the offers before it.
-use Rattle.std.proofs.Common.{◌≡◌, ◌≢◌, ℕ, zero, ◌+◌, ◌<◌, ◌≤◌, Bool, true, false, List, [], ◌∷◌, ◌++◌, length, take, drop, Option, Some, None, refl, sym, ap, subst, ◌∙◌, append_assoc, arith, length-append, inl, inr}
+-- Each offer keeps what stands behind the offers before it.
+use Rattle.std.proofs.Common.{◌≡◌, ◌≢◌, ℕ, zero, ◌+◌, ◌<◌, ◌≤◌, Bool, true, false, List, [], ◌∷◌, ◌++◌, length, take, drop, Option, Some, None, refl, sym, ap, subst, ◌∙◌, append_assoc, arith, inl, inr}
 use Rattle.std.specs.List.{AllByRecursion}
-use Rattle.std.proofs.lemmas.List.{length-take, length-drop, append-nil, map-append, take-append-drop}
-use Rattle.std.proofs.lemmas.List.Concat.{flat_map-cons, flat_map-append}
+use Rattle.std.proofs.lemmas.List.{length-take, length-drop, append-nil, take-append-drop}
 use Rattle.tape_label.specs.declared.values.Format.{Format}
 use Rattle.tape_label.specs.declared.values.Format.TheVariants.{Spanned}
 use Rattle.tape_blocks.specs.declared.shape.Shape.{Shape}
 use Rattle.tape_blocks.specs.declared.part.Span.TheVariants.{Whole}
 use Rattle.tape_blocks.specs.declared.offer.Offer.{Offer}
 use Rattle.tape_blocks.specs.declared.offer.Offer.TheVariants.{Taken, BlockReady}
-use Rattle.tape_blocks.specs.Block.{Portion, spelling, spellings, head_len}
-use Rattle.tape_blocks.specs.Spans.{InOrder, leaves, span_of, content_after, join}
-use Rattle.tape_blocks.specs.Packing.{Packing, Given, IsRefused, HasRecordLength, IsFull, size_of, least_room, with_part, emptied, Ends, Fills, Closes, Offers}
-use Rattle.tape_blocks.specs.Run.{AreClosed, Run, RunOf, Going}
-use Rattle.tape_blocks.specs.Tight.{Filled, Chain, IsDue, IsWritten, IsSegment, AreSegments, first_len, parts_of_all, bytes_of_all, IsTight, Packs}
+use Rattle.tape_blocks.specs.Block.{Portion, spellings, head_len}
+use Rattle.tape_blocks.specs.Spans.{InOrder, span_of, content_after, join}
+use Rattle.tape_blocks.specs.Packing.{Packing, Given, IsJudged, HasRecordLength, IsFull, size_of, least_room, with_part, emptied, Ends, Fills, Closes, Offers}
+use Rattle.tape_blocks.specs.Run.{AreClosed, Run, Going}
+use Rattle.tape_blocks.specs.Tight.{Filled, IsWritten, AreSegments, first_len, parts_of_all, IsTight}
 use Rattle.tape_blocks.proofs.JoinLaws.{join_ends, join_goes_on, leaves_of, continues_of}
 use Rattle.tape_blocks.proofs.PackLaws.{size_push}
-use Rattle.tape_blocks.proofs.UnitLaws.{length-spelling}
 use Rattle.tape_blocks.proofs.FrontLaws.{InOrder-append}
-
--- ---- lists of blocks
-
-first_push : (ps : List Portion) (p : Portion) (n : ℕ) → first_len (ps ++ p ∷ []) n ≡ first_len ps (length p.bytes)
-first_push [] p n = refl
-first_push (q ∷ ps) p n = refl
-
-first_some : (ps : List Portion) (n m : ℕ) → ps ≢ [] → first_len ps n ≡ first_len ps m
-first_some [] n m some = absurd (some refl)
-first_some (p ∷ ps) n m some = refl
-
-closed_more : (shape : Shape) (taken : List Filled) (b : Filled) (n : ℕ) → AreClosed shape taken (first_len b.parts 0) → IsFull shape b.parts n → AreClosed shape (taken ++ b ∷ []) n
-closed_more shape [] b n closed full = full
-closed_more shape (x ∷ []) b n closed full = (closed, full)
-closed_more shape (x ∷ y ∷ bs) b n closed full = (closed.0, closed_more shape (y ∷ bs) b n closed.1 full)
-
-chain_of : (shape : Shape) (taken : List Filled) (n : ℕ) → AreClosed shape taken n → Chain (IsDue shape) taken
-chain_of shape [] n closed = tt
-chain_of shape (x ∷ []) n closed = tt
-chain_of shape (x ∷ y ∷ bs) n closed = (closed.0, chain_of shape (y ∷ bs) n closed.1)
-
-chain_more : (shape : Shape) (taken : List Filled) (b : Filled) → AreClosed shape taken (first_len b.parts 0) → Chain (IsDue shape) (taken ++ b ∷ [])
-chain_more shape [] b closed = tt
-chain_more shape (x ∷ []) b closed = (closed, tt)
-chain_more shape (x ∷ y ∷ bs) b closed = (closed.0, chain_more shape (y ∷ bs) b closed.1)
-
-each_more : (shape : Shape) (taken : List Filled) (b : Filled) → AllByRecursion (IsWritten shape) taken → IsWritten shape b → AllByRecursion (IsWritten shape) (taken ++ b ∷ [])
-each_more shape [] b all is = (is, tt)
-each_more shape (x ∷ bs) b all is = (all.0, each_more shape bs b all.1 is)
-
-parts_more : (taken : List Filled) (b : Filled) → parts_of_all (taken ++ b ∷ []) ≡ parts_of_all taken ++ b.parts
-parts_more taken b = flat_map-append (λ (x : Filled). x.parts) taken (b ∷ []) ∙ ap (λ (ps : List Portion). parts_of_all taken ++ ps) (flat_map-cons (λ (x : Filled). x.parts) b [] ∙ append-nil b.parts)
-
--- ---- segments
-
-segments_push : (block_len at : ℕ) (ps : List Portion) (p : Portion) → AreSegments block_len at ps → IsSegment block_len (at + length (spellings Spanned ps)) p → AreSegments block_len at (ps ++ p ∷ [])
-segments_push block_len at [] p all is = let z : at + 0 ≡ at = omega arith in (subst (λ (n : ℕ). IsSegment block_len n p) z is, tt)
-segments_push block_len at (q ∷ ps) p all is =
-    let long : length (spellings Spanned (q ∷ ps)) ≡ 5 + length q.bytes + length (spellings Spanned ps) = ap length (flat_map-cons (spelling Spanned) q ps) ∙ omega (arith, length-append (spelling Spanned q) (spellings Spanned ps), length-spelling Spanned q) in
-    let sum : at + length (spellings Spanned (q ∷ ps)) ≡ at + (5 + length q.bytes) + length (spellings Spanned ps) = omega (arith, long) in
-    (all.0, segments_push block_len (at + (5 + length q.bytes)) ps p all.1 (subst (λ (n : ℕ). IsSegment block_len n p) sum is))
+use Rattle.tape_blocks.proofs.TightLaws.{first_push, first_some, closed_more, chain_of, chain_more, each_more, parts_more, segments_push}
 
 -- ---- a part more
 
@@ -194,14 +152,37 @@ content_more (Some s) n rest = append_assoc s (take n rest) (drop n rest) ∙ ap
 zero_drop : (n : ℕ) (rest : List ℕ) → n ≡ zero → drop n rest ≡ rest
 zero_drop n rest e = ap (λ (k : ℕ). drop k rest) e
 
+pub offers_shape : (p q : Packing) (rest : List ℕ) (o : Offer) → Offers p rest o q → q.shape ≡ p.shape
+offers_shape p q rest Taken offers = ap (λ (v : Packing). v.shape) offers.part
+offers_shape p q rest (BlockReady n) offers =
+    elim (offers.1) [
+      | inl same ↦ ap (λ (v : Packing). v.shape) same.same
+      | inr o ↦ elim o [
+        | inl closes ↦ ap (λ (v : Packing). v.shape) closes.same
+        | inr fills ↦ ap (λ (v : Packing). v.shape) fills.part
+      ]
+    ]
+
+-- What is offered of a record of this run shows that the whole of it has one of the lengths.
+pub going_length : (taken : List Filled) (p : Packing) (records : List (List ℕ)) (r rest : List ℕ) → Going taken p records r rest → IsJudged p rest → HasRecordLength p.shape.format p.shape.rec_len (length r)
+going_length taken p records r rest going judged = by p.begun refl
+  where
+    by : (b : Bool) → p.begun ≡ b → HasRecordLength p.shape.format p.shape.rec_len (length r)
+    by true e = going.length_is e
+    by false e =
+        let whole : rest ≡ r = ap (λ (f : Option (List ℕ)). content_after f rest) (sym (going.run.ended e)) ∙ going.content in
+        subst (λ (s : List ℕ). HasRecordLength p.shape.format p.shape.rec_len (length s)) whole (judged going.run.opened e)
+
 -- The record ends.
 pub going_ends : (taken : List Filled) (p q : Packing) (records : List (List ℕ)) (r rest : List ℕ) (n : ℕ) → Going taken p records r rest → Offers p rest Taken q → Run taken q (records ++ r ∷ []) None n
 going_ends taken p q records r rest n going offers =
     subst (λ (x : List ℕ). Run taken q (records ++ x ∷ []) None n) going.content (run_ends taken p q records going.front rest n going.run offers)
 
 -- The block is closed, and taken.
-pub going_block : (taken : List Filled) (p q : Packing) (records : List (List ℕ)) (r rest text : List ℕ) (n : ℕ) → Going taken p records r rest → Offers p rest (BlockReady n) q → Given q text → Going (taken ++ filled_of q text ∷ []) (emptied q) records r (drop n rest)
-going_block taken p q records r rest text n going offers given =
+pub going_block : (taken : List Filled) (p q : Packing) (records : List (List ℕ)) (r rest text : List ℕ) (n : ℕ) → Going taken p records r rest → IsJudged p rest → Offers p rest (BlockReady n) q → Given q text
+    → Going (taken ++ filled_of q text ∷ []) (emptied q) records r (drop n rest)
+going_block taken p q records r rest text n going judged offers given =
+    let fits = subst (λ (s : Shape). HasRecordLength s.format s.rec_len (length r)) (sym (offers_shape p q rest (BlockReady n) offers)) (going_length taken p records r rest going judged) in
     elim (offers.1) [
       | inl same ↦ absurd (let a = going.run.opened in let b = same.closed in cc)
       | inr o ↦ elim o [
@@ -209,11 +190,13 @@ going_block taken p q records r rest text n going offers given =
           front = going.front;
           run = run_taken taken q records going.front (length rest) text (closes_full taken p q records going.front rest n offers.0 going.run closes) given;
           content = going.content;
+          length_is = λ e. fits;
         }
         | inr fills ↦ record {
           front = Some (content_after going.front (take n rest));
           run = run_taken taken q records (Some (content_after going.front (take n rest))) (length (drop n rest)) text (fills_full taken p q records going.front rest n going.run fills) given;
           content = content_more going.front n rest ∙ going.content;
+          length_is = λ e. fits;
         }
       ]
     ]
@@ -250,65 +233,4 @@ run_none taken p records n run none ended =
       each = run.each;
       joins = ap join (sym all) ∙ run.joins;
       order = subst (λ (e : Bool). InOrder false (parts_of_all taken) e) ended (subst (λ (ps : List Portion). InOrder false ps p.begun) all run.order);
-    }
-
--- ---- as a caller meets them
-
-pub offers_shape : (p q : Packing) (rest : List ℕ) (o : Offer) → Offers p rest o q → q.shape ≡ p.shape
-offers_shape p q rest Taken offers = ap (λ (v : Packing). v.shape) offers.part
-offers_shape p q rest (BlockReady n) offers =
-    elim (offers.1) [
-      | inl same ↦ ap (λ (v : Packing). v.shape) same.same
-      | inr o ↦ elim o [
-        | inl closes ↦ ap (λ (v : Packing). v.shape) closes.same
-        | inr fills ↦ ap (λ (v : Packing). v.shape) fills.part
-      ]
-    ]
-
-bytes_more : (taken : List Filled) (b : Filled) (blocks : List (List ℕ)) → bytes_of_all taken ≡ blocks → bytes_of_all (taken ++ b ∷ []) ≡ blocks ++ b.bytes ∷ []
-bytes_more taken b blocks e = map-append (λ (x : Filled). x.bytes) taken (b ∷ []) ∙ ap (λ (xs : List (List ℕ)). xs ++ b.bytes ∷ []) e
-
-abbrev pub MoreBy : List (List ℕ) → List (List ℕ) → Packing → Type 0
-MoreBy blocks more p = (text : List ℕ) × (more ≡ blocks ++ text ∷ []) × Given p text
-
-last_by : (ps : List Portion) (taken : List Filled) (blocks more : List (List ℕ)) (p : Packing) (records : List (List ℕ)) → p.parts ≡ ps → bytes_of_all taken ≡ blocks → Run taken p records None 0 → p.begun ≡ false
-    → (p.parts ≡ [] → more ≡ blocks) → (p.parts ≢ [] → MoreBy blocks more p) → Packs p.shape records more
-last_by [] taken blocks more p records e bytes run ended none some = (taken, bytes ∙ sym (none e), run_none taken p records 0 run e ended)
-last_by (x ∷ ps) taken blocks more p records e bytes run ended none some =
-    let t = some (λ f. cc) in
-    (taken ++ filled_of p t.0 ∷ [], bytes_more taken (filled_of p t.0) blocks bytes ∙ sym t.1, run_last taken p records t.0 0 run t.2 ended)
-
-pub last_block : (taken : List Filled) (blocks more : List (List ℕ)) (p : Packing) (records : List (List ℕ)) → bytes_of_all taken ≡ blocks → Run taken p records None 0 → p.begun ≡ false
-    → (p.parts ≡ [] → more ≡ blocks) → (p.parts ≢ [] → MoreBy blocks more p) → Packs p.shape records more
-last_block taken blocks more p records bytes run ended none some = last_by p.parts taken blocks more p records refl bytes run ended none some
-
--- A record that is refused is refused whole.
-pub going_refused : (taken : List Filled) (p : Packing) (records : List (List ℕ)) (r rest : List ℕ) → Going taken p records r rest → IsRefused p rest → HasRecordLength p.shape.format p.shape.rec_len (length r) → ⊥
-going_refused blocks p records r rest going refused fits =
-    let whole : rest ≡ r = ap (λ (f : Option (List ℕ)). content_after f rest) (sym (going.run.ended refused.begins)) ∙ going.content in
-    refused.length_is (subst (λ (s : List ℕ). HasRecordLength p.shape.format p.shape.rec_len (length s)) (sym whole) fits)
-
--- what was taken for a record that is still under way
-pub record Puts (taken : List Filled) (records blocks more : List (List ℕ)) (p : Packing) (whole rest : List ℕ) : Type 0 where
-  pub filled : List Filled
-  pub bytes : blocks ++ bytes_of_all filled ≡ more
-  pub going : Going (taken ++ filled) p records whole rest
-
-pub puts_none : (taken : List Filled) (records blocks : List (List ℕ)) (p : Packing) (whole : List ℕ) → Run taken p records None (length whole) → Puts taken records blocks blocks p whole whole
-puts_none taken records blocks p whole run = record {
-  filled = [];
-  bytes = append-nil blocks;
-  going = record { front = None; run = subst (λ (bs : List Filled). Run bs p records None (length whole)) (sym (append-nil taken)) run; content = refl };
-}
-
-pub puts_block : (taken : List Filled) (records blocks more last : List (List ℕ)) (p q left : Packing) (whole rest : List ℕ) (n : ℕ) → Puts taken records blocks more p whole rest → Offers p rest (BlockReady n) q
-    → (q.parts ≢ [] → MoreBy more last q) → left ≡ emptied q → Puts taken records blocks last left whole (drop n rest)
-puts_block taken records blocks more last p q left whole rest n puts offers some is =
-    let t = some offers.0 in
-    let b = filled_of q t.0 in
-    let next = going_block (taken ++ puts.filled) p q records whole rest t.0 n puts.going offers t.2 in
-    record {
-      filled = puts.filled ++ b ∷ [];
-      bytes = ap (λ (xs : List (List ℕ)). blocks ++ xs) (map-append (λ (x : Filled). x.bytes) puts.filled (b ∷ [])) ∙ sym (append_assoc blocks (bytes_of_all puts.filled) (t.0 ∷ [])) ∙ ap (λ (xs : List (List ℕ)). xs ++ t.0 ∷ []) puts.bytes ∙ sym t.1;
-      going = subst (λ (v : Packing). Going (taken ++ (puts.filled ++ b ∷ [])) v records whole (drop n rest)) (sym is) (subst (λ (bs : List Filled). Going bs (emptied q) records whole (drop n rest)) (append_assoc taken puts.filled (b ∷ [])) next);
     }

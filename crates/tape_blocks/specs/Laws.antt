@@ -1,7 +1,7 @@
 -- Laws about blocks and parts. Each is the contract of a call of the module `laws`.
-use Rattle.std.specs.Prelude.{◌≡◌, ◌≢◌, ◌≤◌, ℕ, Bool, List, [], ◌++◌, Option, is_some, Result, Ok, Err, IfOk, IfErr}
+use Rattle.std.specs.Prelude.{◌≡◌, ◌≢◌, ℕ, Bool, List, [], ◌++◌, Option, is_some, Ok, IfErr}
 use Rattle.tape_label.specs.declared.values.Format.{Format}
-use Rattle.tape_label.specs.declared.values.Format.TheVariants.{Fixed, Spanned}
+use Rattle.tape_label.specs.declared.values.Format.TheVariants.{Spanned}
 use Rattle.tape_blocks.specs.Block.{Portion, Holds}
 use Rattle.tape_blocks.specs.Faults.{HasFault}
 use Rattle.tape_blocks.specs.Judged.{judged}

@@ -128,6 +128,10 @@ pub record IsRefused (p : Packing) (rest : List ℕ) : Type 0 where
   pub begins : p.begun ≡ false
   pub length_is : HasRecordLength p.shape.format p.shape.rec_len (length rest) → ⊥
 
+-- what begins a record has one of the shape's lengths
+abbrev pub IsJudged : Packing → List ℕ → Type 0
+IsJudged p rest = p.closed ≡ false → p.begun ≡ false → HasRecordLength p.shape.format p.shape.rec_len (length rest)
+
 -- what is left when the block was taken: no part, and a record that was begun goes on
 abbrev pub emptied : Packing → Packing
 emptied p = record { shape = p.shape; parts = []; begun = p.begun; closed = false }

@@ -2,7 +2,7 @@
 use Rattle.std.specs.Prelude.{ℕ, ◌≡◌, false, List, [], ◌∷◌, ◌++◌, map, length}
 use Rattle.std.specs.declared.alloc.Global.{Global}
 use Rattle.std.specs.declared.vec.Vec.{Vec}
-use Rattle.std.specs.List.{Contains}
+use Rattle.std.specs.List.{Contains, AllByRecursion}
 use Rattle.tape_blocks.specs.declared.fault.PackFault.{PackFault}
 use Rattle.tape_blocks.specs.declared.fault.PackFault.TheVariants.{RecordLength, ShapeRange, OutOfMemory}
 use Rattle.tape_blocks.specs.declared.shape.Shape.{Shape}
@@ -12,6 +12,10 @@ use Rattle.tape_blocks.specs.Tight.{Filled, bytes_of_all}
 
 abbrev pub contents : List (Vec ℕ Global) → List (List ℕ)
 contents vs = map (λ v. v.items) vs
+
+-- Each record has one of the shape's lengths.
+abbrev pub AreRecordsOf : Shape → List (List ℕ) → Type 0
+AreRecordsOf shape records = AllByRecursion (λ r. HasRecordLength shape.format shape.rec_len (length r)) records
 
 -- Some record has a length that the shape has not.
 abbrev pub HasOtherLength : Shape → List (List ℕ) → Type 0
@@ -37,5 +41,6 @@ RefusesRecord old whole e = (taken : List Filled) (records : List (List ℕ)) �
 pub record PutsRecord (old : Packing) (texts : List (List ℕ)) (whole : List ℕ) (new : Packing) (more : List (List ℕ)) : Type 0 where
   pub shape : new.shape ≡ old.shape
   pub ended : new.begun ≡ false
+  pub length_is : (taken : List Filled) (records : List (List ℕ)) → RunOf taken old records → HasRecordLength old.shape.format old.shape.rec_len (length whole)
   pub run : (taken : List Filled) (records : List (List ℕ)) → RunOf taken old records
       → (filled : List Filled) × (texts ++ bytes_of_all filled ≡ more) × RunOf (taken ++ filled) new (records ++ whole ∷ [])

@@ -4,7 +4,7 @@ use Rattle.std.specs.List.{AllByRecursion}
 use Rattle.tape_label.specs.declared.values.Format.TheVariants.{Spanned}
 use Rattle.tape_blocks.specs.declared.shape.Shape.{Shape}
 use Rattle.tape_blocks.specs.Spans.{InOrder, content_after, join}
-use Rattle.tape_blocks.specs.Packing.{Packing, IsFull}
+use Rattle.tape_blocks.specs.Packing.{Packing, HasRecordLength, IsFull}
 use Rattle.tape_blocks.specs.Tight.{Filled, IsWritten, AreSegments, first_len, parts_of_all}
 
 -- Each block was closed because it had no room for what came next; behind the last one comes content of n bytes.
@@ -34,3 +34,4 @@ pub record Going (taken : List Filled) (p : Packing) (records : List (List ℕ))
   pub front : Option (List ℕ)
   pub run : Run taken p records front (length rest)
   pub content : content_after front rest ≡ whole
+  pub length_is : p.begun ≡ true → HasRecordLength p.shape.format p.shape.rec_len (length whole)

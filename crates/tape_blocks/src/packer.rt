@@ -3,7 +3,7 @@
 ghost use Rattle.std.specs.Prelude.{◌≡◌, ◌≢◌, ◌+◌, ◌≤◌, ◌⊎◌, [], true, false, IfOk, IfErr, IfSome, IfNone, length, ⊤, IsTrue, ◌↔◌};
 ghost use Rattle.std.specs.Borrow.{sem};
 ghost use Rattle.tape_blocks.specs.Block.{Portion, IsUnit, head_len};
-ghost use Rattle.tape_blocks.specs.Packing.{Packing, Given, IsWritable, HasRecordLength, Offers, IsRefused, emptied, size_of, with_part};
+ghost use Rattle.tape_blocks.specs.Packing.{Packing, Given, IsWritable, Offers, IsJudged, IsRefused, emptied, size_of, with_part};
 ghost use Rattle.tape_blocks.specs.Spans.{span_of};
 ghost use mathlib.Core.Option.{none};
 ghost use denote.Follow.{follows_so};
@@ -118,8 +118,7 @@ impl Packer {
     pub fn offer(&mut self, rest: &[u8]) -> Result<Offer, PackFault>
         ensures ok { IfOk result (λ o. Offers self.old rest.now o self.new) }
         // What begins a record has one of the lengths.
-        ensures judged { IfOk result (λ _. self.old.closed ≡ false → self.old.begun ≡ false
-            → HasRecordLength self.old.shape.format self.old.shape.rec_len (length rest.now)) }
+        ensures judged { IfOk result (λ _. IsJudged self.old rest.now) }
         ensures err { IfErr result (λ e. (e ≡ PackFault.RecordLength)
             × IsRefused self.old rest.now × (self.new ≡ self.old)) }
     {

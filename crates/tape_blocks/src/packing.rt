@@ -2,7 +2,7 @@
 
 ghost use Rattle.std.specs.Prelude.{◌≡◌, ◌≢◌, List, [], ◌∷◌, ◌++◌, OnOk, IfOk, IfErr};
 ghost use Rattle.tape_blocks.specs.Packing.{Given, emptied};
-ghost use Rattle.tape_blocks.specs.Records.{contents, IsRefusedFor, RefusesRecord, PutsRecord};
+ghost use Rattle.tape_blocks.specs.Records.{contents, AreRecordsOf, IsRefusedFor, RefusesRecord, PutsRecord};
 ghost use Rattle.tape_blocks.specs.Tight.{Packs};
 
 use crate::fault::PackFault;
@@ -61,6 +61,7 @@ fn put_record(
 /// allow, and `OutOfMemory` where memory is refused.
 pub fn pack_all(alloc: Global, shape: Shape, records: &[Vec<u8>]) -> Result<Vec<Vec<u8>>, PackFault>
     ensures packed { IfOk result (λ blocks. Packs shape (contents records.now) (contents blocks.items)) }
+    ensures lengths { IfOk result (λ _. AreRecordsOf shape (contents records.now)) }
     ensures refused { IfErr result (IsRefusedFor shape (contents records.now)) }
 {
     let mut packer = Packer::new(alloc, shape)?;

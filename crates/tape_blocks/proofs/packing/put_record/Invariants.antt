@@ -2,7 +2,7 @@ use Rattle.std.proofs.Common.{◌≡◌, ℕ, ◌+◌, List, length}
 use Rattle.tape_blocks.specs.Records.{contents}
 use Rattle.tape_blocks.specs.Run.{RunOf}
 use Rattle.tape_blocks.specs.Tight.{Filled}
-use Rattle.tape_blocks.proofs.RunLaws.{Puts}
+use Rattle.tape_blocks.proofs.PutsLaws.{Puts}
 use Rattle.tape_blocks.proofs.packing.put_record.Given as goal
 
 abbrev pub invariant-offers : goal.invariant-offers
