@@ -10,11 +10,11 @@ use Rattle.tape_blocks.specs.declared.fault.BlockCause.TheVariants.{ShortOffset,
 use Rattle.tape_blocks.specs.declared.fault.BlockFault.{BlockFault}
 use Rattle.tape_blocks.specs.declared.unit.Found.{Found}
 use Rattle.tape_blocks.specs.Block.{Portion, spelling, spellings, IsUnit, Holds}
-use Rattle.tape_blocks.specs.Faults.{bool_eq, first_fault, tests, IsFront, FaultStands, HasFault}
+use Rattle.tape_blocks.specs.Faults.{bool_eq, first_fault, tests, IsFront, FaultStands, HasFault, fault}
 use Rattle.tape_blocks.specs.Judged.{in_order, begun_behind, unless_fault, judged_behind, judged}
 use Rattle.tape_blocks.specs.Parts.{portion, parts_of}
 use Rattle.tape_blocks.specs.Spans.{continues, leaves, InOrder}
-use Rattle.tape_blocks.specs.Units.{fault, unit_at}
+use Rattle.tape_blocks.specs.Units.{unit_at}
 use Rattle.tape_blocks.proofs.FrontLaws.{NoUnit, spellings_first, longest, bool_eq-true, bool_eq-same}
 use Rattle.tape_blocks.proofs.PartsLaws.{parts_front, parts_next, parts_end, parts_fault, found_size, some_of}
 use Rattle.tape_blocks.proofs.TestLaws.{stop_by, moved, tests_are}

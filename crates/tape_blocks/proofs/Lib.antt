@@ -1,3 +1,4 @@
+pub mod BackLaws
 pub mod FrontLaws
 pub mod JoinLaws
 pub mod JudgedLaws

@@ -11,10 +11,10 @@ use Rattle.tape_blocks.specs.declared.fault.BlockFault.{BlockFault}
 use Rattle.tape_blocks.specs.declared.part.Span.{Span}
 use Rattle.tape_blocks.specs.declared.part.Span.TheVariants.{Whole}
 use Rattle.tape_blocks.specs.declared.unit.Found.{Found}
-use Rattle.tape_blocks.specs.Block.{first_other}
-use Rattle.tape_blocks.specs.Faults.{Test, test, bool_eq, may_stand, first_fault, padding_tests, count_tests, tests}
+use Rattle.tape_blocks.specs.Block.{first_other, span_by}
+use Rattle.tape_blocks.specs.Faults.{Test, test, bool_eq, may_stand, first_fault, padding_tests, count_tests, tests, fault}
 use Rattle.tape_blocks.specs.Spans.{continues}
-use Rattle.tape_blocks.specs.Units.{fault, span_by, padding_by, short_by, counted, spanned, unit_at}
+use Rattle.tape_blocks.specs.Units.{padding_by, short_by, counted, spanned, unit_at}
 
 -- what keeps a walk from going on here
 abbrev pub stop_by : Bool → Result (Option Found) BlockFault → Option BlockFault

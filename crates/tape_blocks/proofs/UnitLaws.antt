@@ -12,9 +12,10 @@ use Rattle.tape_blocks.specs.declared.fault.BlockFault.{BlockFault}
 use Rattle.tape_blocks.specs.declared.part.Span.{Span}
 use Rattle.tape_blocks.specs.declared.part.Span.TheVariants.{Whole, First, Middle, Last}
 use Rattle.tape_blocks.specs.declared.unit.Found.{Found}
-use Rattle.tape_blocks.specs.Block.{Portion, indicator, head_len, spelling, IsUnit, first_other, IsPadding}
+use Rattle.tape_blocks.specs.Block.{Portion, indicator, head_len, spelling, IsUnit, first_other, IsPadding, span_by}
 use Rattle.tape_blocks.specs.Parts.{portion}
-use Rattle.tape_blocks.specs.Units.{fault, padding_by, short_by, span_by, counted, spanned, unit_at}
+use Rattle.tape_blocks.specs.Units.{padding_by, short_by, counted, spanned, unit_at}
+use Rattle.tape_blocks.specs.Faults.{fault}
 
 abbrev some : Found → Result (Option Found) BlockFault
 some found = Ok (Some found)

@@ -1,5 +1,5 @@
 -- What a block of labelled tape holds: behind the buffer offset the units of parts, and then padding.
-use Rattle.std.specs.Prelude.{◌≡◌, ℕ, ◌+◌, ◌<◌, ◌≤◌, ◌==◌, not, List, [], ◌∷◌, ◌++◌, length, drop, Option, None}
+use Rattle.std.specs.Prelude.{◌≡◌, ℕ, ◌+◌, ◌<◌, ◌≤◌, ◌==◌, not, List, [], ◌∷◌, ◌++◌, length, drop, Option, Some, None, if◌then◌else◌}
 use Rattle.std.specs.List.{position, flat_map, AllByRecursion}
 use Rattle.tape_label.specs.Digits.{digits}
 use Rattle.tape_label.specs.declared.values.Format.{Format}
@@ -20,6 +20,11 @@ indicator Whole = 48
 indicator First = 49
 indicator Middle = 50
 indicator Last = 51
+
+-- the span that a byte indicates
+abbrev pub span_by : ℕ → Option Span
+span_by c =
+    if c == 48 then Some Whole else (if c == 49 then Some First else (if c == 50 then Some Middle else (if c == 51 then Some Last else None)))
 
 -- how many characters stand before a part's content
 abbrev pub head_len : Format → ℕ

@@ -8,9 +8,11 @@ use Rattle.tape_blocks.specs.declared.fault.BlockCause.{BlockCause}
 use Rattle.tape_blocks.specs.declared.fault.BlockCause.TheVariants.{ShortOffset, NotMultiple, BadCount, PastEnd, BadIndicator, SpanBroken, BadPadding}
 use Rattle.tape_blocks.specs.declared.fault.BlockFault.{BlockFault}
 use Rattle.tape_blocks.specs.declared.part.Span.{Span}
-use Rattle.tape_blocks.specs.Block.{Portion, first_other, spellings, BeginsWith}
+use Rattle.tape_blocks.specs.Block.{Portion, span_by, first_other, spellings, BeginsWith}
 use Rattle.tape_blocks.specs.Spans.{continues, InOrder}
-use Rattle.tape_blocks.specs.Units.{fault, span_by}
+
+abbrev pub fault : ℕ → BlockCause → BlockFault
+fault place cause = record { place = place; cause = cause }
 
 -- a test, and the fault where it fails
 pub record Test : Type 0 where

@@ -5,9 +5,8 @@ use Rattle.tape_blocks.specs.declared.fault.BlockCause.TheVariants.{ShortOffset}
 use Rattle.tape_blocks.specs.declared.fault.BlockFault.{BlockFault}
 use Rattle.tape_blocks.specs.Block.{Portion, spellings}
 use Rattle.tape_blocks.specs.Spans.{continues, leaves}
-use Rattle.tape_blocks.specs.Faults.{bool_eq, first_fault, tests}
+use Rattle.tape_blocks.specs.Faults.{bool_eq, first_fault, tests, fault}
 use Rattle.tape_blocks.specs.Parts.{parts_of}
-use Rattle.tape_blocks.specs.Units.{fault}
 
 -- the parts up to the first that breaks the span order
 abbrev pub in_order : Bool → List Portion → List Portion

@@ -1,11 +1,14 @@
 -- Laws about blocks and parts. Each is the contract of a call of the module `laws`.
-use Rattle.std.specs.Prelude.{◌≡◌, ◌≢◌, ℕ, Bool, List, [], ◌++◌, Option, is_some, Ok, IfErr}
+use Rattle.std.specs.Prelude.{◌≡◌, ◌≢◌, ℕ, Bool, List, [], ◌++◌, Option, None, false, is_some, Ok, IfErr}
 use Rattle.tape_label.specs.declared.values.Format.{Format}
 use Rattle.tape_label.specs.declared.values.Format.TheVariants.{Spanned}
 use Rattle.tape_blocks.specs.Block.{Portion, Holds}
+use Rattle.std.specs.List.{AllByRecursion}
+use Rattle.tape_blocks.specs.declared.shape.Shape.{Shape}
 use Rattle.tape_blocks.specs.Faults.{HasFault}
 use Rattle.tape_blocks.specs.Judged.{judged}
 use Rattle.tape_blocks.specs.Spans.{InOrder, join, join_after, joined_with}
+use Rattle.tape_blocks.specs.Tight.{Filled, bytes_of_all, parts_of_all}
 
 -- A block holds at most one list of parts.
 abbrev pub HoldsOneList : List ℕ → Type 0
@@ -32,3 +35,13 @@ JoinsOn = (ps qs : List Portion) → join (ps ++ qs) ≡ joined_with (join ps) q
 -- Parts in span order leave a record begun exactly where they join with a rest.
 abbrev pub BegunIsRest : Type 0
 BegunIsRest = (begun : Option (List ℕ)) (parts : List Portion) (end : Bool) → InOrder (is_some begun) parts end → is_some (join_after begun parts).rest ≡ end
+
+-- Each block holds the parts that stand beside it.
+abbrev pub AllHold : Shape → List Filled → Type 0
+AllHold shape blocks = AllByRecursion (λ b. Holds shape.format shape.rec_len shape.offset b.bytes b.parts) blocks
+
+-- Blocks with these texts hold parts that are in span order and join to these records.
+abbrev pub HoldRecords : Shape → List (List ℕ) → List (List ℕ) → Type 0
+HoldRecords shape texts records =
+    (blocks : List Filled) × (bytes_of_all blocks ≡ texts) × AllHold shape blocks
+    × InOrder false (parts_of_all blocks) false × (join (parts_of_all blocks) ≡ record { records = records; rest = None })

@@ -4,21 +4,13 @@ use Rattle.std.specs.Str.{all_ascii_digits}
 use Rattle.tape_label.specs.Digits.{number_of}
 use Rattle.tape_label.specs.declared.values.Format.{Format}
 use Rattle.tape_label.specs.declared.values.Format.TheVariants.{Fixed, Counted, Spanned}
-use Rattle.tape_blocks.specs.declared.fault.BlockCause.{BlockCause}
 use Rattle.tape_blocks.specs.declared.fault.BlockCause.TheVariants.{NotMultiple, BadCount, PastEnd, BadIndicator, BadPadding}
 use Rattle.tape_blocks.specs.declared.fault.BlockFault.{BlockFault}
 use Rattle.tape_blocks.specs.declared.part.Span.{Span}
-use Rattle.tape_blocks.specs.declared.part.Span.TheVariants.{Whole, First, Middle, Last}
+use Rattle.tape_blocks.specs.declared.part.Span.TheVariants.{Whole}
 use Rattle.tape_blocks.specs.declared.unit.Found.{Found}
-use Rattle.tape_blocks.specs.Block.{first_other}
-
-abbrev pub fault : ℕ → BlockCause → BlockFault
-fault place cause = record { place = place; cause = cause }
-
--- the span that a byte indicates
-abbrev pub span_by : ℕ → Option Span
-span_by c =
-    if c == 48 then Some Whole else (if c == 49 then Some First else (if c == 50 then Some Middle else (if c == 51 then Some Last else None)))
+use Rattle.tape_blocks.specs.Block.{first_other, span_by}
+use Rattle.tape_blocks.specs.Faults.{fault}
 
 -- no unit, if there are circumflexes alone
 abbrev pub padding_by : Option ℕ → Result (Option Found) BlockFault

@@ -4,34 +4,22 @@ ghost use Rattle.std.specs.Prelude.{◌≡◌, Bool, List, IfOk, IfErr, Ok};
 ghost use Rattle.tape_blocks.specs.Block.{Portion, Holds};
 ghost use Rattle.tape_blocks.specs.Faults.{HasFault, bool_eq};
 ghost use Rattle.tape_blocks.specs.Judged.{judged};
-ghost use Rattle.tape_blocks.specs.Spans.{InOrder, continues, leaves};
+ghost use Rattle.tape_blocks.specs.Spans.{InOrder, continues};
 
 use crate::fault::{BlockCause, BlockFault};
 use crate::part::Span;
 use crate::shape::Shape;
 use crate::unit::unit_at;
 
-fn continues(span: Span) -> bool
-    ensures { result ≡ continues span }
-{
-    matches!(span, Span::Middle | Span::Last)
-}
-
 // Whether the span may stand where a record is begun or not.
 fn may_follow(span: Span, begun: bool) -> bool
     ensures { result ≡ bool_eq (continues span) begun }
 {
     if begun {
-        continues(span)
+        span.continues()
     } else {
-        !continues(span)
+        !span.continues()
     }
-}
-
-fn leaves(span: Span) -> bool
-    ensures { result ≡ leaves span }
-{
-    matches!(span, Span::First | Span::Middle)
 }
 
 // Walks over the units.
@@ -63,7 +51,7 @@ fn judge(shape: &Shape, begun: bool, block: &[u8]) -> Result<bool, BlockFault>
                         cause: BlockCause::SpanBroken,
                     });
                 }
-                going = leaves(found.span);
+                going = found.span.leaves();
                 place += found.len;
             }
         }

@@ -1,11 +1,14 @@
 //! Laws about blocks and their parts, each as the contract of a call.
 
-ghost use Rattle.std.specs.Prelude.{◌≡◌, ◌≤◌, Bool, List, map, IfOk};
+ghost use Rattle.std.specs.Prelude.{◌≡◌, ◌≤◌, ℕ, Bool, List, map, IfOk, IfErr};
 ghost use Rattle.tape_label.specs.declared.values.Format.TheVariants.{Fixed};
 ghost use Rattle.tape_blocks.specs.Block.{Portion, Holds};
-ghost use Rattle.tape_blocks.specs.Laws.{HoldsOneList, PassesForOne, JudgedAsHeld, JoinsOn, BegunIsRest};
+ghost use Rattle.tape_blocks.specs.Laws.{HoldsOneList, PassesForOne, JudgedAsHeld, JoinsOn, BegunIsRest, HoldRecords};
+ghost use Rattle.tape_blocks.specs.Records.{contents, IsRefusedFor};
 ghost use Rattle.tape_blocks.specs.Spans.{InOrder};
 
+use crate::fault::PackFault;
+use crate::packing::pack_all;
 use crate::part::Span;
 use crate::parts::Parts;
 use crate::shape::Shape;
@@ -57,4 +60,44 @@ pub fn spans_of(alloc: Global, shape: &Shape, block: &[u8]) -> Result<Vec<Span>,
         spans.push(part.span)?;
     }
     Ok(spans)
+}
+
+// The records that blocks hold, each block's parts joined to those before.
+fn records_of(alloc: Global, shape: &Shape, blocks: &[Vec<u8>]) -> Result<Vec<Vec<u8>>, AllocError>
+    requires { (records : List (List ℕ)) × HoldRecords shape.now (contents blocks.now) records }
+    ensures { IfOk result (λ back. (records : List (List ℕ))
+        → HoldRecords shape.now (contents blocks.now) records → contents back.items ≡ records) }
+{
+    let mut records = Vec::new(alloc);
+    let mut record = Vec::new(alloc);
+    for block in blocks {
+        for part in Parts::new(shape, block) {
+            record.extend_from_slice(part.bytes)?;
+            if !part.span.leaves() {
+                records.push(record)?;
+                record = Vec::new(alloc);
+            }
+        }
+    }
+    Ok(records)
+}
+
+/// Records packed, and read again from their blocks: they are the same.
+///
+/// # Errors
+///
+/// As [`pack_all`].
+pub fn packed_again(
+    alloc: Global,
+    shape: Shape,
+    records: &[Vec<u8>],
+) -> Result<Vec<Vec<u8>>, PackFault>
+    ensures same { IfOk result (λ back. contents back.items ≡ contents records.now) }
+    ensures refused { IfErr result (IsRefusedFor shape (contents records.now)) }
+{
+    let blocks = pack_all(alloc, shape, records)?;
+    match records_of(alloc, &shape, blocks.as_slice()) {
+        Ok(back) => Ok(back),
+        Err(_) => Err(PackFault::OutOfMemory),
+    }
 }

@@ -1,8 +1,8 @@
 //! The unit at the front of what is left of a block.
 
 ghost use Rattle.std.specs.Prelude.{◌≡◌, ◌≤◌, ◌<◌, length, IfOk, IfErr, IfSome, Err, None};
-ghost use Rattle.tape_blocks.specs.Block.{first_other};
-ghost use Rattle.tape_blocks.specs.Units.{unit_at, counted, span_by, padding_by};
+ghost use Rattle.tape_blocks.specs.Block.{first_other, span_by};
+ghost use Rattle.tape_blocks.specs.Units.{unit_at, counted, padding_by};
 
 use crate::fault::{BlockCause, BlockFault};
 use crate::part::Span;

@@ -91,3 +91,25 @@ fn refused(rt: HostRuntime) -> Result<(), Fail> {
     assert!(rt; pack_all(alloc, counted(18, 15), &records).is_ok());
     Ok(())
 }
+
+#[test]
+fn read_again(rt: HostRuntime) -> Result<(), Fail> {
+    let alloc = rt.alloc();
+    let records = copies(
+        alloc,
+        &[
+            b"",
+            b"^^^^",
+            b"123456789012345678901234567890",
+            b"",
+            b"A",
+            b"BCDEFGH",
+        ],
+    )?;
+    let shapes = [counted(40, 40), counted(99, 40), spanned(18), spanned(40)];
+    for shape in shapes {
+        let back = laws::packed_again(alloc, shape, &records)?;
+        assert!(rt; back == records, "{shape:?}");
+    }
+    Ok(())
+}

@@ -64,6 +64,20 @@ fn the_shape_of_a_label(rt: HostRuntime) {
 }
 
 #[test]
+fn spans_go_on_and_leave_a_record_begun(rt: HostRuntime) {
+    let spans = [
+        (Span::Whole, false, false),
+        (Span::First, false, true),
+        (Span::Middle, true, true),
+        (Span::Last, true, false),
+    ];
+    for (span, continues, leaves) in spans {
+        assert_eq!(rt; span.continues(), continues);
+        assert_eq!(rt; span.leaves(), leaves);
+    }
+}
+
+#[test]
 fn laws_can_be_called(rt: HostRuntime) {
     let block = b"30006A10007BC";
     laws::one_list_of_parts(block);
