@@ -1,4 +1,5 @@
--- What a block of labelled tape holds: behind the buffer offset the units of parts, and then padding.
+-- What a block of labelled tape holds: behind the buffer offset the units of parts, and then
+-- padding.
 use Rattle.std.specs.Prelude.{◌≡◌, ℕ, ◌+◌, ◌<◌, ◌≤◌, ◌==◌, not, List, [], ◌∷◌, ◌++◌, length, drop, Option, Some, None, if◌then◌else◌}
 use Rattle.std.specs.List.{position, flat_map, AllByRecursion}
 use Rattle.tape_label.specs.Digits.{digits}
@@ -24,7 +25,8 @@ indicator Last = 51
 -- the span that a byte indicates
 abbrev pub span_by : ℕ → Option Span
 span_by c =
-    if c == 48 then Some Whole else (if c == 49 then Some First else (if c == 50 then Some Middle else (if c == 51 then Some Last else None)))
+    if c == 48 then Some Whole
+    else (if c == 49 then Some First else (if c == 50 then Some Middle else (if c == 51 then Some Last else None)))
 
 -- how many characters stand before a part's content
 abbrev pub head_len : Format → ℕ
@@ -32,7 +34,8 @@ head_len Fixed = 0
 head_len Counted = 4
 head_len Spanned = 5
 
--- the characters before a part's content: nothing, a count of the whole unit in four digits, or an indicator and such a count
+-- the characters before a part's content: nothing, a count of the whole unit in four digits, or an
+-- indicator and such a count
 abbrev pub head : Format → Portion → List ℕ
 head Fixed p = []
 head Counted p = digits 4 (4 + length p.bytes)
@@ -46,7 +49,8 @@ spelling format p = head format p ++ p.bytes
 abbrev pub spellings : Format → List Portion → List ℕ
 spellings format parts = flat_map (spelling format) parts
 
--- a part that the format can spell: a whole record of just this length, a whole record, or any part; the unit's length has four digits
+-- a part that the format can spell: a whole record of just this length, a whole record, or any
+-- part; the unit's length has four digits
 abbrev pub IsUnit : Format → ℕ → Portion → Type 0
 IsUnit Fixed rec_len p = (p.span ≡ Whole) × (length p.bytes ≡ rec_len)
 IsUnit Counted rec_len p = (p.span ≡ Whole) × (4 + length p.bytes < 10000)
@@ -67,12 +71,15 @@ IsPadding Spanned rec_len bytes = first_other bytes ≡ None
 -- ---- blocks
 
 -- behind the offset stand the units of these parts, and then this rest
-pub record BeginsWith (format : Format) (rec_len offset : ℕ) (block : List ℕ) (parts : List Portion) (rest : List ℕ) : Type 0 where
+pub record BeginsWith (format : Format) (rec_len offset : ℕ) (block : List ℕ)
+    (parts : List Portion) (rest : List ℕ) : Type 0 where
   pub reaches : offset ≤ length block
   pub units : AllByRecursion (IsUnit format rec_len) parts
   pub body : drop offset block ≡ spellings format parts ++ rest
 
--- behind the offset stand the units of these parts, in their order, and then padding to the block's end
+-- behind the offset stand the units of these parts, in their order, and then padding to the block's
+-- end
 abbrev pub Holds : Format → ℕ → ℕ → List ℕ → List Portion → Type 0
 Holds format rec_len offset block parts =
-    (padding : List ℕ) × BeginsWith format rec_len offset block parts padding × IsPadding format rec_len padding
+    (padding : List ℕ)
+    × BeginsWith format rec_len offset block parts padding × IsPadding format rec_len padding

@@ -1,4 +1,5 @@
--- Which fault a block has, and where: the first test that fails where the longest front of units in span order ends.
+-- Which fault a block has, and where: the first test that fails where the longest front of units in
+-- span order ends.
 use Rattle.std.specs.Prelude.{◌≡◌, ℕ, ◌+◌, ◌-◌, ◌<◌, ◌≤◌, ◌⊎◌, ◌==◌, ◌||◌, nat_lt, nat_le, not, Bool, true, false, List, [], ◌∷◌, ◌++◌, length, take, drop, Option, Some, None, is_some, is_none, if◌then◌else◌}
 use Rattle.std.specs.Str.{all_ascii_digits}
 use Rattle.tape_label.specs.Digits.{number_of}
@@ -11,6 +12,7 @@ use Rattle.tape_blocks.specs.declared.part.Span.{Span}
 use Rattle.tape_blocks.specs.Block.{Portion, span_by, first_other, spellings, BeginsWith}
 use Rattle.tape_blocks.specs.Spans.{continues, InOrder}
 
+-- a cause at a place of the block
 abbrev pub fault : ℕ → BlockCause → BlockFault
 fault place cause = record { place = place; cause = cause }
 
@@ -19,6 +21,7 @@ pub record Test : Type 0 where
   pub passes : Bool
   pub fails_by : BlockFault
 
+-- a test of this outcome, with its fault
 abbrev pub test : Bool → ℕ → BlockCause → Test
 test passes place cause = record { passes = passes; fails_by = fault place cause }
 
@@ -27,24 +30,29 @@ abbrev pub first_fault : List Test → Option BlockFault
 first_fault [] = None
 first_fault (t ∷ ts) = if t.passes then first_fault ts else Some t.fails_by
 
+-- whether both are true or both are false
 abbrev pub bool_eq : Bool → Bool → Bool
 bool_eq true b = b
 bool_eq false b = not b
 
--- whether the span may stand where a record is begun or not; what indicates no span has none to break
+-- whether the span may stand where a record is begun or not; what indicates no span has none to
+-- break
 abbrev pub may_stand : Option Span → Bool → Bool
 may_stand (Some span) begun = bool_eq (continues span) begun
 may_stand None begun = true
 
+-- the place, if there is one
 abbrev pub place_of : Option ℕ → ℕ
 place_of (Some place) = place
 place_of None = 0
 
--- Behind the first circumflex of the padding there is nothing else; the fault stands at the first other byte.
+-- Behind the first circumflex of the padding there is nothing else; the fault stands at the first
+-- other byte.
 abbrev pub padding_tests : ℕ → List ℕ → List Test
 padding_tests at rest = test (is_none (first_other rest)) (at + place_of (first_other rest)) BadPadding ∷ []
 
--- A head of this length is there and ends with four digits. They count the head at least, and no more than there is.
+-- A head of this length is there and ends with four digits. They count the head at least, and no
+-- more than there is.
 abbrev pub count_tests : ℕ → ℕ → List ℕ → List Test
 count_tests head at rest =
     let count = take 4 (drop (head - 4) rest)
@@ -54,7 +62,8 @@ count_tests head at rest =
     ∷ test (nat_le (number_of count) (length rest)) at PastEnd
     ∷ []
 
--- the tests of what stands behind the units that end at this place, with a record begun there or not
+-- the tests of what stands behind the units that end at this place, with a record begun there or
+-- not
 abbrev pub tests : Format → ℕ → Bool → ℕ → List ℕ → List Test
 tests Fixed rec_len begun at rest =
     test (nat_le rec_len (length rest) || is_none (first_other rest)) at NotMultiple
@@ -67,24 +76,30 @@ tests Counted rec_len begun at (c ∷ cs) =
 tests Spanned rec_len begun at [] = []
 tests Spanned rec_len begun at (c ∷ cs) =
     if c == 94 then padding_tests at (c ∷ cs)
-    else test (is_some (span_by c)) at BadIndicator ∷ count_tests 5 at (c ∷ cs) ++ test (may_stand (span_by c) begun) at SpanBroken ∷ []
+    else test (is_some (span_by c)) at BadIndicator
+    ∷ count_tests 5 at (c ∷ cs) ++ test (may_stand (span_by c) begun) at SpanBroken ∷ []
 
--- a front of the block: behind the offset the units of these parts, in span order, and then this rest
-pub record IsFront (format : Format) (rec_len offset : ℕ) (begun : Bool) (block : List ℕ) (parts : List Portion) (end : Bool) (rest : List ℕ) : Type 0 where
+-- a front of the block: behind the offset the units of these parts, in span order, and then this
+-- rest
+pub record IsFront (format : Format) (rec_len offset : ℕ) (begun : Bool) (block : List ℕ)
+    (parts : List Portion) (end : Bool) (rest : List ℕ) : Type 0 where
   pub begins : BeginsWith format rec_len offset block parts rest
   pub order : InOrder begun parts end
 
 -- The fault is the first one behind the longest front.
-pub record FaultStands (format : Format) (rec_len offset : ℕ) (begun : Bool) (block : List ℕ) (f : BlockFault) : Type 0 where
+pub record FaultStands (format : Format) (rec_len offset : ℕ) (begun : Bool) (block : List ℕ)
+    (f : BlockFault) : Type 0 where
   pub parts : List Portion
   pub end : Bool
   pub rest : List ℕ
   pub front : IsFront format rec_len offset begun block parts end rest
   pub longest : (others : List Portion) (last : Bool) (left : List ℕ)
       → IsFront format rec_len offset begun block others last left → length rest ≤ length left
-  pub first : first_fault (tests format rec_len end (offset + length (spellings format parts)) rest) ≡ Some f
+  pub first :
+      first_fault (tests format rec_len end (offset + length (spellings format parts)) rest) ≡ Some f
 
--- the fault of a block: it has no offset, or no front of it goes on to padding at its end
+-- the fault of a block: it is shorter than its offset, or the fault stands behind its longest front
 abbrev pub HasFault : Format → ℕ → ℕ → Bool → List ℕ → BlockFault → Type 0
 HasFault format rec_len offset begun block f =
-    ((length block < offset) × (f ≡ fault 0 ShortOffset)) ⊎ ((offset ≤ length block) × FaultStands format rec_len offset begun block f)
+    ((length block < offset) × (f ≡ fault 0 ShortOffset))
+    ⊎ ((offset ≤ length block) × FaultStands format rec_len offset begun block f)

@@ -18,6 +18,7 @@ abbrev pub begun_behind : Bool → List Portion → Bool
 begun_behind begun [] = begun
 begun_behind begun (p ∷ ps) = begun_behind (leaves p.span) ps
 
+-- the fault, or else what is begun
 abbrev pub unless_fault : Bool → Option BlockFault → Result Bool BlockFault
 unless_fault end None = Ok end
 unless_fault end (Some f) = Err f
@@ -29,8 +30,8 @@ judged_behind format rec_len offset begun block parts =
     in let end = begun_behind begun parts
     in unless_fault end (first_fault (tests format rec_len end at (drop at block)))
 
--- whether a record is begun at the block's end, or the block's fault: the parts that stand at the front in span order are
--- passed, and what stands behind them is tested
+-- whether a record is begun at the block's end, or the block's fault: the parts that stand at the
+-- front in span order are passed, and what stands behind them is tested
 unfoldable pub judged : Format → ℕ → ℕ → Bool → List ℕ → Result Bool BlockFault
 judged format rec_len offset begun block =
     if nat_lt (length block) offset then Err (fault 0 ShortOffset)

@@ -15,33 +15,42 @@ abbrev pub HoldsOneList : List ℕ → Type 0
 HoldsOneList block = (format : Format) (rec_len offset : ℕ) (ps qs : List Portion)
     → Holds format rec_len offset block ps → Holds format rec_len offset block qs → ps ≡ qs
 
--- A block of format S that holds a part passes where a record is begun or where none is, not in both cases.
+-- A block of format S that holds a part passes where a record is begun or where none is, not in
+-- both cases.
 abbrev pub PassesForOne : List ℕ → Type 0
 PassesForOne block = (rec_len offset : ℕ) (parts : List Portion) (b c d e : Bool)
     → Holds Spanned rec_len offset block parts → parts ≢ []
-    → judged Spanned rec_len offset b block ≡ Ok d → judged Spanned rec_len offset c block ≡ Ok e → b ≡ c
+    → judged Spanned rec_len offset b block ≡ Ok d
+    → judged Spanned rec_len offset c block ≡ Ok e → b ≡ c
 
--- The block is judged as what it holds tells: it passes exactly where it holds parts in span order, and else it has the fault.
+-- The block is judged as what it holds tells: it passes exactly where it holds parts in span order,
+-- and else it has the fault.
 abbrev pub JudgedAsHeld : Format → ℕ → ℕ → Bool → List ℕ → Type 0
 JudgedAsHeld format rec_len offset begun block =
-    ((end : Bool) → judged format rec_len offset begun block ≡ Ok end → (parts : List Portion) × Holds format rec_len offset block parts × InOrder begun parts end)
-    × ((end : Bool) (parts : List Portion) → Holds format rec_len offset block parts → InOrder begun parts end → judged format rec_len offset begun block ≡ Ok end)
+    ((end : Bool) → judged format rec_len offset begun block ≡ Ok end
+    → (parts : List Portion) × Holds format rec_len offset block parts × InOrder begun parts end)
+    × ((end : Bool) (parts : List Portion) → Holds format rec_len offset block parts → InOrder begun parts end
+    → judged format rec_len offset begun block ≡ Ok end)
     × IfErr (judged format rec_len offset begun block) (HasFault format rec_len offset begun block)
 
--- Joining a list followed by another gives the first's finished records, and then what the second joins to behind the first's rest.
+-- Joining a list followed by another gives the first's finished records, and then what the second
+-- joins to behind the first's rest.
 abbrev pub JoinsOn : Type 0
 JoinsOn = (ps qs : List Portion) → join (ps ++ qs) ≡ joined_with (join ps) qs
 
 -- Parts in span order leave a record begun exactly where they join with a rest.
 abbrev pub BegunIsRest : Type 0
-BegunIsRest = (begun : Option (List ℕ)) (parts : List Portion) (end : Bool) → InOrder (is_some begun) parts end → is_some (join_after begun parts).rest ≡ end
+BegunIsRest = (begun : Option (List ℕ)) (parts : List Portion) (end : Bool)
+    → InOrder (is_some begun) parts end → is_some (join_after begun parts).rest ≡ end
 
 -- Each block holds the parts that stand beside it.
 abbrev pub AllHold : Shape → List Filled → Type 0
-AllHold shape blocks = AllByRecursion (λ b. Holds shape.format shape.rec_len shape.offset b.bytes b.parts) blocks
+AllHold shape blocks =
+    AllByRecursion (λ b. Holds shape.format shape.rec_len shape.offset b.bytes b.parts) blocks
 
 -- Blocks with these texts hold parts that are in span order and join to these records.
 abbrev pub HoldRecords : Shape → List (List ℕ) → List (List ℕ) → Type 0
 HoldRecords shape texts records =
     (blocks : List Filled) × (bytes_of_all blocks ≡ texts) × AllHold shape blocks
-    × InOrder false (parts_of_all blocks) false × (join (parts_of_all blocks) ≡ record { records = records; rest = None })
+    × InOrder false (parts_of_all blocks) false
+    × (join (parts_of_all blocks) ≡ record { records = records; rest = None })

@@ -18,7 +18,8 @@ parts_in shape items len = parts_of shape.format shape.rec_len (body_of shape it
 
 -- what callers see of a packer
 abbrev pub packing : Inside → Packing
-packing a = record { shape = a.shape; parts = parts_in a.shape a.block.items a.len; begun = a.begun; closed = a.closed }
+packing a =
+    record { shape = a.shape; parts = parts_in a.shape a.block.items a.len; begun = a.begun; closed = a.closed }
 
 -- The first bytes, as many as are under way, are the offset's spaces and the units of these parts.
 pub record Keeps (shape : Shape) (items : List ℕ) (len : ℕ) (parts : List Portion) : Type 0 where

@@ -1,4 +1,5 @@
--- Records packed into blocks: the shapes that are written, the text of a block, and what each call of a packer does.
+-- Records packed into blocks: the shapes that are written, the text of a block, and what each call
+-- of a packer does.
 use Rattle.std.specs.Prelude.{◌≡◌, ◌≢◌, ℕ, ◌+◌, ◌-◌, ◌<◌, ◌≤◌, ◌⊎◌, Bool, true, false, if◌then◌else◌, List, [], ◌∷◌, ◌++◌, length, take, replicate, max}
 use Rattle.tape_label.specs.declared.values.Format.{Format}
 use Rattle.tape_label.specs.declared.values.Format.TheVariants.{Fixed, Counted, Spanned}
@@ -12,9 +13,12 @@ use Rattle.tape_blocks.specs.Spans.{span_of}
 
 -- format, record length, block length, offset, and whether each block is padded in full
 abbrev pub HasWritableRecords : Format → ℕ → ℕ → ℕ → Bool → Type 0
-HasWritableRecords Fixed rec_len block_len offset pad_full = (18 ≤ rec_len) × (offset + rec_len ≤ block_len) × (pad_full ≡ false)
-HasWritableRecords Counted rec_len block_len offset pad_full = (4 ≤ rec_len) × (rec_len ≤ 9999) × (offset + rec_len ≤ block_len)
-HasWritableRecords Spanned rec_len block_len offset pad_full = (rec_len ≡ 0) × (block_len ≤ 9999) × (offset + 6 ≤ block_len) × (pad_full ≡ false)
+HasWritableRecords Fixed rec_len block_len offset pad_full =
+    (18 ≤ rec_len) × (offset + rec_len ≤ block_len) × (pad_full ≡ false)
+HasWritableRecords Counted rec_len block_len offset pad_full =
+    (4 ≤ rec_len) × (rec_len ≤ 9999) × (offset + rec_len ≤ block_len)
+HasWritableRecords Spanned rec_len block_len offset pad_full =
+    (rec_len ≡ 0) × (block_len ≤ 9999) × (offset + 6 ≤ block_len) × (pad_full ≡ false)
 
 -- the shapes that are written
 pub record IsWritable (shape : Shape) : Type 0 where
@@ -45,7 +49,8 @@ padded_by Spanned pad_full block_len n = max n 18
 abbrev pub padded_len : Shape → ℕ → ℕ
 padded_len shape n = padded_by shape.format shape.pad_full shape.block_len n
 
--- the block with these parts: the offset's spaces, the units, and circumflexes up to the padded length
+-- the block with these parts: the offset's spaces, the units, and circumflexes up to the padded
+-- length
 abbrev pub written : Shape → List Portion → List ℕ
 written shape parts =
     (replicate shape.offset 32 ++ spellings shape.format parts)
@@ -53,22 +58,25 @@ written shape parts =
 
 -- ---- when a block is closed
 
--- the free bytes that the next part needs, where the rest of its record has n bytes: in format S a segment begins where 6 are free
+-- the free bytes that the next part needs, where the rest of its record has n bytes: in format S a
+-- segment begins where 6 are free
 abbrev pub least_room : Format → ℕ → ℕ
 least_room Fixed n = n
 least_room Counted n = 4 + n
 least_room Spanned n = 6
 
+-- Behind these parts there is room for the next one, where the rest of its record has n bytes.
 abbrev pub HasRoom : Shape → List Portion → ℕ → Type 0
 HasRoom shape parts n = size_of shape parts + least_room shape.format n ≤ shape.block_len
 
--- the opposite
+-- There is no such room.
 abbrev pub IsFull : Shape → List Portion → ℕ → Type 0
 IsFull shape parts n = shape.block_len < size_of shape parts + least_room shape.format n
 
 -- ---- a packer
 
--- the block under way: its parts, whether the record of the last part goes on, and whether the block is closed
+-- the block under way: its parts, whether the record of the last part goes on, and whether the
+-- block is closed
 pub record Packing : Type 0 where
   pub shape : Shape
   pub parts : List Portion
@@ -120,7 +128,8 @@ pub record Ends (old : Packing) (rest : List ℕ) (new : Packing) : Type 0 where
 -- what an offer of the rest of a record does; a block that is ready holds a part
 abbrev pub Offers : Packing → List ℕ → Offer → Packing → Type 0
 Offers old rest Taken new = Ends old rest new
-Offers old rest (BlockReady n) new = (new.parts ≢ []) × (StaysClosed old n new ⊎ (Closes old rest n new ⊎ Fills old rest n new))
+Offers old rest (BlockReady n) new =
+    (new.parts ≢ []) × (StaysClosed old n new ⊎ (Closes old rest n new ⊎ Fills old rest n new))
 
 -- A record begins here, and its length is not one of the shape.
 pub record IsRefused (p : Packing) (rest : List ℕ) : Type 0 where
@@ -130,13 +139,15 @@ pub record IsRefused (p : Packing) (rest : List ℕ) : Type 0 where
 
 -- what begins a record has one of the shape's lengths
 abbrev pub IsJudged : Packing → List ℕ → Type 0
-IsJudged p rest = p.closed ≡ false → p.begun ≡ false → HasRecordLength p.shape.format p.shape.rec_len (length rest)
+IsJudged p rest =
+    p.closed ≡ false → p.begun ≡ false → HasRecordLength p.shape.format p.shape.rec_len (length rest)
 
 -- what is left when the block was taken: no part, and a record that was begun goes on
 abbrev pub emptied : Packing → Packing
 emptied p = record { shape = p.shape; parts = []; begun = p.begun; closed = false }
 
--- The text is the block under way, which holds the packer's parts and is no longer than a block may be.
+-- The text is the block under way, which holds the packer's parts and is no longer than a block may
+-- be.
 pub record Given (p : Packing) (text : List ℕ) : Type 0 where
   pub some : p.parts ≢ []
   pub text_is : text ≡ written p.shape p.parts

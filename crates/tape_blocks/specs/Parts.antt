@@ -13,13 +13,16 @@ view p = record { span = p.span; bytes = p.bytes.now }
 
 -- the part of the unit that was found at the front
 abbrev pub portion : Found → List ℕ → Portion
-portion found bytes = record { span = found.span; bytes = take (found.len - found.head) (drop found.head bytes) }
+portion found bytes =
+    record { span = found.span; bytes = take (found.len - found.head) (drop found.head bytes) }
 
+-- how long the unit is that was found
 abbrev pub unit_len : Result (Option Found) BlockFault → ℕ
 unit_len (Ok (Some found)) = found.len
 unit_len (Ok None) = 0
 unit_len (Err f) = 0
 
+-- the part of the unit that was found, and these behind it
 abbrev pub with_unit : Result (Option Found) BlockFault → List ℕ → List Portion → List Portion
 with_unit (Ok (Some found)) bytes others = portion found bytes ∷ others
 with_unit (Ok None) bytes others = []

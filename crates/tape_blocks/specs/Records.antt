@@ -10,12 +10,14 @@ use Rattle.tape_blocks.specs.Packing.{Packing, IsWritable, HasRecordLength}
 use Rattle.tape_blocks.specs.Run.{RunOf}
 use Rattle.tape_blocks.specs.Tight.{Filled, bytes_of_all}
 
+-- the bytes of each vector
 abbrev pub contents : List (Vec ℕ Global) → List (List ℕ)
 contents vs = map (λ v. v.items) vs
 
 -- Each record has one of the shape's lengths.
 abbrev pub AreRecordsOf : Shape → List (List ℕ) → Type 0
-AreRecordsOf shape records = AllByRecursion (λ r. HasRecordLength shape.format shape.rec_len (length r)) records
+AreRecordsOf shape records =
+    AllByRecursion (λ r. HasRecordLength shape.format shape.rec_len (length r)) records
 
 -- Some record has a length that the shape has not.
 abbrev pub HasOtherLength : Shape → List (List ℕ) → Type 0
@@ -34,13 +36,19 @@ IsRefusedOne shape whole RecordLength = HasRecordLength shape.format shape.rec_l
 IsRefusedOne shape whole ShapeRange = ⊥
 IsRefusedOne shape whole OutOfMemory = Unit {0}
 
+-- why a record is not packed behind a run over whole ones
 abbrev pub RefusesRecord : Packing → List ℕ → PackFault → Type 0
-RefusesRecord old whole e = (taken : List Filled) (records : List (List ℕ)) → RunOf taken old records → IsRefusedOne old.shape whole e
+RefusesRecord old whole e =
+    (taken : List Filled) (records : List (List ℕ)) → RunOf taken old records → IsRefusedOne old.shape whole e
 
--- From each run that led here there is one with this record too, and what was taken for it stands behind the texts.
-pub record PutsRecord (old : Packing) (texts : List (List ℕ)) (whole : List ℕ) (new : Packing) (more : List (List ℕ)) : Type 0 where
+-- From each run that led here there is one with this record too, and what was taken for it stands
+-- behind the texts.
+pub record PutsRecord (old : Packing) (texts : List (List ℕ)) (whole : List ℕ)
+    (new : Packing) (more : List (List ℕ)) : Type 0 where
   pub shape : new.shape ≡ old.shape
   pub ended : new.begun ≡ false
-  pub length_is : (taken : List Filled) (records : List (List ℕ)) → RunOf taken old records → HasRecordLength old.shape.format old.shape.rec_len (length whole)
+  pub length_is : (taken : List Filled) (records : List (List ℕ)) → RunOf taken old records
+      → HasRecordLength old.shape.format old.shape.rec_len (length whole)
   pub run : (taken : List Filled) (records : List (List ℕ)) → RunOf taken old records
-      → (filled : List Filled) × (texts ++ bytes_of_all filled ≡ more) × RunOf (taken ++ filled) new (records ++ whole ∷ [])
+      → (filled : List Filled) × (texts ++ bytes_of_all filled ≡ more)
+      × RunOf (taken ++ filled) new (records ++ whole ∷ [])

@@ -25,7 +25,8 @@ span_of true false = Last
 span_of false true = First
 span_of false false = Whole
 
--- span order: where a record is begun Middle or Last comes, otherwise Whole or First; behind the parts one is begun or not
+-- span order: where a record is begun Middle or Last comes, otherwise Whole or First; behind the
+-- parts one is begun or not
 abbrev pub InOrder : Bool → List Portion → Bool → Type 0
 InOrder begun [] end = begun ≡ end
 InOrder begun (p ∷ ps) end = (continues p.span ≡ begun) × InOrder (leaves p.span) ps end
@@ -40,10 +41,12 @@ abbrev pub content_after : Option (List ℕ) → List ℕ → List ℕ
 content_after None bytes = bytes
 content_after (Some front) bytes = front ++ bytes
 
+-- one finished record before the others
 abbrev pub with_record : List ℕ → Joined → Joined
 with_record r j = record { records = r ∷ j.records; rest = j.rest }
 
--- what the parts join to behind what is begun: contents are gathered, and a part that does not leave its record begun ends it
+-- what the parts join to behind what is begun: contents are gathered, and a part that does not
+-- leave its record begun ends it
 abbrev pub join_after : Option (List ℕ) → List Portion → Joined
 join_after begun [] = record { records = []; rest = begun }
 join_after begun (p ∷ ps) =
@@ -57,4 +60,5 @@ join ps = join_after None ps
 
 -- what is joined, and what further parts add to it
 abbrev pub joined_with : Joined → List Portion → Joined
-joined_with j ps = record { records = j.records ++ (join_after j.rest ps).records; rest = (join_after j.rest ps).rest }
+joined_with j ps =
+    record { records = j.records ++ (join_after j.rest ps).records; rest = (join_after j.rest ps).rest }

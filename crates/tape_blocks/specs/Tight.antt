@@ -13,16 +13,18 @@ pub record Filled : Type 0 where
   pub bytes : List ℕ
   pub parts : List Portion
 
+-- the parts of the blocks, in order
 abbrev pub parts_of_all : List Filled → List Portion
 parts_of_all blocks = flat_map (λ b. b.parts) blocks
 
+-- the text of each block
 abbrev pub bytes_of_all : List Filled → List (List ℕ)
 bytes_of_all blocks = map (λ b. b.bytes) blocks
 
 -- ---- each block
 
--- a segment of format S behind so many bytes of its block: 6 bytes are free there, it fills the block where it does not end
--- its record, and it is empty only where its record is
+-- a segment of format S behind so many bytes of its block: 6 bytes are free there, it fills the
+-- block where it does not end its record, and it is empty only where its record is
 pub record IsSegment (block_len at : ℕ) (p : Portion) : Type 0 where
   pub room : at + 6 ≤ block_len
   pub fills : leaves p.span ≡ true → at + (5 + length p.bytes) ≡ block_len
@@ -31,10 +33,11 @@ pub record IsSegment (block_len at : ℕ) (p : Portion) : Type 0 where
 -- the same of segments one behind another
 abbrev pub AreSegments : ℕ → ℕ → List Portion → Type 0
 AreSegments block_len at [] = Unit {0}
-AreSegments block_len at (p ∷ ps) = IsSegment block_len at p × AreSegments block_len (at + (5 + length p.bytes)) ps
+AreSegments block_len at (p ∷ ps) =
+    IsSegment block_len at p × AreSegments block_len (at + (5 + length p.bytes)) ps
 
--- a block that is written: it holds its parts, at least one, is no longer than a block may be, and has the offset's spaces and
--- the shape's padding
+-- a block that is written: it holds its parts, at least one, is no longer than a block may be, and
+-- has the offset's spaces and the shape's padding
 pub record IsWritten (shape : Shape) (b : Filled) : Type 0 where
   pub some : b.parts ≢ []
   pub text : b.bytes ≡ written shape b.parts
@@ -55,13 +58,15 @@ abbrev pub first_len : List Portion → ℕ → ℕ
 first_len [] n = n
 first_len (p ∷ _) n = length p.bytes
 
--- The block was closed because what begins the next one did not fit, or in format S because fewer than 6 bytes were free.
+-- The block was closed because what begins the next one did not fit, or in format S because fewer
+-- than 6 bytes were free.
 abbrev pub IsDue : Shape → Filled → Filled → Type 0
 IsDue shape b next = IsFull shape b.parts (first_len next.parts 0)
 
 -- ---- all blocks
 
--- The parts of these blocks are in span order and join to these records, and no block was closed that had room.
+-- The parts of these blocks are in span order and join to these records, and no block was closed
+-- that had room.
 pub record IsTight (shape : Shape) (records : List (List ℕ)) (blocks : List Filled) : Type 0 where
   pub joins : join (parts_of_all blocks) ≡ record { records = records; rest = None }
   pub order : InOrder false (parts_of_all blocks) false
@@ -70,4 +75,5 @@ pub record IsTight (shape : Shape) (records : List (List ℕ)) (blocks : List Fi
 
 -- Blocks with these bytes hold the records so.
 abbrev pub Packs : Shape → List (List ℕ) → List (List ℕ) → Type 0
-Packs shape records texts = (blocks : List Filled) × (bytes_of_all blocks ≡ texts) × IsTight shape records blocks
+Packs shape records texts =
+    (blocks : List Filled) × (bytes_of_all blocks ≡ texts) × IsTight shape records blocks

@@ -1,4 +1,5 @@
--- The unit that stands at the front of some bytes, or why none does: what one step over a block finds.
+-- The unit that stands at the front of some bytes, or why none does: what one step over a block
+-- finds.
 use Rattle.std.specs.Prelude.{ℕ, ◌-◌, ◌==◌, nat_lt, not, List, [], ◌∷◌, length, take, drop, Option, Some, None, Result, Ok, Err, if◌then◌else◌}
 use Rattle.std.specs.Str.{all_ascii_digits}
 use Rattle.tape_label.specs.Digits.{number_of}
@@ -17,6 +18,7 @@ abbrev pub padding_by : Option ℕ → Result (Option Found) BlockFault
 padding_by None = Ok None
 padding_by (Some place) = Err (fault place BadPadding)
 
+-- no unit, if what is left of format F is circumflexes
 abbrev pub short_by : Option ℕ → Result (Option Found) BlockFault
 short_by None = Ok None
 short_by (Some place) = Err (fault 0 NotMultiple)
@@ -31,6 +33,7 @@ counted span head bytes =
     else (if nat_lt (length bytes) (number_of count) then Err (fault 0 PastEnd)
     else Ok (Some record { span = span; head = head; len = number_of count }))))
 
+-- a unit of format S, by what its first byte indicates
 abbrev pub spanned : Option Span → List ℕ → Result (Option Found) BlockFault
 spanned None bytes = Err (fault 0 BadIndicator)
 spanned (Some span) bytes = counted span 5 bytes
@@ -38,8 +41,11 @@ spanned (Some span) bytes = counted span 5 bytes
 -- the unit, or none where padding stands
 unfoldable pub unit_at : Format → ℕ → List ℕ → Result (Option Found) BlockFault
 unit_at Fixed rec_len bytes =
-    if nat_lt (length bytes) rec_len then short_by (first_other bytes) else Ok (Some record { span = Whole; head = 0; len = rec_len })
+    if nat_lt (length bytes) rec_len then short_by (first_other bytes)
+    else Ok (Some record { span = Whole; head = 0; len = rec_len })
 unit_at Counted rec_len [] = Ok None
-unit_at Counted rec_len (c ∷ cs) = if c == 94 then padding_by (first_other (c ∷ cs)) else counted Whole 4 (c ∷ cs)
+unit_at Counted rec_len (c ∷ cs) =
+    if c == 94 then padding_by (first_other (c ∷ cs)) else counted Whole 4 (c ∷ cs)
 unit_at Spanned rec_len [] = Ok None
-unit_at Spanned rec_len (c ∷ cs) = if c == 94 then padding_by (first_other (c ∷ cs)) else spanned (span_by c) (c ∷ cs)
+unit_at Spanned rec_len (c ∷ cs) =
+    if c == 94 then padding_by (first_other (c ∷ cs)) else spanned (span_by c) (c ∷ cs)

@@ -61,15 +61,17 @@ fn judge(shape: &Shape, begun: bool, block: &[u8]) -> Result<bool, BlockFault>
 /// Whether a block holds records of this shape, and whether one of them is begun at the block's end
 /// (ECMA-13, 4th edition: fixed-length, variable-length and spanned records).
 ///
-/// `begun` tells whether a record is begun where the block begins. The block's length is compared with none: a block may
-/// be longer than the shape says. Behind the offset come the records, or segments in format S, and behind these padding:
-/// circumflexes, in format F fewer than a record's length. A block without any record is accepted.
+/// `begun` tells whether a record is begun where the block begins. The block's length is compared
+/// with none: a block may be longer than the shape says. Behind the offset come the records, or
+/// segments in format S, and behind these padding: circumflexes, in format F fewer than a record's
+/// length. A block without any record is accepted.
 ///
 /// # Errors
 ///
-/// The fault stands where the longest front of records in order ends, or at 0 where the block is shorter than its
-/// offset. Its cause is the first in the order of [`BlockCause`] that applies there, with `BadIndicator` before
-/// `BadCount`; `BadPadding` stands at the first byte behind the front that is no circumflex.
+/// The fault stands where the longest front of records in order ends, or at 0 where the block is
+/// shorter than its offset. Its cause is the first that applies there: in format F `NotMultiple`,
+/// `SpanBroken`; in D and S, where a circumflex stands, `BadPadding`, at the first other byte
+/// behind it; else in S `BadIndicator`, and then `BadCount`, `PastEnd`, `SpanBroken`.
 pub fn check_block(shape: &Shape, begun: bool, block: &[u8]) -> Result<bool, BlockFault>
     // What passes holds parts in span order, and leaves a record begun or not as it says.
     ensures found { IfOk result (λ end. (parts : List Portion)
@@ -80,9 +82,11 @@ pub fn check_block(shape: &Shape, begun: bool, block: &[u8]) -> Result<bool, Blo
         → Holds shape.now.format shape.now.rec_len shape.now.offset block.now parts
         → InOrder begun parts end → result ≡ Ok end }
     // Which fault it is, and where it stands.
-    ensures fault { IfErr result (HasFault shape.now.format shape.now.rec_len shape.now.offset begun block.now) }
+    ensures fault { IfErr result
+        (HasFault shape.now.format shape.now.rec_len shape.now.offset begun block.now) }
     // The answer as a function on lists.
-    ensures exact { result ≡ judged shape.now.format shape.now.rec_len shape.now.offset begun block.now }
+    ensures exact { result
+        ≡ judged shape.now.format shape.now.rec_len shape.now.offset begun block.now }
 {
     judge(shape, begun, block)
 }

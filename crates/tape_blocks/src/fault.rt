@@ -5,16 +5,18 @@ ghost use Rattle.tape_blocks.specs.Numbers.{cause_number, pack_fault_number};
 
 use thiserror::Error;
 
-/// What is wrong at a place of a block, in the order in which causes are looked for at one place.
+/// What is wrong at a place of a block.
 #[derive(Clone, Copy, Debug, PartialEq, Eq, Error)]
 pub enum BlockCause {
     /// The block is shorter than its offset.
     #[error("the block is shorter than its offset")]
     ShortOffset,
-    /// Behind whole records of format F stands a rest that is shorter than a record and not all circumflexes.
+    /// Behind whole records of format F stands a rest that is shorter than a record and not all
+    /// circumflexes.
     #[error("the block is no multiple of the record length")]
     NotMultiple,
-    /// A count has fewer than four characters or one that is no digit, or counts less than what stands before the content.
+    /// A count has fewer than four characters or one that is no digit, or counts less than what
+    /// stands before the content.
     #[error("a count is no count")]
     BadCount,
     /// A count is more than what is left of the block.

@@ -25,8 +25,8 @@ pub fn one_begun(_block: &[u8])
     ensures { PassesForOne _block.now }
 {}
 
-/// What the answer of a check says of a block, and what a block says of the answer, for callers that know the answer as a
-/// function on lists.
+/// What the answer of a check says of a block, and what a block says of the answer, for callers
+/// that know the answer as a function on lists.
 pub fn judged_as_held(_format: Format, _rec_len: u32, _offset: u8, _begun: bool, _block: &[u8])
     requires { _format ≡ Fixed → 1 ≤ _rec_len }
     ensures { JudgedAsHeld _format _rec_len _offset _begun _block.now }
@@ -42,7 +42,8 @@ pub fn begun_is_rest()
     ensures { BegunIsRest }
 {}
 
-/// The spans of a checked block's parts, in order: what a `for` over the parts has seen are the parts that the block holds.
+/// The spans of a checked block's parts, in order: what a `for` over the parts has seen are the
+/// parts that the block holds.
 ///
 /// # Errors
 ///

@@ -5,6 +5,7 @@
 pub enum Offer {
     /// All of it stands in the block under way, and the record has ended.
     Taken,
-    /// So many of its first bytes were taken, and the block is closed: take it, and offer what remains.
+    /// So many of its first bytes were taken, and the block is closed: take it, and offer what
+    /// remains.
     BlockReady(usize),
 }

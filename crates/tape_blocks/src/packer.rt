@@ -19,15 +19,17 @@ use tape_label::Format;
 
 /// Packs records into blocks of one shape (ECMA-13, 4th edition: blocking of records).
 ///
-/// A record is offered until it is taken. Each time a block is ready the caller takes it and offers what remains of the
-/// record. At the end of the file the block under way is taken too. A block of format F or D is closed only where the next
-/// record does not fit, one of format S where fewer than 6 bytes are free; so all blocks are as full as records allow.
+/// A record is offered until it is taken. Each time a block is ready the caller takes it and offers
+/// what remains of the record. At the end of the file the block under way is taken too. A block of
+/// format F or D is closed only where the next record does not fit, one of format S where fewer
+/// than 6 bytes are free; so all blocks are as full as records allow.
 ///
 /// The block is reserved once, by `new`: no later call takes memory.
 #[derive(Drop)]
 pub struct Packer {
     shape: Shape,
-    // The block under way is the first `len` bytes. What stands behind them was padding of a block that was taken.
+    // The block under way is the first `len` bytes. What stands behind them is left of a block that
+    // was taken.
     block: Vec<u8>,
     len: usize,
     begun: bool,
@@ -53,15 +55,18 @@ impl Packer {
     ///
     /// # Errors
     ///
-    /// `ShapeRange` where blocks of this shape are not written: the block length is 18 to 99,999 and the offset at most 99.
-    /// In format F a record has at least 18 bytes and fits a block behind the offset; in format D the record length, which
-    /// counts the four digits, is 4 to 9,999 and fits likewise; in format S it is 0, a block has at most 9,999 bytes, and
-    /// at least 6 of them stand behind the offset. Only blocks of format D are padded in full. Then `OutOfMemory`.
+    /// `ShapeRange` where blocks of this shape are not written: the block length is 18 to 99,999
+    /// and the offset at most 99. In format F a record has at least 18 bytes and fits a block
+    /// behind the offset; in format D the record length, which counts the four digits, is 4 to
+    /// 9,999 and fits likewise; in format S it is 0, a block has at most 9,999 bytes, and at least
+    /// 6 of them stand behind the offset. Only blocks of format D are padded in full. Then
+    /// `OutOfMemory`.
     pub fn new(alloc: Global, shape: Shape) -> Result<Packer, PackFault>
         ensures ok { IfOk result (λ p. IsWritable shape
             × (p ≡ record { shape = shape; parts = []; begun = false; closed = false })) }
         ensures err { IfErr result (λ e.
-            ((e ≡ PackFault.ShapeRange) × (IsWritable shape → ⊥)) ⊎ ((e ≡ PackFault.OutOfMemory) × IsWritable shape)) }
+            ((e ≡ PackFault.ShapeRange) × (IsWritable shape → ⊥))
+            ⊎ ((e ≡ PackFault.OutOfMemory) × IsWritable shape)) }
     {
         if !is_writable(&shape) {
             return Err(PackFault::ShapeRange);
@@ -87,8 +92,8 @@ impl Packer {
 
     // A part behind the others.
     fn put_part(&mut self, goes_on: bool, bytes: &[u8])
-        requires room { size_of self.old.shape self.old.parts + (head_len self.old.shape.format + length bytes.now)
-            ≤ self.old.shape.block_len }
+        requires room { size_of self.old.shape self.old.parts
+            + (head_len self.old.shape.format + length bytes.now) ≤ self.old.shape.block_len }
         requires unit { IsUnit self.old.shape.format self.old.shape.rec_len
             (record { span = span_of self.old.begun goes_on; bytes = bytes.now }) }
         requires spanned { goes_on ≡ true → self.old.shape.format ≡ Format.Spanned }
@@ -108,13 +113,15 @@ impl Packer {
 
     /// Offers a record, or what remains of one that was begun.
     ///
-    /// `Taken` ends the record. `BlockReady(n)` says that its first n bytes were taken and the block is closed; a block
-    /// that was closed before and not taken yet answers `BlockReady(0)` before anything else is looked at.
+    /// `Taken` ends the record. `BlockReady(n)` says that its first n bytes were taken and the
+    /// block is closed; a block that was closed before and not taken yet answers `BlockReady(0)`
+    /// before anything else is looked at.
     ///
     /// # Errors
     ///
-    /// `RecordLength`, judged where a record begins: in format F its length is not the record length, in format D it is
-    /// more than the record length less 4, in format S it is more than 4,294,967,295. The packer is unchanged.
+    /// `RecordLength`, judged where a record begins: in format F its length is not the record
+    /// length, in format D it is more than the record length less 4, in format S it is more than
+    /// 4,294,967,295. The packer is unchanged.
     pub fn offer(&mut self, rest: &[u8]) -> Result<Offer, PackFault>
         ensures ok { IfOk result (λ o. Offers self.old rest.now o self.new) }
         // What begins a record has one of the lengths.
@@ -143,15 +150,16 @@ impl Packer {
         Ok(Offer::Taken)
     }
 
-    /// The block under way, if it holds a part: with the offset's spaces in front, and padded. It is then no longer under
-    /// way; a record that was begun goes on in the next block.
+    /// The block under way, if it holds a part: with the offset's spaces in front, and padded. It
+    /// is then no longer under way; a record that was begun goes on in the next block.
     ///
-    /// A block of format F is not padded; one of D or S is padded to 18 bytes at least, and with `pad_full` one of D to
-    /// the block length.
+    /// A block of format F is not padded; one of D or S is padded to 18 bytes at least, and with
+    /// `pad_full` one of D to the block length.
     pub fn take_block(&mut self) -> Option<&[u8]>
         ensures found { IfSome result (λ b. Given self.old b.now) }
         ensures none { IfNone result (self.old.parts ≡ []) }
-        ensures* after { sem 𝓛 (follows_so the_row the_row self.entry.ghost_name none (λ _ _. ⊤) (λ n. n ≡ emptied self.old)) }
+        ensures* after { sem 𝓛 (follows_so the_row the_row self.entry.ghost_name none (λ _ _. ⊤)
+            (λ n. n ≡ emptied self.old)) }
     {
         let offset = usize::from(self.shape.offset);
         if self.len == offset {

@@ -15,9 +15,11 @@ use std::alloc::Global;
 fn give(alloc: Global, packer: &mut Packer, blocks: &mut Vec<Vec<u8>>) -> Result<(), PackFault>
     ensures err { IfErr result (λ e. e ≡ PackFault.OutOfMemory) }
     ensures taken { OnOk result (packer.new ≡ emptied packer.old) }
-    ensures none { OnOk result (packer.old.parts ≡ [] → contents blocks.new.items ≡ contents blocks.old.items) }
+    ensures none { OnOk result (packer.old.parts ≡ []
+        → contents blocks.new.items ≡ contents blocks.old.items) }
     ensures some { OnOk result (packer.old.parts ≢ [] → (text : List _)
-        × (contents blocks.new.items ≡ contents blocks.old.items ++ text ∷ []) × Given packer.old text) }
+        × (contents blocks.new.items ≡ contents blocks.old.items ++ text ∷ [])
+        × Given packer.old text) }
 {
     if let Some(block) = packer.take_block() {
         let mut copy = Vec::new(alloc);
@@ -51,16 +53,19 @@ fn put_record(
     }
 }
 
-/// The blocks that these records are packed into, in order: one at each `BlockReady`, and the block under way at the end.
+/// The blocks that these records are packed into, in order: one at each `BlockReady`, and the block
+/// under way at the end.
 ///
-/// Their parts join to the records, and they are packed tightly: no block was closed that had room for what came next.
+/// Their parts join to the records, and they are packed tightly: no block was closed that had room
+/// for what came next.
 ///
 /// # Errors
 ///
-/// `ShapeRange` where [`Packer::new`] answers it, `RecordLength` where some record has a length that the shape does not
-/// allow, and `OutOfMemory` where memory is refused.
+/// `ShapeRange` where [`Packer::new`] answers it, `RecordLength` where some record has a length
+/// that the shape does not allow, and `OutOfMemory` where memory is refused.
 pub fn pack_all(alloc: Global, shape: Shape, records: &[Vec<u8>]) -> Result<Vec<Vec<u8>>, PackFault>
-    ensures packed { IfOk result (λ blocks. Packs shape (contents records.now) (contents blocks.items)) }
+    ensures packed { IfOk result (λ blocks.
+        Packs shape (contents records.now) (contents blocks.items)) }
     ensures lengths { IfOk result (λ _. AreRecordsOf shape (contents records.now)) }
     ensures refused { IfErr result (IsRefusedFor shape (contents records.now)) }
 {

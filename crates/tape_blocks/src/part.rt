@@ -5,8 +5,8 @@ ghost use Rattle.tape_blocks.specs.Spans.{continues, leaves};
 
 /// Which piece of its record a part is (ECMA-13, 4th edition: spanned records).
 ///
-/// A record of format F or D is always whole. One of format S may be spread over blocks: a first segment,
-/// any number of middle ones, and a last one.
+/// A record of format F or D is always whole. One of format S may be spread over blocks: a first
+/// segment, any number of middle ones, and a last one.
 #[derive(Clone, Copy, Debug, PartialEq, Eq)]
 pub enum Span {
     /// The record begins and ends with this part.

@@ -8,7 +8,8 @@ use crate::shape::Shape;
 use crate::unit::unit_at;
 use tape_label::Format;
 
-/// An iterator over the parts of a block that was checked. It lends slices of the block, and takes no memory.
+/// An iterator over the parts of a block that was checked. It lends slices of the block, and takes
+/// no memory.
 #[derive(Drop)]
 pub struct Parts<'a> {
     format: Format,

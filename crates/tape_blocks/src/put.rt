@@ -44,7 +44,8 @@ fn indicator(span: Span) -> u8
 pub(crate) fn put_unit(block: &mut Vec<u8>, format: Format, span: Span, bytes: &[u8])
     requires room { vec_len block.old + (head_len format + length bytes.now) ≤ vec_capacity block.old }
     requires fits { format ≢ Format.Fixed → head_len format + length bytes.now < 10000 }
-    ensures items { block.new.items ≡ block.old.items ++ spelling format (record { span = span; bytes = bytes.now }) }
+    ensures items { block.new.items
+        ≡ block.old.items ++ spelling format (record { span = span; bytes = bytes.now }) }
     ensures len { vec_len block.new ≡ vec_len block.old + (head_len format + length bytes.now) }
     ensures capacity { vec_capacity block.old ≤ vec_capacity block.new }
 {

@@ -7,7 +7,8 @@ use tape_label::{Format, Head2};
 
 /// How a file's records stand in its blocks (ECMA-13, 4th edition: the label HDR2).
 ///
-/// In format F the record length is at least 1: the type holds that, and it is proved where a shape is made.
+/// In format F the record length is at least 1: the type holds that, and it is proved where a shape
+/// is made.
 #[derive(Clone, Copy, Debug, PartialEq, Eq)]
 pub struct Shape {
     /// F, D or S.

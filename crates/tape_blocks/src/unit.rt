@@ -100,7 +100,8 @@ fn fixed(rec_len: usize, bytes: &[u8]) -> Result<Option<Found>, BlockFault>
     }
 }
 
-/// The unit at the front, or none where padding stands. The fault's place is counted from the front.
+/// The unit at the front, or none where padding stands. The fault's place is counted from the
+/// front.
 #[tactic(auto, unfolding(crate::specs::Units::unit_at))]
 pub(crate) fn unit_at(
     format: Format,

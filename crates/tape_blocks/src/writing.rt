@@ -52,7 +52,8 @@ pub(crate) fn head_len(format: Format) -> usize
     }
 }
 
-/// Whether so many free bytes are enough for the next part, where the rest of its record has `len` bytes.
+/// Whether so many free bytes are enough for the next part, where the rest of its record has `len`
+/// bytes.
 pub(crate) fn has_room(format: Format, free: usize, len: usize) -> bool
     ensures { IsTrue result ↔ (least_room format len ≤ free) }
 {

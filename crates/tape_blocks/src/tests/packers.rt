@@ -108,7 +108,8 @@ fn holds_one(
     }
 }
 
-// A record of 3,000,000 bytes, of which the packer is offered what remains: the blocks and their parts.
+// A record of 3,000,000 bytes, of which the packer is offered what remains: the blocks and their
+// parts.
 #[test]
 fn cuts_a_long_record(rt: HostRuntime) -> Result<(), Fail> {
     let shape = spanned(9_999);
