@@ -163,6 +163,17 @@ offers_shape p q rest (BlockReady n) offers =
       ]
     ]
 
+-- A block that is ready has no room for what remains.
+pub ready_full : (old new : Packing) (rest : List ℕ) (n : ℕ) → old.closed ≡ false → Offers old rest (BlockReady n) new → IsFull new.shape new.parts (length (drop n rest))
+ready_full old new rest n opened offers =
+    elim (offers.1) [
+      | inl same ↦ absurd (let closed = same.closed in cc)
+      | inr o ↦ elim o [
+        | inl closes ↦ subst (λ (v : Packing). IsFull v.shape v.parts (length (drop n rest))) (sym closes.same) (subst (λ (k : ℕ). IsFull old.shape old.parts k) (sym (ap length (zero_drop n rest closes.none))) closes.full)
+        | inr fills ↦ full_by new.shape.format (size_of new.shape new.parts) new.shape.block_len (length (drop n rest)) (ap (λ (v : Packing). v.shape.format) fills.part ∙ fills.spanned) fills.filled
+      ]
+    ]
+
 -- What is offered of a record of this run shows that the whole of it has one of the lengths.
 pub going_length : (taken : List Filled) (p : Packing) (records : List (List ℕ)) (r rest : List ℕ) → Going taken p records r rest → IsJudged p rest → HasRecordLength p.shape.format p.shape.rec_len (length r)
 going_length taken p records r rest going judged = by p.begun refl

@@ -1,5 +1,5 @@
 -- Laws about blocks and parts. Each is the contract of a call of the module `laws`.
-use Rattle.std.specs.Prelude.{◌≡◌, ◌≢◌, ℕ, Bool, List, [], ◌++◌, Option, None, false, is_some, Ok, IfErr}
+use Rattle.std.specs.Prelude.{◌≡◌, ◌≢◌, ℕ, Bool, List, [], ◌++◌, Option, None, false, is_some, Ok, IfErr, length, drop}
 use Rattle.tape_label.specs.declared.values.Format.{Format}
 use Rattle.tape_label.specs.declared.values.Format.TheVariants.{Spanned}
 use Rattle.tape_blocks.specs.Block.{Portion, Holds}
@@ -7,6 +7,8 @@ use Rattle.std.specs.List.{AllByRecursion}
 use Rattle.tape_blocks.specs.declared.shape.Shape.{Shape}
 use Rattle.tape_blocks.specs.Faults.{HasFault}
 use Rattle.tape_blocks.specs.Judged.{judged}
+use Rattle.tape_blocks.specs.declared.offer.Offer.TheVariants.{BlockReady}
+use Rattle.tape_blocks.specs.Packing.{Packing, Offers, IsFull}
 use Rattle.tape_blocks.specs.Spans.{InOrder, join, join_after, joined_with}
 use Rattle.tape_blocks.specs.Tight.{Filled, bytes_of_all, parts_of_all}
 
@@ -42,6 +44,11 @@ JoinsOn = (ps qs : List Portion) → join (ps ++ qs) ≡ joined_with (join ps) q
 abbrev pub BegunIsRest : Type 0
 BegunIsRest = (begun : Option (List ℕ)) (parts : List Portion) (end : Bool)
     → InOrder (is_some begun) parts end → is_some (join_after begun parts).rest ≡ end
+
+-- Where the block was not closed before, one that is ready has no room for what remains of the record.
+abbrev pub ReadyIsFull : Type 0
+ReadyIsFull = (old new : Packing) (rest : List ℕ) (n : ℕ) → old.closed ≡ false
+    → Offers old rest (BlockReady n) new → IsFull new.shape new.parts (length (drop n rest))
 
 -- Each block holds the parts that stand beside it.
 abbrev pub AllHold : Shape → List Filled → Type 0

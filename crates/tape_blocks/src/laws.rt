@@ -3,7 +3,7 @@
 ghost use Rattle.std.specs.Prelude.{◌≡◌, ◌≤◌, ℕ, Bool, List, map, IfOk, IfErr};
 ghost use Rattle.tape_label.specs.declared.values.Format.TheVariants.{Fixed};
 ghost use Rattle.tape_blocks.specs.Block.{Portion, Holds};
-ghost use Rattle.tape_blocks.specs.Laws.{HoldsOneList, PassesForOne, JudgedAsHeld, JoinsOn, BegunIsRest, HoldRecords};
+ghost use Rattle.tape_blocks.specs.Laws.{HoldsOneList, PassesForOne, JudgedAsHeld, JoinsOn, BegunIsRest, ReadyIsFull, HoldRecords};
 ghost use Rattle.tape_blocks.specs.Records.{contents, IsRefusedFor};
 ghost use Rattle.tape_blocks.specs.Spans.{InOrder};
 
@@ -40,6 +40,11 @@ pub fn joins_on()
 /// Where a record is begun behind parts in span order.
 pub fn begun_is_rest()
     ensures { BegunIsRest }
+{}
+
+/// A block is closed only where what remains of the record has no room in it.
+pub fn ready_is_full()
+    ensures { ReadyIsFull }
 {}
 
 /// The spans of a checked block's parts, in order: what a `for` over the parts has seen are the

@@ -85,6 +85,7 @@ fn laws_can_be_called(rt: HostRuntime) {
     laws::judged_as_held(Format::Spanned, 0, 0, true, block);
     laws::joins_on();
     laws::begun_is_rest();
+    laws::ready_is_full();
     let shape = spanned(18);
     if check_block(&shape, true, block).is_ok() {
         let spans = laws::spans_of(rt.alloc(), &shape, block);
