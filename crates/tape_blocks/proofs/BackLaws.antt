@@ -25,9 +25,6 @@ pub record HasJoined (parts : List Portion) (records : List (List ℕ)) (text : 
   pub joins : join parts ≡ record { records = records; rest = front }
   pub begun : text ≡ front_text front
 
-pub joined_none : HasJoined [] [] []
-joined_none = record { front = None; joins = refl; begun = refl }
-
 content_is : (front : Option (List ℕ)) (bytes : List ℕ) → front_text front ++ bytes ≡ content_after front bytes
 content_is None bytes = refl
 content_is (Some front) bytes = refl
