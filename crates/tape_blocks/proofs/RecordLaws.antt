@@ -8,7 +8,7 @@ use Rattle.std.proofs.lemmas.List.Elements.{Contains-append_left, Contains-appen
 use Rattle.tape_blocks.specs.declared.fault.PackFault.{PackFault}
 use Rattle.tape_blocks.specs.declared.fault.PackFault.TheVariants.{RecordLength, ShapeRange, OutOfMemory}
 use Rattle.tape_blocks.specs.declared.shape.Shape.{Shape}
-use Rattle.tape_blocks.specs.Packing.{HasRecordLength}
+use Rattle.tape_blocks.specs.Packing.{IsWritable, HasRecordLength}
 use Rattle.tape_blocks.specs.Records.{contents, AreRecordsOf, IsRefusedFor, IsRefusedOne}
 
 pub one_more : (vs : List (Vec ℕ Global)) (i : ℕ) (v : Vec ℕ Global) → i < length vs → v ≡ get_or vs i v → contents (take (i + 1) vs) ≡ contents (take i vs) ++ v.items ∷ []
@@ -26,7 +26,8 @@ has_record vs i r e =
     subst (λ (rs : List (List ℕ)). Contains rs r) (sym whole) (Contains-append_left (contents (take (i + 1) vs)) (contents (drop (i + 1) vs)) r front)
 
 -- Where one of the records is refused, they all are.
-pub refused_for : (e : PackFault) (shape : Shape) (records : List (List ℕ)) (r : List ℕ) → Contains records r → IsRefusedOne shape r e → IsRefusedFor shape records e
-refused_for RecordLength shape records r there is = (r, there, is)
-refused_for ShapeRange shape records r there is = absurd is
-refused_for OutOfMemory shape records r there is = tt
+pub refused_for : (e : PackFault) (shape : Shape) (records : List (List ℕ)) (r : List ℕ) → IsWritable shape → Contains records r → IsRefusedOne shape r e
+    → IsRefusedFor shape records e
+refused_for RecordLength shape records r writable there is = (writable, (r, there, is))
+refused_for ShapeRange shape records r writable there is = absurd is
+refused_for OutOfMemory shape records r writable there is = writable

@@ -10,7 +10,7 @@ use Rattle.tape_blocks.specs.Judged.{judged}
 use Rattle.tape_blocks.specs.declared.offer.Offer.TheVariants.{BlockReady}
 use Rattle.tape_blocks.specs.Packing.{Packing, Offers, IsFull}
 use Rattle.tape_blocks.specs.Spans.{InOrder, join, join_after, joined_with}
-use Rattle.tape_blocks.specs.Tight.{Filled, bytes_of_all, parts_of_all}
+use Rattle.tape_blocks.specs.Tight.{Filled, bytes_of_all, parts_of_all, Packs}
 
 -- A block holds at most one list of parts.
 abbrev pub HoldsOneList : List ℕ → Type 0
@@ -61,3 +61,7 @@ HoldRecords shape texts records =
     (blocks : List Filled) × (bytes_of_all blocks ≡ texts) × AllHold shape blocks
     × InOrder false (parts_of_all blocks) false
     × (join (parts_of_all blocks) ≡ record { records = records; rest = None })
+
+-- Blocks into which records are packed hold these records.
+abbrev pub PackedBlocksHold : Type 0
+PackedBlocksHold = (shape : Shape) (records texts : List (List ℕ)) → Packs shape records texts → HoldRecords shape texts records

@@ -24,11 +24,11 @@ abbrev pub HasOtherLength : Shape → List (List ℕ) → Type 0
 HasOtherLength shape records =
     (r : List ℕ) × Contains records r × (HasRecordLength shape.format shape.rec_len (length r) → ⊥)
 
--- why records are not packed
+-- Why records are not packed: the shape is judged first, then each record's length where it comes, and memory anywhere behind the shape.
 abbrev pub IsRefusedFor : Shape → List (List ℕ) → PackFault → Type 0
-IsRefusedFor shape records RecordLength = HasOtherLength shape records
+IsRefusedFor shape records RecordLength = IsWritable shape × HasOtherLength shape records
 IsRefusedFor shape records ShapeRange = IsWritable shape → ⊥
-IsRefusedFor shape records OutOfMemory = Unit {0}
+IsRefusedFor shape records OutOfMemory = IsWritable shape
 
 -- why one record is not packed
 abbrev pub IsRefusedOne : Shape → List ℕ → PackFault → Type 0

@@ -56,6 +56,7 @@ impl BlockCause {
 pub struct BlockFault {
     /// The byte of the block, counted from 0, at which it is wrong.
     pub place: usize,
+    /// What is wrong there.
     pub cause: BlockCause,
 }
 
@@ -77,7 +78,7 @@ pub enum PackFault {
     /// Blocks of this shape are not written.
     #[error("blocks of this shape are not written")]
     ShapeRange,
-    /// The block could not be reserved.
+    /// Memory was refused.
     #[error("out of memory")]
     OutOfMemory,
 }

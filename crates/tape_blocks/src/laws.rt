@@ -3,7 +3,7 @@
 ghost use Rattle.std.specs.Prelude.{◌≡◌, ◌≤◌, ℕ, Bool, List, map, IfOk, IfErr};
 ghost use Rattle.tape_label.specs.declared.values.Format.TheVariants.{Fixed};
 ghost use Rattle.tape_blocks.specs.Block.{Portion, Holds};
-ghost use Rattle.tape_blocks.specs.Laws.{HoldsOneList, PassesForOne, JudgedAsHeld, JoinsOn, BegunIsRest, ReadyIsFull, HoldRecords};
+ghost use Rattle.tape_blocks.specs.Laws.{HoldsOneList, PassesForOne, JudgedAsHeld, JoinsOn, BegunIsRest, ReadyIsFull, HoldRecords, PackedBlocksHold};
 ghost use Rattle.tape_blocks.specs.Records.{contents, IsRefusedFor};
 ghost use Rattle.tape_blocks.specs.Spans.{InOrder};
 
@@ -16,25 +16,30 @@ use std::alloc::{AllocError, Global};
 use tape_label::Format;
 
 /// A block holds at most one list of parts.
-pub fn one_list_of_parts(_block: &[u8])
-    ensures { HoldsOneList _block.now }
+pub fn one_list_of_parts()
+    ensures { (block : List ℕ) → HoldsOneList block }
 {}
 
 /// A block of format S with a part passes for at most one value of `begun`.
-pub fn one_begun(_block: &[u8])
-    ensures { PassesForOne _block.now }
+pub fn one_begun()
+    ensures { (block : List ℕ) → PassesForOne block }
 {}
 
-/// What the answer of a check says of a block, and what a block says of the answer, for callers
-/// that know the answer as a function on lists.
-pub fn judged_as_held(_format: Format, _rec_len: u32, _offset: u8, _begun: bool, _block: &[u8])
-    requires { _format ≡ Fixed → 1 ≤ _rec_len }
-    ensures { JudgedAsHeld _format _rec_len _offset _begun _block.now }
+/// What the answer of a check says of a block, and what a block says of the answer, for callers that know the answer as a
+/// function on lists.
+pub fn judged_as_held()
+    ensures { (format : Format) (rec_len offset : ℕ) (begun : Bool) (block : List ℕ)
+        → (format ≡ Fixed → 1 ≤ rec_len) → JudgedAsHeld format rec_len offset begun block }
 {}
 
 /// What a list of parts followed by another joins to.
 pub fn joins_on()
     ensures { JoinsOn }
+{}
+
+/// Blocks into which records were packed hold these records.
+pub fn packed_blocks_hold()
+    ensures { PackedBlocksHold }
 {}
 
 /// Where a record is begun behind parts in span order.
@@ -68,8 +73,17 @@ pub fn spans_of(alloc: Global, shape: &Shape, block: &[u8]) -> Result<Vec<Span>,
     Ok(spans)
 }
 
-// The records that blocks hold, each block's parts joined to those before.
-fn records_of(alloc: Global, shape: &Shape, blocks: &[Vec<u8>]) -> Result<Vec<Vec<u8>>, AllocError>
+/// The records that blocks hold, each block's parts joined to those before. Blocks that were packed hold the records that
+/// they were packed from ([`packed_blocks_hold`]).
+///
+/// # Errors
+///
+/// Only where memory is refused.
+pub fn records_in_blocks(
+    alloc: Global,
+    shape: &Shape,
+    blocks: &[Vec<u8>],
+) -> Result<Vec<Vec<u8>>, AllocError>
     requires { (records : List (List ℕ)) × HoldRecords shape.now (contents blocks.now) records }
     ensures { IfOk result (λ back. (records : List (List ℕ))
         → HoldRecords shape.now (contents blocks.now) records → contents back.items ≡ records) }
@@ -102,7 +116,7 @@ pub fn packed_again(
     ensures refused { IfErr result (IsRefusedFor shape (contents records.now)) }
 {
     let blocks = pack_all(alloc, shape, records)?;
-    match records_of(alloc, &shape, blocks.as_slice()) {
+    match records_in_blocks(alloc, &shape, blocks.as_slice()) {
         Ok(back) => Ok(back),
         Err(_) => Err(PackFault::OutOfMemory),
     }

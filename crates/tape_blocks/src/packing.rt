@@ -1,7 +1,7 @@
 //! Whole lists of records packed.
 
 ghost use Rattle.std.specs.Prelude.{◌≡◌, ◌≢◌, List, [], ◌∷◌, ◌++◌, OnOk, IfOk, IfErr};
-ghost use Rattle.tape_blocks.specs.Packing.{Given, emptied};
+ghost use Rattle.tape_blocks.specs.Packing.{Given, IsWritable, emptied};
 ghost use Rattle.tape_blocks.specs.Records.{contents, AreRecordsOf, IsRefusedFor, RefusesRecord, PutsRecord};
 ghost use Rattle.tape_blocks.specs.Tight.{Packs};
 
@@ -64,6 +64,7 @@ fn put_record(
 /// `ShapeRange` where [`Packer::new`] answers it, `RecordLength` where some record has a length
 /// that the shape does not allow, and `OutOfMemory` where memory is refused.
 pub fn pack_all(alloc: Global, shape: Shape, records: &[Vec<u8>]) -> Result<Vec<Vec<u8>>, PackFault>
+    ensures writable { IfOk result (λ _. IsWritable shape) }
     ensures packed { IfOk result (λ blocks.
         Packs shape (contents records.now) (contents blocks.items)) }
     ensures lengths { IfOk result (λ _. AreRecordsOf shape (contents records.now)) }

@@ -89,7 +89,35 @@ fn refused(rt: HostRuntime) -> Result<(), Fail> {
         pack_all(alloc, counted(17, 14), &records).is_err_and(|e| e == PackFault::ShapeRange)
     );
     assert!(rt; pack_all(alloc, counted(18, 15), &records).is_ok());
+    let none = copies(alloc, &[])?;
+    assert!(rt; pack_all(alloc, counted(17, 14), &none).is_err_and(|e| e == PackFault::ShapeRange));
     Ok(())
+}
+
+/// Shapes with an offset: at most 99 bytes, and in format S six bytes behind it.
+#[test]
+fn offsets(rt: HostRuntime) {
+    let alloc = rt.alloc();
+    let mut shape = spanned(20);
+    shape.offset = 2;
+    assert!(rt; packs(alloc, shape, &[b"ABCDE"], &[b"  00010ABCDE^^^^^^"]));
+    shape.offset = 14;
+    assert!(rt;
+        packs(
+            alloc,
+            shape,
+            &[b"AB"],
+            &[b"              10006A", b"              30006B"]
+        )
+    );
+    for (offset, block_len, written) in [(15, 20, false), (99, 105, true), (100, 106, false)] {
+        let mut shape = spanned(block_len);
+        shape.offset = offset;
+        assert!(rt; Packer::new(alloc, shape).is_ok() == written, "{offset}");
+    }
+    let mut full = spanned(20);
+    full.pad_full = true;
+    assert!(rt; Packer::new(alloc, full).is_err_and(|e| e == PackFault::ShapeRange));
 }
 
 #[test]

@@ -80,12 +80,13 @@ fn spans_go_on_and_leave_a_record_begun(rt: HostRuntime) {
 #[test]
 fn laws_can_be_called(rt: HostRuntime) {
     let block = b"30006A10007BC";
-    laws::one_list_of_parts(block);
-    laws::one_begun(block);
-    laws::judged_as_held(Format::Spanned, 0, 0, true, block);
+    laws::one_list_of_parts();
+    laws::one_begun();
+    laws::judged_as_held();
     laws::joins_on();
     laws::begun_is_rest();
     laws::ready_is_full();
+    laws::packed_blocks_hold();
     let shape = spanned(18);
     if check_block(&shape, true, block).is_ok() {
         let spans = laws::spans_of(rt.alloc(), &shape, block);

@@ -2,4 +2,4 @@ use Rattle.tape_blocks.proofs.JoinLaws.{passes_for_one}
 use Rattle.tape_blocks.proofs.laws.one_begun.Goals as goal
 
 pub returns : goal.returns
-returns c = λ rec_len offset parts b d e f. passes_for_one rec_len offset c.args._block.now parts b d e f
+returns c = λ block rec_len offset parts b d e f. passes_for_one rec_len offset block parts b d e f

@@ -6,8 +6,8 @@ use Rattle.tape_blocks.specs.Records.{contents}
 use Rattle.tape_blocks.proofs.BackLaws.{packs_hold}
 use Rattle.tape_blocks.proofs.laws.packed_again.Goals as goal
 
-pub records_of-requires : goal.records_of-requires
-records_of-requires c =
+pub records_in_blocks-requires : goal.records_in_blocks-requires
+records_in_blocks-requires c =
     (contents c.args.records.now, subst (λ (vs : List (Vec _ Global)). HoldRecords c.args.shape (contents vs) (contents c.args.records.now)) (sym c.as_slice.ensures.value) (packs_hold c.args.shape (contents c.args.records.now) (contents c.in_ok-blocks.blocks.items) c.in_ok-blocks.ensures.packed))
 
 pub returns-in-Ok-clause-same : goal.returns-in-Ok-clause-same

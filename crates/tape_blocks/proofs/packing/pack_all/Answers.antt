@@ -39,7 +39,7 @@ returns-in_err-put_record-clause-refused c =
     let e = c.in_err-put_record.field-0.0 in
     let one = c.in_err-put_record.ensures.err was.taken _ was.run in
     let whole : IsRefusedOne c.args.shape c.record-item.result.items e = subst (λ (s : Shape). IsRefusedOne s c.record-item.result.items e) was.shape (subst (λ (r : List ℕ). IsRefusedOne c.loop-record.packer.shape r e) c.as_slice.ensures.value one) in
-    rw (p.1, p.2) (refused_for e c.args.shape (contents c.args.records.now) c.record-item.result.items there whole)
+    rw (p.1, p.2) (refused_for e c.args.shape (contents c.args.records.now) c.record-item.result.items c.in_ok-packer.ensures.ok.0 there whole)
 
 pub returns-clause-packed : goal.returns-clause-packed
 returns-clause-packed c =

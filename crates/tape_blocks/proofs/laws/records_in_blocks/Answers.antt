@@ -9,7 +9,7 @@ use Rattle.tape_blocks.specs.Tight.{parts_of_all}
 use Rattle.tape_blocks.proofs.BackLaws.{here_at, in_contents, joined_as, joined_ends, joined_goes_on, text_at, parts_push, contents_push}
 use Rattle.tape_blocks.proofs.TightLaws.{parts_more}
 use Rattle.tape_blocks.proofs.YieldLaws.{yielded_parts}
-use Rattle.tape_blocks.proofs.laws.records_of.Goals as goal
+use Rattle.tape_blocks.proofs.laws.records_in_blocks.Goals as goal
 
 pub new-part-items-requires : goal.new-part-items-requires
 new-part-items-requires c =
