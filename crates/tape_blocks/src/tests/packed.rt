@@ -47,6 +47,13 @@ fn of_format_s(rt: HostRuntime) {
         )
     );
     assert!(rt; packs(alloc, shape, &[b""], &[b"00005^^^^^^^^^^^^^"]));
+}
+
+/// The last free bytes of a block of format S.
+#[test]
+fn free_bytes_of_format_s(rt: HostRuntime) {
+    let alloc = rt.alloc();
+    let shape = spanned(18);
     // Just the free bytes: the record is whole, and the next one begins a block.
     assert!(rt;
         packs(
