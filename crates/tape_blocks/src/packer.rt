@@ -24,7 +24,8 @@ use tape_label::Format;
 /// format F or D is closed only where the next record does not fit, one of format S where fewer
 /// than 6 bytes are free; so all blocks are as full as records allow.
 ///
-/// The block is reserved once, by `new`: no later call takes memory.
+/// The block is reserved once, by `new`: no later call is handed an allocator, or answers that there
+/// is no memory.
 #[derive(Drop)]
 pub struct Packer {
     shape: Shape,
@@ -158,6 +159,7 @@ impl Packer {
     pub fn take_block(&mut self) -> Option<&[u8]>
         ensures found { IfSome result (λ b. Given self.old b.now) }
         ensures none { IfNone result (self.old.parts ≡ []) }
+        // When the block is given back, or where there was none, the packer is emptied.
         ensures* after { sem 𝓛 (follows_so the_row the_row self.entry.ghost_name none (λ _ _. ⊤)
             (λ n. n ≡ emptied self.old)) }
     {

@@ -15,7 +15,8 @@ pub struct Shape {
     pub format: Format,
     /// The greatest length of a block, its offset included.
     pub block_len: u32,
-    /// The length of each record in format F, and the greatest, its count included, in format D.
+    /// The length of each record in format F, and the greatest, its count included, in format D. In
+    /// format S it is 0 where blocks are written, and is not looked at where they are read.
     pub rec_len: u32,
     /// How many characters stand at the front of each block, before its first record.
     pub offset: u8,
