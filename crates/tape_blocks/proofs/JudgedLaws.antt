@@ -1,6 +1,6 @@
 -- A block is judged as its fronts tell: it passes where it holds parts in order, and else it has the fault.
 use Rattle.std.proofs.Common.{◌≡◌, ℕ, zero, suc, ◌+◌, ◌<◌, ◌≤◌, Bool, true, false, ltb, List, [], ◌∷◌, ◌++◌, length, drop, Option, Some, None, Result, Ok, Err, refl, sym, ap, subst, ◌∙◌, arith, length-append, inl, inr}
-use Rattle.std.specs.Prelude.{IfOk, IfErr}
+use Rattle.std.specs.Prelude.{if◌then◌else◌, IfOk, IfErr}
 use Rattle.std.specs.List.{AllByRecursion}
 use Rattle.std.proofs.lemmas.Bool.{le-ltb, lt-ltb, ltb-true, ltb-false}
 use Rattle.std.proofs.lemmas.List.{drop-drop, drop_at, append-nil, length-drop}
@@ -202,6 +202,25 @@ fault_by false format rec_len offset begun block f e some is =
 -- What does not pass has the fault that it is judged by.
 pub judged_fault : (format : Format) (rec_len offset : ℕ) (begun : Bool) (block : List ℕ) (f : BlockFault) → (format ≡ Fixed → 1 ≤ rec_len) → judged format rec_len offset begun block ≡ Err f → HasFault format rec_len offset begun block f
 judged_fault format rec_len offset begun block f some is = fault_by (ltb (length block) offset) format rec_len offset begun block f refl some is
+
+-- ---- what has a fault is judged by it
+
+not_in_order : (b : Bool) (at : ℕ) (f : BlockFault) → moved at (if b then None else Some (fault 0 SpanBroken)) ≡ Some f → b ≡ false
+not_in_order true at f e = absurd cc
+not_in_order false at f e = refl
+
+-- Where a test fails no unit stands in order.
+never_by : (u : Result (Option Found) BlockFault) (end : Bool) (at : ℕ) (f : BlockFault) → moved at (stop_by end u) ≡ Some f → NoUnit end u
+never_by (Err g) end at f e = tt
+never_by (Ok None) end at f e = tt
+never_by (Ok (Some found)) end at f e = not_in_order (bool_eq (continues found.span) end) at f e
+
+pub judged_by_fault : (format : Format) (rec_len offset : ℕ) (begun : Bool) (block : List ℕ) (f : BlockFault) → (format ≡ Fixed → 1 ≤ rec_len) → HasFault format rec_len offset begun block f → judged format rec_len offset begun block ≡ Err f
+judged_by_fault format rec_len offset begun block f some (inl (short, is)) = judged_short format rec_len offset begun block short ∙ ap (unless_fault begun) (ap Some (sym is))
+judged_by_fault format rec_len offset begun block f some (inr (reaches, s)) =
+    let at = offset + length (spellings format s.parts) in
+    let none = never_by (unit_at format rec_len s.rest) s.end at f (sym (tests_are format rec_len s.end at s.rest) ∙ s.first) in
+    judged_at format rec_len offset begun block s.parts s.end s.rest some record { front = s.front; none = none } ∙ ap (unless_fault s.end) s.first
 
 -- ---- the same of an answer
 

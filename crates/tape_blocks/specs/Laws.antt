@@ -1,10 +1,11 @@
 -- Laws about blocks and parts. Each is the contract of a call of the module `laws`.
-use Rattle.std.specs.Prelude.{◌≡◌, ◌≢◌, ℕ, Bool, List, [], ◌++◌, Option, None, false, is_some, Ok, IfErr, length, drop}
+use Rattle.std.specs.Prelude.{◌≡◌, ◌≢◌, ℕ, Bool, List, [], ◌++◌, Option, None, false, is_some, Ok, Err, IfErr, length, drop}
 use Rattle.tape_label.specs.declared.values.Format.{Format}
 use Rattle.tape_label.specs.declared.values.Format.TheVariants.{Spanned}
 use Rattle.tape_blocks.specs.Block.{Portion, Holds}
 use Rattle.std.specs.List.{AllByRecursion}
 use Rattle.tape_blocks.specs.declared.shape.Shape.{Shape}
+use Rattle.tape_blocks.specs.declared.fault.BlockFault.{BlockFault}
 use Rattle.tape_blocks.specs.Faults.{HasFault}
 use Rattle.tape_blocks.specs.Judged.{judged}
 use Rattle.tape_blocks.specs.declared.offer.Offer.TheVariants.{BlockReady}
@@ -26,7 +27,7 @@ PassesForOne block = (rec_len offset : ℕ) (parts : List Portion) (b c d e : Bo
     → judged Spanned rec_len offset c block ≡ Ok e → b ≡ c
 
 -- The block is judged as what it holds tells: it passes exactly where it holds parts in span order,
--- and else it has the fault.
+-- and is refused exactly by the fault that it has. So it has one fault at most, and none where it passes.
 abbrev pub JudgedAsHeld : Format → ℕ → ℕ → Bool → List ℕ → Type 0
 JudgedAsHeld format rec_len offset begun block =
     ((end : Bool) → judged format rec_len offset begun block ≡ Ok end
@@ -34,6 +35,7 @@ JudgedAsHeld format rec_len offset begun block =
     × ((end : Bool) (parts : List Portion) → Holds format rec_len offset block parts → InOrder begun parts end
     → judged format rec_len offset begun block ≡ Ok end)
     × IfErr (judged format rec_len offset begun block) (HasFault format rec_len offset begun block)
+    × ((f : BlockFault) → HasFault format rec_len offset begun block f → judged format rec_len offset begun block ≡ Err f)
 
 -- Joining a list followed by another gives the first's finished records, and then what the second
 -- joins to behind the first's rest.

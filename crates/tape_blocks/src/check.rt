@@ -1,6 +1,7 @@
 //! Blocks checked.
 
-ghost use Rattle.std.specs.Prelude.{◌≡◌, Bool, List, IfOk, IfErr, Ok};
+ghost use Rattle.std.specs.Prelude.{◌≡◌, Bool, List, IfOk, IfErr, Ok, Err};
+ghost use Rattle.tape_blocks.specs.declared.fault.BlockFault.{BlockFault};
 ghost use Rattle.tape_blocks.specs.Block.{Portion, Holds};
 ghost use Rattle.tape_blocks.specs.Faults.{HasFault, bool_eq};
 ghost use Rattle.tape_blocks.specs.Judged.{judged};
@@ -84,6 +85,10 @@ pub fn check_block(shape: &Shape, begun: bool, block: &[u8]) -> Result<bool, Blo
     // Which fault it is, and where it stands.
     ensures fault { IfErr result
         (HasFault shape.now.format shape.now.rec_len shape.now.offset begun block.now) }
+    // It is the only one that the block has.
+    ensures refuses { (fault : BlockFault)
+        → HasFault shape.now.format shape.now.rec_len shape.now.offset begun block.now fault
+        → result ≡ Err fault }
     // The answer as a function on lists.
     ensures exact { result
         ≡ judged shape.now.format shape.now.rec_len shape.now.offset begun block.now }
