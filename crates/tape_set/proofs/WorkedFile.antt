@@ -1,0 +1,297 @@
+-- The worked file: 25 records of 80 bytes in blocks of 800, on one volume and on two, and a file without records.
+use Rattle.std.proofs.Common.{◌≡◌, ◌≤◌, ℕ, zero, suc, ◌+◌, List, [], ◌∷◌, ◌++◌, length, Bool, true, false, refl, arith, codes, lit≤, lit<, length-append}
+use Rattle.std.specs.Prelude.{map, replicate}
+use Rattle.std.proofs.lemmas.List.{length-replicate}
+use Rattle.std.specs.List.{AllByRecursion}
+use Rattle.tape_image.specs.Tape.{IsTapeItem, block, mark}
+use Rattle.tape_label.specs.declared.values.Format.TheVariants.{Fixed}
+use Rattle.tape_label.specs.declared.values.Kind.TheVariants as kinds
+use Rattle.tape_label.specs.Digits.{digits}
+use Rattle.tape_label.specs.Head2.{Head2Fits}
+use Rattle.tape_label.proofs.DigitLaws.{length-digits}
+use Rattle.tape_blocks.specs.declared.shape.Shape.{Shape}
+use Rattle.tape_blocks.specs.declared.part.Span.TheVariants.{Whole}
+use Rattle.tape_blocks.specs.Block.{Portion, Holds, IsUnit}
+use Rattle.tape_blocks.specs.Spans.{InOrder}
+use Rattle.tape_blocks.specs.Packing.{HasRecordLength, IsWritable}
+use Rattle.tape_blocks.specs.Tight as packing
+use Rattle.tape_blocks.specs.Tight.{Filled}
+use Rattle.tape_blocks.proofs.PackLaws.{written_holds}
+use Rattle.tape_set.specs.declared.position.Position.TheVariants.{Finished}
+use Rattle.tape_set.specs.Position.{awaiting}
+use Rattle.tape_set.specs.Layout.{FileSet, items, all_items, item_of, data_group}
+use Rattle.tape_set.specs.Sizes.{items_size}
+use Rattle.tape_set.specs.Before.{before}
+use Rattle.tape_set.specs.Lawful.{IsLawful}
+use Rattle.tape_set.specs.Reading.{Reading}
+use Rattle.tape_set.specs.Reach.{far}
+use Rattle.tape_set.specs.Tight.{IsTight, IsTightFile, second_of}
+use Rattle.tape_set.proofs.Worked.{set_id, vol1, hdr1, second, trailer, made, filled, form, Fit, made_section, made_form, made_plain, plain_volume, plain_volume_is}
+
+-- ---- records and blocks
+
+abbrev pub shape : Shape
+shape = record { format = Fixed; block_len = 800; rec_len = 80; offset = 0; pad_full = false; some_record = λ _. lit≤ tt }
+
+pub shape_fits : Head2Fits (second_of shape)
+shape_fits = record { block_len = lit≤ tt; rec_len = (lit≤ tt, lit≤ tt); offset = lit≤ tt }
+
+pub writable : IsWritable shape
+writable = record { least = lit≤ tt; most = lit≤ tt; front = lit≤ tt; units = (lit≤ tt, lit≤ tt, refl) }
+
+-- the record with this number: the number in four digits, and 76 spaces
+abbrev pub record_of : ℕ → List ℕ
+record_of i = digits 4 i ++ replicate 76 32
+
+-- so many records from this number on
+abbrev pub records : ℕ → ℕ → List (List ℕ)
+records i zero = []
+records i (suc n) = record_of i ∷ records (i + 1) n
+
+abbrev pub whole : List ℕ → Portion
+whole bytes = record { span = Whole; bytes = bytes }
+
+abbrev pub wholes : ℕ → ℕ → List Portion
+wholes i n = map whole (records i n)
+
+pub size_of_record : (i : ℕ) → length (record_of i) ≡ 80
+size_of_record i = omega (arith, length-append (digits 4 i) (replicate 76 32), length-digits 4 i, length-replicate {A = ℕ} 76 32)
+
+pub units : (i n : ℕ) → AllByRecursion (IsUnit Fixed 80) (wholes i n)
+units i zero = tt
+units i (suc n) = ((refl, size_of_record i), units (i + 1) n)
+
+pub lengths : (i n : ℕ) → AllByRecursion (λ r. HasRecordLength Fixed 80 (length r)) (records i n)
+lengths i zero = tt
+lengths i (suc n) = (size_of_record i, lengths (i + 1) n)
+
+pub in_order : (i n : ℕ) → InOrder false (wholes i n) false
+in_order i zero = refl
+in_order i (suc n) = (refl, in_order (i + 1) n)
+
+abbrev pub blocks : List Filled
+blocks = filled shape (wholes 1 10) ∷ filled shape (wholes 11 10) ∷ filled shape (wholes 21 5) ∷ []
+
+pub held : AllByRecursion (λ b. Holds Fixed 80 0 b.bytes b.parts) blocks
+held = (written_holds shape (wholes 1 10) (units 1 10), (written_holds shape (wholes 11 10) (units 11 10), (written_holds shape (wholes 21 5) (units 21 5), tt)))
+
+pub sized : AllByRecursion IsTapeItem (map item_of (data_group blocks))
+sized = ((lit< tt, lit≤ tt), ((lit< tt, lit≤ tt), ((lit< tt, lit≤ tt), tt)))
+
+pub fit_of : (sect n : ℕ) → 1 ≤ sect → sect ≤ 9999 → n ≤ 999999 → Fit 1 sect n
+fit_of sect n a b c = record { file_least = lit≤ tt; file_most = lit≤ tt; sect_least = a; sect_most = b; count_most = c }
+
+-- ---- on one volume
+
+abbrev pub one_volume : FileSet
+one_volume = record { set_id = set_id; volumes = plain_volume ∷ []; files = (made shape 1 1 1 true blocks ∷ []) ∷ [] }
+
+pub one_volume_lawful : IsLawful one_volume
+one_volume_lawful = record {
+  volumes = (plain_volume_is, tt);
+  each = (made_section shape 1 1 1 1 true blocks shape_fits (fit_of 1 3 (lit≤ tt) (lit≤ tt) (lit≤ tt)) (lit≤ tt) (lit≤ tt) sized, tt);
+  files = (record { ends = refl; alike = (form shape, (made_form shape 1 1 1 true blocks shape_fits (fit_of 1 3 (lit≤ tt) (lit≤ tt) (lit≤ tt)) held, tt)); order = in_order 1 25 }, tt);
+  first = refl;
+  goes_on = tt;
+}
+
+-- its labels, as they are written out in the standard's tables
+vol1_text : vol1 ≡ codes "VOL1ABC001                                                                     4"
+vol1_text = refl
+
+hdr1_text : hdr1 1 1 ≡ codes "HDR1PAYROLL          ABC00100010001000100 00000 00000 000000                    "
+hdr1_text = refl
+
+hdr2_text : second kinds.Hdr2 shape ≡ codes "HDR2F0080000080                                   00                            "
+hdr2_text = refl
+
+eof1_text : trailer true 1 1 3 ≡ codes "EOF1PAYROLL          ABC00100010001000100 00000 00000 000003                    "
+eof1_text = refl
+
+-- its twelve items
+abbrev pub data_bytes : ℕ → ℕ → List ℕ
+data_bytes i zero = []
+data_bytes i (suc n) = record_of i ++ data_bytes (i + 1) n
+
+one_volume_items : items one_volume 1 ≡
+    block vol1 ∷ block (hdr1 1 1) ∷ block (second kinds.Hdr2 shape) ∷ mark
+    ∷ block (data_bytes 1 10) ∷ block (data_bytes 11 10) ∷ block (data_bytes 21 5)
+    ∷ mark ∷ block (trailer true 1 1 3) ∷ block (second kinds.Eof2 shape) ∷ mark ∷ mark ∷ []
+one_volume_items = refl
+
+-- they take 2,480 bytes of an image, and the end word 4 more
+one_volume_size : items_size (items one_volume 1) ≡ 2480
+one_volume_size = refl
+
+-- nothing stands on other volumes
+none_before : items one_volume 0 ≡ []
+none_before = refl
+
+none_behind : items one_volume 2 ≡ []
+none_behind = refl
+
+-- its first 20 records stand before block 2
+twenty_before : before one_volume 1 (awaiting 1 2) ≡ wholes 1 20
+twenty_before = refl
+
+all_before : before one_volume 1 Finished ≡ wholes 1 25
+all_before = refl
+
+none_of_file_0 : before one_volume 0 Finished ≡ []
+none_of_file_0 = refl
+
+pub packed : packing.IsTight shape (records 1 25) blocks
+packed = record {
+  joins = refl;
+  order = in_order 1 25;
+  each = (
+    record { some = λ e. cc; text = refl; holds = held.0; within = lit≤ tt; segments = λ e. absurd (cc) },
+    (
+      record { some = λ e. cc; text = refl; holds = held.1.0; within = lit≤ tt; segments = λ e. absurd (cc) },
+      (record { some = λ e. cc; text = refl; holds = held.1.1.0; within = lit≤ tt; segments = λ e. absurd (cc) }, tt),
+    ),
+  );
+  closed = (lit< tt, (lit< tt, tt));
+}
+
+pub one_volume_tight_file : IsTightFile 100000 shape (made shape 1 1 1 true blocks ∷ [])
+one_volume_tight_file = record { writable = writable; room = lit≤ tt; labels = (made_plain shape 1 1 1 true blocks shape_fits, tt); records = records 1 25; lengths = lengths 1 25; packed = packed }
+
+pub one_volume_tight : IsTight one_volume 100000 (shape ∷ [])
+one_volume_tight = record {
+  plain = (refl, tt);
+  last = refl;
+  files = (one_volume_tight_file, tt);
+  ends = (record { volume_end = lit≤ tt; file_end = λ e. refl }, tt);
+  changes = tt;
+}
+
+-- ---- on two volumes of 2,500 bytes: the file end does not fit behind the third block, and the second section is empty
+
+abbrev pub two_volumes : FileSet
+two_volumes = record { set_id = set_id; volumes = plain_volume ∷ plain_volume ∷ []; files = (made shape 1 1 1 false blocks ∷ made shape 2 1 2 true [] ∷ []) ∷ [] }
+
+pub two_volumes_lawful : IsLawful two_volumes
+two_volumes_lawful = record {
+  volumes = (plain_volume_is, (plain_volume_is, tt));
+  each = (
+    made_section shape 2 1 1 1 false blocks shape_fits (fit_of 1 3 (lit≤ tt) (lit≤ tt) (lit≤ tt)) (lit≤ tt) (lit≤ tt) sized,
+    (made_section shape 2 2 1 2 true [] shape_fits (fit_of 2 0 (lit≤ tt) (lit≤ tt) (lit≤ tt)) (lit≤ tt) (lit≤ tt) tt, tt),
+  );
+  files = (
+    record {
+      ends = (refl, refl);
+      alike = (
+        form shape,
+        (
+          made_form shape 1 1 1 false blocks shape_fits (fit_of 1 3 (lit≤ tt) (lit≤ tt) (lit≤ tt)) held,
+          (made_form shape 2 1 2 true [] shape_fits (fit_of 2 0 (lit≤ tt) (lit≤ tt) (lit≤ tt)) tt, tt),
+        ),
+      );
+      order = in_order 1 25;
+    },
+    tt,
+  );
+  first = refl;
+  goes_on = (refl, tt);
+}
+
+pub two_volumes_tight : IsTight two_volumes 2500 (shape ∷ [])
+two_volumes_tight = record {
+  plain = (refl, (refl, tt));
+  last = refl;
+  files = (
+    record {
+      writable = writable;
+      room = lit≤ tt;
+      labels = (made_plain shape 1 1 1 false blocks shape_fits, (made_plain shape 2 1 2 true [] shape_fits, tt));
+      records = records 1 25;
+      lengths = lengths 1 25;
+      packed = packed;
+    },
+    tt,
+  );
+  ends = (record { volume_end = lit≤ tt; file_end = λ e. absurd (cc) }, (record { volume_end = lit≤ tt; file_end = λ e. refl }, tt));
+  changes = (refl, tt);
+}
+
+-- with their end words the volumes have 2,484 and 460 bytes
+two_volumes_sizes : map items_size (all_items two_volumes) ≡ 2480 ∷ 456 ∷ []
+two_volumes_sizes = refl
+
+-- ---- a file without records: nine items
+
+abbrev pub no_records : FileSet
+no_records = record { set_id = set_id; volumes = plain_volume ∷ []; files = (made shape 1 1 1 true [] ∷ []) ∷ [] }
+
+no_records_items : items no_records 1 ≡
+    block vol1 ∷ block (hdr1 1 1) ∷ block (second kinds.Hdr2 shape) ∷ mark ∷ mark ∷ block (trailer true 1 1 0) ∷ block (second kinds.Eof2 shape) ∷ mark ∷ mark ∷ []
+no_records_items = refl
+
+-- ---- readings
+
+abbrev pub reading : ℕ → List Bool → Reading
+reading k good = record { volume = k; good = good }
+
+-- cut behind the last block: the section's end is awaited, and nothing more of the file
+cut_behind_blocks : far one_volume 1 (awaiting 1 0) (reading 1 (replicate 7 true)) ≡ awaiting 1 3
+cut_behind_blocks = refl
+
+-- cut behind the closing mark, and behind the trailer label
+cut_behind_mark : far one_volume 1 (awaiting 1 0) (reading 1 (replicate 8 true)) ≡ awaiting 1 3
+cut_behind_mark = refl
+
+cut_behind_trailer : far one_volume 1 (awaiting 1 0) (reading 1 (replicate 9 true)) ≡ Finished
+cut_behind_trailer = refl
+
+-- cut behind the headers
+cut_behind_headers : far one_volume 1 (awaiting 1 0) (reading 1 (replicate 4 true)) ≡ awaiting 1 0
+cut_behind_headers = refl
+
+-- the headers' mark was not read well: nothing behind it counts
+bad_header_mark : far one_volume 1 (awaiting 1 0) (reading 1 (replicate 3 true ++ false ∷ replicate 8 true)) ≡ awaiting 1 0
+bad_header_mark = refl
+
+-- the section's end is known only where the trailer label was read well
+bad_trailer : far one_volume 1 (awaiting 1 0) (reading 1 (replicate 8 true ++ false ∷ replicate 3 true)) ≡ awaiting 1 3
+bad_trailer = refl
+
+-- on two volumes: the second one alone gives nothing, then the first one its section, and then the second one the file
+later_section_first : far two_volumes 1 (awaiting 1 0) (reading 2 (replicate 9 true)) ≡ awaiting 1 0
+later_section_first = refl
+
+first_section : far two_volumes 1 (awaiting 1 0) (reading 1 (replicate 12 true)) ≡ awaiting 2 0
+first_section = refl
+
+first_section_again : far two_volumes 1 (awaiting 2 0) (reading 1 (replicate 12 true)) ≡ awaiting 2 0
+first_section_again = refl
+
+last_section : far two_volumes 1 (awaiting 2 0) (reading 2 (replicate 9 true)) ≡ Finished
+last_section = refl
+
+-- in blocks of 400, five of them
+abbrev pub shorter : Shape
+shorter = record { format = Fixed; block_len = 400; rec_len = 80; offset = 0; pad_full = false; some_record = λ _. lit≤ tt }
+
+abbrev pub five_blocks : FileSet
+five_blocks = record {
+  set_id = set_id;
+  volumes = plain_volume ∷ [];
+  files = (made shorter 1 1 1 true (filled shorter (wholes 1 5) ∷ filled shorter (wholes 6 5) ∷ filled shorter (wholes 11 5) ∷ filled shorter (wholes 16 5) ∷ filled shorter (wholes 21 5) ∷ []) ∷ []) ∷ [];
+}
+
+-- block 3 was not read well, and is awaited
+block_3_bad : far five_blocks 1 (awaiting 1 0) (reading 1 (replicate 7 true ++ false ∷ replicate 6 true)) ≡ awaiting 1 3
+block_3_bad = refl
+
+-- from there block 1 may be bad: it was delivered before
+block_1_bad : far five_blocks 1 (awaiting 1 3) (reading 1 (replicate 5 true ++ false ∷ replicate 8 true)) ≡ Finished
+block_1_bad = refl
+
+-- ---- no section and no block that is not there
+
+no_section_0 : far one_volume 1 (awaiting 0 0) (reading 1 (replicate 12 true)) ≡ awaiting 0 0
+no_section_0 = refl
+
+no_block_4 : far one_volume 1 (awaiting 1 4) (reading 1 (replicate 12 true)) ≡ awaiting 1 4
+no_block_4 = refl

@@ -1,0 +1,177 @@
+-- A spanned record of 290 bytes on two volumes of 1,042 bytes: 22 blocks of 18 bytes and EOV1, one block and EOF1.
+use Rattle.std.proofs.Common.{◌≡◌, ◌≤◌, ℕ, zero, suc, List, [], ◌∷◌, ◌++◌, true, false, refl, codes, lit≤, lit<}
+use Rattle.std.specs.Prelude.{map, replicate}
+use Rattle.std.specs.List.{AllByRecursion}
+use Rattle.tape_image.specs.Tape.{IsTapeItem}
+use Rattle.tape_label.specs.declared.values.Format.TheVariants.{Spanned}
+use Rattle.tape_label.specs.Head2.{Head2Fits}
+use Rattle.tape_blocks.specs.declared.shape.Shape.{Shape}
+use Rattle.tape_blocks.specs.declared.part.Span.TheVariants.{First, Middle, Last}
+use Rattle.tape_blocks.specs.Block.{Portion, Holds}
+use Rattle.tape_blocks.specs.Spans.{InOrder}
+use Rattle.tape_blocks.specs.Packing.{written, IsWritable}
+use Rattle.tape_blocks.specs.Tight.{Filled, Chain, IsWritten, IsDue}
+use Rattle.tape_blocks.proofs.PackLaws.{written_holds}
+use Rattle.tape_set.specs.Layout.{FileSet, all_items, item_of, data_group}
+use Rattle.tape_set.specs.Sizes.{items_size}
+use Rattle.tape_set.specs.Lawful.{IsLawful}
+use Rattle.tape_set.specs.Tight.{IsTight, second_of}
+use Rattle.tape_set.proofs.Worked.{set_id, made, filled, form, Fit, made_section, made_form, made_plain, plain_volume, plain_volume_is}
+
+abbrev pub shape : Shape
+shape = record { format = Spanned; block_len = 18; rec_len = 0; offset = 0; pad_full = false; some_record = λ e. absurd (cc) }
+
+pub shape_fits : Head2Fits (second_of shape)
+shape_fits = record { block_len = lit≤ tt; rec_len = (lit≤ tt, lit≤ tt); offset = lit≤ tt }
+
+pub writable : IsWritable shape
+writable = record { least = lit≤ tt; most = lit≤ tt; front = lit≤ tt; units = (refl, lit≤ tt, lit≤ tt, refl) }
+
+-- ---- segments and blocks
+
+abbrev pub the_record : List ℕ
+the_record = replicate 290 65
+
+abbrev pub first : Portion
+first = record { span = First; bytes = replicate 13 65 }
+
+abbrev pub middle : Portion
+middle = record { span = Middle; bytes = replicate 13 65 }
+
+abbrev pub last : Portion
+last = record { span = Last; bytes = replicate 4 65 }
+
+first_text : written shape (first ∷ []) ≡ codes "10018AAAAAAAAAAAAA"
+first_text = refl
+
+middle_text : written shape (middle ∷ []) ≡ codes "20018AAAAAAAAAAAAA"
+middle_text = refl
+
+last_text : written shape (last ∷ []) ≡ codes "30009AAAA^^^^^^^^^"
+last_text = refl
+
+abbrev pub first_block : Filled
+first_block = filled shape (first ∷ [])
+
+abbrev pub middle_block : Filled
+middle_block = filled shape (middle ∷ [])
+
+abbrev pub last_block : Filled
+last_block = filled shape (last ∷ [])
+
+pub first_written : IsWritten shape first_block
+first_written = record {
+  some = λ e. cc;
+  text = refl;
+  holds = written_holds shape (first ∷ []) (lit< tt, tt);
+  within = lit≤ tt;
+  segments = λ e. (record { room = lit≤ tt; fills = λ e. refl; empty = λ e. absurd (cc) }, tt);
+}
+
+pub middle_written : IsWritten shape middle_block
+middle_written = record {
+  some = λ e. cc;
+  text = refl;
+  holds = written_holds shape (middle ∷ []) (lit< tt, tt);
+  within = lit≤ tt;
+  segments = λ e. (record { room = lit≤ tt; fills = λ e. refl; empty = λ e. absurd (cc) }, tt);
+}
+
+pub last_written : IsWritten shape last_block
+last_written = record {
+  some = λ e. cc;
+  text = refl;
+  holds = written_holds shape (last ∷ []) (lit< tt, tt);
+  within = lit≤ tt;
+  segments = λ e. (record { room = lit≤ tt; fills = λ e. absurd (cc); empty = λ e. absurd (cc) }, tt);
+}
+
+-- ---- many middle ones
+
+pub every_middle : (P : Filled → Type 0) (n : ℕ) → P middle_block → AllByRecursion P (replicate n middle_block)
+every_middle P zero h = tt
+every_middle P (suc n) h = (h, every_middle P n h)
+
+pub middles_before : (P : Filled → Type 0) (n : ℕ) → P middle_block → P last_block → AllByRecursion P (replicate n middle_block ++ last_block ∷ [])
+middles_before P zero h g = (g, tt)
+middles_before P (suc n) h g = (h, middles_before P n h g)
+
+pub middles_sized : (n : ℕ) → AllByRecursion IsTapeItem (map item_of (data_group (replicate n middle_block)))
+middles_sized zero = tt
+middles_sized (suc n) = ((lit< tt, lit≤ tt), middles_sized n)
+
+pub middles_in_order : (n : ℕ) → InOrder true (replicate n middle ++ last ∷ []) false
+middles_in_order zero = (refl, refl)
+middles_in_order (suc n) = (refl, middles_in_order n)
+
+pub middles_closed : (n : ℕ) → Chain (IsDue shape) (middle_block ∷ replicate n middle_block ++ last_block ∷ [])
+middles_closed zero = (lit< tt, tt)
+middles_closed (suc n) = (lit< tt, middles_closed n)
+
+-- ---- the set
+
+abbrev pub on_first : List Filled
+on_first = first_block ∷ replicate 21 middle_block
+
+abbrev pub spanned : FileSet
+spanned = record {
+  set_id = set_id;
+  volumes = plain_volume ∷ plain_volume ∷ [];
+  files = (made shape 1 1 1 false on_first ∷ made shape 2 1 2 true (last_block ∷ []) ∷ []) ∷ [];
+}
+
+fit_of : (sect n : ℕ) → 1 ≤ sect → sect ≤ 9999 → n ≤ 999999 → Fit 1 sect n
+fit_of sect n a b c = record { file_least = lit≤ tt; file_most = lit≤ tt; sect_least = a; sect_most = b; count_most = c }
+
+spanned_lawful : IsLawful spanned
+spanned_lawful = record {
+  volumes = (plain_volume_is, (plain_volume_is, tt));
+  each = (
+    made_section shape 2 1 1 1 false on_first shape_fits (fit_of 1 22 (lit≤ tt) (lit≤ tt) (lit≤ tt)) (lit≤ tt) (lit≤ tt) ((lit< tt, lit≤ tt), middles_sized 21),
+    (made_section shape 2 2 1 2 true (last_block ∷ []) shape_fits (fit_of 2 1 (lit≤ tt) (lit≤ tt) (lit≤ tt)) (lit≤ tt) (lit≤ tt) ((lit< tt, lit≤ tt), tt), tt),
+  );
+  files = (
+    record {
+      ends = (refl, refl);
+      alike = (
+        form shape,
+        (
+          made_form shape 1 1 1 false on_first shape_fits (fit_of 1 22 (lit≤ tt) (lit≤ tt) (lit≤ tt)) (first_written.holds, every_middle (λ b. Holds Spanned 0 0 b.bytes b.parts) 21 middle_written.holds),
+          (made_form shape 2 1 2 true (last_block ∷ []) shape_fits (fit_of 2 1 (lit≤ tt) (lit≤ tt) (lit≤ tt)) (last_written.holds, tt), tt),
+        ),
+      );
+      order = (refl, middles_in_order 21);
+    },
+    tt,
+  );
+  first = refl;
+  goes_on = (refl, tt);
+}
+
+spanned_tight : IsTight spanned 1042 (shape ∷ [])
+spanned_tight = record {
+  plain = (refl, (refl, tt));
+  last = refl;
+  files = (
+    record {
+      writable = writable;
+      room = lit≤ tt;
+      labels = (made_plain shape 1 1 1 false on_first shape_fits, (made_plain shape 2 1 2 true (last_block ∷ []) shape_fits, tt));
+      records = the_record ∷ [];
+      lengths = (lit≤ tt, tt);
+      packed = record {
+        joins = refl;
+        order = (refl, middles_in_order 21);
+        each = (first_written, middles_before (IsWritten shape) 21 middle_written last_written);
+        closed = (lit< tt, middles_closed 20);
+      };
+    },
+    tt,
+  );
+  ends = (record { volume_end = lit≤ tt; file_end = λ e. absurd (cc) }, (record { volume_end = lit≤ tt; file_end = λ e. refl }, tt));
+  changes = (refl, tt);
+}
+
+-- with their end words the volumes have 1,032 and 486 bytes
+spanned_sizes : map items_size (all_items spanned) ≡ 1028 ∷ 482 ∷ []
+spanned_sizes = refl
