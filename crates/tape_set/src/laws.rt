@@ -7,7 +7,7 @@ ghost use Rattle.tape_set.specs.Position.{IsBefore, IsUpTo};
 ghost use Rattle.tape_set.specs.Layout.{FileSet, Section};
 ghost use Rattle.tape_set.specs.Lawful.{IsLawful};
 ghost use Rattle.tape_set.specs.Reach.{first_unread};
-ghost use Rattle.tape_set.specs.Laws.{SectionsAreNumbered, OneSectionAVolume, HaveFourDigits, HoldWholeRecords, TellsOneForm, AllItemsAreThose, DataStandsThere, SizesAreThose, BeforeGrows, FarNeverFalls, FarStaysIn, FarOverMore, IsFirstUnread};
+ghost use Rattle.tape_set.specs.Laws.{SectionsAreNumbered, OneSectionAVolume, HaveFourDigits, HoldWholeRecords, TellsOneForm, SectionsTellAlike, AllItemsAreThose, DataStandsThere, SizesAreThose, BeforeGrows, FarNeverFalls, FarStaysIn, FarOverMore, IsFirstUnread};
 
 /// Positions are in a total order, and the end of a file is the greatest.
 pub fn positions_are_ordered()
@@ -40,6 +40,11 @@ pub fn files_hold_whole_records()
 /// The labels of a section tell one file identifier, format, record length and offset.
 pub fn one_form_a_section()
     ensures { (s : Section) → TellsOneForm s }
+{}
+
+/// What the labels of one section of a file of a lawful set tell, those of its other sections tell.
+pub fn sections_tell_alike()
+    ensures { (set : FileSet) → IsLawful set → SectionsTellAlike set }
 {}
 
 /// A data block holds at most one list of parts, in whatever format, record length and offset its file's labels tell.
