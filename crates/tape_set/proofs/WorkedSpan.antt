@@ -3,7 +3,7 @@ use Rattle.std.proofs.Common.{◌≡◌, ◌≤◌, ℕ, zero, suc, List, [], �
 use Rattle.std.specs.Prelude.{map, replicate}
 use Rattle.std.specs.List.{AllByRecursion}
 use Rattle.tape_image.specs.Tape.{IsTapeItem}
-use Rattle.tape_label.specs.declared.values.Format.TheVariants.{Spanned}
+use Rattle.tape_label.specs.declared.values.Format.TheVariants.{Fixed, Spanned}
 use Rattle.tape_label.specs.Head2.{Head2Fits}
 use Rattle.tape_blocks.specs.declared.shape.Shape.{Shape}
 use Rattle.tape_blocks.specs.declared.part.Span.TheVariants.{First, Middle, Last}
@@ -18,8 +18,12 @@ use Rattle.tape_set.specs.Lawful.{IsLawful}
 use Rattle.tape_set.specs.Tight.{IsTight, second_of}
 use Rattle.tape_set.proofs.Worked.{set_id, made, filled, form, Fit, made_section, made_form, made_plain, plain_volume, plain_volume_is}
 
+-- a format that is not F has no least record length
+pub not_fixed : Spanned ≡ Fixed → 1 ≤ 0
+not_fixed e = absurd (cc)
+
 abbrev pub shape : Shape
-shape = record { format = Spanned; block_len = 18; rec_len = 0; offset = 0; pad_full = false; some_record = λ e. absurd (cc) }
+shape = record { format = Spanned; block_len = 18; rec_len = 0; offset = 0; pad_full = false; some_record = not_fixed }
 
 pub shape_fits : Head2Fits (second_of shape)
 shape_fits = record { block_len = lit≤ tt; rec_len = (lit≤ tt, lit≤ tt); offset = lit≤ tt }
