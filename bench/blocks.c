@@ -1,0 +1,492 @@
+/* blocks [RUNS]: times plain C loops over records in blocks, all in memory: packing records into
+   blocks of 8,192 bytes, and walking the parts of these blocks with every check that a reader makes.
+   docs/FORMATS.md, 'Records in blocks', has the rules; bench/README.md has the workload.
+   Before it times anything it tries itself on small blocks written out by hand. */
+#include <stdint.h>
+#include <stdio.h>
+#include <stdlib.h>
+#include <string.h>
+#include <time.h>
+
+#define BLOCK_LENGTH 8192u
+#define CONTENT_BYTES (64u << 20)
+#define PASSES 16
+#define CIRCUMFLEX '^'
+#define LEAST_PADDED 18u
+
+struct shape {
+    char format; /* F, D, S */
+    uint32_t block_length, record_length, offset;
+    int pad_full;
+};
+
+enum span { WHOLE, FIRST, MIDDLE, LAST };
+enum cause { NO_FAULT, SHORT_OFFSET, NOT_MULTIPLE, BAD_COUNT, PAST_END, BAD_INDICATOR, SPAN_BROKEN, BAD_PADDING };
+
+/* ---- reading: one part after another, checked as it comes ---- */
+
+struct walk {
+    const unsigned char *block;
+    size_t length, place;
+    int begun; /* a record goes on */
+    enum cause cause;
+    size_t fault_place;
+    enum span span; /* of the part given last, as its bytes and their number */
+    const unsigned char *bytes;
+    size_t count;
+};
+
+static inline int fault(struct walk *walk, enum cause cause, size_t place)
+{
+    walk->cause = cause;
+    walk->fault_place = place;
+    return 0;
+}
+
+static inline void begin_walk(struct walk *walk, const struct shape *shape, int begun, const unsigned char *block, size_t length)
+{
+    memset(walk, 0, sizeof *walk);
+    walk->block = block;
+    walk->length = length;
+    walk->begun = begun;
+    walk->place = shape->offset;
+    if (length < shape->offset) {
+        walk->place = length;
+        fault(walk, SHORT_OFFSET, 0);
+    }
+}
+
+static inline size_t first_other(const struct walk *walk)
+{
+    size_t at = walk->place;
+    while (at < walk->length && walk->block[at] == CIRCUMFLEX)
+        at++;
+    return at;
+}
+
+static inline int padding(struct walk *walk)
+{
+    size_t at = first_other(walk);
+    if (at < walk->length)
+        return fault(walk, BAD_PADDING, at);
+    walk->place = walk->length;
+    return 0;
+}
+
+static inline int rest_of_fixed(struct walk *walk)
+{
+    if (first_other(walk) < walk->length)
+        return fault(walk, NOT_MULTIPLE, walk->place);
+    walk->place = walk->length;
+    return 0;
+}
+
+static inline int part(struct walk *walk, enum span span, size_t head, size_t unit)
+{
+    if ((span == MIDDLE || span == LAST) != walk->begun)
+        return fault(walk, SPAN_BROKEN, walk->place);
+    walk->span = span;
+    walk->begun = span == FIRST || span == MIDDLE;
+    walk->bytes = walk->block + walk->place + head;
+    walk->count = unit - head;
+    walk->place += unit;
+    return 1;
+}
+
+/* the unit's length from its four digits, which end its head; 0 where they are none or too few */
+static inline size_t unit_length(const struct walk *walk, size_t head)
+{
+    size_t value = 0;
+    if (walk->length - walk->place < head)
+        return 0;
+    for (size_t at = walk->place + head - 4; at < walk->place + head; at++) {
+        unsigned digit = walk->block[at] - (unsigned)'0';
+        if (digit > 9)
+            return 0;
+        value = value * 10 + digit;
+    }
+    return value < head ? 0 : value;
+}
+
+static inline int counted(struct walk *walk, enum span span, size_t head)
+{
+    size_t unit = unit_length(walk, head);
+    if (unit == 0)
+        return fault(walk, BAD_COUNT, walk->place);
+    if (unit > walk->length - walk->place)
+        return fault(walk, PAST_END, walk->place);
+    return part(walk, span, head, unit);
+}
+
+/* 1 where it gave a part; 0 at the block's end or at a fault */
+static inline int next_part(struct walk *walk, const struct shape *shape)
+{
+    if (walk->cause != NO_FAULT || walk->place == walk->length)
+        return 0;
+    if (shape->format == 'F')
+        return walk->length - walk->place < shape->record_length ? rest_of_fixed(walk)
+                                                                 : part(walk, WHOLE, 0, shape->record_length);
+    unsigned char front = walk->block[walk->place];
+    if (front == CIRCUMFLEX)
+        return padding(walk);
+    if (shape->format == 'D')
+        return counted(walk, WHOLE, 4);
+    if (front < '0' || front > '3')
+        return fault(walk, BAD_INDICATOR, walk->place);
+    return counted(walk, (enum span)(front - '0'), 5);
+}
+
+/* ---- writing ---- */
+
+struct packer {
+    struct shape shape;
+    unsigned char block[99999];
+    size_t used;
+    int begun; /* a record goes on in the next block */
+};
+
+static void begin_packer(struct packer *packer, struct shape shape)
+{
+    packer->shape = shape;
+    packer->used = shape.offset;
+    packer->begun = 0;
+    memset(packer->block, ' ', shape.offset);
+}
+
+/* pads the block under way and gives its length; 0 where it holds no part */
+static inline size_t take_block(struct packer *packer)
+{
+    const struct shape *shape = &packer->shape;
+    size_t used = packer->used, length = used;
+    if (used == shape->offset)
+        return 0;
+    if (shape->format != 'F' && length < LEAST_PADDED)
+        length = LEAST_PADDED;
+    if (shape->pad_full)
+        length = shape->block_length;
+    memset(packer->block + used, CIRCUMFLEX, length - used);
+    packer->used = shape->offset;
+    return length;
+}
+
+static inline void put_count(unsigned char *at, size_t value)
+{
+    at[0] = '0' + value / 1000;
+    at[1] = '0' + value / 100 % 10;
+    at[2] = '0' + value / 10 % 10;
+    at[3] = '0' + value % 10;
+}
+
+/* takes bytes of a record's rest; BLOCK_FULL where the block is to be taken and the rest offered again */
+#define BLOCK_FULL ((size_t)1 << 63)
+static inline size_t offer(struct packer *packer, const unsigned char *rest, size_t count)
+{
+    const struct shape *shape = &packer->shape;
+    unsigned char *at = packer->block + packer->used;
+    size_t free = shape->block_length - packer->used, head = shape->format == 'D' ? 4 : 0;
+    if (shape->format != 'S') {
+        if (free < head + count)
+            return BLOCK_FULL;
+        if (head)
+            put_count(at, head + count);
+        memcpy(at + head, rest, count);
+        packer->used += head + count;
+        return count;
+    }
+    if (free < 6)
+        return BLOCK_FULL;
+    size_t taken = count <= free - 5 ? count : free - 5;
+    int goes_on = taken < count;
+    at[0] = '0' + (packer->begun ? (goes_on ? MIDDLE : LAST) : (goes_on ? FIRST : WHOLE));
+    put_count(at + 1, 5 + taken);
+    memcpy(at + 5, rest, taken);
+    packer->used += 5 + taken;
+    packer->begun = goes_on;
+    return goes_on ? BLOCK_FULL | taken : taken;
+}
+
+/* ---- the packed blocks, one behind another ---- */
+
+struct blocks {
+    unsigned char *bytes;
+    size_t used, count;
+    uint32_t *lengths;
+};
+
+static inline void keep_block(struct blocks *blocks, const unsigned char *block, size_t length)
+{
+    memcpy(blocks->bytes + blocks->used, block, length);
+    blocks->used += length;
+    blocks->lengths[blocks->count++] = (uint32_t)length;
+}
+
+static inline void put_record(struct packer *packer, struct blocks *blocks, const unsigned char *record, size_t count)
+{
+    for (;;) {
+        size_t answer = offer(packer, record, count);
+        if (!(answer & BLOCK_FULL))
+            return;
+        record += answer & ~BLOCK_FULL;
+        count -= answer & ~BLOCK_FULL;
+        keep_block(blocks, packer->block, take_block(packer));
+    }
+}
+
+static inline void end_records(struct packer *packer, struct blocks *blocks)
+{
+    size_t length = take_block(packer);
+    if (length > 0)
+        keep_block(blocks, packer->block, length);
+}
+
+/* ---- the workload ---- */
+
+static size_t record_length(char format, size_t number)
+{
+    if (format == 'F')
+        return 80;
+    return format == 'D' ? 60 + number * 37 % 41 : 1000 + number * 7919 % 9001;
+}
+
+struct records {
+    unsigned char *bytes;
+    uint32_t *lengths;
+    size_t count, used;
+};
+
+static void *reserve(size_t bytes)
+{
+    void *room = malloc(bytes);
+    if (!room) {
+        fputs("blocks: no memory\n", stderr);
+        exit(1);
+    }
+    return room;
+}
+
+static struct records make_records(char format)
+{
+    struct records records = { reserve(CONTENT_BYTES), reserve(CONTENT_BYTES / 60 * sizeof(uint32_t)), 0, 0 };
+    for (;;) {
+        size_t length = record_length(format, records.count);
+        if (records.used + length > CONTENT_BYTES)
+            return records;
+        for (size_t at = 0; at < length; at++)
+            records.bytes[records.used + at] = 'A' + (records.count + at) % 26;
+        records.used += length;
+        records.lengths[records.count++] = (uint32_t)length;
+    }
+}
+
+static struct blocks room_for_blocks(void)
+{
+    struct blocks blocks = { reserve(CONTENT_BYTES / 60 * 70), 0, 0, reserve(CONTENT_BYTES / 4000 * sizeof(uint32_t)) };
+    memset(blocks.bytes, 0, CONTENT_BYTES / 60 * 70); /* so that no page is met for the first time in a timed run */
+    return blocks;
+}
+
+static void pack(struct packer *packer, const struct records *records, struct blocks *blocks)
+{
+    const unsigned char *at = records->bytes;
+    blocks->used = blocks->count = 0;
+    for (size_t i = 0; i < records->count; i++) {
+        put_record(packer, blocks, at, records->lengths[i]);
+        at += records->lengths[i];
+    }
+    end_records(packer, blocks);
+}
+
+struct totals {
+    uint64_t parts, bytes, fold;
+};
+
+static inline void add_part(struct totals *totals, const struct walk *walk)
+{
+    totals->parts++;
+    totals->bytes += walk->count;
+    totals->fold = totals->fold * 31 + walk->count + (walk->count > 0 ? walk->bytes[0] : 0);
+}
+
+static struct totals walk_all(const struct shape *shape, const struct blocks *blocks)
+{
+    struct totals totals = { 0, 0, 0 };
+    const unsigned char *at = blocks->bytes;
+    int begun = 0;
+    for (size_t i = 0; i < blocks->count; i++) {
+        struct walk walk;
+        begin_walk(&walk, shape, begun, at, blocks->lengths[i]);
+        while (next_part(&walk, shape))
+            add_part(&totals, &walk);
+        if (walk.cause != NO_FAULT) {
+            fprintf(stderr, "blocks: fault %d at %zu of block %zu\n", walk.cause, walk.fault_place, i);
+            exit(1);
+        }
+        begun = walk.begun;
+        at += blocks->lengths[i];
+    }
+    return totals;
+}
+
+/* ---- the program's own tests ---- */
+
+static void fail(const char *what)
+{
+    fprintf(stderr, "blocks: its own test failed: %s\n", what);
+    exit(1);
+}
+
+static void expect_fault(struct shape shape, int begun, const char *block, enum cause cause, size_t place)
+{
+    struct walk walk;
+    begin_walk(&walk, &shape, begun, (const unsigned char *)block, strlen(block));
+    while (next_part(&walk, &shape))
+        ;
+    if (walk.cause != cause || (cause != NO_FAULT && walk.fault_place != place))
+        fail(block);
+}
+
+/* packs one list of records and compares the blocks, joined by a bar */
+static void expect_blocks(struct shape shape, const char *const *records, size_t count, const char *expected)
+{
+    static struct packer packer;
+    struct blocks blocks = { reserve(4096), 0, 0, reserve(4096) };
+    char text[4096] = "";
+    size_t at = 0;
+    begin_packer(&packer, shape);
+    for (size_t i = 0; i < count; i++)
+        put_record(&packer, &blocks, (const unsigned char *)records[i], strlen(records[i]));
+    end_records(&packer, &blocks);
+    for (size_t i = 0; i < blocks.count; i++) {
+        strncat(text, (const char *)blocks.bytes + at, blocks.lengths[i]);
+        strcat(text, "|");
+        at += blocks.lengths[i];
+    }
+    if (strcmp(text, expected) != 0)
+        fail(expected);
+    free(blocks.bytes);
+    free(blocks.lengths);
+}
+
+static void test_itself(void)
+{
+    const struct shape fixed = { 'F', 80, 4, 0, 0 }, counted_18 = { 'D', 18, 18, 0, 0 }, spanned = { 'S', 18, 0, 0, 0 };
+    const struct shape shifted = { 'D', 20, 18, 2, 0 }, full = { 'D', 24, 24, 0, 1 };
+    expect_fault(fixed, 0, "abcdefgh", NO_FAULT, 0);
+    expect_fault(fixed, 0, "abcdefgh^^^", NO_FAULT, 0);
+    expect_fault(fixed, 0, "abcdefgh^X", NOT_MULTIPLE, 8);
+    expect_fault(fixed, 1, "abcd", SPAN_BROKEN, 0);
+    expect_fault(counted_18, 0, "0006AB^^^", NO_FAULT, 0);
+    expect_fault(counted_18, 0, "0006AB^^0", BAD_PADDING, 8);
+    expect_fault(counted_18, 0, "0003", BAD_COUNT, 0);
+    expect_fault(counted_18, 0, "0006AB00", BAD_COUNT, 6);
+    expect_fault(counted_18, 0, "0009AB", PAST_END, 0);
+    expect_fault(shifted, 0, "x", SHORT_OFFSET, 0);
+    expect_fault(shifted, 0, "xx", NO_FAULT, 0);
+    expect_fault(spanned, 0, "00005", NO_FAULT, 0);
+    expect_fault(spanned, 0, "40005", BAD_INDICATOR, 0);
+    expect_fault(spanned, 0, "20006A", SPAN_BROKEN, 0);
+    expect_fault(spanned, 1, "20006A00005", SPAN_BROKEN, 6);
+    expect_blocks(counted_18, (const char *const[]){ "AB", "" }, 2, "0006AB0004^^^^^^^^|");
+    expect_blocks(counted_18, (const char *const[]){ "^^^^" }, 1, "0008^^^^^^^^^^^^^^|");
+    expect_blocks(shifted, (const char *const[]){ "AB", "" }, 2, "  0006AB0004^^^^^^|");
+    expect_blocks(full, (const char *const[]){ "AB" }, 1, "0006AB^^^^^^^^^^^^^^^^^^|");
+    expect_blocks(spanned, (const char *const[]){ "abcdefghijklmnopqrstuvwxyz0123" }, 1,
+        "10018abcdefghijklm|20018nopqrstuvwxyz|300090123^^^^^^^^^|");
+    expect_blocks(spanned, (const char *const[]){ "abcdefgh", "" }, 2, "00013abcdefgh^^^^^|00005^^^^^^^^^^^^^|");
+    expect_blocks(spanned, (const char *const[]){ "abcdefghijklm" }, 1, "00018abcdefghijklm|");
+}
+
+/* the parts of the blocks, joined, are the records */
+static void expect_records(const struct shape *shape, const struct records *records, const struct blocks *blocks)
+{
+    const unsigned char *at = blocks->bytes;
+    size_t done = 0, ended = 0, length = 0;
+    int begun = 0;
+    for (size_t i = 0; i < blocks->count; i++) {
+        struct walk walk;
+        begin_walk(&walk, shape, begun, at, blocks->lengths[i]);
+        while (next_part(&walk, shape)) {
+            if (done + walk.count > records->used || memcmp(records->bytes + done, walk.bytes, walk.count) != 0)
+                fail("the parts are not the records' bytes");
+            done += walk.count;
+            length += walk.count;
+            if (!walk.begun && length != records->lengths[ended++])
+                fail("a record has another length");
+            if (!walk.begun)
+                length = 0;
+        }
+        begun = walk.begun;
+        at += blocks->lengths[i];
+    }
+    if (done != records->used || ended != records->count)
+        fail("records are missing");
+}
+
+/* ---- timing ---- */
+
+static double seconds(void)
+{
+    struct timespec now;
+    clock_gettime(CLOCK_MONOTONIC, &now);
+    return (double)now.tv_sec + (double)now.tv_nsec / 1e9;
+}
+
+static int compare(const void *a, const void *b)
+{
+    double x = *(const double *)a, y = *(const double *)b;
+    return (x > y) - (x < y);
+}
+
+/* each: a record packed, a part walked */
+static void print_row(char format, const char *what, double *times, int runs, uint64_t each)
+{
+    qsort(times, (size_t)runs, sizeof *times, compare);
+    printf("| %c | %s | %.3f | %.3f | %.1f |\n", format, what, times[0], times[runs / 2], times[0] * 1e9 / PASSES / (double)each);
+}
+
+static void time_format(char format, int runs)
+{
+    static struct packer packer;
+    struct shape shape = { format, BLOCK_LENGTH, format == 'F' ? 80 : format == 'D' ? 8192 : 0, 0, 0 };
+    struct records records = make_records(format);
+    struct blocks blocks = room_for_blocks();
+    struct totals totals = { 0, 0, 0 };
+    double packing[100], walking[100];
+    begin_packer(&packer, shape);
+    pack(&packer, &records, &blocks);
+    expect_records(&shape, &records, &blocks);
+    for (int run = 0; run < runs; run++) {
+        double start = seconds();
+        for (int pass = 0; pass < PASSES; pass++)
+            pack(&packer, &records, &blocks);
+        packing[run] = seconds() - start;
+        start = seconds();
+        for (int pass = 0; pass < PASSES; pass++)
+            totals = walk_all(&shape, &blocks);
+        walking[run] = seconds() - start;
+    }
+    print_row(format, "pack", packing, runs, records.count);
+    print_row(format, "walk", walking, runs, totals.parts);
+    fprintf(stderr, "%c: %zu records, %zu blocks of %zu bytes, %llu parts of %llu bytes, fold %llu\n", format,
+        records.count, blocks.count, blocks.used, (unsigned long long)totals.parts, (unsigned long long)totals.bytes,
+        (unsigned long long)totals.fold);
+    free(records.bytes);
+    free(records.lengths);
+    free(blocks.bytes);
+    free(blocks.lengths);
+}
+
+int main(int words, char **word)
+{
+    int runs = words > 1 ? atoi(word[1]) : 5;
+    if (runs < 1 || runs > 100) {
+        fputs("usage: blocks [RUNS, 1 to 100]\n", stderr);
+        return 2;
+    }
+    test_itself();
+    printf("| Format | C loop | Best, s | Median, s | Best, ns a record or part |\n|---|---|---|---|---|\n");
+    time_format('F', runs);
+    time_format('D', runs);
+    time_format('S', runs);
+    return 0;
+}

@@ -1,0 +1,151 @@
+#!/usr/bin/env python3
+"""Times `tape list` against plain C programs. By hand; the gate does not run it.
+
+    ./run.py [--program PATH] [--folder FOLDER] [--bytes N] [--runs N] [--c-only]
+
+Builds the C programs with `cc -O2`, makes the two images of make_images.c, and runs each program
+several times in turn, the output going to /dev/null and to a file in memory (/dev/shm). Compares
+the outputs byte by byte, and prints the times, the ratios and the greatest memory as Markdown.
+Images and outputs lie in a temporary folder (under TMPDIR) that is removed afterwards, unless
+--folder names one: then the images stay there, and are used again where they have the same size.
+"""
+
+import argparse
+import filecmp
+import os
+import shutil
+import statistics
+import subprocess
+import sys
+import tempfile
+from pathlib import Path
+
+HERE = Path(__file__).resolve().parent
+CRATE = HERE.parent / "crates" / "tape_tool"
+IMAGES = ("blocks_8192.tap", "blocks_80.tap")
+HOW_TO_BUILD = """{program} is not there.
+Build the program first: in crates/tape_tool run `rt run -- --help`, which proves it and leaves it as out/tape_tool.
+Or name another place with --program, or time the C programs alone with --c-only."""
+
+
+def arguments():
+    parser = argparse.ArgumentParser(description=__doc__.split("\n\n")[0])
+    parser.add_argument("--program", type=Path, default=CRATE / "out" / "tape_tool", help="the built `tape`")
+    parser.add_argument("--folder", type=Path, help="where the images are kept")
+    parser.add_argument("--bytes", type=int, default=1_000_000_000, help="the greatest size of an image")
+    parser.add_argument("--runs", type=int, default=5, help="how often each program runs")
+    parser.add_argument("--c-only", action="store_true", help="without `tape list`")
+    return parser.parse_args()
+
+
+def build(folder):
+    for name in ("make_images", "lister", "walk", "blocks", "measure"):
+        subprocess.run(["cc", "-O2", "-Wall", "-o", folder / name, HERE / f"{name}.c"], check=True)
+
+
+def make_images(build_folder, folder, size):
+    """Writes the images, unless images of this greatest size are there."""
+    noted = folder / "bytes"
+    kept = noted.exists() and noted.read_text() == str(size) and all((folder / name).exists() for name in IMAGES)
+    if not kept:
+        subprocess.run([build_folder / "make_images", folder, str(size)], check=True, stdout=subprocess.DEVNULL)
+        noted.write_text(str(size))
+
+
+def run(build_folder, command, output):
+    """Seconds, the greatest memory in MB. The program must end with status 0."""
+    report = build_folder / "report"
+    with open(output, "wb") as out:
+        subprocess.run([build_folder / "measure", report, *command], check=True, stdout=out, stdin=subprocess.DEVNULL)
+    seconds, kilobytes, status = report.read_text().split()
+    if status != "0":
+        sys.exit(f"{command}: status {status}")
+    return float(seconds), int(kilobytes) / 1024
+
+
+def in_turn(build_folder, commands, outputs, runs):
+    """Each program once, then each once more, and so on: seconds and memory by name."""
+    times = {name: [] for name in commands}
+    memory = {}
+    for _ in range(runs):
+        for name, command in commands.items():
+            seconds, memory[name] = run(build_folder, command, outputs[name])
+            times[name].append(seconds)
+    return times, memory
+
+
+def programs(options, folder, image):
+    commands = {} if options.c_only else {"`tape list`": [options.program, "list", image]}
+    commands["C lister"] = [folder / "lister", image]
+    return commands
+
+
+def others(folder, image):
+    return {
+        "C walk (counts alone)": [folder / "walk", image],
+        "`cat` to a pipe": ["sh", "-c", 'cat "$1" | wc -c', "sh", image],
+    }
+
+
+def print_times(image, where, times, memory):
+    base = times["C lister"]
+    for name, taken in times.items():
+        best, median = min(taken), statistics.median(taken)
+        print(
+            f"| {image} | {where} | {name} | {best:.3f} | {median:.3f} | {best / min(base):.2f} |"
+            f" {median / statistics.median(base):.2f} | {memory[name]:.1f} |",
+            flush=True,
+        )
+
+
+def compare_outputs(options, folder, image):
+    """Both listings in files in memory, timed, compared and removed."""
+    with tempfile.TemporaryDirectory(dir="/dev/shm") as memory_folder:
+        commands = programs(options, folder, image)
+        outputs = {name: os.path.join(memory_folder, str(i)) for i, name in enumerate(commands)}
+        times, memory = in_turn(folder, commands, outputs, options.runs)
+        files = list(outputs.values())
+        same = all(filecmp.cmp(files[0], other, shallow=False) for other in files[1:])
+        print_times(image.name, "file in memory", times, memory)
+    if not same:
+        sys.exit(f"{image.name}: the outputs differ")
+
+
+def time_image(options, folder, image):
+    run(folder, ["cat", image], os.devnull)  # from here on the image lies in the system's cache
+    commands = programs(options, folder, image) | others(folder, image)
+    times, memory = in_turn(folder, commands, dict.fromkeys(commands, os.devnull), options.runs)
+    print_times(image.name, "/dev/null", times, memory)
+    compare_outputs(options, folder, image)
+
+
+def time_all(options, build_folder, folder):
+    make_images(build_folder, folder, options.bytes)
+    print("| Image | Output to | Program | Best, s | Median, s | Ratio, best | Ratio, median | Memory, MB |")
+    print("|---|---|---|---|---|---|---|---|")
+    for name in IMAGES:
+        time_image(options, build_folder, folder / name)
+    same = "" if options.c_only else " The two listings of each image are the same, byte for byte."
+    print(f"\nThe ratio is the time over that of the C lister.{same}\n")
+    subprocess.run([build_folder / "blocks", str(options.runs)], check=True)
+
+
+def main():
+    options = arguments()
+    if not options.c_only and not options.program.exists():
+        sys.exit(HOW_TO_BUILD.format(program=options.program))
+    options.program = options.program.resolve()
+    with tempfile.TemporaryDirectory(prefix="tape-bench-") as temporary:
+        build_folder = Path(temporary)
+        build(build_folder)
+        if options.folder:
+            options.folder.mkdir(parents=True, exist_ok=True)
+            time_all(options, build_folder, options.folder.resolve())
+        else:
+            time_all(options, build_folder, build_folder)
+
+
+if __name__ == "__main__":
+    if not shutil.which("cc"):
+        sys.exit("no C compiler: `cc` is not found")
+    main()
