@@ -1,7 +1,9 @@
-/* blocks [RUNS]: times plain C loops over records in blocks, all in memory: packing records into
-   blocks of 8,192 bytes, and walking the parts of these blocks with every check that a reader makes.
+/* blocks: times plain C loops over records in blocks, all in memory: packing records into blocks of
+   8,192 bytes, and walking the parts of these blocks with every check that a reader makes.
    docs/FORMATS.md, 'Records in blocks', has the rules; bench/README.md has the workload.
-   Before it times anything it tries itself on small blocks written out by hand. */
+   Before it times anything it tries itself on small blocks written out by hand.
+   Prints a line a format: its letter, the microseconds of packing and of walking, the parts, their
+   bytes, and the fold. */
 #include <stdint.h>
 #include <stdio.h>
 #include <stdlib.h>
@@ -424,69 +426,44 @@ static void expect_records(const struct shape *shape, const struct records *reco
 
 /* ---- timing ---- */
 
-static double seconds(void)
+static double microseconds(void)
 {
     struct timespec now;
     clock_gettime(CLOCK_MONOTONIC, &now);
-    return (double)now.tv_sec + (double)now.tv_nsec / 1e9;
+    return (double)now.tv_sec * 1e6 + (double)now.tv_nsec / 1e3;
 }
 
-static int compare(const void *a, const void *b)
-{
-    double x = *(const double *)a, y = *(const double *)b;
-    return (x > y) - (x < y);
-}
-
-/* each: a record packed, a part walked */
-static void print_row(char format, const char *what, double *times, int runs, uint64_t each)
-{
-    qsort(times, (size_t)runs, sizeof *times, compare);
-    printf("| %c | %s | %.3f | %.3f | %.1f |\n", format, what, times[0], times[runs / 2], times[0] * 1e9 / PASSES / (double)each);
-}
-
-static void time_format(char format, int runs)
+static void time_format(char format)
 {
     static struct packer packer;
-    struct shape shape = { format, BLOCK_LENGTH, format == 'F' ? 80 : format == 'D' ? 8192 : 0, 0, 0 };
+    struct shape shape = { format, BLOCK_LENGTH, format == 'F' ? 80 : format == 'D' ? BLOCK_LENGTH : 0, 0, 0 };
     struct records records = make_records(format);
     struct blocks blocks = room_for_blocks();
     struct totals totals = { 0, 0, 0 };
-    double packing[100], walking[100];
     begin_packer(&packer, shape);
     pack(&packer, &records, &blocks);
     expect_records(&shape, &records, &blocks);
-    for (int run = 0; run < runs; run++) {
-        double start = seconds();
-        for (int pass = 0; pass < PASSES; pass++)
-            pack(&packer, &records, &blocks);
-        packing[run] = seconds() - start;
-        start = seconds();
-        for (int pass = 0; pass < PASSES; pass++)
-            totals = walk_all(&shape, &blocks);
-        walking[run] = seconds() - start;
-    }
-    print_row(format, "pack", packing, runs, records.count);
-    print_row(format, "walk", walking, runs, totals.parts);
-    fprintf(stderr, "%c: %zu records, %zu blocks of %zu bytes, %llu parts of %llu bytes, fold %llu\n", format,
-        records.count, blocks.count, blocks.used, (unsigned long long)totals.parts, (unsigned long long)totals.bytes,
-        (unsigned long long)totals.fold);
+    double start = microseconds();
+    for (int pass = 0; pass < PASSES; pass++)
+        pack(&packer, &records, &blocks);
+    double packing = microseconds() - start;
+    start = microseconds();
+    for (int pass = 0; pass < PASSES; pass++)
+        totals = walk_all(&shape, &blocks);
+    double walking = microseconds() - start;
+    printf("%c %.0f %.0f %llu %llu %llu\n", format, packing, walking, (unsigned long long)totals.parts,
+        (unsigned long long)totals.bytes, (unsigned long long)totals.fold);
     free(records.bytes);
     free(records.lengths);
     free(blocks.bytes);
     free(blocks.lengths);
 }
 
-int main(int words, char **word)
+int main(void)
 {
-    int runs = words > 1 ? atoi(word[1]) : 5;
-    if (runs < 1 || runs > 100) {
-        fputs("usage: blocks [RUNS, 1 to 100]\n", stderr);
-        return 2;
-    }
     test_itself();
-    printf("| Format | C loop | Best, s | Median, s | Best, ns a record or part |\n|---|---|---|---|---|\n");
-    time_format('F', runs);
-    time_format('D', runs);
-    time_format('S', runs);
+    time_format('F');
+    time_format('D');
+    time_format('S');
     return 0;
 }

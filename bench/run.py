@@ -39,7 +39,7 @@ def arguments():
 
 
 def build(folder):
-    for name in ("make_images", "lister", "walk", "blocks", "measure"):
+    for name in ("make_images", "lister", "walk", "measure"):
         subprocess.run(["cc", "-O2", "-Wall", "-o", folder / name, HERE / f"{name}.c"], check=True)
 
 
@@ -126,8 +126,7 @@ def time_all(options, build_folder, folder):
     for name in IMAGES:
         time_image(options, build_folder, folder / name)
     same = "" if options.c_only else " The two listings of each image are the same, byte for byte."
-    print(f"\nThe ratio is the time over that of the C lister.{same}\n")
-    subprocess.run([build_folder / "blocks", str(options.runs)], check=True)
+    print(f"\nThe ratio is the time over that of the C lister.{same}")
 
 
 def main():

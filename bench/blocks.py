@@ -1,0 +1,109 @@
+#!/usr/bin/env python3
+"""Times `tape_blocks` against plain C loops: packing records and walking their parts, in memory.
+By hand; the gate does not run it.
+
+    ./blocks.py [--runs N] [--c-only]
+
+Builds blocks.c with `cc -O2`. Builds the program blocks.rt.txt in a temporary repository, beside
+copies of the crates tape_label and tape_blocks; `rt` proves it there. Runs both several times in
+turn, compares the parts that they met, and prints the times and their ratios as Markdown.
+"""
+
+import argparse
+import shutil
+import statistics
+import subprocess
+import sys
+import tempfile
+from pathlib import Path
+
+HERE = Path(__file__).resolve().parent
+ROOT = HERE.parent
+LIBRARIES = ("tape_label", "tape_blocks")
+PASSES = 16
+
+
+def build_c(folder):
+    program = folder / "blocks"
+    subprocess.run(["cc", "-O2", "-Wall", "-o", program, HERE / "blocks.c"], check=True)
+    return program
+
+
+def library_lines():
+    lines = (ROOT / "crates.txt").read_text().splitlines()
+    return [line for line in lines if line.split(":")[0].strip() in LIBRARIES]
+
+
+def build_proved(folder):
+    """A repository of the two crates and the program; the program's path."""
+    for name in LIBRARIES:
+        if not (ROOT / "crates" / name).exists():
+            sys.exit(f"crates/{name} is not there; --c-only times the C loops alone")
+        shutil.copytree(ROOT / "crates" / name, folder / "crates" / name)
+    crate = folder / "crates" / "bench_blocks"
+    (crate / "src").mkdir(parents=True)
+    shutil.copy(HERE / "blocks.rt.txt", crate / "src" / "main.rt")
+    shutil.copy(ROOT / "HANDLES", folder / "HANDLES")
+    lines = library_lines() + ["bench_blocks: " + " ".join(LIBRARIES)]
+    (folder / "crates.txt").write_text("\n".join(lines) + "\n")
+    subprocess.run(["git", "init", "-q", "."], cwd=folder, check=True)
+    built = subprocess.run(["rt", "run"], cwd=crate, capture_output=True, text=True, check=False)
+    if built.returncode != 0:
+        sys.exit(f"the program is not built:\n{built.stdout[-2000:]}{built.stderr[-2000:]}")
+    return crate / "out" / "bench_blocks"
+
+
+def run(program):
+    """By format: microseconds of packing and walking, and what was met."""
+    lines = subprocess.run([program], capture_output=True, text=True, check=True).stdout.splitlines()
+    words = [line.split() for line in lines]
+    return {word[0]: (int(word[1]), int(word[2]), tuple(word[3:])) for word in words}
+
+
+def in_turn(programs, runs):
+    times = {name: [] for name in programs}
+    for _ in range(runs):
+        for name, program in programs.items():
+            times[name].append(run(program))
+    met = [{letter: answer[2] for letter, answer in once.items()} for each in times.values() for once in each]
+    if any(other != met[0] for other in met):
+        sys.exit(f"the programs met other parts: {met}")
+    return times, met[0]
+
+
+def print_row(letter, loop, met, times):
+    column = {"pack": 0, "walk": 1}[loop]
+    base = [once[letter][column] for once in times["C"]]
+    for name, all_runs in times.items():
+        taken = [once[letter][column] for once in all_runs]
+        best, median = min(taken), statistics.median(taken)
+        each = best * 1000 / PASSES / int(met[letter][0])
+        print(
+            f"| {letter} | {loop} | {name} | {best / 1e6:.3f} | {median / 1e6:.3f} | {each:.1f} |"
+            f" {best / min(base):.2f} | {median / statistics.median(base):.2f} |"
+        )
+
+
+def main():
+    parser = argparse.ArgumentParser(description=__doc__.split("\n\n")[0])
+    parser.add_argument("--runs", type=int, default=5, help="how often each program runs")
+    parser.add_argument("--c-only", action="store_true", help="without `tape_blocks`")
+    options = parser.parse_args()
+    with tempfile.TemporaryDirectory(prefix="tape-bench-") as temporary:
+        folder = Path(temporary)
+        programs = {"C": build_c(folder)}
+        if not options.c_only:
+            programs = {"`tape_blocks`": build_proved(folder)} | programs
+        times, met = in_turn(programs, options.runs)
+    print("| Format | Loop | Program | Best, s | Median, s | Best, ns a part | Ratio, best | Ratio, median |")
+    print("|---|---|---|---|---|---|---|---|")
+    for letter in met:
+        for loop in ("pack", "walk"):
+            print_row(letter, loop, met, times)
+    print("\nThe ratio is the time over that of the C loop. Parts, bytes and fold by format:")
+    for letter, values in met.items():
+        print(f"{letter}: {' '.join(values)}")
+
+
+if __name__ == "__main__":
+    main()
