@@ -1,0 +1,92 @@
+-- What `list` has done behind some items, and what it leaves from there.
+use Rattle.std.proofs.Common.{◌≡◌, ◌≢◌, ℕ, ◌+◌, ◌≤◌, List, [], ◌∷◌, ◌++◌, length, Option, Some, None, IfSome, refl, sym, ap, subst, ◌∙◌, arith, append_assoc, append-nil, length-append}
+use Rattle.std.specs.Io.KnownBytes.{Appends, Keeps}
+use Rattle.std.proofs.KnownBytes.{Appends-trans, Appends-nil}
+use Rattle.tape_image.specs.declared.item.Ending.{Ending}
+use Rattle.tape_image.specs.declared.fault.ImageCause.{ImageCause}
+use Rattle.tape_image.specs.declared.fault.ImageCause.TheVariants.{Truncated, LengthsDiffer, Reserved, TooLong, Device, OutOfMemory}
+use Rattle.tape_image.specs.declared.fault.ImageFault.{ImageFault}
+use Rattle.tape_image.specs.Tape.{TapeItem, block, bad, mark}
+use Rattle.tape_image.specs.Begins.{image_limit, Stop, ends, faults, Begins, Walks}
+use Rattle.tape_image.specs.Reader.{IfKnown}
+use Rattle.tape_image.specs.Step.{least_extent, TakesItem, TakesEnd, TakesFault}
+use Rattle.tape_image.proofs.Existence.{Begins-some}
+use Rattle.tape_image.proofs.Walks.{Walks-begins, Walks-item, Walks-trans, known_start, known_item, known_end, known_fault, IfKnown-some}
+use Rattle.tape_tool.specs.Line.{line_of}
+use Rattle.tape_tool.specs.Listing.{lines_from, end_line, last_line, listing_of, IsListing}
+use Rattle.tape_tool.specs.Outcome.{ListsToEnd, ListsToFault, ListsInPart, FitsCause}
+use Rattle.tape_tool.specs.Output.{AppendsFront}
+use Rattle.tape_tool.proofs.Lines.{lines_from-append}
+
+-- a fact that follows from another
+pub IfKnown-map : (old new : Option (List ℕ)) (P Q : List ℕ → List ℕ → Type 0) → ((xs ys : List ℕ) → P xs ys → Q xs ys) → IfKnown old new P → IfKnown old new Q
+IfKnown-map None new P Q f h = tt
+IfKnown-map (Some xs) None P Q f h = h
+IfKnown-map (Some xs) (Some ys) P Q f h = f xs ys h
+
+-- Of the bytes `all` the items up to a place were read, and `left` is left; their lines were written.
+pub record SoFar (all left : Option (List ℕ)) (place count : ℕ) (old new : Option (List ℕ)) : Type 0 where
+  pub items : List TapeItem
+  pub known : IfKnown all left (λ xs ys. Walks 0 xs items place ys)
+  pub counted : length items ≡ count
+  pub wrote : Appends old new (lines_from 1 items)
+
+pub starts : (all left w : Option (List ℕ)) (place : ℕ) → place ≡ 0 → left ≡ all → SoFar all left place 0 w w
+starts all left w place first same =
+    let P : ℕ → Type 0 = λ p. IfKnown all left (λ xs ys. Walks 0 xs [] p ys) in
+    record { items = []; known = subst P (sym first) (known_start all left 0 same); counted = refl; wrote = Appends-nil w }
+
+-- the lines of items and of one more
+one_line : (items : List TapeItem) (item : TapeItem) (count : ℕ) → length items ≡ count → lines_from 1 (items ++ item ∷ []) ≡ lines_from 1 items ++ line_of (count + 1) item
+one_line items item count counted =
+    let number : 1 + length items ≡ count + 1 = omega arith in
+    lines_from-append 1 items (item ∷ []) ∙ ap (λ n. lines_from 1 items ++ (line_of n item ++ [])) number ∙ ap (λ l. lines_from 1 items ++ l) (append-nil (line_of (count + 1) item))
+
+pub one_more : (all left next : Option (List ℕ)) (p q count : ℕ) (item : TapeItem) (old mid new : Option (List ℕ)) → SoFar all left p count old mid → IfKnown left next (TakesItem p item q) → Appends mid new (line_of (count + 1) item)
+    → SoFar all next q (count + 1) old new
+one_more all left next p q count item old mid new s takes line = record {
+  items = s.items ++ item ∷ [];
+  known = known_item all left next 0 p q s.items item s.known takes;
+  counted = length-append s.items (item ∷ []) ∙ ap (λ n. n + 1) s.counted;
+  wrote = subst (Appends old new) (sym (one_line s.items item count s.counted)) (Appends-trans old mid new (lines_from 1 s.items) (line_of (count + 1) item) s.wrote line);
+}
+
+pub at_end : (all left next : Option (List ℕ)) (p q count : ℕ) (ending : Ending) (old mid new : Option (List ℕ)) → SoFar all left p count old mid → IfKnown left next (TakesEnd p [] ending q) → Appends mid new (end_line ending)
+    → IfKnown all next (ListsToEnd old new)
+at_end all left next p q count ending old mid new s takes line =
+    IfKnown-map all next (TakesEnd 0 s.items ending q) (ListsToEnd old new)
+    (λ xs ys t. record { items = s.items; ending = ending; place = q; takes = t; wrote = Appends-trans old mid new (lines_from 1 s.items) (end_line ending) s.wrote line })
+    (known_end all left next 0 p q s.items ending s.known takes)
+
+-- the writer holds the same bytes
+pub kept : (old mid new : Option (List ℕ)) (bytes : List ℕ) → Appends old mid bytes → Keeps mid new → Appends old new bytes
+kept None mid new bytes a b = tt
+kept (Some xs) None new bytes a b = absurd a
+kept (Some xs) (Some ys) None bytes a b = absurd b
+kept (Some xs) (Some ys) (Some zs) bytes a b = b ∙ a
+
+pub at_fault : (all left next : Option (List ℕ)) (p count : ℕ) (fault : ImageFault) (old mid new : Option (List ℕ)) → SoFar all left p count old mid → IfKnown left next (TakesFault p [] fault) → Keeps mid new
+    → IfKnown all next (ListsToFault fault old new)
+at_fault all left next p count fault old mid new s takes keeps =
+    IfKnown-map all next (TakesFault 0 s.items fault) (ListsToFault fault old new)
+    (λ xs ys t. record { items = s.items; takes = t; wrote = kept old mid new (lines_from 1 s.items) s.wrote keeps })
+    (known_fault all left next 0 p s.items fault s.known takes)
+
+-- any cause but that of memory
+pub fits_cause : (cause : ImageCause) (fault : ImageFault) (before after old new : Option (List ℕ)) → cause ≢ OutOfMemory → IfKnown before after (ListsToFault fault old new) → FitsCause cause fault before after old new
+fits_cause OutOfMemory fault before after old new other h = absurd (other refl)
+fits_cause Truncated fault before after old new other h = h
+fits_cause LengthsDiffer fault before after old new other h = h
+fits_cause (Reserved w) fault before after old new other h = h
+fits_cause TooLong fault before after old new other h = h
+fits_cause Device fault before after old new other h = h
+
+-- a fact of what is left, where the device was handed back
+pub handed_back : {D : Type 0} (remaining : D → Option (List ℕ)) (all left : Option (List ℕ)) (P : List ℕ → List ℕ → Type 0) (there now : D) → now ≡ there → remaining there ≡ left → IfKnown all left P → IfKnown all (remaining now) P
+handed_back remaining all left P there now same is h = subst (λ l. IfKnown all l P) (sym (ap remaining same ∙ is)) h
+
+-- an item takes a word at least
+pub least_four : (item : TapeItem) → 4 ≤ least_extent item
+least_four (block bytes) = omega arith
+least_four bad = omega arith
+least_four mark = omega arith

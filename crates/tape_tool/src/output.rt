@@ -1,0 +1,45 @@
+//! Writing to any writer, with one answer for every way in which it fails.
+ghost use Rattle.std.specs.Prelude.{◌≡◌, OnOk, OnErr, IsOkUnless};
+ghost use Rattle.std.specs.Io.KnownBytes.{Appends, Keeps};
+ghost use Rattle.tape_tool.specs.Output.{AppendsFront};
+
+use crate::fault::FileFault;
+use std::io::Write;
+
+/// Writes all of the text.
+///
+/// # Errors
+///
+/// `WriteFailed` where the writer answers an error, an interruption too, or takes nothing of what is left; then it
+/// took a front of the text.
+pub fn write_text<W: Write>(writer: &mut W, text: &[u8]) -> Result<(), FileFault>
+    ensures ok { OnOk result (Appends (W.contents writer.old) (W.contents writer.new) text.now) }
+    ensures err { OnErr result (AppendsFront (W.contents writer.old) (W.contents writer.new) text.now) }
+    ensures kind { IsOkUnless result FileFault.WriteFailed }
+{
+    let mut rest = text;
+    'writes: while !rest.is_empty() {
+        match writer.write(rest) {
+            Ok(0) => return Err(FileFault::WriteFailed),
+            Ok(n) => rest = &rest[n..],
+            // An interruption is a failure too: std's own calls would try again.
+            Err(_) => return Err(FileFault::WriteFailed),
+        }
+    }
+    Ok(())
+}
+
+/// Has the writer pass on all that it holds.
+///
+/// # Errors
+///
+/// `WriteFailed` where the writer answers an error.
+pub fn flush<W: Write>(writer: &mut W) -> Result<(), FileFault>
+    ensures kept { Keeps (W.contents writer.old) (W.contents writer.new) }
+    ensures kind { IsOkUnless result FileFault.WriteFailed }
+{
+    match writer.flush() {
+        Ok(()) => Ok(()),
+        Err(_) => Err(FileFault::WriteFailed),
+    }
+}

@@ -1,0 +1,98 @@
+//! The program around the engines: words, files, buffers and exit statuses.
+use crate::fault::{FileFault, ToolFault};
+use crate::list::list_to;
+use crate::words::{Order, order_of};
+use clap::error::ErrorKind;
+use std::fs::File;
+use std::io::{BufReader, BufWriter, Read};
+use std::rt::Runtime;
+use std::{env, io};
+use tape_image::{ImageCause, ImageFault};
+use thiserror::Error;
+
+/// What ends the program with status 1.
+#[derive(Clone, Copy, Debug, PartialEq, Eq, Error)]
+enum Fault {
+    /// The fault of a command.
+    #[error("{0}")]
+    Tool(ToolFault),
+    /// No memory for the words of the command line.
+    #[error("run fault 4")]
+    OutOfMemory,
+}
+
+/// The exit status of a wrong command line.
+const WRONG_WORDS: u8 = 2;
+
+/// Runs the program, tells a fault in one line, and gives the exit status.
+pub fn run<R: Runtime + AllocGlobal>(rt: &R) -> u8 {
+    match perform(rt) {
+        Ok(status) => status,
+        Err(fault) => {
+            // There is no one left to tell that the standard error is closed.
+            let _ = rt.eprintln(format_args!("tape: {fault}"));
+            1
+        }
+    }
+}
+
+fn perform<R: Runtime + AllocGlobal>(rt: &R) -> Result<u8, Fault> {
+    let alloc = rt.alloc();
+    let arguments = match env::args(rt) {
+        Ok(arguments) => arguments,
+        Err(error) if error.kind() == io::ErrorKind::OutOfMemory => return Err(Fault::OutOfMemory),
+        Err(_) => {
+            let _ = eprintln!(rt; "error: the command line is not UTF-8 text");
+            return Ok(WRONG_WORDS);
+        }
+    };
+    let Ok(words) = arguments.collect::<Vec<String>>(alloc) else {
+        return Err(Fault::OutOfMemory);
+    };
+    match order_of(alloc, words.as_slice()) {
+        Ok(Order::List { image }) => list(rt, image).map_err(Fault::Tool),
+        Err(error) => refuse(rt, &error),
+    }
+}
+
+/// Prints what the parser of words has to say: help to the standard output, and a mistake to the standard error.
+fn refuse<R: Print + Eprint>(rt: &R, error: &clap::Error) -> Result<u8, Fault> {
+    if error.kind() == ErrorKind::OutOfMemory {
+        return Err(Fault::OutOfMemory);
+    }
+    let printed = error.print(rt);
+    if error.use_stderr() {
+        return Ok(WRONG_WORDS);
+    }
+    match printed {
+        Ok(()) => Ok(0),
+        Err(_) => Err(Fault::Tool(ToolFault::File(FileFault::WriteFailed))),
+    }
+}
+
+/// Lists the image at the path, or that on standard input.
+fn list<R: Runtime + AllocGlobal>(rt: &R, image: Option<&str>) -> Result<u8, ToolFault> {
+    let Some(path) = image else {
+        return list_input(rt, rt.reader());
+    };
+    match File::open(rt, path) {
+        Ok(file) => list_input(rt, file),
+        Err(_) => Err(ToolFault::File(FileFault::NotOpened)),
+    }
+}
+
+/// Lists to the standard output, both streams through buffers.
+fn list_input<R: Print + AllocGlobal, I: Read + Drop>(rt: &R, input: I) -> Result<u8, ToolFault> {
+    let no_memory = ToolFault::Image(ImageFault {
+        place: 0,
+        cause: ImageCause::OutOfMemory,
+    });
+    let Ok(mut reader) = BufReader::new(rt.alloc(), input) else {
+        return Err(no_memory);
+    };
+    let Ok(mut writer) = BufWriter::new(rt.alloc(), io::writer(rt)) else {
+        return Err(no_memory);
+    };
+    list_to(rt.alloc(), &mut reader, &mut writer)?;
+    Ok(0)
+}

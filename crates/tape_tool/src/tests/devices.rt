@@ -1,0 +1,108 @@
+//! Readers and writers that give and take little, or fail.
+use std::alloc::Global;
+use std::io::{Error, ErrorKind, Read, Result, Write};
+use std::mem;
+
+/// Gives one byte a call, and fails once it has given as many as `left` says.
+#[derive(Drop)]
+pub struct Dribble<'a> {
+    pub bytes: &'a [u8],
+    pub left: usize,
+    pub kind: ErrorKind,
+}
+
+impl Read for Dribble<'_> {
+    fn read(&mut self, buf: &mut [u8]) -> Result<usize> {
+        if self.left == 0 {
+            return Err(Error::from(self.kind));
+        }
+        match (self.bytes, buf) {
+            ([first, others @ ..], [slot, ..]) => {
+                *slot = *first;
+                self.bytes = others;
+                self.left -= 1;
+                Ok(1)
+            }
+            _ => Ok(0),
+        }
+    }
+}
+
+/// Gives this many zero bytes: tape marks.
+#[derive(Drop)]
+pub struct Zeros {
+    pub left: usize,
+}
+
+impl Read for Zeros {
+    fn read(&mut self, buf: &mut [u8]) -> Result<usize> {
+        let count = buf.len().min(self.left);
+        buf[..count].fill(0);
+        self.left -= count;
+        Ok(count)
+    }
+}
+
+/// Takes one byte a call, and after `left` of them takes none, or fails. A flush fails where it is told to.
+#[derive(Drop)]
+pub struct Narrow {
+    pub taken: Vec<u8>,
+    pub left: usize,
+    pub kind: Option<ErrorKind>,
+    pub flushes: bool,
+}
+
+impl Write for Narrow {
+    fn write(&mut self, buf: &[u8]) -> Result<usize> {
+        if self.left == 0 {
+            return match self.kind {
+                Some(kind) => Err(Error::from(kind)),
+                None => Ok(0),
+            };
+        }
+        match buf {
+            [first, ..] => {
+                self.taken.push(*first)?;
+                self.left -= 1;
+                Ok(1)
+            }
+            [] => Ok(0),
+        }
+    }
+
+    fn flush(&mut self) -> Result<()> {
+        if self.flushes {
+            return Ok(());
+        }
+        Err(Error::from(ErrorKind::Other))
+    }
+}
+
+/// Keeps the last two texts that it is given.
+#[derive(Drop)]
+pub struct Tail {
+    pub line: Vec<u8>,
+    pub end: Vec<u8>,
+}
+
+impl Tail {
+    pub fn new(alloc: Global) -> Tail {
+        Tail {
+            line: Vec::new(alloc),
+            end: Vec::new(alloc),
+        }
+    }
+}
+
+impl Write for Tail {
+    fn write(&mut self, buf: &[u8]) -> Result<usize> {
+        mem::swap(&mut self.line, &mut self.end);
+        self.end.clear();
+        self.end.extend_from_slice(buf)?;
+        Ok(buf.len())
+    }
+
+    fn flush(&mut self) -> Result<()> {
+        Ok(())
+    }
+}

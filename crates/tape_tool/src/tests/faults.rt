@@ -1,0 +1,198 @@
+//! Images that can't be read on, devices that fail, and how a fault is told.
+use super::devices::{Dribble, Narrow};
+use super::image::{Image, WORKED};
+use crate::fault::{FileFault, ToolFault};
+use crate::list::list_to;
+use std::alloc::Global;
+use std::io::ErrorKind;
+use std::process::Abort;
+use std::test::Fail;
+use tape_image::{ImageCause, ImageFault};
+
+fn fault_at(place: u64, cause: ImageCause) -> ToolFault {
+    ToolFault::Image(ImageFault { place, cause })
+}
+
+/// These bytes end in the fault, behind so many lines of the worked listing.
+fn check<A: Abort>(
+    rt: &A,
+    alloc: Global,
+    bytes: &[u8],
+    fault: ToolFault,
+    lines: usize,
+) -> Result<(), Fail> {
+    let mut reader = bytes;
+    let mut out = Vec::new(alloc);
+    assert_eq!(rt;
+        list_to(alloc, &mut reader, &mut out),
+        Err(fault),
+        "{fault}"
+    );
+    assert_eq!(rt; out.as_slice(), first_lines(lines).as_bytes(), "{fault}");
+    Ok(())
+}
+
+/// The first lines of the worked listing.
+fn first_lines(count: usize) -> &'static str {
+    let mut rest = WORKED;
+    for _ in 0..count {
+        rest = rest.split_once('\n').map_or("", |(_, behind)| behind);
+    }
+    &WORKED[..WORKED.len() - rest.len()]
+}
+
+#[test]
+fn damaged_images(rt: HostRuntime) -> Result<(), Fail> {
+    let alloc = rt.alloc();
+    let worked = Image::worked(alloc, &[])?;
+    let bytes = worked.bytes.as_slice();
+    assert!(rt; bytes.len() == 2484);
+    let cut_off = fault_at(1884, ImageCause::Truncated);
+    check(&rt, alloc, &bytes[..2288], cut_off, 6)?;
+    check(&rt, alloc, &bytes[..1885], cut_off, 6)?;
+    let mut changed = bytes.to_vec(alloc)?;
+    if let Some(byte) = changed.get_mut(1072) {
+        *byte += 1;
+    }
+    check(
+        &rt,
+        alloc,
+        changed.as_slice(),
+        fault_at(268, ImageCause::LengthsDiffer),
+        4,
+    )?;
+    for (word, number) in [
+        ([0xFF, 0xFF, 0xFE, 0xFF], 0xFFFE_FFFF),
+        ([1, 0, 0, 0x10], 0x1000_0001),
+    ] {
+        let mut reserved = bytes[..268].to_vec(alloc)?;
+        reserved.extend_from_slice(&word)?;
+        reserved.extend_from_slice(&bytes[272..])?;
+        check(
+            &rt,
+            alloc,
+            reserved.as_slice(),
+            fault_at(268, ImageCause::Reserved(number)),
+            4,
+        )?;
+    }
+    Ok(())
+}
+
+/// The place of the item under way when so many bytes were given, and the number of items before it.
+fn under_way(given: usize) -> (u64, usize) {
+    let starts = [
+        0usize, 88, 176, 264, 268, 1076, 1884, 2292, 2296, 2384, 2472, 2476, 2480,
+    ];
+    let mut found = (0, 0);
+    for (items, start) in starts.iter().enumerate() {
+        if *start <= given {
+            found = (*start as u64, items);
+        }
+    }
+    found
+}
+
+#[test]
+fn a_reader_fails(rt: HostRuntime) -> Result<(), Fail> {
+    let worked = Image::worked(rt.alloc(), &[])?;
+    for (given, kind) in (0..2484usize).zip(
+        [ErrorKind::Other, ErrorKind::Interrupted].iter().cycle(),
+    ) {
+        let mut reader = Dribble {
+            bytes: worked.bytes.as_slice(),
+            left: given,
+            kind: *kind,
+        };
+        let mut out = Vec::new(rt.alloc());
+        let (place, items) = under_way(given);
+        let fault = fault_at(place, ImageCause::Device);
+        assert_eq!(rt;
+            list_to(rt.alloc(), &mut reader, &mut out),
+            Err(fault),
+            "at {given}"
+        );
+        assert_eq!(rt; out.as_slice(), first_lines(items).as_bytes(), "at {given}");
+    }
+    Ok(())
+}
+
+#[test]
+fn a_writer_fails(rt: HostRuntime) -> Result<(), Fail> {
+    let worked = Image::worked(rt.alloc(), &[])?;
+    let write_failed = ToolFault::File(FileFault::WriteFailed);
+    for left in 0..WORKED.len() {
+        for kind in [
+            None,
+            Some(ErrorKind::Interrupted),
+            Some(ErrorKind::BrokenPipe),
+        ] {
+            let mut out = Narrow {
+                taken: Vec::new(rt.alloc()),
+                left,
+                kind,
+                flushes: true,
+            };
+            let mut image = worked.bytes.as_slice();
+            assert_eq!(rt;
+                list_to(rt.alloc(), &mut image, &mut out),
+                Err(write_failed),
+                "at {left}"
+            );
+            assert_eq!(rt; out.taken.as_slice(), &WORKED.as_bytes()[..left]);
+        }
+    }
+    Ok(())
+}
+
+#[test]
+fn the_last_flush(rt: HostRuntime) -> Result<(), Fail> {
+    let worked = Image::worked(rt.alloc(), &[])?;
+    for (flushes, wanted) in [
+        (true, Ok(())),
+        (false, Err(ToolFault::File(FileFault::WriteFailed))),
+    ] {
+        let mut out = Narrow {
+            taken: Vec::new(rt.alloc()),
+            left: WORKED.len(),
+            kind: None,
+            flushes,
+        };
+        let mut image = worked.bytes.as_slice();
+        assert_eq!(rt; list_to(rt.alloc(), &mut image, &mut out), wanted);
+        assert_eq!(rt; out.taken.as_slice(), WORKED.as_bytes());
+    }
+    Ok(())
+}
+
+#[test]
+fn the_fault_line(rt: HostRuntime) -> Result<(), Fail> {
+    let cases = [
+        (
+            fault_at(1884, ImageCause::Truncated),
+            "image fault 1 at 1884",
+        ),
+        (
+            fault_at(268, ImageCause::LengthsDiffer),
+            "image fault 2 at 268",
+        ),
+        (
+            fault_at(268, ImageCause::Reserved(0xFFFE_FFFF)),
+            "image fault 3 at 268",
+        ),
+        (
+            fault_at(4_278_192_120, ImageCause::TooLong),
+            "image fault 4 at 4278192120",
+        ),
+        (fault_at(0, ImageCause::Device), "image fault 5 at 0"),
+        (fault_at(0, ImageCause::OutOfMemory), "image fault 6 at 0"),
+        (ToolFault::File(FileFault::Exists), "file fault 1"),
+        (ToolFault::File(FileFault::NotOpened), "file fault 2"),
+        (ToolFault::File(FileFault::ReadFailed), "file fault 3"),
+        (ToolFault::File(FileFault::WriteFailed), "file fault 4"),
+    ];
+    for (fault, text) in cases {
+        assert_eq!(rt; fault.to_string(rt.alloc())?.as_str(), text);
+    }
+    Ok(())
+}

@@ -1,0 +1,51 @@
+//! Command lines.
+use crate::words::{Order, order_of};
+use std::alloc::{AllocError, Global};
+use std::test::Fail;
+
+/// The words of a line, behind the program's name.
+fn words_of(alloc: Global, line: &str) -> Result<Vec<String>, AllocError> {
+    let mut words = Vec::new(alloc);
+    words.push("tape".to_string(alloc)?)?;
+    for word in line.split_whitespace() {
+        words.push(word.to_string(alloc)?)?;
+    }
+    Ok(words)
+}
+
+#[test]
+fn orders(rt: HostRuntime) -> Result<(), Fail> {
+    for (line, image) in [
+        ("list", None),
+        ("list reel.tap", Some("reel.tap")),
+        ("list -- -odd.tap", Some("-odd.tap")),
+    ] {
+        let words = words_of(rt.alloc(), line)?;
+        let order = order_of(rt.alloc(), words.as_slice())?;
+        assert!(rt; order == Order::List { image }, "{line}");
+    }
+    Ok(())
+}
+
+#[test]
+fn help_and_mistakes(rt: HostRuntime) -> Result<(), Fail> {
+    let cases = [
+        ("", 2, "requires a subcommand"),
+        ("lost", 2, "unrecognized subcommand 'lost'"),
+        ("list a.tap b.tap", 2, "unexpected argument 'b.tap' found"),
+        ("list --all", 2, "unexpected argument '--all' found"),
+        ("--help", 0, "Usage: tape <COMMAND>"),
+        ("list --help", 0, "Usage: tape list [IMAGE]"),
+        ("help list", 0, "zcat reel.tap.gz | tape list"),
+    ];
+    for (line, status, text) in cases {
+        let words = words_of(rt.alloc(), line)?;
+        let Err(error) = order_of(rt.alloc(), words.as_slice()) else {
+            return Err(Fail::from("a line that should be refused"));
+        };
+        assert_eq!(rt; error.exit_code(), status, "{line}");
+        let said = error.to_string(rt.alloc())?;
+        assert!(rt; said.as_str().contains(text), "{said}");
+    }
+    Ok(())
+}
