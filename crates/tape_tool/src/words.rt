@@ -22,7 +22,10 @@ Faults of an image:
 
 Faults of a file:
   2  it could not be opened
-  4  writing to it failed";
+  4  writing to it failed
+
+Fault of the run:
+  4  no memory for the command line";
 
 const ABOUT_LIST: &str =
     "Lists an image, a line for each item: blocks, tape marks, and the labels of ECMA-13";
@@ -47,6 +50,7 @@ fn command<'a>(alloc: Global) -> Result<Command<'a>, AllocError> {
         .after_help(AFTER_LIST)
         .arg(image)?;
     Command::new(alloc, "tape")
+        .version("0.1.0")
         .about("Reads labelled magnetic tape volumes (ECMA-13) in SIMH .tap images")
         .after_help(AFTER)
         .subcommand_required(true)

@@ -3,7 +3,7 @@ use super::devices::{Dribble, Narrow};
 use super::image::{Image, WORKED};
 use crate::fault::{FileFault, ToolFault};
 use crate::list::list_to;
-use std::alloc::Global;
+use std::alloc::{AllocError, Global};
 use std::io::ErrorKind;
 use std::process::Abort;
 use std::test::Fail;
@@ -28,53 +28,63 @@ fn check<A: Abort>(
         Err(fault),
         "{fault}"
     );
-    assert_eq!(rt; out.as_slice(), first_lines(lines).as_bytes(), "{fault}");
+    assert_eq!(rt;
+        out.as_slice(),
+        first_lines(alloc, lines)?.as_slice(),
+        "{fault}"
+    );
     Ok(())
 }
 
 /// The first lines of the worked listing.
-fn first_lines(count: usize) -> &'static str {
-    let mut rest = WORKED;
-    for _ in 0..count {
-        rest = rest.split_once('\n').map_or("", |(_, behind)| behind);
+fn first_lines(alloc: Global, count: usize) -> Result<Vec<u8>, AllocError> {
+    let mut text = Vec::new(alloc);
+    for line in WORKED.lines().take(count) {
+        text.extend_from_slice(line.as_bytes())?;
+        text.push(b'\n')?;
     }
-    &WORKED[..WORKED.len() - rest.len()]
+    Ok(text)
+}
+
+/// The worked image, with these bytes in the place of those at a place.
+fn worked_with(alloc: Global, place: usize, bytes: &[u8]) -> Result<Vec<u8>, AllocError> {
+    let mut image = Image::worked(alloc, &[])?.bytes;
+    for (slot, byte) in image.iter_mut().skip(place).zip(bytes) {
+        *slot = *byte;
+    }
+    Ok(image)
 }
 
 #[test]
-fn damaged_images(rt: HostRuntime) -> Result<(), Fail> {
-    let alloc = rt.alloc();
-    let worked = Image::worked(alloc, &[])?;
-    let bytes = worked.bytes.as_slice();
-    assert!(rt; bytes.len() == 2484);
-    let cut_off = fault_at(1884, ImageCause::Truncated);
-    check(&rt, alloc, &bytes[..2288], cut_off, 6)?;
-    check(&rt, alloc, &bytes[..1885], cut_off, 6)?;
-    let mut changed = bytes.to_vec(alloc)?;
-    if let Some(byte) = changed.get_mut(1072) {
-        *byte += 1;
+fn cut_images(rt: HostRuntime) -> Result<(), Fail> {
+    for count in [2288, 1885] {
+        let mut cut = Image::worked(rt.alloc(), &[])?.bytes;
+        cut.truncate(count);
+        let fault = fault_at(1884, ImageCause::Truncated);
+        check(&rt, rt.alloc(), cut.as_slice(), fault, 6)?;
     }
-    check(
-        &rt,
-        alloc,
-        changed.as_slice(),
-        fault_at(268, ImageCause::LengthsDiffer),
-        4,
-    )?;
-    for (word, number) in [
-        ([0xFF, 0xFF, 0xFE, 0xFF], 0xFFFE_FFFF),
-        ([1, 0, 0, 0x10], 0x1000_0001),
-    ] {
-        let mut reserved = bytes[..268].to_vec(alloc)?;
-        reserved.extend_from_slice(&word)?;
-        reserved.extend_from_slice(&bytes[272..])?;
-        check(
-            &rt,
-            alloc,
-            reserved.as_slice(),
-            fault_at(268, ImageCause::Reserved(number)),
-            4,
-        )?;
+    Ok(())
+}
+
+/// The first data block begins behind three labels and a mark.
+#[test]
+fn damaged_words(rt: HostRuntime) -> Result<(), Fail> {
+    let cases: [(usize, &[u8], ImageCause); 3] = [
+        (1072, &[0x21], ImageCause::LengthsDiffer),
+        (
+            268,
+            &[0xFF, 0xFF, 0xFE, 0xFF],
+            ImageCause::Reserved(0xFFFE_FFFF),
+        ),
+        (
+            268,
+            &[0x01, 0x00, 0x00, 0x10],
+            ImageCause::Reserved(0x1000_0001),
+        ),
+    ];
+    for (place, bytes, cause) in cases {
+        let image = worked_with(rt.alloc(), place, bytes)?;
+        check(&rt, rt.alloc(), image.as_slice(), fault_at(268, cause), 4)?;
     }
     Ok(())
 }
@@ -112,7 +122,11 @@ fn a_reader_fails(rt: HostRuntime) -> Result<(), Fail> {
             Err(fault),
             "at {given}"
         );
-        assert_eq!(rt; out.as_slice(), first_lines(items).as_bytes(), "at {given}");
+        assert_eq!(rt;
+            out.as_slice(),
+            first_lines(rt.alloc(), items)?.as_slice(),
+            "at {given}"
+        );
     }
     Ok(())
 }

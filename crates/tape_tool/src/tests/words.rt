@@ -35,6 +35,7 @@ fn help_and_mistakes(rt: HostRuntime) -> Result<(), Fail> {
         ("list a.tap b.tap", 2, "unexpected argument 'b.tap' found"),
         ("list --all", 2, "unexpected argument '--all' found"),
         ("--help", 0, "Usage: tape <COMMAND>"),
+        ("--version", 0, "tape 0.1.0"),
         ("list --help", 0, "Usage: tape list [IMAGE]"),
         ("help list", 0, "zcat reel.tap.gz | tape list"),
     ];
