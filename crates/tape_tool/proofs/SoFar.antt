@@ -11,18 +11,12 @@ use Rattle.tape_image.specs.Begins.{image_limit, Stop, ends, faults, Begins, Wal
 use Rattle.tape_image.specs.Reader.{IfKnown}
 use Rattle.tape_image.specs.Step.{least_extent, TakesItem, TakesEnd, TakesFault}
 use Rattle.tape_image.proofs.Existence.{Begins-some}
-use Rattle.tape_image.proofs.Walks.{Walks-begins, Walks-item, Walks-trans, known_start, known_item, known_end, known_fault, IfKnown-some}
+use Rattle.tape_image.proofs.Walks.{known_start, known_item, known_end, known_fault, TakesFault-begins, IfKnown-map}
 use Rattle.tape_tool.specs.Line.{line_of}
 use Rattle.tape_tool.specs.Listing.{lines_from, end_line, last_line, listing_of, IsListing}
 use Rattle.tape_tool.specs.Outcome.{ListsToEnd, ListsToFault, ListsInPart, FitsCause}
 use Rattle.tape_tool.specs.Output.{AppendsFront}
 use Rattle.tape_tool.proofs.Lines.{lines_from-append}
-
--- a fact that follows from another
-pub IfKnown-map : (old new : Option (List ℕ)) (P Q : List ℕ → List ℕ → Type 0) → ((xs ys : List ℕ) → P xs ys → Q xs ys) → IfKnown old new P → IfKnown old new Q
-IfKnown-map None new P Q f h = tt
-IfKnown-map (Some xs) None P Q f h = h
-IfKnown-map (Some xs) (Some ys) P Q f h = f xs ys h
 
 -- Of the bytes `all` the items up to a place were read, and `left` is left; their lines were written.
 pub record SoFar (all left : Option (List ℕ)) (place count : ℕ) (old new : Option (List ℕ)) : Type 0 where
@@ -51,11 +45,23 @@ one_more all left next p q count item old mid new s takes line = record {
   wrote = subst (Appends old new) (sym (one_line s.items item count s.counted)) (Appends-trans old mid new (lines_from 1 s.items) (line_of (count + 1) item) s.wrote line);
 }
 
+listed_to_end : (items : List TapeItem) (ending : Ending) (place : ℕ) (xs ys : List ℕ) → TakesEnd 0 items ending place xs ys → IsListing xs (listing_of items (ends ending))
+listed_to_end items ending place xs ys t = record { items = items; end = t.end; stop = ends ending; begins = t.begins; listed = refl }
+
+listed_to_fault : (items : List TapeItem) (fault : ImageFault) (xs ys : List ℕ) → TakesFault 0 items fault xs ys → fault.cause ≢ Device → IsListing xs (lines_from 1 items)
+listed_to_fault items fault xs ys t other = record {
+  items = items;
+  end = fault.place;
+  stop = faults fault.cause;
+  begins = TakesFault-begins 0 items fault xs ys t other;
+  listed = sym (append-nil (lines_from 1 items));
+}
+
 pub at_end : (all left next : Option (List ℕ)) (p q count : ℕ) (ending : Ending) (old mid new : Option (List ℕ)) → SoFar all left p count old mid → IfKnown left next (TakesEnd p [] ending q) → Appends mid new (end_line ending)
     → IfKnown all next (ListsToEnd old new)
 at_end all left next p q count ending old mid new s takes line =
     IfKnown-map all next (TakesEnd 0 s.items ending q) (ListsToEnd old new)
-    (λ xs ys t. record { items = s.items; ending = ending; place = q; takes = t; wrote = Appends-trans old mid new (lines_from 1 s.items) (end_line ending) s.wrote line })
+    (λ xs ys t. record { items = s.items; ending = ending; place = q; takes = t; listed = listed_to_end s.items ending q xs ys t; wrote = Appends-trans old mid new (lines_from 1 s.items) (end_line ending) s.wrote line })
     (known_end all left next 0 p q s.items ending s.known takes)
 
 -- the writer holds the same bytes
@@ -69,7 +75,7 @@ pub at_fault : (all left next : Option (List ℕ)) (p count : ℕ) (fault : Imag
     → IfKnown all next (ListsToFault fault old new)
 at_fault all left next p count fault old mid new s takes keeps =
     IfKnown-map all next (TakesFault 0 s.items fault) (ListsToFault fault old new)
-    (λ xs ys t. record { items = s.items; takes = t; wrote = kept old mid new (lines_from 1 s.items) s.wrote keeps })
+    (λ xs ys t. record { items = s.items; takes = t; listed = listed_to_fault s.items fault xs ys t; wrote = kept old mid new (lines_from 1 s.items) s.wrote keeps })
     (known_fault all left next 0 p s.items fault s.known takes)
 
 -- any cause but that of memory
@@ -81,9 +87,9 @@ fits_cause (Reserved w) fault before after old new other h = h
 fits_cause TooLong fault before after old new other h = h
 fits_cause Device fault before after old new other h = h
 
--- a fact of what is left, where the device was handed back
-pub handed_back : {D : Type 0} (remaining : D → Option (List ℕ)) (all left : Option (List ℕ)) (P : List ℕ → List ℕ → Type 0) (there now : D) → now ≡ there → remaining there ≡ left → IfKnown all left P → IfKnown all (remaining now) P
-handed_back remaining all left P there now same is h = subst (λ l. IfKnown all l P) (sym (ap remaining same ∙ is)) h
+-- what an `if let` binds is what stands there
+pub same_some : {A : Type 0} (x y : A) (r : Option A) → r ≡ Some x → r ≡ Some y → x ≡ y
+same_some x y r a b = cc
 
 -- an item takes a word at least
 pub least_four : (item : TapeItem) → 4 ≤ least_extent item

@@ -1,5 +1,5 @@
 -- The listing of an image.
-use Rattle.std.specs.Prelude.{◌≡◌, ℕ, ◌+◌, List, [], ◌∷◌, ◌++◌, codes, Option, Some, None}
+use Rattle.std.specs.Prelude.{◌≡◌, ℕ, ◌+◌, List, [], ◌∷◌, ◌++◌, codes}
 use Rattle.tape_image.specs.declared.item.Ending.{Ending}
 use Rattle.tape_image.specs.declared.item.Ending.TheVariants.{Marked, Physical}
 use Rattle.tape_image.specs.Tape.{TapeItem}
@@ -14,11 +14,6 @@ lines_from n (item ∷ items) = line_of n item ++ lines_from (n + 1) items
 abbrev pub end_line : Ending → List ℕ
 end_line Marked = codes "END MARKED\n"
 end_line Physical = codes "END PHYSICAL\n"
-
--- nothing, where the medium has not ended
-abbrev pub end_text : Option Ending → List ℕ
-end_text (Some ending) = end_line ending
-end_text None = []
 
 -- the last line tells the end of medium; behind a fault there is none
 abbrev pub last_line : Stop → List ℕ

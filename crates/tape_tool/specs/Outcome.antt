@@ -1,9 +1,9 @@
 -- What a run of `list` leaves, where the writer held `old` before and holds `new` after.
-use Rattle.std.specs.Prelude.{◌≡◌, ℕ, List, Option}
+use Rattle.std.specs.Prelude.{◌≡◌, ◌≢◌, ℕ, List, Option}
 use Rattle.std.specs.Io.KnownBytes.{Appends, Keeps}
 use Rattle.tape_image.specs.declared.item.Ending.{Ending}
 use Rattle.tape_image.specs.declared.fault.ImageCause.{ImageCause}
-use Rattle.tape_image.specs.declared.fault.ImageCause.TheVariants.{OutOfMemory}
+use Rattle.tape_image.specs.declared.fault.ImageCause.TheVariants.{Device, OutOfMemory}
 use Rattle.tape_image.specs.declared.fault.ImageFault.{ImageFault}
 use Rattle.tape_image.specs.Tape.{TapeItem}
 use Rattle.tape_image.specs.Begins.{ends}
@@ -15,19 +15,22 @@ use Rattle.tape_tool.specs.declared.fault.ToolFault.TheVariants.{Image, File}
 use Rattle.tape_tool.specs.Listing.{lines_from, listing_of, IsListing}
 use Rattle.tape_tool.specs.Output.{AppendsFront}
 
--- The items that the bytes begin with, up to the end of medium, were read and listed, with the last line. What is left
--- of the bytes begins behind the end word, if there is one.
+-- The items that the bytes begin with, up to the end of medium, were read, and the listing of the image was written. What
+-- is left of the bytes begins behind the end word, if there is one.
 pub record ListsToEnd (old new : Option (List ℕ)) (bytes left : List ℕ) : Type 0 where
   pub items : List TapeItem
   pub ending : Ending
   pub place : ℕ
   pub takes : TakesEnd 0 items ending place bytes left
+  pub listed : IsListing bytes (listing_of items (ends ending))
   pub wrote : Appends old new (listing_of items (ends ending))
 
--- The items before the fault were read and listed. The fault has its cause in the bytes, or the reader failed there.
+-- The items before the fault were read, and their lines were written. The fault has its cause in the bytes, and then these
+-- lines are the listing of the image; or the reader failed there.
 pub record ListsToFault (fault : ImageFault) (old new : Option (List ℕ)) (bytes left : List ℕ) : Type 0 where
   pub items : List TapeItem
   pub takes : TakesFault 0 items fault bytes left
+  pub listed : fault.cause ≢ Device → IsListing bytes (lines_from 1 items)
   pub wrote : Appends old new (lines_from 1 items)
 
 -- a front of the listing was written

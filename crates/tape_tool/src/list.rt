@@ -1,9 +1,9 @@
 //! `list`: a line for each item of an image.
 ghost use Rattle.std.specs.Prelude.{◌≡◌, IfErr, IfSome, OnOk, OnErr, IsOkUnless};
 ghost use Rattle.std.specs.Io.KnownBytes.{Appends};
-ghost use Rattle.tape_tool.specs.Listing.{end_text};
+ghost use Rattle.tape_tool.specs.Listing.{end_line};
 ghost use Rattle.tape_tool.specs.Output.{AppendsFront};
-ghost use Rattle.tape_image.specs.Reader.{IfKnown};
+ghost use Rattle.tape_image.specs.Reader.{IfKnown, going};
 ghost use Rattle.tape_tool.specs.Outcome.{ListsToEnd, ListsInPart, FitsFault};
 
 use crate::fault::{FileFault, ToolFault};
@@ -15,14 +15,14 @@ use tape_image::{Ending, ImageReader};
 
 /// Lists the image that the reader gives: a line for each item, and a last line for the end of medium.
 ///
-/// It takes memory for the image reader's buffer alone, reads nothing behind an end word, and flushes the writer at
-/// the end and at a fault of the image.
+/// It takes memory for the image reader's buffer alone, reads nothing behind an end word, and has the writer pass on
+/// what it holds at the end and at a fault of the image. No contract can tell that of a writer: tests show it.
 ///
 /// # Errors
 ///
 /// `Image` with the cause and the place where the image can't be read on, once all before it was listed; with
-/// `OutOfMemory` at place 0 where the buffer was refused. `File(WriteFailed)` where the writer failed, which comes
-/// before a fault of the image where its flush fails.
+/// `OutOfMemory` at place 0 where the buffer was refused, and then nothing was written. `File(WriteFailed)` where the
+/// writer failed, also where the flush at a fault of the image did.
 pub fn list_to<R: Read, W: Write>(
     alloc: Global,
     reader: &mut R,
@@ -31,7 +31,7 @@ pub fn list_to<R: Read, W: Write>(
     // Success is the end of medium, and the whole listing.
     ensures ok { OnOk result (IfKnown (R.remaining reader.old) (R.remaining reader.new)
         (ListsToEnd (W.contents writer.old) (W.contents writer.new))) }
-    // Each fault has its own reason,
+    // A fault of the image has its reason in the image, in its reader or in want of memory,
     ensures fault { IfErr result (FitsFault (R.remaining reader.old) (R.remaining reader.new)
         (W.contents writer.old) (W.contents writer.new)) }
     // and at any fault a front of the listing was written.
@@ -39,6 +39,27 @@ pub fn list_to<R: Read, W: Write>(
         (ListsInPart (W.contents writer.old) (W.contents writer.new))) }
 {
     let mut image = ImageReader::new(alloc, reader)?;
+    let listed = list_items(&mut image, writer);
+    // What the reader has left is its caller's again.
+    image.into_device();
+    listed
+}
+
+/// Lists the items of an image of which nothing was read yet.
+fn list_items<R: Read, W: Write>(
+    image: &mut ImageReader<'_, R>,
+    writer: &mut W,
+) -> Result<(), ToolFault>
+    requires going { image.old.status ≡ going }
+    requires first { image.old.place ≡ 0 }
+    ensures same_device { image.new.device ≡ image.old.device }
+    ensures ok { OnOk result (IfKnown image.old.left image.new.left
+        (ListsToEnd (W.contents writer.old) (W.contents writer.new))) }
+    ensures fault { IfErr result (FitsFault image.old.left image.new.left
+        (W.contents writer.old) (W.contents writer.new)) }
+    ensures front { OnErr result (IfSome image.old.left
+        (ListsInPart (W.contents writer.old) (W.contents writer.new))) }
+{
     let mut number = 0u64;
     'items: loop {
         match image.next() {
@@ -47,13 +68,12 @@ pub fn list_to<R: Read, W: Write>(
                 write_text(writer, &line_of(number, item))?;
             }
             Ok(None) => {
-                let ending = image.ending();
-                // What the reader has left is its caller's again.
-                image.into_device();
+                let Some(ending) = image.ending() else {
+                    unreachable!()
+                };
                 return Ok(write_end(writer, ending)?);
             }
             Err(fault) => {
-                image.into_device();
                 flush(writer)?;
                 return Err(ToolFault::Image(fault));
             }
@@ -62,21 +82,20 @@ pub fn list_to<R: Read, W: Write>(
 }
 
 /// Writes the last line, and has the writer pass on all that it holds.
-fn write_end<W: Write>(writer: &mut W, ending: Option<Ending>) -> Result<(), FileFault>
-    ensures ok { OnOk result (Appends (W.contents writer.old) (W.contents writer.new) (end_text ending)) }
-    ensures err { OnErr result (AppendsFront (W.contents writer.old) (W.contents writer.new) (end_text ending)) }
+fn write_end<W: Write>(writer: &mut W, ending: Ending) -> Result<(), FileFault>
+    ensures ok { OnOk result (Appends (W.contents writer.old) (W.contents writer.new) (end_line ending)) }
+    ensures err { OnErr result (AppendsFront (W.contents writer.old) (W.contents writer.new) (end_line ending)) }
     ensures kind { IsOkUnless result FileFault.WriteFailed }
 {
     write_text(writer, last_line(ending))?;
     flush(writer)
 }
 
-fn last_line(ending: Option<Ending>) -> &'static [u8]
-    ensures { result.now ≡ end_text ending }
+fn last_line(ending: Ending) -> &'static [u8]
+    ensures { result.now ≡ end_line ending }
 {
     match ending {
-        Some(Ending::Marked) => b"END MARKED\n",
-        Some(Ending::Physical) => b"END PHYSICAL\n",
-        None => b"",
+        Ending::Marked => b"END MARKED\n",
+        Ending::Physical => b"END PHYSICAL\n",
     }
 }

@@ -10,46 +10,53 @@ use std::{env, io};
 use tape_image::{ImageCause, ImageFault};
 use thiserror::Error;
 
-/// What ends the program with status 1.
+/// What ends the program with status 1. Its text is the one line that tells it.
 #[derive(Clone, Copy, Debug, PartialEq, Eq, Error)]
-enum Fault {
+pub enum Fault {
     /// The fault of a command.
-    #[error("{0}")]
+    #[error("tape: {0}")]
     Tool(ToolFault),
     /// No memory for the words of the command line.
-    #[error("run fault 4")]
+    #[error("tape: run fault 4")]
     OutOfMemory,
 }
+
+/// The exit status of a fault.
+const FAULT: u8 = 1;
 
 /// The exit status of a wrong command line.
 const WRONG_WORDS: u8 = 2;
 
 /// Runs the program, tells a fault in one line, and gives the exit status.
 pub fn run<R: Runtime + AllocGlobal>(rt: &R) -> u8 {
-    match perform(rt) {
+    let done = match env::args(rt) {
+        Ok(words) => match words.collect::<Vec<String>>(rt.alloc()) {
+            Ok(words) => perform(rt, words.as_slice()),
+            Err(_) => Err(Fault::OutOfMemory),
+        },
+        Err(error) if error.kind() == io::ErrorKind::OutOfMemory => Err(Fault::OutOfMemory),
+        Err(_) => {
+            let _ = eprintln!(rt; "error: the command line is not UTF-8 text");
+            Ok(WRONG_WORDS)
+        }
+    };
+    match done {
         Ok(status) => status,
         Err(fault) => {
             // There is no one left to tell that the standard error is closed.
-            let _ = rt.eprintln(format_args!("tape: {fault}"));
-            1
+            let _ = rt.eprintln(format_args!("{fault}"));
+            FAULT
         }
     }
 }
 
-fn perform<R: Runtime + AllocGlobal>(rt: &R) -> Result<u8, Fault> {
-    let alloc = rt.alloc();
-    let arguments = match env::args(rt) {
-        Ok(arguments) => arguments,
-        Err(error) if error.kind() == io::ErrorKind::OutOfMemory => return Err(Fault::OutOfMemory),
-        Err(_) => {
-            let _ = eprintln!(rt; "error: the command line is not UTF-8 text");
-            return Ok(WRONG_WORDS);
-        }
-    };
-    let Ok(words) = arguments.collect::<Vec<String>>(alloc) else {
-        return Err(Fault::OutOfMemory);
-    };
-    match order_of(alloc, words.as_slice()) {
+/// Does what the words ask for, the program's own name first, and gives the exit status.
+///
+/// # Errors
+///
+/// What ends the program with status 1.
+pub fn perform<R: Runtime + AllocGlobal>(rt: &R, words: &[String]) -> Result<u8, Fault> {
+    match order_of(rt.alloc(), words) {
         Ok(Order::List { image }) => list(rt, image).map_err(Fault::Tool),
         Err(error) => refuse(rt, &error),
     }

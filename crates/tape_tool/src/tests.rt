@@ -4,4 +4,5 @@ mod faults;
 mod image;
 mod labels;
 mod listing;
+mod program;
 mod words;

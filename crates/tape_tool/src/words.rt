@@ -64,10 +64,8 @@ fn command<'a>(alloc: Global) -> Result<Command<'a>, AllocError> {
 /// The error of a wrong command line, of a call for help, or of memory refused. It has its text and its exit status.
 pub fn order_of<'a>(alloc: Global, words: &'a [String]) -> Result<Order<'a>, Error> {
     let matches = command(alloc)?.try_get_matches_from(words)?;
-    Ok(match matches.subcommand() {
-        Some((_, list)) => Order::List {
-            image: list.get_str("IMAGE"),
-        },
-        None => Order::List { image: None },
-    })
+    let image = matches
+        .subcommand_matches("list")
+        .and_then(|list| list.get_str("IMAGE"));
+    Ok(Order::List { image })
 }

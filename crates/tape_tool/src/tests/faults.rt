@@ -1,6 +1,6 @@
 //! Images that can't be read on, devices that fail, and how a fault is told.
 use super::devices::{Dribble, Narrow};
-use super::image::{Image, WORKED};
+use super::image::{GAP, Image, MARK, WORKED};
 use crate::fault::{FileFault, ToolFault};
 use crate::list::list_to;
 use std::alloc::{AllocError, Global};
@@ -159,23 +159,50 @@ fn a_writer_fails(rt: HostRuntime) -> Result<(), Fail> {
     Ok(())
 }
 
+/// The last flush fails, at the end of medium and at a fault of the image, where it is told in that fault's place.
 #[test]
 fn the_last_flush(rt: HostRuntime) -> Result<(), Fail> {
-    let worked = Image::worked(rt.alloc(), &[])?;
-    for (flushes, wanted) in [
-        (true, Ok(())),
-        (false, Err(ToolFault::File(FileFault::WriteFailed))),
+    let not_written = Err(ToolFault::File(FileFault::WriteFailed));
+    let cut_off = Err(fault_at(1884, ImageCause::Truncated));
+    for (count, lines, flushes, wanted) in [
+        (2484, 13, true, Ok(())),
+        (2484, 13, false, not_written),
+        (1885, 6, true, cut_off),
+        (1885, 6, false, not_written),
     ] {
+        let mut image = Image::worked(rt.alloc(), &[])?.bytes;
+        image.truncate(count);
         let mut out = Narrow {
             taken: Vec::new(rt.alloc()),
             left: WORKED.len(),
             kind: None,
             flushes,
         };
-        let mut image = worked.bytes.as_slice();
-        assert_eq!(rt; list_to(rt.alloc(), &mut image, &mut out), wanted);
-        assert_eq!(rt; out.taken.as_slice(), WORKED.as_bytes());
+        let mut reader = image.as_slice();
+        assert_eq!(rt;
+            list_to(rt.alloc(), &mut reader, &mut out),
+            wanted,
+            "{count}"
+        );
+        assert_eq!(rt;
+            out.taken.as_slice(),
+            first_lines(rt.alloc(), lines)?.as_slice()
+        );
     }
+    Ok(())
+}
+
+/// A fault stands behind the gaps before it.
+#[test]
+fn a_fault_behind_gaps(rt: HostRuntime) -> Result<(), Fail> {
+    let mut image = Image::with(rt.alloc(), &GAP);
+    image.word(&MARK)?;
+    image.word(&[1, 0, 0, 0])?;
+    let mut reader = image.bytes.as_slice();
+    let mut out = Vec::new(rt.alloc());
+    let fault = fault_at(12, ImageCause::Truncated);
+    assert_eq!(rt; list_to(rt.alloc(), &mut reader, &mut out), Err(fault));
+    assert_eq!(rt; out.as_slice(), b"000001 MARK\n".as_slice());
     Ok(())
 }
 
