@@ -1,5 +1,5 @@
 -- Lines of items one after another.
-use Rattle.std.proofs.Common.{◌≡◌, ℕ, ◌+◌, List, [], ◌∷◌, ◌++◌, length, refl, sym, ap, ◌∙◌, arith, append_assoc}
+use Rattle.std.proofs.Common.{◌≡◌, ℕ, ◌+◌, List, [], ◌∷◌, ◌++◌, length, sym, ap, ◌∙◌, arith, append_assoc}
 use Rattle.tape_image.specs.Tape.{TapeItem}
 use Rattle.tape_tool.specs.Line.{line_of}
 use Rattle.tape_tool.specs.Listing.{lines_from}

@@ -1,5 +1,5 @@
 -- What `list` has done behind some items, and what it leaves from there.
-use Rattle.std.proofs.Common.{◌≡◌, ◌≢◌, ℕ, ◌+◌, ◌≤◌, List, [], ◌∷◌, ◌++◌, length, Option, Some, None, IfSome, refl, sym, ap, subst, ◌∙◌, arith, append_assoc, append-nil, length-append}
+use Rattle.std.proofs.Common.{◌≡◌, ◌≢◌, ℕ, ◌+◌, ◌≤◌, List, [], ◌∷◌, ◌++◌, length, Option, Some, None, refl, sym, ap, subst, ◌∙◌, arith, append-nil, length-append}
 use Rattle.std.specs.Io.KnownBytes.{Appends, Keeps}
 use Rattle.std.proofs.KnownBytes.{Appends-trans, Appends-nil}
 use Rattle.tape_image.specs.declared.item.Ending.{Ending}
@@ -7,15 +7,13 @@ use Rattle.tape_image.specs.declared.fault.ImageCause.{ImageCause}
 use Rattle.tape_image.specs.declared.fault.ImageCause.TheVariants.{Truncated, LengthsDiffer, Reserved, TooLong, Device, OutOfMemory}
 use Rattle.tape_image.specs.declared.fault.ImageFault.{ImageFault}
 use Rattle.tape_image.specs.Tape.{TapeItem, block, bad, mark}
-use Rattle.tape_image.specs.Begins.{image_limit, Stop, ends, faults, Begins, Walks}
+use Rattle.tape_image.specs.Begins.{ends, faults, Walks}
 use Rattle.tape_image.specs.Reader.{IfKnown}
 use Rattle.tape_image.specs.Step.{least_extent, TakesItem, TakesEnd, TakesFault}
-use Rattle.tape_image.proofs.Existence.{Begins-some}
 use Rattle.tape_image.proofs.Walks.{known_start, known_item, known_end, known_fault, TakesFault-begins, IfKnown-map}
 use Rattle.tape_tool.specs.Line.{line_of}
-use Rattle.tape_tool.specs.Listing.{lines_from, end_line, last_line, listing_of, IsListing}
-use Rattle.tape_tool.specs.Outcome.{ListsToEnd, ListsToFault, ListsInPart, FitsCause}
-use Rattle.tape_tool.specs.Output.{AppendsFront}
+use Rattle.tape_tool.specs.Listing.{lines_from, end_line, listing_of, IsListing}
+use Rattle.tape_tool.specs.Outcome.{ListsToEnd, ListsToFault, FitsCause}
 use Rattle.tape_tool.proofs.Lines.{lines_from-append}
 
 -- Of the bytes `all` the items up to a place were read, and `left` is left; their lines were written.

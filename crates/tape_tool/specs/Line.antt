@@ -1,5 +1,5 @@
 -- What `list` prints for one item.
-use Rattle.std.specs.Prelude.{ℕ, ◌++◌, ◌&&◌, nat_le, nat_lt, if◌then◌else◌, List, [], ◌∷◌, take, length, map, codes, Bool, true, false, Option, Some, None, Result, Ok, Err}
+use Rattle.std.specs.Prelude.{ℕ, ◌++◌, ◌&&◌, nat_le, nat_lt, if◌then◌else◌, List, ◌∷◌, take, length, map, codes, Bool, Result, Ok, Err}
 use Rattle.tape_image.specs.Tape.{TapeItem, block, bad, mark}
 use Rattle.tape_label.specs.declared.fault.LabelFault.{LabelFault}
 use Rattle.tape_label.specs.declared.values.Vol1.{Vol1}

@@ -1,9 +1,9 @@
-use Rattle.std.proofs.Common.{◌≡◌, List, refl, sym, ap, ◌∙◌, arith}
+use Rattle.std.proofs.Common.{◌≡◌, List, refl, ap, ◌∙◌, arith}
 use Rattle.tape_image.specs.Begins.{Stop}
 use Rattle.tape_image.specs.Tape.{TapeItem}
 use Rattle.tape_image.proofs.Existence.{Begins-some}
 use Rattle.tape_image.proofs.Uniqueness.{Begins-one}
-use Rattle.tape_tool.specs.Listing.{listing_of, IsListing}
+use Rattle.tape_tool.specs.Listing.{listing_of}
 use Rattle.tape_tool.proofs.laws.each_image_has_one_listing.Goals as goal
 
 same_listing : (items others : List TapeItem) (stop other : Stop) → items ≡ others → stop ≡ other → listing_of items stop ≡ listing_of others other

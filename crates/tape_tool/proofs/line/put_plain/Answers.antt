@@ -1,4 +1,4 @@
-use Rattle.std.proofs.Common.{◌≡◌, ◌++◌, length, codes, ap, ◌∙◌, append_assoc}
+use Rattle.std.proofs.Common.{◌++◌, length, codes, ap, ◌∙◌, append_assoc}
 use Rattle.tape_label.specs.Digits.{digits}
 use Rattle.tape_tool.proofs.line.put_plain.Goals as goal
 

@@ -1,4 +1,4 @@
-use Rattle.std.proofs.Common.{◌≡◌, [], refl, arith}
+use Rattle.std.proofs.Common.{[], refl, arith}
 use Rattle.std.proofs.KnownBytes.{Keeps-refl}
 use Rattle.tape_tool.proofs.SoFar.{starts}
 use Rattle.tape_tool.proofs.Fronts.{on_err, no_front, in_part, after_none}

@@ -1,4 +1,4 @@
-use Rattle.std.proofs.Common.{◌≡◌, subst}
+use Rattle.std.proofs.Common.{subst}
 use Rattle.std.specs.Io.KnownBytes.{Appends}
 use Rattle.tape_tool.specs.Listing.{end_line}
 use Rattle.tape_tool.proofs.Fronts.{on_err, whole_front}

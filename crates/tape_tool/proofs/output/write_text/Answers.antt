@@ -1,4 +1,4 @@
-use Rattle.std.proofs.Common.{rules, arith, ◌≡◌, ℕ, List, ◌++◌, take, drop, append_assoc}
+use Rattle.std.proofs.Common.{arith, ◌++◌, take, append_assoc}
 use Rattle.std.proofs.lemmas.Grind.{common_steps}
 use Rattle.std.proofs.KnownBytes.{Appends-trans}
 use Rattle.tape_tool.proofs.output.write_text.Goals as goal
