@@ -21,6 +21,9 @@ pub enum Fault {
     OutOfMemory,
 }
 
+/// The exit status of what was done, help that was printed among it.
+const DONE: u8 = 0;
+
 /// The exit status of a fault.
 const FAULT: u8 = 1;
 
@@ -57,7 +60,10 @@ pub fn run<R: Runtime + AllocGlobal>(rt: &R) -> u8 {
 /// What ends the program with status 1.
 pub fn perform<R: Runtime + AllocGlobal>(rt: &R, words: &[String]) -> Result<u8, Fault> {
     match order_of(rt.alloc(), words) {
-        Ok(Order::List { image }) => list(rt, image).map_err(Fault::Tool),
+        Ok(Order::List { image }) => match list(rt, image) {
+            Ok(()) => Ok(DONE),
+            Err(fault) => Err(Fault::Tool(fault)),
+        },
         Err(error) => refuse(rt, &error),
     }
 }
@@ -72,13 +78,13 @@ fn refuse<R: Print + Eprint>(rt: &R, error: &clap::Error) -> Result<u8, Fault> {
         return Ok(WRONG_WORDS);
     }
     match printed {
-        Ok(()) => Ok(0),
+        Ok(()) => Ok(DONE),
         Err(_) => Err(Fault::Tool(ToolFault::File(FileFault::WriteFailed))),
     }
 }
 
 /// Lists the image at the path, or that on standard input.
-fn list<R: Runtime + AllocGlobal>(rt: &R, image: Option<&str>) -> Result<u8, ToolFault> {
+fn list<R: Runtime + AllocGlobal>(rt: &R, image: Option<&str>) -> Result<(), ToolFault> {
     let Some(path) = image else {
         return list_input(rt, rt.reader());
     };
@@ -89,7 +95,7 @@ fn list<R: Runtime + AllocGlobal>(rt: &R, image: Option<&str>) -> Result<u8, Too
 }
 
 /// Lists to the standard output, both streams through buffers.
-fn list_input<R: Print + AllocGlobal, I: Read + Drop>(rt: &R, input: I) -> Result<u8, ToolFault> {
+fn list_input<R: Print + AllocGlobal, I: Read + Drop>(rt: &R, input: I) -> Result<(), ToolFault> {
     let no_memory = ToolFault::Image(ImageFault {
         place: 0,
         cause: ImageCause::OutOfMemory,
@@ -100,6 +106,5 @@ fn list_input<R: Print + AllocGlobal, I: Read + Drop>(rt: &R, input: I) -> Resul
     let Ok(mut writer) = BufWriter::new(rt.alloc(), io::writer(rt)) else {
         return Err(no_memory);
     };
-    list_to(rt.alloc(), &mut reader, &mut writer)?;
-    Ok(0)
+    list_to(rt.alloc(), &mut reader, &mut writer)
 }
