@@ -10,3 +10,6 @@ pub mod Blocks
 pub mod Steps
 pub mod Walks
 pub mod Callers
+pub mod Pieces
+pub mod WrittenItems
+pub mod Pins

@@ -1,7 +1,11 @@
 -- The fixed numbers of the causes.
 use Rattle.std.specs.Prelude.{ℕ}
 use Rattle.tape_image.specs.declared.fault.ImageCause.{ImageCause}
-use Rattle.tape_image.specs.declared.fault.ImageCause.TheVariants.{Truncated, LengthsDiffer, Reserved, TooLong, Device, OutOfMemory}
+use Rattle.tape_image.specs.declared.fault.ImageCause.TheVariants.{Truncated, LengthsDiffer}
+use Rattle.tape_image.specs.declared.fault.ImageCause.TheVariants.{Reserved, TooLong, Device}
+use Rattle.tape_image.specs.declared.fault.ImageCause.TheVariants.{OutOfMemory}
+use Rattle.tape_image.specs.declared.fault.ImageWriteFault.{ImageWriteFault}
+use Rattle.tape_image.specs.declared.fault.ImageWriteFault.TheVariants as w
 
 -- the number of a cause, which programs print
 abbrev pub number_of : ImageCause → ℕ
@@ -11,3 +15,10 @@ number_of (Reserved _) = 3
 number_of TooLong = 4
 number_of Device = 5
 number_of OutOfMemory = 6
+
+-- the number of a writer's fault
+abbrev pub write_number_of : ImageWriteFault → ℕ
+write_number_of w.BlockLength = 1
+write_number_of w.Device = 2
+write_number_of w.Finished = 3
+write_number_of w.TooLong = 4

@@ -1,7 +1,7 @@
-//! Why an image cannot be read further.
+//! Why an image cannot be read further, or written.
 
 ghost use Rattle.std.specs.Prelude.{◌≡◌};
-ghost use Rattle.tape_image.specs.Fault.{number_of};
+ghost use Rattle.tape_image.specs.Fault.{number_of, write_number_of};
 
 use thiserror::Error;
 
@@ -48,8 +48,40 @@ impl ImageCause {
 #[derive(Clone, Copy, Debug, PartialEq, Eq, Error)]
 #[error("{cause}, at byte {place}")]
 pub struct ImageFault {
-    /// How many bytes stand before the word that begins the faulty item. The first byte's place is 0.
+    /// How many bytes stand before the word that begins the faulty item. The first byte's place is
+    /// 0.
     pub place: u64,
     /// What is wrong there.
     pub cause: ImageCause,
+}
+
+/// Why an item, or the end word, was not written.
+#[derive(Clone, Copy, Debug, PartialEq, Eq, Error)]
+pub enum ImageWriteFault {
+    /// A block has 1 to 99,999 bytes. Nothing changed.
+    #[error("no block has this length")]
+    BlockLength,
+    /// The device failed, now or before. Nothing more is written.
+    #[error("the device failed")]
+    Device,
+    /// The end word was written. Nothing changed.
+    #[error("the image is finished")]
+    Finished,
+    /// The image would be longer than 4,294,967,295 bytes. Nothing changed.
+    #[error("the image would be too long")]
+    TooLong,
+}
+
+impl ImageWriteFault {
+    /// The fault's fixed number, from 1 for `BlockLength` to 4 for `TooLong`.
+    pub fn number(&self) -> u8
+        ensures { result ≡ write_number_of self.now }
+    {
+        match self {
+            ImageWriteFault::BlockLength => 1,
+            ImageWriteFault::Device => 2,
+            ImageWriteFault::Finished => 3,
+            ImageWriteFault::TooLong => 4,
+        }
+    }
 }

@@ -1,22 +1,30 @@
-//! Reads images of magnetic tapes (SIMH's `.tap` files) from any reader, one item after another.
+//! Reads and writes images of magnetic tapes (SIMH's `.tap` files), one item after another, over
+//! any reader or writer.
 #![tactic(auto)]
 
 mod block;
+mod buffer;
 mod device;
 mod fault;
 mod front;
 mod item;
-mod laws;
+pub mod laws;
+mod put;
 mod reader;
+mod state;
 #[cfg(test)]
 mod tests;
 mod word;
+mod writer;
 
-pub use fault::{ImageCause, ImageFault};
+pub use buffer::ImageBuffer;
+pub use fault::{ImageCause, ImageFault, ImageWriteFault};
 pub use item::{Ending, Item};
 pub use laws::{
     a_spelling_or_a_stop_stands, bytes_begin_with_one_list_of_items,
-    calls_give_the_items_that_bytes_begin_with, no_spelling_begins_another,
-    spelled_bytes_begin_with_their_items,
+    calls_give_the_items_that_bytes_begin_with, definitions_are_held_by_examples,
+    no_spelling_begins_another, spelled_bytes_begin_with_their_items, walked_items_come_first,
+    written_items_are_spelled,
 };
 pub use reader::ImageReader;
+pub use writer::ImageWriter;

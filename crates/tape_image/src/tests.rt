@@ -5,5 +5,8 @@ mod failing;
 mod faults;
 mod images;
 mod items;
+mod limit;
 mod long;
+mod takers;
 mod worked;
+mod writing;

@@ -1,0 +1,131 @@
+-- Small images and answers that hold the definitions: what each of these says, and what it refuses.
+use Rattle.std.specs.Prelude.{◌≡◌, ◌⊎◌, ◌≤◌, ◌<◌, ◌+◌, ℕ, List, [], ◌∷◌, ◌++◌, length, Option}
+use Rattle.std.specs.Prelude.{Result, Ok, Err, None}
+use Rattle.std.specs.Io.KnownBytes.{Appends}
+use Rattle.tape_image.specs.declared.item.Ending.{Ending}
+use Rattle.tape_image.specs.declared.item.Ending.TheVariants.{Marked, Physical}
+use Rattle.tape_image.specs.declared.fault.ImageCause.TheVariants.{Truncated, LengthsDiffer}
+use Rattle.tape_image.specs.declared.fault.ImageCause.TheVariants.{Reserved, TooLong, Device}
+use Rattle.tape_image.specs.declared.fault.ImageFault.{ImageFault}
+use Rattle.tape_image.specs.declared.fault.ImageWriteFault.{ImageWriteFault}
+use Rattle.tape_image.specs.declared.fault.ImageWriteFault.TheVariants as refusal
+use Rattle.tape_image.specs.declared.item.Item.{Item}
+use Rattle.tape_image.specs.Tape.{TapeItem, block, bad, mark, IsTapeItem}
+use Rattle.tape_image.specs.Spelling.{IsSpelling, Spells, end_len}
+use Rattle.tape_image.specs.Begins.{image_limit, Stop, ends, faults, Stops, Stands, Walks, Begins}
+use Rattle.tape_image.specs.Laws.{SpellingsAreUnique, NeverBoth, BeginsIsUnique, SpelledBegins}
+use Rattle.tape_image.specs.Laws.{WalkedIsFront}
+use Rattle.tape_image.specs.Reader.{Reader, ended, failed}
+use Rattle.tape_image.specs.Step.{least_extent, TakesEnd, TakesFault, IsCause, GivesItem, MeetsEnd}
+use Rattle.tape_image.specs.Step.{MeetsFault, Answers}
+use Rattle.tape_image.specs.Calls.{Gave}
+use Rattle.tape_image.specs.Next.{HasMoved}
+use Rattle.tape_image.specs.Written.{written}
+use Rattle.tape_image.specs.Writer.{Writer, Standing, writing, finished, broken, PutsAll, Puts}
+use Rattle.tape_image.specs.Writer.{PutsFrom, BlockFrom}
+
+-- of images and their items
+pub record ImagesAreHeld : Type 0 where
+  -- a mark and an end word spell a mark, whatever stands behind the end word
+  pub marked : Spells (0 ∷ 0 ∷ 0 ∷ 0 ∷ 255 ∷ 255 ∷ 255 ∷ 255 ∷ 7 ∷ []) (mark ∷ [])
+  pub no_empty_block : IsTapeItem (block []) → ⊥
+  pub no_longer_block : (bytes : List ℕ) → length bytes ≡ 100000 → IsTapeItem (block bytes) → ⊥
+  pub least_odd : least_extent (block (7 ∷ [])) ≡ 10
+  pub least_bad : least_extent bad ≡ 10
+
+-- of what a call of `next` answers and leaves
+pub record AnswersAreHeld : Type 0 where
+  pub no_calls : (r : Reader) → Gave r [] r
+  pub mark_moves : (old new : Reader) → GivesItem old mark new → old.place + 4 ≤ new.place
+  -- the end and a fault are answered for good
+  pub end_stays :
+      (old new : Reader) (ending : Ending) (r : Result (Option TapeItem) ImageFault)
+      → Answers (ended ending) old r new → (r ≡ Ok None) × (new ≡ old)
+  pub fault_stays :
+      (old new : Reader) (fault : ImageFault) (r : Result (Option TapeItem) ImageFault)
+      → Answers (failed fault) old r new → (r ≡ Err fault) × (new ≡ old)
+  pub fault_is_kept :
+      (old new : Reader) (fault : ImageFault)
+      → MeetsFault old fault new → (new.status ≡ failed fault) × (new.place ≡ fault.place)
+  -- at the limit no end word fits, and the end moves nothing
+  pub end_moves :
+      (old new : Reader) → old.place ≡ image_limit → MeetsEnd old new → new.place ≡ image_limit
+  pub same_device_and_room :
+      (old new : Reader) (r : Result (Option Item) ImageFault)
+      → HasMoved old r new → (new.device ≡ old.device) × (new.room ≡ old.room)
+
+-- of how much is taken of the device's bytes
+pub record TakingIsHeld : Type 0 where
+  pub end_takes_no_byte : TakesEnd 0 [] Physical 1 [] [] → ⊥
+  pub end_word_is_taken : (xs ys : List ℕ) → TakesEnd 0 [] Marked 0 xs ys → ⊥
+  pub fault_takes_a_front :
+      (fault : ImageFault) (xs ys : List ℕ)
+      → TakesFault 0 [] fault xs ys → (given : List ℕ) × (xs ≡ given ++ ys)
+  -- by the word alone
+  pub reserved_at_once :
+      (w : ℕ) (xs given : List ℕ) → IsCause (Reserved w) 0 [] 0 xs given → length given ≡ 4
+  pub too_long_at_once :
+      (xs given : List ℕ) → IsCause TooLong 0 [] 0 xs given → length given ≡ 4
+  -- with the last byte of the second word
+  pub differ_at_the_end :
+      (xs given : List ℕ) (h : IsCause LengthsDiffer 0 [] 0 xs given) → length given ≡ h.1
+  pub truncated_takes_all :
+      (xs given : List ℕ) → IsCause Truncated 0 [] 0 xs given → given ≡ xs
+  pub device_cuts_off :
+      (xs given : List ℕ) → IsCause Device 0 [] 0 xs given
+      → (stop : Stop) × Begins 0 given [] 0 stop
+      × ((stop ≡ ends Physical) ⊎ (stop ≡ faults Truncated))
+
+-- of the laws: each is used, so that none has a premise that nothing meets
+pub record LawsAreHeld : Type 0 where
+  pub unique :
+      SpellingsAreUnique → (s t x y : List ℕ) (given other : List TapeItem)
+      → IsSpelling s given → IsSpelling t other → s ++ x ≡ t ++ y → s ≡ t
+  pub apart :
+      NeverBoth → (place : ℕ) (rest : List ℕ) (stop : Stop)
+      → Stands place rest → Stops place rest stop → ⊥
+  pub one_list :
+      BeginsIsUnique
+      → (place : ℕ) (xs : List ℕ) (items others : List TapeItem) (end far : ℕ) (stop other : Stop)
+      → Begins place xs items end stop → Begins place xs others far other → items ≡ others
+  pub begins :
+      SpelledBegins → (xs : List ℕ) (items : List TapeItem) (s : Spells xs items) (end : ℕ)
+      → end + length s.rest ≡ length xs → end + end_len s.ending ≤ image_limit
+      → Begins 0 xs items end (ends s.ending)
+  pub first :
+      WalkedIsFront
+      → (xs ys : List ℕ) (taken items : List TapeItem) (at end : ℕ) (stop : Stop)
+      → Walks 0 xs taken at ys → at ≤ image_limit → Begins 0 xs items end stop
+      → (more : List TapeItem) × (items ≡ taken ++ more)
+
+-- of what a writer's call writes, answers and leaves
+pub record WritingIsHeld : Type 0 where
+  pub three_bytes :
+      written (block (7 ∷ 8 ∷ 9 ∷ []))
+      ≡ 3 ∷ 0 ∷ 0 ∷ 0 ∷ 7 ∷ 8 ∷ 9 ∷ 0 ∷ 3 ∷ 0 ∷ 0 ∷ 0 ∷ []
+  pub a_mark : written mark ≡ 0 ∷ 0 ∷ 0 ∷ 0 ∷ []
+  pub counted :
+      (bytes : List ℕ) (after : Standing) (old new : Writer) → PutsAll bytes after old new
+      → (new.standing ≡ after) × (new.size ≡ old.size + length bytes) × (new.size ≤ image_limit)
+  -- a failed device holds a front, which is not counted, and the writer stays broken
+  pub failed_at :
+      (bytes : List ℕ) (after : Standing) (old new : Writer)
+      → Puts bytes after old (Err refusal.Device) new
+      → (new.standing ≡ broken) × (new.size ≡ old.size)
+      × ((front rest : List ℕ) × Appends old.contents new.contents front
+      × (bytes ≡ front ++ rest))
+  pub too_long :
+      (bytes : List ℕ) (after : Standing) (old new : Writer)
+      → Puts bytes after old (Err refusal.TooLong) new
+      → (image_limit < old.size + length bytes) × (new ≡ old)
+  pub no_bytes :
+      (old new : Writer) (r : Result (Unit {0}) ImageWriteFault)
+      → BlockFrom writing [] old r new → (r ≡ Err refusal.BlockLength) × (new ≡ old)
+  -- the end word and a failure come before the length
+  pub finished_stays :
+      (old new : Writer) (r : Result (Unit {0}) ImageWriteFault)
+      → BlockFrom finished [] old r new → (r ≡ Err refusal.Finished) × (new ≡ old)
+  pub broken_stays :
+      (bytes : List ℕ) (after : Standing) (old new : Writer)
+      (r : Result (Unit {0}) ImageWriteFault)
+      → PutsFrom broken bytes after old r new → (r ≡ Err refusal.Device) × (new ≡ old)

@@ -1,0 +1,109 @@
+-- What callers see of an `ImageWriter`, and what its calls do.
+use Rattle.std.specs.Prelude.{◌≡◌, ℕ, ◌+◌, ◌<◌, ◌≤◌, List, [], ◌∷◌, ◌++◌, length, Option, Some}
+use Rattle.std.specs.Prelude.{Result, Ok, Err, MatchBool}
+use Rattle.std.specs.List.{flat_map}
+use Rattle.std.specs.Io.KnownBytes.{Appends}
+use Rattle.byteorder.specs.Endian.{little_bytes}
+use Rattle.tape_image.specs.declared.fault.ImageWriteFault.{ImageWriteFault}
+use Rattle.tape_image.specs.declared.fault.ImageWriteFault.TheVariants.{BlockLength, Device}
+use Rattle.tape_image.specs.declared.fault.ImageWriteFault.TheVariants.{Finished, TooLong}
+use Rattle.tape_image.specs.Tape.{TapeItem, block, bad, mark}
+use Rattle.tape_image.specs.Word.{end_word}
+use Rattle.tape_image.specs.Spelling.{Spells}
+use Rattle.tape_image.specs.Begins.{image_limit}
+use Rattle.tape_image.specs.Written.{written, is_no_block}
+
+-- open, closed by its end word, or failed
+pub data Standing : Type 0 where
+  writing : Standing
+  finished : Standing
+  broken : Standing
+
+-- A writer: how many bytes its items and its end word take, how it stands, and what the device
+-- holds where that is known.
+pub record Writer : Type 0 where
+  pub size : ℕ
+  pub standing : Standing
+  pub contents : Option (List ℕ)
+
+-- all the bytes were written, within the limit
+pub record PutsAll (bytes : List ℕ) (after : Standing) (old new : Writer) : Type 0 where
+  pub stands : new.standing ≡ after
+  pub size : new.size ≡ old.size + length bytes
+  pub within : new.size ≤ image_limit
+  pub wrote : Appends old.contents new.contents bytes
+
+-- the device failed: a front of the bytes was written, and is not counted
+pub record PutsSome (bytes : List ℕ) (old new : Writer) : Type 0 where
+  pub stands : new.standing ≡ broken
+  pub size : new.size ≡ old.size
+  pub within : old.size + length bytes ≤ image_limit
+  pub some : List ℕ
+  pub wrote : Appends old.contents new.contents some
+  pub rest : List ℕ
+  pub front : bytes ≡ some ++ rest
+
+-- an open writer puts the bytes and then stands so, or says why it did not
+abbrev pub Puts : List ℕ → Standing → Writer → Result (Unit {0}) ImageWriteFault → Writer → Type 0
+Puts bytes after old (Ok _) new = PutsAll bytes after old new
+Puts bytes after old (Err TooLong) new = (image_limit < old.size + length bytes) × (new ≡ old)
+Puts bytes after old (Err Device) new = PutsSome bytes old new
+Puts bytes after old (Err BlockLength) new = ⊥
+Puts bytes after old (Err Finished) new = ⊥
+
+-- what a call gives and leaves: a failure and the end stay
+abbrev pub PutsFrom :
+    Standing → List ℕ → Standing → Writer → Result (Unit {0}) ImageWriteFault → Writer → Type 0
+PutsFrom writing bytes after old result new = Puts bytes after old result new
+PutsFrom finished bytes after old result new = (result ≡ Err Finished) × (new ≡ old)
+PutsFrom broken bytes after old result new = (result ≡ Err Device) × (new ≡ old)
+
+-- the same for a block, whose length is judged where the writer is open
+abbrev pub BlockFrom :
+    Standing → List ℕ → Writer → Result (Unit {0}) ImageWriteFault → Writer → Type 0
+BlockFrom writing content old result new =
+    MatchBool (is_no_block content) ((result ≡ Err BlockLength) × (new ≡ old))
+    (Puts (written (block content)) writing old result new)
+BlockFrom finished content old result new = (result ≡ Err Finished) × (new ≡ old)
+BlockFrom broken content old result new = (result ≡ Err Device) × (new ≡ old)
+
+-- the call for this item answered success
+abbrev pub PutItem : TapeItem → Writer → Writer → Type 0
+PutItem (block content) old new = BlockFrom old.standing content old (Ok tt) new
+PutItem bad old new = ⊥
+PutItem mark old new = PutsFrom old.standing (written mark) writing old (Ok tt) new
+
+-- the calls for these items, one after another, answered success
+abbrev pub PutItems : List TapeItem → Writer → Writer → Type 0
+PutItems [] old new = new ≡ old
+PutItems (item ∷ items) old new = (mid : Writer) × PutItem item old mid × PutItems items mid new
+
+-- the call for this item answered that the device failed
+abbrev pub FailItem : TapeItem → Writer → Writer → Type 0
+FailItem (block content) old new = BlockFrom old.standing content old (Err Device) new
+FailItem bad old new = ⊥
+FailItem mark old new = PutsFrom old.standing (written mark) writing old (Err Device) new
+
+-- Where the calls for these items and `finish` answered success, the bytes that were appended spell
+-- the items: the one spelling of each, and an end word last.
+abbrev pub WrittenSpells : Type 0
+WrittenSpells =
+    (old mid new : Writer) (items : List TapeItem) (before after : List ℕ)
+    → old.contents ≡ Some before → new.contents ≡ Some after
+    → PutItems items old mid
+    → PutsFrom mid.standing (little_bytes 4 end_word) finished mid (Ok tt) new
+    → (bytes : List ℕ) × (after ≡ before ++ bytes)
+    × (bytes ≡ flat_map written items ++ little_bytes 4 end_word)
+    × Spells bytes items × (new.size ≡ old.size + length bytes)
+
+-- Where the calls for these items answered success, and that for the next one that the device
+-- failed, the bytes that were appended are the spellings of the items and a front of the next
+-- one's. The items alone are counted.
+abbrev pub FailedHoldsFront : Type 0
+FailedHoldsFront =
+    (old mid new : Writer) (items : List TapeItem) (item : TapeItem) (before after : List ℕ)
+    → old.contents ≡ Some before → new.contents ≡ Some after
+    → PutItems items old mid → FailItem item mid new
+    → (front rest : List ℕ) × (after ≡ before ++ (flat_map written items ++ front))
+    × (written item ≡ front ++ rest)
+    × (new.size ≡ old.size + length (flat_map written items))

@@ -1,0 +1,62 @@
+//! Putting bytes to a writer, however few of them it takes at a time.
+//!
+//! The loop stands here, since std's `write_all` calls an interrupted writer again, and here any
+//! error is a failure. A writer that takes nothing of what is left has failed too, and is not
+//! called again.
+
+ghost use Rattle.std.specs.Prelude.{◌≡◌, ◌≤◌, length, OnOk, OnErr, IsOkUnless};
+ghost use Rattle.std.specs.Io.KnownBytes.{Appends};
+ghost use Rattle.byteorder.specs.Endian.{little_bytes};
+ghost use Rattle.tape_image.specs.Written.{AppendsFront, written_block};
+
+use crate::fault::ImageWriteFault;
+use byteorder::{ByteOrder, LittleEndian};
+use std::io::Write;
+
+/// Writes all the bytes, or a front of them where the writer fails.
+fn put<W: Write>(device: &mut W, bytes: &[u8]) -> Result<(), ImageWriteFault>
+    ensures ok { OnOk result (Appends (W.contents device.old) (W.contents device.new) bytes.now) }
+    ensures err { OnErr result
+        (AppendsFront (W.contents device.old) (W.contents device.new) bytes.now) }
+    ensures fault { IsOkUnless result ImageWriteFault.Device }
+{
+    let mut rest = bytes;
+    'writes: while !rest.is_empty() {
+        match device.write(rest) {
+            Ok(0) => return Err(ImageWriteFault::Device),
+            Ok(n) => rest = &rest[n..],
+            Err(_) => return Err(ImageWriteFault::Device),
+        }
+    }
+    Ok(())
+}
+
+/// Writes a word, the least byte first.
+pub(crate) fn put_word<W: Write>(device: &mut W, word: u32) -> Result<(), ImageWriteFault>
+    ensures ok { OnOk result
+        (Appends (W.contents device.old) (W.contents device.new) (little_bytes 4 word)) }
+    ensures err { OnErr result
+        (AppendsFront (W.contents device.old) (W.contents device.new) (little_bytes 4 word)) }
+    ensures fault { IsOkUnless result ImageWriteFault.Device }
+{
+    let mut bytes = [0u8; 4];
+    LittleEndian::write_u32(&mut bytes, word);
+    put(device, &bytes)
+}
+
+/// Writes a block: its word, its bytes, a pad byte if they are odd, and its word again.
+pub(crate) fn put_block<W: Write>(device: &mut W, content: &[u8]) -> Result<(), ImageWriteFault>
+    requires { length content.now ≤ 99999 }
+    ensures ok { OnOk result
+        (Appends (W.contents device.old) (W.contents device.new) (written_block content.now)) }
+    ensures err { OnErr result
+        (AppendsFront (W.contents device.old) (W.contents device.new) (written_block content.now)) }
+    ensures fault { IsOkUnless result ImageWriteFault.Device }
+{
+    let word = content.len() as u32;
+    let pad = [0u8; 1];
+    put_word(device, word)?;
+    put(device, content)?;
+    put(device, &pad[..content.len() % 2])?;
+    put_word(device, word)
+}

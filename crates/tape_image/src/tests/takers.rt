@@ -1,0 +1,85 @@
+//! Writers that take little, fail, or only count.
+
+use std::io;
+use std::io::{Error, ErrorKind, Write};
+
+/// Takes one byte a call, and after so many bytes fails, or takes nothing.
+#[derive(Drop)]
+pub(super) struct Narrow {
+    pub(super) taken: Vec<u8>,
+    /// How many bytes it takes still.
+    pub(super) left: usize,
+    /// The error with which it fails then. It takes nothing where there is none.
+    pub(super) kind: Option<ErrorKind>,
+    /// How often it took nothing, or failed.
+    pub(super) failures: u32,
+}
+
+impl Write for Narrow {
+    fn write(&mut self, buf: &[u8]) -> io::Result<usize> {
+        if self.left == 0 {
+            self.failures = self.failures.saturating_add(1);
+            return match self.kind {
+                Some(kind) => Err(Error::from(kind)),
+                None => Ok(0),
+            };
+        }
+        match buf {
+            [first, ..] => {
+                self.taken.push(*first)?;
+                self.left -= 1;
+                Ok(1)
+            }
+            [] => Ok(0),
+        }
+    }
+
+    fn flush(&mut self) -> io::Result<()> {
+        Ok(())
+    }
+}
+
+/// Fails at one call, and takes all at each other.
+#[derive(Drop)]
+pub(super) struct FailsOnce {
+    /// The number of the call at which it fails, from 0.
+    pub(super) fails_at: u32,
+    /// How often it was called.
+    pub(super) calls: u32,
+}
+
+impl Write for FailsOnce {
+    fn write(&mut self, buf: &[u8]) -> io::Result<usize> {
+        let call = self.calls;
+        self.calls = call.saturating_add(1);
+        if call == self.fails_at {
+            return Err(Error::from(ErrorKind::Interrupted));
+        }
+        Ok(buf.len())
+    }
+
+    fn flush(&mut self) -> io::Result<()> {
+        Ok(())
+    }
+}
+
+/// Takes all, keeps nothing, and counts.
+#[derive(Drop)]
+pub(super) struct Counting {
+    /// How many bytes it took.
+    pub(super) taken: u64,
+    /// How often it was called.
+    pub(super) calls: u64,
+}
+
+impl Write for Counting {
+    fn write(&mut self, buf: &[u8]) -> io::Result<usize> {
+        self.taken = self.taken.saturating_add(buf.len() as u64);
+        self.calls = self.calls.saturating_add(1);
+        Ok(buf.len())
+    }
+
+    fn flush(&mut self) -> io::Result<()> {
+        Ok(())
+    }
+}
