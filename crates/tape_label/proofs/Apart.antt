@@ -1,5 +1,6 @@
 -- No block is two kinds of label, and a reading call refuses the kinds that are not its own.
-use Rattle.std.proofs.Common.{◌≡◌, ℕ, List, [], ◌∷◌, length, Bool, true, false, cond, eqb, Option, None, Some, Err, refl, sym, subst, ◌∙◌}
+use Rattle.std.proofs.Common.{◌≡◌, ℕ, List, [], ◌∷◌, length, Bool, true, false, cond, eqb, Option}
+use Rattle.std.proofs.Common.{None, Some, Err, refl, sym, subst, ◌∙◌}
 use Rattle.std.specs.List.{find}
 use Rattle.std.specs.Str.{bytes_eq}
 use Rattle.std.proofs.lemmas.Bool.{eqb-true}
@@ -7,14 +8,16 @@ use Rattle.std.proofs.lemmas.Slice.Eq.{bytes_eq-Decides}
 use Rattle.tape_label.specs.declared.fault.LabelFault.TheVariants as faults
 use Rattle.tape_label.specs.declared.values.Kind.{Kind}
 use Rattle.tape_label.specs.declared.values.Kind.TheVariants as kinds
-use Rattle.tape_label.specs.Kinds.{identifier, HasKind, IsFirstTrailer, IsSecond, kind_named, kind_at}
+use Rattle.tape_label.specs.Kinds.{identifier, HasKind, IsFirstTrailer, IsSecond, kind_named}
+use Rattle.tape_label.specs.Kinds.{kind_at}
 use Rattle.tape_label.specs.Positions.{positions}
 use Rattle.tape_label.specs.Reading.{vol1_at, head1_at, trail1_at, end_at, head2_at}
 use Rattle.tape_label.proofs.Steps.{size_again}
 
 -- ---- the kind as a function of the block
 
-find_step : {X : Type 0} (p : X → Bool) (x : X) (rest : Option X) (y : X) (b : Bool) → p x ≡ b → (rest ≡ Some y → p y ≡ true) → cond b (Some x) rest ≡ Some y → p y ≡ true
+find_step : {X : Type 0} (p : X → Bool) (x : X) (rest : Option X) (y : X) (b : Bool) → p x ≡ b
+    → (rest ≡ Some y → p y ≡ true) → cond b (Some x) rest ≡ Some y → p y ≡ true
 find_step p x rest y true test later e = let same : x ≡ y = cc in subst (λ z. p z ≡ true) same test
 find_step p x rest y false test later e = later e
 
@@ -25,10 +28,13 @@ find_passes p (x ∷ xs) y e = find_step p x (find p xs) y (p x) refl (find_pass
 named_is : (text : List ℕ) (kind : Kind) → kind_named text ≡ Some kind → text ≡ identifier kind
 named_is text kind e =
     (bytes_eq-Decides text (identifier kind)).0
-    (find_passes (λ kind. bytes_eq text (identifier kind)) (kinds.Vol1 ∷ kinds.Hdr1 ∷ kinds.Hdr2 ∷ kinds.Eof1 ∷ kinds.Eof2 ∷ kinds.Eov1 ∷ kinds.Eov2 ∷ []) kind e)
+    (find_passes (λ kind. bytes_eq text (identifier kind)) (kinds.Vol1 ∷ kinds.Hdr1 ∷ kinds.Hdr2
+    ∷ kinds.Eof1 ∷ kinds.Eof2 ∷ kinds.Eov1 ∷ kinds.Eov2 ∷ []) kind e)
 
-kind_step : (block : List ℕ) (kind : Kind) (b : Bool) → eqb (length block) 80 ≡ b → cond b (kind_named (positions block 1 4)) None ≡ Some kind → HasKind block kind
-kind_step block kind true size e = record { size = eqb-true _ _ size; named = named_is (positions block 1 4) kind e }
+kind_step : (block : List ℕ) (kind : Kind) (b : Bool) → eqb (length block) 80 ≡ b
+    → cond b (kind_named (positions block 1 4)) None ≡ Some kind → HasKind block kind
+kind_step block kind true size e =
+    record { size = eqb-true _ _ size; named = named_is (positions block 1 4) kind e }
 kind_step block kind false size e = absurd cc
 
 pub kind_found : (block : List ℕ) (kind : Kind) → kind_at block ≡ Some kind → HasKind block kind
@@ -53,24 +59,28 @@ HasKind-unique block a b p q = some_is a b (sym (kind_again block a p) ∙ kind_
 
 -- ---- labels of other kinds
 
-pub vol1_refuses : (block : List ℕ) (kind : Kind) → HasKind block kind → (kind ≡ kinds.Vol1 → ⊥) → vol1_at block ≡ Err faults.Identifier
+pub vol1_refuses : (block : List ℕ) (kind : Kind) → HasKind block kind → (kind ≡ kinds.Vol1 → ⊥)
+    → vol1_at block ≡ Err faults.Identifier
 unfolding vol1_at
 vol1_refuses block kinds.Vol1 has other = absurd (other refl)
 vol1_refuses block _ has other = rw (size_again block has.size, has.named) refl
 
-pub head1_refuses : (block : List ℕ) (kind : Kind) → HasKind block kind → (kind ≡ kinds.Hdr1 → ⊥) → head1_at block ≡ Err faults.Identifier
+pub head1_refuses : (block : List ℕ) (kind : Kind) → HasKind block kind → (kind ≡ kinds.Hdr1 → ⊥)
+    → head1_at block ≡ Err faults.Identifier
 unfolding head1_at
 head1_refuses block kinds.Hdr1 has other = absurd (other refl)
 head1_refuses block _ has other = rw (size_again block has.size, has.named) refl
 
-pub head2_refuses : (block : List ℕ) (kind : Kind) → HasKind block kind → (IsSecond kind → ⊥) → head2_at block ≡ Err faults.Identifier
+pub head2_refuses : (block : List ℕ) (kind : Kind) → HasKind block kind → (IsSecond kind → ⊥)
+    → head2_at block ≡ Err faults.Identifier
 unfolding head2_at
 head2_refuses block kinds.Hdr2 has other = absurd (other tt)
 head2_refuses block kinds.Eof2 has other = absurd (other tt)
 head2_refuses block kinds.Eov2 has other = absurd (other tt)
 head2_refuses block _ has other = rw (size_again block has.size, has.named) refl
 
-pub trail1_refuses : (block : List ℕ) (kind : Kind) → HasKind block kind → (IsFirstTrailer kind → ⊥) → trail1_at block ≡ Err faults.Identifier
+pub trail1_refuses : (block : List ℕ) (kind : Kind) → HasKind block kind → (IsFirstTrailer kind → ⊥)
+    → trail1_at block ≡ Err faults.Identifier
 unfolding trail1_at end_at
 trail1_refuses block kinds.Eof1 has other = absurd (other tt)
 trail1_refuses block kinds.Eov1 has other = absurd (other tt)

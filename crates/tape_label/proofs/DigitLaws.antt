@@ -1,5 +1,7 @@
 -- A number and its digits with leading zeros are told by each other.
-use Rattle.std.proofs.Common.{◌≡◌, ℕ, zero, suc, ◌+◌, ◌-◌, ◌*◌, ◌/◌, ◌%◌, ◌^◌, ◌<◌, ◌≤◌, Bool, true, false, List, [], ◌∷◌, ◌++◌, length, drop, arith, add-one, refl, sym, ap, ◌∙◌, append_assoc, rules}
+use Rattle.std.proofs.Common.{◌≡◌, ℕ, zero, suc, ◌+◌, ◌-◌, ◌*◌, ◌/◌, ◌%◌, ◌^◌, ◌<◌, ◌≤◌, Bool, true}
+use Rattle.std.proofs.Common.{false, List, [], ◌∷◌, ◌++◌, length, drop, arith, add-one, refl, sym}
+use Rattle.std.proofs.Common.{ap, ◌∙◌, append_assoc, rules}
 use Rattle.std.specs.Prelude.{◌&&◌}
 use Rattle.std.specs.Str.{all_ascii_digits}
 use Rattle.std.specs.Char.{is_ascii_digit}
@@ -17,7 +19,8 @@ digit_range d e = search rules
 
 -- ---- there and back
 
-digits-number_after : (k n : ℕ) (ds : List ℕ) → all_ascii_digits ds ≡ true → digits (k + length ds) (number_after n ds) ≡ digits k n ++ ds
+digits-number_after : (k n : ℕ) (ds : List ℕ) → all_ascii_digits ds ≡ true
+    → digits (k + length ds) (number_after n ds) ≡ digits k n ++ ds
 digits-number_after k n [] e = let z : k + 0 ≡ k = omega arith in rw (z, append-nil) refl
 digits-number_after k n (d ∷ ds) e =
     let parts = both (is_ascii_digit d) (all_ascii_digits ds) e in
@@ -25,13 +28,18 @@ digits-number_after k n (d ∷ ds) e =
     let widths : k + suc (length ds) ≡ suc k + length ds = omega arith in
     let high : (n * 10 + (d - 48)) / 10 ≡ n = omega arith in
     let low : 48 + (n * 10 + (d - 48)) % 10 ≡ d = omega arith in
-    rw widths (digits-number_after (suc k) (n * 10 + (d - 48)) ds parts.1 ∙ rw (high, low, append_assoc) refl)
+    rw widths (digits-number_after (suc k) (n * 10 + (d - 48)) ds parts.1
+    ∙ rw (high, low, append_assoc) refl)
 
 -- digits are those of their number
-pub digits-number_of : (ds : List ℕ) → all_ascii_digits ds ≡ true → digits (length ds) (number_of ds) ≡ ds
-digits-number_of ds e = let z : 0 + length ds ≡ length ds = omega arith in rw z at (digits-number_after 0 0 ds e)
+pub digits-number_of : (ds : List ℕ) → all_ascii_digits ds ≡ true
+    → digits (length ds) (number_of ds) ≡ ds
+digits-number_of ds e =
+    let z : 0 + length ds ≡ length ds = omega arith in
+    rw z at (digits-number_after 0 0 ds e)
 
-number_after-append : (n : ℕ) (xs ys : List ℕ) → number_after n (xs ++ ys) ≡ number_after (number_after n xs) ys
+number_after-append : (n : ℕ) (xs ys : List ℕ)
+    → number_after n (xs ++ ys) ≡ number_after (number_after n xs) ys
 number_after-append n [] ys = refl
 number_after-append n (x ∷ xs) ys = number_after-append (n * 10 + (x - 48)) xs ys
 
@@ -40,16 +48,14 @@ number_after-digits a zero n small = omega arith
 number_after-digits a (suc k) n small =
     let more : 10 ^ suc k ≡ 10 ^ k * 10 = pow-suc 10 k in
     let front = number_after-digits a k (n / 10) (omega (arith, more)) in
-    let last : number_after a (digits k (n / 10) ++ (48 + n % 10) ∷ []) ≡ number_after a (digits k (n / 10)) * 10 + (48 + n % 10 - 48) = number_after-append a (digits k (n / 10)) ((48 + n % 10) ∷ []) in
+    let last : number_after a (digits k (n / 10) ++ (48 + n % 10) ∷ [])
+    ≡ number_after a (digits k (n / 10)) * 10 + (48 + n % 10 - 48) =
+    number_after-append a (digits k (n / 10)) ((48 + n % 10) ∷ []) in
     last ∙ rw (front, more) (omega arith)
 
 -- a number that fits is that of its digits
 pub number_of-digits : (k n : ℕ) → n < 10 ^ k → number_of (digits k n) ≡ n
 number_of-digits k n small = number_after-digits 0 k n small ∙ omega arith
-
--- Two numbers that fit and have the same digits are one.
-pub digits-unique : (k m n : ℕ) → m < 10 ^ k → n < 10 ^ k → digits k m ≡ digits k n → m ≡ n
-digits-unique k m n p q e = sym (number_of-digits k m p) ∙ ap number_of e ∙ number_of-digits k n q
 
 -- ---- what digits are
 
@@ -57,7 +63,8 @@ pub length-digits : (k n : ℕ) → length (digits k n) ≡ k
 length-digits zero n = refl
 length-digits (suc k) n = grind (arith, common_steps, length-digits k (n / 10))
 
-all_ascii_digits-append : (xs ys : List ℕ) → all_ascii_digits xs ≡ true → all_ascii_digits ys ≡ true → all_ascii_digits (xs ++ ys) ≡ true
+all_ascii_digits-append : (xs ys : List ℕ) → all_ascii_digits xs ≡ true → all_ascii_digits ys ≡ true
+    → all_ascii_digits (xs ++ ys) ≡ true
 all_ascii_digits-append [] ys p q = q
 all_ascii_digits-append (x ∷ xs) ys p q =
     let parts = both (is_ascii_digit x) (all_ascii_digits xs) p in
@@ -68,14 +75,16 @@ last_digit n = search rules
 
 pub all_ascii_digits-digits : (k n : ℕ) → all_ascii_digits (digits k n) ≡ true
 all_ascii_digits-digits zero n = refl
-all_ascii_digits-digits (suc k) n = all_ascii_digits-append (digits k (n / 10)) ((48 + n % 10) ∷ []) (all_ascii_digits-digits k (n / 10)) (last_digit n)
+all_ascii_digits-digits (suc k) n = all_ascii_digits-append (digits k (n / 10))
+    ((48 + n % 10) ∷ []) (all_ascii_digits-digits k (n / 10)) (last_digit n)
 
 -- ---- how large a number its digits allow
 
 widens : (a b p : ℕ) → a ≤ b → a * p ≤ b * p
 widens a b p le = grind arith
 
-number_after-lt : (n : ℕ) (ds : List ℕ) → all_ascii_digits ds ≡ true → number_after n ds < (n + 1) * 10 ^ length ds
+number_after-lt : (n : ℕ) (ds : List ℕ) → all_ascii_digits ds ≡ true
+    → number_after n ds < (n + 1) * 10 ^ length ds
 number_after-lt n [] e = omega arith
 number_after-lt n (d ∷ ds) e =
     let parts = both (is_ascii_digit d) (all_ascii_digits ds) e in
@@ -97,12 +106,23 @@ one_more_digit n d i small digit =
 
 pub fits_nineteen : (n i : ℕ) → n < 10 ^ i → i < 19 → n < 10 ^ 18
 fits_nineteen n i small lt =
-    let at_most : 10 ^ i ≤ 10 ^ 18 = pow-le-pow_right (omega arith) {i = i} {j = 18} (omega arith) in
+    let at_most : 10 ^ i ≤ 10 ^ 18 =
+    pow-le-pow_right (omega arith) {i = i} {j = 18} (omega arith) in
     omega arith
 
+pub ruleset counted_digits = (one_more_digit, fits_nineteen)
+
 -- the loop at its end: all bytes are digits, and the number is theirs
-pub read_all : (number i : ℕ) (text : List ℕ) → length text ≤ i → number_after number (drop i text) ≡ number_of text
-    → all_ascii_digits (drop i text) ≡ all_ascii_digits text → (all_ascii_digits text ≡ true) × (number ≡ number_of text)
+pub read_all : (number i : ℕ) (text : List ℕ) → length text ≤ i
+    → number_after number (drop i text) ≡ number_of text
+    → all_ascii_digits (drop i text) ≡ all_ascii_digits text
+    → (all_ascii_digits text ≡ true) × (number ≡ number_of text)
 read_all number i text le value tests =
     let rest : drop i text ≡ [] = drop_all i text le in
     (sym (rw rest at tests), rw rest at value)
+
+-- ---- for the crates above
+
+-- Two numbers that fit and have the same digits are one.
+pub digits-unique : (k m n : ℕ) → m < 10 ^ k → n < 10 ^ k → digits k m ≡ digits k n → m ≡ n
+digits-unique k m n p q e = sym (number_of-digits k m p) ∙ ap number_of e ∙ number_of-digits k n q

@@ -1,25 +1,30 @@
--- The volume label, first header labels and first trailer labels: what their functions give is the label that is
--- spelled so, and what is spelled so they give.
-use Rattle.std.proofs.Common.{◌≡◌, ℕ, List, length, Bool, true, false, cond, Ok, Err, refl, subst, arith, inl, inr, ◌⊎◌}
+-- The volume label, first header labels and first trailer labels: what their functions give is the
+-- label that is spelled so, and what is spelled so they give.
+use Rattle.std.proofs.Common.{◌≡◌, ℕ, List, length, Bool, true, false, cond, Ok, Err, refl, subst}
+use Rattle.std.proofs.Common.{arith, inl, inr, ◌⊎◌}
 use Rattle.tape_label.specs.declared.fault.LabelFault.TheVariants as faults
 use Rattle.tape_label.specs.declared.values.Kind.TheVariants as kinds
 use Rattle.tape_label.specs.declared.values.Vol1.{Vol1}
 use Rattle.tape_label.specs.declared.values.Head1.{Head1}
 use Rattle.tape_label.specs.declared.values.Trail1.{Trail1}
-use Rattle.tape_label.specs.Kinds.{identifier, trailer}
+use Rattle.tape_label.specs.Kinds.{HasKind, identifier, trailer}
 use Rattle.tape_label.specs.Positions.{positions}
 use Rattle.tape_label.specs.Vol1.{IsVol1}
 use Rattle.tape_label.specs.Head1.{HasHead, IsHead1}
 use Rattle.tape_label.specs.Trail1.{IsTrail1}
-use Rattle.tape_label.specs.Reading.{◌>>=◌, eighty, begins_as, of_kind, number_at, vol1_fields, vol1_at, head_fields, head_at, head1_at, end_at, trail1_at}
-use Rattle.tape_label.proofs.Steps.{bind_ok, done, ok_is, number_found, number_again, character_found, character_is, size_found, size_again, begins_found, named_found, named_again}
+use Rattle.tape_label.specs.Reading.{◌>>=◌, eighty, begins_as, of_kind, number_at, vol1_fields}
+use Rattle.tape_label.specs.Reading.{vol1_at, head_fields, head_at, head1_at, end_at, trail1_at}
+use Rattle.tape_label.proofs.Steps.{bind_ok, done, ok_is, number_found, number_again}
+use Rattle.tape_label.proofs.Steps.{character_found, character_is, size_found, size_again}
+use Rattle.tape_label.proofs.Steps.{begins_found, named_found, named_again}
 
 -- ---- volume labels
 
 pub vol1_found : (label : List ℕ) (v : Vol1) → vol1_at label ≡ Ok v → IsVol1 label v
 unfolding vol1_at
 vol1_found label v e =
-    let a = bind_ok (eighty label) (λ _. of_kind label kinds.Vol1 >>= λ _. Ok (vol1_fields label)) v e in
+    let a =
+    bind_ok (eighty label) (λ _. of_kind label kinds.Vol1 >>= λ _. Ok (vol1_fields label)) v e in
     let b = bind_ok (of_kind label kinds.Vol1) (λ _. Ok (vol1_fields label)) v a.2 in
     let size = size_found label a.0 a.1 in
     subst (λ (v : Vol1). IsVol1 label v) (ok_is (vol1_fields label) v b.2) record {
@@ -36,15 +41,31 @@ unfolding vol1_at
 vol1_again label v is =
     let access = character_is label 10 v.access (omega (arith, is.kind.size)) is.access in
     let version = character_is label 79 v.version (omega (arith, is.kind.size)) is.version in
-    rw (size_again label is.kind.size, named_again label kinds.Vol1 is.kind.named, is.volume, access, is.implementation, is.owner, version) refl
+    rw (
+      size_again label is.kind.size,
+      named_again label kinds.Vol1 is.kind.named,
+      is.volume,
+      access,
+      is.implementation,
+      is.owner,
+      version,
+    ) refl
+
+-- a volume label has no field that can fail
+pub vol1_kind : (label : List ℕ) → HasKind label kinds.Vol1 → vol1_at label ≡ Ok (vol1_fields label)
+unfolding vol1_at
+vol1_kind label has = rw (size_again label has.size, named_again label kinds.Vol1 has.named) refl
 
 -- ---- what first header and first trailer labels share
 
-head_found : (label : List ℕ) (h : Head1) → length label ≡ 80 → head_at label ≡ Ok h → HasHead label h
+head_found : (label : List ℕ) (h : Head1) → length label ≡ 80 → head_at label ≡ Ok h
+    → HasHead label h
 unfolding head_at
 head_found label h size e =
-    let a = bind_ok (number_at label 28 31 1) (λ sect. number_at label 32 35 1 >>= λ sequence. Ok (head_fields label sect sequence)) h e in
-    let b = bind_ok (number_at label 32 35 1) (λ sequence. Ok (head_fields label a.0 sequence)) h a.2 in
+    let a = bind_ok (number_at label 28 31 1)
+    (λ sect. number_at label 32 35 1 >>= λ sequence. Ok (head_fields label sect sequence)) h e in
+    let b =
+    bind_ok (number_at label 32 35 1) (λ sequence. Ok (head_fields label a.0 sequence)) h a.2 in
     subst (λ (h : Head1). HasHead label h) (ok_is (head_fields label a.0 b.0) h b.2) record {
       file_id = refl;
       set_id = refl;
@@ -58,11 +79,23 @@ head_found label h size e =
       implementation = refl;
     }
 
-head_again : (label : List ℕ) (h : Head1) → length label ≡ 80 → HasHead label h → head_at label ≡ Ok h
+head_again : (label : List ℕ) (h : Head1) → length label ≡ 80 → HasHead label h
+    → head_at label ≡ Ok h
 unfolding head_at
 head_again label h size has =
     let access = character_is label 53 h.access (omega arith) has.access in
-    rw (number_again label 28 31 1 h.sect has.sect, number_again label 32 35 1 h.sequence has.sequence, has.file_id, has.set_id, has.generation, has.gen_version, has.created, has.expires, access, has.implementation) refl
+    rw (
+      number_again label 28 31 1 h.sect has.sect,
+      number_again label 32 35 1 h.sequence has.sequence,
+      has.file_id,
+      has.set_id,
+      has.generation,
+      has.gen_version,
+      has.created,
+      has.expires,
+      access,
+      has.implementation,
+    ) refl
 
 -- ---- first header labels
 
@@ -72,20 +105,29 @@ head1_found label h e =
     let a = bind_ok (eighty label) (λ _. of_kind label kinds.Hdr1 >>= λ _. head_at label) h e in
     let b = bind_ok (of_kind label kinds.Hdr1) (λ _. head_at label) h a.2 in
     let size = size_found label a.0 a.1 in
-    record { kind = record { size = size; named = named_found label kinds.Hdr1 b.0 b.1 }; head = head_found label h size b.2 }
+    record {
+      kind = record { size = size; named = named_found label kinds.Hdr1 b.0 b.1 };
+      head = head_found label h size b.2;
+    }
 
 pub head1_again : (label : List ℕ) (h : Head1) → IsHead1 label h → head1_at label ≡ Ok h
 unfolding head1_at
-head1_again label h is = rw (size_again label is.kind.size, named_again label kinds.Hdr1 is.kind.named) (head_again label h is.kind.size is.head)
+head1_again label h is = rw (
+  size_again label is.kind.size,
+  named_again label kinds.Hdr1 is.kind.named,
+) (head_again label h is.kind.size is.head)
 
 -- ---- first trailer labels
 
-end_cases : (one two eof : Bool) → cond one (Ok true) (cond two (Ok false) (Err faults.Identifier)) ≡ done eof → ((one ≡ true) × (true ≡ eof)) ⊎ ((two ≡ true) × (false ≡ eof))
+end_cases : (one two eof : Bool)
+    → cond one (Ok true) (cond two (Ok false) (Err faults.Identifier)) ≡ done eof
+    → ((one ≡ true) × (true ≡ eof)) ⊎ ((two ≡ true) × (false ≡ eof))
 end_cases true two eof e = inl (refl, cc)
 end_cases false true eof e = inr (refl, cc)
 end_cases false false eof e = absurd cc
 
-end_found : (label : List ℕ) (eof : Bool) → end_at label ≡ Ok eof → positions label 1 4 ≡ identifier (trailer eof)
+end_found : (label : List ℕ) (eof : Bool) → end_at label ≡ Ok eof
+    → positions label 1 4 ≡ identifier (trailer eof)
 unfolding end_at
 end_found label eof e =
     elim (end_cases (begins_as label kinds.Eof1) (begins_as label kinds.Eov1) eof e) [
@@ -93,7 +135,8 @@ end_found label eof e =
       | inr p ↦ rw (← p.1) (begins_found label kinds.Eov1 p.0)
     ]
 
-end_again : (label : List ℕ) (eof : Bool) → positions label 1 4 ≡ identifier (trailer eof) → end_at label ≡ Ok eof
+end_again : (label : List ℕ) (eof : Bool) → positions label 1 4 ≡ identifier (trailer eof)
+    → end_at label ≡ Ok eof
 unfolding end_at
 end_again label true named = rw named refl
 end_again label false named = rw named refl
@@ -101,10 +144,14 @@ end_again label false named = rw named refl
 pub trail1_found : (label : List ℕ) (t : Trail1) → trail1_at label ≡ Ok t → IsTrail1 label t
 unfolding trail1_at
 trail1_found label t e =
-    let a = bind_ok (eighty label) (λ _. end_at label >>= λ eof. head_at label >>= λ head. number_at label 55 60 0 >>= λ blocks. Ok (record { eof = eof; head = head; blocks = blocks })) t e in
-    let b = bind_ok (end_at label) (λ eof. head_at label >>= λ head. number_at label 55 60 0 >>= λ blocks. Ok (record { eof = eof; head = head; blocks = blocks })) t a.2 in
-    let c = bind_ok (head_at label) (λ head. number_at label 55 60 0 >>= λ blocks. Ok (record { eof = b.0; head = head; blocks = blocks })) t b.2 in
-    let d = bind_ok (number_at label 55 60 0) (λ blocks. Ok (record { eof = b.0; head = c.0; blocks = blocks })) t c.2 in
+    let a = bind_ok (eighty label) (λ _. end_at label >>= λ eof. head_at label >>= λ head. number_at
+    label 55 60 0 >>= λ blocks. Ok (record { eof = eof; head = head; blocks = blocks })) t e in
+    let b = bind_ok (end_at label) (λ eof. head_at label >>= λ head. number_at label 55 60 0 >>=
+    λ blocks. Ok (record { eof = eof; head = head; blocks = blocks })) t a.2 in
+    let c = bind_ok (head_at label) (λ head. number_at label 55 60 0 >>=
+    λ blocks. Ok (record { eof = b.0; head = head; blocks = blocks })) t b.2 in
+    let d = bind_ok (number_at label 55 60 0)
+    (λ blocks. Ok (record { eof = b.0; head = c.0; blocks = blocks })) t c.2 in
     let size = size_found label a.0 a.1 in
     let made : Trail1 = record { eof = b.0; head = c.0; blocks = d.0 } in
     subst (λ (t : Trail1). IsTrail1 label t) {x = made} (ok_is made t d.2) record {
@@ -116,4 +163,9 @@ trail1_found label t e =
 pub trail1_again : (label : List ℕ) (t : Trail1) → IsTrail1 label t → trail1_at label ≡ Ok t
 unfolding trail1_at
 trail1_again label t is =
-    rw (size_again label is.kind.size, end_again label t.eof is.kind.named, head_again label t.head is.kind.size is.head, number_again label 55 60 0 t.blocks is.blocks) refl
+    rw (
+      size_again label is.kind.size,
+      end_again label t.eof is.kind.named,
+      head_again label t.head is.kind.size is.head,
+      number_again label 55 60 0 t.blocks is.blocks,
+    ) refl

@@ -3,5 +3,9 @@ pub mod Steps
 pub mod First
 pub mod Second
 pub mod Pieces
+pub mod Widths
 pub mod Texts
 pub mod Apart
+pub mod VolumeLabels
+pub mod Cases
+pub mod AnyLabel

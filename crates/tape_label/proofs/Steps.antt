@@ -1,5 +1,7 @@
 -- What a step of reading that does not fail says of a label, and the step from what the label says.
-use Rattle.std.proofs.Common.{◌≡◌, ℕ, ◌-◌, ◌^◌, ◌<◌, ◌≤◌, Bool, true, false, cond, ltb, eqb, List, [], ◌∷◌, length, get_or, take, drop, Result, Ok, Err, refl, sym, subst, arith}
+use Rattle.std.proofs.Common.{◌≡◌, ℕ, ◌-◌, ◌^◌, ◌<◌, ◌≤◌, Bool, true, false, cond, ltb, eqb, List}
+use Rattle.std.proofs.Common.{[], ◌∷◌, length, get_or, take, drop, Result, Ok, Err, refl, sym}
+use Rattle.std.proofs.Common.{subst, arith}
 use Rattle.std.specs.Str.{all_ascii_digits}
 use Rattle.std.specs.Prelude.{IfOk}
 use Rattle.std.proofs.lemmas.Bool.{ltb-false, le-ltb, eqb-true}
@@ -12,15 +14,18 @@ use Rattle.tape_label.specs.Digits.{digits, number_of}
 use Rattle.tape_label.specs.Kinds.{identifier}
 use Rattle.tape_label.specs.Positions.{positions, HasNumber}
 use Rattle.tape_label.specs.Reading.{◌>>=◌, eighty, begins_as, of_kind, number_at}
-use Rattle.tape_label.proofs.DigitLaws.{digits-number_of, number_of-digits, number_of-lt, all_ascii_digits-digits}
+use Rattle.tape_label.proofs.DigitLaws.{digits-number_of, number_of-digits, number_of-lt}
+use Rattle.tape_label.proofs.DigitLaws.{all_ascii_digits-digits}
 
 -- the value of a step that did not fail
-pub bind_ok : {A B : Type 0} (r : Result A LabelFault) (f : A → Result B LabelFault) (y : B) → (r >>= f) ≡ Ok y → (x : A) × (r ≡ Ok x) × (f x ≡ Ok y)
+pub bind_ok : {A B : Type 0} (r : Result A LabelFault) (f : A → Result B LabelFault) (y : B)
+    → (r >>= f) ≡ Ok y → (x : A) × (r ≡ Ok x) × (f x ≡ Ok y)
 bind_ok (Ok x) f y e = (x, refl, e)
 bind_ok (Err d) f y e = absurd cc
 
 -- a test that did not fail
-passed : {A : Type 0} (b : Bool) (d : LabelFault) (x y : A) → cond b (Ok x) (Err d) ≡ Ok y → (b ≡ true) × (x ≡ y)
+passed : {A : Type 0} (b : Bool) (d : LabelFault) (x y : A) → cond b (Ok x) (Err d) ≡ Ok y
+    → (b ≡ true) × (x ≡ y)
 passed true d x y e = (refl, cc)
 passed false d x y e = absurd cc
 
@@ -31,24 +36,30 @@ pub ok_is : {A : Type 0} (x y : A) → done x ≡ done y → x ≡ y
 ok_is x y e = cc
 
 -- what a call gives, from what its function says
-pub is_found : {A : Type 0} (r : Result A LabelFault) (P : A → Type 0) → ((x : A) → r ≡ Ok x → P x) → IfOk r P
+pub is_found : {A : Type 0} (r : Result A LabelFault) (P : A → Type 0)
+    → ((x : A) → r ≡ Ok x → P x) → IfOk r P
 is_found (Ok x) P h = h x refl
 is_found (Err e) P h = tt
 
 -- ---- numbers and characters
 
-pub length-positions : (label : List ℕ) (first last : ℕ) → last ≤ length label → length (positions label first last) ≡ last - (first - 1)
+pub length-positions : (label : List ℕ) (first last : ℕ) → last ≤ length label
+    → length (positions label first last) ≡ last - (first - 1)
 length-positions label first last fits = omega (arith, length-take {A = ℕ}, length-drop {A = ℕ})
 
-passes_number : (digits low : Bool) (d e : LabelFault) (x y : ℕ) → cond digits (cond low (Err e) (Ok x)) (Err d) ≡ Ok y → (digits ≡ true) × (low ≡ false) × (x ≡ y)
+passes_number : (digits low : Bool) (d e : LabelFault) (x y : ℕ)
+    → cond digits (cond low (Err e) (Ok x)) (Err d) ≡ Ok y
+    → (digits ≡ true) × (low ≡ false) × (x ≡ y)
 passes_number true true d e x y h = absurd cc
 passes_number true false d e x y h = (refl, refl, cc)
 passes_number false low d e x y h = absurd cc
 
-pub number_found : (label : List ℕ) (first last least n : ℕ) → last ≤ length label → number_at label first last least ≡ Ok n → HasNumber label first last least n
+pub number_found : (label : List ℕ) (first last least n : ℕ) → last ≤ length label
+    → number_at label first last least ≡ Ok n → HasNumber label first last least n
 number_found label first last least n fits e =
     let ds = positions label first last in
-    let p = passes_number (all_ascii_digits ds) (ltb (number_of ds) least) (faults.NotDigits first) (faults.FieldRange first) (number_of ds) n e in
+    let p = passes_number (all_ascii_digits ds) (ltb (number_of ds) least) (faults.NotDigits first)
+    (faults.FieldRange first) (number_of ds) n e in
     let len = length-positions label first last fits in
     rw (← p.2) record {
       spelled = sym (subst (λ (k : ℕ). digits k (number_of ds) ≡ ds) len (digits-number_of ds p.0));
@@ -56,18 +67,23 @@ number_found label first last least n fits e =
       fits = subst (λ (k : ℕ). number_of ds < 10 ^ k) len (number_of-lt ds p.0);
     }
 
-pub number_again : (label : List ℕ) (first last least n : ℕ) → HasNumber label first last least n → number_at label first last least ≡ Ok n
+pub number_again : (label : List ℕ) (first last least n : ℕ) → HasNumber label first last least n
+    → number_at label first last least ≡ Ok n
 number_again label first last least n h =
     let width = last - (first - 1) in
-    let tests : all_ascii_digits (positions label first last) ≡ true = rw h.spelled (all_ascii_digits-digits width n) in
-    let value : number_of (positions label first last) ≡ n = rw h.spelled (number_of-digits width n h.fits) in
+    let tests : all_ascii_digits (positions label first last) ≡ true =
+    rw h.spelled (all_ascii_digits-digits width n) in
+    let value : number_of (positions label first last) ≡ n =
+    rw h.spelled (number_of-digits width n h.fits) in
     let low : ltb n least ≡ false = le-ltb _ _ h.at_least in
     rw (tests, value, low) refl
 
-pub character_found : (label : List ℕ) (i : ℕ) → i < length label → take 1 (drop i label) ≡ get_or label i 0 ∷ []
+pub character_found : (label : List ℕ) (i : ℕ) → i < length label
+    → take 1 (drop i label) ≡ get_or label i 0 ∷ []
 character_found label i lt = rw (drop_more label i 0 lt) refl
 
-pub character_is : (label : List ℕ) (i c : ℕ) → i < length label → take 1 (drop i label) ≡ c ∷ [] → get_or label i 0 ≡ c
+pub character_is : (label : List ℕ) (i c : ℕ) → i < length label → take 1 (drop i label) ≡ c ∷ []
+    → get_or label i 0 ≡ c
 character_is label i c lt e = let at = character_found label i lt in cc
 
 -- ---- size and identifier
@@ -79,11 +95,16 @@ pub size_again : (label : List ℕ) → length label ≡ 80 → eighty label ≡
 size_again label size = rw size refl
 
 -- the test of the first four characters
-pub begins_found : (label : List ℕ) (kind : Kind) → begins_as label kind ≡ true → positions label 1 4 ≡ identifier kind
+pub begins_found : (label : List ℕ) (kind : Kind) → begins_as label kind ≡ true
+    → positions label 1 4 ≡ identifier kind
 begins_found label kind e = (bytes_eq-Decides (positions label 1 4) (identifier kind)).0 e
 
-pub named_found : (label : List ℕ) (kind : Kind) (u : Unit {0}) → of_kind label kind ≡ Ok u → positions label 1 4 ≡ identifier kind
-named_found label kind u e = begins_found label kind (passed (begins_as label kind) faults.Identifier tt u e).0
+pub named_found : (label : List ℕ) (kind : Kind) (u : Unit {0}) → of_kind label kind ≡ Ok u
+    → positions label 1 4 ≡ identifier kind
+named_found label kind u e =
+    begins_found label kind (passed (begins_as label kind) faults.Identifier tt u e).0
 
-pub named_again : (label : List ℕ) (kind : Kind) → positions label 1 4 ≡ identifier kind → of_kind label kind ≡ Ok tt
-named_again label kind named = rw ((bytes_eq-Decides (positions label 1 4) (identifier kind)).1 named) refl
+pub named_again : (label : List ℕ) (kind : Kind) → positions label 1 4 ≡ identifier kind
+    → of_kind label kind ≡ Ok tt
+named_again label kind named =
+    rw ((bytes_eq-Decides (positions label 1 4) (identifier kind)).1 named) refl

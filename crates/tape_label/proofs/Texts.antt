@@ -11,12 +11,14 @@ use Rattle.tape_label.specs.Vol1.{IsVol1}
 use Rattle.tape_label.specs.Head1.{HasHead, IsHead1, HeadFits}
 use Rattle.tape_label.specs.Head2.{IsHead2, Head2Fits}
 use Rattle.tape_label.specs.Trail1.{IsTrail1, TrailFits}
-use Rattle.tape_label.specs.Written.{text_of, HaveWidths, vol1_pieces, head_pieces, head1_pieces, trail1_pieces, head2_pieces}
+use Rattle.tape_label.specs.Written.{text_of, HaveWidths, vol1_pieces, head_pieces, head1_pieces}
+use Rattle.tape_label.specs.Written.{trail1_pieces, head2_pieces}
 use Rattle.tape_label.proofs.Pieces.{StandAt, pieces_stand}
 
 pub vol1_text_is : (v : Vol1) → HaveWidths (vol1_pieces v) → IsVol1 (text_of (vol1_pieces v)) v
 vol1_text_is v widths =
-    let s : StandAt 0 (vol1_pieces v) (text_of (vol1_pieces v)) = pieces_stand (vol1_pieces v) widths in
+    let s : StandAt 0 (vol1_pieces v) (text_of (vol1_pieces v)) =
+    pieces_stand (vol1_pieces v) widths in
     record {
       kind = record { size = s.1.1.1.1.1.1.1.1; named = s.0 };
       volume = s.1.0;
@@ -27,12 +29,17 @@ vol1_text_is v widths =
     }
 
 -- the fields of a first label's text
-head_text_has : (kind : Kind) (h : Head1) (blocks : ℕ) (label : List ℕ) → HeadFits h → StandAt 0 (head_pieces kind h blocks) label → HasHead label h
+head_text_has : (kind : Kind) (h : Head1) (blocks : ℕ) (label : List ℕ) → HeadFits h
+    → StandAt 0 (head_pieces kind h blocks) label → HasHead label h
 head_text_has kind h blocks label fits s = record {
   file_id = s.1.0;
   set_id = s.1.1.0;
   sect = record { spelled = s.1.1.1.0; at_least = fits.sect.0; fits = omega (arith, fits.sect.1) };
-  sequence = record { spelled = s.1.1.1.1.0; at_least = fits.sequence.0; fits = omega (arith, fits.sequence.1) };
+  sequence = record {
+    spelled = s.1.1.1.1.0;
+    at_least = fits.sequence.0;
+    fits = omega (arith, fits.sequence.1);
+  };
   generation = s.1.1.1.1.1.0;
   gen_version = s.1.1.1.1.1.1.0;
   created = s.1.1.1.1.1.1.1.0;
@@ -41,31 +48,53 @@ head_text_has kind h blocks label fits s = record {
   implementation = s.1.1.1.1.1.1.1.1.1.1.1.0;
 }
 
-pub head1_text_is : (h : Head1) → HeadFits h → HaveWidths (head1_pieces h) → IsHead1 (text_of (head1_pieces h)) h
+pub head1_text_is : (h : Head1) → HeadFits h → HaveWidths (head1_pieces h)
+    → IsHead1 (text_of (head1_pieces h)) h
 head1_text_is h fits widths =
-    let s : StandAt 0 (head1_pieces h) (text_of (head1_pieces h)) = pieces_stand (head1_pieces h) widths in
+    let s : StandAt 0 (head1_pieces h) (text_of (head1_pieces h)) =
+    pieces_stand (head1_pieces h) widths in
     record {
       kind = record { size = s.1.1.1.1.1.1.1.1.1.1.1.1.1; named = s.0 };
       head = head_text_has kinds.Hdr1 h 0 (text_of (head1_pieces h)) fits s;
     }
 
-pub trail1_text_is : (t : Trail1) → TrailFits t → HaveWidths (trail1_pieces t) → IsTrail1 (text_of (trail1_pieces t)) t
+pub trail1_text_is : (t : Trail1) → TrailFits t → HaveWidths (trail1_pieces t)
+    → IsTrail1 (text_of (trail1_pieces t)) t
 trail1_text_is t fits widths =
-    let s : StandAt 0 (trail1_pieces t) (text_of (trail1_pieces t)) = pieces_stand (trail1_pieces t) widths in
+    let s : StandAt 0 (trail1_pieces t) (text_of (trail1_pieces t)) =
+    pieces_stand (trail1_pieces t) widths in
     record {
       kind = record { size = s.1.1.1.1.1.1.1.1.1.1.1.1.1; named = s.0 };
       head = head_text_has (trailer t.eof) t.head t.blocks (text_of (trail1_pieces t)) fits.head s;
-      blocks = record { spelled = s.1.1.1.1.1.1.1.1.1.1.0; at_least = omega arith; fits = omega (arith, fits.blocks) };
+      blocks = record {
+        spelled = s.1.1.1.1.1.1.1.1.1.1.0;
+        at_least = omega arith;
+        fits = omega (arith, fits.blocks);
+      };
     }
 
-pub head2_text_is : (kind : Kind) (h : Head2) → IsSecond kind → Head2Fits h → HaveWidths (head2_pieces kind h) → IsHead2 (text_of (head2_pieces kind h)) kind h
+pub head2_text_is : (kind : Kind) (h : Head2) → IsSecond kind → Head2Fits h
+    → HaveWidths (head2_pieces kind h) → IsHead2 (text_of (head2_pieces kind h)) kind h
 head2_text_is kind h second fits widths =
-    let s : StandAt 0 (head2_pieces kind h) (text_of (head2_pieces kind h)) = pieces_stand (head2_pieces kind h) widths in
+    let s : StandAt 0 (head2_pieces kind h) (text_of (head2_pieces kind h)) =
+    pieces_stand (head2_pieces kind h) widths in
     record {
       second = second;
       kind = record { size = s.1.1.1.1.1.1.1; named = s.0 };
       format = s.1.0;
-      block_len = record { spelled = s.1.1.0; at_least = omega arith; fits = omega (arith, fits.block_len) };
-      rec_len = record { spelled = s.1.1.1.0; at_least = fits.rec_len.0; fits = omega (arith, fits.rec_len.1) };
-      offset = inl record { spelled = s.1.1.1.1.1.0; at_least = omega arith; fits = omega (arith, fits.offset) };
+      block_len = record {
+        spelled = s.1.1.0;
+        at_least = omega arith;
+        fits = omega (arith, fits.block_len);
+      };
+      rec_len = record {
+        spelled = s.1.1.1.0;
+        at_least = fits.rec_len.0;
+        fits = omega (arith, fits.rec_len.1);
+      };
+      offset = inl record {
+        spelled = s.1.1.1.1.1.0;
+        at_least = omega arith;
+        fits = omega (arith, fits.offset);
+      };
     }

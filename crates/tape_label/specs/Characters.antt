@@ -4,7 +4,9 @@ use Rattle.std.specs.List.{position}
 
 -- space to `"`, `%` to `?` (the digits among them), `A` to `Z`, and `_`
 abbrev pub is_a_character : ℕ → Bool
-is_a_character c = (nat_le 32 c && nat_le c 34) || (nat_le 37 c && nat_le c 63) || (nat_le 65 c && nat_le c 90) || (c == 95)
+is_a_character c =
+    (nat_le 32 c && nat_le c 34) || (nat_le 37 c && nat_le c 63)
+    || (nat_le 65 c && nat_le c 90) || (c == 95)
 
 -- the place, counted from 0, of the first that is no a-character
 abbrev pub first_other : List ℕ → Option ℕ

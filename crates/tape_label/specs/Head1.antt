@@ -5,8 +5,8 @@ use Rattle.tape_label.specs.declared.values.Head1.{Head1}
 use Rattle.tape_label.specs.Kinds.{HasKind}
 use Rattle.tape_label.specs.Positions.{positions, HasNumber}
 
--- The fields that a first header label and the first trailer labels share, at the same positions. Positions 55 to 60
--- are not among them, and positions 74 to 80 are reserved and may hold anything.
+-- The fields that a first header label and the first trailer labels share, at the same positions.
+-- Positions 55 to 60 are not among them, and positions 74 to 80 are reserved and may hold anything.
 pub record HasHead (label : List ℕ) (fields : Head1) : Type 0 where
   pub file_id : positions label 5 21 ≡ fields.file_id
   pub set_id : positions label 22 27 ≡ fields.set_id

@@ -8,9 +8,11 @@ use Rattle.tape_label.specs.Positions.{positions, HasNumber}
 
 -- the buffer offset in two digits, or two spaces for 0
 abbrev pub HasOffset : List ℕ → ℕ → Type 0
-HasOffset label offset = HasNumber label 51 52 0 offset ⊎ ((positions label 51 52 ≡ codes "  ") × (offset ≡ 0))
+HasOffset label offset =
+    HasNumber label 51 52 0 offset ⊎ ((positions label 51 52 ≡ codes "  ") × (offset ≡ 0))
 
--- the second label of these fields, which is of this kind; positions 16 to 50 and 53 to 80 may hold anything
+-- the second label of these fields, which is of this kind; positions 16 to 50 and 53 to 80 may hold
+-- anything
 pub record IsHead2 (label : List ℕ) (which : Kind) (fields : Head2) : Type 0 where
   pub second : IsSecond which
   pub kind : HasKind label which

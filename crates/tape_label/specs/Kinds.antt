@@ -1,9 +1,11 @@
 -- The kinds of labels, told by the size of a block and its first four characters.
-use Rattle.std.specs.Prelude.{◌≡◌, ◌==◌, ℕ, List, [], ◌∷◌, length, codes, Bool, if◌then◌else◌, Option, None}
+use Rattle.std.specs.Prelude.{◌≡◌, ◌==◌, ℕ, List, [], ◌∷◌, length, codes, Bool, if◌then◌else◌}
+use Rattle.std.specs.Prelude.{Option, None}
 use Rattle.std.specs.List.{find}
 use Rattle.std.specs.Str.{bytes_eq}
 use Rattle.tape_label.specs.declared.values.Kind.{Kind}
-use Rattle.tape_label.specs.declared.values.Kind.TheVariants.{Vol1, Hdr1, Hdr2, Eof1, Eof2, Eov1, Eov2}
+use Rattle.tape_label.specs.declared.values.Kind.TheVariants.{Vol1, Hdr1, Hdr2, Eof1, Eof2, Eov1}
+use Rattle.tape_label.specs.declared.values.Kind.TheVariants.{Eov2}
 use Rattle.tape_label.specs.Positions.{positions}
 
 -- the first four characters of each kind
@@ -40,7 +42,9 @@ IsSecond _ = ⊥
 
 -- the kind whose identifier this is
 abbrev pub kind_named : List ℕ → Option Kind
-kind_named text = find (λ kind. bytes_eq text (identifier kind)) (Vol1 ∷ Hdr1 ∷ Hdr2 ∷ Eof1 ∷ Eof2 ∷ Eov1 ∷ Eov2 ∷ [])
+kind_named text =
+    find (λ kind. bytes_eq text (identifier kind))
+    (Vol1 ∷ Hdr1 ∷ Hdr2 ∷ Eof1 ∷ Eof2 ∷ Eov1 ∷ Eov2 ∷ [])
 
 -- the kind of the label that a block is, if it is one
 unfoldable pub kind_at : List ℕ → Option Kind

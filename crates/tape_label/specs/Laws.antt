@@ -11,8 +11,10 @@ use Rattle.tape_label.specs.Reading.{vol1_at, head1_at, head2_at, trail1_at}
 abbrev pub HasOneKind : List ℕ → Type 0
 HasOneKind block = (a b : Kind) → HasKind block a → HasKind block b → a ≡ b
 
--- The block is not both: a label of one sort with some fields, and one of the other sort with some fields.
-abbrev pub IsNotBoth : {A B : Type 0} → (List ℕ → A → Type 0) → (List ℕ → B → Type 0) → List ℕ → Type 0
+-- The block is not both: a label of one sort with some fields, and one of the other sort with some
+-- fields.
+abbrev pub IsNotBoth : {A B : Type 0} → (List ℕ → A → Type 0) → (List ℕ → B → Type 0)
+    → List ℕ → Type 0
 IsNotBoth {A} {B} One Other block = (a : A) (b : B) → One block a → Other block b → ⊥
 
 -- a second label of some kind
@@ -27,4 +29,5 @@ one_if_read (Err fault) = 0
 -- how many of the four reading calls read the block
 abbrev pub readings : List ℕ → ℕ
 readings block =
-    one_if_read (vol1_at block) + one_if_read (head1_at block) + one_if_read (head2_at block) + one_if_read (trail1_at block)
+    one_if_read (vol1_at block) + one_if_read (head1_at block) + one_if_read (head2_at block)
+    + one_if_read (trail1_at block)

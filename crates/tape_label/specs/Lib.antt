@@ -1,13 +1,19 @@
-pub mod Characters
+-- to be believed, in this order:
+pub mod Positions
 pub mod Digits
-pub mod Faults
+pub mod Characters
 pub mod Formats
+pub mod Kinds
+pub mod Vol1
 pub mod Head1
 pub mod Head2
-pub mod Kinds
-pub mod Laws
-pub mod Positions
-pub mod Reading
 pub mod Trail1
-pub mod Vol1
+pub mod Labels
+pub mod VolumeLabels
+pub mod Widths
 pub mod Written
+pub mod Faults
+pub mod Laws
+pub mod Cases
+-- of it the order of the faults:
+pub mod Reading

@@ -1,6 +1,7 @@
--- What the reading calls answer, as functions of a block: its fields, or the first of the tests that fails.
--- The tests are made in the order of the lines.
-use Rattle.std.specs.Prelude.{ℕ, ◌-◌, ◌==◌, nat_lt, ◌||◌, List, length, codes, slice_index, Bool, true, false, if◌then◌else◌, Result, Ok, Err}
+-- What the reading calls answer, as functions of a block: its fields, or the first of the tests
+-- that fails. The tests are made in the order of the lines.
+use Rattle.std.specs.Prelude.{ℕ, ◌-◌, ◌==◌, nat_lt, ◌||◌, List, length, codes, slice_index, Bool}
+use Rattle.std.specs.Prelude.{true, false, if◌then◌else◌, Result, Ok, Err}
 use Rattle.std.specs.Str.{bytes_eq, all_ascii_digits}
 use Rattle.tape_label.specs.declared.fault.LabelFault.{LabelFault}
 use Rattle.tape_label.specs.declared.fault.LabelFault.TheVariants as faults
@@ -19,7 +20,8 @@ use Rattle.tape_label.specs.Positions.{positions}
 
 -- the next step, where none has failed yet
 infixl 10 ◌>>=◌
-abbrev pub ◌>>=◌ : {A B : Type 0} → Result A LabelFault → (A → Result B LabelFault) → Result B LabelFault
+abbrev pub ◌>>=◌ : {A B : Type 0} → Result A LabelFault → (A → Result B LabelFault)
+    → Result B LabelFault
 (Ok x) >>= f = f x
 (Err e) >>= f = Err e
 
@@ -31,6 +33,7 @@ eighty label = if length label == 80 then Ok tt else Err faults.NotEighty
 abbrev pub begins_as : List ℕ → Kind → Bool
 begins_as label kind = bytes_eq (positions label 1 4) (identifier kind)
 
+-- or it is no label of this kind
 abbrev pub of_kind : List ℕ → Kind → Result (Unit {0}) LabelFault
 of_kind label kind = if begins_as label kind then Ok tt else Err faults.Identifier
 
@@ -42,10 +45,13 @@ character_at label position = slice_index label (position - 1)
 abbrev pub number_at : List ℕ → ℕ → ℕ → ℕ → Result ℕ LabelFault
 number_at label first last least =
     let ds = positions label first last
-    in if all_ascii_digits ds then (if nat_lt (number_of ds) least then Err (faults.FieldRange first) else Ok (number_of ds)) else Err (faults.NotDigits first)
+    in if all_ascii_digits ds
+    then (if nat_lt (number_of ds) least then Err (faults.FieldRange first) else Ok (number_of ds))
+    else Err (faults.NotDigits first)
 
 -- ---- the volume label
 
+-- its fields, at their positions
 abbrev pub vol1_fields : List ℕ → Vol1
 vol1_fields label = record {
   volume = positions label 5 10;
@@ -55,6 +61,7 @@ vol1_fields label = record {
   version = character_at label 80;
 }
 
+-- 80 characters, and the identifier
 unfoldable pub vol1_at : List ℕ → Result Vol1 LabelFault
 vol1_at label = do
   _ ← eighty label
@@ -63,6 +70,7 @@ vol1_at label = do
 
 -- ---- first header and trailer labels
 
+-- the fields, with these numbers
 abbrev pub head_fields : List ℕ → ℕ → ℕ → Head1
 head_fields label sect sequence = record {
   file_id = positions label 5 21;
@@ -77,13 +85,14 @@ head_fields label sect sequence = record {
   implementation = positions label 61 73;
 }
 
--- what they share
+-- what they share: the two numbers are judged, in this order
 unfoldable pub head_at : List ℕ → Result Head1 LabelFault
 head_at label = do
   sect ← number_at label 28 31 1
   sequence ← number_at label 32 35 1
   Ok (head_fields label sect sequence)
 
+-- 80 characters, the identifier, and the numbers
 unfoldable pub head1_at : List ℕ → Result Head1 LabelFault
 head1_at label = do
   _ ← eighty label
@@ -93,8 +102,10 @@ head1_at label = do
 -- whether the label is that of a file's end
 unfoldable pub end_at : List ℕ → Result Bool LabelFault
 end_at label =
-    if begins_as label kinds.Eof1 then Ok true else (if begins_as label kinds.Eov1 then Ok false else Err faults.Identifier)
+    if begins_as label kinds.Eof1 then Ok true
+    else (if begins_as label kinds.Eov1 then Ok false else Err faults.Identifier)
 
+-- 80 characters, the identifier, the numbers, and the block count
 unfoldable pub trail1_at : List ℕ → Result Trail1 LabelFault
 trail1_at label = do
   _ ← eighty label
@@ -105,18 +116,26 @@ trail1_at label = do
 
 -- ---- second header and trailer labels
 
+-- it begins as one of the three second labels
 abbrev pub second : List ℕ → Result (Unit {0}) LabelFault
 second label =
-    if begins_as label kinds.Hdr2 || begins_as label kinds.Eof2 || begins_as label kinds.Eov2 then Ok tt else Err faults.Identifier
+    if begins_as label kinds.Hdr2 || begins_as label kinds.Eof2 || begins_as label kinds.Eov2
+    then Ok tt else Err faults.Identifier
 
+-- the record format that the letter at position 5 names
 unfoldable pub format_at : List ℕ → Result Format LabelFault
 format_at label =
     let c = character_at label 5
-    in if c == letter Fixed then Ok Fixed else (if c == letter Counted then Ok Counted else (if c == letter Spanned then Ok Spanned else Err (faults.Format c)))
+    in if c == letter Fixed then Ok Fixed
+    else (if c == letter Counted then Ok Counted
+    else (if c == letter Spanned then Ok Spanned else Err (faults.Format c)))
 
+-- the buffer offset, where two spaces are 0
 unfoldable pub offset_at : List ℕ → Result ℕ LabelFault
-offset_at label = if bytes_eq (positions label 51 52) (codes "  ") then Ok 0 else number_at label 51 52 0
+offset_at label =
+    if bytes_eq (positions label 51 52) (codes "  ") then Ok 0 else number_at label 51 52 0
 
+-- 80 characters, the identifier, and the fields in the order of their positions
 unfoldable pub head2_at : List ℕ → Result Head2 LabelFault
 head2_at label = do
   _ ← eighty label

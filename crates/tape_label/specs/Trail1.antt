@@ -5,7 +5,8 @@ use Rattle.tape_label.specs.Head1.{HasHead, HeadFits}
 use Rattle.tape_label.specs.Kinds.{HasKind, trailer}
 use Rattle.tape_label.specs.Positions.{HasNumber}
 
--- the first trailer label of these fields: `EOF1` at a file's end, `EOV1` where the file goes on in another volume
+-- the first trailer label of these fields: `EOF1` at a file's end, `EOV1` where the file goes on in
+-- another volume
 pub record IsTrail1 (label : List ℕ) (fields : Trail1) : Type 0 where
   pub kind : HasKind label (trailer fields.eof)
   pub head : HasHead label fields.head

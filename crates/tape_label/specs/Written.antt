@@ -1,4 +1,5 @@
--- The one text that is written of each label: its pieces in the order of their positions, spaces where it is reserved.
+-- The one text that is written of each label: its pieces in the order of their positions, spaces
+-- where it is reserved.
 use Rattle.std.specs.Prelude.{◌≡◌, ℕ, List, [], ◌∷◌, ◌++◌, length, replicate}
 use Rattle.tape_label.specs.declared.values.Kind.{Kind}
 use Rattle.tape_label.specs.declared.values.Kind.TheVariants as kinds
@@ -15,6 +16,7 @@ pub record Piece : Type 0 where
   pub width : ℕ
   pub text : List ℕ
 
+-- this text, in so many positions
 abbrev pub chars : ℕ → List ℕ → Piece
 chars width text = record { width = width; text = text }
 
@@ -22,6 +24,7 @@ chars width text = record { width = width; text = text }
 abbrev pub spaces : ℕ → Piece
 spaces width = chars width (replicate width 32)
 
+-- this number in digits, in so many positions
 abbrev pub number : ℕ → ℕ → Piece
 number width n = chars width (digits width n)
 
@@ -35,27 +38,34 @@ abbrev pub HaveWidths : List Piece → Type 0
 HaveWidths [] = Unit {0}
 HaveWidths (p ∷ ps) = (length p.text ≡ p.width) × HaveWidths ps
 
+-- a volume label
 abbrev pub vol1_pieces : Vol1 → List Piece
 vol1_pieces fields =
-    chars 4 (identifier kinds.Vol1) ∷ chars 6 fields.volume ∷ chars 1 (fields.access ∷ []) ∷ spaces 13
-    ∷ chars 13 fields.implementation ∷ chars 14 fields.owner ∷ spaces 28 ∷ chars 1 (fields.version ∷ []) ∷ []
+    chars 4 (identifier kinds.Vol1) ∷ chars 6 fields.volume ∷ chars 1 (fields.access ∷ [])
+    ∷ spaces 13 ∷ chars 13 fields.implementation ∷ chars 14 fields.owner
+    ∷ spaces 28 ∷ chars 1 (fields.version ∷ []) ∷ []
 
 -- a first header or trailer label with this block count
 abbrev pub head_pieces : Kind → Head1 → ℕ → List Piece
 head_pieces kind fields blocks =
     chars 4 (identifier kind) ∷ chars 17 fields.file_id ∷ chars 6 fields.set_id
     ∷ number 4 fields.sect ∷ number 4 fields.sequence
-    ∷ chars 4 fields.generation ∷ chars 2 fields.gen_version ∷ chars 6 fields.created ∷ chars 6 fields.expires
-    ∷ chars 1 (fields.access ∷ []) ∷ number 6 blocks ∷ chars 13 fields.implementation ∷ spaces 7 ∷ []
+    ∷ chars 4 fields.generation ∷ chars 2 fields.gen_version
+    ∷ chars 6 fields.created ∷ chars 6 fields.expires
+    ∷ chars 1 (fields.access ∷ []) ∷ number 6 blocks
+    ∷ chars 13 fields.implementation ∷ spaces 7 ∷ []
 
 -- a first header label says that there are no blocks before it
 abbrev pub head1_pieces : Head1 → List Piece
 head1_pieces fields = head_pieces kinds.Hdr1 fields 0
 
+-- a first trailer label
 abbrev pub trail1_pieces : Trail1 → List Piece
 trail1_pieces fields = head_pieces (trailer fields.eof) fields.head fields.blocks
 
+-- a second header or trailer label
 abbrev pub head2_pieces : Kind → Head2 → List Piece
 head2_pieces kind fields =
-    chars 4 (identifier kind) ∷ chars 1 (letter fields.format ∷ []) ∷ number 5 fields.block_len ∷ number 5 fields.rec_len
+    chars 4 (identifier kind) ∷ chars 1 (letter fields.format ∷ [])
+    ∷ number 5 fields.block_len ∷ number 5 fields.rec_len
     ∷ spaces 35 ∷ number 2 fields.offset ∷ spaces 28 ∷ []

@@ -16,7 +16,8 @@ pub(crate) fn character_at(label: &[u8], position: usize) -> u8
     label[position - 1]
 }
 
-/// The number in digits at the positions `first` to `last`, counted from 1, which is not below the least.
+/// The number in digits at the positions `first` to `last`, counted from 1, which is not below the
+/// least.
 pub(crate) fn number_at(label: &[u8], first: u8, last: u8, least: u64) -> Result<u64, LabelFault>
     requires first { 1 ≤ first }
     requires order { first ≤ last }

@@ -11,7 +11,8 @@ pub fn is_a_character(byte: u8) -> bool
     matches!(byte, b' '..=b'"' | b'%'..=b'?' | b'A'..=b'Z' | b'_')
 }
 
-/// The place, counted from 0, of the first byte that is no a-character; `None` where all of them are.
+/// The place, counted from 0, of the first byte that is no a-character; `None` where all of them
+/// are.
 pub fn first_other(text: &[u8]) -> Option<usize>
     ensures { result ≡ first_other text.now }
 {

@@ -1,19 +1,22 @@
 //! Numbers in decimal digits with leading zeros.
 
-ghost use Rattle.std.specs.Prelude.{◌≡◌, ℕ, ◌<◌, ◌≤◌, ◌^◌, IfSome, Some, None, length, if◌then◌else◌};
+ghost use Rattle.std.specs.Prelude.{◌≡◌, ℕ, ◌<◌, ◌≤◌, ◌^◌, IfSome, Some, None, length};
+ghost use Rattle.std.specs.Prelude.{if◌then◌else◌};
 ghost use Rattle.std.specs.Str.{all_ascii_digits};
 ghost use Rattle.tape_label.specs.Digits.{digits, number_of};
 
-/// The number that these digits are, leading zeros allowed; `None` where one of the bytes is no digit.
-/// No digits at all are the number 0. Nineteen digits always fit a `u64`.
-#[tactic(auto, using(crate::proofs::DigitLaws::one_more_digit, crate::proofs::DigitLaws::fits_nineteen))]
+/// The number that these digits are, leading zeros allowed; `None` where one of the bytes is no
+/// digit. No digits at all are the number 0. Nineteen digits always fit a `u64`.
+#[tactic(auto, using(crate::proofs::DigitLaws::counted_digits))]
 pub fn digits_value(text: &[u8]) -> Option<u64>
     requires { length text.now ≤ 19 }
     ensures found { IfSome result (λ n. text.now ≡ digits (length text.now) n) }
-    ensures only { (n : ℕ) → n < 10 ^ length text.now → text.now ≡ digits (length text.now) n → result ≡ Some n }
+    ensures only { (n : ℕ) → n < 10 ^ length text.now → text.now ≡ digits (length text.now) n
+        → result ≡ Some n }
     ensures small { IfSome result (λ n. n < 10 ^ length text.now) }
     // The same as a function of the text.
-    ensures exact { result ≡ (if all_ascii_digits text.now then Some (number_of text.now) else None) }
+    ensures exact { result
+        ≡ (if all_ascii_digits text.now then Some (number_of text.now) else None) }
 {
     let mut number: u64 = 0;
     for byte in text {

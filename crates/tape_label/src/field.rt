@@ -1,6 +1,7 @@
 //! Character fields of a fixed length.
 
-ghost use Rattle.std.specs.Prelude.{◌≡◌, ◌+◌, ◌-◌, ◌<◌, ◌≤◌, ◌++◌, List, ℕ, length, replicate, slice_range, IfSome, IfNone, Ok, Err};
+ghost use Rattle.std.specs.Prelude.{◌≡◌, ◌+◌, ◌-◌, ◌<◌, ◌≤◌, ◌++◌, List, ℕ, length, replicate};
+ghost use Rattle.std.specs.Prelude.{slice_range, IfSome, IfNone, Ok, Err};
 ghost use Rattle.tape_label.specs.Characters.{first_other};
 
 use crate::characters::first_other;
@@ -23,18 +24,21 @@ impl<const N: usize> Model for Field<N> {
 }
 
 impl<const N: usize> Field<N> {
-    /// The text with spaces on its right, up to the field's length (ECMA-13, 4th edition, "a-characters").
+    /// The text with spaces on its right, up to the field's length (ECMA-13, 4th edition,
+    /// "a-characters").
     ///
     /// # Errors
     ///
-    /// `FieldLength` where the text has more than `N` bytes; then `NotACharacter` with the place of the first byte
-    /// that is no a-character.
+    /// `FieldLength` where the text has more than `N` bytes; then `NotACharacter` with the place of
+    /// the first byte that is no a-character.
     pub fn new(text: &str) -> Result<Field<N>, LabelFault>
         ensures long { N < length text.now → result ≡ Err LabelFault.FieldLength }
         ensures other { length text.now ≤ N
-            → IfSome (first_other text.now) (λ place. result ≡ Err (LabelFault.NotACharacter place)) }
+            → IfSome (first_other text.now)
+            (λ place. result ≡ Err (LabelFault.NotACharacter place)) }
         ensures fits { length text.now ≤ N
-            → IfNone (first_other text.now) (result ≡ Ok (text.now ++ replicate (N - length text.now) 32)) }
+            → IfNone (first_other text.now)
+            (result ≡ Ok (text.now ++ replicate (N - length text.now) 32)) }
     {
         let text = text.as_bytes();
         if text.len() > N {

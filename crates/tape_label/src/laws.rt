@@ -1,11 +1,14 @@
 //! Laws about labels, each as the contract of a call.
 
 ghost use Rattle.std.specs.Prelude.{◌≡◌, ◌<◌, ◌≤◌, ◌^◌, ◌↔◌, IsTrue, Ok, Some};
+ghost use Rattle.std.specs.Str.{bytes_eq};
 ghost use Rattle.tape_label.specs.Vol1.{IsVol1};
 ghost use Rattle.tape_label.specs.Head1.{IsHead1, HeadFits};
 ghost use Rattle.tape_label.specs.Head2.{Head2Fits};
 ghost use Rattle.tape_label.specs.Trail1.{IsTrail1, TrailFits};
 ghost use Rattle.tape_label.specs.Kinds.{IsSecond};
+ghost use Rattle.tape_label.specs.Widths.{IsWide, IsWideVolume};
+ghost use Rattle.tape_label.specs.Cases.{CasesOfLabels};
 ghost use Rattle.tape_label.specs.Laws.{HasOneKind, IsNotBoth, IsSecondLabel, readings};
 
 use crate::digits::{digits_of, digits_value};
@@ -56,8 +59,8 @@ pub fn trail1_again(fields: &Trail1) -> Result<Trail1, LabelFault>
     read_trail1(&write_trail1(fields))
 }
 
-/// How many of the four reading calls read the block: one at most, since no block is two kinds of label. None is both
-/// a header and a trailer, and no header or trailer is a volume label.
+/// How many of the four reading calls read the block: one at most, since no block is two kinds of
+/// label. None is both a header and a trailer, and no header or trailer is a volume label.
 pub fn readings(block: &[u8]) -> usize
     ensures count { result ≡ readings block.now }
     ensures at_most_one { result ≤ 1 }
@@ -75,9 +78,39 @@ pub fn readings(block: &[u8]) -> usize
         + usize::from(read_trail1(block).is_ok())
 }
 
+/// What the rules of labels say of cases: what a label holds can be written, and each rule that
+/// stands in one clause alone says all that it should.
+pub fn cases()
+    ensures { CasesOfLabels }
+{}
+
 /// Two fields are equal exactly where their bytes are.
 pub fn same_field<const N: usize>(a: &Field<N>, b: &Field<N>) -> bool
-    ensures { IsTrue result ↔ (a.now ≡ b.now) }
+    ensures equal { IsTrue result ↔ (a.now ≡ b.now) }
+    // The same as a function of the fields.
+    ensures exact { result ≡ bytes_eq a.now b.now }
 {
-    a == b
+    a.bytes() == b.bytes()
+}
+
+/// The fields of a first header or trailer label are as wide as their positions.
+pub fn widths(fields: &Head1)
+    ensures { IsWide fields.now }
+{
+    let _ = fields.file_id.bytes();
+    let _ = fields.set_id.bytes();
+    let _ = fields.generation.bytes();
+    let _ = fields.gen_version.bytes();
+    let _ = fields.created.bytes();
+    let _ = fields.expires.bytes();
+    let _ = fields.implementation.bytes();
+}
+
+/// The fields of a volume label are as wide as their positions.
+pub fn volume_widths(fields: &Vol1)
+    ensures { IsWideVolume fields.now }
+{
+    let _ = fields.volume.bytes();
+    let _ = fields.implementation.bytes();
+    let _ = fields.owner.bytes();
 }

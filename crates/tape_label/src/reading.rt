@@ -6,15 +6,16 @@ ghost use Rattle.tape_label.specs.Head1.{IsHead1};
 ghost use Rattle.tape_label.specs.Head2.{IsHead2};
 ghost use Rattle.tape_label.specs.Trail1.{IsTrail1};
 ghost use Rattle.tape_label.specs.Kinds.{HasKind, IsFirstTrailer, IsSecond};
-ghost use Rattle.tape_label.specs.Reading.{vol1_at, head_at, head1_at, trail1_at, head2_at};
+ghost use Rattle.tape_label.specs.Reading.{vol1_at, vol1_fields, head_at, head1_at, trail1_at};
+ghost use Rattle.tape_label.specs.Reading.{head2_at};
 
 use crate::at::{character_at, end_at, format_at, number_at, offset_at};
 use crate::fault::LabelFault;
 use crate::field::field_at;
 use crate::values::{Format, Head1, Head2, Kind, Trail1, Vol1};
 
-/// Reads a volume label (ECMA-13, 4th edition, "Volume Header Label"). The version at position 80 and what
-/// stands in reserved positions are not judged.
+/// Reads a volume label (ECMA-13, 4th edition, "Volume Header Label"). The version at position 80
+/// and what stands in reserved positions are not judged.
 ///
 /// # Errors
 ///
@@ -24,62 +25,73 @@ pub fn read_vol1(label: &[u8]) -> Result<Vol1, LabelFault>
     ensures found { IfOk result (IsVol1 label.now) }
     // whatever is the label of some fields is read,
     ensures only { (fields : Vol1) → IsVol1 label.now fields → result ≡ Ok fields }
+    // a block that begins as one is, whatever its fields hold,
+    ensures any { HasKind label.now Kind.Vol1 → result ≡ Ok (vol1_fields label.now) }
     // a label of another kind is refused as such, whatever its fields hold,
-    ensures other { (kind : Kind) → HasKind label.now kind → kind ≢ Kind.Vol1 → result ≡ Err LabelFault.Identifier }
+    ensures other { (kind : Kind) → HasKind label.now kind → kind ≢ Kind.Vol1
+        → result ≡ Err LabelFault.Identifier }
     // and anything else has the first fault.
     ensures fault { result ≡ vol1_at label.now }
 {
     vol1_at(label)
 }
 
-/// Reads a first header label (ECMA-13, 4th edition, "First File Header Label"). Its block count and what stands
-/// in reserved positions are not judged.
+/// Reads a first header label (ECMA-13, 4th edition, "First File Header Label"). Its block count
+/// and what stands in reserved positions are not judged.
 ///
 /// # Errors
 ///
-/// In this order: `NotEighty`; `Identifier` where it does not begin `HDR1`; `NotDigits(28)` and `FieldRange(28)` for
-/// the section number; `NotDigits(32)` and `FieldRange(32)` for the sequence number.
+/// In this order: `NotEighty`; `Identifier` where it does not begin `HDR1`; `NotDigits(28)` and
+/// `FieldRange(28)` for the section number; `NotDigits(32)` and `FieldRange(32)` for the sequence
+/// number.
 pub fn read_head1(label: &[u8]) -> Result<Head1, LabelFault>
     ensures found { IfOk result (IsHead1 label.now) }
     ensures only { (fields : Head1) → IsHead1 label.now fields → result ≡ Ok fields }
-    ensures other { (kind : Kind) → HasKind label.now kind → kind ≢ Kind.Hdr1 → result ≡ Err LabelFault.Identifier }
+    ensures other { (kind : Kind) → HasKind label.now kind → kind ≢ Kind.Hdr1
+        → result ≡ Err LabelFault.Identifier }
     ensures fault { result ≡ head1_at label.now }
 {
     head1_at(label)
 }
 
-/// Reads a second header or trailer label, `HDR2`, `EOF2` or `EOV2` (ECMA-13, 4th edition, "Second File Header
-/// Label"). Two spaces in the place of the buffer offset are 0. What stands in reserved positions is not judged.
+/// Reads a second header or trailer label, `HDR2`, `EOF2` or `EOV2` (ECMA-13, 4th edition, "Second
+/// File Header Label"). Two spaces in the place of the buffer offset are 0. What stands in reserved
+/// positions is not judged.
 ///
 /// # Errors
 ///
-/// In this order: `NotEighty`; `Identifier` where it begins otherwise; `Format`; `NotDigits(6)` for the block
-/// length; `NotDigits(11)` for the record length, and `FieldRange(11)` where it is 0 and the format is `Fixed`;
-/// `NotDigits(51)` for the buffer offset.
+/// In this order: `NotEighty`; `Identifier` where it begins otherwise; `Format`; `NotDigits(6)` for
+/// the block length; `NotDigits(11)` for the record length, and `FieldRange(11)` where it is 0 and
+/// the format is `Fixed`; `NotDigits(51)` for the buffer offset.
 pub fn read_head2(label: &[u8]) -> Result<Head2, LabelFault>
     ensures found { IfOk result (λ fields. (which : Kind) × IsHead2 label.now which fields) }
-    ensures only { (which : Kind) (fields : Head2) → IsHead2 label.now which fields → result ≡ Ok fields }
-    ensures other { (kind : Kind) → HasKind label.now kind → (¬ IsSecond kind) → result ≡ Err LabelFault.Identifier }
+    ensures only { (which : Kind) (fields : Head2) → IsHead2 label.now which fields
+        → result ≡ Ok fields }
+    ensures other { (kind : Kind) → HasKind label.now kind → (¬ IsSecond kind)
+        → result ≡ Err LabelFault.Identifier }
     ensures fault { result ≡ head2_at label.now }
 {
     head2_at(label)
 }
 
-/// Reads a first trailer label, `EOF1` or `EOV1` (ECMA-13, 4th edition, end of file and end of volume labels).
-/// What stands in reserved positions is not judged.
+/// Reads a first trailer label, `EOF1` or `EOV1` (ECMA-13, 4th edition, end of file and end of
+/// volume labels). What stands in reserved positions is not judged.
 ///
 /// # Errors
 ///
-/// As `read_head1`, for the identifiers `EOF1` and `EOV1`, and then `NotDigits(55)` for the block count.
+/// As `read_head1`, for the identifiers `EOF1` and `EOV1`, and then `NotDigits(55)` for the block
+/// count.
 pub fn read_trail1(label: &[u8]) -> Result<Trail1, LabelFault>
     ensures found { IfOk result (IsTrail1 label.now) }
     ensures only { (fields : Trail1) → IsTrail1 label.now fields → result ≡ Ok fields }
-    ensures other { (kind : Kind) → HasKind label.now kind → (¬ IsFirstTrailer kind) → result ≡ Err LabelFault.Identifier }
+    ensures other { (kind : Kind) → HasKind label.now kind → (¬ IsFirstTrailer kind)
+        → result ≡ Err LabelFault.Identifier }
     ensures fault { result ≡ trail1_at label.now }
 {
     trail1_at(label)
 }
 
+/// The volume label, or the first test that fails.
 #[tactic(auto, unfolding(crate::specs::Reading::vol1_at))]
 fn vol1_at(label: &[u8]) -> Result<Vol1, LabelFault>
     ensures { result ≡ vol1_at label.now }
@@ -99,7 +111,7 @@ fn vol1_at(label: &[u8]) -> Result<Vol1, LabelFault>
     })
 }
 
-// What a first header label and a first trailer label share.
+/// What a first header label and a first trailer label share.
 #[tactic(auto, unfolding(crate::specs::Reading::head_at))]
 fn head_at(label: &[u8]) -> Result<Head1, LabelFault>
     requires { length label.now ≡ 80 }
@@ -121,6 +133,7 @@ fn head_at(label: &[u8]) -> Result<Head1, LabelFault>
     })
 }
 
+/// The first header label, or the first test that fails.
 #[tactic(auto, unfolding(crate::specs::Reading::head1_at))]
 fn head1_at(label: &[u8]) -> Result<Head1, LabelFault>
     ensures { result ≡ head1_at label.now }
@@ -134,6 +147,7 @@ fn head1_at(label: &[u8]) -> Result<Head1, LabelFault>
     head_at(label)
 }
 
+/// The first trailer label, or the first test that fails.
 #[tactic(auto, unfolding(crate::specs::Reading::trail1_at))]
 fn trail1_at(label: &[u8]) -> Result<Trail1, LabelFault>
     ensures { result ≡ trail1_at label.now }
@@ -147,6 +161,7 @@ fn trail1_at(label: &[u8]) -> Result<Trail1, LabelFault>
     Ok(Trail1 { eof, head, blocks })
 }
 
+/// The second label, or the first test that fails.
 #[tactic(auto, unfolding(crate::specs::Reading::head2_at))]
 fn head2_at(label: &[u8]) -> Result<Head2, LabelFault>
     ensures { result ≡ head2_at label.now }

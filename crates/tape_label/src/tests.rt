@@ -10,7 +10,8 @@ ghost use Rattle.tape_label.specs.Head2.{Head2Fits};
 
 use super::*;
 
-// The labels of a volume with one file of 25 records of 80 bytes, in three blocks of up to 800 bytes.
+// The labels of a volume with one file of 25 records of 80 bytes, in three blocks of up to 800
+// bytes.
 const VOL1: &[u8; 80] =
     b"VOL1ABC001                                                                     4";
 

@@ -6,7 +6,8 @@ ghost use Rattle.tape_label.specs.Digits.{digits};
 ghost use Rattle.tape_label.specs.Head1.{HeadFits};
 ghost use Rattle.tape_label.specs.Head2.{Head2Fits};
 ghost use Rattle.tape_label.specs.Kinds.{identifier};
-ghost use Rattle.tape_label.specs.Written.{text_of, HaveWidths, vol1_pieces, head_pieces, head2_pieces};
+ghost use Rattle.tape_label.specs.Written.{text_of, HaveWidths, vol1_pieces, head_pieces};
+ghost use Rattle.tape_label.specs.Written.{head2_pieces};
 
 use crate::digits::digits_of;
 use crate::values::{Head1, Head2, Kind, Vol1};
@@ -14,17 +15,16 @@ use arrayvec::ArrayVec;
 
 const SPACES: [u8; 80] = [b' '; 80];
 
+/// The text behind what stands there.
 fn put(label: &mut ArrayVec<u8, 80>, text: &[u8])
     requires { array_vec_len label.old + length text.now ≤ 80 }
     ensures items { label.new.items ≡ label.old.items ++ text.now }
     ensures len { array_vec_len label.new ≡ array_vec_len label.old + length text.now }
 {
-    match label.try_extend_from_slice(text) {
-        Ok(()) => {}
-        Err(_) => unreachable!(),
-    }
+    label.try_extend_from_slice(text).unwrap();
 }
 
+/// So many spaces behind what stands there.
 fn put_spaces(label: &mut ArrayVec<u8, 80>, count: usize)
     requires { array_vec_len label.old + count ≤ 80 }
     ensures items { label.new.items ≡ label.old.items ++ replicate count 32 }
@@ -33,6 +33,7 @@ fn put_spaces(label: &mut ArrayVec<u8, 80>, count: usize)
     put(label, &SPACES[..count]);
 }
 
+/// The number in `W` digits behind what stands there.
 fn put_number<const W: usize>(label: &mut ArrayVec<u8, 80>, number: u64)
     requires fits { number < 10 ^ W }
     requires room { array_vec_len label.old + W ≤ 80 }
@@ -42,16 +43,15 @@ fn put_number<const W: usize>(label: &mut ArrayVec<u8, 80>, number: u64)
     put(label, &digits_of::<W>(number));
 }
 
+/// The label that has all its 80 characters.
 fn whole(label: ArrayVec<u8, 80>) -> [u8; 80]
     requires { array_vec_len label ≡ 80 }
     ensures { result ≡ label.items }
 {
-    match label.into_inner() {
-        Ok(characters) => characters,
-        Err(_) => unreachable!(),
-    }
+    label.into_inner().unwrap()
 }
 
+/// A volume label.
 pub(crate) fn vol1_text(fields: &Vol1) -> [u8; 80]
     ensures text { result ≡ text_of (vol1_pieces fields.now) }
     ensures widths { HaveWidths (vol1_pieces fields.now) }

@@ -15,7 +15,8 @@ pub struct Vol1 {
     pub implementation: Field<13>,
     /// The owner of the volume, at positions 38 to 51.
     pub owner: Field<14>,
-    /// The version of the label standard, at position 80: `4` for the fourth edition. It is not judged.
+    /// The version of the label standard, at position 80: `4` for the fourth edition. It is not
+    /// judged.
     pub version: u8,
 }
 
@@ -70,14 +71,16 @@ impl Format {
     }
 }
 
-/// A second header or trailer label, `HDR2`, `EOF2` or `EOV2` (ECMA-13, 4th edition, "Second File Header Label").
+/// A second header or trailer label, `HDR2`, `EOF2` or `EOV2` (ECMA-13, 4th edition, "Second File
+/// Header Label").
 #[derive(Clone, Copy, Debug, PartialEq, Eq, Hash)]
 pub struct Head2 {
     /// The record format, at position 5.
     pub format: Format,
     /// The greatest length of a block in bytes, 0 to 99,999, at positions 6 to 10.
     pub block_len: u32,
-    /// The record length in bytes, 0 to 99,999, at positions 11 to 15; at least 1 where the format is `Fixed`.
+    /// The record length in bytes, 0 to 99,999, at positions 11 to 15; at least 1 where the format
+    /// is `Fixed`.
     pub rec_len: u32,
     /// The bytes before the first record of each block, 0 to 99, at positions 51 and 52.
     pub offset: u8,
@@ -90,7 +93,8 @@ pub struct Trail1 {
     pub eof: bool,
     /// What the label has in common with the first header label of its section.
     pub head: Head1,
-    /// The blocks of the section, 0 to 999,999, at positions 55 to 60.
+    /// The block count at positions 55 to 60, 0 to 999,999: the last six digits of the number of
+    /// blocks, where a section has more.
     pub blocks: u32,
 }
 

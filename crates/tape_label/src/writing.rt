@@ -6,13 +6,14 @@ ghost use Rattle.tape_label.specs.Head1.{IsHead1, HeadFits};
 ghost use Rattle.tape_label.specs.Head2.{IsHead2, Head2Fits};
 ghost use Rattle.tape_label.specs.Trail1.{IsTrail1, TrailFits};
 ghost use Rattle.tape_label.specs.Kinds.{IsSecond, trailer};
-ghost use Rattle.tape_label.specs.Written.{text_of, vol1_pieces, head1_pieces, trail1_pieces, head2_pieces};
+ghost use Rattle.tape_label.specs.Written.{text_of, vol1_pieces, head1_pieces, trail1_pieces};
+ghost use Rattle.tape_label.specs.Written.{head2_pieces};
 
 use crate::text::{head_text, head2_text, vol1_text};
 use crate::values::{Head1, Head2, Kind, Trail1, Vol1};
 
-/// Writes a volume label, with spaces in reserved positions (ECMA-13, 4th edition, "Volume Header Label").
-/// The version is written as it is given.
+/// Writes a volume label, with spaces in reserved positions (ECMA-13, 4th edition, "Volume Header
+/// Label"). The version is written as it is given.
 #[tactic(auto, using(crate::proofs::Texts::vol1_text_is))]
 pub fn write_vol1(fields: &Vol1) -> [u8; 80]
     ensures label { IsVol1 result fields.now }
@@ -21,8 +22,8 @@ pub fn write_vol1(fields: &Vol1) -> [u8; 80]
     vol1_text(fields)
 }
 
-/// Writes a first header label, with the block count `000000` and spaces in reserved positions (ECMA-13,
-/// 4th edition, "First File Header Label"). Section and sequence number are 1 to 9,999.
+/// Writes a first header label, with the block count `000000` and spaces in reserved positions
+/// (ECMA-13, 4th edition, "First File Header Label"). Section and sequence number are 1 to 9,999.
 #[tactic(auto, using(crate::proofs::Texts::head1_text_is))]
 pub fn write_head1(fields: &Head1) -> [u8; 80]
     requires { HeadFits fields.now }
@@ -32,9 +33,10 @@ pub fn write_head1(fields: &Head1) -> [u8; 80]
     head_text(Kind::Hdr1, fields, 0)
 }
 
-/// Writes a second header or trailer label, of the kind `HDR2`, `EOF2` or `EOV2`, with spaces in reserved
-/// positions (ECMA-13, 4th edition, "Second File Header Label"). Block and record length are at most 99,999, the
-/// offset is at most 99, and the record length of the format `Fixed` is at least 1.
+/// Writes a second header or trailer label, of the kind `HDR2`, `EOF2` or `EOV2`, with spaces in
+/// reserved positions (ECMA-13, 4th edition, "Second File Header Label"). Block and record length
+/// are at most 99,999, the offset is at most 99, and the record length of the format `Fixed` is at
+/// least 1.
 #[tactic(auto, using(crate::proofs::Texts::head2_text_is))]
 pub fn write_head2(fields: &Head2, kind: Kind) -> [u8; 80]
     requires second { IsSecond kind }
@@ -45,8 +47,9 @@ pub fn write_head2(fields: &Head2, kind: Kind) -> [u8; 80]
     head2_text(kind, fields)
 }
 
-/// Writes a first trailer label, with spaces in reserved positions (ECMA-13, 4th edition, end of file and end of
-/// volume labels). Section and sequence number are 1 to 9,999, and there are at most 999,999 blocks.
+/// Writes a first trailer label, with spaces in reserved positions (ECMA-13, 4th edition, end of
+/// file and end of volume labels). Section and sequence number are 1 to 9,999, and the block
+/// count is at most 999,999.
 #[tactic(auto, using(crate::proofs::Texts::trail1_text_is))]
 pub fn write_trail1(fields: &Trail1) -> [u8; 80]
     requires { TrailFits fields.now }
@@ -56,6 +59,7 @@ pub fn write_trail1(fields: &Trail1) -> [u8; 80]
     head_text(trailer(fields.eof), &fields.head, fields.blocks)
 }
 
+/// The kind of a first trailer label.
 fn trailer(eof: bool) -> Kind
     ensures { result ≡ trailer eof }
 {

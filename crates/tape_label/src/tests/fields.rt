@@ -33,6 +33,8 @@ fn fields_of_any_bytes(rt: HostRuntime) {
     assert_eq!(rt; field.bytes(), [0, 0xff, b'a'].as_slice());
     assert!(rt; laws::same_field(&field, &Field::of_bytes([0, 0xff, b'a'])));
     assert!(rt; !laws::same_field(&field, &Field::of_bytes([0, 0xff, b'b'])));
+    laws::widths(&head());
+    laws::volume_widths(&volume());
 }
 
 #[test]

@@ -21,7 +21,8 @@ fn kinds_by_length_and_identifier(rt: HostRuntime) {
     assert_eq!(rt; kind(EOF2), Some(Kind::Eof2));
     assert_eq!(rt; kind(EOV1), Some(Kind::Eov1));
     assert_eq!(rt; kind(EOV2), Some(Kind::Eov2));
-    // What follows the identifier does not matter, and a user's label or a third one is none of these.
+    // What follows the identifier does not matter, and a user's label or a third one is none of
+    // these.
     let mut block = [0xff; 80];
     block[..4].copy_from_slice(b"EOF1");
     assert_eq!(rt; kind(&block), Some(Kind::Eof1));
@@ -31,6 +32,47 @@ fn kinds_by_length_and_identifier(rt: HostRuntime) {
     assert_eq!(rt; kind(&block), None);
     block[..4].copy_from_slice(b"hdr1");
     assert_eq!(rt; kind(&block), None);
+}
+
+#[test]
+fn volume_labels_of_any_sort(rt: HostRuntime) {
+    assert!(rt; is_volume_label(VOL1));
+    assert!(rt; !is_volume_label(HDR1));
+    assert!(rt; !is_volume_label(&VOL1[..79]));
+    let mut block = [0xff; 80];
+    for (identifier, is_one) in [
+        (b"VOL2", true),
+        (b"VOLX", true),
+        (b"UVL1", true),
+        (b"UHL1", false),
+        (b"vol1", false),
+        (b"VOK1", false),
+    ] {
+        block[..4].copy_from_slice(identifier);
+        assert_eq!(rt; is_volume_label(&block), is_one);
+    }
+}
+
+#[test]
+fn blocks_read_as_the_label_that_they_name(rt: HostRuntime) {
+    assert_eq!(rt; read_label(VOL1), Ok(Label::Vol1(volume())));
+    assert_eq!(rt; read_label(HDR1), Ok(Label::Head1(head())));
+    assert_eq!(rt; read_label(HDR2), Ok(Label::Second(Kind::Hdr2, second())));
+    assert_eq!(rt; read_label(EOF1), Ok(Label::Trail1(trailer(true))));
+    assert_eq!(rt; read_label(EOF2), Ok(Label::Second(Kind::Eof2, second())));
+    assert_eq!(rt; read_label(EOV1), Ok(Label::Trail1(trailer(false))));
+    assert_eq!(rt; read_label(EOV2), Ok(Label::Second(Kind::Eov2, second())));
+    // The length comes before the identifier, and this before what the fields hold.
+    assert_eq!(rt; read_label(&HDR1[..79]), Err(LabelFault::NotEighty));
+    assert_eq!(rt; read_label(&[b'X'; 81]), Err(LabelFault::NotEighty));
+    assert_eq!(rt; read_label(&[b'X'; 80]), Err(LabelFault::Identifier));
+    let mut block = [b' '; 80];
+    block[..4].copy_from_slice(b"VOL2");
+    assert_eq!(rt; read_label(&block), Err(LabelFault::Identifier));
+    block[..4].copy_from_slice(b"HDR1");
+    assert_eq!(rt; read_label(&block), Err(LabelFault::NotDigits(28)));
+    block[..4].copy_from_slice(b"EOF2");
+    assert_eq!(rt; read_label(&block), Err(LabelFault::Format(b' ')));
 }
 
 #[test]

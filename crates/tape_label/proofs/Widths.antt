@@ -1,0 +1,41 @@
+-- Fields as wide as their positions make pieces that are.
+use Rattle.std.proofs.Common.{◌≡◌, ℕ, length, drop, refl}
+use Rattle.tape_label.specs.declared.values.Kind.{Kind}
+use Rattle.tape_label.specs.declared.values.Kind.TheVariants as kinds
+use Rattle.tape_label.specs.declared.values.Vol1.{Vol1}
+use Rattle.tape_label.specs.declared.values.Head1.{Head1}
+use Rattle.tape_label.specs.declared.values.Head2.{Head2}
+use Rattle.tape_label.specs.Kinds.{identifier}
+use Rattle.tape_label.specs.Widths.{IsWide, IsWideVolume}
+use Rattle.tape_label.specs.Written.{HaveWidths, vol1_pieces, head_pieces, head2_pieces}
+
+four : (kind : Kind) → length (identifier kind) ≡ 4
+four kinds.Vol1 = refl
+four kinds.Hdr1 = refl
+four kinds.Hdr2 = refl
+four kinds.Eof1 = refl
+four kinds.Eof2 = refl
+four kinds.Eov1 = refl
+four kinds.Eov2 = refl
+
+-- ---- for the crates above
+
+pub vol1_wide : (v : Vol1) → IsWideVolume v → HaveWidths (vol1_pieces v)
+vol1_wide v w =
+    (refl, (w.volume, (refl, (refl, (w.implementation, (w.owner, (refl, (refl, tt))))))))
+
+-- what follows the section and sequence number
+head_rest : (h : Head1) (blocks : ℕ) → IsWide h
+    → HaveWidths (drop 5 (head_pieces kinds.Hdr1 h blocks))
+head_rest h blocks w = (
+  w.generation,
+  (w.gen_version, (w.created, (w.expires, (refl, (refl, (w.implementation, (refl, tt))))))),
+)
+
+pub head_wide : (kind : Kind) (h : Head1) (blocks : ℕ) → IsWide h
+    → HaveWidths (head_pieces kind h blocks)
+head_wide kind h blocks w =
+    (four kind, (w.file_id, (w.set_id, (refl, (refl, head_rest h blocks w)))))
+
+pub head2_wide : (kind : Kind) (h : Head2) → HaveWidths (head2_pieces kind h)
+head2_wide kind h = (four kind, (refl, (refl, (refl, (refl, (refl, (refl, tt)))))))
