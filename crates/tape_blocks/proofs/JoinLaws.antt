@@ -1,39 +1,57 @@
 -- Laws of joining parts to records, and of the order of their spans.
-use Rattle.std.proofs.Common.{◌≡◌, ◌≢◌, ℕ, drop, subst, Bool, true, false, List, [], ◌∷◌, ◌++◌, Option, Some, None, Ok, refl, sym, ap, ◌∙◌}
+use Rattle.std.proofs.Common.{◌≡◌, ◌≢◌, ℕ, drop, subst, Bool, true, false, List, [], ◌∷◌, ◌++◌}
+use Rattle.std.proofs.Common.{Option, Some, None, Ok, refl, sym, ap, ◌∙◌}
 use Rattle.std.specs.Prelude.{is_some, if◌then◌else◌}
 use Rattle.std.proofs.lemmas.List.{append-nil}
 use Rattle.tape_label.specs.declared.values.Format.{Format}
 use Rattle.tape_label.specs.declared.values.Format.TheVariants.{Fixed, Spanned}
 use Rattle.tape_blocks.specs.Block.{Portion, Holds}
 use Rattle.tape_blocks.specs.Judged.{judged}
-use Rattle.tape_blocks.specs.Spans.{Joined, InOrder, leaves, continues, span_of, content_after, with_record, join_after, join, joined_with}
+use Rattle.tape_blocks.specs.Spans.{Joined, InOrder, leaves, continues, span_of, content_after}
+use Rattle.tape_blocks.specs.Spans.{with_record, join_after, join, joined_with}
 use Rattle.tape_blocks.proofs.JudgedLaws.{judged_found}
 use Rattle.tape_blocks.proofs.PartsLaws.{parts_are}
 
-by_end : (b : Bool) (content : List ℕ) (ps qs : List Portion) → ((begun : Option (List ℕ)) → join_after begun (ps ++ qs) ≡ joined_with (join_after begun ps) qs)
-    → (if b then join_after (Some content) (ps ++ qs) else with_record content (join_after None (ps ++ qs))) ≡ joined_with (if b then join_after (Some content) ps else with_record content (join_after None ps)) qs
+by_end : (b : Bool) (content : List ℕ) (ps qs : List Portion) → ((begun : Option (List ℕ))
+    → join_after begun (ps ++ qs) ≡ joined_with (join_after begun ps) qs)
+    → (if b then join_after (Some content) (ps ++ qs) else with_record content
+    (join_after None (ps ++ qs))) ≡ joined_with (if b then join_after
+    (Some content) ps else with_record content (join_after None ps)) qs
 by_end true content ps qs same = same (Some content)
 by_end false content ps qs same = ap (with_record content) (same None)
 
 -- The finished records of the first list, and then those of the second begun with the first's rest.
-pub join-append : (begun : Option (List ℕ)) (ps qs : List Portion) → join_after begun (ps ++ qs) ≡ joined_with (join_after begun ps) qs
+pub join-append : (begun : Option (List ℕ)) (ps qs : List Portion)
+    → join_after begun (ps ++ qs) ≡ joined_with (join_after begun ps) qs
 join-append begun [] qs = refl
-join-append begun (p ∷ ps) qs = by_end (leaves p.span) (content_after begun p.bytes) ps qs (λ b. join-append b ps qs)
+join-append begun (p ∷ ps) qs =
+    by_end (leaves p.span) (content_after begun p.bytes) ps qs (λ b. join-append b ps qs)
 
-pub join_ends : (ps : List Portion) (p : Portion) (records : List (List ℕ)) (front : Option (List ℕ)) → join ps ≡ record { records = records; rest = front } → leaves p.span ≡ false → join (ps ++ p ∷ []) ≡ record { records = records ++ content_after front p.bytes ∷ []; rest = None }
-join_ends ps p records front e ends = join-append None ps (p ∷ []) ∙ ap (λ (j : Joined). joined_with j (p ∷ [])) e ∙ rw ends refl
+pub join_ends : (ps : List Portion) (p : Portion) (records : List (List ℕ)) (front : Option (List
+    ℕ)) → join ps ≡ record { records = records; rest = front } → leaves p.span ≡ false → join (ps
+    ++ p ∷ []) ≡ record { records = records ++ content_after front p.bytes ∷ []; rest = None }
+join_ends ps p records front e ends = join-append None ps (p ∷ [])
+    ∙ ap (λ (j : Joined). joined_with j (p ∷ [])) e ∙ rw ends refl
 
-pub join_goes_on : (ps : List Portion) (p : Portion) (records : List (List ℕ)) (front : Option (List ℕ)) → join ps ≡ record { records = records; rest = front } → leaves p.span ≡ true → join (ps ++ p ∷ []) ≡ record { records = records; rest = Some (content_after front p.bytes) }
-join_goes_on ps p records front e goes = join-append None ps (p ∷ []) ∙ ap (λ (j : Joined). joined_with j (p ∷ [])) e ∙ rw (goes, append-nil records) refl
+pub join_goes_on : (ps : List Portion) (p : Portion) (records : List (List ℕ)) (front : Option (List
+    ℕ)) → join ps ≡ record { records = records; rest = front } → leaves p.span ≡ true
+    → join (ps ++ p ∷ []) ≡ record { records = records; rest = Some (content_after front p.bytes) }
+join_goes_on ps p records front e goes = join-append None ps (p ∷ [])
+    ∙ ap (λ (j : Joined). joined_with j (p ∷ [])) e ∙ rw (goes, append-nil records) refl
 
-rest_by : (b : Bool) (content : List ℕ) (ps : List Portion) (end : Bool) → InOrder b ps end → ((begun : Option (List ℕ)) → InOrder (is_some begun) ps end → is_some (join_after begun ps).rest ≡ end)
-    → is_some (if b then join_after (Some content) ps else with_record content (join_after None ps)).rest ≡ end
+rest_by : (b : Bool) (content : List ℕ) (ps : List Portion) (end : Bool) → InOrder b ps end
+    → ((begun : Option (List ℕ)) → InOrder (is_some begun) ps end
+    → is_some (join_after begun ps).rest ≡ end)
+    → is_some (if b then join_after (Some content) ps else with_record content
+    (join_after None ps)).rest ≡ end
 rest_by true content ps end order same = same (Some content) order
 rest_by false content ps end order same = same None order
 
-pub begun_rest : (begun : Option (List ℕ)) (ps : List Portion) (end : Bool) → InOrder (is_some begun) ps end → is_some (join_after begun ps).rest ≡ end
+pub begun_rest : (begun : Option (List ℕ)) (ps : List Portion) (end : Bool)
+    → InOrder (is_some begun) ps end → is_some (join_after begun ps).rest ≡ end
 begun_rest begun [] end order = order
-begun_rest begun (p ∷ ps) end order = rest_by (leaves p.span) (content_after begun p.bytes) ps end order.1 (λ b o. begun_rest b ps end o)
+begun_rest begun (p ∷ ps) end order = rest_by (leaves p.span)
+    (content_after begun p.bytes) ps end order.1 (λ b o. begun_rest b ps end o)
 
 pub leaves_of : (begun goes_on : Bool) → leaves (span_of begun goes_on) ≡ goes_on
 leaves_of true true = refl
@@ -49,20 +67,27 @@ continues_of false false = refl
 
 -- ---- one block
 
-pub one_list : (format : Format) (rec_len offset : ℕ) (block : List ℕ) (ps qs : List Portion) → Holds format rec_len offset block ps → Holds format rec_len offset block qs → ps ≡ qs
+pub one_list : (format : Format) (rec_len offset : ℕ) (block : List ℕ) (ps qs : List Portion)
+    → Holds format rec_len offset block ps → Holds format rec_len offset block qs → ps ≡ qs
 one_list format rec_len offset block ps qs x y =
-    sym (parts_are format rec_len ps (drop offset block) x.0 x.1.units x.2 x.1.body) ∙ parts_are format rec_len qs (drop offset block) y.0 y.1.units y.2 y.1.body
+    sym (parts_are format rec_len ps (drop offset block) x.0 x.1.units x.2 x.1.body)
+    ∙ parts_are format rec_len qs (drop offset block) y.0 y.1.units y.2 y.1.body
 
-same_begun : (ps : List Portion) (b c d e : Bool) → ps ≢ [] → InOrder b ps d → InOrder c ps e → b ≡ c
+same_begun : (ps : List Portion) (b c d e : Bool) → ps ≢ [] → InOrder b ps d
+    → InOrder c ps e → b ≡ c
 same_begun [] b c d e some x y = absurd (some refl)
 same_begun (p ∷ ps) b c d e some x y = sym x.0 ∙ y.0
 
-pub passes_for_one : (rec_len offset : ℕ) (block : List ℕ) (parts : List Portion) (b c d e : Bool) → Holds Spanned rec_len offset block parts → parts ≢ []
-    → judged Spanned rec_len offset b block ≡ Ok d → judged Spanned rec_len offset c block ≡ Ok e → b ≡ c
+pub passes_for_one : (rec_len offset : ℕ) (block : List ℕ) (parts : List Portion) (b c d e : Bool)
+    → Holds Spanned rec_len offset block parts → parts ≢ []
+    → judged Spanned rec_len offset b block ≡ Ok d
+    → judged Spanned rec_len offset c block ≡ Ok e → b ≡ c
 passes_for_one rec_len offset block parts b c d e holds some x y =
     let never : Spanned ≡ Fixed → ⊥ = λ f. cc in
     let one = judged_found Spanned rec_len offset b d block (λ f. absurd (never f)) x in
     let two = judged_found Spanned rec_len offset c e block (λ f. absurd (never f)) y in
     same_begun parts b c d e some
-    (subst (λ (ps : List Portion). InOrder b ps d) (one_list Spanned rec_len offset block one.0 parts one.1 holds) one.2)
-    (subst (λ (ps : List Portion). InOrder c ps e) (one_list Spanned rec_len offset block two.0 parts two.1 holds) two.2)
+    (subst (λ (ps : List Portion). InOrder b ps d)
+    (one_list Spanned rec_len offset block one.0 parts one.1 holds) one.2)
+    (subst (λ (ps : List Portion). InOrder c ps e)
+    (one_list Spanned rec_len offset block two.0 parts two.1 holds) two.2)

@@ -1,233 +1,189 @@
--- A block is judged as its fronts tell: it passes where it holds parts in order, and else it has the fault.
-use Rattle.std.proofs.Common.{◌≡◌, ℕ, zero, suc, ◌+◌, ◌<◌, ◌≤◌, Bool, true, false, ltb, List, [], ◌∷◌, ◌++◌, length, drop, Option, Some, None, Result, Ok, Err, refl, sym, ap, subst, ◌∙◌, arith, length-append, inl, inr}
+-- A block is judged as its fronts tell: it passes where it holds parts in order, and else it has
+-- the fault.
+use Rattle.std.proofs.Common.{◌≡◌, ℕ, ◌+◌, ◌≤◌, Bool, true, false, ltb, List, length, Option, Some}
+use Rattle.std.proofs.Common.{None, Result, Ok, Err, refl, sym, ap, subst, ◌∙◌, inl, inr}
 use Rattle.std.specs.Prelude.{if◌then◌else◌, IfOk, IfErr}
-use Rattle.std.specs.List.{AllByRecursion}
-use Rattle.std.proofs.lemmas.Bool.{le-ltb, lt-ltb, ltb-true, ltb-false}
-use Rattle.std.proofs.lemmas.List.{drop-drop, drop_at, append-nil, length-drop}
+use Rattle.std.proofs.lemmas.Bool.{ltb-true, ltb-false}
 use Rattle.tape_label.specs.declared.values.Format.{Format}
 use Rattle.tape_label.specs.declared.values.Format.TheVariants.{Fixed}
 use Rattle.tape_blocks.specs.declared.fault.BlockCause.TheVariants.{ShortOffset, SpanBroken}
 use Rattle.tape_blocks.specs.declared.fault.BlockFault.{BlockFault}
 use Rattle.tape_blocks.specs.declared.unit.Found.{Found}
-use Rattle.tape_blocks.specs.Block.{Portion, spelling, spellings, IsUnit, Holds}
-use Rattle.tape_blocks.specs.Faults.{bool_eq, first_fault, tests, IsFront, FaultStands, HasFault, fault}
-use Rattle.tape_blocks.specs.Judged.{in_order, begun_behind, unless_fault, judged_behind, judged}
-use Rattle.tape_blocks.specs.Parts.{portion, parts_of}
-use Rattle.tape_blocks.specs.Spans.{continues, leaves, InOrder}
+use Rattle.tape_blocks.specs.Block.{Portion, spellings, Holds}
+use Rattle.tape_blocks.specs.Faults.{bool_eq, FaultStands, HasFault, fault}
+use Rattle.tape_blocks.specs.Judged.{unless_fault, judged}
+use Rattle.tape_blocks.specs.Spans.{continues, InOrder}
 use Rattle.tape_blocks.specs.Units.{unit_at}
-use Rattle.tape_blocks.proofs.FrontLaws.{NoUnit, spellings_first, longest, bool_eq-true, bool_eq-same}
-use Rattle.tape_blocks.proofs.PartsLaws.{parts_front, parts_next, parts_end, parts_fault, found_size, some_of}
+use Rattle.tape_blocks.proofs.FrontLaws.{NoUnit, longest}
+use Rattle.tape_blocks.proofs.PartsLaws.{some_of}
 use Rattle.tape_blocks.proofs.TestLaws.{stop_by, moved, tests_are}
-use Rattle.tape_blocks.proofs.UnitLaws.{unit_found, padding_found, padding_again}
-
--- ---- a front behind which no unit in order stands
-
-in_order-front : (begun end : Bool) (ps qs : List Portion) → InOrder begun ps end → in_order begun (ps ++ qs) ≡ ps ++ in_order end qs
-in_order-front begun end [] qs order = ap (λ (b : Bool). in_order b qs) order
-in_order-front begun end (p ∷ ps) qs order =
-    let follows : bool_eq (continues p.span) begun ≡ true = ap (λ (b : Bool). bool_eq b begun) order.0 ∙ bool_eq-same begun in
-    rw follows (ap (λ (xs : List Portion). p ∷ xs) (in_order-front (leaves p.span) end ps qs order.1))
-
-begun_behind-front : (begun end : Bool) (ps : List Portion) → InOrder begun ps end → begun_behind begun ps ≡ end
-begun_behind-front begun end [] order = order
-begun_behind-front begun end (p ∷ ps) order = begun_behind-front (leaves p.span) end ps order.1
-
-none_by : (u : Result (Option Found) BlockFault) (format : Format) (rec_len : ℕ) (end : Bool) (rest : List ℕ) → (format ≡ Fixed → 1 ≤ rec_len) → unit_at format rec_len rest ≡ u → NoUnit end u → in_order end (parts_of format rec_len rest) ≡ []
-none_by (Err f) format rec_len end rest some e never = ap (in_order end) (parts_fault format rec_len rest f e)
-none_by (Ok None) format rec_len end rest some e never = ap (in_order end) (parts_end format rec_len rest e)
-none_by (Ok (Some found)) format rec_len end rest some e never = ap (in_order end) (parts_next format rec_len rest found some e) ∙ rw never refl
-
--- such a front in a block, and what a step finds behind it
-pub record Ends (format : Format) (rec_len offset : ℕ) (begun : Bool) (block : List ℕ) (ps : List Portion) (end : Bool) (rest : List ℕ) : Type 0 where
-  pub front : IsFront format rec_len offset begun block ps end rest
-  pub none : NoUnit end (unit_at format rec_len rest)
-
--- The block is judged by what stands behind it.
-pub judged_at : (format : Format) (rec_len offset : ℕ) (begun : Bool) (block : List ℕ) (ps : List Portion) (end : Bool) (rest : List ℕ) → (format ≡ Fixed → 1 ≤ rec_len) → Ends format rec_len offset begun block ps end rest
-    → judged format rec_len offset begun block ≡ unless_fault end (first_fault (tests format rec_len end (offset + length (spellings format ps)) rest))
-unfolding judged
-judged_at format rec_len offset begun block ps end rest some ends =
-    let front = ends.front in
-    let size = length (spellings format ps) in
-    let none = none_by (unit_at format rec_len rest) format rec_len end rest some refl ends.none in
-    let parts : in_order begun (parts_of format rec_len (drop offset block)) ≡ ps =
-    ap (in_order begun) (parts_front format rec_len ps (drop offset block) rest some front.begins.units front.begins.body) ∙ in_order-front begun end ps (parts_of format rec_len rest) front.order ∙ ap (λ (qs : List Portion). ps ++ qs) none ∙ append-nil ps in
-    let left : drop (offset + size) block ≡ rest = sym (drop-drop size offset block) ∙ ap (drop size) front.begins.body ∙ drop_at (spellings format ps) rest size refl in
-    rw (le-ltb _ _ front.begins.reaches) (
-    ap (judged_behind format rec_len offset begun block) parts
-    ∙ ap (λ (e : Bool). unless_fault e (first_fault (tests format rec_len e (offset + size) (drop (offset + size) block)))) (begun_behind-front begun end ps front.order)
-    ∙ ap (λ (r : List ℕ). unless_fault end (first_fault (tests format rec_len end (offset + size) r))) left
-    )
-
--- The same by what a step finds there.
-pub judged_by_step : (format : Format) (rec_len offset : ℕ) (begun : Bool) (block : List ℕ) (ps : List Portion) (end : Bool) (rest : List ℕ) (u : Result (Option Found) BlockFault) → (format ≡ Fixed → 1 ≤ rec_len) → Ends format rec_len offset begun block ps end rest
-    → unit_at format rec_len rest ≡ u → judged format rec_len offset begun block ≡ unless_fault end (moved (offset + length (spellings format ps)) (stop_by end u))
-judged_by_step format rec_len offset begun block ps end rest u some ends e =
-    judged_at format rec_len offset begun block ps end rest some ends
-    ∙ ap (unless_fault end) (tests_are format rec_len end (offset + length (spellings format ps)) rest ∙ ap (λ (v : Result (Option Found) BlockFault). moved (offset + length (spellings format ps)) (stop_by end v)) e)
-
--- The same where a walk stands at a place of the block.
-pub judged_where : (format : Format) (rec_len offset : ℕ) (begun : Bool) (block : List ℕ) (ps : List Portion) (going : Bool) (place : ℕ) (u : Result (Option Found) BlockFault) → (format ≡ Fixed → 1 ≤ rec_len) → place ≤ length block
-    → IsFront format rec_len offset begun block ps going (drop place block) → unit_at format rec_len (drop place block) ≡ u → NoUnit going u → judged format rec_len offset begun block ≡ unless_fault going (moved place (stop_by going u))
-judged_where format rec_len offset begun block ps going place u some inside front e none =
-    let rest = drop place block in
-    let never = subst (λ (v : Result (Option Found) BlockFault). NoUnit going v) (sym e) none in
-    let long = ap length front.begins.body in
-    let at : offset + length (spellings format ps) ≡ place = omega (arith, long, length-append (spellings format ps) rest, length-drop place block, length-drop offset block, inside, front.begins.reaches) in
-    judged_by_step format rec_len offset begun block ps going rest u some record { front = front; none = never } e
-    ∙ ap (λ (n : ℕ). unless_fault going (moved n (stop_by going u))) at
-
-pub judged_short : (format : Format) (rec_len offset : ℕ) (begun : Bool) (block : List ℕ) → length block < offset → judged format rec_len offset begun block ≡ Err (fault 0 ShortOffset)
-unfolding judged
-judged_short format rec_len offset begun block short = rw (lt-ltb _ _ short) refl
-
--- ---- each block has such a front
-
-record Walked (format : Format) (rec_len : ℕ) (begun : Bool) (bytes : List ℕ) : Type 0 where
-  parts : List Portion
-  end : Bool
-  rest : List ℕ
-  units : AllByRecursion (IsUnit format rec_len) parts
-  body : bytes ≡ spellings format parts ++ rest
-  order : InOrder begun parts end
-  none : NoUnit end (unit_at format rec_len rest)
-
-stays : (format : Format) (rec_len : ℕ) (begun : Bool) (bytes : List ℕ) → NoUnit begun (unit_at format rec_len bytes) → Walked format rec_len begun bytes
-stays format rec_len begun bytes none = record { parts = []; end = begun; rest = bytes; units = tt; body = refl; order = refl; none = none }
-
-goes : (format : Format) (rec_len : ℕ) (begun : Bool) (bytes : List ℕ) (found : Found) → unit_at format rec_len bytes ≡ Ok (Some found) → bool_eq (continues found.span) begun ≡ true
-    → Walked format rec_len (leaves found.span) (drop found.len bytes) → Walked format rec_len begun bytes
-goes format rec_len begun bytes found e follows walked =
-    let stands = unit_found format rec_len bytes found e in
-    let p = portion found bytes in
-    record {
-      parts = p ∷ walked.parts;
-      end = walked.end;
-      rest = walked.rest;
-      units = (stands.unit, walked.units);
-      body = stands.whole ∙ ap (λ (s : List ℕ). spelling format p ++ s) walked.body ∙ sym (spellings_first format p walked.parts walked.rest);
-      order = (bool_eq-true (continues found.span) begun follows, walked.order);
-      none = walked.none;
-    }
-
-walk_on : (b : Bool) (format : Format) (rec_len : ℕ) (begun : Bool) (bytes : List ℕ) (found : Found) → unit_at format rec_len bytes ≡ Ok (Some found) → bool_eq (continues found.span) begun ≡ b
-    → Walked format rec_len (leaves found.span) (drop found.len bytes) → Walked format rec_len begun bytes
-walk_on true format rec_len begun bytes found e is walked = goes format rec_len begun bytes found e is walked
-walk_on false format rec_len begun bytes found e is walked = stays format rec_len begun bytes (subst (λ (u : Result (Option Found) BlockFault). NoUnit begun u) (sym e) is)
-
-walk_by : (u : Result (Option Found) BlockFault) (n : ℕ) (format : Format) (rec_len : ℕ) (begun : Bool) (bytes : List ℕ) → (format ≡ Fixed → 1 ≤ rec_len) → unit_at format rec_len bytes ≡ u → length bytes < suc n
-    → ((begun : Bool) (rest : List ℕ) → length rest < n → Walked format rec_len begun rest) → Walked format rec_len begun bytes
-walk_by (Err f) n format rec_len begun bytes some e fits others = stays format rec_len begun bytes (subst (λ (u : Result (Option Found) BlockFault). NoUnit begun u) (sym e) tt)
-walk_by (Ok None) n format rec_len begun bytes some e fits others = stays format rec_len begun bytes (subst (λ (u : Result (Option Found) BlockFault). NoUnit begun u) (sym e) tt)
-walk_by (Ok (Some found)) n format rec_len begun bytes some e fits others =
-    let size = found_size format rec_len bytes found some e in
-    walk_on (bool_eq (continues found.span) begun) format rec_len begun bytes found e refl (others (leaves found.span) (drop found.len bytes) (omega (arith, length-drop found.len bytes, size.0, size.1)))
-
-walk : (n : ℕ) (format : Format) (rec_len : ℕ) (begun : Bool) (bytes : List ℕ) → (format ≡ Fixed → 1 ≤ rec_len) → length bytes < n → Walked format rec_len begun bytes
-walk zero format rec_len begun bytes some fits = absurd (omega arith)
-walk (suc n) format rec_len begun bytes some fits = walk_by (unit_at format rec_len bytes) n format rec_len begun bytes some refl fits (λ b rest less. walk n format rec_len b rest some less)
-
-walk_block : (format : Format) (rec_len offset : ℕ) (begun : Bool) (block : List ℕ) → (format ≡ Fixed → 1 ≤ rec_len) → Walked format rec_len begun (drop offset block)
-walk_block format rec_len offset begun block some = walk (suc (length (drop offset block))) format rec_len begun (drop offset block) some (omega arith)
-
-ends_of : (format : Format) (rec_len offset : ℕ) (begun : Bool) (block : List ℕ) → offset ≤ length block → (w : Walked format rec_len begun (drop offset block)) → Ends format rec_len offset begun block w.parts w.end w.rest
-ends_of format rec_len offset begun block reaches w = record { front = record { begins = record { reaches = reaches; units = w.units; body = w.body }; order = w.order }; none = w.none }
+use Rattle.tape_blocks.proofs.PaddingLaws.{padding_found, padding_again}
+use Rattle.tape_blocks.proofs.LongestFronts.{Ends, judged_at, judged_by_step, judged_short}
+use Rattle.tape_blocks.proofs.LongestFronts.{walk_block, ends_of}
 
 -- ---- what passes holds parts in order
 
 abbrev Passes : Format → ℕ → ℕ → Bool → List ℕ → Bool → Type 0
-Passes format rec_len offset begun block end = (parts : List Portion) × Holds format rec_len offset block parts × InOrder begun parts end
+Passes format rec_len offset begun block end =
+    (parts : List Portion) × Holds format rec_len offset block parts × InOrder begun parts end
 
 ok_is : (x y : Bool) → unless_fault x None ≡ Ok y → x ≡ y
 ok_is x y e = cc
 
-passes_by : (u : Result (Option Found) BlockFault) (format : Format) (rec_len offset : ℕ) (begun : Bool) (block : List ℕ) (ps : List Portion) (end last : Bool) (rest : List ℕ) → (format ≡ Fixed → 1 ≤ rec_len) → Ends format rec_len offset begun block ps end rest
-    → unit_at format rec_len rest ≡ u → NoUnit end u → judged format rec_len offset begun block ≡ Ok last → Passes format rec_len offset begun block last
-passes_by (Err f) format rec_len offset begun block ps end last rest some ends e none is = absurd (let by = judged_by_step format rec_len offset begun block ps end rest (Err f) some ends e in cc)
+passes_by : (u : Result (Option Found) BlockFault) (format : Format) (rec_len offset : ℕ)
+    (begun : Bool) (block : List ℕ) (ps : List Portion) (end last : Bool) (rest : List ℕ)
+    → (format ≡ Fixed → 1 ≤ rec_len) → Ends format rec_len offset begun block ps end rest
+    → unit_at format rec_len rest ≡ u → NoUnit end u
+    → judged format rec_len offset begun block ≡ Ok last
+    → Passes format rec_len offset begun block last
+passes_by (Err f) format rec_len offset begun block ps end last rest some ends e none is =
+    absurd (let by =
+    judged_by_step format rec_len offset begun block ps end rest (Err f) some ends e in cc)
 passes_by (Ok None) format rec_len offset begun block ps end last rest some ends e none is =
-    let same : end ≡ last = ok_is end last (sym (judged_by_step format rec_len offset begun block ps end rest (Ok None) some ends e) ∙ is) in
-    (ps, (rest, ends.front.begins, padding_found format rec_len rest e), subst (λ (b : Bool). InOrder begun ps b) same ends.front.order)
+    let same : end ≡ last = ok_is end last (sym (judged_by_step format rec_len offset begun block ps
+    end rest (Ok None) some ends e) ∙ is) in (
+      ps,
+      (rest, ends.front.begins, padding_found format rec_len rest e),
+      subst (λ (b : Bool). InOrder begun ps b) same ends.front.order,
+    )
 passes_by (Ok (Some found)) format rec_len offset begun block ps end last rest some ends e none is =
-    absurd (let by = judged_by_step format rec_len offset begun block ps end rest (Ok (Some found)) some ends e ∙ rw none refl in let other : Err (fault (offset + length (spellings format ps) + 0) SpanBroken) ≡ Ok last = sym by ∙ is in cc)
+    absurd (let by = judged_by_step format rec_len offset begun block ps end rest
+    (Ok (Some found)) some ends e ∙ rw none refl in
+    let other : Err (fault (offset + length (spellings format ps) + 0) SpanBroken) ≡ Ok last =
+    sym by ∙ is in cc)
 
-reaches_by : (b : Bool) (format : Format) (rec_len offset : ℕ) (begun last : Bool) (block : List ℕ) → ltb (length block) offset ≡ b → judged format rec_len offset begun block ≡ Ok last → offset ≤ length block
-reaches_by true format rec_len offset begun last block e is = absurd (let short = judged_short format rec_len offset begun block (ltb-true _ _ e) in cc)
+reaches_by : (b : Bool) (format : Format) (rec_len offset : ℕ) (begun last : Bool) (block : List ℕ)
+    → ltb (length block) offset ≡ b → judged format rec_len offset begun block ≡ Ok last
+    → offset ≤ length block
+reaches_by true format rec_len offset begun last block e is =
+    absurd (let short = judged_short format rec_len offset begun block (ltb-true _ _ e) in cc)
 reaches_by false format rec_len offset begun last block e is = ltb-false _ _ e
 
 -- What passes holds parts in span order.
-pub judged_found : (format : Format) (rec_len offset : ℕ) (begun end : Bool) (block : List ℕ) → (format ≡ Fixed → 1 ≤ rec_len) → judged format rec_len offset begun block ≡ Ok end → Passes format rec_len offset begun block end
+pub judged_found : (format : Format) (rec_len offset : ℕ) (begun end : Bool) (block : List ℕ)
+    → (format ≡ Fixed → 1 ≤ rec_len) → judged format rec_len offset begun block ≡ Ok end
+    → Passes format rec_len offset begun block end
 judged_found format rec_len offset begun end block some is =
-    let reaches = reaches_by (ltb (length block) offset) format rec_len offset begun end block refl is in
+    let reaches =
+    reaches_by (ltb (length block) offset) format rec_len offset begun end block refl is in
     let w = walk_block format rec_len offset begun block some in
-    passes_by (unit_at format rec_len w.rest) format rec_len offset begun block w.parts w.end end w.rest some (ends_of format rec_len offset begun block reaches w) refl w.none is
+    passes_by (unit_at format rec_len w.rest) format rec_len offset begun block w.parts w.end end
+    w.rest some (ends_of format rec_len offset begun block reaches w) refl w.none is
 
 -- What holds parts in span order passes.
-pub judged_only : (format : Format) (rec_len offset : ℕ) (begun end : Bool) (block : List ℕ) (parts : List Portion) → Holds format rec_len offset block parts → InOrder begun parts end → judged format rec_len offset begun block ≡ Ok end
+pub judged_only : (format : Format) (rec_len offset : ℕ) (begun
+    end : Bool) (block : List ℕ) (parts : List Portion) → Holds format rec_len offset block parts
+    → InOrder begun parts end → judged format rec_len offset begun block ≡ Ok end
 judged_only format rec_len offset begun end block parts holds order =
     let some = some_of format rec_len holds.0 holds.2 in
-    let none : unit_at format rec_len holds.0 ≡ Ok None = padding_again format rec_len holds.0 holds.2 in
-    let ends : Ends format rec_len offset begun block parts end holds.0 = record { front = record { begins = holds.1; order = order }; none = subst (λ (u : Result (Option Found) BlockFault). NoUnit end u) (sym none) tt } in
+    let none : unit_at format rec_len holds.0 ≡ Ok None =
+    padding_again format rec_len holds.0 holds.2 in
+    let ends : Ends format rec_len offset begun block parts end holds.0 =
+    record {
+      front = record { begins = holds.1; order = order };
+      none = subst (λ (u : Result (Option Found) BlockFault). NoUnit end u) (sym none) tt;
+    } in
     judged_by_step format rec_len offset begun block parts end holds.0 (Ok None) some ends none
 
 -- ---- what does not pass has the fault
 
-fault_is : (end : Bool) (o : Option BlockFault) (f : BlockFault) → unless_fault end o ≡ Err f → o ≡ Some f
+fault_is : (end : Bool) (o : Option BlockFault) (f : BlockFault) → unless_fault end o ≡ Err f
+    → o ≡ Some f
 fault_is end None f e = absurd cc
 fault_is end (Some g) f e = let same : g ≡ f = err_is end g f e in rw same refl
   where
     err_is : (end : Bool) (g f : BlockFault) → unless_fault end (Some g) ≡ Err f → g ≡ f
     err_is end g f e = cc
 
-stands_by : (format : Format) (rec_len offset : ℕ) (begun : Bool) (block : List ℕ) (ps : List Portion) (end : Bool) (rest : List ℕ) (f : BlockFault) → (format ≡ Fixed → 1 ≤ rec_len) → Ends format rec_len offset begun block ps end rest
-    → judged format rec_len offset begun block ≡ Err f → FaultStands format rec_len offset begun block f
+stands_by : (format : Format) (rec_len offset : ℕ) (begun : Bool) (block : List ℕ)
+    (ps : List Portion) (end : Bool) (rest : List ℕ) (f : BlockFault)
+    → (format ≡ Fixed → 1 ≤ rec_len) → Ends format rec_len offset begun block ps end rest
+    → judged format rec_len offset begun block ≡ Err f
+    → FaultStands format rec_len offset begun block f
 stands_by format rec_len offset begun block ps end rest f some ends is = record {
   parts = ps;
   end = end;
   rest = rest;
   front = ends.front;
-  longest = λ others last left other. longest format rec_len offset begun end last block ps others rest left ends.none ends.front other;
-  first = fault_is end _ f (sym (judged_at format rec_len offset begun block ps end rest some ends) ∙ is);
+  longest = λ others last left other. longest format rec_len offset begun end last block ps others
+      rest left ends.none ends.front other;
+  first = fault_is end _ f
+      (sym (judged_at format rec_len offset begun block ps end rest some ends) ∙ is);
 }
 
-fault_by : (b : Bool) (format : Format) (rec_len offset : ℕ) (begun : Bool) (block : List ℕ) (f : BlockFault) → ltb (length block) offset ≡ b → (format ≡ Fixed → 1 ≤ rec_len) → judged format rec_len offset begun block ≡ Err f → HasFault format rec_len offset begun block f
+fault_by : (b : Bool) (format : Format) (rec_len
+    offset : ℕ) (begun : Bool) (block : List ℕ) (f : BlockFault) → ltb (length block) offset ≡ b
+    → (format ≡ Fixed → 1 ≤ rec_len) → judged format rec_len offset begun block ≡ Err f
+    → HasFault format rec_len offset begun block f
 fault_by true format rec_len offset begun block f e some is =
     let less = ltb-true _ _ e in
     let short = judged_short format rec_len offset begun block less in
-    inl (less, (let same : f ≡ fault 0 ShortOffset = (let both : unless_fault begun (Some f) ≡ unless_fault begun (Some (fault 0 ShortOffset)) = sym is ∙ short in cc) in same))
+    inl (
+      less,
+      (let same : f ≡ fault 0 ShortOffset = (let both : unless_fault begun (Some f)
+          ≡ unless_fault begun (Some (fault 0 ShortOffset)) = sym is ∙ short in cc) in
+          same),
+    )
 fault_by false format rec_len offset begun block f e some is =
     let reaches = ltb-false _ _ e in
     let w = walk_block format rec_len offset begun block some in
-    inr (reaches, stands_by format rec_len offset begun block w.parts w.end w.rest f some (ends_of format rec_len offset begun block reaches w) is)
+    inr (
+      reaches,
+      stands_by format rec_len offset begun block w.parts w.end w.rest f some
+          (ends_of format rec_len offset begun block reaches w) is,
+    )
 
 -- What does not pass has the fault that it is judged by.
-pub judged_fault : (format : Format) (rec_len offset : ℕ) (begun : Bool) (block : List ℕ) (f : BlockFault) → (format ≡ Fixed → 1 ≤ rec_len) → judged format rec_len offset begun block ≡ Err f → HasFault format rec_len offset begun block f
-judged_fault format rec_len offset begun block f some is = fault_by (ltb (length block) offset) format rec_len offset begun block f refl some is
+pub judged_fault : (format : Format) (rec_len
+    offset : ℕ) (begun : Bool) (block : List ℕ) (f : BlockFault) → (format ≡ Fixed → 1 ≤ rec_len)
+    → judged format rec_len offset begun block ≡ Err f
+    → HasFault format rec_len offset begun block f
+judged_fault format rec_len offset begun block f some is =
+    fault_by (ltb (length block) offset) format rec_len offset begun block f refl some is
 
 -- ---- what has a fault is judged by it
 
-not_in_order : (b : Bool) (at : ℕ) (f : BlockFault) → moved at (if b then None else Some (fault 0 SpanBroken)) ≡ Some f → b ≡ false
+not_in_order : (b : Bool) (at : ℕ) (f : BlockFault)
+    → moved at (if b then None else Some (fault 0 SpanBroken)) ≡ Some f → b ≡ false
 not_in_order true at f e = absurd cc
 not_in_order false at f e = refl
 
 -- Where a test fails no unit stands in order.
-never_by : (u : Result (Option Found) BlockFault) (end : Bool) (at : ℕ) (f : BlockFault) → moved at (stop_by end u) ≡ Some f → NoUnit end u
+never_by : (u : Result (Option Found) BlockFault) (end : Bool) (at : ℕ) (f : BlockFault)
+    → moved at (stop_by end u) ≡ Some f → NoUnit end u
 never_by (Err g) end at f e = tt
 never_by (Ok None) end at f e = tt
 never_by (Ok (Some found)) end at f e = not_in_order (bool_eq (continues found.span) end) at f e
 
-pub judged_by_fault : (format : Format) (rec_len offset : ℕ) (begun : Bool) (block : List ℕ) (f : BlockFault) → (format ≡ Fixed → 1 ≤ rec_len) → HasFault format rec_len offset begun block f → judged format rec_len offset begun block ≡ Err f
-judged_by_fault format rec_len offset begun block f some (inl (short, is)) = judged_short format rec_len offset begun block short ∙ ap (unless_fault begun) (ap Some (sym is))
+pub judged_by_fault : (format : Format) (rec_len offset : ℕ) (begun : Bool) (block : List ℕ)
+    (f : BlockFault) → (format ≡ Fixed → 1 ≤ rec_len) → HasFault format rec_len offset begun block f
+    → judged format rec_len offset begun block ≡ Err f
+judged_by_fault format rec_len offset begun block f some (inl (short, is)) =
+    judged_short format rec_len offset begun block short
+    ∙ ap (unless_fault begun) (ap Some (sym is))
 judged_by_fault format rec_len offset begun block f some (inr (reaches, s)) =
     let at = offset + length (spellings format s.parts) in
-    let none = never_by (unit_at format rec_len s.rest) s.end at f (sym (tests_are format rec_len s.end at s.rest) ∙ s.first) in
-    judged_at format rec_len offset begun block s.parts s.end s.rest some record { front = s.front; none = none } ∙ ap (unless_fault s.end) s.first
+    let none = never_by (unit_at format rec_len s.rest) s.end at f
+    (sym (tests_are format rec_len s.end at s.rest) ∙ s.first) in
+    judged_at format rec_len offset begun block s.parts s.end s.rest some record {
+      front = s.front;
+      none = none;
+    } ∙ ap (unless_fault s.end) s.first
 
 -- ---- the same of an answer
 
-pub answer_passes : (r : Result Bool BlockFault) (format : Format) (rec_len offset : ℕ) (begun : Bool) (block : List ℕ) → (format ≡ Fixed → 1 ≤ rec_len) → r ≡ judged format rec_len offset begun block → IfOk r (λ end. (parts : List Portion) × Holds format rec_len offset block parts × InOrder begun parts end)
-answer_passes (Ok end) format rec_len offset begun block some e = judged_found format rec_len offset begun end block some (sym e)
+pub answer_passes : (r : Result Bool BlockFault) (format : Format) (rec_len
+    offset : ℕ) (begun : Bool) (block : List ℕ) → (format ≡ Fixed → 1 ≤ rec_len)
+    → r ≡ judged format rec_len offset begun block → IfOk r (λ end. (parts : List Portion)
+    × Holds format rec_len offset block parts × InOrder begun parts end)
+answer_passes (Ok end) format rec_len offset begun block some e =
+    judged_found format rec_len offset begun end block some (sym e)
 answer_passes (Err f) format rec_len offset begun block some e = tt
 
-pub answer_faults : (r : Result Bool BlockFault) (format : Format) (rec_len offset : ℕ) (begun : Bool) (block : List ℕ) → (format ≡ Fixed → 1 ≤ rec_len) → r ≡ judged format rec_len offset begun block → IfErr r (HasFault format rec_len offset begun block)
+pub answer_faults : (r : Result Bool BlockFault) (format : Format) (rec_len
+    offset : ℕ) (begun : Bool) (block : List ℕ) → (format ≡ Fixed → 1 ≤ rec_len)
+    → r ≡ judged format rec_len offset begun block
+    → IfErr r (HasFault format rec_len offset begun block)
 answer_faults (Ok end) format rec_len offset begun block some e = tt
-answer_faults (Err f) format rec_len offset begun block some e = judged_fault format rec_len offset begun block f some (sym e)
+answer_faults (Err f) format rec_len offset begun block some e =
+    judged_fault format rec_len offset begun block f some (sym e)

@@ -1,5 +1,7 @@
 -- Each offer keeps what stands behind the offers before it.
-use Rattle.std.proofs.Common.{◌≡◌, ◌≢◌, ℕ, zero, ◌+◌, ◌<◌, ◌≤◌, Bool, true, false, List, [], ◌∷◌, ◌++◌, length, take, drop, Option, Some, None, refl, sym, ap, subst, ◌∙◌, append_assoc, arith, inl, inr}
+use Rattle.std.proofs.Common.{◌≡◌, ◌≢◌, ℕ, zero, ◌+◌, ◌<◌, Bool, true, false, List, [], ◌∷◌, ◌++◌}
+use Rattle.std.proofs.Common.{length, take, drop, Option, Some, None, refl, sym, ap, subst, ◌∙◌}
+use Rattle.std.proofs.Common.{append_assoc, arith, inl, inr}
 use Rattle.std.specs.List.{AllByRecursion}
 use Rattle.std.proofs.lemmas.List.{length-take, length-drop, append-nil, take-append-drop}
 use Rattle.tape_label.specs.declared.values.Format.{Format}
@@ -8,58 +10,18 @@ use Rattle.tape_blocks.specs.declared.shape.Shape.{Shape}
 use Rattle.tape_blocks.specs.declared.part.Span.TheVariants.{Whole}
 use Rattle.tape_blocks.specs.declared.offer.Offer.{Offer}
 use Rattle.tape_blocks.specs.declared.offer.Offer.TheVariants.{Taken, BlockReady}
-use Rattle.tape_blocks.specs.Block.{Portion, spellings, head_len}
+use Rattle.tape_blocks.specs.Block.{Portion, head_len}
 use Rattle.tape_blocks.specs.Spans.{InOrder, span_of, content_after, join}
-use Rattle.tape_blocks.specs.Packing.{Packing, Given, IsJudged, HasRecordLength, IsFull, size_of, least_room, with_part, emptied, Ends, Fills, Closes, Offers}
+use Rattle.tape_blocks.specs.Packing.{Packing, Given, IsJudged, HasRecordLength, IsFull, size_of}
+use Rattle.tape_blocks.specs.Packing.{least_room, emptied, Fills, Closes, Offers}
 use Rattle.tape_blocks.specs.Run.{AreClosed, Run, Going}
-use Rattle.tape_blocks.specs.Tight.{Filled, IsWritten, AreSegments, first_len, parts_of_all, IsTight}
-use Rattle.tape_blocks.proofs.JoinLaws.{join_ends, join_goes_on, leaves_of, continues_of}
+use Rattle.tape_blocks.specs.Tight.{Filled, IsWritten, AreSegments, first_len, parts_of_all}
+use Rattle.tape_blocks.specs.Tight.{IsTight}
+use Rattle.tape_blocks.proofs.JoinLaws.{join_goes_on, leaves_of}
 use Rattle.tape_blocks.proofs.PackLaws.{size_push}
-use Rattle.tape_blocks.proofs.FrontLaws.{InOrder-append}
-use Rattle.tape_blocks.proofs.TightLaws.{first_push, first_some, closed_more, chain_of, chain_more, each_more, parts_more, segments_push}
-
--- ---- a part more
-
-record Part (p : Packing) (goes_on : Bool) (bytes : List ℕ) : Type 0 where
-  room : p.shape.format ≡ Spanned → size_of p.shape p.parts + 6 ≤ p.shape.block_len
-  fills : p.shape.format ≡ Spanned → goes_on ≡ true → size_of p.shape p.parts + (5 + length bytes) ≡ p.shape.block_len
-  empty : bytes ≡ [] → span_of p.begun goes_on ≡ Whole
-
-segments_part : (p : Packing) (goes_on : Bool) (bytes : List ℕ) → Part p goes_on bytes → (p.shape.format ≡ Spanned → AreSegments p.shape.block_len p.shape.offset p.parts) → p.shape.format ≡ Spanned → AreSegments p.shape.block_len p.shape.offset (with_part p goes_on bytes).parts
-segments_part p goes_on bytes part all e =
-    let sized : size_of p.shape p.parts ≡ p.shape.offset + length (spellings Spanned p.parts) = ap (λ (f : Format). p.shape.offset + length (spellings f p.parts)) e in
-    let room = part.room e in
-    segments_push p.shape.block_len p.shape.offset p.parts (record { span = span_of p.begun goes_on; bytes = bytes }) (all e) record {
-      room = omega (arith, sized, room);
-      fills = λ goes. let fills = part.fills e (sym (leaves_of p.begun goes_on) ∙ goes) in omega (arith, sized);
-      empty = part.empty;
-    }
-
-order_part : (begun goes_on : Bool) (ps : List Portion) (bytes : List ℕ) → InOrder false ps begun → InOrder false (ps ++ record { span = span_of begun goes_on; bytes = bytes } ∷ []) goes_on
-order_part begun goes_on ps bytes order = InOrder-append false begun goes_on ps (record { span = span_of begun goes_on; bytes = bytes } ∷ []) order (continues_of begun goes_on, leaves_of begun goes_on)
-
-empty_part : (begun : Bool) (bytes : List ℕ) → (begun ≡ true → 0 < length bytes) → bytes ≡ [] → span_of begun false ≡ Whole
-empty_part true bytes more none = absurd (let size = ap length none in let lt = more refl in omega arith)
-empty_part false bytes more none = refl
-
-spanned_room : (format : Format) (n size block_len : ℕ) → size + least_room format n ≤ block_len → format ≡ Spanned → size + 6 ≤ block_len
-spanned_room format n size block_len le e = subst (λ (f : Format). size + least_room f n ≤ block_len) e le
-
--- The record ends in the block under way.
-pub run_ends : (taken : List Filled) (p q : Packing) (records : List (List ℕ)) (front : Option (List ℕ)) (rest : List ℕ) (n : ℕ) → Run taken p records front (length rest) → Ends p rest q → Run taken q (records ++ content_after front rest ∷ []) None n
-run_ends taken p q records front rest n run ends =
-    let x : Portion = record { span = span_of p.begun false; bytes = rest } in
-    let part : Part p false rest = record { room = spanned_room p.shape.format (length rest) (size_of p.shape p.parts) p.shape.block_len ends.room; fills = λ e goes. absurd cc; empty = empty_part p.begun rest run.more } in
-    subst (λ (v : Packing). Run taken v (records ++ content_after front rest ∷ []) None n) (sym ends.part) record {
-      closed = subst (λ (k : ℕ). AreClosed p.shape taken k) (sym (first_push p.parts x n)) run.closed;
-      each = run.each;
-      segments = segments_part p false rest part run.segments;
-      joins = ap join (sym (append_assoc (parts_of_all taken) p.parts (x ∷ []))) ∙ join_ends (parts_of_all taken ++ p.parts) x records front run.joins (leaves_of p.begun false);
-      order = subst (λ (ps : List Portion). InOrder false ps false) (append_assoc (parts_of_all taken) p.parts (x ∷ [])) (order_part p.begun false (parts_of_all taken ++ p.parts) rest run.order);
-      opened = refl;
-      more = λ e. absurd cc;
-      ended = λ e. refl;
-    }
+use Rattle.tape_blocks.proofs.TightLaws.{first_push, first_some, closed_more, chain_of, chain_more}
+use Rattle.tape_blocks.proofs.TightLaws.{each_more, parts_more}
+use Rattle.tape_blocks.proofs.LongerRuns.{Part, segments_part, order_part, spanned_room, run_ends}
 
 -- ---- a block taken
 
@@ -67,11 +29,13 @@ abbrev pub filled_of : Packing → List ℕ → Filled
 filled_of p text = record { bytes = text; parts = p.parts }
 
 -- what is taken from the list of parts when a block is
-take_parts : (taken : List Filled) (b : Filled) → parts_of_all (taken ++ b ∷ []) ++ [] ≡ parts_of_all taken ++ b.parts
+take_parts : (taken : List Filled) (b : Filled)
+    → parts_of_all (taken ++ b ∷ []) ++ [] ≡ parts_of_all taken ++ b.parts
 take_parts taken b = append-nil (parts_of_all (taken ++ b ∷ [])) ∙ parts_more taken b
 
 -- a block under way, closed for n bytes that come next
-record Full (taken : List Filled) (p : Packing) (records : List (List ℕ)) (front : Option (List ℕ)) (n : ℕ) : Type 0 where
+record Full (taken : List Filled) (p : Packing) (records : List (List ℕ)) (front : Option (List ℕ))
+    (n : ℕ) : Type 0 where
   closed : AreClosed p.shape taken (first_len p.parts 0)
   full : IsFull p.shape p.parts n
   each : AllByRecursion (IsWritten p.shape) taken
@@ -81,25 +45,37 @@ record Full (taken : List Filled) (p : Packing) (records : List (List ℕ)) (fro
   more : p.begun ≡ true → 0 < n
   ended : p.begun ≡ false → front ≡ None
 
-run_taken : (taken : List Filled) (p : Packing) (records : List (List ℕ)) (front : Option (List ℕ)) (n : ℕ) (text : List ℕ) → Full taken p records front n → Given p text → Run (taken ++ filled_of p text ∷ []) (emptied p) records front n
+run_taken : (taken : List Filled) (p : Packing) (records : List (List ℕ)) (front : Option (List ℕ))
+    (n : ℕ) (text : List ℕ) → Full taken p records front n → Given p text
+    → Run (taken ++ filled_of p text ∷ []) (emptied p) records front n
 run_taken taken p records front n text full given =
     let b = filled_of p text in
     record {
       closed = closed_more p.shape taken b n full.closed full.full;
-      each = each_more p.shape taken b full.each record { some = given.some; text = given.text_is; holds = given.holds; within = given.within; segments = full.segments };
+      each = each_more p.shape taken b full.each record {
+        some = given.some;
+        text = given.text_is;
+        holds = given.holds;
+        within = given.within;
+        segments = full.segments;
+      };
       segments = λ e. tt;
       joins = ap join (take_parts taken b) ∙ full.joins;
-      order = subst (λ (ps : List Portion). InOrder false ps p.begun) (sym (take_parts taken b)) full.order;
+      order = subst (λ (ps : List Portion). InOrder false ps p.begun)
+          (sym (take_parts taken b)) full.order;
       opened = refl;
       more = full.more;
       ended = full.ended;
     }
 
-closes_full : (taken : List Filled) (p q : Packing) (records : List (List ℕ)) (front : Option (List ℕ)) (rest : List ℕ) (n : ℕ) → q.parts ≢ [] → Run taken p records front (length rest) → Closes p rest n q → Full taken q records front (length rest)
+closes_full : (taken : List Filled) (p q : Packing) (records : List (List ℕ)) (front : Option (List
+    ℕ)) (rest : List ℕ) (n : ℕ) → q.parts ≢ [] → Run taken p records front (length rest)
+    → Closes p rest n q → Full taken q records front (length rest)
 closes_full taken p q records front rest n some run closes =
     let some_p : p.parts ≢ [] = λ e. some (ap (λ (v : Packing). v.parts) closes.same ∙ e) in
     subst (λ (v : Packing). Full taken v records front (length rest)) (sym closes.same) record {
-      closed = subst (λ (k : ℕ). AreClosed p.shape taken k) (first_some p.parts (length rest) 0 some_p) run.closed;
+      closed = subst (λ (k : ℕ). AreClosed p.shape taken k)
+          (first_some p.parts (length rest) 0 some_p) run.closed;
       full = closes.full;
       each = run.each;
       segments = run.segments;
@@ -109,50 +85,83 @@ closes_full taken p q records front rest n some run closes =
       ended = run.ended;
     }
 
-full_by : (format : Format) (size block_len n : ℕ) → format ≡ Spanned → size ≡ block_len → block_len < size + least_room format n
-full_by format size block_len n e is = subst (λ (f : Format). block_len < size + least_room f n) (sym e) (omega arith)
+full_by : (format : Format) (size block_len n : ℕ) → format ≡ Spanned → size ≡ block_len
+    → block_len < size + least_room format n
+full_by format size block_len n e is =
+    subst (λ (f : Format). block_len < size + least_room f n) (sym e) (omega arith)
 
-fills_full : (taken : List Filled) (p q : Packing) (records : List (List ℕ)) (front : Option (List ℕ)) (rest : List ℕ) (n : ℕ) → Run taken p records front (length rest) → Fills p rest n q → Full taken q records (Some (content_after front (take n rest))) (length (drop n rest))
+fills_full : (taken : List Filled) (p q : Packing) (records : List (List ℕ))
+    (front : Option (List ℕ)) (rest : List ℕ) (n : ℕ)
+    → Run taken p records front (length rest) → Fills p rest n q
+    → Full taken q records (Some (content_after front (take n rest))) (length (drop n rest))
 fills_full taken p q records front rest n run fills =
     let bytes = take n rest in
     let size : length bytes ≡ n = omega (arith, length-take n rest, fills.more) in
     let left : 0 < length (drop n rest) = omega (arith, length-drop n rest, fills.more) in
     let x : Portion = record { span = span_of p.begun true; bytes = bytes } in
-    let filled : size_of p.shape (p.parts ++ x ∷ []) ≡ p.shape.block_len = subst (λ (v : Packing). size_of v.shape v.parts ≡ v.shape.block_len) fills.part fills.filled in
-    let sum : p.shape.format ≡ Spanned → size_of p.shape p.parts + (5 + length bytes) ≡ p.shape.block_len = λ e. ap (λ (f : Format). size_of p.shape p.parts + (head_len f + length bytes)) (sym e) ∙ sym (size_push p.shape p.parts x) ∙ filled in
-    let none : bytes ≡ [] → span_of p.begun true ≡ Whole = λ e. absurd (let zero_len = ap length e in let lt = fills.some in omega arith) in
-    let part : Part p true bytes = record { room = spanned_room p.shape.format (length rest) (size_of p.shape p.parts) p.shape.block_len fills.room; fills = λ e goes. sum e; empty = none } in
-    subst (λ (v : Packing). Full taken v records (Some (content_after front bytes)) (length (drop n rest))) (sym fills.part) record {
-      closed = subst (λ (k : ℕ). AreClosed p.shape taken k) (sym (first_push p.parts x 0)) (run_closed p taken (length rest) (length bytes) fills.spanned run.closed);
-      full = full_by p.shape.format (size_of p.shape (p.parts ++ x ∷ [])) p.shape.block_len (length (drop n rest)) fills.spanned filled;
+    let filled : size_of p.shape (p.parts ++ x ∷ []) ≡ p.shape.block_len =
+    subst (λ (v : Packing). size_of v.shape v.parts ≡ v.shape.block_len) fills.part fills.filled in
+    let sum : p.shape.format ≡ Spanned
+    → size_of p.shape p.parts + (5 + length bytes) ≡ p.shape.block_len =
+    λ e. ap (λ (f : Format). size_of p.shape p.parts + (head_len f + length bytes)) (sym e)
+    ∙ sym (size_push p.shape p.parts x) ∙ filled in
+    let none : bytes ≡ [] → span_of p.begun true ≡ Whole =
+    λ e. absurd (let zero_len = ap length e in let lt = fills.some in omega arith) in
+    let part : Part p true bytes =
+    record {
+      room = spanned_room p.shape.format (length rest)
+          (size_of p.shape p.parts) p.shape.block_len fills.room;
+      fills = λ e goes. sum e;
+      empty = none;
+    } in
+    subst (λ (v : Packing). Full taken v records (Some (content_after front bytes)) (length
+    (drop n rest))) (sym fills.part) record {
+      closed = subst (λ (k : ℕ). AreClosed p.shape taken k) (sym (first_push p.parts x 0))
+          (run_closed p taken (length rest) (length bytes) fills.spanned run.closed);
+      full = full_by p.shape.format (size_of p.shape (p.parts ++ x ∷ [])) p.shape.block_len
+          (length (drop n rest)) fills.spanned filled;
       each = run.each;
       segments = segments_part p true bytes part run.segments;
-      joins = ap join (sym (append_assoc (parts_of_all taken) p.parts (x ∷ []))) ∙ join_goes_on (parts_of_all taken ++ p.parts) x records front run.joins (leaves_of p.begun true);
-      order = subst (λ (ps : List Portion). InOrder false ps true) (append_assoc (parts_of_all taken) p.parts (x ∷ [])) (order_part p.begun true (parts_of_all taken ++ p.parts) bytes run.order);
+      joins = ap join (sym (append_assoc (parts_of_all taken) p.parts (x ∷ []))) ∙ join_goes_on
+          (parts_of_all taken ++ p.parts) x records front run.joins (leaves_of p.begun true);
+      order = subst (λ (ps : List Portion). InOrder false ps true)
+          (append_assoc (parts_of_all taken) p.parts (x ∷ []))
+          (order_part p.begun true (parts_of_all taken ++ p.parts) bytes run.order);
       more = λ e. left;
       ended = λ e. absurd cc;
     }
   where
     -- with segments it does not matter how long the next content is
-    any_full : (shape : Shape) (parts : List Portion) (n m : ℕ) → shape.format ≡ Spanned → IsFull shape parts n → IsFull shape parts m
-    any_full shape parts n m e full = subst (λ (f : Format). shape.block_len < size_of shape parts + least_room f m) (sym e) (subst (λ (f : Format). shape.block_len < size_of shape parts + least_room f n) e full)
+    any_full : (shape : Shape) (parts : List Portion) (n m : ℕ) → shape.format ≡ Spanned
+        → IsFull shape parts n → IsFull shape parts m
+    any_full shape parts n m e full =
+        subst (λ (f : Format). shape.block_len < size_of shape parts + least_room f m) (sym e)
+        (subst (λ (f : Format). shape.block_len < size_of shape parts + least_room f n) e full)
 
-    any_closed : (shape : Shape) (taken : List Filled) (n m : ℕ) → shape.format ≡ Spanned → AreClosed shape taken n → AreClosed shape taken m
+    any_closed : (shape : Shape) (taken : List Filled) (n m : ℕ) → shape.format ≡ Spanned
+        → AreClosed shape taken n → AreClosed shape taken m
     any_closed shape [] n m e closed = tt
     any_closed shape (b ∷ []) n m e closed = any_full shape b.parts n m e closed
-    any_closed shape (b ∷ c ∷ bs) n m e closed = (closed.0, any_closed shape (c ∷ bs) n m e closed.1)
+    any_closed shape (b ∷ c ∷ bs) n m e closed =
+        (closed.0, any_closed shape (c ∷ bs) n m e closed.1)
 
-    run_closed : (p : Packing) (taken : List Filled) (n m : ℕ) → p.shape.format ≡ Spanned → AreClosed p.shape taken (first_len p.parts n) → AreClosed p.shape taken (first_len p.parts m)
-    run_closed p taken n m e closed = any_closed p.shape taken (first_len p.parts n) (first_len p.parts m) e closed
+    run_closed : (p : Packing) (taken : List Filled) (n m : ℕ) → p.shape.format ≡ Spanned
+        → AreClosed p.shape taken (first_len p.parts n)
+        → AreClosed p.shape taken (first_len p.parts m)
+    run_closed p taken n m e closed =
+        any_closed p.shape taken (first_len p.parts n) (first_len p.parts m) e closed
 
-content_more : (front : Option (List ℕ)) (n : ℕ) (rest : List ℕ) → content_after (Some (content_after front (take n rest))) (drop n rest) ≡ content_after front rest
+content_more : (front : Option (List ℕ)) (n : ℕ) (rest : List ℕ) → content_after (Some
+    (content_after front (take n rest))) (drop n rest) ≡ content_after front rest
 content_more None n rest = take-append-drop n rest
-content_more (Some s) n rest = append_assoc s (take n rest) (drop n rest) ∙ ap (λ (t : List ℕ). s ++ t) (take-append-drop n rest)
+content_more (Some s) n rest = append_assoc s (take n rest) (drop n rest)
+    ∙ ap (λ (t : List ℕ). s ++ t) (take-append-drop n rest)
 
 zero_drop : (n : ℕ) (rest : List ℕ) → n ≡ zero → drop n rest ≡ rest
 zero_drop n rest e = ap (λ (k : ℕ). drop k rest) e
 
-pub offers_shape : (p q : Packing) (rest : List ℕ) (o : Offer) → Offers p rest o q → q.shape ≡ p.shape
+pub offers_shape : (p q : Packing) (rest : List ℕ) (o : Offer) → Offers p rest o q
+    → q.shape ≡ p.shape
 offers_shape p q rest Taken offers = ap (λ (v : Packing). v.shape) offers.part
 offers_shape p q rest (BlockReady n) offers =
     elim (offers.1) [
@@ -164,48 +173,71 @@ offers_shape p q rest (BlockReady n) offers =
     ]
 
 -- A block that is ready has no room for what remains.
-pub ready_full : (old new : Packing) (rest : List ℕ) (n : ℕ) → old.closed ≡ false → Offers old rest (BlockReady n) new → IsFull new.shape new.parts (length (drop n rest))
+pub ready_full : (old new : Packing) (rest : List ℕ) (n : ℕ) → old.closed ≡ false
+    → Offers old rest (BlockReady n) new → IsFull new.shape new.parts (length (drop n rest))
 ready_full old new rest n opened offers =
     elim (offers.1) [
       | inl same ↦ absurd (let closed = same.closed in cc)
       | inr o ↦ elim o [
-        | inl closes ↦ subst (λ (v : Packing). IsFull v.shape v.parts (length (drop n rest))) (sym closes.same) (subst (λ (k : ℕ). IsFull old.shape old.parts k) (sym (ap length (zero_drop n rest closes.none))) closes.full)
-        | inr fills ↦ full_by new.shape.format (size_of new.shape new.parts) new.shape.block_len (length (drop n rest)) (ap (λ (v : Packing). v.shape.format) fills.part ∙ fills.spanned) fills.filled
+        | inl closes ↦ subst (λ (v : Packing). IsFull v.shape v.parts (length (drop n rest)))
+            (sym closes.same) (subst (λ (k : ℕ). IsFull old.shape old.parts k)
+            (sym (ap length (zero_drop n rest closes.none))) closes.full)
+        | inr fills ↦ full_by new.shape.format (size_of new.shape new.parts) new.shape.block_len
+            (length (drop n rest))
+            (ap (λ (v : Packing). v.shape.format) fills.part ∙ fills.spanned) fills.filled
       ]
     ]
 
 -- What is offered of a record of this run shows that the whole of it has one of the lengths.
-pub going_length : (taken : List Filled) (p : Packing) (records : List (List ℕ)) (r rest : List ℕ) → Going taken p records r rest → IsJudged p rest → HasRecordLength p.shape.format p.shape.rec_len (length r)
+pub going_length : (taken : List Filled) (p : Packing) (records : List (List ℕ)) (r rest : List ℕ)
+    → Going taken p records r rest → IsJudged p rest
+    → HasRecordLength p.shape.format p.shape.rec_len (length r)
 going_length taken p records r rest going judged = by p.begun refl
   where
     by : (b : Bool) → p.begun ≡ b → HasRecordLength p.shape.format p.shape.rec_len (length r)
     by true e = going.length_is e
     by false e =
-        let whole : rest ≡ r = ap (λ (f : Option (List ℕ)). content_after f rest) (sym (going.run.ended e)) ∙ going.content in
-        subst (λ (s : List ℕ). HasRecordLength p.shape.format p.shape.rec_len (length s)) whole (judged going.run.opened e)
+        let whole : rest ≡ r =
+        ap (λ (f : Option (List ℕ)). content_after f rest) (sym (going.run.ended e))
+        ∙ going.content in
+        subst (λ (s : List ℕ). HasRecordLength p.shape.format p.shape.rec_len (length s)) whole
+        (judged going.run.opened e)
 
 -- The record ends.
-pub going_ends : (taken : List Filled) (p q : Packing) (records : List (List ℕ)) (r rest : List ℕ) (n : ℕ) → Going taken p records r rest → Offers p rest Taken q → Run taken q (records ++ r ∷ []) None n
+pub going_ends : (taken : List Filled) (p q : Packing) (records : List (List ℕ)) (r rest : List ℕ)
+    (n : ℕ) → Going taken p records r rest → Offers p rest Taken q
+    → Run taken q (records ++ r ∷ []) None n
 going_ends taken p q records r rest n going offers =
-    subst (λ (x : List ℕ). Run taken q (records ++ x ∷ []) None n) going.content (run_ends taken p q records going.front rest n going.run offers)
+    subst (λ (x : List ℕ). Run taken q (records ++ x ∷ []) None n) going.content
+    (run_ends taken p q records going.front rest n going.run offers)
 
 -- The block is closed, and taken.
-pub going_block : (taken : List Filled) (p q : Packing) (records : List (List ℕ)) (r rest text : List ℕ) (n : ℕ) → Going taken p records r rest → IsJudged p rest → Offers p rest (BlockReady n) q → Given q text
+pub going_block : (taken : List Filled) (p q : Packing) (records : List (List ℕ))
+    (r rest text : List ℕ) (n : ℕ) → Going taken p records r rest → IsJudged p rest
+    → Offers p rest (BlockReady n) q → Given q text
     → Going (taken ++ filled_of q text ∷ []) (emptied q) records r (drop n rest)
 going_block taken p q records r rest text n going judged offers given =
-    let fits = subst (λ (s : Shape). HasRecordLength s.format s.rec_len (length r)) (sym (offers_shape p q rest (BlockReady n) offers)) (going_length taken p records r rest going judged) in
+    let fits = subst (λ (s : Shape). HasRecordLength s.format s.rec_len (length r))
+    (sym (offers_shape p q rest (BlockReady n) offers))
+    (going_length taken p records r rest going judged) in
     elim (offers.1) [
       | inl same ↦ absurd (let a = going.run.opened in let b = same.closed in cc)
       | inr o ↦ elim o [
-        | inl closes ↦ subst (λ (s : List ℕ). Going (taken ++ filled_of q text ∷ []) (emptied q) records r s) (sym (zero_drop n rest closes.none)) record {
-          front = going.front;
-          run = run_taken taken q records going.front (length rest) text (closes_full taken p q records going.front rest n offers.0 going.run closes) given;
-          content = going.content;
-          length_is = λ e. fits;
-        }
+        | inl closes ↦ subst
+            (λ (s : List ℕ). Going (taken ++ filled_of q text ∷ []) (emptied q) records r s)
+            (sym (zero_drop n rest closes.none)) record {
+              front = going.front;
+              run = run_taken taken q records going.front (length rest) text
+                  (closes_full taken p q records going.front rest n offers.0 going.run closes)
+                  given;
+              content = going.content;
+              length_is = λ e. fits;
+            }
         | inr fills ↦ record {
           front = Some (content_after going.front (take n rest));
-          run = run_taken taken q records (Some (content_after going.front (take n rest))) (length (drop n rest)) text (fills_full taken p q records going.front rest n going.run fills) given;
+          run = run_taken taken q records (Some (content_after going.front (take n rest)))
+              (length (drop n rest)) text
+              (fills_full taken p q records going.front rest n going.run fills) given;
           content = content_more going.front n rest ∙ going.content;
           length_is = λ e. fits;
         }
@@ -214,11 +246,13 @@ going_block taken p q records r rest text n going judged offers given =
 
 -- ---- the first record and the last
 
-pub run_begins : (p : Packing) (n : ℕ) → p.parts ≡ [] → p.begun ≡ false → p.closed ≡ false → Run [] p [] None n
+pub run_begins : (p : Packing) (n : ℕ) → p.parts ≡ [] → p.begun ≡ false → p.closed ≡ false
+    → Run [] p [] None n
 run_begins p n none begun opened = record {
   closed = tt;
   each = tt;
-  segments = λ e. subst (λ (ps : List Portion). AreSegments p.shape.block_len p.shape.offset ps) (sym none) tt;
+  segments = λ e. subst (λ (ps : List Portion). AreSegments p.shape.block_len p.shape.offset ps)
+      (sym none) tt;
   joins = ap join none;
   order = rw (none, begun) refl;
   opened = opened;
@@ -226,22 +260,35 @@ run_begins p n none begun opened = record {
   ended = λ e. refl;
 }
 
-pub run_last : (taken : List Filled) (p : Packing) (records : List (List ℕ)) (text : List ℕ) (n : ℕ) → Run taken p records None n → Given p text → p.begun ≡ false → IsTight p.shape records (taken ++ filled_of p text ∷ [])
+pub run_last : (taken : List Filled) (p : Packing) (records : List (List ℕ)) (text : List ℕ) (n : ℕ)
+    → Run taken p records None n → Given p text → p.begun ≡ false
+    → IsTight p.shape records (taken ++ filled_of p text ∷ [])
 run_last taken p records text n run given ended =
     let b = filled_of p text in
     record {
-      closed = chain_more p.shape taken b (subst (λ (k : ℕ). AreClosed p.shape taken k) (first_some p.parts n 0 given.some) run.closed);
-      each = each_more p.shape taken b run.each record { some = given.some; text = given.text_is; holds = given.holds; within = given.within; segments = run.segments };
+      closed = chain_more p.shape taken b (subst (λ (k : ℕ). AreClosed p.shape taken k)
+          (first_some p.parts n 0 given.some) run.closed);
+      each = each_more p.shape taken b run.each record {
+        some = given.some;
+        text = given.text_is;
+        holds = given.holds;
+        within = given.within;
+        segments = run.segments;
+      };
       joins = ap join (parts_more taken b) ∙ run.joins;
-      order = subst (λ (e : Bool). InOrder false (parts_of_all (taken ++ b ∷ [])) e) ended (subst (λ (ps : List Portion). InOrder false ps p.begun) (sym (parts_more taken b)) run.order);
+      order = subst (λ (e : Bool). InOrder false (parts_of_all (taken ++ b ∷ [])) e) ended (subst
+          (λ (ps : List Portion). InOrder false ps p.begun) (sym (parts_more taken b)) run.order);
     }
 
-pub run_none : (taken : List Filled) (p : Packing) (records : List (List ℕ)) (n : ℕ) → Run taken p records None n → p.parts ≡ [] → p.begun ≡ false → IsTight p.shape records taken
+pub run_none : (taken : List Filled) (p : Packing) (records : List (List ℕ)) (n : ℕ)
+    → Run taken p records None n → p.parts ≡ [] → p.begun ≡ false → IsTight p.shape records taken
 run_none taken p records n run none ended =
-    let all : parts_of_all taken ++ p.parts ≡ parts_of_all taken = ap (λ (ps : List Portion). parts_of_all taken ++ ps) none ∙ append-nil (parts_of_all taken) in
+    let all : parts_of_all taken ++ p.parts ≡ parts_of_all taken =
+    ap (λ (ps : List Portion). parts_of_all taken ++ ps) none ∙ append-nil (parts_of_all taken) in
     record {
       closed = chain_of p.shape taken _ run.closed;
       each = run.each;
       joins = ap join (sym all) ∙ run.joins;
-      order = subst (λ (e : Bool). InOrder false (parts_of_all taken) e) ended (subst (λ (ps : List Portion). InOrder false ps p.begun) all run.order);
+      order = subst (λ (e : Bool). InOrder false (parts_of_all taken) e) ended
+          (subst (λ (ps : List Portion). InOrder false ps p.begun) all run.order);
     }

@@ -1,18 +1,22 @@
 -- The tests at a place tell what a step over the block finds there.
-use Rattle.std.proofs.Common.{◌≡◌, ℕ, ◌+◌, ◌-◌, Bool, true, false, not, cond, ltb, leb, eqb, List, [], ◌∷◌, ◌++◌, length, take, drop, Option, Some, None, Result, Ok, Err, refl, ◌∙◌, arith}
+use Rattle.std.proofs.Common.{◌≡◌, ℕ, ◌+◌, ◌-◌, Bool, true, false, not, cond, ltb, leb, eqb, List}
+use Rattle.std.proofs.Common.{[], ◌∷◌, ◌++◌, length, take, drop, Option, Some, None, Result, Ok}
+use Rattle.std.proofs.Common.{Err, refl, ◌∙◌, arith}
 use Rattle.std.specs.Prelude.{◌||◌, is_none, is_some, if◌then◌else◌}
 use Rattle.std.specs.Str.{all_ascii_digits}
 use Rattle.std.proofs.lemmas.Bool.{le-leb, lt-leb, ltb-true, ltb-false}
 use Rattle.tape_label.specs.Digits.{number_of}
 use Rattle.tape_label.specs.declared.values.Format.{Format}
 use Rattle.tape_label.specs.declared.values.Format.TheVariants.{Fixed, Counted, Spanned}
-use Rattle.tape_blocks.specs.declared.fault.BlockCause.TheVariants.{NotMultiple, BadCount, PastEnd, BadIndicator, SpanBroken}
+use Rattle.tape_blocks.specs.declared.fault.BlockCause.TheVariants.{NotMultiple, BadCount, PastEnd}
+use Rattle.tape_blocks.specs.declared.fault.BlockCause.TheVariants.{BadIndicator, SpanBroken}
 use Rattle.tape_blocks.specs.declared.fault.BlockFault.{BlockFault}
 use Rattle.tape_blocks.specs.declared.part.Span.{Span}
 use Rattle.tape_blocks.specs.declared.part.Span.TheVariants.{Whole}
 use Rattle.tape_blocks.specs.declared.unit.Found.{Found}
 use Rattle.tape_blocks.specs.Block.{first_other, span_by}
-use Rattle.tape_blocks.specs.Faults.{Test, test, bool_eq, may_stand, first_fault, padding_tests, count_tests, tests, fault}
+use Rattle.tape_blocks.specs.Faults.{Test, test, bool_eq, may_stand, first_fault, padding_tests}
+use Rattle.tape_blocks.specs.Faults.{count_tests, tests, fault}
 use Rattle.tape_blocks.specs.Spans.{continues}
 use Rattle.tape_blocks.specs.Units.{padding_by, short_by, counted, spanned, unit_at}
 
@@ -20,7 +24,8 @@ use Rattle.tape_blocks.specs.Units.{padding_by, short_by, counted, spanned, unit
 abbrev pub stop_by : Bool → Result (Option Found) BlockFault → Option BlockFault
 stop_by begun (Err f) = Some f
 stop_by begun (Ok None) = None
-stop_by begun (Ok (Some found)) = if bool_eq (continues found.span) begun then None else Some (fault 0 SpanBroken)
+stop_by begun (Ok (Some found)) =
+    if bool_eq (continues found.span) begun then None else Some (fault 0 SpanBroken)
 
 -- the same, with its place counted from the block's front
 abbrev pub moved : ℕ → Option BlockFault → Option BlockFault
@@ -35,7 +40,9 @@ leb-not a b = by (ltb b a) refl
     by false e = le-leb a b (ltb-false b a e)
 
 fixed_cases : (short : Bool) (o : Option ℕ) (begun : Bool) (at n : ℕ) →
-    first_fault (test (not short || is_none o) at NotMultiple ∷ test (short || not begun) at SpanBroken ∷ []) ≡ moved at (stop_by begun (cond short (short_by o) (Ok (Some record { span = Whole; head = 0; len = n }))))
+    first_fault (test (not short || is_none o) at NotMultiple
+    ∷ test (short || not begun) at SpanBroken ∷ []) ≡ moved at (stop_by begun
+    (cond short (short_by o) (Ok (Some record { span = Whole; head = 0; len = n }))))
 fixed_cases true None begun at n = refl
 fixed_cases true (Some i) begun at n = let z : at + 0 ≡ at = omega arith in rw z refl
 fixed_cases false o true at n = let z : at + 0 ≡ at = omega arith in rw z refl
@@ -44,53 +51,79 @@ fixed_cases false o false at n = refl
 -- the tests of a count, and the one behind them
 abbrev counted_tests : Bool → Bool → Bool → Bool → Bool → ℕ → List Test
 counted_tests a b c d follows at =
-    test (not a) at BadCount ∷ test b at BadCount ∷ test (not c) at BadCount ∷ test (not d) at PastEnd ∷ test follows at SpanBroken ∷ []
+    test (not a) at BadCount ∷ test b at BadCount ∷ test (not c) at BadCount
+    ∷ test (not d) at PastEnd ∷ test follows at SpanBroken ∷ []
 
 abbrev counted_step : Bool → Bool → Bool → Bool → Found → Result (Option Found) BlockFault
 counted_step a b c d found =
-    cond a (Err (fault 0 BadCount)) (cond (not b) (Err (fault 0 BadCount)) (cond c (Err (fault 0 BadCount)) (cond d (Err (fault 0 PastEnd)) (Ok (Some found)))))
+    cond a (Err (fault 0 BadCount)) (cond (not b) (Err (fault 0 BadCount))
+    (cond c (Err (fault 0 BadCount)) (cond d (Err (fault 0 PastEnd)) (Ok (Some found)))))
 
-last_case : (follows : Bool) (at : ℕ) → first_fault (test follows at SpanBroken ∷ []) ≡ moved at (if follows then None else Some (fault 0 SpanBroken))
+last_case : (follows : Bool) (at : ℕ) → first_fault (test follows at SpanBroken ∷ [])
+    ≡ moved at (if follows then None else Some (fault 0 SpanBroken))
 last_case true at = refl
 last_case false at = let z : at + 0 ≡ at = omega arith in rw z refl
 
-counted_cases : (a b c d begun : Bool) (found : Found) (at : ℕ) → first_fault (counted_tests a b c d (bool_eq (continues found.span) begun) at) ≡ moved at (stop_by begun (counted_step a b c d found))
+counted_cases : (a b c d begun : Bool) (found : Found) (at : ℕ)
+    → first_fault (counted_tests a b c d (bool_eq (continues found.span) begun) at)
+    ≡ moved at (stop_by begun (counted_step a b c d found))
 counted_cases true b c d begun found at = let z : at + 0 ≡ at = omega arith in rw z refl
 counted_cases false false c d begun found at = let z : at + 0 ≡ at = omega arith in rw z refl
 counted_cases false true true d begun found at = let z : at + 0 ≡ at = omega arith in rw z refl
 counted_cases false true false true begun found at = let z : at + 0 ≡ at = omega arith in rw z refl
-counted_cases false true false false begun found at = last_case (bool_eq (continues found.span) begun) at
+counted_cases false true false false begun found at =
+    last_case (bool_eq (continues found.span) begun) at
 
-counted_are : (span : Span) (head at : ℕ) (begun : Bool) (rest : List ℕ) → first_fault (count_tests head at rest ++ test (bool_eq (continues span) begun) at SpanBroken ∷ []) ≡ moved at (stop_by begun (counted span head rest))
+counted_are : (span : Span) (head at : ℕ) (begun : Bool) (rest : List ℕ)
+    → first_fault (count_tests head at rest ++ test (bool_eq (continues span) begun) at SpanBroken
+    ∷ []) ≡ moved at (stop_by begun (counted span head rest))
 counted_are span head at begun rest =
     let count = take 4 (drop (head - 4) rest) in
-    rw (leb-not head (length rest), leb-not head (number_of count), leb-not (number_of count) (length rest))
-    (counted_cases (ltb (length rest) head) (all_ascii_digits count) (ltb (number_of count) head) (ltb (length rest) (number_of count)) begun (record { span = span; head = head; len = number_of count }) at)
+    rw (
+      leb-not head (length rest),
+      leb-not head (number_of count),
+      leb-not (number_of count) (length rest),
+    )
+    (counted_cases (ltb (length rest) head) (all_ascii_digits count) (ltb (number_of count) head)
+    (ltb (length rest) (number_of count)) begun
+    (record { span = span; head = head; len = number_of count }) at)
 
-padding_are : (o : Option ℕ) (rest : List ℕ) (begun : Bool) (at : ℕ) → first_other rest ≡ o → first_fault (padding_tests at rest) ≡ moved at (stop_by begun (padding_by (first_other rest)))
+padding_are : (o : Option ℕ) (rest : List ℕ) (begun : Bool) (at : ℕ) → first_other rest ≡ o
+    → first_fault (padding_tests at rest) ≡ moved at (stop_by begun (padding_by (first_other rest)))
 padding_are None rest begun at e = rw e refl
 padding_are (Some i) rest begun at e = rw e refl
 
-spanned_are : (o : Option Span) (at : ℕ) (begun : Bool) (rest : List ℕ) → first_fault (test (is_some o) at BadIndicator ∷ count_tests 5 at rest ++ test (may_stand o begun) at SpanBroken ∷ []) ≡ moved at (stop_by begun (spanned o rest))
+spanned_are : (o : Option Span) (at : ℕ) (begun : Bool) (rest : List ℕ)
+    → first_fault (test (is_some o) at BadIndicator ∷ count_tests 5 at rest
+    ++ test (may_stand o begun) at SpanBroken ∷ []) ≡ moved at (stop_by begun (spanned o rest))
 spanned_are None at begun rest = let z : at + 0 ≡ at = omega arith in rw z refl
 spanned_are (Some span) at begun rest = counted_are span 5 at begun rest
 
-first_if : (b : Bool) (xs ys : List Test) (o p : Option BlockFault) → first_fault xs ≡ o → first_fault ys ≡ p → first_fault (if b then xs else ys) ≡ cond b o p
+first_if : (b : Bool) (xs ys : List Test) (o p : Option BlockFault) → first_fault xs ≡ o
+    → first_fault ys ≡ p → first_fault (if b then xs else ys) ≡ cond b o p
 first_if true xs ys o p e f = e
 first_if false xs ys o p e f = f
 
-moved_if : (b : Bool) (at : ℕ) (begun : Bool) (x y : Result (Option Found) BlockFault) → cond b (moved at (stop_by begun x)) (moved at (stop_by begun y)) ≡ moved at (stop_by begun (cond b x y))
+moved_if : (b : Bool) (at : ℕ) (begun : Bool) (x y : Result (Option Found) BlockFault)
+    → cond b (moved at (stop_by begun x)) (moved at (stop_by begun y))
+    ≡ moved at (stop_by begun (cond b x y))
 moved_if true at begun x y = refl
 moved_if false at begun x y = refl
 
-pub tests_are : (format : Format) (rec_len : ℕ) (begun : Bool) (at : ℕ) (rest : List ℕ) → first_fault (tests format rec_len begun at rest) ≡ moved at (stop_by begun (unit_at format rec_len rest))
+pub tests_are : (format : Format) (rec_len : ℕ) (begun : Bool) (at : ℕ) (rest : List ℕ)
+    → first_fault (tests format rec_len begun at rest)
+    ≡ moved at (stop_by begun (unit_at format rec_len rest))
 unfolding unit_at
-tests_are Fixed rec_len begun at rest = rw (leb-not rec_len (length rest)) (fixed_cases (ltb (length rest) rec_len) (first_other rest) begun at rec_len)
+tests_are Fixed rec_len begun at rest = rw (leb-not rec_len (length rest))
+    (fixed_cases (ltb (length rest) rec_len) (first_other rest) begun at rec_len)
 tests_are Counted rec_len begun at [] = refl
 tests_are Counted rec_len begun at (c ∷ cs) =
-    first_if (eqb c 94) _ _ _ _ (padding_are (first_other (c ∷ cs)) (c ∷ cs) begun at refl) (counted_are Whole 4 at begun (c ∷ cs))
+    first_if (eqb c 94) _ _ _ _ (padding_are (first_other (c ∷ cs)) (c ∷ cs) begun at refl)
+    (counted_are Whole 4 at begun (c ∷ cs))
     ∙ moved_if (eqb c 94) at begun (padding_by (first_other (c ∷ cs))) (counted Whole 4 (c ∷ cs))
 tests_are Spanned rec_len begun at [] = refl
 tests_are Spanned rec_len begun at (c ∷ cs) =
-    first_if (eqb c 94) _ _ _ _ (padding_are (first_other (c ∷ cs)) (c ∷ cs) begun at refl) (spanned_are (span_by c) at begun (c ∷ cs))
-    ∙ moved_if (eqb c 94) at begun (padding_by (first_other (c ∷ cs))) (spanned (span_by c) (c ∷ cs))
+    first_if (eqb c 94) _ _ _ _ (padding_are (first_other (c ∷ cs)) (c ∷ cs) begun at refl)
+    (spanned_are (span_by c) at begun (c ∷ cs))
+    ∙ moved_if (eqb c 94) at begun
+    (padding_by (first_other (c ∷ cs))) (spanned (span_by c) (c ∷ cs))

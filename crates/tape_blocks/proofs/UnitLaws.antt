@@ -1,10 +1,15 @@
 -- The unit that is found at the front is the one that is spelled there.
-use Rattle.std.proofs.Common.{◌≡◌, ℕ, suc, ◌+◌, ◌-◌, ◌/◌, ◌%◌, ◌^◌, ◌<◌, ◌≤◌, Bool, true, false, not, cond, ltb, eqb, List, [], ◌∷◌, ◌++◌, length, take, drop, Option, Some, None, Result, Ok, Err, refl, sym, ap, subst, ◌∙◌, append_assoc, arith, rules, length-append}
+use Rattle.std.proofs.Common.{◌≡◌, ℕ, ◌+◌, ◌-◌, ◌/◌, ◌%◌, ◌^◌, ◌<◌, ◌≤◌, Bool, true, false, not}
+use Rattle.std.proofs.Common.{cond, ltb, eqb, List, [], ◌∷◌, ◌++◌, length, take, drop, Option, Some}
+use Rattle.std.proofs.Common.{None, Result, Ok, Err, refl, sym, ap, subst, ◌∙◌, append_assoc, arith}
+use Rattle.std.proofs.Common.{rules, length-append}
 use Rattle.std.specs.Str.{all_ascii_digits}
-use Rattle.std.proofs.lemmas.Bool.{ltb-false, ltb-true, le-ltb, lt-ltb, eqb-true}
-use Rattle.std.proofs.lemmas.List.{take_at, drop_at, take-append-drop, length-take, length-drop, drop-drop}
+use Rattle.std.proofs.lemmas.Bool.{ltb-false, le-ltb, eqb-true}
+use Rattle.std.proofs.lemmas.List.{take_at, drop_at, take-append-drop, length-take, length-drop}
+use Rattle.std.proofs.lemmas.List.{drop-drop}
 use Rattle.tape_label.specs.Digits.{digits, number_of}
-use Rattle.tape_label.proofs.DigitLaws.{digits-number_of, number_of-digits, number_of-lt, all_ascii_digits-digits}
+use Rattle.tape_label.proofs.DigitLaws.{digits-number_of, number_of-digits, number_of-lt}
+use Rattle.tape_label.proofs.DigitLaws.{all_ascii_digits-digits}
 use Rattle.tape_label.specs.declared.values.Format.{Format}
 use Rattle.tape_label.specs.declared.values.Format.TheVariants.{Fixed, Counted, Spanned}
 use Rattle.tape_blocks.specs.declared.fault.BlockCause.TheVariants.{BadCount, PastEnd}
@@ -12,22 +17,24 @@ use Rattle.tape_blocks.specs.declared.fault.BlockFault.{BlockFault}
 use Rattle.tape_blocks.specs.declared.part.Span.{Span}
 use Rattle.tape_blocks.specs.declared.part.Span.TheVariants.{Whole, First, Middle, Last}
 use Rattle.tape_blocks.specs.declared.unit.Found.{Found}
-use Rattle.tape_blocks.specs.Block.{Portion, indicator, head_len, spelling, IsUnit, first_other, IsPadding, span_by}
+use Rattle.tape_blocks.specs.Block.{Portion, indicator, head_len, spelling, IsUnit, first_other}
+use Rattle.tape_blocks.specs.Block.{span_by}
 use Rattle.tape_blocks.specs.Parts.{portion}
 use Rattle.tape_blocks.specs.Units.{padding_by, short_by, counted, spanned, unit_at}
 use Rattle.tape_blocks.specs.Faults.{fault}
 
-abbrev some : Found → Result (Option Found) BlockFault
+abbrev pub some : Found → Result (Option Found) BlockFault
 some found = Ok (Some found)
 
-abbrev none : Result (Option Found) BlockFault
+abbrev pub none : Result (Option Found) BlockFault
 none = Ok None
 
 some_is : (x y : Found) → some x ≡ some y → x ≡ y
 some_is x y e = cc
 
 -- what a unit is, seen from both sides
-pub record UnitStands (format : Format) (rec_len : ℕ) (bytes : List ℕ) (found : Found) : Type 0 where
+pub record UnitStands (format : Format) (rec_len : ℕ) (bytes : List ℕ)
+    (found : Found) : Type 0 where
   pub whole : bytes ≡ spelling format (portion found bytes) ++ drop found.len bytes
   pub unit : IsUnit format rec_len (portion found bytes)
 
@@ -38,17 +45,22 @@ record CountedCases (span : Span) (h : ℕ) (bytes : List ℕ) (found : Found) :
   at_most : number_of (take 4 (drop (h - 4) bytes)) ≤ length bytes
   found_is : record { span = span; head = h; len = number_of (take 4 (drop (h - 4) bytes)) } ≡ found
 
-tests_passed : (a b c d : Bool) (e f : BlockFault) (x y : Found) → cond a (Err e) (cond (not b) (Err e) (cond c (Err e) (cond d (Err f) (some x)))) ≡ some y → (a ≡ false) × (b ≡ true) × (c ≡ false) × (d ≡ false) × (x ≡ y)
+tests_passed : (a b c d : Bool) (e f : BlockFault) (x y : Found)
+    → cond a (Err e) (cond (not b) (Err e) (cond c (Err e) (cond d (Err f) (some x)))) ≡ some y
+    → (a ≡ false) × (b ≡ true) × (c ≡ false) × (d ≡ false) × (x ≡ y)
 tests_passed true b c d e f x y h = absurd cc
 tests_passed false false c d e f x y h = absurd cc
 tests_passed false true true d e f x y h = absurd cc
 tests_passed false true false true e f x y h = absurd cc
 tests_passed false true false false e f x y h = (refl, refl, refl, refl, some_is x y h)
 
-counted_cases : (span : Span) (h : ℕ) (bytes : List ℕ) (found : Found) → counted span h bytes ≡ some found → CountedCases span h bytes found
+counted_cases : (span : Span) (h : ℕ) (bytes : List ℕ) (found : Found)
+    → counted span h bytes ≡ some found → CountedCases span h bytes found
 counted_cases span h bytes found e =
     let ds = take 4 (drop (h - 4) bytes) in
-    let p = tests_passed (ltb (length bytes) h) (all_ascii_digits ds) (ltb (number_of ds) h) (ltb (length bytes) (number_of ds)) (fault 0 BadCount) (fault 0 PastEnd) (record { span = span; head = h; len = number_of ds }) found e in
+    let p = tests_passed (ltb (length bytes) h) (all_ascii_digits ds) (ltb (number_of ds) h)
+    (ltb (length bytes) (number_of ds)) (fault 0 BadCount) (fault 0 PastEnd)
+    (record { span = span; head = h; len = number_of ds }) found e in
     record {
       room = ltb-false _ _ p.0;
       digits_there = p.1;
@@ -58,149 +70,156 @@ counted_cases span h bytes found e =
     }
 
 -- four digits, what they count of the bytes behind them, and the rest
-four_digits : (bytes : List ℕ) (len : ℕ) → 4 ≤ length bytes → all_ascii_digits (take 4 bytes) ≡ true → digits 4 (number_of (take 4 bytes)) ≡ take 4 bytes
+four_digits : (bytes : List ℕ) (len : ℕ) → 4 ≤ length bytes → all_ascii_digits (take 4 bytes) ≡ true
+    → digits 4 (number_of (take 4 bytes)) ≡ take 4 bytes
 four_digits bytes len room there =
     let width : length (take 4 bytes) ≡ 4 = omega (arith, length-take 4 bytes) in
-    subst (λ (k : ℕ). digits k (number_of (take 4 bytes)) ≡ take 4 bytes) width (digits-number_of (take 4 bytes) there)
+    subst (λ (k : ℕ). digits k (number_of (take 4 bytes)) ≡ take 4 bytes) width
+    (digits-number_of (take 4 bytes) there)
 
-split_at : (bytes : List ℕ) (h len : ℕ) → h ≤ len → bytes ≡ take h bytes ++ (take (len - h) (drop h bytes) ++ drop len bytes)
+split_at : (bytes : List ℕ) (h len : ℕ) → h ≤ len
+    → bytes ≡ take h bytes ++ (take (len - h) (drop h bytes) ++ drop len bytes)
 split_at bytes h len le =
     let sum : h + (len - h) ≡ len = omega arith in
-    let behind : drop h bytes ≡ take (len - h) (drop h bytes) ++ drop len bytes = sym (take-append-drop (len - h) (drop h bytes)) ∙ ap (λ (r : List ℕ). take (len - h) (drop h bytes) ++ r) (drop-drop (len - h) h bytes ∙ ap (λ (k : ℕ). drop k bytes) sum) in
+    let behind : drop h bytes ≡ take (len - h) (drop h bytes) ++ drop len bytes =
+    sym (take-append-drop (len - h) (drop h bytes))
+    ∙ ap (λ (r : List ℕ). take (len - h) (drop h bytes) ++ r) (drop-drop (len - h) h bytes
+    ∙ ap (λ (k : ℕ). drop k bytes) sum) in
     sym (take-append-drop h bytes) ∙ ap (λ (r : List ℕ). take h bytes ++ r) behind
 
-four_fit : (bytes : List ℕ) → 4 ≤ length bytes → all_ascii_digits (take 4 bytes) ≡ true → number_of (take 4 bytes) < 10000
+four_fit : (bytes : List ℕ) → 4 ≤ length bytes → all_ascii_digits (take 4 bytes) ≡ true
+    → number_of (take 4 bytes) < 10000
 four_fit bytes room there =
     let width : length (take 4 bytes) ≡ 4 = omega (arith, length-take 4 bytes) in
     subst (λ (k : ℕ). number_of (take 4 bytes) < 10 ^ k) width (number_of-lt (take 4 bytes) there)
 
-counted_found : (bytes : List ℕ) (found : Found) → counted Whole 4 bytes ≡ some found → (rec_len : ℕ) → UnitStands Counted rec_len bytes found
+counted_found : (bytes : List ℕ) (found : Found) → counted Whole 4 bytes ≡ some found
+    → (rec_len : ℕ) → UnitStands Counted rec_len bytes found
 counted_found bytes found e rec_len =
     let c = counted_cases Whole 4 bytes found e in
     let len = number_of (take 4 bytes) in
     let content = take (len - 4) (drop 4 bytes) in
-    let content_len : 4 + length content ≡ len = omega (arith, length-take (len - 4) (drop 4 bytes), length-drop 4 bytes, c.at_most, c.at_least) in
-    let front : digits 4 (4 + length content) ≡ take 4 bytes = ap (digits 4) content_len ∙ four_digits bytes len c.room c.digits_there in
+    let content_len : 4 + length content ≡ len = omega (
+      arith,
+      length-take (len - 4) (drop 4 bytes),
+      length-drop 4 bytes,
+      c.at_most,
+      c.at_least,
+    ) in
+    let front : digits 4 (4 + length content) ≡ take 4 bytes =
+    ap (digits 4) content_len ∙ four_digits bytes len c.room c.digits_there in
     subst (λ (f : Found). UnitStands Counted rec_len bytes f) c.found_is record {
-      whole = split_at bytes 4 len c.at_least ∙ sym (ap (λ (d : List ℕ). (d ++ content) ++ drop len bytes) front ∙ append_assoc (take 4 bytes) content (drop len bytes));
+      whole = split_at bytes 4 len c.at_least
+          ∙ sym (ap (λ (d : List ℕ). (d ++ content) ++ drop len bytes) front
+          ∙ append_assoc (take 4 bytes) content (drop len bytes));
       unit = (refl, omega (arith, content_len, four_fit bytes c.room c.digits_there));
     }
 
-spanned_found : (b : ℕ) (bytes : List ℕ) (span : Span) (found : Found) → indicator span ≡ b → counted span 5 (b ∷ bytes) ≡ some found → (rec_len : ℕ) → UnitStands Spanned rec_len (b ∷ bytes) found
+spanned_found : (b : ℕ) (bytes : List ℕ) (span : Span) (found : Found) → indicator span ≡ b
+    → counted span 5 (b ∷ bytes) ≡ some found → (rec_len : ℕ)
+    → UnitStands Spanned rec_len (b ∷ bytes) found
 spanned_found b bytes span found is e rec_len =
     let c = counted_cases span 5 (b ∷ bytes) found e in
     let len = number_of (take 4 bytes) in
     let content = take (len - 5) (drop 4 bytes) in
     let room : 4 ≤ length bytes = omega (arith, c.room) in
-    let content_len : 5 + length content ≡ len = omega (arith, length-take (len - 5) (drop 4 bytes), length-drop 4 bytes, c.at_most, c.at_least) in
-    let front : digits 4 (5 + length content) ≡ take 4 bytes = ap (digits 4) content_len ∙ four_digits bytes len room c.digits_there in
+    let content_len : 5 + length content ≡ len = omega (
+      arith,
+      length-take (len - 5) (drop 4 bytes),
+      length-drop 4 bytes,
+      c.at_most,
+      c.at_least,
+    ) in
+    let front : digits 4 (5 + length content) ≡ take 4 bytes =
+    ap (digits 4) content_len ∙ four_digits bytes len room c.digits_there in
     let split = split_at (b ∷ bytes) 5 len c.at_least in
-    let spelled : (b ∷ take 4 bytes) ++ (content ++ drop len (b ∷ bytes)) ≡ ((indicator span ∷ digits 4 (5 + length content)) ++ content) ++ drop len (b ∷ bytes) =
-    sym (ap (λ (d : List ℕ). ((indicator span ∷ d) ++ content) ++ drop len (b ∷ bytes)) front ∙ ap (λ (i : ℕ). ((i ∷ take 4 bytes) ++ content) ++ drop len (b ∷ bytes)) is ∙ append_assoc (b ∷ take 4 bytes) content (drop len (b ∷ bytes))) in
+    let spelled : (b ∷ take 4 bytes) ++ (content ++ drop len (b ∷ bytes))
+    ≡ ((indicator span ∷ digits 4 (5 + length content)) ++ content) ++ drop len (b ∷ bytes) =
+    sym (ap (λ (d : List ℕ). ((indicator span ∷ d) ++ content) ++ drop len (b ∷ bytes)) front
+    ∙ ap (λ (i : ℕ). ((i ∷ take 4 bytes) ++ content) ++ drop len (b ∷ bytes)) is
+    ∙ append_assoc (b ∷ take 4 bytes) content (drop len (b ∷ bytes))) in
     subst (λ (f : Found). UnitStands Spanned rec_len (b ∷ bytes) f) c.found_is record {
       whole = split ∙ spelled;
       unit = omega (arith, content_len, four_fit bytes room c.digits_there);
     }
 
-span_is : (c : ℕ) (one two three four : Bool) (s : Span) → eqb c 48 ≡ one → eqb c 49 ≡ two → eqb c 50 ≡ three → eqb c 51 ≡ four
-    → cond one (Some Whole) (cond two (Some First) (cond three (Some Middle) (cond four (Some Last) None))) ≡ Some s → indicator s ≡ c
-span_is c true two three four s p q r t e = let is : Whole ≡ s = cc in rw (← is) (sym (eqb-true _ _ p))
-span_is c false true three four s p q r t e = let is : First ≡ s = cc in rw (← is) (sym (eqb-true _ _ q))
-span_is c false false true four s p q r t e = let is : Middle ≡ s = cc in rw (← is) (sym (eqb-true _ _ r))
-span_is c false false false true s p q r t e = let is : Last ≡ s = cc in rw (← is) (sym (eqb-true _ _ t))
+span_is : (c : ℕ) (one two three four : Bool) (s : Span) → eqb c 48 ≡ one → eqb c 49 ≡ two
+    → eqb c 50 ≡ three → eqb c 51 ≡ four
+    → cond one (Some Whole) (cond two (Some First)
+    (cond three (Some Middle) (cond four (Some Last) None))) ≡ Some s → indicator s ≡ c
+span_is c true two three four s p q r t e =
+    let is : Whole ≡ s = cc in
+    rw (← is) (sym (eqb-true _ _ p))
+span_is c false true three four s p q r t e =
+    let is : First ≡ s = cc in
+    rw (← is) (sym (eqb-true _ _ q))
+span_is c false false true four s p q r t e =
+    let is : Middle ≡ s = cc in
+    rw (← is) (sym (eqb-true _ _ r))
+span_is c false false false true s p q r t e =
+    let is : Last ≡ s = cc in
+    rw (← is) (sym (eqb-true _ _ t))
 span_is c false false false false s p q r t e = absurd cc
 
-spanned_by : (o : Option Span) (b : ℕ) (bytes : List ℕ) (found : Found) → ((s : Span) → o ≡ Some s → indicator s ≡ b) → spanned o (b ∷ bytes) ≡ some found → (rec_len : ℕ) → UnitStands Spanned rec_len (b ∷ bytes) found
+spanned_by : (o : Option Span) (b : ℕ) (bytes : List ℕ) (found : Found)
+    → ((s : Span) → o ≡ Some s → indicator s ≡ b) → spanned o (b ∷ bytes) ≡ some found
+    → (rec_len : ℕ) → UnitStands Spanned rec_len (b ∷ bytes) found
 spanned_by None b bytes found is e rec_len = absurd cc
 spanned_by (Some s) b bytes found is e rec_len = spanned_found b bytes s found (is s refl) e rec_len
 
-fixed_cases : (b : Bool) (o : Option ℕ) (x y : Found) → cond b (short_by o) (some x) ≡ some y → (b ≡ false) × (x ≡ y)
+fixed_cases : (b : Bool) (o : Option ℕ) (x y : Found) → cond b (short_by o) (some x) ≡ some y
+    → (b ≡ false) × (x ≡ y)
 fixed_cases true None x y e = absurd cc
 fixed_cases true (Some n) x y e = absurd cc
 fixed_cases false o x y e = (refl, some_is x y e)
 
-not_padding : (b : Bool) (o : Option ℕ) (r : Result (Option Found) BlockFault) (y : Found) → cond b (padding_by o) r ≡ some y → r ≡ some y
+not_padding : (b : Bool) (o : Option ℕ) (r : Result (Option Found) BlockFault) (y : Found)
+    → cond b (padding_by o) r ≡ some y → r ≡ some y
 not_padding true None r y e = absurd cc
 not_padding true (Some n) r y e = absurd cc
 not_padding false o r y e = e
 
-fixed_found : (rec_len : ℕ) (bytes : List ℕ) → rec_len ≤ length bytes → UnitStands Fixed rec_len bytes (record { span = Whole; head = 0; len = rec_len })
+fixed_found : (rec_len : ℕ) (bytes : List ℕ) → rec_len ≤ length bytes
+    → UnitStands Fixed rec_len bytes (record { span = Whole; head = 0; len = rec_len })
 fixed_found rec_len bytes le =
     let all : rec_len - 0 ≡ rec_len = omega arith in
-    record { whole = rw all (sym (take-append-drop rec_len bytes)); unit = (refl, rw all (omega (arith, length-take rec_len bytes))) }
+    record {
+      whole = rw all (sym (take-append-drop rec_len bytes));
+      unit = (refl, rw all (omega (arith, length-take rec_len bytes)));
+    }
 
-pub unit_found : (format : Format) (rec_len : ℕ) (bytes : List ℕ) (found : Found) → unit_at format rec_len bytes ≡ Ok (Some found) → UnitStands format rec_len bytes found
+pub unit_found : (format : Format) (rec_len : ℕ) (bytes : List ℕ) (found : Found)
+    → unit_at format rec_len bytes ≡ Ok (Some found) → UnitStands format rec_len bytes found
 unfolding unit_at
 unit_found Fixed rec_len bytes found e =
-    let p = fixed_cases (ltb (length bytes) rec_len) (first_other bytes) (record { span = Whole; head = 0; len = rec_len }) found e in
-    subst (λ (f : Found). UnitStands Fixed rec_len bytes f) p.1 (fixed_found rec_len bytes (ltb-false _ _ p.0))
+    let p = fixed_cases (ltb (length bytes) rec_len) (first_other bytes)
+    (record { span = Whole; head = 0; len = rec_len }) found e in
+    subst (λ (f : Found). UnitStands Fixed rec_len bytes f) p.1
+    (fixed_found rec_len bytes (ltb-false _ _ p.0))
 unit_found Counted rec_len [] found e = absurd cc
-unit_found Counted rec_len (c ∷ cs) found e = counted_found (c ∷ cs) found (not_padding (eqb c 94) (first_other (c ∷ cs)) (counted Whole 4 (c ∷ cs)) found e) rec_len
+unit_found Counted rec_len (c ∷ cs) found e = counted_found (c ∷ cs) found
+    (not_padding (eqb c 94) (first_other (c ∷ cs)) (counted Whole 4 (c ∷ cs)) found e) rec_len
 unit_found Spanned rec_len [] found e = absurd cc
 unit_found Spanned rec_len (c ∷ cs) found e =
-    spanned_by (span_by c) c cs found (λ s is. span_is c (eqb c 48) (eqb c 49) (eqb c 50) (eqb c 51) s refl refl refl refl is) (not_padding (eqb c 94) (first_other (c ∷ cs)) (spanned (span_by c) (c ∷ cs)) found e) rec_len
-
--- ---- padding
-
-never_none : (a b c d : Bool) (e f : BlockFault) (x : Found) → cond a (Err e) (cond (not b) (Err e) (cond c (Err e) (cond d (Err f) (some x)))) ≡ none → ⊥
-never_none true b c d e f x h = cc
-never_none false false c d e f x h = cc
-never_none false true true d e f x h = cc
-never_none false true false true e f x h = cc
-never_none false true false false e f x h = cc
-
-counted_never : (span : Span) (h : ℕ) (bytes : List ℕ) → counted span h bytes ≡ none → ⊥
-counted_never span h bytes e =
-    let ds = take 4 (drop (h - 4) bytes) in
-    never_none (ltb (length bytes) h) (all_ascii_digits ds) (ltb (number_of ds) h) (ltb (length bytes) (number_of ds)) (fault 0 BadCount) (fault 0 PastEnd) (record { span = span; head = h; len = number_of ds }) e
-
-spanned_never : (o : Option Span) (bytes : List ℕ) → spanned o bytes ≡ none → ⊥
-spanned_never None bytes e = cc
-spanned_never (Some s) bytes e = counted_never s 5 bytes e
-
-fixed_none : (b : Bool) (o : Option ℕ) (x : Found) → cond b (short_by o) (some x) ≡ none → (b ≡ true) × (o ≡ None)
-fixed_none true None x e = (refl, refl)
-fixed_none true (Some n) x e = absurd cc
-fixed_none false o x e = absurd cc
-
-padding_none : (b : Bool) (o : Option ℕ) (r : Result (Option Found) BlockFault) → (r ≡ none → ⊥) → cond b (padding_by o) r ≡ none → o ≡ None
-padding_none true None r h e = refl
-padding_none true (Some n) r h e = absurd cc
-padding_none false o r h e = absurd (h e)
-
-pub padding_found : (format : Format) (rec_len : ℕ) (bytes : List ℕ) → unit_at format rec_len bytes ≡ Ok None → IsPadding format rec_len bytes
-unfolding unit_at
-padding_found Fixed rec_len bytes e =
-    let p = fixed_none (ltb (length bytes) rec_len) (first_other bytes) (record { span = Whole; head = 0; len = rec_len }) e in
-    (p.1, ltb-true _ _ p.0)
-padding_found Counted rec_len [] e = refl
-padding_found Counted rec_len (c ∷ cs) e = padding_none (eqb c 94) (first_other (c ∷ cs)) (counted Whole 4 (c ∷ cs)) (counted_never Whole 4 (c ∷ cs)) e
-padding_found Spanned rec_len [] e = refl
-padding_found Spanned rec_len (c ∷ cs) e = padding_none (eqb c 94) (first_other (c ∷ cs)) (spanned (span_by c) (c ∷ cs)) (spanned_never (span_by c) (c ∷ cs)) e
-
-first_is : (c : ℕ) (cs : List ℕ) (b : Bool) → eqb c 94 ≡ b → first_other (c ∷ cs) ≡ None → b ≡ true
-first_is c cs true p e = refl
-first_is c cs false p e = let lt : ltb 0 (suc (length cs)) ≡ true = lt-ltb _ _ (omega arith) in let here : first_other (c ∷ cs) ≡ Some 0 = rw (p, lt) refl in absurd cc
-
-pub padding_again : (format : Format) (rec_len : ℕ) (bytes : List ℕ) → IsPadding format rec_len bytes → unit_at format rec_len bytes ≡ Ok None
-unfolding unit_at
-padding_again Fixed rec_len bytes is = rw (lt-ltb _ _ is.1, is.0) refl
-padding_again Counted rec_len [] is = refl
-padding_again Counted rec_len (c ∷ cs) is = rw (is, first_is c cs (eqb c 94) refl is) refl
-padding_again Spanned rec_len [] is = refl
-padding_again Spanned rec_len (c ∷ cs) is = rw (is, first_is c cs (eqb c 94) refl is) refl
+    spanned_by (span_by c) c cs found
+    (λ s is. span_is c (eqb c 48) (eqb c 49) (eqb c 50) (eqb c 51) s refl refl refl refl is)
+    (not_padding (eqb c 94) (first_other (c ∷ cs)) (spanned (span_by c) (c ∷ cs)) found e) rec_len
 
 -- ---- a unit that is spelled
 
-counted_again : (span : Span) (h k : ℕ) (bytes : List ℕ) → h ≤ length bytes → take 4 (drop (h - 4) bytes) ≡ digits 4 k → k < 10000 → h ≤ k → k ≤ length bytes → counted span h bytes ≡ some (record { span = span; head = h; len = k })
+counted_again : (span : Span) (h k : ℕ) (bytes : List ℕ) → h ≤ length bytes
+    → take 4 (drop (h - 4) bytes) ≡ digits 4 k → k < 10000 → h ≤ k → k ≤ length bytes
+    → counted span h bytes ≡ some (record { span = span; head = h; len = k })
 counted_again span h k bytes room ds small least most =
-    let there : all_ascii_digits (take 4 (drop (h - 4) bytes)) ≡ true = rw ds (all_ascii_digits-digits 4 k) in
+    let there : all_ascii_digits (take 4 (drop (h - 4) bytes)) ≡ true =
+    rw ds (all_ascii_digits-digits 4 k) in
     let value : number_of (take 4 (drop (h - 4) bytes)) ≡ k = rw ds (number_of-digits 4 k small) in
     rw (le-ltb _ _ room, there, value, le-ltb _ _ least, le-ltb _ _ most) refl
 
 -- what is found of the unit of a part
 abbrev pub found_of : Format → Portion → Found
-found_of format p = record { span = p.span; head = head_len format; len = head_len format + length p.bytes }
+found_of format p =
+    record { span = p.span; head = head_len format; len = head_len format + length p.bytes }
 
 no_circumflex : (n : ℕ) → n < 10 → eqb (48 + n) 94 ≡ false
 no_circumflex n lt = search rules
@@ -217,31 +236,55 @@ span_by-indicator First = refl
 span_by-indicator Middle = refl
 span_by-indicator Last = refl
 
-pub unit_again : (format : Format) (rec_len : ℕ) (p : Portion) (rest : List ℕ) → IsUnit format rec_len p → unit_at format rec_len (spelling format p ++ rest) ≡ Ok (Some (found_of format p))
+pub unit_again : (format : Format) (rec_len : ℕ) (p : Portion) (rest : List ℕ)
+    → IsUnit format rec_len p
+    → unit_at format rec_len (spelling format p ++ rest) ≡ Ok (Some (found_of format p))
 unfolding unit_at
 unit_again Fixed rec_len p rest is =
-    let long : ltb (length (p.bytes ++ rest)) rec_len ≡ false = le-ltb _ _ (omega (arith, length-append p.bytes rest, is.1)) in
+    let long : ltb (length (p.bytes ++ rest)) rec_len ≡ false =
+    le-ltb _ _ (omega (arith, length-append p.bytes rest, is.1)) in
     let sum : 0 + length p.bytes ≡ rec_len = omega (arith, is.1) in
     rw (long, is.0, sum) refl
 unit_again Counted rec_len p rest is =
     let k = 4 + length p.bytes in
-    let first : eqb (48 + k / 10 / 10 / 10 % 10) 94 ≡ false = no_circumflex (k / 10 / 10 / 10 % 10) (omega arith) in
+    let first : eqb (48 + k / 10 / 10 / 10 % 10) 94 ≡ false =
+    no_circumflex (k / 10 / 10 / 10 % 10) (omega arith) in
     let bytes : List ℕ = spelling Counted p ++ rest in
-    rw (first, counted_again Whole 4 k bytes (omega (arith, length-append p.bytes rest)) refl is.1 (omega arith) (omega (arith, length-append p.bytes rest)), is.0) refl
+    rw (
+      first,
+      counted_again Whole 4 k bytes (omega (arith, length-append p.bytes rest)) refl is.1
+          (omega arith) (omega (arith, length-append p.bytes rest)),
+      is.0,
+    ) refl
 unit_again Spanned rec_len p rest is =
     let k = 5 + length p.bytes in
     let bytes : List ℕ = spelling Spanned p ++ rest in
-    rw (indicator_no_circumflex p.span, span_by-indicator p.span, counted_again p.span 5 k bytes (omega (arith, length-append p.bytes rest)) refl is (omega arith) (omega (arith, length-append p.bytes rest))) refl
+    rw (
+      indicator_no_circumflex p.span,
+      span_by-indicator p.span,
+      counted_again p.span 5 k bytes (omega (arith, length-append p.bytes rest)) refl is
+          (omega arith) (omega (arith, length-append p.bytes rest)),
+    ) refl
 
-pub portion_of : (format : Format) (p : Portion) (rest : List ℕ) → portion (found_of format p) (spelling format p ++ rest) ≡ p
-portion_of Fixed p rest = let n : 0 + length p.bytes - 0 ≡ length p.bytes = omega arith in rw (n, take_at p.bytes rest (length p.bytes) refl) refl
-portion_of Counted p rest = let n : 4 + length p.bytes - 4 ≡ length p.bytes = omega arith in rw (n, take_at p.bytes rest (length p.bytes) refl) refl
-portion_of Spanned p rest = let n : 5 + length p.bytes - 5 ≡ length p.bytes = omega arith in rw (n, take_at p.bytes rest (length p.bytes) refl) refl
+pub portion_of : (format : Format) (p : Portion) (rest : List ℕ)
+    → portion (found_of format p) (spelling format p ++ rest) ≡ p
+portion_of Fixed p rest =
+    let n : 0 + length p.bytes - 0 ≡ length p.bytes = omega arith in
+    rw (n, take_at p.bytes rest (length p.bytes) refl) refl
+portion_of Counted p rest =
+    let n : 4 + length p.bytes - 4 ≡ length p.bytes = omega arith in
+    rw (n, take_at p.bytes rest (length p.bytes) refl) refl
+portion_of Spanned p rest =
+    let n : 5 + length p.bytes - 5 ≡ length p.bytes = omega arith in
+    rw (n, take_at p.bytes rest (length p.bytes) refl) refl
 
-pub length-spelling : (format : Format) (p : Portion) → length (spelling format p) ≡ head_len format + length p.bytes
+pub length-spelling : (format : Format) (p : Portion)
+    → length (spelling format p) ≡ head_len format + length p.bytes
 length-spelling Fixed p = omega arith
 length-spelling Counted p = omega arith
 length-spelling Spanned p = omega arith
 
-pub rest_of : (format : Format) (p : Portion) (rest : List ℕ) → drop (head_len format + length p.bytes) (spelling format p ++ rest) ≡ rest
-rest_of format p rest = drop_at (spelling format p) rest (head_len format + length p.bytes) (length-spelling format p)
+pub rest_of : (format : Format) (p : Portion) (rest : List ℕ)
+    → drop (head_len format + length p.bytes) (spelling format p ++ rest) ≡ rest
+rest_of format p rest =
+    drop_at (spelling format p) rest (head_len format + length p.bytes) (length-spelling format p)

@@ -8,10 +8,13 @@ use Rattle.tape_blocks.specs.Block.{Portion}
 use Rattle.tape_blocks.specs.Parts.{view}
 use Rattle.tape_blocks.specs.PartsLeft.{parts_left}
 
-pub yielded_parts : (s : Parts) (xs : List Part) (t : Parts) → Yields (YieldsFirstBy view parts_left) s xs t → parts_left s ≡ map view xs ++ parts_left t
+pub yielded_parts : (s : Parts) (xs : List Part) (t : Parts)
+    → Yields (YieldsFirstBy view parts_left) s xs t → parts_left s ≡ map view xs ++ parts_left t
 yielded_parts s [] t y = ap parts_left y
-yielded_parts s (x ∷ xs) t y = y.1 ∙ ap (λ (ys : List Portion). view x ∷ ys) (yielded_parts y.0 xs t y.2)
+yielded_parts s (x ∷ xs) t y =
+    y.1 ∙ ap (λ (ys : List Portion). view x ∷ ys) (yielded_parts y.0 xs t y.2)
 
-pub spans_same : (xs : List Part) → map (λ (p : Part). p.span) xs ≡ map (λ (p : Portion). p.span) (map view xs)
+pub spans_same : (xs : List Part)
+    → map (λ (p : Part). p.span) xs ≡ map (λ (p : Portion). p.span) (map view xs)
 spans_same [] = refl
 spans_same (x ∷ xs) = ap (λ (ys : List Span). x.span ∷ ys) (spans_same xs)

@@ -1,6 +1,7 @@
 -- What a block of labelled tape holds: behind the buffer offset the units of parts, and then
 -- padding.
-use Rattle.std.specs.Prelude.{◌≡◌, ℕ, ◌+◌, ◌<◌, ◌≤◌, ◌==◌, not, List, [], ◌∷◌, ◌++◌, length, drop, Option, Some, None, if◌then◌else◌}
+use Rattle.std.specs.Prelude.{◌≡◌, ℕ, ◌+◌, ◌<◌, ◌≤◌, ◌==◌, not, List, [], ◌∷◌, ◌++◌, length, drop}
+use Rattle.std.specs.Prelude.{Option, Some, None, if◌then◌else◌}
 use Rattle.std.specs.List.{position, flat_map, AllByRecursion}
 use Rattle.tape_label.specs.Digits.{digits}
 use Rattle.tape_label.specs.declared.values.Format.{Format}
@@ -26,7 +27,8 @@ indicator Last = 51
 abbrev pub span_by : ℕ → Option Span
 span_by c =
     if c == 48 then Some Whole
-    else (if c == 49 then Some First else (if c == 50 then Some Middle else (if c == 51 then Some Last else None)))
+    else (if c == 49 then Some First
+    else (if c == 50 then Some Middle else (if c == 51 then Some Last else None)))
 
 -- how many characters stand before a part's content
 abbrev pub head_len : Format → ℕ

@@ -1,12 +1,16 @@
 -- Which fault a block has, and where: the first test that fails where the longest front of units in
 -- span order ends.
-use Rattle.std.specs.Prelude.{◌≡◌, ℕ, ◌+◌, ◌-◌, ◌<◌, ◌≤◌, ◌⊎◌, ◌==◌, ◌||◌, nat_lt, nat_le, not, Bool, true, false, List, [], ◌∷◌, ◌++◌, length, take, drop, Option, Some, None, is_some, is_none, if◌then◌else◌}
+use Rattle.std.specs.Prelude.{◌≡◌, ℕ, ◌+◌, ◌-◌, ◌<◌, ◌≤◌, ◌⊎◌, ◌==◌, ◌||◌, nat_lt, nat_le, not}
+use Rattle.std.specs.Prelude.{Bool, true, false, List, [], ◌∷◌, ◌++◌, length, take, drop, Option}
+use Rattle.std.specs.Prelude.{Some, None, is_some, is_none, if◌then◌else◌}
 use Rattle.std.specs.Str.{all_ascii_digits}
 use Rattle.tape_label.specs.Digits.{number_of}
 use Rattle.tape_label.specs.declared.values.Format.{Format}
 use Rattle.tape_label.specs.declared.values.Format.TheVariants.{Fixed, Counted, Spanned}
 use Rattle.tape_blocks.specs.declared.fault.BlockCause.{BlockCause}
-use Rattle.tape_blocks.specs.declared.fault.BlockCause.TheVariants.{ShortOffset, NotMultiple, BadCount, PastEnd, BadIndicator, SpanBroken, BadPadding}
+use Rattle.tape_blocks.specs.declared.fault.BlockCause.TheVariants.{ShortOffset, NotMultiple}
+use Rattle.tape_blocks.specs.declared.fault.BlockCause.TheVariants.{BadCount, PastEnd, BadIndicator}
+use Rattle.tape_blocks.specs.declared.fault.BlockCause.TheVariants.{SpanBroken, BadPadding}
 use Rattle.tape_blocks.specs.declared.fault.BlockFault.{BlockFault}
 use Rattle.tape_blocks.specs.declared.part.Span.{Span}
 use Rattle.tape_blocks.specs.Block.{Portion, span_by, first_other, spellings, BeginsWith}
@@ -49,7 +53,8 @@ place_of None = 0
 -- Behind the first circumflex of the padding there is nothing else; the fault stands at the first
 -- other byte.
 abbrev pub padding_tests : ℕ → List ℕ → List Test
-padding_tests at rest = test (is_none (first_other rest)) (at + place_of (first_other rest)) BadPadding ∷ []
+padding_tests at rest =
+    test (is_none (first_other rest)) (at + place_of (first_other rest)) BadPadding ∷ []
 
 -- A head of this length is there and ends with four digits. They count the head at least, and no
 -- more than there is.
@@ -95,8 +100,8 @@ pub record FaultStands (format : Format) (rec_len offset : ℕ) (begun : Bool) (
   pub front : IsFront format rec_len offset begun block parts end rest
   pub longest : (others : List Portion) (last : Bool) (left : List ℕ)
       → IsFront format rec_len offset begun block others last left → length rest ≤ length left
-  pub first :
-      first_fault (tests format rec_len end (offset + length (spellings format parts)) rest) ≡ Some f
+  pub first : first_fault (tests format rec_len end (offset + length (spellings format parts)) rest)
+      ≡ Some f
 
 -- the fault of a block: it is shorter than its offset, or the fault stands behind its longest front
 abbrev pub HasFault : Format → ℕ → ℕ → Bool → List ℕ → BlockFault → Type 0

@@ -1,5 +1,6 @@
 -- What a block is judged to be, as a function on lists.
-use Rattle.std.specs.Prelude.{ℕ, ◌+◌, nat_lt, Bool, List, [], ◌∷◌, length, drop, Option, Some, None, Result, Ok, Err, if◌then◌else◌}
+use Rattle.std.specs.Prelude.{ℕ, ◌+◌, nat_lt, Bool, List, [], ◌∷◌, length, drop, Option, Some, None}
+use Rattle.std.specs.Prelude.{Result, Ok, Err, if◌then◌else◌}
 use Rattle.tape_label.specs.declared.values.Format.{Format}
 use Rattle.tape_blocks.specs.declared.fault.BlockCause.TheVariants.{ShortOffset}
 use Rattle.tape_blocks.specs.declared.fault.BlockFault.{BlockFault}
@@ -11,7 +12,8 @@ use Rattle.tape_blocks.specs.Parts.{parts_of}
 -- the parts up to the first that breaks the span order
 abbrev pub in_order : Bool → List Portion → List Portion
 in_order begun [] = []
-in_order begun (p ∷ ps) = if bool_eq (continues p.span) begun then p ∷ in_order (leaves p.span) ps else []
+in_order begun (p ∷ ps) =
+    if bool_eq (continues p.span) begun then p ∷ in_order (leaves p.span) ps else []
 
 -- whether a record is begun behind the parts
 abbrev pub begun_behind : Bool → List Portion → Bool
@@ -35,4 +37,5 @@ judged_behind format rec_len offset begun block parts =
 unfoldable pub judged : Format → ℕ → ℕ → Bool → List ℕ → Result Bool BlockFault
 judged format rec_len offset begun block =
     if nat_lt (length block) offset then Err (fault 0 ShortOffset)
-    else judged_behind format rec_len offset begun block (in_order begun (parts_of format rec_len (drop offset block)))
+    else judged_behind format rec_len offset begun block
+    (in_order begun (parts_of format rec_len (drop offset block)))

@@ -1,12 +1,14 @@
 -- Laws about blocks and parts. Each is the contract of a call of the module `laws`.
-use Rattle.std.specs.Prelude.{◌≡◌, ◌≢◌, ℕ, Bool, List, [], ◌++◌, Option, None, false, is_some, Ok, Err, IfErr, length, drop}
+use Rattle.std.specs.Prelude.{◌≡◌, ◌≢◌, ◌≤◌, ℕ, Bool, List, [], ◌++◌, Option, None, false, is_some}
+use Rattle.std.specs.Prelude.{Ok, Err, IfErr, length, drop}
 use Rattle.tape_label.specs.declared.values.Format.{Format}
-use Rattle.tape_label.specs.declared.values.Format.TheVariants.{Spanned}
+use Rattle.tape_label.specs.declared.values.Format.TheVariants.{Fixed, Spanned}
 use Rattle.tape_blocks.specs.Block.{Portion, Holds}
 use Rattle.std.specs.List.{AllByRecursion}
 use Rattle.tape_blocks.specs.declared.shape.Shape.{Shape}
 use Rattle.tape_blocks.specs.declared.fault.BlockFault.{BlockFault}
 use Rattle.tape_blocks.specs.Faults.{HasFault}
+use Rattle.tape_blocks.specs.Checked.{Passes}
 use Rattle.tape_blocks.specs.Judged.{judged}
 use Rattle.tape_blocks.specs.declared.offer.Offer.TheVariants.{BlockReady}
 use Rattle.tape_blocks.specs.Packing.{Packing, Offers, IsFull}
@@ -18,6 +20,12 @@ abbrev pub HoldsOneList : List ℕ → Type 0
 HoldsOneList block = (format : Format) (rec_len offset : ℕ) (ps qs : List Portion)
     → Holds format rec_len offset block ps → Holds format rec_len offset block qs → ps ≡ qs
 
+-- A block has no more parts than bytes, and none of them is longer than it.
+abbrev pub PartsFit : List ℕ → Type 0
+PartsFit block = (format : Format) (rec_len offset : ℕ) (parts : List Portion)
+    → (format ≡ Fixed → 1 ≤ rec_len) → Holds format rec_len offset block parts
+    → (length parts ≤ length block) × AllByRecursion (λ p. length p.bytes ≤ length block) parts
+
 -- A block of format S that holds a part passes where a record is begun or where none is, not in
 -- both cases.
 abbrev pub PassesForOne : List ℕ → Type 0
@@ -27,15 +35,18 @@ PassesForOne block = (rec_len offset : ℕ) (parts : List Portion) (b c d e : Bo
     → judged Spanned rec_len offset c block ≡ Ok e → b ≡ c
 
 -- The block is judged as what it holds tells: it passes exactly where it holds parts in span order,
--- and is refused exactly by the fault that it has. So it has one fault at most, and none where it passes.
+-- and is refused exactly by the fault that it has. So it has one fault at most, and none where it
+-- passes.
 abbrev pub JudgedAsHeld : Format → ℕ → ℕ → Bool → List ℕ → Type 0
 JudgedAsHeld format rec_len offset begun block =
     ((end : Bool) → judged format rec_len offset begun block ≡ Ok end
-    → (parts : List Portion) × Holds format rec_len offset block parts × InOrder begun parts end)
-    × ((end : Bool) (parts : List Portion) → Holds format rec_len offset block parts → InOrder begun parts end
+    → Passes format rec_len offset begun block end)
+    × ((end : Bool) (parts : List Portion)
+    → Holds format rec_len offset block parts → InOrder begun parts end
     → judged format rec_len offset begun block ≡ Ok end)
     × IfErr (judged format rec_len offset begun block) (HasFault format rec_len offset begun block)
-    × ((f : BlockFault) → HasFault format rec_len offset begun block f → judged format rec_len offset begun block ≡ Err f)
+    × ((f : BlockFault) → HasFault format rec_len offset begun block f
+    → judged format rec_len offset begun block ≡ Err f)
 
 -- Joining a list followed by another gives the first's finished records, and then what the second
 -- joins to behind the first's rest.
@@ -47,7 +58,8 @@ abbrev pub BegunIsRest : Type 0
 BegunIsRest = (begun : Option (List ℕ)) (parts : List Portion) (end : Bool)
     → InOrder (is_some begun) parts end → is_some (join_after begun parts).rest ≡ end
 
--- Where the block was not closed before, one that is ready has no room for what remains of the record.
+-- Where the block was not closed before, one that is ready has no room for what remains of the
+-- record.
 abbrev pub ReadyIsFull : Type 0
 ReadyIsFull = (old new : Packing) (rest : List ℕ) (n : ℕ) → old.closed ≡ false
     → Offers old rest (BlockReady n) new → IsFull new.shape new.parts (length (drop n rest))
@@ -66,4 +78,5 @@ HoldRecords shape texts records =
 
 -- Blocks into which records are packed hold these records.
 abbrev pub PackedBlocksHold : Type 0
-PackedBlocksHold = (shape : Shape) (records texts : List (List ℕ)) → Packs shape records texts → HoldRecords shape texts records
+PackedBlocksHold = (shape : Shape) (records texts : List (List ℕ)) → Packs shape records texts
+    → HoldRecords shape texts records

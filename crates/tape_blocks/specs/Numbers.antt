@@ -1,10 +1,14 @@
 -- The fixed numbers of the faults.
 use Rattle.std.specs.Prelude.{ℕ}
 use Rattle.tape_blocks.specs.declared.fault.BlockCause.{BlockCause}
-use Rattle.tape_blocks.specs.declared.fault.BlockCause.TheVariants.{ShortOffset, NotMultiple, BadCount, PastEnd, BadIndicator, SpanBroken, BadPadding}
+use Rattle.tape_blocks.specs.declared.fault.BlockCause.TheVariants.{ShortOffset, NotMultiple}
+use Rattle.tape_blocks.specs.declared.fault.BlockCause.TheVariants.{BadCount, PastEnd, BadIndicator}
+use Rattle.tape_blocks.specs.declared.fault.BlockCause.TheVariants.{SpanBroken, BadPadding}
 use Rattle.tape_blocks.specs.declared.fault.PackFault.{PackFault}
-use Rattle.tape_blocks.specs.declared.fault.PackFault.TheVariants.{RecordLength, ShapeRange, OutOfMemory}
+use Rattle.tape_blocks.specs.declared.fault.PackFault.TheVariants.{RecordLength, ShapeRange}
+use Rattle.tape_blocks.specs.declared.fault.PackFault.TheVariants.{OutOfMemory}
 
+-- of the causes for which a block is refused
 abbrev pub cause_number : BlockCause → ℕ
 cause_number ShortOffset = 1
 cause_number NotMultiple = 2
@@ -14,6 +18,7 @@ cause_number BadIndicator = 5
 cause_number SpanBroken = 6
 cause_number BadPadding = 7
 
+-- of the faults of a packer
 abbrev pub pack_fault_number : PackFault → ℕ
 pack_fault_number RecordLength = 8
 pack_fault_number ShapeRange = 9

@@ -1,5 +1,6 @@
 -- What the bytes of a packer stand for: the parts of its block under way are read off them.
-use Rattle.std.specs.Prelude.{◌≡◌, ℕ, ◌<◌, ◌≤◌, true, List, length, take, drop, replicate, vec_capacity}
+use Rattle.std.specs.Prelude.{◌≡◌, ℕ, ◌<◌, ◌≤◌, true, List, length, take, drop, replicate, vec_len}
+use Rattle.std.specs.Prelude.{vec_capacity}
 use Rattle.std.specs.List.{AllByRecursion}
 use Rattle.tape_label.specs.declared.values.Format.TheVariants.{Spanned}
 use Rattle.tape_blocks.specs.declared.shape.Shape.{Shape}
@@ -19,7 +20,12 @@ parts_in shape items len = parts_of shape.format shape.rec_len (body_of shape it
 -- what callers see of a packer
 abbrev pub packing : Inside → Packing
 packing a =
-    record { shape = a.shape; parts = parts_in a.shape a.block.items a.len; begun = a.begun; closed = a.closed }
+    record {
+      shape = a.shape;
+      parts = parts_in a.shape a.block.items a.len;
+      begun = a.begun;
+      closed = a.closed;
+    }
 
 -- The first bytes, as many as are under way, are the offset's spaces and the units of these parts.
 pub record Keeps (shape : Shape) (items : List ℕ) (len : ℕ) (parts : List Portion) : Type 0 where
@@ -33,7 +39,8 @@ pub record Keeps (shape : Shape) (items : List ℕ) (len : ℕ) (parts : List Po
 -- what each call of a packer keeps
 pub record IsKept (a : Inside) : Type 0 where
   pub writable : IsWritable a.shape
-  pub room : a.shape.block_len ≤ vec_capacity a.block
+  pub size : vec_len a.block ≡ a.shape.block_len
+  pub room : vec_capacity a.block ≡ a.shape.block_len
   pub keeps : Keeps a.shape a.block.items a.len (parts_in a.shape a.block.items a.len)
   pub closed : a.closed ≡ true → a.shape.offset < a.len
   pub begun : a.begun ≡ true → a.shape.format ≡ Spanned

@@ -1,6 +1,7 @@
 -- Records packed into blocks: the shapes that are written, the text of a block, and what each call
 -- of a packer does.
-use Rattle.std.specs.Prelude.{◌≡◌, ◌≢◌, ℕ, ◌+◌, ◌-◌, ◌<◌, ◌≤◌, ◌⊎◌, Bool, true, false, if◌then◌else◌, List, [], ◌∷◌, ◌++◌, length, take, replicate, max}
+use Rattle.std.specs.Prelude.{◌≡◌, ◌≢◌, ℕ, ◌+◌, ◌-◌, ◌<◌, ◌≤◌, ◌⊎◌, Bool, true, false}
+use Rattle.std.specs.Prelude.{if◌then◌else◌, List, [], ◌∷◌, ◌++◌, length, take, replicate, max}
 use Rattle.tape_label.specs.declared.values.Format.{Format}
 use Rattle.tape_label.specs.declared.values.Format.TheVariants.{Fixed, Counted, Spanned}
 use Rattle.tape_blocks.specs.declared.shape.Shape.{Shape}
@@ -25,7 +26,8 @@ pub record IsWritable (shape : Shape) : Type 0 where
   pub least : 18 ≤ shape.block_len
   pub most : shape.block_len ≤ 99999
   pub front : shape.offset ≤ 99
-  pub units : HasWritableRecords shape.format shape.rec_len shape.block_len shape.offset shape.pad_full
+  pub units : HasWritableRecords shape.format shape.rec_len shape.block_len shape.offset
+      shape.pad_full
 
 -- the lengths of the records of a shape; in format D the record length counts the four digits
 abbrev pub HasRecordLength : Format → ℕ → ℕ → Type 0
@@ -83,8 +85,10 @@ pub record Packing : Type 0 where
   pub begun : Bool
   pub closed : Bool
 
+-- a packer's block of these parts
 abbrev pub the_packing : Shape → List Portion → Bool → Bool → Packing
-the_packing shape parts begun closed = record { shape = shape; parts = parts; begun = begun; closed = closed }
+the_packing shape parts begun closed =
+    record { shape = shape; parts = parts; begun = begun; closed = closed }
 
 -- with one part more, whose record goes on or not; where it goes on the block is closed
 abbrev pub with_part : Packing → Bool → List ℕ → Packing
@@ -140,16 +144,18 @@ pub record IsRefused (p : Packing) (rest : List ℕ) : Type 0 where
 -- what begins a record has one of the shape's lengths
 abbrev pub IsJudged : Packing → List ℕ → Type 0
 IsJudged p rest =
-    p.closed ≡ false → p.begun ≡ false → HasRecordLength p.shape.format p.shape.rec_len (length rest)
+    p.closed ≡ false → p.begun ≡ false
+    → HasRecordLength p.shape.format p.shape.rec_len (length rest)
 
 -- what is left when the block was taken: no part, and a record that was begun goes on
 abbrev pub emptied : Packing → Packing
 emptied p = record { shape = p.shape; parts = []; begun = p.begun; closed = false }
 
--- The text is the block under way, which holds the packer's parts and is no longer than a block may
--- be.
+-- The text is the block under way, which holds the packer's parts, has a byte at least, and is no
+-- longer than a block may be.
 pub record Given (p : Packing) (text : List ℕ) : Type 0 where
   pub some : p.parts ≢ []
+  pub some_bytes : 0 < length text
   pub text_is : text ≡ written p.shape p.parts
   pub holds : Holds p.shape.format p.shape.rec_len p.shape.offset text p.parts
   pub within : length text ≤ p.shape.block_len

@@ -4,7 +4,8 @@ use Rattle.std.specs.declared.alloc.Global.{Global}
 use Rattle.std.specs.declared.vec.Vec.{Vec}
 use Rattle.std.specs.List.{Contains, AllByRecursion}
 use Rattle.tape_blocks.specs.declared.fault.PackFault.{PackFault}
-use Rattle.tape_blocks.specs.declared.fault.PackFault.TheVariants.{RecordLength, ShapeRange, OutOfMemory}
+use Rattle.tape_blocks.specs.declared.fault.PackFault.TheVariants.{RecordLength, ShapeRange}
+use Rattle.tape_blocks.specs.declared.fault.PackFault.TheVariants.{OutOfMemory}
 use Rattle.tape_blocks.specs.declared.shape.Shape.{Shape}
 use Rattle.tape_blocks.specs.Packing.{Packing, IsWritable, HasRecordLength}
 use Rattle.tape_blocks.specs.Run.{RunOf}
@@ -24,7 +25,8 @@ abbrev pub HasOtherLength : Shape → List (List ℕ) → Type 0
 HasOtherLength shape records =
     (r : List ℕ) × Contains records r × (HasRecordLength shape.format shape.rec_len (length r) → ⊥)
 
--- Why records are not packed: the shape is judged first, then each record's length where it comes, and memory anywhere behind the shape.
+-- Why records are not packed: the shape is judged first, then each record's length where it comes,
+-- and memory anywhere behind the shape.
 abbrev pub IsRefusedFor : Shape → List (List ℕ) → PackFault → Type 0
 IsRefusedFor shape records RecordLength = IsWritable shape × HasOtherLength shape records
 IsRefusedFor shape records ShapeRange = IsWritable shape → ⊥
@@ -32,14 +34,16 @@ IsRefusedFor shape records OutOfMemory = IsWritable shape
 
 -- why one record is not packed
 abbrev pub IsRefusedOne : Shape → List ℕ → PackFault → Type 0
-IsRefusedOne shape whole RecordLength = HasRecordLength shape.format shape.rec_len (length whole) → ⊥
+IsRefusedOne shape whole RecordLength =
+    HasRecordLength shape.format shape.rec_len (length whole) → ⊥
 IsRefusedOne shape whole ShapeRange = ⊥
 IsRefusedOne shape whole OutOfMemory = Unit {0}
 
 -- why a record is not packed behind a run over whole ones
 abbrev pub RefusesRecord : Packing → List ℕ → PackFault → Type 0
 RefusesRecord old whole e =
-    (taken : List Filled) (records : List (List ℕ)) → RunOf taken old records → IsRefusedOne old.shape whole e
+    (taken : List Filled) (records : List (List ℕ)) → RunOf taken old records
+    → IsRefusedOne old.shape whole e
 
 -- From each run that led here there is one with this record too, and what was taken for it stands
 -- behind the texts.

@@ -13,7 +13,8 @@ use Rattle.tape_blocks.specs.Tight.{Filled, IsWritten, AreSegments, first_len, p
 abbrev pub AreClosed : Shape → List Filled → ℕ → Type 0
 AreClosed shape [] n = Unit {0}
 AreClosed shape (b ∷ []) n = IsFull shape b.parts n
-AreClosed shape (b ∷ c ∷ bs) n = IsFull shape b.parts (first_len c.parts 0) × AreClosed shape (c ∷ bs) n
+AreClosed shape (b ∷ c ∷ bs) n =
+    IsFull shape b.parts (first_len c.parts 0) × AreClosed shape (c ∷ bs) n
 
 -- These blocks were taken, and this one is under way. These records have ended, this is what there
 -- is of the next one, and n bytes of it are still to be offered.

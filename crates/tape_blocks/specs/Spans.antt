@@ -1,5 +1,6 @@
 -- The order of spans, and the records that parts join to.
-use Rattle.std.specs.Prelude.{◌≡◌, ℕ, Bool, true, false, List, [], ◌∷◌, ◌++◌, Option, Some, None, if◌then◌else◌}
+use Rattle.std.specs.Prelude.{◌≡◌, ℕ, Bool, true, false, List, [], ◌∷◌, ◌++◌, Option, Some, None}
+use Rattle.std.specs.Prelude.{if◌then◌else◌}
 use Rattle.tape_blocks.specs.declared.part.Span.{Span}
 use Rattle.tape_blocks.specs.declared.part.Span.TheVariants.{Whole, First, Middle, Last}
 use Rattle.tape_blocks.specs.Block.{Portion}
@@ -61,4 +62,7 @@ join ps = join_after None ps
 -- what is joined, and what further parts add to it
 abbrev pub joined_with : Joined → List Portion → Joined
 joined_with j ps =
-    record { records = j.records ++ (join_after j.rest ps).records; rest = (join_after j.rest ps).rest }
+    record {
+      records = j.records ++ (join_after j.rest ps).records;
+      rest = (join_after j.rest ps).rest;
+    }

@@ -1,11 +1,13 @@
 -- The unit that stands at the front of some bytes, or why none does: what one step over a block
 -- finds.
-use Rattle.std.specs.Prelude.{ℕ, ◌-◌, ◌==◌, nat_lt, not, List, [], ◌∷◌, length, take, drop, Option, Some, None, Result, Ok, Err, if◌then◌else◌}
+use Rattle.std.specs.Prelude.{ℕ, ◌-◌, ◌==◌, nat_lt, not, List, [], ◌∷◌, length, take, drop, Option}
+use Rattle.std.specs.Prelude.{Some, None, Result, Ok, Err, if◌then◌else◌}
 use Rattle.std.specs.Str.{all_ascii_digits}
 use Rattle.tape_label.specs.Digits.{number_of}
 use Rattle.tape_label.specs.declared.values.Format.{Format}
 use Rattle.tape_label.specs.declared.values.Format.TheVariants.{Fixed, Counted, Spanned}
-use Rattle.tape_blocks.specs.declared.fault.BlockCause.TheVariants.{NotMultiple, BadCount, PastEnd, BadIndicator, BadPadding}
+use Rattle.tape_blocks.specs.declared.fault.BlockCause.TheVariants.{NotMultiple, BadCount, PastEnd}
+use Rattle.tape_blocks.specs.declared.fault.BlockCause.TheVariants.{BadIndicator, BadPadding}
 use Rattle.tape_blocks.specs.declared.fault.BlockFault.{BlockFault}
 use Rattle.tape_blocks.specs.declared.part.Span.{Span}
 use Rattle.tape_blocks.specs.declared.part.Span.TheVariants.{Whole}

@@ -3,6 +3,7 @@
 ghost use Rattle.std.specs.Prelude.{◌≡◌, Bool, List, IfOk, IfErr, Ok, Err};
 ghost use Rattle.tape_blocks.specs.declared.fault.BlockFault.{BlockFault};
 ghost use Rattle.tape_blocks.specs.Block.{Portion, Holds};
+ghost use Rattle.tape_blocks.specs.Checked.{Passes};
 ghost use Rattle.tape_blocks.specs.Faults.{HasFault, bool_eq};
 ghost use Rattle.tape_blocks.specs.Judged.{judged};
 ghost use Rattle.tape_blocks.specs.Spans.{InOrder, continues};
@@ -12,7 +13,7 @@ use crate::part::Span;
 use crate::shape::Shape;
 use crate::unit::unit_at;
 
-// Whether the span may stand where a record is begun or not.
+/// Whether the span may stand where a record is begun or not.
 fn may_follow(span: Span, begun: bool) -> bool
     ensures { result ≡ bool_eq (continues span) begun }
 {
@@ -23,34 +24,30 @@ fn may_follow(span: Span, begun: bool) -> bool
     }
 }
 
-// Walks over the units.
+/// The block is refused at this place for this cause.
+fn refuse(place: usize, cause: BlockCause) -> Result<bool, BlockFault>
+    ensures { result ≡ Err (record { place = place; cause = cause }) }
+{
+    Err(BlockFault { place, cause })
+}
+
+/// Walks over the units, up to the first place where none goes on in order.
 fn judge(shape: &Shape, begun: bool, block: &[u8]) -> Result<bool, BlockFault>
     ensures { result ≡ judged shape.now.format shape.now.rec_len shape.now.offset begun block.now }
 {
     let offset = usize::from(shape.offset);
     if block.len() < offset {
-        return Err(BlockFault {
-            place: 0,
-            cause: BlockCause::ShortOffset,
-        });
+        return refuse(0, BlockCause::ShortOffset);
     }
     let mut going = begun;
     let mut place = offset;
     'units: loop {
         match unit_at(shape.format, shape.rec_len as usize, &block[place..]) {
-            Err(fault) => {
-                return Err(BlockFault {
-                    place: place + fault.place,
-                    cause: fault.cause,
-                });
-            }
+            Err(fault) => return refuse(place + fault.place, fault.cause),
             Ok(None) => return Ok(going),
             Ok(Some(found)) => {
                 if !may_follow(found.span, going) {
-                    return Err(BlockFault {
-                        place,
-                        cause: BlockCause::SpanBroken,
-                    });
+                    return refuse(place, BlockCause::SpanBroken);
                 }
                 going = found.span.leaves();
                 place += found.len;
@@ -75,9 +72,8 @@ fn judge(shape: &Shape, begun: bool, block: &[u8]) -> Result<bool, BlockFault>
 /// behind it; else in S `BadIndicator`, and then `BadCount`, `PastEnd`, `SpanBroken`.
 pub fn check_block(shape: &Shape, begun: bool, block: &[u8]) -> Result<bool, BlockFault>
     // What passes holds parts in span order, and leaves a record begun or not as it says.
-    ensures found { IfOk result (λ end. (parts : List Portion)
-        × Holds shape.now.format shape.now.rec_len shape.now.offset block.now parts
-        × InOrder begun parts end) }
+    ensures found { IfOk result
+        (Passes shape.now.format shape.now.rec_len shape.now.offset begun block.now) }
     // What holds parts in span order passes.
     ensures only { (parts : List Portion) (end : Bool)
         → Holds shape.now.format shape.now.rec_len shape.now.offset block.now parts

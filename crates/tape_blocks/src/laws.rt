@@ -3,9 +3,12 @@
 ghost use Rattle.std.specs.Prelude.{◌≡◌, ◌≤◌, ℕ, Bool, List, map, IfOk, IfErr};
 ghost use Rattle.tape_label.specs.declared.values.Format.TheVariants.{Fixed};
 ghost use Rattle.tape_blocks.specs.Block.{Portion, Holds};
-ghost use Rattle.tape_blocks.specs.Laws.{HoldsOneList, PassesForOne, JudgedAsHeld, JoinsOn, BegunIsRest, ReadyIsFull, HoldRecords, PackedBlocksHold};
+ghost use Rattle.tape_blocks.specs.Laws.{HoldsOneList, PartsFit, PassesForOne, JudgedAsHeld};
+ghost use Rattle.tape_blocks.specs.Laws.{JoinsOn, BegunIsRest, ReadyIsFull, HoldRecords};
+ghost use Rattle.tape_blocks.specs.Laws.{PackedBlocksHold};
 ghost use Rattle.tape_blocks.specs.Records.{contents, IsRefusedFor};
-ghost use Rattle.tape_blocks.specs.Spans.{InOrder};
+ghost use Rattle.tape_blocks.specs.Cases.{CasesOfOffers, CasesOfBlocks, CasesOfLaws};
+ghost use Rattle.tape_blocks.specs.Checked.{IsChecked};
 
 use crate::fault::PackFault;
 use crate::packing::pack_all;
@@ -20,13 +23,18 @@ pub fn one_list_of_parts()
     ensures { (block : List ℕ) → HoldsOneList block }
 {}
 
+/// A block has no more parts than bytes, and none of them is longer than it.
+pub fn parts_fit()
+    ensures { (block : List ℕ) → PartsFit block }
+{}
+
 /// A block of format S with a part passes for at most one value of `begun`.
 pub fn one_begun()
     ensures { (block : List ℕ) → PassesForOne block }
 {}
 
-/// What the answer of a check says of a block, and what a block says of the answer, for callers that know the answer as a
-/// function on lists.
+/// What the answer of a check says of a block, and what a block says of the answer, for callers
+/// that know the answer as a function on lists.
 pub fn judged_as_held()
     ensures { (format : Format) (rec_len offset : ℕ) (begun : Bool) (block : List ℕ)
         → (format ≡ Fixed → 1 ≤ rec_len) → JudgedAsHeld format rec_len offset begun block }
@@ -52,6 +60,14 @@ pub fn ready_is_full()
     ensures { ReadyIsFull }
 {}
 
+/// What the rules of packing, and the laws, say of cases: each rule that stands in one clause alone
+/// says all that it should.
+pub fn cases()
+    ensures offers { CasesOfOffers }
+    ensures blocks { CasesOfBlocks }
+    ensures laws { CasesOfLaws }
+{}
+
 /// The spans of a checked block's parts, in order: what a `for` over the parts has seen are the
 /// parts that the block holds.
 ///
@@ -59,9 +75,7 @@ pub fn ready_is_full()
 ///
 /// Only where memory is refused.
 pub fn spans_of(alloc: Global, shape: &Shape, block: &[u8]) -> Result<Vec<Span>, AllocError>
-    requires { (begun : Bool) × (end : Bool) × (parts : List Portion)
-        × Holds shape.now.format shape.now.rec_len shape.now.offset block.now parts
-        × InOrder begun parts end }
+    requires { IsChecked shape.now block.now }
     ensures { IfOk result (λ spans. (parts : List Portion)
         → Holds shape.now.format shape.now.rec_len shape.now.offset block.now parts
         → spans.items ≡ map (λ p. p.span) parts) }
@@ -73,8 +87,8 @@ pub fn spans_of(alloc: Global, shape: &Shape, block: &[u8]) -> Result<Vec<Span>,
     Ok(spans)
 }
 
-/// The records that blocks hold, each block's parts joined to those before. Blocks that were packed hold the records that
-/// they were packed from ([`packed_blocks_hold`]).
+/// The records that blocks hold, each block's parts joined to those before. Blocks that were packed
+/// hold the records that they were packed from ([`packed_blocks_hold`]).
 ///
 /// # Errors
 ///

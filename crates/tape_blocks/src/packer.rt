@@ -1,19 +1,21 @@
 //! Records packed into blocks.
 
-ghost use Rattle.std.specs.Prelude.{◌≡◌, ◌≢◌, ◌+◌, ◌≤◌, ◌⊎◌, [], true, false, IfOk, IfErr, IfSome, IfNone, length, ⊤, IsTrue, ◌↔◌};
+ghost use Rattle.std.specs.Prelude.{◌≡◌, ◌≢◌, ◌+◌, ◌≤◌, ◌⊎◌, [], true, false, IfOk, IfErr, IfSome};
+ghost use Rattle.std.specs.Prelude.{IfNone, length, replicate, vec_capacity, ⊤, IsTrue, ◌↔◌};
 ghost use Rattle.std.specs.Borrow.{sem};
 ghost use Rattle.tape_blocks.specs.Block.{Portion, IsUnit, head_len};
-ghost use Rattle.tape_blocks.specs.Packing.{Packing, Given, IsWritable, Offers, IsJudged, IsRefused, emptied, size_of, with_part};
+ghost use Rattle.tape_blocks.specs.Packing.{Packing, Given, IsWritable, Offers, IsJudged};
+ghost use Rattle.tape_blocks.specs.Packing.{IsRefused, emptied, size_of, with_part};
 ghost use Rattle.tape_blocks.specs.Spans.{span_of};
 ghost use mathlib.Core.Option.{none};
 ghost use denote.Follow.{follows_so};
 
 use crate::fault::PackFault;
 use crate::offer::Offer;
-use crate::put::put_unit;
+use crate::put::{put_padding, put_unit};
 use crate::shape::Shape;
-use crate::writing::{has_record_length, has_room, head_len, is_writable, padded_len, span};
-use std::alloc::Global;
+use crate::writing::{has_record_length, has_room, head_len, padded_len, span};
+use std::alloc::{AllocError, Global};
 use std::marker::Model;
 use tape_label::Format;
 
@@ -24,13 +26,13 @@ use tape_label::Format;
 /// format F or D is closed only where the next record does not fit, one of format S where fewer
 /// than 6 bytes are free; so all blocks are as full as records allow.
 ///
-/// The block is reserved once, by `new`: no later call is handed an allocator, or answers that there
-/// is no memory.
+/// The block is made once, by `new`: no later call is handed an allocator, answers that there is no
+/// memory, or makes the block any larger.
 #[derive(Drop)]
 pub struct Packer {
     shape: Shape,
-    // The block under way is the first `len` bytes. What stands behind them is left of a block that
-    // was taken.
+    // As many bytes as a block may have, and room for no more. The block under way is the first
+    // `len` of them; what stands behind them counts for nothing.
     block: Vec<u8>,
     len: usize,
     begun: bool,
@@ -47,6 +49,18 @@ impl Model for Packer {
     ghost view = { packing };
 
     ghost invariant = { IsKept };
+}
+
+/// So many spaces, and room for no more.
+fn spaces(alloc: Global, count: usize) -> Result<Vec<u8>, AllocError>
+    ensures items { IfOk result (λ block. block.items ≡ replicate count 32) }
+    ensures room { IfOk result (λ block. vec_capacity block ≡ count) }
+{
+    let mut block = Vec::with_capacity(alloc, count)?;
+    for _ in 0..count {
+        block.push_reserved(b' ');
+    }
+    Ok(block)
 }
 
 impl Packer {
@@ -69,29 +83,22 @@ impl Packer {
             ((e ≡ PackFault.ShapeRange) × (IsWritable shape → ⊥))
             ⊎ ((e ≡ PackFault.OutOfMemory) × IsWritable shape)) }
     {
-        if !is_writable(&shape) {
+        if !shape.is_writable() {
             return Err(PackFault::ShapeRange);
         }
-        match Vec::with_capacity(alloc, shape.block_len as usize) {
-            Err(_) => Err(PackFault::OutOfMemory),
-            Ok(mut block) => {
-                let len = usize::from(shape.offset);
-                match block.resize(len, b' ') {
-                    Ok(()) => {}
-                    Err(_) => unreachable!(),
-                }
-                Ok(Packer {
-                    shape,
-                    block,
-                    len,
-                    begun: false,
-                    closed: false,
-                })
-            }
-        }
+        let Ok(block) = spaces(alloc, shape.block_len as usize) else {
+            return Err(PackFault::OutOfMemory);
+        };
+        Ok(Packer {
+            shape,
+            block,
+            len: usize::from(shape.offset),
+            begun: false,
+            closed: false,
+        })
     }
 
-    // A part behind the others.
+    /// A part behind the others.
     fn put_part(&mut self, goes_on: bool, bytes: &[u8])
         requires room { size_of self.old.shape self.old.parts
             + (head_len self.old.shape.format + length bytes.now) ≤ self.old.shape.block_len }
@@ -100,14 +107,10 @@ impl Packer {
         requires spanned { goes_on ≡ true → self.old.shape.format ≡ Format.Spanned }
         ensures { self.new ≡ with_part self.old goes_on bytes.now }
     {
-        self.block.truncate(self.len);
-        put_unit(
-            &mut self.block,
-            self.shape.format,
-            span(self.begun, goes_on),
-            bytes,
-        );
-        self.len = self.block.len();
+        let format = self.shape.format;
+        let span = span(self.begun, goes_on);
+        put_unit(self.block.as_mut_slice(), self.len, format, span, bytes);
+        self.len += head_len(format) + bytes.len();
         self.begun = goes_on;
         self.closed = goes_on;
     }
@@ -167,15 +170,11 @@ impl Packer {
         if self.len == offset {
             return None;
         }
-        self.block.truncate(self.len);
-        let len = padded_len(&self.shape, self.len);
-        match self.block.resize(len, b'^') {
-            Ok(()) => {}
-            Err(_) => unreachable!(),
-        }
+        let end = padded_len(&self.shape, self.len);
+        put_padding(self.block.as_mut_slice(), self.len, end);
         self.len = offset;
         self.closed = false;
-        Some(self.block.as_slice())
+        Some(&self.block[..end])
     }
 
     /// Whether a block is under way: one that holds a part and was not taken yet.

@@ -2,7 +2,8 @@
 
 ghost use Rattle.std.specs.Prelude.{◌≡◌, ◌≢◌, List, [], ◌∷◌, ◌++◌, OnOk, IfOk, IfErr};
 ghost use Rattle.tape_blocks.specs.Packing.{Given, IsWritable, emptied};
-ghost use Rattle.tape_blocks.specs.Records.{contents, AreRecordsOf, IsRefusedFor, RefusesRecord, PutsRecord};
+ghost use Rattle.tape_blocks.specs.Records.{contents, AreRecordsOf, IsRefusedFor, RefusesRecord};
+ghost use Rattle.tape_blocks.specs.Records.{PutsRecord};
 ghost use Rattle.tape_blocks.specs.Tight.{Packs};
 
 use crate::fault::PackFault;
@@ -11,7 +12,7 @@ use crate::packer::Packer;
 use crate::shape::Shape;
 use std::alloc::Global;
 
-// A copy of the block under way, if there is one, behind the others.
+/// A copy of the block under way, if there is one, behind the others.
 fn give(alloc: Global, packer: &mut Packer, blocks: &mut Vec<Vec<u8>>) -> Result<(), PackFault>
     ensures err { IfErr result (λ e. e ≡ PackFault.OutOfMemory) }
     ensures taken { OnOk result (packer.new ≡ emptied packer.old) }
@@ -30,7 +31,7 @@ fn give(alloc: Global, packer: &mut Packer, blocks: &mut Vec<Vec<u8>>) -> Result
     Ok(())
 }
 
-// A whole record, each block copied when it is ready.
+/// A whole record, each block copied when it is ready.
 fn put_record(
     alloc: Global,
     packer: &mut Packer,

@@ -1,6 +1,6 @@
 //! The parts of a block, lent from it.
 
-ghost use Rattle.std.specs.Prelude.{◌≡◌, ◌≤◌, List, Bool};
+ghost use Rattle.std.specs.Prelude.{◌≡◌, ◌≤◌, List};
 ghost use Rattle.tape_label.specs.declared.values.Format.TheVariants.{Fixed};
 
 use crate::part::Part;
@@ -20,14 +20,12 @@ pub struct Parts<'a> {
 
 impl<'a> Parts<'a> {
     ghost use Rattle.tape_blocks.specs.Block.{Portion, Holds};
-    ghost use Rattle.tape_blocks.specs.Spans.{InOrder};
+    ghost use Rattle.tape_blocks.specs.Checked.{IsChecked};
     ghost use Rattle.tape_blocks.specs.PartsLeft.{parts_left};
 
     /// The parts of a block that passes [`check_block`](crate::check_block) for some `begun`.
     pub fn new(shape: &Shape, block: &'a [u8]) -> Parts<'a>
-        requires { (begun : Bool) × (end : Bool) × (parts : List Portion)
-            × Holds shape.now.format shape.now.rec_len shape.now.offset block.now parts
-            × InOrder begun parts end }
+        requires { IsChecked shape.now block.now }
         ensures { (parts : List Portion)
             → Holds shape.now.format shape.now.rec_len shape.now.offset block.now parts
             → parts_left result ≡ parts }

@@ -1,34 +1,33 @@
-//! Units put behind a block that has room for them.
+//! What is put at a place of a block that has room for it.
 
-ghost use Rattle.std.specs.Prelude.{◌≡◌, ◌+◌, ◌<◌, ◌≤◌, ◌++◌, length, vec_len, vec_capacity, ◌≢◌};
+ghost use Rattle.std.specs.Prelude.{◌≡◌, ◌≢◌, ◌+◌, ◌-◌, ◌<◌, ◌≤◌, ◌++◌, length, take, replicate};
 ghost use Rattle.tape_label.specs.Digits.{digits};
 ghost use Rattle.tape_blocks.specs.Block.{Portion, IsUnit, spelling, indicator, head_len};
 
 use crate::part::Span;
+use crate::writing::head_len;
 use tape_label::{Format, digits_of};
 
-fn put(block: &mut Vec<u8>, text: &[u8])
-    requires { vec_len block.old + length text.now ≤ vec_capacity block.old }
-    ensures items { block.new.items ≡ block.old.items ++ text.now }
-    ensures len { vec_len block.new ≡ vec_len block.old + length text.now }
-    ensures capacity { vec_capacity block.old ≤ vec_capacity block.new }
+/// The text at this place.
+fn put(block: &mut [u8], place: usize, text: &[u8])
+    requires { place + length text.now ≤ length block.old }
+    ensures front { take (place + length text.now) block.new ≡ take place block.old ++ text.now }
+    ensures len { length block.new ≡ length block.old }
 {
-    match block.extend_from_slice(text) {
-        Ok(()) => {}
-        Err(_) => unreachable!(),
-    }
+    block[place..place + text.len()].copy_from_slice(text);
 }
 
-fn put_count(block: &mut Vec<u8>, count: usize)
-    requires room { vec_len block.old + 4 ≤ vec_capacity block.old }
+/// The count in four digits at this place.
+fn put_count(block: &mut [u8], place: usize, count: usize)
+    requires room { place + 4 ≤ length block.old }
     requires fits { count < 10000 }
-    ensures items { block.new.items ≡ block.old.items ++ digits 4 count }
-    ensures len { vec_len block.new ≡ vec_len block.old + 4 }
-    ensures capacity { vec_capacity block.old ≤ vec_capacity block.new }
+    ensures front { take (place + 4) block.new ≡ take place block.old ++ digits 4 count }
+    ensures len { length block.new ≡ length block.old }
 {
-    put(block, &digits_of::<4>(count as u64));
+    put(block, place, &digits_of::<4>(count as u64));
 }
 
+/// The character that indicates the span.
 fn indicator(span: Span) -> u8
     ensures { result ≡ indicator span }
 {
@@ -40,22 +39,31 @@ fn indicator(span: Span) -> u8
     }
 }
 
-/// The unit of a part, behind the block.
-pub(crate) fn put_unit(block: &mut Vec<u8>, format: Format, span: Span, bytes: &[u8])
-    requires room { vec_len block.old + (head_len format + length bytes.now) ≤ vec_capacity block.old }
+/// The unit of a part at this place.
+pub(crate) fn put_unit(block: &mut [u8], place: usize, format: Format, span: Span, bytes: &[u8])
+    requires room { place + (head_len format + length bytes.now) ≤ length block.old }
     requires fits { format ≢ Format.Fixed → head_len format + length bytes.now < 10000 }
-    ensures items { block.new.items
-        ≡ block.old.items ++ spelling format (record { span = span; bytes = bytes.now }) }
-    ensures len { vec_len block.new ≡ vec_len block.old + (head_len format + length bytes.now) }
-    ensures capacity { vec_capacity block.old ≤ vec_capacity block.new }
+    ensures front { take (place + (head_len format + length bytes.now)) block.new
+        ≡ take place block.old ++ spelling format (record { span = span; bytes = bytes.now }) }
+    ensures len { length block.new ≡ length block.old }
 {
     match format {
         Format::Fixed => {}
-        Format::Counted => put_count(block, 4 + bytes.len()),
+        Format::Counted => put_count(block, place, 4 + bytes.len()),
         Format::Spanned => {
-            put(block, &[indicator(span)]);
-            put_count(block, 5 + bytes.len());
+            put(block, place, &[indicator(span)]);
+            put_count(block, place + 1, 5 + bytes.len());
         }
     }
-    put(block, bytes);
+    put(block, place + head_len(format), bytes);
+}
+
+/// Circumflexes from this place up to the end.
+pub(crate) fn put_padding(block: &mut [u8], place: usize, end: usize)
+    requires order { place ≤ end }
+    requires room { end ≤ length block.old }
+    ensures front { take end block.new ≡ take place block.old ++ replicate (end - place) 94 }
+    ensures len { length block.new ≡ length block.old }
+{
+    block[place..end].fill(b'^');
 }

@@ -1,6 +1,6 @@
 //! How a file's records stand in its blocks.
 
-ghost use Rattle.std.specs.Prelude.{◌≡◌, ◌≤◌, false};
+ghost use Rattle.std.specs.Prelude.{◌≡◌, ◌≤◌, ◌↔◌, IsTrue, false};
 ghost use Rattle.tape_label.specs.declared.values.Format.TheVariants.{Fixed};
 
 use tape_label::{Format, Head2};
@@ -26,6 +26,8 @@ pub struct Shape {
 }
 
 impl Shape {
+    ghost use Rattle.tape_blocks.specs.Packing.{IsWritable};
+
     /// The shape that a second label tells, with `pad_full` false.
     pub fn of(label: &Head2) -> Shape
         requires { label.now.format ≡ Format.Fixed → 1 ≤ label.now.rec_len }
@@ -41,6 +43,28 @@ impl Shape {
             rec_len: label.rec_len,
             offset: label.offset,
             pad_full: false,
+        }
+    }
+
+    /// Whether blocks of this shape are written: the shapes that
+    /// [`Packer::new`](crate::Packer::new) takes.
+    pub fn is_writable(&self) -> bool
+        ensures { IsTrue result ↔ IsWritable self.now }
+    {
+        let block_len = self.block_len;
+        let rec_len = self.rec_len;
+        let offset = u32::from(self.offset);
+        if block_len < 18 || block_len > 99_999 || offset > 99 {
+            return false;
+        }
+        match self.format {
+            Format::Fixed => rec_len >= 18
+                && rec_len <= block_len - offset.min(block_len)
+                && !self.pad_full,
+            Format::Counted => rec_len >= 4 && rec_len <= 9_999 && offset + rec_len <= block_len,
+            Format::Spanned => {
+                rec_len == 0 && block_len <= 9_999 && offset + 6 <= block_len && !self.pad_full
+            }
         }
     }
 }

@@ -16,12 +16,14 @@ pub(crate) struct Found {
     pub len: usize,
 }
 
+/// No unit stands at the front, for this cause.
 fn fault(cause: BlockCause) -> Result<Option<Found>, BlockFault>
     ensures { result ≡ Err (record { place = 0; cause = cause }) }
 {
     Err(BlockFault { place: 0, cause })
 }
 
+/// The first place of a byte that is no circumflex.
 fn first_other(bytes: &[u8]) -> Option<usize>
     ensures value { result ≡ first_other bytes.now }
     ensures inside { IfSome result (λ place. place < length bytes.now) }
@@ -29,6 +31,7 @@ fn first_other(bytes: &[u8]) -> Option<usize>
     bytes.iter().position(|c| *c != b'^')
 }
 
+/// Padding up to the end, or the first other byte.
 fn padding(bytes: &[u8]) -> Result<Option<Found>, BlockFault>
     ensures exact { result ≡ padding_by (first_other bytes.now) }
     ensures none { IfOk result (λ unit. unit ≡ None) }
@@ -43,6 +46,7 @@ fn padding(bytes: &[u8]) -> Result<Option<Found>, BlockFault>
     }
 }
 
+/// The span that a character indicates.
 fn span_by(indicator: u8) -> Option<Span>
     ensures { result ≡ span_by indicator }
 {
@@ -55,7 +59,8 @@ fn span_by(indicator: u8) -> Option<Span>
     }
 }
 
-// The count stands in the last four characters of the head, and counts the head too.
+/// A unit with a count, which stands in the last four characters of the head and counts the head
+/// too.
 fn counted(span: Span, head: usize, bytes: &[u8]) -> Result<Option<Found>, BlockFault>
     requires { 4 ≤ head }
     ensures exact { result ≡ counted span head bytes.now }
@@ -78,7 +83,7 @@ fn counted(span: Span, head: usize, bytes: &[u8]) -> Result<Option<Found>, Block
     }
 }
 
-// A rest that is shorter than a record is padding.
+/// A record of the fixed length. A rest that is shorter than one is padding.
 #[tactic(auto, unfolding(crate::specs::Units::unit_at))]
 fn fixed(rec_len: usize, bytes: &[u8]) -> Result<Option<Found>, BlockFault>
     ensures exact { result ≡ unit_at Format.Fixed rec_len bytes.now }

@@ -2,33 +2,12 @@
 
 ghost use Rattle.std.specs.Prelude.{◌≡◌, ◌≤◌, IsTrue, ◌↔◌};
 ghost use Rattle.tape_blocks.specs.Block.{head_len};
-ghost use Rattle.tape_blocks.specs.Packing.{IsWritable, HasRecordLength, padded_len, least_room};
+ghost use Rattle.tape_blocks.specs.Packing.{HasRecordLength, padded_len, least_room};
 ghost use Rattle.tape_blocks.specs.Spans.{span_of};
 
 use crate::part::Span;
 use crate::shape::Shape;
 use tape_label::Format;
-
-/// Whether blocks of this shape are written.
-pub(crate) fn is_writable(shape: &Shape) -> bool
-    ensures { IsTrue result ↔ IsWritable shape.now }
-{
-    let block_len = shape.block_len;
-    let rec_len = shape.rec_len;
-    let offset = u32::from(shape.offset);
-    if block_len < 18 || block_len > 99_999 || offset > 99 {
-        return false;
-    }
-    match shape.format {
-        Format::Fixed => rec_len >= 18
-            && rec_len <= block_len - offset.min(block_len)
-            && !shape.pad_full,
-        Format::Counted => rec_len >= 4 && rec_len <= 9_999 && offset + rec_len <= block_len,
-        Format::Spanned => {
-            rec_len == 0 && block_len <= 9_999 && offset + 6 <= block_len && !shape.pad_full
-        }
-    }
-}
 
 /// Whether a record of this length is written.
 pub(crate) fn has_record_length(format: Format, rec_len: u32, len: usize) -> bool

@@ -73,6 +73,7 @@ fn writes_no_other_shapes(rt: HostRuntime) {
         far,
     ];
     for shape in refused {
+        assert!(rt; !shape.is_writable(), "{shape:?}");
         assert!(rt;
             Packer::new(alloc, shape).is_err_and(|e| e == PackFault::ShapeRange),
             "{shape:?}"
@@ -88,6 +89,7 @@ fn writes_no_other_shapes(rt: HostRuntime) {
         near,
     ];
     for shape in written {
+        assert!(rt; shape.is_writable(), "{shape:?}");
         assert!(rt; Packer::new(alloc, shape).is_ok(), "{shape:?}");
     }
 }

@@ -78,16 +78,11 @@ fn spans_go_on_and_leave_a_record_begun(rt: HostRuntime) {
 }
 
 #[test]
-fn laws_can_be_called(rt: HostRuntime) {
+fn spans_of_a_checked_block(rt: HostRuntime) {
     let block = b"30006A10007BC";
-    laws::one_list_of_parts();
-    laws::one_begun();
-    laws::judged_as_held();
-    laws::joins_on();
-    laws::begun_is_rest();
-    laws::ready_is_full();
-    laws::packed_blocks_hold();
     let shape = spanned(18);
+    // It goes on with a record, so it passes only where one is begun.
+    assert!(rt; refuses(&shape, false, block, 0, BlockCause::SpanBroken));
     if check_block(&shape, true, block).is_ok() {
         let spans = laws::spans_of(rt.alloc(), &shape, block);
         assert!(rt;

@@ -1,4 +1,5 @@
-use Rattle.std.proofs.Common.{◌≡◌, ◌+◌, false, [], ◌∷◌, ◌++◌, drop, Option, Some, None, Result, Ok, Err, refl, sym, ap, ◌∙◌, arith}
+use Rattle.std.proofs.Common.{◌≡◌, ◌+◌, false, [], ◌∷◌, ◌++◌, drop, Option, Some, None, Result, Ok}
+use Rattle.std.proofs.Common.{Err, refl, sym, ap, ◌∙◌, arith}
 use Rattle.std.proofs.lemmas.List.{length-drop, take_rest}
 use Rattle.tape_blocks.specs.declared.fault.BlockFault.{BlockFault}
 use Rattle.tape_blocks.specs.declared.unit.Found.{Found}
@@ -7,7 +8,7 @@ use Rattle.tape_blocks.specs.Parts.{portion}
 use Rattle.tape_blocks.specs.Spans.{continues}
 use Rattle.tape_blocks.specs.Units.{unit_at}
 use Rattle.tape_blocks.proofs.FrontLaws.{begins_more, InOrder-append, bool_eq-true}
-use Rattle.tape_blocks.proofs.JudgedLaws.{judged_where, judged_short}
+use Rattle.tape_blocks.proofs.LongestFronts.{judged_where, judged_short}
 use Rattle.tape_blocks.proofs.check.judge.Goals as goal
 
 abbrev ok_of : Option Found → Result (Option Found) BlockFault
@@ -16,28 +17,43 @@ ok_of o = Ok o
 pub returns-then-block-offset : goal.returns-then-block-offset
 returns-then-block-offset c =
     let shape = c.args.shape.now in
-    sym (judged_short shape.format shape.rec_len shape.offset c.args.begun c.args.block.now (omega (arith, c.if-block-offset.true, c.from-offset.ensures)))
+    c.refuse.ensures ∙ sym (judged_short shape.format shape.rec_len shape.offset c.args.begun
+    c.args.block.now (omega (arith, c.if-block-offset.true, c.from-offset.ensures)))
 
 pub returns-in-Err : goal.returns-in-Err
 returns-in-Err c =
     let shape = c.args.shape.now in
-    let unit : unit_at shape.format shape.rec_len (drop c.units.place c.args.block.now) ≡ Err c.in-Err.fault = sym (rw (take_rest c.args.block.now c.units.place) at c.in-Err.ensures.exact) in
-    sym (judged_where shape.format shape.rec_len shape.offset c.args.begun c.args.block.now c.units.invariant.front.0 c.units.going c.units.place (Err c.in-Err.fault) shape.some_record c.units.invariant.inside c.units.invariant.front.1 unit tt)
+    let unit : unit_at shape.format shape.rec_len (drop c.units.place c.args.block.now)
+    ≡ Err c.in-Err.fault =
+    sym (rw (take_rest c.args.block.now c.units.place) at c.in-Err.ensures.exact) in
+    c.refuse-in-Err.ensures ∙ sym (judged_where shape.format shape.rec_len shape.offset c.args.begun
+    c.args.block.now c.units.invariant.front.0 c.units.going c.units.place (Err c.in-Err.fault)
+    shape.some_record c.units.invariant.inside c.units.invariant.front.1 unit tt)
 
 pub returns-in-Ok-None : goal.returns-in-Ok-None
 returns-in-Ok-None c =
     let shape = c.args.shape.now in
-    let unit : unit_at shape.format shape.rec_len (drop c.units.place c.args.block.now) ≡ Ok None = sym (rw (take_rest c.args.block.now c.units.place) at c.in-Ok-None.ensures.exact) ∙ ap ok_of c.in-Ok-None.field-0-is in
-    sym (judged_where shape.format shape.rec_len shape.offset c.args.begun c.args.block.now c.units.invariant.front.0 c.units.going c.units.place (Ok None) shape.some_record c.units.invariant.inside c.units.invariant.front.1 unit tt)
+    let unit : unit_at shape.format shape.rec_len (drop c.units.place c.args.block.now) ≡ Ok None =
+    sym (rw (take_rest c.args.block.now c.units.place) at c.in-Ok-None.ensures.exact)
+    ∙ ap ok_of c.in-Ok-None.field-0-is in
+    sym (judged_where shape.format shape.rec_len shape.offset c.args.begun c.args.block.now
+    c.units.invariant.front.0 c.units.going c.units.place
+    (Ok None) shape.some_record c.units.invariant.inside c.units.invariant.front.1 unit tt)
 
 pub returns-then-not-may_follow : goal.returns-then-not-may_follow
 returns-then-not-may_follow c =
     let shape = c.args.shape.now in
-    let unit : unit_at shape.format shape.rec_len (drop c.units.place c.args.block.now) ≡ Ok (Some c.in-Ok-Some.found) = sym (rw (take_rest c.args.block.now c.units.place) at c.in-Ok-Some.ensures.exact) ∙ ap ok_of c.in-Ok-Some.field-0-is in
-    let breaks : bool_eq (continues c.in-Ok-Some.found.span) c.units.going ≡ false = sym c.may_follow.ensures ∙ c.if-not-may_follow.true in
+    let unit : unit_at shape.format shape.rec_len (drop c.units.place c.args.block.now)
+    ≡ Ok (Some c.in-Ok-Some.found) =
+    sym (rw (take_rest c.args.block.now c.units.place) at c.in-Ok-Some.ensures.exact)
+    ∙ ap ok_of c.in-Ok-Some.field-0-is in
+    let breaks : bool_eq (continues c.in-Ok-Some.found.span) c.units.going ≡ false =
+    sym c.may_follow.ensures ∙ c.if-not-may_follow.true in
     let z : c.units.place + 0 ≡ c.units.place = omega arith in
-    let by = judged_where shape.format shape.rec_len shape.offset c.args.begun c.args.block.now c.units.invariant.front.0 c.units.going c.units.place (Ok (Some c.in-Ok-Some.found)) shape.some_record c.units.invariant.inside c.units.invariant.front.1 unit breaks in
-    sym (by ∙ rw (breaks, z) refl)
+    let by = judged_where shape.format shape.rec_len shape.offset c.args.begun c.args.block.now
+    c.units.invariant.front.0 c.units.going c.units.place (Ok (Some c.in-Ok-Some.found))
+    shape.some_record c.units.invariant.inside c.units.invariant.front.1 unit breaks in
+    c.refuse-then-not-may_follow.ensures ∙ sym (by ∙ rw (breaks, z) refl)
 
 pub units-preserved : goal.units-preserved
 units-preserved c =
@@ -45,15 +61,23 @@ units-preserved c =
     let walk = c.units.invariant.front in
     let found = c.in-Ok-Some.found in
     let rest = drop c.units.place c.args.block.now in
-    let unit : unit_at shape.format shape.rec_len rest ≡ Ok (Some found) = sym (rw (take_rest c.args.block.now c.units.place) at c.in-Ok-Some.ensures.exact) ∙ ap ok_of c.in-Ok-Some.field-0-is in
-    let follows : continues found.span ≡ c.units.going = bool_eq-true (continues found.span) c.units.going (let t = c.if-not-may_follow.false in let e = c.may_follow.ensures in cc) in
+    let unit : unit_at shape.format shape.rec_len rest ≡ Ok (Some found) =
+    sym (rw (take_rest c.args.block.now c.units.place) at c.in-Ok-Some.ensures.exact)
+    ∙ ap ok_of c.in-Ok-Some.field-0-is in
+    let follows : continues found.span ≡ c.units.going = bool_eq-true (continues found.span)
+    c.units.going (let t = c.if-not-may_follow.false in let e = c.may_follow.ensures in cc) in
     record {
-      inside = let i = rw (take_rest c.args.block.now c.units.place, c.in-Ok-Some.field-0-is) at c.in-Ok-Some.ensures.inside in omega (arith, i.1, length-drop c.units.place c.args.block.now);
+      inside =
+          let i = rw (take_rest c.args.block.now c.units.place, c.in-Ok-Some.field-0-is) at
+          c.in-Ok-Some.ensures.inside in
+          omega (arith, i.1, length-drop c.units.place c.args.block.now);
       front = (
         walk.0 ++ portion found rest ∷ [],
         record {
-          begins = begins_more shape.format shape.rec_len shape.offset c.args.block.now walk.0 c.units.place found walk.1.begins unit;
-          order = InOrder-append c.args.begun c.units.going c.leaves-going.result walk.0 (portion found rest ∷ []) walk.1.order (follows, sym c.leaves-going.ensures);
+          begins = begins_more shape.format shape.rec_len shape.offset c.args.block.now walk.0
+              c.units.place found walk.1.begins unit;
+          order = InOrder-append c.args.begun c.units.going c.leaves-going.result walk.0
+              (portion found rest ∷ []) walk.1.order (follows, sym c.leaves-going.ensures);
         },
       );
     }

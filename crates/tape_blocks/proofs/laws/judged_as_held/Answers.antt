@@ -7,6 +7,7 @@ pub returns : goal.returns
 returns c = λ format rec_len offset begun block some. (
   λ end e. judged_found format rec_len offset begun end block some e,
   λ end parts holds order. judged_only format rec_len offset begun end block parts holds order,
-  answer_faults (judged format rec_len offset begun block) format rec_len offset begun block some refl,
+  answer_faults (judged format rec_len offset begun block) format rec_len offset begun
+      block some refl,
   λ f has. judged_by_fault format rec_len offset begun block f some has,
 )

@@ -7,9 +7,17 @@ use Rattle.tape_blocks.proofs.BackLaws.{packs_hold}
 use Rattle.tape_blocks.proofs.laws.packed_again.Goals as goal
 
 pub records_in_blocks-requires : goal.records_in_blocks-requires
-records_in_blocks-requires c =
-    (contents c.args.records.now, subst (λ (vs : List (Vec _ Global)). HoldRecords c.args.shape (contents vs) (contents c.args.records.now)) (sym c.as_slice.ensures.value) (packs_hold c.args.shape (contents c.args.records.now) (contents c.in_ok-blocks.blocks.items) c.in_ok-blocks.ensures.packed))
+records_in_blocks-requires c = (
+  contents c.args.records.now,
+  subst (λ (vs : List (Vec _ Global)). HoldRecords c.args.shape (contents vs) (contents
+      c.args.records.now)) (sym c.as_slice.ensures.value)
+      (packs_hold c.args.shape (contents c.args.records.now)
+      (contents c.in_ok-blocks.blocks.items) c.in_ok-blocks.ensures.packed),
+)
 
 pub returns-in-Ok-clause-same : goal.returns-in-Ok-clause-same
 returns-in-Ok-clause-same c =
-    c.in-Ok.ensures (contents c.args.records.now) (subst (λ (vs : List (Vec _ Global)). HoldRecords c.args.shape (contents vs) (contents c.args.records.now)) (sym c.as_slice.ensures.value) (packs_hold c.args.shape (contents c.args.records.now) (contents c.in_ok-blocks.blocks.items) c.in_ok-blocks.ensures.packed))
+    c.in-Ok.ensures (contents c.args.records.now) (subst (λ (vs : List (Vec _ Global)).
+    HoldRecords c.args.shape (contents vs) (contents c.args.records.now))
+    (sym c.as_slice.ensures.value) (packs_hold c.args.shape (contents c.args.records.now)
+    (contents c.in_ok-blocks.blocks.items) c.in_ok-blocks.ensures.packed))

@@ -8,9 +8,12 @@ use Rattle.tape_blocks.proofs.BackLaws.{HasJoined}
 use Rattle.tape_blocks.proofs.laws.records_in_blocks.Given as goal
 
 abbrev pub invariant-loop-block : goal.invariant-loop-block
-invariant-loop-block l = (held : List Filled) → bytes_of_all held ≡ contents l.blocks → AllHold l.shape held → InOrder false (parts_of_all held) false
+invariant-loop-block l = (held : List Filled) → bytes_of_all held ≡ contents l.blocks
+    → AllHold l.shape held → InOrder false (parts_of_all held) false
     → HasJoined (parts_of_all (take l.block-index held)) (contents l.records.items) l.record.items
 
 abbrev pub invariant-loop-part : goal.invariant-loop-part
-invariant-loop-part l = (held : List Filled) → bytes_of_all held ≡ contents l.blocks → AllHold l.shape held → InOrder false (parts_of_all held) false
-    → HasJoined (parts_of_all (take l.block-index held) ++ map view l.yielded) (contents l.records.items) l.record.items
+invariant-loop-part l = (held : List Filled) → bytes_of_all held ≡ contents l.blocks
+    → AllHold l.shape held → InOrder false (parts_of_all held) false
+    → HasJoined (parts_of_all (take l.block-index held)
+    ++ map view l.yielded) (contents l.records.items) l.record.items

@@ -8,7 +8,9 @@ use Rattle.tape_blocks.proofs.packing.put_record.Given as goal
 abbrev pub invariant-offers : goal.invariant-offers
 invariant-offers l = record {
   shape : l.packer.shape ≡ l.fn.packer.shape;
-  puts : (taken : List Filled) (records : List (List ℕ)) → RunOf taken l.fn.packer records → Puts taken records (contents l.fn.blocks.items) (contents l.blocks.items) l.packer l.fn.whole l.rest;
+  puts : (taken : List Filled) (records : List (List ℕ)) → RunOf taken l.fn.packer records
+      → Puts taken records (contents l.fn.blocks.items)
+      (contents l.blocks.items) l.packer l.fn.whole l.rest;
 }
 
 abbrev pub decreases-offers : goal.decreases-offers

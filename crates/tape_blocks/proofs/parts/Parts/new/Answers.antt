@@ -7,4 +7,5 @@ pub returns : goal.returns
 returns c = λ parts h.
     let s = c.args.shape.now in
     let b = c.args.block.now in
-    rw (c.from.ensures, take_rest b s.offset) (parts_are s.format s.rec_len parts (drop s.offset b) h.0 h.1.units h.2 h.1.body)
+    rw (c.from.ensures, take_rest b s.offset)
+    (parts_are s.format s.rec_len parts (drop s.offset b) h.0 h.1.units h.2 h.1.body)

@@ -1,0 +1,81 @@
+-- Padding: what no unit stands on, and its spelling read again.
+use Rattle.std.proofs.Common.{◌≡◌, ℕ, suc, ◌-◌, Bool, true, false, not, cond, ltb, eqb, List, []}
+use Rattle.std.proofs.Common.{◌∷◌, length, take, drop, Option, Some, None, Result, Ok, Err, refl}
+use Rattle.std.proofs.Common.{arith}
+use Rattle.std.specs.Str.{all_ascii_digits}
+use Rattle.std.proofs.lemmas.Bool.{ltb-true, lt-ltb}
+use Rattle.tape_label.specs.Digits.{number_of}
+use Rattle.tape_label.specs.declared.values.Format.{Format}
+use Rattle.tape_label.specs.declared.values.Format.TheVariants.{Fixed, Counted, Spanned}
+use Rattle.tape_blocks.specs.declared.fault.BlockCause.TheVariants.{BadCount, PastEnd}
+use Rattle.tape_blocks.specs.declared.fault.BlockFault.{BlockFault}
+use Rattle.tape_blocks.specs.declared.part.Span.{Span}
+use Rattle.tape_blocks.specs.declared.part.Span.TheVariants.{Whole}
+use Rattle.tape_blocks.specs.declared.unit.Found.{Found}
+use Rattle.tape_blocks.specs.Block.{first_other, IsPadding, span_by}
+use Rattle.tape_blocks.specs.Units.{padding_by, short_by, counted, spanned, unit_at}
+use Rattle.tape_blocks.specs.Faults.{fault}
+use Rattle.tape_blocks.proofs.UnitLaws.{some, none}
+
+-- ---- padding
+
+never_none : (a b c d : Bool) (e f : BlockFault) (x : Found)
+    → cond a (Err e) (cond (not b) (Err e) (cond c (Err e) (cond d (Err f) (some x)))) ≡ none → ⊥
+never_none true b c d e f x h = cc
+never_none false false c d e f x h = cc
+never_none false true true d e f x h = cc
+never_none false true false true e f x h = cc
+never_none false true false false e f x h = cc
+
+counted_never : (span : Span) (h : ℕ) (bytes : List ℕ) → counted span h bytes ≡ none → ⊥
+counted_never span h bytes e =
+    let ds = take 4 (drop (h - 4) bytes) in
+    never_none (ltb (length bytes) h) (all_ascii_digits ds) (ltb (number_of ds) h)
+    (ltb (length bytes) (number_of ds)) (fault 0 BadCount) (fault 0 PastEnd)
+    (record { span = span; head = h; len = number_of ds }) e
+
+spanned_never : (o : Option Span) (bytes : List ℕ) → spanned o bytes ≡ none → ⊥
+spanned_never None bytes e = cc
+spanned_never (Some s) bytes e = counted_never s 5 bytes e
+
+fixed_none : (b : Bool) (o : Option ℕ) (x : Found) → cond b (short_by o) (some x) ≡ none
+    → (b ≡ true) × (o ≡ None)
+fixed_none true None x e = (refl, refl)
+fixed_none true (Some n) x e = absurd cc
+fixed_none false o x e = absurd cc
+
+padding_none : (b : Bool) (o : Option ℕ) (r : Result (Option Found) BlockFault) → (r ≡ none → ⊥)
+    → cond b (padding_by o) r ≡ none → o ≡ None
+padding_none true None r h e = refl
+padding_none true (Some n) r h e = absurd cc
+padding_none false o r h e = absurd (h e)
+
+pub padding_found : (format : Format) (rec_len : ℕ) (bytes : List ℕ)
+    → unit_at format rec_len bytes ≡ Ok None → IsPadding format rec_len bytes
+unfolding unit_at
+padding_found Fixed rec_len bytes e =
+    let p = fixed_none (ltb (length bytes) rec_len) (first_other bytes)
+    (record { span = Whole; head = 0; len = rec_len }) e in
+    (p.1, ltb-true _ _ p.0)
+padding_found Counted rec_len [] e = refl
+padding_found Counted rec_len (c ∷ cs) e = padding_none (eqb c 94)
+    (first_other (c ∷ cs)) (counted Whole 4 (c ∷ cs)) (counted_never Whole 4 (c ∷ cs)) e
+padding_found Spanned rec_len [] e = refl
+padding_found Spanned rec_len (c ∷ cs) e = padding_none (eqb c 94)
+    (first_other (c ∷ cs)) (spanned (span_by c) (c ∷ cs)) (spanned_never (span_by c) (c ∷ cs)) e
+
+first_is : (c : ℕ) (cs : List ℕ) (b : Bool) → eqb c 94 ≡ b → first_other (c ∷ cs) ≡ None → b ≡ true
+first_is c cs true p e = refl
+first_is c cs false p e =
+    let lt : ltb 0 (suc (length cs)) ≡ true = lt-ltb _ _ (omega arith) in
+    let here : first_other (c ∷ cs) ≡ Some 0 = rw (p, lt) refl in
+    absurd cc
+
+pub padding_again : (format : Format) (rec_len : ℕ) (bytes : List ℕ)
+    → IsPadding format rec_len bytes → unit_at format rec_len bytes ≡ Ok None
+unfolding unit_at
+padding_again Fixed rec_len bytes is = rw (lt-ltb _ _ is.1, is.0) refl
+padding_again Counted rec_len [] is = refl
+padding_again Counted rec_len (c ∷ cs) is = rw (is, first_is c cs (eqb c 94) refl is) refl
+padding_again Spanned rec_len [] is = refl
+padding_again Spanned rec_len (c ∷ cs) is = rw (is, first_is c cs (eqb c 94) refl is) refl

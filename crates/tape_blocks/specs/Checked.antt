@@ -1,0 +1,17 @@
+-- Blocks that pass.
+use Rattle.std.specs.Prelude.{ℕ, Bool, List}
+use Rattle.tape_label.specs.declared.values.Format.{Format}
+use Rattle.tape_blocks.specs.declared.shape.Shape.{Shape}
+use Rattle.tape_blocks.specs.Block.{Portion, Holds}
+use Rattle.tape_blocks.specs.Spans.{InOrder}
+
+-- the block holds parts in span order, from a record begun or not to a record begun or not
+abbrev pub Passes : Format → ℕ → ℕ → Bool → List ℕ → Bool → Type 0
+Passes format rec_len offset begun block end =
+    (parts : List Portion) × Holds format rec_len offset block parts × InOrder begun parts end
+
+-- it does so for a record begun or not before it and behind it
+abbrev pub IsChecked : Shape → List ℕ → Type 0
+IsChecked shape block =
+    (begun : Bool) × (end : Bool) × (parts : List Portion)
+    × Holds shape.format shape.rec_len shape.offset block parts × InOrder begun parts end
