@@ -1,11 +1,15 @@
 -- Labels, blocks and sections of which the worked sets are made, and what they are lawful by.
-use Rattle.std.proofs.Common.{◌≡◌, ◌≤◌, ℕ, List, [], ◌∷◌, ◌++◌, length, Bool, true, false, refl, arith, codes}
+use Rattle.std.proofs.Common.{◌≡◌, ◌≤◌, ℕ, List, [], ◌∷◌, ◌++◌, length, Bool, true, false, refl}
+use Rattle.std.proofs.Common.{arith, codes}
 use Rattle.std.specs.Prelude.{map, replicate, if◌then◌else◌}
 use Rattle.std.specs.List.{AllByRecursion}
 use Rattle.tape_image.specs.Tape.{IsTapeItem, block, mark}
 use Rattle.tape_label.specs.declared.values.Kind.{Kind}
 use Rattle.tape_label.specs.declared.values.Kind.TheVariants as kinds
-use Rattle.tape_label.specs.declared.values.Kind.TheVariants.{Vol1 as AVol1, Hdr1 as AHdr1, Hdr2 as AHdr2, Eof1 as AEof1, Eof2 as AEof2, Eov1 as AEov1, Eov2 as AEov2}
+use Rattle.tape_label.specs.declared.values.Kind.TheVariants.{Vol1 as AVol1, Hdr1 as AHdr1}
+use Rattle.tape_label.specs.declared.values.Kind.TheVariants.{Hdr2 as AHdr2, Eof1 as AEof1}
+use Rattle.tape_label.specs.declared.values.Kind.TheVariants.{Eof2 as AEof2, Eov1 as AEov1}
+use Rattle.tape_label.specs.declared.values.Kind.TheVariants.{Eov2 as AEov2}
 use Rattle.tape_label.specs.declared.values.Vol1.{Vol1}
 use Rattle.tape_label.specs.declared.values.Head1.{Head1}
 use Rattle.tape_label.specs.declared.values.Trail1.{Trail1}
@@ -13,15 +17,18 @@ use Rattle.tape_label.specs.Kinds.{HasKind, IsSecond, identifier}
 use Rattle.tape_label.specs.Head1.{IsHead1, HeadFits}
 use Rattle.tape_label.specs.Head2.{IsHead2, Head2Fits}
 use Rattle.tape_label.specs.Trail1.{IsTrail1, TrailFits}
-use Rattle.tape_label.specs.Written.{text_of, vol1_pieces, head1_pieces, trail1_pieces, head2_pieces}
+use Rattle.tape_label.specs.Written.{text_of, vol1_pieces, head1_pieces, trail1_pieces}
+use Rattle.tape_label.specs.Written.{head2_pieces}
 use Rattle.tape_label.proofs.DigitLaws.{length-digits}
 use Rattle.tape_label.proofs.Texts.{head1_text_is, trail1_text_is, head2_text_is}
 use Rattle.tape_blocks.specs.declared.shape.Shape.{Shape}
 use Rattle.tape_blocks.specs.Block.{Portion, Holds}
 use Rattle.tape_blocks.specs.Packing.{written}
 use Rattle.tape_blocks.specs.Tight.{Filled}
-use Rattle.tape_set.specs.Layout.{Section, Volume, Entry, a_label, a_mark, item_of, data_group}
-use Rattle.tape_set.specs.Lawful.{IsVolume, IsSection, FileForm, HasForm, form_of}
+use Rattle.tape_set.specs.Layout.{Section, Volume, Entry, a_label, a_mark, item_of, section_entries}
+use Rattle.tape_set.specs.Layout.{data_group}
+use Rattle.tape_set.specs.Lawful.{IsVolume, IsSection, FileForm, HasForm, form_of, most_blocks}
+use Rattle.tape_set.specs.Lawful.{label_count}
 use Rattle.tape_set.specs.Tight.{second_of, HasPlainLabels}
 use Rattle.tape_set.proofs.Numbering.{placed}
 
@@ -31,7 +38,13 @@ abbrev pub set_id : List ℕ
 set_id = codes "ABC001"
 
 abbrev pub volume_fields : Vol1
-volume_fields = record { volume = set_id; access = 32; implementation = replicate 13 32; owner = replicate 14 32; version = 52 }
+volume_fields = record {
+  volume = set_id;
+  access = 32;
+  implementation = replicate 13 32;
+  owner = replicate 14 32;
+  version = 52;
+}
 
 abbrev pub head : ℕ → ℕ → Head1
 head file sect = record {
@@ -65,21 +78,75 @@ trailer eof file sect n = text_of (trail1_pieces (trail eof file sect n))
 pub vol1_is : HasKind vol1 kinds.Vol1
 vol1_is = record { size = refl; named = refl }
 
-pub hdr1_is : (file sect : ℕ) → HeadFits (head file sect) → IsHead1 (hdr1 file sect) (head file sect)
+pub hdr1_is : (file sect : ℕ) → HeadFits (head file sect)
+    → IsHead1 (hdr1 file sect) (head file sect)
 hdr1_is file sect fits =
-    head1_text_is (head file sect) fits
-    (refl, (refl, (refl, (length-digits 4 sect, (length-digits 4 file, (refl, (refl, (refl, (refl, (refl, (length-digits 6 0, (refl, (refl, tt)))))))))))))
+    head1_text_is (head file sect) fits (
+      refl,
+      (
+        refl,
+        (
+          refl,
+          (
+            length-digits 4 sect,
+            (
+              length-digits 4 file,
+              (refl, (refl, (refl, (refl, (refl, (length-digits 6 0, (refl, (refl, tt)))))))),
+            ),
+          ),
+        ),
+      ),
+    )
 
-pub trailer_is : (eof : Bool) (file sect n : ℕ) → TrailFits (trail eof file sect n) → IsTrail1 (trailer eof file sect n) (trail eof file sect n)
+pub trailer_is : (eof : Bool) (file sect n : ℕ) → TrailFits (trail eof file sect n)
+    → IsTrail1 (trailer eof file sect n) (trail eof file sect n)
 trailer_is true file sect n fits =
-    trail1_text_is (trail true file sect n) fits
-    (refl, (refl, (refl, (length-digits 4 sect, (length-digits 4 file, (refl, (refl, (refl, (refl, (refl, (length-digits 6 n, (refl, (refl, tt)))))))))))))
+    trail1_text_is (trail true file sect n) fits (
+      refl,
+      (
+        refl,
+        (
+          refl,
+          (
+            length-digits 4 sect,
+            (
+              length-digits 4 file,
+              (refl, (refl, (refl, (refl, (refl, (length-digits 6 n, (refl, (refl, tt)))))))),
+            ),
+          ),
+        ),
+      ),
+    )
 trailer_is false file sect n fits =
-    trail1_text_is (trail false file sect n) fits
-    (refl, (refl, (refl, (length-digits 4 sect, (length-digits 4 file, (refl, (refl, (refl, (refl, (refl, (length-digits 6 n, (refl, (refl, tt)))))))))))))
+    trail1_text_is (trail false file sect n) fits (
+      refl,
+      (
+        refl,
+        (
+          refl,
+          (
+            length-digits 4 sect,
+            (
+              length-digits 4 file,
+              (refl, (refl, (refl, (refl, (refl, (length-digits 6 n, (refl, (refl, tt)))))))),
+            ),
+          ),
+        ),
+      ),
+    )
 
-pub second_is : (kind : Kind) (shape : Shape) → IsSecond kind → Head2Fits (second_of shape) → IsHead2 (second kind shape) kind (second_of shape)
-second_is kind shape h fits = head2_text_is kind (second_of shape) h fits (four kind h, (refl, (length-digits 5 shape.block_len, (length-digits 5 shape.rec_len, (refl, (length-digits 2 shape.offset, (refl, tt)))))))
+pub second_is : (kind : Kind) (shape : Shape) → IsSecond kind → Head2Fits (second_of shape)
+    → IsHead2 (second kind shape) kind (second_of shape)
+second_is kind shape h fits = head2_text_is kind (second_of shape) h fits (
+  four kind h,
+  (
+    refl,
+    (
+      length-digits 5 shape.block_len,
+      (length-digits 5 shape.rec_len, (refl, (length-digits 2 shape.offset, (refl, tt)))),
+    ),
+  ),
+)
   where
     four : (k : Kind) → IsSecond k → length (identifier k) ≡ 4
     four AHdr2 h = refl
@@ -103,7 +170,7 @@ made shape volume file sect eof blocks = record {
   hdr2 = second kinds.Hdr2 shape;
   headers = [];
   blocks = blocks;
-  trailer = trailer eof file sect (length blocks);
+  trailer = trailer eof file sect (label_count (length blocks));
   trailers = second (second_kind eof) shape ∷ [];
 }
 
@@ -116,28 +183,38 @@ form shape = form_of (head 1 1) (second_of shape)
 
 -- ---- what they are lawful by
 
--- the numbers of a file, of a section and of its blocks fit their digits
+-- the numbers of a file and of a section fit their digits, and the section has not too many blocks
 pub record Fit (file sect n : ℕ) : Type 0 where
   pub file_least : 1 ≤ file
   pub file_most : file ≤ 9999
   pub sect_least : 1 ≤ sect
   pub sect_most : sect ≤ 9999
-  pub count_most : n ≤ 999999
+  pub count_most : n ≤ most_blocks
 
 head_fits : (file sect n : ℕ) → Fit file sect n → HeadFits (head file sect)
-head_fits file sect n fit = record { sect = (fit.sect_least, fit.sect_most); sequence = (fit.file_least, fit.file_most) }
+head_fits file sect n fit =
+    record { sect = (fit.sect_least, fit.sect_most); sequence = (fit.file_least, fit.file_most) }
 
-trail_fits : (eof : Bool) (file sect n : ℕ) → Fit file sect n → TrailFits (trail eof file sect n)
-trail_fits eof file sect n fit = record { head = head_fits file sect n fit; blocks = fit.count_most }
+-- the last six digits of a number fit six digits
+pub label_count_most : (n : ℕ) → label_count n ≤ 999999
+label_count_most n = omega arith
 
-pub sized_append : (xs ys : List Entry) → AllByRecursion IsTapeItem (map item_of xs) → AllByRecursion IsTapeItem (map item_of ys) → AllByRecursion IsTapeItem (map item_of (xs ++ ys))
+trail_fits : (eof : Bool) (file sect n : ℕ) → Fit file sect n
+    → TrailFits (trail eof file sect (label_count n))
+trail_fits eof file sect n fit =
+    record { head = head_fits file sect n fit; blocks = label_count_most n }
+
+pub sized_append : (xs ys : List Entry) → AllByRecursion IsTapeItem (map item_of xs)
+    → AllByRecursion IsTapeItem (map item_of ys)
+    → AllByRecursion IsTapeItem (map item_of (xs ++ ys))
 sized_append [] ys h g = g
 sized_append (x ∷ xs) ys h g = (h.0, sized_append xs ys h.1 g)
 
 pub eighty : (bytes : List ℕ) → length bytes ≡ 80 → IsTapeItem (block bytes)
 eighty bytes e = (omega (arith, e), omega (arith, e))
 
-pub second_sized : (kind : Kind) (shape : Shape) → IsSecond kind → Head2Fits (second_of shape) → IsTapeItem (block (second kind shape))
+pub second_sized : (kind : Kind) (shape : Shape) → IsSecond kind → Head2Fits (second_of shape)
+    → IsTapeItem (block (second kind shape))
 second_sized kind shape h fits = eighty (second kind shape) (second_is kind shape h fits).kind.size
 
 pub is_second : (eof : Bool) → IsSecond (second_kind eof)
@@ -145,45 +222,99 @@ is_second true = tt
 is_second false = tt
 
 -- what the header group and the trailer group of such a section are
-pub headers_sized : (shape : Shape) (file sect : ℕ) → Head2Fits (second_of shape) → HeadFits (head file sect)
-    → AllByRecursion IsTapeItem (block (hdr1 file sect) ∷ block (second kinds.Hdr2 shape) ∷ mark ∷ [])
-headers_sized shape file sect fits fit =
-    (eighty (hdr1 file sect) (hdr1_is file sect fit).kind.size, (second_sized kinds.Hdr2 shape tt fits, (tt, tt)))
+pub headers_sized : (shape : Shape) (file sect : ℕ) → Head2Fits (second_of shape)
+    → HeadFits (head file sect)
+    → AllByRecursion IsTapeItem (block (hdr1 file sect) ∷ block (second kinds.Hdr2 shape)
+    ∷ mark ∷ [])
+headers_sized shape file sect fits fit = (
+  eighty (hdr1 file sect) (hdr1_is file sect fit).kind.size,
+  (second_sized kinds.Hdr2 shape tt fits, (tt, tt)),
+)
 
-pub trailers_sized : (shape : Shape) (eof : Bool) (file sect n : ℕ) → Head2Fits (second_of shape) → TrailFits (trail eof file sect n)
-    → AllByRecursion IsTapeItem (mark ∷ block (trailer eof file sect n) ∷ block (second (second_kind eof) shape) ∷ mark ∷ [])
-trailers_sized shape eof file sect n fits fit =
-    (tt, (eighty (trailer eof file sect n) (trailer_is eof file sect n fit).kind.size, (second_sized (second_kind eof) shape (is_second eof) fits, (tt, tt))))
+pub trailers_sized : (shape : Shape) (eof : Bool) (file sect n : ℕ) → Head2Fits (second_of shape)
+    → TrailFits (trail eof file sect n)
+    → AllByRecursion IsTapeItem (mark ∷ block (trailer eof file sect n)
+    ∷ block (second (second_kind eof) shape) ∷ mark ∷ [])
+trailers_sized shape eof file sect n fits fit = (
+  tt,
+  (
+    eighty (trailer eof file sect n) (trailer_is eof file sect n fit).kind.size,
+    (second_sized (second_kind eof) shape (is_second eof) fits, (tt, tt)),
+  ),
+)
 
-pub made_section : (shape : Shape) (volumes volume file sect : ℕ) (eof : Bool) (blocks : List Filled) → Head2Fits (second_of shape) → Fit file sect (length blocks)
+-- what such a section is
+pub made_sized : (shape : Shape) (volume file sect : ℕ) (eof : Bool) (blocks : List Filled)
+    → Head2Fits (second_of shape) → HeadFits (head file sect)
+    → AllByRecursion IsTapeItem (map item_of (data_group blocks)) → AllByRecursion IsTapeItem
+    (map item_of (section_entries (made shape volume file sect eof blocks)))
+made_sized shape volume file sect eof blocks fits h data_sized =
+    let n = label_count (length blocks) in
+    sized_append (a_label (hdr1 file sect) ∷ a_label (second kinds.Hdr2 shape) ∷ a_mark
+    ∷ data_group blocks)
+    (a_mark ∷ a_label (trailer eof file sect n) ∷ a_label (second (second_kind eof) shape)
+    ∷ a_mark ∷ [])
+    (sized_append (a_label (hdr1 file sect) ∷ a_label (second kinds.Hdr2 shape) ∷ a_mark ∷ [])
+    (data_group blocks) (headers_sized shape file sect fits h) data_sized)
+    (trailers_sized shape eof file sect n fits
+    (record { head = h; blocks = label_count_most (length blocks) }))
+
+pub made_section : (shape : Shape) (volumes volume file sect : ℕ) (eof : Bool)
+    (blocks : List Filled) → Head2Fits (second_of shape) → Fit file sect (length blocks)
     → 1 ≤ volume → volume ≤ volumes → AllByRecursion IsTapeItem (map item_of (data_group blocks))
     → IsSection set_id volumes (placed file sect (made shape volume file sect eof blocks))
 made_section shape volumes volume file sect eof blocks fits fit least most data_sized =
     let h : HeadFits (head file sect) = head_fits file sect (length blocks) fit in
-    let t : TrailFits (trail eof file sect (length blocks)) = trail_fits eof file sect (length blocks) fit in
+    let n = label_count (length blocks) in
+    let t : TrailFits (trail eof file sect n) = trail_fits eof file sect (length blocks) fit in
     record {
-      header = (head file sect, record { label = hdr1_is file sect h; set_id = refl; file = refl; sect = refl });
-      trailer = (trail eof file sect (length blocks), record { label = trailer_is eof file sect (length blocks) t; file = refl; sect = refl; count = refl });
+      header = (
+        head file sect,
+        record { label = hdr1_is file sect h; set_id = refl; file = refl; sect = refl },
+      );
+      trailer = (
+        trail eof file sect n,
+        record { label = trailer_is eof file sect n t; file = refl; sect = refl; count = refl },
+      );
       volume = (least, most);
       few = fit.count_most;
-      sized =
-          sized_append (a_label (hdr1 file sect) ∷ a_label (second kinds.Hdr2 shape) ∷ a_mark ∷ data_group blocks)
-          (a_mark ∷ a_label (trailer eof file sect (length blocks)) ∷ a_label (second (second_kind eof) shape) ∷ a_mark ∷ [])
-          (sized_append (a_label (hdr1 file sect) ∷ a_label (second kinds.Hdr2 shape) ∷ a_mark ∷ []) (data_group blocks) (headers_sized shape file sect fits h) data_sized)
-          (trailers_sized shape eof file sect (length blocks) fits t);
+      sized = made_sized shape volume file sect eof blocks fits h data_sized;
     }
 
-pub made_form : (shape : Shape) (volume file sect : ℕ) (eof : Bool) (blocks : List Filled) → Head2Fits (second_of shape) → Fit file sect (length blocks)
-    → AllByRecursion (λ b. Holds (form shape).format (form shape).rec_len (form shape).offset b.bytes b.parts) blocks
+pub made_form : (shape : Shape) (volume file sect : ℕ) (eof : Bool) (blocks : List Filled)
+    → Head2Fits (second_of shape) → Fit file sect (length blocks)
+    → AllByRecursion (λ b. Holds (form shape).format (form shape).rec_len
+    (form shape).offset b.bytes b.parts) blocks
     → HasForm (form shape) (made shape volume file sect eof blocks)
 made_form shape volume file sect eof blocks fits fit held = record {
-  labels = record { head = head file sect; second = second_of shape; hdr1 = hdr1_is file sect (head_fits file sect (length blocks) fit); hdr2 = second_is kinds.Hdr2 shape tt fits; told = refl };
+  labels = record {
+    head = head file sect;
+    second = second_of shape;
+    hdr1 = hdr1_is file sect (head_fits file sect (length blocks) fit);
+    hdr2 = second_is kinds.Hdr2 shape tt fits;
+    told = refl;
+  };
   held = held;
 }
 
-pub made_plain : (shape : Shape) (volume file sect : ℕ) (eof : Bool) (blocks : List Filled) → Head2Fits (second_of shape) → HasPlainLabels shape (made shape volume file sect eof blocks)
-made_plain shape volume file sect true blocks fits = record { hdr2 = second_is kinds.Hdr2 shape tt fits; headers = refl; second = second kinds.Eof2 shape; trailers = refl; trailer2 = second_is kinds.Eof2 shape tt fits }
-made_plain shape volume file sect false blocks fits = record { hdr2 = second_is kinds.Hdr2 shape tt fits; headers = refl; second = second kinds.Eov2 shape; trailers = refl; trailer2 = second_is kinds.Eov2 shape tt fits }
+pub made_plain : (shape : Shape) (volume file sect : ℕ) (eof : Bool) (blocks : List Filled)
+    → Head2Fits (second_of shape) → HasPlainLabels shape (made shape volume file sect eof blocks)
+made_plain shape volume file sect true blocks fits =
+    record {
+      hdr2 = second_is kinds.Hdr2 shape tt fits;
+      headers = refl;
+      second = second kinds.Eof2 shape;
+      trailers = refl;
+      trailer2 = second_is kinds.Eof2 shape tt fits;
+    }
+made_plain shape volume file sect false blocks fits =
+    record {
+      hdr2 = second_is kinds.Hdr2 shape tt fits;
+      headers = refl;
+      second = second kinds.Eov2 shape;
+      trailers = refl;
+      trailer2 = second_is kinds.Eov2 shape tt fits;
+    }
 
 abbrev pub plain_volume : Volume
 plain_volume = record { vol1 = vol1; labels = [] }

@@ -1,5 +1,7 @@
--- The worked file: 25 records of 80 bytes in blocks of 800, on one volume and on two, and a file without records.
-use Rattle.std.proofs.Common.{◌≡◌, ◌≤◌, ℕ, zero, suc, ◌+◌, List, [], ◌∷◌, ◌++◌, length, Bool, true, false, refl, arith, codes, lit≤, lit<, length-append}
+-- The worked file: 25 records of 80 bytes in blocks of 800, on one volume and on two, and a file
+-- without records.
+use Rattle.std.proofs.Common.{◌≡◌, ◌≤◌, ℕ, zero, suc, ◌+◌, List, [], ◌∷◌, ◌++◌, length, true, false}
+use Rattle.std.proofs.Common.{refl, arith, codes, lit≤, lit<, length-append}
 use Rattle.std.specs.Prelude.{map, replicate}
 use Rattle.std.proofs.lemmas.List.{length-replicate}
 use Rattle.std.specs.List.{AllByRecursion}
@@ -22,22 +24,30 @@ use Rattle.tape_set.specs.Position.{awaiting}
 use Rattle.tape_set.specs.Layout.{FileSet, items, all_items, item_of, data_group}
 use Rattle.tape_set.specs.Sizes.{items_size}
 use Rattle.tape_set.specs.Before.{before}
-use Rattle.tape_set.specs.Lawful.{IsLawful}
-use Rattle.tape_set.specs.Reading.{Reading}
-use Rattle.tape_set.specs.Reach.{far}
+use Rattle.tape_set.specs.Lawful.{IsLawful, most_blocks}
 use Rattle.tape_set.specs.Tight.{IsTight, IsTightFile, second_of}
-use Rattle.tape_set.proofs.Worked.{set_id, vol1, hdr1, second, trailer, made, filled, form, Fit, made_section, made_form, made_plain, plain_volume, plain_volume_is}
+use Rattle.tape_set.proofs.Worked.{set_id, vol1, hdr1, second, trailer, made, filled, form, Fit}
+use Rattle.tape_set.proofs.Worked.{made_section, made_form, made_plain, plain_volume}
+use Rattle.tape_set.proofs.Worked.{plain_volume_is}
 
 -- ---- records and blocks
 
 abbrev pub shape : Shape
-shape = record { format = Fixed; block_len = 800; rec_len = 80; offset = 0; pad_full = false; some_record = λ _. lit≤ tt }
+shape = record {
+  format = Fixed;
+  block_len = 800;
+  rec_len = 80;
+  offset = 0;
+  pad_full = false;
+  some_record = λ _. lit≤ tt;
+}
 
 pub shape_fits : Head2Fits (second_of shape)
 shape_fits = record { block_len = lit≤ tt; rec_len = (lit≤ tt, lit≤ tt); offset = lit≤ tt }
 
 pub writable : IsWritable shape
-writable = record { least = lit≤ tt; most = lit≤ tt; front = lit≤ tt; units = (lit≤ tt, lit≤ tt, refl) }
+writable =
+    record { least = lit≤ tt; most = lit≤ tt; front = lit≤ tt; units = (lit≤ tt, lit≤ tt, refl) }
 
 -- the record with this number: the number in four digits, and 76 spaces
 abbrev pub record_of : ℕ → List ℕ
@@ -55,7 +65,12 @@ abbrev pub wholes : ℕ → ℕ → List Portion
 wholes i n = map whole (records i n)
 
 pub size_of_record : (i : ℕ) → length (record_of i) ≡ 80
-size_of_record i = omega (arith, length-append (digits 4 i) (replicate 76 32), length-digits 4 i, length-replicate {A = ℕ} 76 32)
+size_of_record i = omega (
+  arith,
+  length-append (digits 4 i) (replicate 76 32),
+  length-digits 4 i,
+  length-replicate {A = ℕ} 76 32,
+)
 
 pub units : (i n : ℕ) → AllByRecursion (IsUnit Fixed 80) (wholes i n)
 units i zero = tt
@@ -73,39 +88,77 @@ abbrev pub blocks : List Filled
 blocks = filled shape (wholes 1 10) ∷ filled shape (wholes 11 10) ∷ filled shape (wholes 21 5) ∷ []
 
 pub held : AllByRecursion (λ b. Holds Fixed 80 0 b.bytes b.parts) blocks
-held = (written_holds shape (wholes 1 10) (units 1 10), (written_holds shape (wholes 11 10) (units 11 10), (written_holds shape (wholes 21 5) (units 21 5), tt)))
+held = (
+  written_holds shape (wholes 1 10) (units 1 10),
+  (
+    written_holds shape (wholes 11 10) (units 11 10),
+    (written_holds shape (wholes 21 5) (units 21 5), tt),
+  ),
+)
 
 pub sized : AllByRecursion IsTapeItem (map item_of (data_group blocks))
 sized = ((lit< tt, lit≤ tt), ((lit< tt, lit≤ tt), ((lit< tt, lit≤ tt), tt)))
 
-pub fit_of : (sect n : ℕ) → 1 ≤ sect → sect ≤ 9999 → n ≤ 999999 → Fit 1 sect n
-fit_of sect n a b c = record { file_least = lit≤ tt; file_most = lit≤ tt; sect_least = a; sect_most = b; count_most = c }
+pub fit_of : (sect n : ℕ) → 1 ≤ sect → sect ≤ 9999 → n ≤ most_blocks → Fit 1 sect n
+fit_of sect n a b c = record {
+  file_least = lit≤ tt;
+  file_most = lit≤ tt;
+  sect_least = a;
+  sect_most = b;
+  count_most = c;
+}
 
 -- ---- on one volume
 
 abbrev pub one_volume : FileSet
-one_volume = record { set_id = set_id; volumes = plain_volume ∷ []; files = (made shape 1 1 1 true blocks ∷ []) ∷ [] }
+one_volume = record {
+  set_id = set_id;
+  volumes = plain_volume ∷ [];
+  files = (made shape 1 1 1 true blocks ∷ []) ∷ [];
+}
 
 pub one_volume_lawful : IsLawful one_volume
 one_volume_lawful = record {
   volumes = (plain_volume_is, tt);
-  each = (made_section shape 1 1 1 1 true blocks shape_fits (fit_of 1 3 (lit≤ tt) (lit≤ tt) (lit≤ tt)) (lit≤ tt) (lit≤ tt) sized, tt);
-  files = (record { ends = refl; alike = (form shape, (made_form shape 1 1 1 true blocks shape_fits (fit_of 1 3 (lit≤ tt) (lit≤ tt) (lit≤ tt)) held, tt)); order = in_order 1 25 }, tt);
+  each = (
+    made_section shape 1 1 1 1 true blocks shape_fits (fit_of 1 3 (lit≤ tt) (lit≤ tt) (lit≤ tt))
+        (lit≤ tt) (lit≤ tt) sized,
+    tt,
+  );
+  files = (
+    record {
+      ends = refl;
+      alike = (
+        form shape,
+        (
+          made_form shape 1 1 1 true blocks shape_fits
+              (fit_of 1 3 (lit≤ tt) (lit≤ tt) (lit≤ tt)) held,
+          tt,
+        ),
+      );
+      order = in_order 1 25;
+    },
+    tt,
+  );
   first = refl;
   goes_on = tt;
 }
 
 -- its labels, as they are written out in the standard's tables
-vol1_text : vol1 ≡ codes "VOL1ABC001                                                                     4"
+vol1_text : vol1
+    ≡ codes "VOL1ABC001                                                                     4"
 vol1_text = refl
 
-hdr1_text : hdr1 1 1 ≡ codes "HDR1PAYROLL          ABC00100010001000100 00000 00000 000000                    "
+hdr1_text : hdr1 1 1
+    ≡ codes "HDR1PAYROLL          ABC00100010001000100 00000 00000 000000                    "
 hdr1_text = refl
 
-hdr2_text : second kinds.Hdr2 shape ≡ codes "HDR2F0080000080                                   00                            "
+hdr2_text : second kinds.Hdr2 shape
+    ≡ codes "HDR2F0080000080                                   00                            "
 hdr2_text = refl
 
-eof1_text : trailer true 1 1 3 ≡ codes "EOF1PAYROLL          ABC00100010001000100 00000 00000 000003                    "
+eof1_text : trailer true 1 1 3
+    ≡ codes "EOF1PAYROLL          ABC00100010001000100 00000 00000 000003                    "
 eof1_text = refl
 
 -- its twelve items
@@ -145,17 +198,45 @@ packed = record {
   joins = refl;
   order = in_order 1 25;
   each = (
-    record { some = λ e. cc; text = refl; holds = held.0; within = lit≤ tt; segments = λ e. absurd (cc) },
+    record {
+      some = λ e. cc;
+      text = refl;
+      holds = held.0;
+      within = lit≤ tt;
+      segments = λ e. absurd (cc);
+    },
     (
-      record { some = λ e. cc; text = refl; holds = held.1.0; within = lit≤ tt; segments = λ e. absurd (cc) },
-      (record { some = λ e. cc; text = refl; holds = held.1.1.0; within = lit≤ tt; segments = λ e. absurd (cc) }, tt),
+      record {
+        some = λ e. cc;
+        text = refl;
+        holds = held.1.0;
+        within = lit≤ tt;
+        segments = λ e. absurd (cc);
+      },
+      (
+        record {
+          some = λ e. cc;
+          text = refl;
+          holds = held.1.1.0;
+          within = lit≤ tt;
+          segments = λ e. absurd (cc);
+        },
+        tt,
+      ),
     ),
   );
   closed = (lit< tt, (lit< tt, tt));
 }
 
 pub one_volume_tight_file : IsTightFile 100000 shape (made shape 1 1 1 true blocks ∷ [])
-one_volume_tight_file = record { writable = writable; room = lit≤ tt; labels = (made_plain shape 1 1 1 true blocks shape_fits, tt); records = records 1 25; lengths = lengths 1 25; packed = packed }
+one_volume_tight_file = record {
+  writable = writable;
+  room = lit≤ tt;
+  labels = (made_plain shape 1 1 1 true blocks shape_fits, tt);
+  records = records 1 25;
+  lengths = lengths 1 25;
+  packed = packed;
+}
 
 pub one_volume_tight : IsTight one_volume 100000 (shape ∷ [])
 one_volume_tight = record {
@@ -166,17 +247,27 @@ one_volume_tight = record {
   changes = tt;
 }
 
--- ---- on two volumes of 2,500 bytes: the file end does not fit behind the third block, and the second section is empty
+-- ---- on two volumes of 2,500 bytes: the file end does not fit behind the third block, and the
+-- second section is empty
 
 abbrev pub two_volumes : FileSet
-two_volumes = record { set_id = set_id; volumes = plain_volume ∷ plain_volume ∷ []; files = (made shape 1 1 1 false blocks ∷ made shape 2 1 2 true [] ∷ []) ∷ [] }
+two_volumes = record {
+  set_id = set_id;
+  volumes = plain_volume ∷ plain_volume ∷ [];
+  files = (made shape 1 1 1 false blocks ∷ made shape 2 1 2 true [] ∷ []) ∷ [];
+}
 
 pub two_volumes_lawful : IsLawful two_volumes
 two_volumes_lawful = record {
   volumes = (plain_volume_is, (plain_volume_is, tt));
   each = (
-    made_section shape 2 1 1 1 false blocks shape_fits (fit_of 1 3 (lit≤ tt) (lit≤ tt) (lit≤ tt)) (lit≤ tt) (lit≤ tt) sized,
-    (made_section shape 2 2 1 2 true [] shape_fits (fit_of 2 0 (lit≤ tt) (lit≤ tt) (lit≤ tt)) (lit≤ tt) (lit≤ tt) tt, tt),
+    made_section shape 2 1 1 1 false blocks shape_fits (fit_of 1 3 (lit≤ tt) (lit≤ tt) (lit≤ tt))
+        (lit≤ tt) (lit≤ tt) sized,
+    (
+      made_section shape 2 2 1 2 true [] shape_fits (fit_of 2 0 (lit≤ tt) (lit≤ tt) (lit≤ tt))
+          (lit≤ tt) (lit≤ tt) tt,
+      tt,
+    ),
   );
   files = (
     record {
@@ -184,8 +275,12 @@ two_volumes_lawful = record {
       alike = (
         form shape,
         (
-          made_form shape 1 1 1 false blocks shape_fits (fit_of 1 3 (lit≤ tt) (lit≤ tt) (lit≤ tt)) held,
-          (made_form shape 2 1 2 true [] shape_fits (fit_of 2 0 (lit≤ tt) (lit≤ tt) (lit≤ tt)) tt, tt),
+          made_form shape 1 1 1 false blocks shape_fits
+              (fit_of 1 3 (lit≤ tt) (lit≤ tt) (lit≤ tt)) held,
+          (
+            made_form shape 2 1 2 true [] shape_fits (fit_of 2 0 (lit≤ tt) (lit≤ tt) (lit≤ tt)) tt,
+            tt,
+          ),
         ),
       );
       order = in_order 1 25;
@@ -204,14 +299,20 @@ two_volumes_tight = record {
     record {
       writable = writable;
       room = lit≤ tt;
-      labels = (made_plain shape 1 1 1 false blocks shape_fits, (made_plain shape 2 1 2 true [] shape_fits, tt));
+      labels = (
+        made_plain shape 1 1 1 false blocks shape_fits,
+        (made_plain shape 2 1 2 true [] shape_fits, tt),
+      );
       records = records 1 25;
       lengths = lengths 1 25;
       packed = packed;
     },
     tt,
   );
-  ends = (record { volume_end = lit≤ tt; file_end = λ e. absurd (cc) }, (record { volume_end = lit≤ tt; file_end = λ e. refl }, tt));
+  ends = (
+    record { volume_end = lit≤ tt; file_end = λ e. absurd (cc) },
+    (record { volume_end = lit≤ tt; file_end = λ e. refl }, tt),
+  );
   changes = (refl, tt);
 }
 
@@ -222,76 +323,13 @@ two_volumes_sizes = refl
 -- ---- a file without records: nine items
 
 abbrev pub no_records : FileSet
-no_records = record { set_id = set_id; volumes = plain_volume ∷ []; files = (made shape 1 1 1 true [] ∷ []) ∷ [] }
-
-no_records_items : items no_records 1 ≡
-    block vol1 ∷ block (hdr1 1 1) ∷ block (second kinds.Hdr2 shape) ∷ mark ∷ mark ∷ block (trailer true 1 1 0) ∷ block (second kinds.Eof2 shape) ∷ mark ∷ mark ∷ []
-no_records_items = refl
-
--- ---- readings
-
-abbrev pub reading : ℕ → List Bool → Reading
-reading k good = record { volume = k; good = good }
-
--- cut behind the last block: the section's end is awaited, and nothing more of the file
-cut_behind_blocks : far one_volume 1 (awaiting 1 0) (reading 1 (replicate 7 true)) ≡ awaiting 1 3
-cut_behind_blocks = refl
-
--- cut behind the closing mark, and behind the trailer label
-cut_behind_mark : far one_volume 1 (awaiting 1 0) (reading 1 (replicate 8 true)) ≡ awaiting 1 3
-cut_behind_mark = refl
-
-cut_behind_trailer : far one_volume 1 (awaiting 1 0) (reading 1 (replicate 9 true)) ≡ Finished
-cut_behind_trailer = refl
-
--- cut behind the headers
-cut_behind_headers : far one_volume 1 (awaiting 1 0) (reading 1 (replicate 4 true)) ≡ awaiting 1 0
-cut_behind_headers = refl
-
--- the headers' mark was not read well: nothing behind it counts
-bad_header_mark : far one_volume 1 (awaiting 1 0) (reading 1 (replicate 3 true ++ false ∷ replicate 8 true)) ≡ awaiting 1 0
-bad_header_mark = refl
-
--- the section's end is known only where the trailer label was read well
-bad_trailer : far one_volume 1 (awaiting 1 0) (reading 1 (replicate 8 true ++ false ∷ replicate 3 true)) ≡ awaiting 1 3
-bad_trailer = refl
-
--- on two volumes: the second one alone gives nothing, then the first one its section, and then the second one the file
-later_section_first : far two_volumes 1 (awaiting 1 0) (reading 2 (replicate 9 true)) ≡ awaiting 1 0
-later_section_first = refl
-
-first_section : far two_volumes 1 (awaiting 1 0) (reading 1 (replicate 12 true)) ≡ awaiting 2 0
-first_section = refl
-
-first_section_again : far two_volumes 1 (awaiting 2 0) (reading 1 (replicate 12 true)) ≡ awaiting 2 0
-first_section_again = refl
-
-last_section : far two_volumes 1 (awaiting 2 0) (reading 2 (replicate 9 true)) ≡ Finished
-last_section = refl
-
--- in blocks of 400, five of them
-abbrev pub shorter : Shape
-shorter = record { format = Fixed; block_len = 400; rec_len = 80; offset = 0; pad_full = false; some_record = λ _. lit≤ tt }
-
-abbrev pub five_blocks : FileSet
-five_blocks = record {
+no_records = record {
   set_id = set_id;
   volumes = plain_volume ∷ [];
-  files = (made shorter 1 1 1 true (filled shorter (wholes 1 5) ∷ filled shorter (wholes 6 5) ∷ filled shorter (wholes 11 5) ∷ filled shorter (wholes 16 5) ∷ filled shorter (wholes 21 5) ∷ []) ∷ []) ∷ [];
+  files = (made shape 1 1 1 true [] ∷ []) ∷ [];
 }
 
--- block 3 was not read well, and is awaited
-block_3_bad : far five_blocks 1 (awaiting 1 0) (reading 1 (replicate 7 true ++ false ∷ replicate 6 true)) ≡ awaiting 1 3
-block_3_bad = refl
-
--- from there block 1 may be bad: it was delivered before
-block_1_bad : far five_blocks 1 (awaiting 1 3) (reading 1 (replicate 5 true ++ false ∷ replicate 8 true)) ≡ Finished
-block_1_bad = refl
-
--- ---- no section and no block that is not there
-
-no_section_0 : far one_volume 1 (awaiting 0 0) (reading 1 (replicate 12 true)) ≡ awaiting 0 0
-no_section_0 = refl
-
-no_block_4 : far one_volume 1 (awaiting 1 4) (reading 1 (replicate 12 true)) ≡ awaiting 1 4
-no_block_4 = refl
+no_records_items : items no_records 1 ≡
+    block vol1 ∷ block (hdr1 1 1) ∷ block (second kinds.Hdr2 shape) ∷ mark ∷ mark
+    ∷ block (trailer true 1 1 0) ∷ block (second kinds.Eof2 shape) ∷ mark ∷ mark ∷ []
+no_records_items = refl

@@ -1,5 +1,7 @@
--- A spanned record of 290 bytes on two volumes of 1,042 bytes: 22 blocks of 18 bytes and EOV1, one block and EOF1.
-use Rattle.std.proofs.Common.{◌≡◌, ◌≤◌, ℕ, zero, suc, List, [], ◌∷◌, ◌++◌, true, false, refl, codes, lit≤, lit<}
+-- A spanned record of 290 bytes on two volumes of 1,042 bytes: 22 blocks of 18 bytes and EOV1, one
+-- block and EOF1.
+use Rattle.std.proofs.Common.{◌≡◌, ◌≤◌, ℕ, zero, suc, List, [], ◌∷◌, ◌++◌, true, false, refl, codes}
+use Rattle.std.proofs.Common.{lit≤, lit<}
 use Rattle.std.specs.Prelude.{map, replicate}
 use Rattle.std.specs.List.{AllByRecursion}
 use Rattle.tape_image.specs.Tape.{IsTapeItem}
@@ -12,24 +14,39 @@ use Rattle.tape_blocks.specs.Spans.{InOrder}
 use Rattle.tape_blocks.specs.Packing.{written, IsWritable}
 use Rattle.tape_blocks.specs.Tight.{Filled, Chain, IsWritten, IsDue}
 use Rattle.tape_blocks.proofs.PackLaws.{written_holds}
-use Rattle.tape_set.specs.Layout.{FileSet, all_items, item_of, data_group}
+use Rattle.tape_set.specs.Layout.{FileSet, sections, all_items, item_of, data_group}
+use Rattle.tape_set.specs.Position.{awaiting, at_part}
 use Rattle.tape_set.specs.Sizes.{items_size}
-use Rattle.tape_set.specs.Lawful.{IsLawful}
-use Rattle.tape_set.specs.Tight.{IsTight, second_of}
-use Rattle.tape_set.proofs.Worked.{set_id, made, filled, form, Fit, made_section, made_form, made_plain, plain_volume, plain_volume_is}
+use Rattle.tape_set.specs.Before.{before}
+use Rattle.tape_set.specs.Lawful.{IsLawful, most_blocks}
+use Rattle.tape_set.specs.Tight.{IsTight, IsTightChange, ChainBehind, second_of}
+use Rattle.tape_set.proofs.Worked.{set_id, made, filled, form, Fit, made_section, made_form}
+use Rattle.tape_set.proofs.Worked.{made_plain, plain_volume, plain_volume_is}
 
 -- a format that is not F has no least record length
 pub not_fixed : Spanned ≡ Fixed → 1 ≤ 0
 not_fixed e = absurd (cc)
 
 abbrev pub shape : Shape
-shape = record { format = Spanned; block_len = 18; rec_len = 0; offset = 0; pad_full = false; some_record = not_fixed }
+shape = record {
+  format = Spanned;
+  block_len = 18;
+  rec_len = 0;
+  offset = 0;
+  pad_full = false;
+  some_record = not_fixed;
+}
 
 pub shape_fits : Head2Fits (second_of shape)
 shape_fits = record { block_len = lit≤ tt; rec_len = (lit≤ tt, lit≤ tt); offset = lit≤ tt }
 
 pub writable : IsWritable shape
-writable = record { least = lit≤ tt; most = lit≤ tt; front = lit≤ tt; units = (refl, lit≤ tt, lit≤ tt, refl) }
+writable = record {
+  least = lit≤ tt;
+  most = lit≤ tt;
+  front = lit≤ tt;
+  units = (refl, lit≤ tt, lit≤ tt, refl);
+}
 
 -- ---- segments and blocks
 
@@ -87,20 +104,24 @@ last_written = record {
   text = refl;
   holds = written_holds shape (last ∷ []) (lit< tt, tt);
   within = lit≤ tt;
-  segments = λ e. (record { room = lit≤ tt; fills = λ e. absurd (cc); empty = λ e. absurd (cc) }, tt);
+  segments =
+      λ e. (record { room = lit≤ tt; fills = λ e. absurd (cc); empty = λ e. absurd (cc) }, tt);
 }
 
 -- ---- many middle ones
 
-pub every_middle : (P : Filled → Type 0) (n : ℕ) → P middle_block → AllByRecursion P (replicate n middle_block)
+pub every_middle : (P : Filled → Type 0) (n : ℕ) → P middle_block
+    → AllByRecursion P (replicate n middle_block)
 every_middle P zero h = tt
 every_middle P (suc n) h = (h, every_middle P n h)
 
-pub middles_before : (P : Filled → Type 0) (n : ℕ) → P middle_block → P last_block → AllByRecursion P (replicate n middle_block ++ last_block ∷ [])
+pub middles_before : (P : Filled → Type 0) (n : ℕ) → P middle_block → P last_block
+    → AllByRecursion P (replicate n middle_block ++ last_block ∷ [])
 middles_before P zero h g = (g, tt)
 middles_before P (suc n) h g = (h, middles_before P n h g)
 
-pub middles_sized : (n : ℕ) → AllByRecursion IsTapeItem (map item_of (data_group (replicate n middle_block)))
+pub middles_sized : (n : ℕ)
+    → AllByRecursion IsTapeItem (map item_of (data_group (replicate n middle_block)))
 middles_sized zero = tt
 middles_sized (suc n) = ((lit< tt, lit≤ tt), middles_sized n)
 
@@ -108,7 +129,8 @@ pub middles_in_order : (n : ℕ) → InOrder true (replicate n middle ++ last �
 middles_in_order zero = (refl, refl)
 middles_in_order (suc n) = (refl, middles_in_order n)
 
-pub middles_closed : (n : ℕ) → Chain (IsDue shape) (middle_block ∷ replicate n middle_block ++ last_block ∷ [])
+pub middles_closed : (n : ℕ)
+    → Chain (IsDue shape) (middle_block ∷ replicate n middle_block ++ last_block ∷ [])
 middles_closed zero = (lit< tt, tt)
 middles_closed (suc n) = (lit< tt, middles_closed n)
 
@@ -124,15 +146,26 @@ spanned = record {
   files = (made shape 1 1 1 false on_first ∷ made shape 2 1 2 true (last_block ∷ []) ∷ []) ∷ [];
 }
 
-fit_of : (sect n : ℕ) → 1 ≤ sect → sect ≤ 9999 → n ≤ 999999 → Fit 1 sect n
-fit_of sect n a b c = record { file_least = lit≤ tt; file_most = lit≤ tt; sect_least = a; sect_most = b; count_most = c }
+fit_of : (sect n : ℕ) → 1 ≤ sect → sect ≤ 9999 → n ≤ most_blocks → Fit 1 sect n
+fit_of sect n a b c = record {
+  file_least = lit≤ tt;
+  file_most = lit≤ tt;
+  sect_least = a;
+  sect_most = b;
+  count_most = c;
+}
 
 spanned_lawful : IsLawful spanned
 spanned_lawful = record {
   volumes = (plain_volume_is, (plain_volume_is, tt));
   each = (
-    made_section shape 2 1 1 1 false on_first shape_fits (fit_of 1 22 (lit≤ tt) (lit≤ tt) (lit≤ tt)) (lit≤ tt) (lit≤ tt) ((lit< tt, lit≤ tt), middles_sized 21),
-    (made_section shape 2 2 1 2 true (last_block ∷ []) shape_fits (fit_of 2 1 (lit≤ tt) (lit≤ tt) (lit≤ tt)) (lit≤ tt) (lit≤ tt) ((lit< tt, lit≤ tt), tt), tt),
+    made_section shape 2 1 1 1 false on_first shape_fits (fit_of 1 22 (lit≤ tt) (lit≤ tt) (lit≤ tt))
+        (lit≤ tt) (lit≤ tt) ((lit< tt, lit≤ tt), middles_sized 21),
+    (
+      made_section shape 2 2 1 2 true (last_block ∷ []) shape_fits
+          (fit_of 2 1 (lit≤ tt) (lit≤ tt) (lit≤ tt)) (lit≤ tt) (lit≤ tt) ((lit< tt, lit≤ tt), tt),
+      tt,
+    ),
   );
   files = (
     record {
@@ -140,8 +173,16 @@ spanned_lawful = record {
       alike = (
         form shape,
         (
-          made_form shape 1 1 1 false on_first shape_fits (fit_of 1 22 (lit≤ tt) (lit≤ tt) (lit≤ tt)) (first_written.holds, every_middle (λ b. Holds Spanned 0 0 b.bytes b.parts) 21 middle_written.holds),
-          (made_form shape 2 1 2 true (last_block ∷ []) shape_fits (fit_of 2 1 (lit≤ tt) (lit≤ tt) (lit≤ tt)) (last_written.holds, tt), tt),
+          made_form shape 1 1 1 false on_first shape_fits
+              (fit_of 1 22 (lit≤ tt) (lit≤ tt) (lit≤ tt)) (
+                first_written.holds,
+                every_middle (λ b. Holds Spanned 0 0 b.bytes b.parts) 21 middle_written.holds,
+              ),
+          (
+            made_form shape 2 1 2 true (last_block ∷ []) shape_fits
+                (fit_of 2 1 (lit≤ tt) (lit≤ tt) (lit≤ tt)) (last_written.holds, tt),
+            tt,
+          ),
         ),
       );
       order = (refl, middles_in_order 21);
@@ -160,7 +201,10 @@ spanned_tight = record {
     record {
       writable = writable;
       room = lit≤ tt;
-      labels = (made_plain shape 1 1 1 false on_first shape_fits, (made_plain shape 2 1 2 true (last_block ∷ []) shape_fits, tt));
+      labels = (
+        made_plain shape 1 1 1 false on_first shape_fits,
+        (made_plain shape 2 1 2 true (last_block ∷ []) shape_fits, tt),
+      );
       records = the_record ∷ [];
       lengths = (lit≤ tt, tt);
       packed = record {
@@ -172,10 +216,25 @@ spanned_tight = record {
     },
     tt,
   );
-  ends = (record { volume_end = lit≤ tt; file_end = λ e. absurd (cc) }, (record { volume_end = lit≤ tt; file_end = λ e. refl }, tt));
+  ends = (
+    record { volume_end = lit≤ tt; file_end = λ e. absurd (cc) },
+    (record { volume_end = lit≤ tt; file_end = λ e. refl }, tt),
+  );
   changes = (refl, tt);
 }
+
+-- the parts of the first section stand before the second, the last of them before its end
+before_second : before spanned 1 (awaiting 2 0) ≡ first ∷ replicate 21 middle
+before_second = refl
+
+before_last : before spanned 1 (at_part 1 (awaiting 2 0)) ≡ first ∷ replicate 21 middle ++ last ∷ []
+before_last = refl
 
 -- with their end words the volumes have 1,032 and 486 bytes
 spanned_sizes : map items_size (all_items spanned) ≡ 1028 ∷ 482 ∷ []
 spanned_sizes = refl
+
+-- with one byte less than the next block and a volume end would need, the change is where it has to
+-- be
+just_no_room : ChainBehind (IsTightChange spanned.volumes 1057) [] (sections spanned)
+just_no_room = (refl, tt)

@@ -1,6 +1,7 @@
--- The file sets that the writer lays out: blocks as full as the rules of packing ask, and volumes as full as their
--- capacity allows, and no fuller.
-use Rattle.std.specs.Prelude.{◌≡◌, ℕ, ◌+◌, ◌==◌, ◌&&◌, nat_le, nat_lt, ◌≤◌, Bool, true, false, if◌then◌else◌, List, [], ◌∷◌, ◌++◌, length, MatchBool}
+-- The file sets that the writer lays out: blocks as full as the rules of packing ask, and volumes
+-- as full as their capacity allows, and no fuller.
+use Rattle.std.specs.Prelude.{◌≡◌, ℕ, ◌+◌, ◌==◌, nat_le, ◌≤◌, Bool, true, false, if◌then◌else◌}
+use Rattle.std.specs.Prelude.{List, [], ◌∷◌, ◌++◌, length, MatchBool}
 use Rattle.std.specs.List.{AllByRecursion}
 use Rattle.tape_image.specs.Tape.{block}
 use Rattle.tape_label.specs.declared.values.Kind.{Kind}
@@ -12,14 +13,21 @@ use Rattle.tape_blocks.specs.Packing.{IsWritable, HasRecordLength}
 use Rattle.tape_blocks.specs.Tight as packing
 use Rattle.tape_blocks.specs.Tight.{Filled}
 use Rattle.tape_set.specs.Before.{blocks_of_all}
-use Rattle.tape_set.specs.Layout.{FileSet, Section, Placed, Volume, sections, up_to_data, data_group, ends_file}
-use Rattle.tape_set.specs.Sizes.{item_size, entries_size, headers_size, file_end_size, volume_end_size}
+use Rattle.tape_set.specs.Layout.{FileSet, Section, Placed, Volume, sections, up_to_data}
+use Rattle.tape_set.specs.Layout.{data_group, ends_file}
+use Rattle.tape_set.specs.Sizes.{item_size, entries_size, headers_size, file_end_size}
+use Rattle.tape_set.specs.Sizes.{volume_end_size}
 
 -- ---- labels and blocks of a file
 
 -- what the second labels of a file of this shape tell
 abbrev pub second_of : Shape → Head2
-second_of shape = record { format = shape.format; block_len = shape.block_len; rec_len = shape.rec_len; offset = shape.offset }
+second_of shape = record {
+  format = shape.format;
+  block_len = shape.block_len;
+  rec_len = shape.rec_len;
+  offset = shape.offset;
+}
 
 -- EOF2 where the section ends its file, and EOV2 where the file goes on
 abbrev pub second_trailer : Section → Kind
@@ -37,8 +45,9 @@ pub record HasPlainLabels (shape : Shape) (s : Section) : Type 0 where
   pub trailers : s.trailers ≡ second ∷ []
   pub trailer2 : IsHead2 second (second_trailer s) (second_of shape)
 
--- The file's shape is one that is written, and the capacity has room for its labels and a block; its labels tell the shape, and
--- its blocks hold records of the shape's lengths, packed with no room wasted.
+-- The file's shape is one that is written, and the capacity has room for its labels and a block;
+-- its labels tell the shape, and its blocks hold records of the shape's lengths, packed with no
+-- room wasted.
 pub record IsTightFile (capacity : ℕ) (shape : Shape) (f : List Section) : Type 0 where
   pub writable : IsWritable shape
   pub room : least_capacity shape ≤ capacity
@@ -50,45 +59,47 @@ pub record IsTightFile (capacity : ℕ) (shape : Shape) (f : List Section) : Typ
 -- Each file is tight in its shape, of which there is one for each.
 abbrev pub AreTightFiles : ℕ → List Shape → List (List Section) → Type 0
 AreTightFiles capacity [] [] = Unit {0}
-AreTightFiles capacity (shape ∷ shapes) (f ∷ fs) = IsTightFile capacity shape f × AreTightFiles capacity shapes fs
+AreTightFiles capacity (shape ∷ shapes) (f ∷ fs) =
+    IsTightFile capacity shape f × AreTightFiles capacity shapes fs
 AreTightFiles capacity _ _ = ⊥
 
 -- ---- the change of volumes
 
--- how many data blocks of a section are written at most
-abbrev pub most_written : ℕ
-most_written = 999999
-
--- whether a block of this size is written where so much of the volume is used and the section has so many blocks: a volume end
--- has to fit behind it, and the section has fewer than the most blocks
-abbrev pub takes_block : ℕ → ℕ → ℕ → ℕ → Bool
-takes_block capacity used count size = nat_le (used + size + volume_end_size) capacity && nat_lt count most_written
+-- whether a block of this size is written where so much of the volume is used: a volume end has to
+-- fit behind it
+abbrev pub takes_block : ℕ → ℕ → ℕ → Bool
+takes_block capacity used size = nat_le (used + size + volume_end_size) capacity
 
 -- whether a file end is written: the headers of another file and a volume end have to fit behind it
 abbrev pub takes_end : ℕ → ℕ → Bool
 takes_end capacity used = nat_le (used + file_end_size + (headers_size + volume_end_size)) capacity
 
--- whether that is written which comes next: the first of these blocks or, where there is none, the file end
-abbrev pub takes_next : ℕ → ℕ → ℕ → List Filled → Bool
-takes_next capacity used count [] = takes_end capacity used
-takes_next capacity used count (b ∷ bs) = takes_block capacity used count (item_size (block b.bytes))
+-- whether that is written which comes next: the first of these blocks or, where there is none, the
+-- file end
+abbrev pub takes_next : ℕ → ℕ → List Filled → Bool
+takes_next capacity used [] = takes_end capacity used
+takes_next capacity used (b ∷ bs) = takes_block capacity used (item_size (block b.bytes))
 
--- the size of what stands on a section's volume before the section's closing mark, where past are the sections before it in
--- the order of the set
+-- the size of what stands on a section's volume before the section's closing mark, where past are
+-- the sections before it in the order of the set
 abbrev pub used_before : List Volume → List Placed → Section → ℕ
 used_before volumes past s = entries_size (up_to_data volumes past s ++ data_group s.blocks)
 
--- Behind the data of a section a volume end fits; and where the section ends its file, its volume took the file end.
-pub record IsTightEnd (volumes : List Volume) (capacity : ℕ) (past : List Placed) (x : Placed) : Type 0 where
+-- Behind the data of a section a volume end fits; and where the section ends its file, its volume
+-- took the file end.
+pub record IsTightEnd (volumes : List Volume) (capacity : ℕ) (past : List Placed) (x : Placed)
+    : Type 0 where
   pub volume_end : used_before volumes past x.section + volume_end_size ≤ capacity
-  pub file_end : ends_file x.section ≡ true → takes_end capacity (used_before volumes past x.section) ≡ true
+  pub file_end : ends_file x.section ≡ true
+      → takes_end capacity (used_before volumes past x.section) ≡ true
 
--- The section y behind x is of the same file only where the volume of x did not take y's first block or, where y has none, the
--- file end; the first one of the next file stands on the volume of x.
+-- The section y behind x is of the same file only where the volume of x did not take y's first
+-- block or, where y has none, the file end; the first one of the next file stands on the volume of
+-- x.
 abbrev pub IsTightChange : List Volume → ℕ → List Placed → Placed → Placed → Type 0
 IsTightChange volumes capacity past x y =
     MatchBool (x.file == y.file)
-    (takes_next capacity (used_before volumes past x.section) (length x.section.blocks) y.section.blocks ≡ false)
+    (takes_next capacity (used_before volumes past x.section) y.section.blocks ≡ false)
     (y.section.volume ≡ x.section.volume)
 
 -- ---- sets
@@ -110,9 +121,10 @@ last_volume [] = 0
 last_volume (x ∷ []) = x.section.volume
 last_volume (x ∷ y ∷ xs) = last_volume (y ∷ xs)
 
--- A set that is tight in a capacity and in one shape a file. It is said beside Lawful: no volume has a further volume label, the
--- last section stands on the last volume, the files are tight, and files and volumes end where the rule of the change says. The
--- characters of labels are not told here beyond what they are read as.
+-- A set that is tight in a capacity and in one shape a file. It is said beside Lawful: no volume
+-- has a further volume label, the last section stands on the last volume, the files are tight, and
+-- files and volumes end where the rule of the change says. The characters of labels are not told
+-- here beyond what they are read as.
 pub record IsTight (set : FileSet) (capacity : ℕ) (shapes : List Shape) : Type 0 where
   pub plain : AllByRecursion (λ v. v.labels ≡ []) set.volumes
   pub last : last_volume (sections set) ≡ length set.volumes

@@ -1,0 +1,139 @@
+-- What lies before positions tells their order, as far as blocks without parts allow.
+use Rattle.std.proofs.Common.{◌≡◌, ◌<◌, ◌⊎◌, inl, inr, ℕ, ◌+◌, List, [], ◌∷◌, ◌++◌, length, Bool}
+use Rattle.std.proofs.Common.{true, false, ltb, Option, Some, None, refl, sym, ap, subst, ◌∙◌}
+use Rattle.std.proofs.Common.{arith, length-append}
+use Rattle.std.specs.Prelude.{slice_get, IsSome}
+use Rattle.std.proofs.lemmas.Bool.Decides.{nat_tests}
+use Rattle.tape_blocks.specs.Block.{Portion}
+use Rattle.tape_blocks.specs.Tight.{Filled}
+use Rattle.tape_set.specs.declared.position.Position.{Position}
+use Rattle.tape_set.specs.declared.position.Position.TheVariants.{Awaits, Finished}
+use Rattle.tape_set.specs.Position.{IsBefore, IsUpTo}
+use Rattle.tape_set.specs.Layout.{FileSet, Section, section_of}
+use Rattle.tape_set.specs.Before.{blocks_of, parts_of, parts_at, before, IsIn}
+use Rattle.tape_set.specs.Laws.{PartsTellPositions}
+use Rattle.tape_set.proofs.Everywhere.{nth_there}
+use Rattle.tape_set.proofs.Numbering.{section_found}
+use Rattle.tape_set.proofs.Orders.{up_to_end, up_to_part}
+use Rattle.tape_set.proofs.PartsBefore.{before_grows}
+use Rattle.tape_set.proofs.FileParts.{before_one}
+
+-- ---- one of two positions is the earlier one, or they are the same
+
+abbrev Three : ℕ → ℕ → Type 0
+Three m n = (m < n) ⊎ ((m ≡ n) ⊎ (n < m))
+
+three : (m n : ℕ) → Three m n
+three m n = go (ltb m n) (ltb n m) refl refl
+  where
+    go : (t u : Bool) → ltb m n ≡ t → ltb n m ≡ u → Three m n
+    go true u e f = inl (grind (arith, nat_tests))
+    go false true e f = inr (inr (grind (arith, nat_tests)))
+    go false false e f = inr (inl (grind (arith, nat_tests)))
+
+abbrev Either : Position → Position → Type 0
+Either p q = IsBefore p q ⊎ ((p ≡ q) ⊎ IsBefore q p)
+
+either : (p q : Position) → Either p q
+either Finished Finished = inr (inl refl)
+either Finished (Awaits t c k) = inr (inr tt)
+either (Awaits s b j) Finished = inl tt
+either (Awaits s b j) (Awaits t c k) = by_section (three s t)
+  where
+    by_part : s ≡ t → b ≡ c → Three j k → Either (Awaits s b j) (Awaits t c k)
+    by_part e f (inl h) = inl (inr (e, inr (f, h)))
+    by_part e f (inr (inl g)) =
+        inr (inl (ap (λ x. Awaits x b j) e ∙ (ap (λ x. Awaits t x j) f ∙ ap (λ x. Awaits t c x) g)))
+    by_part e f (inr (inr h)) = inr (inr (inr (sym e, inr (sym f, h))))
+
+    by_block : s ≡ t → Three b c → Either (Awaits s b j) (Awaits t c k)
+    by_block e (inl h) = inl (inr (e, inl h))
+    by_block e (inr (inl f)) = by_part e f (three j k)
+    by_block e (inr (inr h)) = inr (inr (inr (sym e, inl h)))
+
+    by_section : Three s t → Either (Awaits s b j) (Awaits t c k)
+    by_section (inl h) = inl (inl h)
+    by_section (inr (inl e)) = by_block e (three b c)
+    by_section (inr (inr h)) = inr (inr (inl h))
+
+-- ---- a longer front of parts
+
+longer_later : (set : FileSet) (file : ℕ) (p q : Position)
+    → length (before set file p) < length (before set file q) → IsBefore p q
+longer_later set file p q less = go (either p q)
+  where
+    go : Either p q → IsBefore p q
+    go (inl h) = h
+    go (inr (inl e)) = absurd (let same : length (before set file p) ≡ length (before set file q) =
+        ap (λ v. length (before set file v)) e in omega (arith, less, same))
+    go (inr (inr h)) =
+        let front = before_grows set file q p (inl h) in
+        let long : length (before set file q ++ front.0) ≡ length (before set file p) =
+        ap length front.1 in
+        absurd (omega (arith, less, long, length-append (before set file q) front.0))
+
+-- ---- the same front of parts
+
+-- with one part more a position is still up to each later one
+next_part : (s b k : ℕ) (q : Position) → IsBefore (Awaits s b k) q → IsUpTo (Awaits s b (k + 1)) q
+next_part s b k Finished h = up_to_end (Awaits s b (k + 1))
+next_part s b k (Awaits t c l) (inl h) = inl (inl h)
+next_part s b k (Awaits t c l) (inr (e, inl h)) = inl (inr (e, inl h))
+next_part s b k (Awaits t c l) (inr (e, inr (f, h))) =
+    let up : IsUpTo (Awaits s b (k + 1)) (Awaits s b l) = up_to_part s b (k + 1) l (omega arith) in
+    subst (λ v. IsUpTo (Awaits s b (k + 1)) v)
+    (ap (λ x. Awaits x b l) e ∙ ap (λ x. Awaits t x l) f) up
+
+some_there : {A : Type 0} (o : Option A) → IsSome o → (x : A) × (o ≡ Some x)
+some_there None h = absurd (cc)
+some_there (Some x) h = (x, refl)
+
+-- a part that is still to come of the block stands before no later position
+none_to_come : (set : FileSet) (file s b k : ℕ) (w : Section) (d : Filled) (q : Position)
+    → section_of set file s ≡ Some w → slice_get w.blocks b ≡ Some d → k < length d.parts
+    → IsBefore (Awaits s b k) q → before set file (Awaits s b k) ≡ before set file q → ⊥
+none_to_come set file s b k w d q found this there later same =
+    let (x, it) = some_there (slice_get d.parts k) (nth_there d.parts k there) in
+    let one = before_one set file s w (section_found set file s w found) b k d x this it in
+    let front = before_grows set file (Awaits s b (k + 1)) q (next_part s b k q later) in
+    let long : length (before set file (Awaits s b (k + 1)) ++ front.0)
+    ≡ length (before set file q) = ap length front.1 in
+    let more : length (before set file (Awaits s b (k + 1)))
+    ≡ length (before set file (Awaits s b k) ++ x ∷ []) = ap length one in
+    let equal : length (before set file (Awaits s b k)) ≡ length (before set file q) =
+    ap length same in
+    omega (
+      arith,
+      long,
+      more,
+      equal,
+      length-append (before set file (Awaits s b (k + 1))) front.0,
+      length-append (before set file (Awaits s b k)) (x ∷ []),
+    )
+
+no_parts : (set : FileSet) (file s b k : ℕ) (q : Position) → IsIn set file (Awaits s b k)
+    → IsBefore (Awaits s b k) q → before set file (Awaits s b k) ≡ before set file q
+    → parts_at (blocks_of (section_of set file s)) b ≡ []
+no_parts set file s b k q (w, found, within, part) later same =
+    ap (λ o. parts_at (blocks_of o) b) found ∙ by_block (slice_get w.blocks b) refl
+  where
+    by_parts : (d : Filled) → slice_get w.blocks b ≡ Some d → (ps : List Portion) → d.parts ≡ ps
+        → (k ≡ 0) ⊎ (k < length (parts_at w.blocks b)) → ps ≡ []
+    by_parts d this [] e h = refl
+    by_parts d this (x ∷ ps) e (inl z) =
+        let n : length d.parts ≡ length (x ∷ ps) = ap length e in
+        absurd (none_to_come set file s b k w d q found this (omega (arith, n, z)) later same)
+    by_parts d this (x ∷ ps) e (inr h) =
+        let n : length (parts_at w.blocks b) ≡ length d.parts =
+        ap (λ o. length (parts_of o)) this in
+        absurd (none_to_come set file s b k w d q found this (omega (arith, n, h)) later same)
+
+    by_block : (o : Option Filled) → slice_get w.blocks b ≡ o → parts_of o ≡ []
+    by_block None e = refl
+    by_block (Some d) e = by_parts d e d.parts refl part
+
+pub parts_tell : (set : FileSet) → PartsTellPositions set
+parts_tell set = record {
+  longer = longer_later set;
+  same = λ file sect block part q is later same. no_parts set file sect block part q is later same;
+}

@@ -1,0 +1,235 @@
+-- Small sets that are refused by the size of one block alone, wherever it stands; and blocks of the
+-- greatest size, and blocks behind a buffer offset, in sets that are lawful.
+use Rattle.std.proofs.Common.{◌≡◌, ◌<◌, ◌≤◌, ℕ, List, [], ◌∷◌, length, true, false, refl, arith}
+use Rattle.std.proofs.Common.{lit≤, lit<}
+use Rattle.std.specs.Prelude.{map, replicate}
+use Rattle.std.proofs.lemmas.List.{length-replicate}
+use Rattle.std.specs.List.{AllByRecursion}
+use Rattle.tape_image.specs.Tape.{IsTapeItem, block}
+use Rattle.tape_label.specs.declared.values.Format.TheVariants.{Fixed}
+use Rattle.tape_label.specs.declared.values.Kind.TheVariants as kinds
+use Rattle.tape_label.specs.declared.values.Head1.{Head1}
+use Rattle.tape_label.specs.declared.values.Trail1.{Trail1}
+use Rattle.tape_label.specs.Head1.{HeadFits}
+use Rattle.tape_label.specs.Head2.{Head2Fits}
+use Rattle.tape_label.specs.Trail1.{TrailFits}
+use Rattle.tape_blocks.specs.declared.shape.Shape.{Shape}
+use Rattle.tape_blocks.specs.Block.{Holds}
+use Rattle.tape_blocks.specs.Spans.{InOrder}
+use Rattle.tape_blocks.specs.Tight.{Chain, Filled}
+use Rattle.tape_set.specs.declared.position.Position.TheVariants.{Finished}
+use Rattle.tape_set.specs.Layout.{FileSet, Section, sections, item_of, section_entries}
+use Rattle.tape_set.specs.Before.{section_parts, before}
+use Rattle.tape_set.specs.Lawful.{IsLawful, IsVolume, IsHeader, IsTrailer, IsFile, StartsOnFirst}
+use Rattle.tape_set.specs.Lawful.{GoesOn, most_blocks, label_count}
+use Rattle.tape_set.specs.Tight.{second_of}
+use Rattle.tape_set.proofs.Numbering.{placed}
+use Rattle.tape_set.proofs.Worked.{set_id, head, trail, hdr1, trailer, made, form, Fit, hdr1_is}
+use Rattle.tape_set.proofs.Worked.{trailer_is, second_is, second_sized, eighty, label_count_most}
+use Rattle.tape_set.proofs.Worked.{made_section, made_form, plain_volume_is}
+use Rattle.tape_set.proofs.WorkedFile.{shape, shape_fits, record_of, whole}
+use Rattle.tape_set.proofs.RefusedLawful.{set_of}
+use Rattle.tape_set.proofs.RefusedSets.{fit_of}
+
+-- ---- all clauses but that on the sizes of blocks
+
+-- a section with further blocks behind its header labels and behind its trailer label
+abbrev section : List (List ℕ) → List Filled → List (List ℕ) → Section
+section headers blocks trailers =
+    record (made shape 1 1 1 true blocks) { headers = headers; trailers = trailers }
+
+record AllButSized (s : Section) : Type 0 where
+  volumes : AllByRecursion IsVolume (set_of s).volumes
+  header : (h : Head1) × IsHeader set_id (placed 1 1 s) h
+  trailer : (t : Trail1) × IsTrailer (placed 1 1 s) t
+  volume : (1 ≤ s.volume) × (s.volume ≤ 1)
+  few : length s.blocks ≤ most_blocks
+  files : AllByRecursion IsFile (set_of s).files
+  first : StartsOnFirst (sections (set_of s))
+  goes_on : Chain GoesOn (sections (set_of s))
+
+-- where the sizes are right too, the set is lawful
+lawful_if_sized : (s : Section) → AllButSized s
+    → AllByRecursion IsTapeItem (map item_of (section_entries s)) → IsLawful (set_of s)
+lawful_if_sized s but sized = record {
+  volumes = but.volumes;
+  each = (
+    record {
+      header = but.header;
+      trailer = but.trailer;
+      volume = but.volume;
+      few = but.few;
+      sized = sized;
+    },
+    tt,
+  );
+  files = but.files;
+  first = but.first;
+  goes_on = but.goes_on;
+}
+
+head_fits : HeadFits (head 1 1)
+head_fits = record { sect = (lit≤ tt, lit≤ tt); sequence = (lit≤ tt, lit≤ tt) }
+
+but_sized : (headers : List (List ℕ)) (blocks : List Filled) (trailers : List (List ℕ))
+    → length blocks ≤ most_blocks
+    → AllByRecursion (λ b. Holds Fixed 80 0 b.bytes b.parts) blocks
+    → InOrder false (section_parts (section headers blocks trailers ∷ [])) false
+    → AllButSized (section headers blocks trailers)
+but_sized headers blocks trailers few held order =
+    let count = label_count (length blocks) in
+    let fits : TrailFits (trail true 1 1 count) =
+    record { head = head_fits; blocks = label_count_most (length blocks) } in
+    record {
+      volumes = (plain_volume_is, tt);
+      header = (
+        head 1 1,
+        record { label = hdr1_is 1 1 head_fits; set_id = refl; file = refl; sect = refl },
+      );
+      trailer = (
+        trail true 1 1 count,
+        record { label = trailer_is true 1 1 count fits; file = refl; sect = refl; count = refl },
+      );
+      volume = (lit≤ tt, lit≤ tt);
+      few = few;
+      files = (
+        record {
+          ends = refl;
+          alike = (
+            form shape,
+            (
+              record {
+                labels = record {
+                  head = head 1 1;
+                  second = second_of shape;
+                  hdr1 = hdr1_is 1 1 head_fits;
+                  hdr2 = second_is kinds.Hdr2 shape tt shape_fits;
+                  told = refl;
+                };
+                held = held;
+              },
+              tt,
+            ),
+          );
+          order = order;
+        },
+        tt,
+      );
+      first = refl;
+      goes_on = tt;
+    }
+
+-- ---- empty blocks
+
+-- a further header block is empty
+empty_header : AllButSized (section ([] ∷ []) [] [])
+    × (IsLawful (set_of (section ([] ∷ []) [] [])) → ⊥)
+empty_header = (
+  but_sized ([] ∷ []) [] [] (lit≤ tt) tt refl,
+  λ l. absurd (omega (arith, l.each.0.sized.1.1.0.0)),
+)
+
+-- a data block is empty, and holds no part
+abbrev no_bytes : Filled
+no_bytes = record { bytes = []; parts = [] }
+
+empty_data : AllButSized (section [] (no_bytes ∷ []) [])
+    × (IsLawful (set_of (section [] (no_bytes ∷ []) [])) → ⊥)
+empty_data = (
+  but_sized [] (no_bytes ∷ []) [] (lit≤ tt)
+      (([], record { reaches = lit≤ tt; units = tt; body = refl }, (refl, lit< tt)), tt) refl,
+  λ l. absurd (omega (arith, l.each.0.sized.1.1.1.0.0)),
+)
+
+-- ---- long blocks
+
+-- a section that ends with a further block of n bytes; n stays a variable in what is proved of it
+abbrev ended_by : ℕ → Section
+ended_by n = section [] [] (replicate n 0 ∷ [])
+
+but_size : (n : ℕ) → AllButSized (ended_by n)
+but_size n = but_sized [] [] (replicate n 0 ∷ []) (lit≤ tt) tt refl
+
+of_size : (n : ℕ) → 1 ≤ n → n ≤ 99999 → IsTapeItem (block (replicate n 0))
+of_size n a b =
+    (omega (arith, a, length-replicate {A = ℕ} n 0), omega (arith, b, length-replicate {A = ℕ} n 0))
+
+long_lawful : (n : ℕ) → 1 ≤ n → n ≤ 99999 → IsLawful (set_of (ended_by n))
+long_lawful n a b = lawful_if_sized (ended_by n) (but_size n) (
+  eighty (hdr1 1 1) (hdr1_is 1 1 head_fits).kind.size,
+  (
+    second_sized kinds.Hdr2 shape tt shape_fits,
+    (tt, (tt, (eighty (trailer true 1 1 0) refl, (of_size n a b, (tt, tt))))),
+  ),
+)
+
+too_long : (n : ℕ) → 99999 < n → AllButSized (ended_by n) × (IsLawful (set_of (ended_by n)) → ⊥)
+too_long n h = (
+  but_size n,
+  λ l. absurd (omega (arith, h, l.each.0.sized.1.1.1.1.1.0.1, length-replicate {A = ℕ} n 0)),
+)
+
+longest_lawful : IsLawful (set_of (ended_by 99999))
+longest_lawful = long_lawful 99999 (lit≤ tt) (lit≤ tt)
+
+one_byte_too_long : AllButSized (ended_by 100000) × (IsLawful (set_of (ended_by 100000)) → ⊥)
+one_byte_too_long = too_long 100000 (lit< tt)
+
+-- ---- bytes before the records
+
+-- each block begins with two bytes that hold no record
+abbrev offset_shape : Shape
+offset_shape = record {
+  format = Fixed;
+  block_len = 802;
+  rec_len = 80;
+  offset = 2;
+  pad_full = false;
+  some_record = λ _. lit≤ tt;
+}
+
+offset_fits : Head2Fits (second_of offset_shape)
+offset_fits = record { block_len = lit≤ tt; rec_len = (lit≤ tt, lit≤ tt); offset = lit≤ tt }
+
+abbrev behind_two : Filled
+behind_two = record { bytes = 33 ∷ 34 ∷ record_of 1; parts = whole (record_of 1) ∷ [] }
+
+behind_two_holds : Holds Fixed 80 2 behind_two.bytes behind_two.parts
+behind_two_holds =
+    ([], record { reaches = lit≤ tt; units = ((refl, refl), tt); body = refl }, (refl, lit< tt))
+
+abbrev offset_set : FileSet
+offset_set = set_of (made offset_shape 1 1 1 true (behind_two ∷ []))
+
+one_fits : Fit 1 1 1
+one_fits = fit_of 1 1 1 (lit≤ tt) (lit≤ tt) (lit≤ tt) (lit≤ tt) (lit≤ tt)
+
+offset_lawful : IsLawful offset_set
+offset_lawful = record {
+  volumes = (plain_volume_is, tt);
+  each = (
+    made_section offset_shape 1 1 1 1 true (behind_two ∷ []) offset_fits one_fits (lit≤ tt)
+        (lit≤ tt) ((lit< tt, lit≤ tt), tt),
+    tt,
+  );
+  files = (
+    record {
+      ends = refl;
+      alike = (
+        form offset_shape,
+        (
+          made_form offset_shape 1 1 1 true (behind_two ∷ []) offset_fits one_fits
+              (behind_two_holds, tt),
+          tt,
+        ),
+      );
+      order = (refl, refl);
+    },
+    tt,
+  );
+  first = refl;
+  goes_on = tt;
+}
+
+offset_before : before offset_set 1 Finished ≡ whole (record_of 1) ∷ []
+offset_before = refl

@@ -1,0 +1,159 @@
+-- For each clause of a lawful file a file that this clause alone refuses.
+use Rattle.std.proofs.Common.{◌≡◌, [], ◌∷◌, length, true, false, refl, sym, ap, ◌∙◌, subst, arith}
+use Rattle.std.proofs.Common.{lit≤, lit<}
+use Rattle.std.specs.Prelude.{replicate}
+use Rattle.tape_label.specs.declared.values.Format.TheVariants.{Fixed}
+use Rattle.tape_label.specs.Head2.{Head2Fits}
+use Rattle.tape_blocks.specs.declared.shape.Shape.{Shape}
+use Rattle.tape_blocks.specs.Block.{Holds}
+use Rattle.tape_blocks.specs.Spans.{InOrder}
+use Rattle.tape_blocks.specs.Tight.{Filled}
+use Rattle.tape_set.specs.Layout.{FileSet}
+use Rattle.tape_set.specs.Before.{section_parts}
+use Rattle.tape_set.specs.Lawful.{HasForm, TellsForm, FileForm, Ends}
+use Rattle.tape_set.specs.Tight.{second_of}
+use Rattle.tape_set.proofs.Forms.{one_form}
+use Rattle.tape_set.proofs.Worked.{set_id, made, form, made_section, made_form, plain_volume}
+use Rattle.tape_set.proofs.Worked.{plain_volume_is}
+use Rattle.tape_set.proofs.WorkedFile.{shape, shape_fits}
+use Rattle.tape_set.proofs.WorkedSpan as span
+use Rattle.tape_set.proofs.RefusedLawful.{base, set_of}
+use Rattle.tape_set.proofs.RefusedSets.{OnlyFiles, fit_of, empty_section, empty_form}
+
+-- its only section ends by EOV1
+abbrev unended : FileSet
+unended = set_of (made shape 1 1 1 false [])
+
+no_end : OnlyFiles unended × HasForm (form shape) (made shape 1 1 1 false [])
+no_end = (
+  record {
+    volumes = (plain_volume_is, tt);
+    each = (
+      empty_section 1 1 1 1 false (lit≤ tt) (lit≤ tt) (lit≤ tt) (lit≤ tt) (lit≤ tt) (lit≤ tt),
+      tt,
+    );
+    first = refl;
+    goes_on = tt;
+    refused = λ h. let e : false ≡ true = h.0.ends in absurd (cc);
+  },
+  empty_form 1 1 1 false (lit≤ tt) (lit≤ tt) (lit≤ tt) (lit≤ tt),
+)
+
+-- its second section has another offset
+abbrev other_shape : Shape
+other_shape = record {
+  format = Fixed;
+  block_len = 800;
+  rec_len = 80;
+  offset = 2;
+  pad_full = false;
+  some_record = λ _. lit≤ tt;
+}
+
+other_fits : Head2Fits (second_of other_shape)
+other_fits = record { block_len = lit≤ tt; rec_len = (lit≤ tt, lit≤ tt); offset = lit≤ tt }
+
+abbrev two_forms : FileSet
+two_forms = record {
+  set_id = set_id;
+  volumes = plain_volume ∷ plain_volume ∷ [];
+  files = (made shape 1 1 1 false [] ∷ made other_shape 2 1 2 true [] ∷ []) ∷ [];
+}
+
+not_alike : OnlyFiles two_forms
+    × Ends (made shape 1 1 1 false [] ∷ made other_shape 2 1 2 true [] ∷ [])
+not_alike = (
+  record {
+    volumes = (plain_volume_is, (plain_volume_is, tt));
+    each = (
+      empty_section 2 1 1 1 false (lit≤ tt) (lit≤ tt) (lit≤ tt) (lit≤ tt) (lit≤ tt) (lit≤ tt),
+      (
+        made_section other_shape 2 2 1 2 true [] other_fits
+            (fit_of 1 2 0 (lit≤ tt) (lit≤ tt) (lit≤ tt) (lit≤ tt) (lit≤ tt)) (lit≤ tt) (lit≤ tt) tt,
+        tt,
+      ),
+    );
+    first = refl;
+    goes_on = (refl, tt);
+    refused = λ h.
+        let told : FileForm = h.0.alike.0 in
+        let a : told ≡ form shape =
+        one_form (made shape 1 1 1 false []) told (form shape) h.0.alike.1.0.labels
+        (empty_form 1 1 1 false (lit≤ tt) (lit≤ tt) (lit≤ tt) (lit≤ tt)).labels in
+        let b : told ≡ form other_shape = one_form (made other_shape 2 1 2 true []) told
+        (form other_shape) h.0.alike.1.1.0.labels (made_form other_shape 2 1 2 true [] other_fits
+        (fit_of 1 2 0 (lit≤ tt) (lit≤ tt) (lit≤ tt) (lit≤ tt) (lit≤ tt)) tt).labels in
+        let e : 0 ≡ 2 = ap (λ v. v.offset) (sym a ∙ b) in
+        absurd (omega arith);
+  },
+  (refl, refl),
+)
+
+-- a block holds no such parts
+abbrev letters : Filled
+letters = record { bytes = replicate 80 65; parts = [] }
+
+abbrev unheld : FileSet
+unheld = set_of (made shape 1 1 1 true (letters ∷ []))
+
+not_held : OnlyFiles unheld × TellsForm (form shape) (made shape 1 1 1 true (letters ∷ []))
+    × Ends (made shape 1 1 1 true (letters ∷ []) ∷ [])
+    × InOrder false (section_parts (made shape 1 1 1 true (letters ∷ []) ∷ [])) false
+not_held = (
+  record {
+    volumes = (plain_volume_is, tt);
+    each = (
+      made_section shape 1 1 1 1 true (letters ∷ []) shape_fits (fit_of 1 1 1 (lit≤ tt) (lit≤ tt)
+          (lit≤ tt) (lit≤ tt) (lit≤ tt)) (lit≤ tt) (lit≤ tt) ((lit< tt, lit≤ tt), tt),
+      tt,
+    );
+    first = refl;
+    goes_on = tt;
+    refused = λ h.
+        let told : FileForm = h.0.alike.0 in
+        let a : told ≡ form shape = one_form (made shape 1 1 1 true (letters ∷ [])) told
+        (form shape) h.0.alike.1.0.labels labels in
+        let held : Holds Fixed 80 0 (replicate 80 65) [] = (subst
+        (λ f. Holds f.format f.rec_len f.offset (replicate 80 65) []) a h.0.alike.1.0.held.0) in
+        let e : 80 ≡ length held.0 = ap length held.1.body in
+        absurd (omega (arith, held.2.1));
+  },
+  labels,
+  refl,
+  refl,
+)
+  where
+    labels : TellsForm (form shape) (made shape 1 1 1 true (letters ∷ []))
+    labels = record {
+      head = told.head;
+      second = told.second;
+      hdr1 = told.hdr1;
+      hdr2 = told.hdr2;
+      told = told.told;
+    }
+      where
+        told : TellsForm (form shape) base
+        told = (empty_form 1 1 1 true (lit≤ tt) (lit≤ tt) (lit≤ tt) (lit≤ tt)).labels
+
+-- a record is begun, and the file ends
+abbrev unfinished : FileSet
+unfinished = set_of (made span.shape 1 1 1 true (span.first_block ∷ []))
+
+begun_at_end : OnlyFiles unfinished
+    × HasForm (form span.shape) (made span.shape 1 1 1 true (span.first_block ∷ []))
+begun_at_end = (
+  record {
+    volumes = (plain_volume_is, tt);
+    each = (
+      made_section span.shape 1 1 1 1 true (span.first_block ∷ []) span.shape_fits
+          (fit_of 1 1 1 (lit≤ tt) (lit≤ tt) (lit≤ tt) (lit≤ tt) (lit≤ tt)) (lit≤ tt) (lit≤ tt)
+          ((lit< tt, lit≤ tt), tt),
+      tt,
+    );
+    first = refl;
+    goes_on = tt;
+    refused = λ h. let e : true ≡ false = h.0.order.1 in absurd (cc);
+  },
+  made_form span.shape 1 1 1 true (span.first_block ∷ []) span.shape_fits (fit_of 1 1 1 (lit≤ tt)
+      (lit≤ tt) (lit≤ tt) (lit≤ tt) (lit≤ tt)) (span.first_written.holds, tt),
+)

@@ -1,0 +1,207 @@
+-- Small sets that volume labels and second labels of another kind refuse, and files whose sections
+-- tell other forms.
+use Rattle.std.proofs.Common.{◌≡◌, ℕ, List, [], ◌∷◌, ◌++◌, true, false, refl, sym, ap, ◌∙◌, inl}
+use Rattle.std.proofs.Common.{inr, arith, codes, lit≤}
+use Rattle.std.specs.Prelude.{replicate, slice_index}
+use Rattle.tape_label.specs.declared.values.Format.TheVariants.{Fixed, Counted}
+use Rattle.tape_label.specs.declared.values.Kind.TheVariants as kinds
+use Rattle.tape_label.specs.declared.values.Head1.{Head1}
+use Rattle.tape_label.specs.Positions.{positions}
+use Rattle.tape_label.specs.Kinds.{identifier}
+use Rattle.tape_label.specs.Head1.{IsHead1}
+use Rattle.tape_label.specs.Head2.{Head2Fits}
+use Rattle.tape_label.specs.Written.{text_of, head1_pieces}
+use Rattle.tape_label.proofs.DigitLaws.{length-digits}
+use Rattle.tape_label.proofs.Texts.{head1_text_is}
+use Rattle.tape_blocks.specs.declared.shape.Shape.{Shape}
+use Rattle.tape_set.specs.Layout.{Section}
+use Rattle.tape_set.specs.Lawful.{FileForm, TellsForm, IsVolume, form_of}
+use Rattle.tape_set.specs.Tight.{second_of}
+use Rattle.tape_set.proofs.Forms.{one_form}
+use Rattle.tape_set.proofs.Worked.{head, vol1, second, made, form, second_is, made_form}
+use Rattle.tape_set.proofs.WorkedFile.{shape, shape_fits}
+use Rattle.tape_set.proofs.RefusedSets.{OnlyVolumes, on_volume, only_volume, fit_of, empty_form}
+
+-- ---- labels of volumes
+
+-- VOL1 is one character short
+short_vol1 : OnlyVolumes
+    (on_volume (record { vol1 = codes "VOL1" ++ replicate 75 32; labels = [] }))
+short_vol1 = only_volume (record { vol1 = codes "VOL1" ++ replicate 75 32; labels = [] })
+    (λ h. let e : 79 ≡ 80 = h.vol1.size in absurd (omega arith))
+
+-- VOL1 is one character too long
+long_vol1 : OnlyVolumes (on_volume (record { vol1 = codes "VOL1" ++ replicate 77 32; labels = [] }))
+long_vol1 = only_volume (record { vol1 = codes "VOL1" ++ replicate 77 32; labels = [] })
+    (λ h. let e : 81 ≡ 80 = h.vol1.size in absurd (omega arith))
+
+-- a further label is one character too long
+long_label : OnlyVolumes
+    (on_volume (record { vol1 = vol1; labels = (codes "UVL1" ++ replicate 77 32) ∷ [] }))
+long_label = only_volume (record { vol1 = vol1; labels = (codes "UVL1" ++ replicate 77 32) ∷ [] })
+    (λ h. let e : 81 ≡ 80 = h.labels.0.size in absurd (omega arith))
+
+-- it begins as a user header label, or almost as a volume label
+header_label : OnlyVolumes
+    (on_volume (record { vol1 = vol1; labels = (codes "UHL1" ++ replicate 76 32) ∷ [] }))
+header_label = only_volume (record { vol1 = vol1; labels = (codes "UHL1" ++ replicate 76 32) ∷ [] })
+    (λ h. elim h.labels.0.named [
+      | inl e ↦ absurd (let d : 85 ≡ 86 = ap (λ v. slice_index v 0) e in omega arith)
+      | inr e ↦ absurd (let d : 72 ≡ 86 = ap (λ v. slice_index v 1) e in omega arith)
+    ])
+
+almost_named : OnlyVolumes
+    (on_volume (record { vol1 = vol1; labels = (codes "VOX1" ++ replicate 76 32) ∷ [] }))
+almost_named = only_volume (record { vol1 = vol1; labels = (codes "VOX1" ++ replicate 76 32) ∷ [] })
+    (λ h. elim h.labels.0.named [
+      | inl e ↦ absurd (let d : 88 ≡ 76 = ap (λ v. slice_index v 2) e in omega arith)
+      | inr e ↦ absurd (let d : 86 ≡ 85 = ap (λ v. slice_index v 0) e in omega arith)
+    ])
+
+almost_user : OnlyVolumes
+    (on_volume (record { vol1 = vol1; labels = (codes "UVX1" ++ replicate 76 32) ∷ [] }))
+almost_user = only_volume (record { vol1 = vol1; labels = (codes "UVX1" ++ replicate 76 32) ∷ [] })
+    (λ h. elim h.labels.0.named [
+      | inl e ↦ absurd (let d : 85 ≡ 86 = ap (λ v. slice_index v 0) e in omega arith)
+      | inr e ↦ absurd (let d : 88 ≡ 76 = ap (λ v. slice_index v 2) e in omega arith)
+    ])
+
+-- both names are free
+volume_labels : IsVolume (record {
+  vol1 = vol1;
+  labels = (codes "VOL2" ++ replicate 76 32) ∷ (codes "UVL9" ++ replicate 76 32) ∷ [];
+})
+volume_labels = record {
+  vol1 = record { size = refl; named = refl };
+  labels =
+      (record { size = refl; named = inl refl }, (record { size = refl; named = inr refl }, tt));
+}
+
+-- ---- second labels
+
+plain : TellsForm (form shape) (made shape 1 1 1 true [])
+plain = (empty_form 1 1 1 true (lit≤ tt) (lit≤ tt) (lit≤ tt) (lit≤ tt)).labels
+
+-- EOF2 stands where HDR2 belongs, and nothing that is a label
+abbrev with_second : List ℕ → Section
+with_second label = record (made shape 1 1 1 true []) { hdr2 = label }
+
+second_trailer_first : (told : FileForm)
+    → TellsForm told (with_second (second kinds.Eof2 shape)) → ⊥
+second_trailer_first told h =
+    let named : positions (second kinds.Eof2 shape) 1 4 ≡ identifier kinds.Hdr2 =
+    h.hdr2.kind.named in
+    let e : 69 ≡ 72 = ap (λ v. slice_index v 0) named in
+    absurd (omega (arith, e))
+
+no_second : (told : FileForm) → TellsForm told (with_second (replicate 80 32)) → ⊥
+no_second told h =
+    let named : positions (replicate 80 32) 1 4 ≡ identifier kinds.Hdr2 = h.hdr2.kind.named in
+    let e : 32 ≡ 72 = ap (λ v. slice_index v 0) named in
+    absurd (omega (arith, e))
+
+-- ---- sections that tell other forms
+
+-- no form is told by both of these labels
+apart : (h g : Section) (a b : FileForm) → TellsForm a h → TellsForm b g → (a ≡ b → ⊥)
+    → (told : FileForm) → TellsForm told h → TellsForm told g → ⊥
+apart h g a b x y differ told u v = differ (sym (one_form h told a u x) ∙ one_form g told b v y)
+
+told_of : (other : Shape) → Head2Fits (second_of other)
+    → TellsForm (form other) (made other 2 1 2 true [])
+told_of other fits = (made_form other 2 1 2 true [] fits
+    (fit_of 1 2 0 (lit≤ tt) (lit≤ tt) (lit≤ tt) (lit≤ tt) (lit≤ tt)) tt).labels
+
+-- another record length, in format F
+abbrev longer : Shape
+longer = record {
+  format = Fixed;
+  block_len = 800;
+  rec_len = 100;
+  offset = 0;
+  pad_full = false;
+  some_record = λ _. lit≤ tt;
+}
+
+other_record_length : (told : FileForm) → TellsForm told (made shape 1 1 1 true [])
+    → TellsForm told (made longer 2 1 2 true []) → ⊥
+other_record_length =
+    apart (made shape 1 1 1 true []) (made longer 2 1 2 true []) (form shape) (form longer) plain
+    (told_of longer (record {
+      block_len = lit≤ tt;
+      rec_len = (lit≤ tt, lit≤ tt);
+      offset = lit≤ tt;
+    }))
+    (λ e. let d : 80 ≡ 100 = ap (λ v. v.rec_len) e in absurd (omega arith))
+
+-- another format, with records that bind no reader in either: the lengths are 0 in what is told
+abbrev counted : Shape
+counted = record {
+  format = Counted;
+  block_len = 800;
+  rec_len = 80;
+  offset = 0;
+  pad_full = false;
+  some_record = λ _. lit≤ tt;
+}
+
+other_format : (told : FileForm) → TellsForm told (made shape 1 1 1 true [])
+    → TellsForm told (made counted 2 1 2 true []) → ⊥
+other_format =
+    apart (made shape 1 1 1 true []) (made counted 2 1 2 true []) (form shape) (form counted) plain
+    (told_of counted
+    (record { block_len = lit≤ tt; rec_len = (lit≤ tt, lit≤ tt); offset = lit≤ tt }))
+    (λ e. let d : Fixed ≡ Counted = ap (λ v. v.format) e in absurd (cc))
+
+-- another file identifier
+abbrev other_head : Head1
+other_head = record (head 1 2) { file_id = codes "WAGES            " }
+
+other_head_is : IsHead1 (text_of (head1_pieces other_head)) other_head
+other_head_is =
+    head1_text_is other_head (record { sect = (lit≤ tt, lit≤ tt); sequence = (lit≤ tt, lit≤ tt) }) (
+      refl,
+      (
+        refl,
+        (
+          refl,
+          (
+            length-digits 4 2,
+            (
+              length-digits 4 1,
+              (refl, (refl, (refl, (refl, (refl, (length-digits 6 0, (refl, (refl, tt)))))))),
+            ),
+          ),
+        ),
+      ),
+    )
+
+abbrev other_file_section : Section
+other_file_section = record (made shape 2 1 2 true []) { hdr1 = text_of (head1_pieces other_head) }
+
+other_file_id : (told : FileForm) → TellsForm told (made shape 1 1 1 true [])
+    → TellsForm told other_file_section → ⊥
+other_file_id = apart (made shape 1 1 1 true []) other_file_section (form shape)
+    (form_of other_head (second_of shape)) plain
+    (record {
+      head = other_head;
+      second = second_of shape;
+      hdr1 = other_head_is;
+      hdr2 = second_is kinds.Hdr2 shape tt shape_fits;
+      told = refl;
+    })
+    (λ e. let d : 80 ≡ 87 = ap (λ v. slice_index v.file_id 0) e in absurd (omega arith))
+
+-- another block length binds nothing
+abbrev shorter : Shape
+shorter = record {
+  format = Fixed;
+  block_len = 400;
+  rec_len = 80;
+  offset = 0;
+  pad_full = false;
+  some_record = λ _. lit≤ tt;
+}
+
+same_form : form shorter ≡ form shape
+same_form = refl

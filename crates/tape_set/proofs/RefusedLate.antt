@@ -1,0 +1,119 @@
+-- Sets that are not tight by what stands behind their first section or file, and by the number of
+-- their shapes.
+use Rattle.std.proofs.Common.{◌≡◌, ◌≤◌, ℕ, List, [], ◌∷◌, ◌++◌, true, false, refl, ap, arith, codes}
+use Rattle.std.proofs.Common.{lit≤}
+use Rattle.std.specs.Prelude.{replicate, length}
+use Rattle.tape_label.specs.declared.values.Kind.TheVariants as kinds
+use Rattle.tape_blocks.specs.Packing.{IsWritable}
+use Rattle.tape_blocks.specs.Tight as packing
+use Rattle.tape_set.specs.Layout.{FileSet, Section}
+use Rattle.tape_set.specs.Before.{blocks_of_all}
+use Rattle.tape_set.specs.Tight.{IsTightFile, least_capacity}
+use Rattle.tape_set.proofs.Worked.{set_id, made, second, made_plain, plain_volume}
+use Rattle.tape_set.proofs.WorkedFile.{shape, writable, no_records}
+use Rattle.tape_set.proofs.WorkedSpan as span
+use Rattle.tape_set.proofs.RefusedTight.{OnlyFiles, OnlyEnds, OnlyChanges, nothing_packed}
+use Rattle.tape_set.proofs.RefusedTight.{empty_file}
+use Rattle.tape_set.proofs.RefusedTightFiles.{set_of}
+
+-- ---- one shape for each file
+
+no_shape : OnlyFiles no_records 100000 []
+no_shape = record {
+  plain = (refl, tt);
+  last = refl;
+  ends = (record { volume_end = lit≤ tt; file_end = λ e. refl }, tt);
+  changes = tt;
+  refused = λ h. absurd h;
+}
+
+shape_too_many : OnlyFiles no_records 100000 (shape ∷ shape ∷ [])
+shape_too_many = record {
+  plain = (refl, tt);
+  last = refl;
+  ends = (record { volume_end = lit≤ tt; file_end = λ e. refl }, tt);
+  changes = tt;
+  refused = λ h. absurd h.1;
+}
+
+-- ---- further trailer labels
+
+-- there is a third one
+abbrev more_trailers : List Section
+more_trailers = record (made shape 1 1 1 true []) {
+  trailers = second kinds.Eof2 shape
+      ∷ (codes "EOF3" ++ replicate 76 32) ∷ [];
+} ∷ []
+
+third_trailer : OnlyFiles (set_of more_trailers) 100000 (shape ∷ []) × IsWritable shape
+    × (least_capacity shape ≤ 100000) × packing.IsTight shape [] (blocks_of_all more_trailers)
+third_trailer = (
+  record {
+    plain = (refl, tt);
+    last = refl;
+    ends = (record { volume_end = lit≤ tt; file_end = λ e. refl }, tt);
+    changes = tt;
+    refused = λ h. let e : 2 ≡ 1 = ap length h.0.labels.0.trailers in absurd (omega arith);
+  },
+  writable,
+  lit≤ tt,
+  nothing_packed shape,
+)
+
+-- ---- what the second file finds on its volume
+
+small_file : (capacity volume file : ℕ) → 1042 ≤ capacity
+    → IsTightFile capacity span.shape (made span.shape volume file 1 true [] ∷ [])
+small_file capacity volume file room = record {
+  writable = span.writable;
+  room = room;
+  labels = (made_plain span.shape volume file 1 true [] span.shape_fits, tt);
+  records = [];
+  lengths = tt;
+  packed = nothing_packed span.shape;
+}
+
+-- two files without blocks stand on a volume of 1,187 bytes: behind the second one's end the next
+-- one's headers and a volume end would need 1,188
+abbrev two_small : FileSet
+two_small = record {
+  set_id = set_id;
+  volumes = plain_volume ∷ [];
+  files = (made span.shape 1 1 1 true [] ∷ []) ∷ (made span.shape 1 2 1 true [] ∷ []) ∷ [];
+}
+
+no_room_for_second_end : OnlyEnds two_small 1187 (span.shape ∷ span.shape ∷ [])
+no_room_for_second_end = record {
+  plain = (refl, tt);
+  last = refl;
+  files = (small_file 1187 1 1 (lit≤ tt), (small_file 1187 1 2 (lit≤ tt), tt));
+  changes = (refl, tt);
+  refused = λ h. let e : false ≡ true = h.1.0.file_end refl in absurd (cc);
+}
+
+-- the third file begins on a new volume, the second one does not
+abbrev late_change : FileSet
+late_change = record {
+  set_id = set_id;
+  volumes = plain_volume ∷ plain_volume ∷ [];
+  files = (made shape 1 1 1 true [] ∷ []) ∷ (made shape 1 2 1 true [] ∷ [])
+      ∷ (made shape 2 3 1 true [] ∷ []) ∷ [];
+}
+
+changed_behind_second : OnlyChanges late_change 100000 (shape ∷ shape ∷ shape ∷ [])
+changed_behind_second = record {
+  plain = (refl, (refl, tt));
+  last = refl;
+  files = (
+    empty_file 100000 1 1 (lit≤ tt),
+    (empty_file 100000 1 2 (lit≤ tt), (empty_file 100000 2 3 (lit≤ tt), tt)),
+  );
+  ends = (
+    record { volume_end = lit≤ tt; file_end = λ e. refl },
+    (
+      record { volume_end = lit≤ tt; file_end = λ e. refl },
+      (record { volume_end = lit≤ tt; file_end = λ e. refl }, tt),
+    ),
+  );
+  refused = λ h. let e : 2 ≡ 1 = h.1.0 in absurd (omega arith);
+}

@@ -1,0 +1,162 @@
+-- Labels that are not plain, a second file that is not tight, and a change of volumes before a file
+-- end that has no room.
+use Rattle.std.proofs.Common.{◌≡◌, ◌≤◌, ℕ, List, [], ◌∷◌, ◌++◌, get_or, true, false, refl, sym, ap}
+use Rattle.std.proofs.Common.{subst, arith, lit≤, lit<}
+use Rattle.std.specs.Prelude.{map, replicate, slice_index, Ok}
+use Rattle.tape_label.specs.declared.values.Kind.{Kind}
+use Rattle.tape_label.specs.declared.values.Kind.TheVariants as kinds
+use Rattle.tape_label.specs.declared.values.Head2.{Head2}
+use Rattle.tape_label.specs.Head2.{IsHead2, Head2Fits}
+use Rattle.tape_label.specs.Reading.{head2_at}
+use Rattle.tape_label.proofs.Second.{head2_again}
+use Rattle.tape_blocks.specs.Tight.{Filled, IsWritten}
+use Rattle.tape_set.specs.Layout.{FileSet, Section, all_items}
+use Rattle.tape_set.specs.Sizes.{items_size}
+use Rattle.tape_set.specs.Tight.{IsTight, IsTightFile, HasPlainLabels, second_of}
+use Rattle.tape_set.proofs.Worked.{set_id, second, made, second_is, made_plain, plain_volume}
+use Rattle.tape_set.proofs.WorkedFile.{shape, shape_fits}
+use Rattle.tape_set.proofs.WorkedReadings.{shorter}
+use Rattle.tape_set.proofs.WorkedSpan as span
+use Rattle.tape_set.proofs.RefusedTight.{OnlyFiles, OnlyChanges}
+
+-- ---- second labels, each wrong by itself
+
+-- a label tells one block length
+one_length : (label : List ℕ) (kind : Kind) (h g : Head2) → IsHead2 label kind h
+    → IsHead2 label kind g → h.block_len ≡ g.block_len
+one_length label kind h g a b = ap (λ v. v.block_len) same
+  where
+    same : h ≡ g
+    same =
+        let x : head2_at label ≡ Ok h = head2_again label kind h a in
+        let y : head2_at label ≡ Ok g = head2_again label kind g b in
+        cc
+
+shorter_fits : Head2Fits (second_of shorter)
+shorter_fits = record { block_len = lit≤ tt; rec_len = (lit≤ tt, lit≤ tt); offset = lit≤ tt }
+
+-- blocks of 400 in HDR2 alone
+abbrev other_header : Section
+other_header = record (made shape 1 1 1 true []) { hdr2 = second kinds.Hdr2 shorter }
+
+other_in_header : HasPlainLabels shape other_header → ⊥
+other_in_header p =
+    let e : 400 ≡ 800 = one_length (second kinds.Hdr2 shorter) kinds.Hdr2 (second_of shorter)
+    (second_of shape) (second_is kinds.Hdr2 shorter tt shorter_fits) p.hdr2 in
+    absurd (omega (arith, e))
+
+-- in EOF2 alone
+abbrev other_trailer : Section
+other_trailer = record (made shape 1 1 1 true []) { trailers = second kinds.Eof2 shorter ∷ [] }
+
+other_in_trailer : HasPlainLabels shape other_trailer → ⊥
+other_in_trailer p =
+    let same : second kinds.Eof2 shorter ∷ [] ≡ p.second ∷ [] = p.trailers in
+    let it : second kinds.Eof2 shorter ≡ p.second = ap (λ v. get_or v 0 []) same in
+    let tells : IsHead2 (second kinds.Eof2 shorter) kinds.Eof2 (second_of shape) =
+    subst (λ v. IsHead2 v kinds.Eof2 (second_of shape)) (sym it) p.trailer2 in
+    let e : 400 ≡ 800 = one_length (second kinds.Eof2 shorter) kinds.Eof2 (second_of shorter)
+    (second_of shape) (second_is kinds.Eof2 shorter tt shorter_fits) tells in
+    absurd (omega (arith, e))
+
+-- EOF2 behind EOV1
+abbrev ended_behind : Section
+ended_behind = record (made shape 1 1 1 false []) { trailers = second kinds.Eof2 shape ∷ [] }
+
+ended_behind_volume_end : HasPlainLabels shape ended_behind → ⊥
+ended_behind_volume_end p =
+    let same : second kinds.Eof2 shape ∷ [] ≡ p.second ∷ [] = p.trailers in
+    let it : second kinds.Eof2 shape ≡ p.second = ap (λ v. get_or v 0 []) same in
+    let named : IsHead2 (second kinds.Eof2 shape) kinds.Eov2 (second_of shape) =
+    subst (λ v. IsHead2 v kinds.Eov2 (second_of shape)) (sym it) p.trailer2 in
+    let e : 70 ≡ 86 = ap (λ v. slice_index v 2) named.kind.named in
+    absurd (omega (arith, e))
+
+-- ---- the second of two files
+
+abbrev two_empty : FileSet
+two_empty = record {
+  set_id = set_id;
+  volumes = plain_volume ∷ [];
+  files = (made shape 1 1 1 true [] ∷ []) ∷ (made shape 1 2 1 true [] ∷ []) ∷ [];
+}
+
+-- its blocks were to have 400 bytes
+second_file_not_tight : OnlyFiles two_empty 100000 (shape ∷ shorter ∷ [])
+second_file_not_tight = record {
+  plain = (refl, tt);
+  last = refl;
+  ends = (
+    record { volume_end = lit≤ tt; file_end = λ e. refl },
+    (record { volume_end = lit≤ tt; file_end = λ e. refl }, tt),
+  );
+  changes = (refl, tt);
+  refused = λ h.
+      let e : 800 ≡ 400 = one_length (second kinds.Hdr2 shape) kinds.Hdr2 (second_of shape)
+      (second_of shorter) (second_is kinds.Hdr2 shape tt shape_fits) h.1.0.labels.0.hdr2 in
+      absurd (omega arith);
+}
+
+-- ---- a file end that has no room, where a block would have it
+
+-- a spanned record of 121 bytes fills ten blocks of 18 bytes; behind them on a volume of 1,083
+-- bytes the file end would need 1,084, and one block more only 746
+abbrev ten_blocks : List Filled
+ten_blocks = span.first_block ∷ replicate 8 span.middle_block ++ span.last_block ∷ []
+
+abbrev ended_on_second : FileSet
+ended_on_second = record {
+  set_id = set_id;
+  volumes = plain_volume ∷ plain_volume ∷ [];
+  files = (made span.shape 1 1 1 false ten_blocks ∷ made span.shape 2 1 2 true [] ∷ []) ∷ [];
+}
+
+ten_packed : (capacity : ℕ) → 1042 ≤ capacity → IsTightFile capacity span.shape
+    (made span.shape 1 1 1 false ten_blocks ∷ made span.shape 2 1 2 true [] ∷ [])
+ten_packed capacity room = record {
+  writable = span.writable;
+  room = room;
+  labels = (
+    made_plain span.shape 1 1 1 false ten_blocks span.shape_fits,
+    (made_plain span.shape 2 1 2 true [] span.shape_fits, tt),
+  );
+  records = replicate 121 65 ∷ [];
+  lengths = (lit≤ tt, tt);
+  packed = record {
+    joins = refl;
+    order = (refl, span.middles_in_order 8);
+    each = (
+      span.first_written,
+      span.middles_before (IsWritten span.shape) 8 span.middle_written span.last_written,
+    );
+    closed = (lit< tt, span.middles_closed 7);
+  };
+}
+
+ended_on_second_tight : IsTight ended_on_second 1083 (span.shape ∷ [])
+ended_on_second_tight = record {
+  plain = (refl, (refl, tt));
+  last = refl;
+  files = (ten_packed 1083 (lit≤ tt), tt);
+  ends = (
+    record { volume_end = lit≤ tt; file_end = λ e. absurd (cc) },
+    (record { volume_end = lit≤ tt; file_end = λ e. refl }, tt),
+  );
+  changes = (refl, tt);
+}
+
+-- with one byte more the file end has room, and the file has to end there
+end_would_fit : OnlyChanges ended_on_second 1084 (span.shape ∷ [])
+end_would_fit = record {
+  plain = (refl, (refl, tt));
+  last = refl;
+  files = (ten_packed 1084 (lit≤ tt), tt);
+  ends = (
+    record { volume_end = lit≤ tt; file_end = λ e. absurd (cc) },
+    (record { volume_end = lit≤ tt; file_end = λ e. refl }, tt),
+  );
+  refused = λ h. let e : true ≡ false = h.0 in absurd (cc);
+}
+
+ended_on_second_sizes : map items_size (all_items ended_on_second) ≡ 716 ∷ 456 ∷ []
+ended_on_second_sizes = refl

@@ -1,0 +1,98 @@
+-- A whole reading of a section's volume takes each position in the section behind it.
+use Rattle.std.proofs.Common.{◌≡◌, ◌≤◌, ℕ, zero, suc, ◌+◌, ◌-◌, List, [], ◌∷◌, ◌++◌, length, take}
+use Rattle.std.proofs.Common.{drop, Bool, true, false, ltb, refl, ap, ◌∙◌, arith, eq-eqb}
+use Rattle.std.proofs.Common.{length-append}
+use Rattle.std.specs.Prelude.{map, replicate, ◌==◌, ◌&&◌}
+use Rattle.std.proofs.lemmas.Bool.Decides.{nat_tests}
+use Rattle.std.proofs.lemmas.List.{length-map}
+use Rattle.tape_set.specs.declared.position.Position.{Position}
+use Rattle.tape_set.specs.declared.position.Position.TheVariants.{Awaits}
+use Rattle.tape_set.specs.Layout.{FileSet, Section, Entry, a_label, a_data_block, a_mark}
+use Rattle.tape_set.specs.Layout.{data_group, trailer_group, item_of, entries, items}
+use Rattle.tape_set.specs.Reach.{far, far_in, before_data, passes, good_run, first_unread}
+use Rattle.tape_set.specs.Reach.{both_good, moved, behind}
+use Rattle.tape_set.specs.Laws.{WholeGivesSection}
+use Rattle.tape_set.proofs.Reaching.{reading_of, both_true}
+use Rattle.tape_set.proofs.Standing.{data_stands}
+
+-- ---- where all was read well
+
+all_pass : (m : ℕ) (es : List Entry) → length es ≤ m → passes (replicate m true) es ≡ true
+all_pass m [] h = refl
+all_pass zero (e ∷ es) h = absurd (omega arith)
+all_pass (suc m) (e ∷ es) h = all_pass m es (omega arith)
+
+all_behind : (a m : ℕ) → drop a (replicate (a + m) true) ≡ replicate m true
+all_behind zero m = let e : 0 + m ≡ m = omega arith in rw e refl
+all_behind (suc a) m = let e : suc a + m ≡ suc (a + m) = omega arith in rw e (all_behind a m)
+
+run_of_all : (k m : ℕ) → k ≤ m → good_run (take k (replicate m true)) ≡ k
+run_of_all zero m h = refl
+run_of_all (suc k) zero h = absurd (omega arith)
+run_of_all (suc k) (suc m) h =
+    let ih : good_run (take k (replicate m true)) ≡ k = run_of_all k m (omega arith) in
+    omega arith
+
+none_unread : (b n m : ℕ) → b ≤ n → n ≤ m → first_unread (replicate m true) b n ≡ n
+none_unread b n m le most =
+    let e : m ≡ b + (m - b) = omega arith in
+    let behind_b : drop b (replicate m true) ≡ replicate (m - b) true =
+    ap (λ v. drop b (replicate v true)) e ∙ all_behind b (m - b) in
+    let run : good_run (take (n - b) (drop b (replicate m true))) ≡ n - b =
+    rw behind_b (run_of_all (n - b) (m - b) (omega arith)) in
+    omega arith
+
+both_of_all : (n q : ℕ) → both_good (drop n (replicate (n + (q + 2)) true)) ≡ true
+both_of_all n q =
+    let e : q + 2 ≡ suc (suc q) = omega arith in
+    ap both_good (all_behind n (q + 2)) ∙ (rw e refl)
+
+-- ---- in a section
+
+all_moved : (p : Position) (sect b : ℕ) (s : Section) (q : ℕ) → b ≤ length s.blocks
+    → moved p sect b s (replicate (length s.blocks + (q + 2)) true) ≡ behind sect s
+all_moved p sect b s q le =
+    let n = length s.blocks in
+    let good : List Bool = replicate (n + (q + 2)) true in
+    let not_behind : ltb n b ≡ false = grind (arith, nat_tests) in
+    let reached : first_unread good b n ≡ n = none_unread b n (n + (q + 2)) le (omega arith) in
+    let at_end : ltb n n ≡ false = grind (arith, nat_tests) in
+    rw (not_behind, reached, at_end, both_of_all n q) refl
+
+-- behind a section's data stand its closing mark, its trailer label and a mark at least
+trailers_three : (s : Section) → length (trailer_group s) ≡ length s.trailers + 3
+trailers_three s = omega (
+  arith,
+  length-append (map a_label s.trailers) (a_mark ∷ []),
+  length-map {A = List ℕ} {B = Entry} s.trailers a_label,
+)
+
+pub whole_gives : (set : FileSet) → WholeGivesSection set
+whole_gives set file sect b k s found some le =
+    let past : List Entry = before_data set file sect s in
+    let front = data_stands set file sect s found some in
+    let all : length (((past ++ data_group s.blocks) ++ trailer_group s) ++ front.0)
+    ≡ length (entries set s.volume) = ap (λ v. length v) front.1 in
+    let q : ℕ = length s.trailers + (1 + length front.0) in
+    let many : length (items set s.volume) ≡ length past + (length s.blocks + (q + 2)) =
+    omega (
+      arith,
+      all,
+      length-map (entries set s.volume) item_of,
+      length-append ((past ++ data_group s.blocks) ++ trailer_group s) front.0,
+      length-append (past ++ data_group s.blocks) (trailer_group s),
+      length-append past (data_group s.blocks),
+      data_length s,
+      trailers_three s,
+    ) in
+    let good : List Bool = replicate (length past + (length s.blocks + (q + 2))) true in
+    let here : (s.volume == s.volume) ≡ true = eq-eqb s.volume s.volume refl in
+    let passed : passes good past ≡ true = all_pass _ past (omega arith) in
+    let both : ((s.volume == s.volume) && passes good past) ≡ true = both_true _ _ here passed in
+    ap (λ v. far set file (Awaits sect b k) (reading_of s.volume (replicate v true))) many
+    ∙ (ap (λ o. far_in set file (Awaits sect b k) sect b (reading_of s.volume good) o) found
+    ∙ (rw both (ap (λ v. moved (Awaits sect b k) sect b s v) (all_behind (length past)
+    (length s.blocks + (q + 2))) ∙ all_moved (Awaits sect b k) sect b s q le)))
+  where
+    data_length : (x : Section) → length (data_group x.blocks) ≡ length x.blocks
+    data_length x = length-map x.blocks (λ b. a_data_block b.bytes)

@@ -1,0 +1,105 @@
+-- A lawful set that no writer writes: a data block without parts, a volume that ends with EOF1 and
+-- the next file on the next one, and a volume without sections.
+use Rattle.std.proofs.Common.{◌≡◌, ◌≤◌, ℕ, [], ◌∷◌, true, refl, inr, lit≤, lit<}
+use Rattle.std.specs.Prelude.{map, replicate, length}
+use Rattle.tape_label.specs.declared.values.Format.TheVariants.{Fixed}
+use Rattle.tape_blocks.specs.Block.{Holds}
+use Rattle.tape_blocks.specs.Tight.{Filled}
+use Rattle.tape_set.specs.declared.position.Position.TheVariants.{Finished}
+use Rattle.tape_set.specs.Position.{start, awaiting}
+use Rattle.tape_set.specs.Layout.{FileSet, all_items}
+use Rattle.tape_set.specs.Before.{before}
+use Rattle.tape_set.specs.Lawful.{IsLawful, most_blocks}
+use Rattle.tape_set.specs.Reach.{far}
+use Rattle.tape_set.proofs.Worked.{set_id, made, form, Fit, made_section, made_form, plain_volume}
+use Rattle.tape_set.proofs.Worked.{plain_volume_is}
+use Rattle.tape_set.proofs.WorkedFile.{shape, shape_fits}
+use Rattle.tape_set.proofs.WorkedReadings.{reading}
+
+fit_of : (file n : ℕ) → 1 ≤ file → file ≤ 9999 → n ≤ most_blocks → Fit file 1 n
+fit_of file n a b c = record {
+  file_least = a;
+  file_most = b;
+  sect_least = lit≤ tt;
+  sect_most = lit≤ tt;
+  count_most = c;
+}
+
+abbrev no_parts : Filled
+no_parts = record { bytes = replicate 5 94; parts = [] }
+
+no_parts_held : Holds Fixed 80 0 no_parts.bytes no_parts.parts
+no_parts_held =
+    (replicate 5 94, record { reaches = lit≤ tt; units = tt; body = refl }, (refl, lit< tt))
+
+abbrev pub sparse : FileSet
+sparse = record {
+  set_id = set_id;
+  volumes = plain_volume ∷ plain_volume ∷ plain_volume ∷ [];
+  files = (made shape 1 1 1 true (no_parts ∷ []) ∷ []) ∷ (made shape 2 2 1 true [] ∷ []) ∷ [];
+}
+
+sparse_lawful : IsLawful sparse
+sparse_lawful = record {
+  volumes = (plain_volume_is, (plain_volume_is, (plain_volume_is, tt)));
+  each = (
+    made_section shape 3 1 1 1 true (no_parts ∷ []) shape_fits
+        (fit_of 1 1 (lit≤ tt) (lit≤ tt) (lit≤ tt)) (lit≤ tt) (lit≤ tt) ((lit< tt, lit≤ tt), tt),
+    (
+      made_section shape 3 2 2 1 true [] shape_fits (fit_of 2 0 (lit≤ tt) (lit≤ tt) (lit≤ tt))
+          (lit≤ tt) (lit≤ tt) tt,
+      tt,
+    ),
+  );
+  files = (
+    record {
+      ends = refl;
+      alike = (
+        form shape,
+        (
+          made_form shape 1 1 1 true (no_parts ∷ []) shape_fits
+              (fit_of 1 1 (lit≤ tt) (lit≤ tt) (lit≤ tt)) (no_parts_held, tt),
+          tt,
+        ),
+      );
+      order = refl;
+    },
+    (
+      record {
+        ends = refl;
+        alike = (
+          form shape,
+          (
+            made_form shape 2 2 1 true [] shape_fits (fit_of 2 0 (lit≤ tt) (lit≤ tt) (lit≤ tt)) tt,
+            tt,
+          ),
+        );
+        order = refl;
+      },
+      tt,
+    ),
+  );
+  first = refl;
+  goes_on = (inr refl, tt);
+}
+
+-- the last volume has its label and a mark
+sparse_lengths : map length (all_items sparse) ≡ 10 ∷ 9 ∷ 2 ∷ []
+sparse_lengths = refl
+
+-- the block without parts is passed, and nothing is before any position
+passed : far sparse 1 start (reading 1 (replicate 5 true)) ≡ awaiting 1 1
+passed = refl
+
+none_before : before sparse 1 Finished ≡ []
+none_before = refl
+
+-- the second file is not on the first volume, nor on the last
+first_volume : far sparse 2 start (reading 1 (replicate 10 true)) ≡ start
+first_volume = refl
+
+last_volume : far sparse 2 start (reading 3 (replicate 2 true)) ≡ start
+last_volume = refl
+
+own_volume : far sparse 2 start (reading 2 (replicate 7 true)) ≡ Finished
+own_volume = refl
