@@ -1,0 +1,235 @@
+-- The writer's calls, as its callers see them.
+use Rattle.std.proofs.Common.{◌≡◌, ℕ, ◌+◌, List, [], ◌∷◌, ◌++◌, length, refl, sym, ap, ◌∙◌, subst}
+use Rattle.std.proofs.Common.{inr}
+use Rattle.std.specs.Prelude.{map}
+use Rattle.std.proofs.lemmas.List.{map-append, length-map}
+use Rattle.tape_label.specs.declared.values.Vol1.{Vol1}
+use Rattle.tape_label.specs.declared.values.Head1.{Head1}
+use Rattle.tape_blocks.specs.declared.shape.Shape.{Shape}
+use Rattle.tape_blocks.specs.Packing.{Packing}
+use Rattle.tape_set.specs.Layout.{Section}
+use Rattle.tape_writer.specs.declared.fault.WriteFault.{WriteFault}
+use Rattle.tape_writer.specs.declared.fault.WriteFault.TheVariants as faults
+use Rattle.tape_writer.specs.declared.course.Opened.{Opened}
+use Rattle.tape_writer.specs.declared.course.Course.{Course}
+use Rattle.tape_writer.specs.declared.phase.Phase.{Phase}
+use Rattle.tape_writer.specs.declared.phase.Phase.TheVariants.{Between, Filing, Failed}
+use Rattle.tape_writer.specs.declared.phase.OpenFile.{OpenFile}
+use Rattle.tape_writer.specs.Tapes.{Tapes}
+use Rattle.tape_writer.specs.Faults.{IsEnding, IsOfOut}
+use Rattle.tape_writer.specs.Told.{Told, opened_by, with_record}
+use Rattle.tape_writer.specs.Inside.{IsInside, IsFiling, IsBetween, IsWaiting, IsStuck}
+use Rattle.tape_writer.specs.Refusals.{IsBeginFault, IsPutFault, IsFinishFault}
+use Rattle.tape_writer.specs.State.{SetState, Stands, IsFilingLast, IsWriting, Leaves, IfFiling}
+use Rattle.tape_writer.specs.State.{IsOutOfVolumes}
+
+with_last : (past : List Told) (t : Told) (r : List ℕ) → with_record (past ++ t ∷ []) r
+    ≡ past ++ record { file = t.file; records = t.records ++ r ∷ [] } ∷ []
+with_last [] t r = refl
+with_last (u ∷ []) t r = refl
+with_last (u ∷ v ∷ past) t r = ap (λ z. u ∷ z) (with_last (v ∷ past) t r)
+
+with_kept : (told : List Told) (r : List ℕ)
+    → map (λ t. t.file) (with_record told r) ≡ map (λ t. t.file) told
+with_kept [] r = refl
+with_kept (t ∷ []) r = refl
+with_kept (t ∷ u ∷ ts) r = ap (λ z. t.file ∷ z) (with_kept (u ∷ ts) r)
+
+not_nil : (xs : List Told) (x : Told) → xs ++ x ∷ [] ≡ [] → ⊥
+not_nil [] x e = cc
+not_nil (y ∷ xs) x e = cc
+
+-- the file under way is the last one told
+last_told : {T : Type 0} (H : Tapes → Type 0) (w : SetState T) (o : OpenFile) (told : List Told)
+    → w.phase ≡ Filing o → IsWriting H w told
+    → IsFilingLast H w.volumes w.capacity w.set_id w.course o told
+last_told H w o told is k =
+    subst (λ z. Stands H w.volumes w.capacity w.set_id w.course z told) is k.stands
+
+pub put_told : {T : Type 0} (H H' : Tapes → Type 0) (w : SetState T) (out : T) (vs : List Vol1)
+    (course : Course) (o : OpenFile) (q : Packing) (told : List Told) (r : List ℕ)
+    → w.phase ≡ Filing o → vs ≡ w.volumes
+    → ((fs : List (List Section)) (records : List (List ℕ))
+    → IsInside H vs w.capacity w.set_id o.file w.course o.packer fs records
+    → IsInside H' vs w.capacity w.set_id o.file course q fs (records ++ r ∷ []))
+    → IsWriting H w told
+    → IsWriting H' (record w
+    { out = out; course = course; phase = Filing (record { file = o.file; packer = q }) })
+    (with_record told r)
+put_told H H' w out vs course o q told r is v packed k =
+    let last = last_told H w o told is k in
+    let f = last.filing in
+    record {
+      kept = k.kept ∙ sym (with_kept told r);
+      stands = record {
+        past = last.past;
+        records = last.records ++ r ∷ [];
+        is_told = ap (λ z. with_record z r) last.is_told
+            ∙ with_last last.past (record { file = o.file; records = last.records }) r;
+        filing = record {
+          files = f.files;
+          filed = f.filed;
+          inside = subst (λ z. IsInside H' z w.capacity w.set_id o.file course q f.files
+              (last.records ++ r ∷ [])) v
+              (packed f.files last.records
+              (subst (λ z. IsInside H z w.capacity w.set_id o.file w.course o.packer f.files
+              last.records) (sym v) f.inside));
+        };
+      };
+    }
+
+pub end_told : {T : Type 0} (H H' : Tapes → Type 0) (w : SetState T) (out : T) (vs : List Vol1)
+    (course : Course) (o : OpenFile) (told : List Told)
+    → w.phase ≡ Filing o → vs ≡ w.volumes
+    → ((past : List Told) (records : List (List ℕ))
+    → IsFiling H vs w.capacity w.set_id o.file w.course o.packer past records
+    → IsBetween H' vs w.capacity w.set_id course (past
+    ++ record { file = o.file; records = records } ∷ []))
+    → IsWriting H w told
+    → IsWriting H' (record w { out = out; course = course; phase = Between }) told
+end_told H H' w out vs course o told is v closed k =
+    let last = last_told H w o told is k in
+    let all = last.past ++ record { file = o.file; records = last.records } ∷ [] in
+    let between : IsBetween H' vs w.capacity w.set_id course all =
+    closed last.past last.records
+    (subst (λ z. IsFiling H z w.capacity w.set_id o.file w.course o.packer last.past last.records)
+    (sym v) last.filing) in
+    record {
+      kept = k.kept;
+      stands = inr (
+        subst (IsBetween H' w.volumes w.capacity w.set_id course) (sym last.is_told)
+            (subst (λ z. IsBetween H' z w.capacity w.set_id course all) v between),
+        λ z. not_nil last.past _ (sym last.is_told ∙ z),
+      );
+    }
+
+opened_told : {T : Type 0} (H H' : Tapes → Type 0) (w : SetState T) (out : T) (vs : List Vol1)
+    (files : List Opened) (course : Course) (p : Packing) (told : List Told) (head : Head1)
+    (shape : Shape) (number : ℕ)
+    → w.phase ≡ Between → vs ≡ w.volumes → number ≡ length w.files + 1
+    → files ≡ w.files ++ opened_by w.set_id number head shape ∷ []
+    → (number ≡ length told + 1 → IsWaiting H vs w.capacity w.set_id w.course told
+    → IsFiling H' vs w.capacity w.set_id (opened_by w.set_id number head shape) course p told [])
+    → IsWriting H w told
+    → IsWriting H'
+    (record w {
+      out = out;
+      files = files;
+      course = course;
+      phase = Filing (record { file = opened_by w.set_id number head shape; packer = p });
+    })
+    (told ++ record { file = opened_by w.set_id (length told + 1) head shape; records = [] } ∷ [])
+opened_told H H' w out vs files course p told head shape number is v n f filing k =
+    let waits : IsWaiting H w.volumes w.capacity w.set_id w.course told =
+    subst (λ z. Stands H w.volumes w.capacity w.set_id w.course z told) is k.stands in
+    let many : length w.files ≡ length told = ap length k.kept ∙ length-map told (λ t. t.file) in
+    let number_is : number ≡ length told + 1 = n ∙ ap (λ i. i + 1) many in
+    let o : OpenFile = record { file = opened_by w.set_id number head shape; packer = p } in
+    let t : Told = record { file = opened_by w.set_id number head shape; records = [] } in
+    let made : IsWriting H' (record w
+    { out = out; files = files; course = course; phase = Filing o }) (told ++ t ∷ []) = record {
+      kept = f ∙ (ap (λ z. z ++ o.file ∷ []) k.kept ∙ sym (map-append (λ x. x.file) told (t ∷ [])));
+      stands = record {
+        past = told;
+        records = [];
+        is_told = refl;
+        filing = subst (λ z. IsFiling H' z w.capacity w.set_id o.file course p told []) v
+            (filing number_is
+            (subst (λ z. IsWaiting H z w.capacity w.set_id w.course told) (sym v) waits));
+      };
+    } in
+    subst (λ i. IsWriting H'
+    (record w { out = out; files = files; course = course; phase = Filing o })
+    (told ++ record { file = opened_by w.set_id i head shape; records = [] } ∷ [])) number_is made
+
+pub begin_told : {T : Type 0} (H H' : Tapes → Type 0) (w : SetState T) (out : T) (vs : List Vol1)
+    (files : List Opened) (file : Opened) (course : Course) (p : Packing) (told : List Told)
+    (head : Head1) (shape : Shape)
+    → w.phase ≡ Between → vs ≡ w.volumes
+    → file ≡ opened_by w.set_id (length w.files + 1) head shape → files ≡ w.files ++ file ∷ []
+    → (file.head.set_id ≡ w.set_id → file.head.sequence ≡ length told + 1
+    → IsWaiting H vs w.capacity w.set_id w.course told
+    → IsFiling H' vs w.capacity w.set_id file course p told [])
+    → IsWriting H w told
+    → IsWriting H'
+    (record w {
+      out = out;
+      files = files;
+      course = course;
+      phase = Filing (record { file = file; packer = p });
+    })
+    (told ++ record { file = opened_by w.set_id (length told + 1) head shape; records = [] } ∷ [])
+begin_told H H' w out vs files file course p told head shape is v same f filing k =
+    let number = length w.files + 1 in
+    subst (λ z. files ≡ w.files ++ z ∷ []
+    → (z.head.set_id ≡ w.set_id → z.head.sequence ≡ length told + 1
+    → IsWaiting H vs w.capacity w.set_id w.course told
+    → IsFiling H' vs w.capacity w.set_id z course p told [])
+    → IsWriting H'
+    (record w {
+      out = out;
+      files = files;
+      course = course;
+      phase = Filing (record { file = z; packer = p });
+    })
+    (told ++ record { file = opened_by w.set_id (length told + 1) head shape; records = [] } ∷ []))
+    (sym same)
+    (λ g h. opened_told H H' w out vs files course p told head shape number is v refl g
+    (λ n x. h refl n x) k)
+    f filing
+
+pub stuck_told : {T : Type 0} (H H' : Tapes → Type 0) (w : SetState T) (vs : List Vol1)
+    (course : Course) (o : OpenFile) (told : List Told)
+    → w.phase ≡ Filing o → vs ≡ w.volumes
+    → ((fs : List (List Section)) (records : List (List ℕ))
+    → IsInside H vs w.capacity w.set_id o.file w.course o.packer fs records
+    → IsStuck H' vs w.capacity w.set_id o.file course fs)
+    → IsWriting H w told → IsOutOfVolumes H' w course
+stuck_told H H' w vs course o told is v stuck k =
+    let last = last_told H w o told is k in
+    let f = last.filing in
+    subst (λ z. IfFiling z
+    (λ o. (fs : List (List Section)) × IsStuck H' w.volumes w.capacity w.set_id o.file course fs))
+    (sym is) (
+      f.files,
+      subst (λ z. IsStuck H' z w.capacity w.set_id o.file course f.files) v
+          (stuck f.files last.records
+          (subst (λ z. IsInside H z w.capacity w.set_id o.file w.course o.packer f.files
+          last.records) (sym v) f.inside)),
+    )
+
+-- inside a file
+pub if_filing : (x : Phase) (o : OpenFile) (Q : OpenFile → Type 0) → x ≡ Filing o → Q o
+    → IfFiling x Q
+if_filing x o Q e q = subst (λ z. IfFiling z Q) (sym e) q
+
+-- a fault that ends the writer leaves it so
+pub leaves_failed : {T : Type 0} (old new : SetState T) (fault : WriteFault) → new.phase ≡ Failed
+    → IsEnding fault → Leaves old new fault
+leaves_failed old new faults.OutOfVolumes is e = is
+leaves_failed old new faults.Device is e = is
+leaves_failed old new faults.OutOfMemory is e = is
+leaves_failed old new _ is e = absurd e
+
+-- the faults that end the writer may come of any record
+pub put_ending : (o : OpenFile) (bytes : List ℕ) (fault : WriteFault) → IsEnding fault
+    → IsPutFault o bytes fault
+put_ending o bytes faults.OutOfVolumes e = tt
+put_ending o bytes faults.Device e = tt
+put_ending o bytes faults.OutOfMemory e = tt
+put_ending o bytes _ e = absurd e
+
+-- those of the tapes, of any file that is begun
+pub begin_out : (capacity n : ℕ) (head : Head1) (shape : Shape) (fault : WriteFault)
+    → IsOfOut fault → IsBeginFault capacity n head shape fault
+begin_out capacity n head shape faults.Device e = tt
+begin_out capacity n head shape faults.OutOfMemory e = tt
+begin_out capacity n head shape faults.OutOfVolumes e = absurd (e.2 refl)
+begin_out capacity n head shape _ e = absurd e.0
+
+-- and of a set's end
+pub finish_out : (volumes : ℕ) (fault : WriteFault) → IsOfOut fault → IsFinishFault volumes fault
+finish_out volumes faults.Device e = tt
+finish_out volumes faults.OutOfMemory e = tt
+finish_out volumes faults.OutOfVolumes e = absurd (e.2 refl)
+finish_out volumes _ e = absurd e.0

@@ -1,0 +1,92 @@
+-- What calls keep, one behind another.
+use Rattle.std.proofs.Common.{◌≡◌, ◌≤◌, ℕ, ◌+◌, List, [], ◌∷◌, ◌++◌, refl, sym, ◌∙◌, subst}
+use Rattle.std.proofs.Common.{append_assoc, arith, inl, inr}
+use Rattle.std.proofs.lemmas.List.{append-nil}
+use Rattle.tape_image.specs.Tape.{TapeItem}
+use Rattle.tape_set.specs.Sizes.{item_size}
+use Rattle.tape_set.proofs.Measures.{items_size-append}
+use Rattle.tape_writer.specs.Tapes.{Tapes, UnderWay, Rose}
+use Rattle.tape_writer.specs.Lasting.{Lasting}
+
+pub rose_from : (a b c : ℕ) → a ≤ b → Rose b c → Rose a c
+rose_from a b c le (inl lt) = inl (omega arith)
+rose_from a b c le (inr top) = inr top
+
+pub rose_to : (a b c : ℕ) → Rose a b → b ≤ c → Rose a c
+rose_to a b c (inl lt) le = inl (omega arith)
+rose_to a b c (inr top) le = inr (omega arith)
+
+pub lasting_same : (H : Tapes → Type 0) (n m u v : ℕ) → n ≤ m → v ≡ u → Lasting H n u H m v
+lasting_same H n m u v le e = record {
+  lasts = λ volumes items h s. record {
+    more = [];
+    items = items;
+    held = subst (λ z. H (UnderWay z items)) (sym (append-nil volumes)) h;
+    size = e ∙ s;
+  };
+  count = le;
+}
+
+pub lasting_then : (H K L : Tapes → Type 0) (n m k u v w : ℕ) → Lasting H n u K m v
+    → Lasting K m v L k w → Lasting H n u L k w
+lasting_then H K L n m k u v w a b = record {
+  lasts = λ volumes items h s.
+      let x = a.lasts volumes items h s in
+      let y = b.lasts (volumes ++ x.more) x.items x.held x.size in
+      record {
+        more = x.more ++ y.more;
+        items = y.items;
+        held = subst (λ z. L (UnderWay z y.items)) (append_assoc volumes x.more y.more) y.held;
+        size = y.size;
+      };
+  count = omega (arith, a.count, b.count);
+}
+
+-- an item was taken
+pub lasting_item : (H K : Tapes → Type 0) (n m u v : ℕ) (x : TapeItem)
+    → ((volumes : List (List TapeItem)) (items : List TapeItem) → H (UnderWay volumes items)
+    → K (UnderWay volumes (items ++ x ∷ []))) → n ≤ m → v ≡ u + item_size x → Lasting H n u K m v
+lasting_item H K n m u v x f le e = record {
+  lasts = λ volumes items h s. record {
+    more = [];
+    items = items ++ x ∷ [];
+    held = subst (λ z. K (UnderWay z (items ++ x ∷ []))) (sym (append-nil volumes))
+        (f volumes items h);
+    size = omega (arith, e, s, items_size-append items (x ∷ []));
+  };
+  count = le;
+}
+
+-- nothing was
+pub lasting_err : (H K : Tapes → Type 0) (n m u v : ℕ) → ((tapes : Tapes) → H tapes → K tapes)
+    → n ≤ m → v ≡ u → Lasting H n u K m v
+lasting_err H K n m u v f le e = record {
+  lasts = λ volumes items h s. record {
+    more = [];
+    items = items;
+    held =
+        subst (λ z. K (UnderWay z items)) (sym (append-nil volumes)) (f (UnderWay volumes items) h);
+    size = e ∙ s;
+  };
+  count = le;
+}
+
+-- a volume has ended, and the next has begun
+pub lasting_next : (H K : Tapes → Type 0) (n m u v : ℕ)
+    → ((volumes : List (List TapeItem)) (items : List TapeItem) → H (UnderWay volumes
+    items) → K (UnderWay (volumes ++ items ∷ []) [])) → n ≤ m → v ≡ 0 → Lasting H n u K m v
+lasting_next H K n m u v f le e = record {
+  lasts = λ volumes items h s. record {
+    more = items ∷ [];
+    items = [];
+    held = f volumes items h;
+    size = e;
+  };
+  count = le;
+}
+
+pub lasting_self : (H : Tapes → Type 0) (n u : ℕ) → Lasting H n u H n u
+lasting_self H n u = lasting_same H n n u u (omega arith) refl
+
+-- what a row of calls needs of the calls
+pub ruleset kept = (lasting_then, lasting_self, rose_from)

@@ -1,0 +1,15 @@
+pub mod LabelLaws
+pub mod Last
+pub mod Lists
+pub mod Volumes
+pub mod Sections
+pub mod Changed
+pub mod Steps
+pub mod Held
+pub mod Packed
+pub mod Filed
+pub mod Finish
+pub mod Ends
+pub mod Calls
+pub mod Closing
+pub mod Written

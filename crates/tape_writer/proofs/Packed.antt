@@ -1,0 +1,234 @@
+-- A record's bytes, one block after another.
+use Rattle.std.proofs.Common.{◌≡◌, ◌≢◌, ◌<◌, ◌≤◌, ℕ, ◌+◌, List, [], ◌∷◌, ◌++◌, length, false, None}
+use Rattle.std.proofs.Common.{refl, sym, ap, ◌∙◌, subst, inl, inr, arith, drop}
+use Rattle.std.specs.Prelude.{OnOk, IfErr, Result, Ok, Err, ◌⊎◌}
+use Rattle.tape_label.specs.declared.values.Vol1.{Vol1}
+use Rattle.tape_blocks.specs.declared.shape.Shape.{Shape}
+use Rattle.tape_blocks.specs.declared.offer.Offer.TheVariants.{Taken, BlockReady}
+use Rattle.tape_blocks.specs.Block.{Portion}
+use Rattle.tape_blocks.specs.Packing.{Packing, Given, IsJudged, IsWritable, HasRecordLength, Offers}
+use Rattle.tape_blocks.specs.Packing.{emptied}
+use Rattle.tape_blocks.specs.Run.{Going}
+use Rattle.tape_blocks.specs.Tight.{Filled}
+use Rattle.tape_blocks.specs.Tight as packing
+use Rattle.tape_blocks.proofs.RunLaws.{filled_of, offers_shape, going_length, going_ends}
+use Rattle.tape_blocks.proofs.RunLaws.{going_block, run_last, run_none}
+use Rattle.tape_set.specs.Layout.{Section}
+use Rattle.tape_writer.specs.declared.fault.WriteFault.{WriteFault}
+use Rattle.tape_writer.specs.declared.course.Opened.{Opened}
+use Rattle.tape_writer.specs.declared.course.Course.{Course}
+use Rattle.tape_writer.specs.Tapes.{Tapes}
+use Rattle.tape_writer.specs.Draft.{Draft, IsOpen, Grew, open_blocks}
+use Rattle.tape_writer.specs.Inside.{IsInside, IsPacking, Flushed, IsFlat, IsStuck}
+use Rattle.tape_image.specs.Tape.{block}
+use Rattle.tape_set.specs.Sizes.{item_size}
+use Rattle.tape_writer.proofs.Steps.{block_due, end_refused}
+use Rattle.tape_writer.proofs.Lists.{all_push}
+
+-- ---- a block that is given has bytes
+
+pub given_sized : (p : Packing) (text : List ℕ) → IsWritable p.shape → Given p text
+    → (0 < length text) × (length text ≤ 99999)
+given_sized p text w given = (given.some_bytes, omega (arith, given.within, w.most))
+
+-- ---- the records of a file
+
+pub packing_first : (H : Tapes → Type 0) (vs : List Vol1) (cap : ℕ) (set_id : List ℕ)
+    (file : Opened) (course : Course) (p : Packing) (fs : List (List Section))
+    (records : List (List ℕ)) (whole : List ℕ)
+    → IsInside H vs cap set_id file course p fs records
+    → IsPacking H vs cap set_id file course p fs records whole whole
+packing_first H vs cap set_id file course p fs records whole k = record {
+  draft = k.draft;
+  is_open = k.is_open;
+  files = k.files;
+  shape = k.shape;
+  going = record {
+    front = None;
+    run = k.run (length whole);
+    content = refl;
+    length_is = λ e. absurd (let ended = k.ended in cc);
+  };
+  lengths = k.lengths;
+}
+
+pub packing_next : (H H' : Tapes → Type 0) (vs : List Vol1) (cap : ℕ) (set_id : List ℕ)
+    (file : Opened) (course course' : Course) (old new left : Packing) (fs : List (List Section))
+    (records : List (List ℕ)) (whole rest : List ℕ) (n : ℕ)
+    → IsJudged old rest → Offers old rest (BlockReady n) new → left ≡ emptied new
+    → ((d : Draft) → IsOpen H vs cap set_id file course d
+    → Flushed H' vs cap set_id file course' d new)
+    → IsPacking H vs cap set_id file course old fs records whole rest
+    → IsPacking H' vs cap set_id file course' left fs records whole (drop n rest)
+packing_next H H' vs cap set_id file course course' old new left fs
+    records whole rest n judged offers is f k =
+    let flushed = f k.draft k.is_open in
+    let next = going_block (open_blocks k.draft) old new
+    records whole rest flushed.text n k.going judged offers flushed.given in
+    subst (λ (z : Packing). IsPacking H' vs cap set_id file course' z fs records whole (drop n
+    rest)) (sym is) record {
+      draft = flushed.draft;
+      is_open = flushed.is_open;
+      files = flushed.files ∙ k.files;
+      shape = offers_shape old new rest (BlockReady n) offers ∙ k.shape;
+      going = subst (λ (z : List Filled). Going z (emptied new) records whole (drop n rest))
+          (sym flushed.blocks) next;
+      lengths = k.lengths;
+    }
+
+pub packing_last : (H : Tapes → Type 0) (vs : List Vol1) (cap : ℕ) (set_id : List ℕ)
+    (file : Opened) (course : Course) (old new : Packing) (fs : List (List Section))
+    (records : List (List ℕ)) (whole rest : List ℕ)
+    → IsJudged old rest → Offers old rest Taken new
+    → IsPacking H vs cap set_id file course old fs records whole rest
+    → IsInside H vs cap set_id file course new fs (records ++ whole ∷ [])
+packing_last H vs cap set_id file course old new fs records whole rest judged offers k =
+    let fits = going_length (open_blocks k.draft) old records whole rest k.going judged in
+    record {
+      draft = k.draft;
+      is_open = k.is_open;
+      files = k.files;
+      shape = offers_shape old new rest Taken offers ∙ k.shape;
+      ended = ap (λ (z : Packing). z.begun) offers.part;
+      run = λ n. going_ends (open_blocks k.draft) old new records whole rest n k.going offers;
+      lengths = all_push (λ r. HasRecordLength file.shape.format file.shape.rec_len (length r))
+          records whole k.lengths
+          (subst (λ (s : Shape). HasRecordLength s.format s.rec_len (length whole)) k.shape fits);
+    }
+
+-- ---- the last block of a file
+
+pub flat_none : (H : Tapes → Type 0) (vs : List Vol1) (cap : ℕ) (set_id : List ℕ) (file : Opened)
+    (course : Course) (p : Packing) (fs : List (List Section)) (records : List (List ℕ))
+    → p.parts ≡ [] → IsInside H vs cap set_id file course p fs records
+    → IsFlat H vs cap set_id file course fs records
+flat_none H vs cap set_id file course p fs records e k = record {
+  draft = k.draft;
+  is_open = k.is_open;
+  files = k.files;
+  tight = subst (λ (s : Shape). packing.IsTight s records (open_blocks k.draft)) k.shape
+      (run_none (open_blocks k.draft) p records 0 (k.run 0) e k.ended);
+  lengths = k.lengths;
+}
+
+pub flat_some : (H H' : Tapes → Type 0) (vs : List Vol1) (cap : ℕ) (set_id : List ℕ) (file : Opened)
+    (course course' : Course) (p : Packing) (fs : List (List Section)) (records : List (List ℕ))
+    → ((d : Draft) → IsOpen H vs cap set_id file course d
+    → Flushed H' vs cap set_id file course' d p)
+    → IsInside H vs cap set_id file course p fs records
+    → IsFlat H' vs cap set_id file course' fs records
+flat_some H H' vs cap set_id file course course' p fs records f k =
+    let q = f k.draft k.is_open in
+    let tight = run_last (open_blocks k.draft) p records q.text 0 (k.run 0) q.given k.ended in
+    record {
+      draft = q.draft;
+      is_open = q.is_open;
+      files = q.files ∙ k.files;
+      tight = subst (λ (z : List Filled). packing.IsTight file.shape records z) (sym q.blocks)
+          (subst (λ (s : Shape). packing.IsTight s records (open_blocks k.draft
+          ++ filled_of p q.text ∷ [])) k.shape tight);
+      lengths = k.lengths;
+    }
+
+-- ---- what is judged
+
+-- what remains of a record that was judged is judged
+pub judged_next : (old new left : Packing) (rest : List ℕ) (n : ℕ) → old.closed ≡ false
+    → IsJudged old rest → Offers old rest (BlockReady n) new → left ≡ emptied new
+    → IsJudged left (drop n rest)
+judged_next old new left rest n opened judged offers is =
+    subst (λ (z : Packing). IsJudged z (drop n rest)) (sym is) (elim (offers.1) [
+      | inl same ↦ absurd (let closed = same.closed in cc)
+      | inr o ↦ elim o [
+        | inl closes ↦ λ c b.
+            let fits = judged opened (ap (λ (z : Packing). z.begun) (sym closes.same) ∙ b) in
+            subst (λ (s : Shape). HasRecordLength s.format s.rec_len (length (drop n rest)))
+            (ap (λ (z : Packing). z.shape) (sym closes.same))
+            (subst (λ k. HasRecordLength old.shape.format old.shape.rec_len (length (drop k rest)))
+            (sym closes.none) fits)
+        | inr fills ↦ λ c b. absurd (let begun = ap (λ (z : Packing). z.begun) fills.part in cc)
+      ]
+    ])
+
+-- ---- a block written
+
+pub flushed_by : (H : Tapes → Type 0) (vs : List Vol1) (cap : ℕ) (set_id : List ℕ) (file : Opened)
+    (course : Course) (d : Draft) (p : Packing) (text : List ℕ) (r : Result (Unit {0}) WriteFault)
+    → Given p text → OnOk r (Grew H vs cap set_id file course d
+    (record { bytes = text; parts = p.parts })) → OnOk r (Flushed H vs cap set_id file course d p)
+flushed_by H vs cap set_id file course d p text (Err e) given grew = tt
+flushed_by H vs cap set_id file course d p text (Ok x) given grew = record {
+  draft = grew.draft;
+  text = text;
+  given = given;
+  is_open = grew.is_open;
+  files = grew.files;
+  blocks = grew.blocks;
+}
+
+pub flat_by : (H H' : Tapes → Type 0) (vs : List Vol1) (cap : ℕ) (set_id : List ℕ)
+    (file : Opened) (course course' : Course) (p : Packing) (fs : List (List Section))
+    (records : List (List ℕ)) (r : Result (Unit {0}) WriteFault) (ps : List Portion) → p.parts ≡ ps
+    → (p.parts ≡ [] → IsInside H' vs cap set_id file course' p fs records)
+    → (p.parts ≢ [] → (d : Draft) → IsOpen H vs cap set_id file course d → OnOk r (Flushed H' vs cap
+    set_id file course' d p))
+    → IsInside H vs cap set_id file course p fs records
+    → OnOk r (IsFlat H' vs cap set_id file course' fs records)
+flat_by H H' vs cap set_id file course course' p fs records (Err e) ps is none some k = tt
+flat_by H H' vs cap set_id file course course' p fs records (Ok x) [] is none some k =
+    flat_none H' vs cap set_id file course' p fs records is (none is)
+flat_by H H' vs cap set_id file course course' p fs records (Ok x) (q ∷ ps) is none some k =
+    flat_some H H' vs cap set_id file course course' p fs records (some (λ e. absurd (cc))) k
+
+-- what was judged of a record's first offer holds of the whole
+pub judged_more : (shape : Shape) (first p : Packing) (whole rest : List ℕ) → first.shape ≡ shape
+    → first.closed ≡ false → first.begun ≡ false → (Same : Type 0)
+    → (Same × (p ≡ first) × (rest ≡ whole))
+    ⊎ (HasRecordLength shape.format shape.rec_len (length whole) × IsJudged p rest)
+    → IsJudged p rest → HasRecordLength shape.format shape.rec_len (length whole)
+judged_more shape first p whole rest is opened ended Same (inr a) judged = a.0
+judged_more shape first p whole rest is opened ended Same (inl a) judged =
+    let fits = judged (ap (λ (z : Packing). z.closed) a.1
+    ∙ opened) (ap (λ (z : Packing). z.begun) a.1 ∙ ended) in
+    subst (λ (s : Shape). HasRecordLength s.format s.rec_len (length whole))
+    (ap (λ (z : Packing). z.shape) a.1 ∙ is)
+    (subst (λ (r : List ℕ). HasRecordLength p.shape.format p.shape.rec_len (length r)) a.2 fits)
+
+-- ---- no volume left
+
+pub stuck_by : (H H' : Tapes → Type 0) (vs : List Vol1) (cap : ℕ) (set_id : List ℕ)
+    (file : Opened) (course course' : Course) (d : Draft) (b : Filled)
+    → (IsOpen H vs cap set_id file course d → IsOpen H' vs cap set_id file course' d)
+    → length vs ≤ course'.volume → cap < course'.used + item_size (block b.bytes) + 192
+    → IsOpen H vs cap set_id file course d
+    → IsStuck H' vs cap set_id file course' d.files
+stuck_by H H' vs cap set_id file course course' d b same none due o =
+    record {
+      draft = d;
+      is_open = same o;
+      files = refl;
+      none_left = none;
+      next = b ∷ [];
+      due = block_due cap course'.used (item_size (block b.bytes)) due;
+    }
+
+pub stuck_end : (H H' : Tapes → Type 0) (vs : List Vol1) (cap : ℕ) (set_id : List ℕ)
+    (file : Opened) (course course' : Course) (d : Draft)
+    → (IsOpen H vs cap set_id file course d → IsOpen H' vs cap set_id file course' d)
+    → length vs ≤ course'.volume → cap < course'.used + 184 + 372
+    → IsOpen H vs cap set_id file course d
+    → IsStuck H' vs cap set_id file course' d.files
+stuck_end H H' vs cap set_id file course course' d same none due o =
+    record {
+      draft = d;
+      is_open = same o;
+      files = refl;
+      none_left = none;
+      next = [];
+      due = end_refused cap course'.used due;
+    }
+
+pub err_map : (r : Result (Unit {0}) WriteFault) (P Q : WriteFault → Type 0)
+    → ((f : WriteFault) → P f → Q f) → IfErr r P → IfErr r Q
+err_map (Ok x) P Q f h = h
+err_map (Err e) P Q f h = f e h

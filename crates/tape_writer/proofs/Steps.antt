@@ -1,0 +1,261 @@
+-- Each step of the writer keeps what was written a draft of a lawful, tight set.
+use Rattle.std.proofs.Common.{◌≡◌, ◌<◌, ◌≤◌, ℕ, ◌+◌, List, [], ◌∷◌, ◌++◌, length, Bool, true, false}
+use Rattle.std.proofs.Common.{Some, refl, sym, ap, ◌∙◌, subst, inl, append_assoc, arith}
+use Rattle.std.proofs.Common.{length-append}
+use Rattle.std.specs.Prelude.{map, slice_get, nat_le}
+use Rattle.std.specs.List.{AllByRecursion}
+use Rattle.std.proofs.lemmas.List.{map-append, append-nil}
+use Rattle.std.proofs.lemmas.Bool.Decides.{nat_tests}
+use Rattle.tape_label.specs.declared.values.Vol1.{Vol1}
+use Rattle.tape_image.specs.Tape.{block}
+use Rattle.tape_blocks.specs.Tight.{Filled}
+use Rattle.tape_set.specs.Layout.{Placed, Volume, numbered, item_of}
+use Rattle.tape_set.specs.Sizes.{item_size, items_size}
+use Rattle.tape_set.specs.Tight.{used_before, takes_end, takes_next, IsTightChange}
+use Rattle.tape_set.proofs.Measures.{items_size-append}
+use Rattle.tape_writer.specs.declared.course.Opened.{Opened}
+use Rattle.tape_writer.specs.declared.course.Course.{Course}
+use Rattle.tape_label.specs.Widths.{IsWideVolume}
+use Rattle.tape_writer.specs.Labels.{IsReady, header_items, trailer_items}
+use Rattle.tape_writer.specs.Told.{labelled, IsWithin}
+use Rattle.tape_writer.specs.Draft.{Draft, placed, body, first_volumes, data_item, closing, here}
+use Rattle.tape_writer.specs.Draft.{body_items, open_items, ended_volumes, IsDone, IsGoing, OfLast}
+use Rattle.tape_writer.specs.Draft.{Between, Within, Steady, changed_draft, changed_course}
+use Rattle.tape_writer.specs.Draft.{ended_draft, added_draft, added_course, ended_course}
+use Rattle.tape_writer.specs.Draft.{begun_course}
+use Rattle.tape_writer.proofs.Lists.{all_push}
+use Rattle.tape_writer.proofs.Volumes.{first_same, eqb_other}
+use Rattle.tape_writer.proofs.Sections.{header_size, trailer_size, used_is}
+use Rattle.tape_writer.proofs.Changed.{files_next, last_is, not_nil, done_push, body_ended, changed}
+
+pub open_added :
+    (vs : List Volume) (file : Opened) (course : Course) (d : Draft) (b : Filled) (n : ℕ)
+    → open_items vs file (added_course course n) (added_draft d b)
+    ≡ open_items vs file course d ++ block b.bytes ∷ []
+open_added vs file course d b n =
+    ap (λ z. body_items vs d ++ header_items file course.sect ++ z) (map-append data_item
+    d.blocks (b ∷ []))
+    ∙ sym (append_assoc (body_items vs d ++ header_items file course.sect) (map data_item d.blocks)
+    (block b.bytes ∷ []))
+
+pub added : (vs : List Volume) (cap : ℕ) (set_id : List ℕ)
+    (file : Opened) (course : Course) (d : Draft) (b : Filled)
+    → (0 < length b.bytes) × (length b.bytes ≤ 99999)
+    → Within vs cap set_id file course (d.blocks ++ b ∷ []) d
+    → course.used + item_size (block b.bytes) + 192 ≤ cap
+    → Steady vs cap set_id file (added_course course (item_size (block b.bytes))) (added_draft d b)
+added vs cap set_id file course d b sized w fits = record {
+  begins = λ e. absurd (not_nil d.blocks b e);
+  inside = record {
+    ready = w.ready;
+    of_set = w.of_set;
+    sequence = w.sequence;
+    volume = w.volume;
+    few = w.few;
+    sect = w.sect;
+    sect_most = w.sect_most;
+    count = omega (arith, w.count, length-append d.blocks (b ∷ []));
+    count_most = omega (arith, w.count_most);
+    sized =
+        all_push (λ z. (0 < length z.bytes) × (length z.bytes ≤ 99999)) d.blocks b w.sized sized;
+    done = w.done;
+    goes = w.goes;
+    fresh = w.fresh;
+    change = w.change;
+    going = w.going;
+    within = w.within;
+    used = ap (λ n. n + item_size (block b.bytes)) w.used
+        ∙ (omega (arith, items_size-append (open_items vs file course d) (block b.bytes ∷ []))
+        ∙ ap items_size (sym (open_added vs file course d b (item_size (block b.bytes)))));
+    room = fits;
+  };
+}
+
+-- a block behind the ones of the section under way: the change before it stays due
+pub goes_on : (vs : List Volume) (cap : ℕ) (set_id : List ℕ)
+    (file : Opened) (course : Course) (d : Draft) (b : Filled) → Steady vs cap set_id file course d
+    → Within vs cap set_id file course (d.blocks ++ b ∷ []) d
+goes_on vs cap set_id file course d b s = record {
+  ready = s.inside.ready;
+  of_set = s.inside.of_set;
+  sequence = s.inside.sequence;
+  sized = s.inside.sized;
+  volume = s.inside.volume;
+  few = s.inside.few;
+  sect = s.inside.sect;
+  sect_most = s.inside.sect_most;
+  count = s.inside.count;
+  count_most = s.inside.count_most;
+  done = s.inside.done;
+  goes = s.inside.goes;
+  fresh = s.inside.fresh;
+  going = s.inside.going;
+  within = s.inside.within;
+  used = s.inside.used;
+  room = s.inside.room;
+  change = λ ys x e. go d.blocks ys x (s.inside.change ys x e) (λ n. s.begins n ys x e);
+}
+  where
+    go : (bs : List Filled) (ys : List Placed) (x : Placed)
+        → IsTightChange vs cap ys x (here file course bs true)
+        → (bs ≡ [] → x.file ≡ file.head.sequence → ⊥)
+        → IsTightChange vs cap ys x (here file course (bs ++ b ∷ []) true)
+    go [] ys x h n = rw (eqb_other x.file file.head.sequence (n refl))
+        (rw (eqb_other x.file file.head.sequence (n refl)) at h)
+    go (c ∷ bs) ys x h n = h
+
+-- **a block is written** in the section under way
+pub added_here : (vs : List Volume) (cap : ℕ) (set_id : List ℕ)
+    (file : Opened) (course : Course) (d : Draft) (b : Filled)
+    → (0 < length b.bytes) × (length b.bytes ≤ 99999)
+    → Steady vs cap set_id file course d → course.used + item_size (block b.bytes) + 192 ≤ cap
+    → Steady vs cap set_id file (added_course course (item_size (block b.bytes))) (added_draft d b)
+added_here vs cap set_id file course d b sized s fits =
+    added vs cap set_id file course d b sized (goes_on vs cap set_id file course d b s) fits
+
+pub block_due : (cap used size : ℕ) → cap < used + size + 192
+    → nat_le (used + size + 192) cap ≡ false
+block_due cap used size h = go (nat_le (used + size + 192) cap) refl
+  where
+    go : (t : Bool) → nat_le (used + size + 192) cap ≡ t → t ≡ false
+    go false e = refl
+    go true e = absurd (grind (arith, nat_tests))
+
+end_due : (cap used : ℕ) → cap < used + 184 + 372 → nat_le (used + 184 + (180 + 192)) cap ≡ false
+end_due cap used h = go (nat_le (used + 184 + (180 + 192)) cap) refl
+  where
+    go : (t : Bool) → nat_le (used + 184 + (180 + 192)) cap ≡ t → t ≡ false
+    go false e = refl
+    go true e = absurd (grind (arith, nat_tests))
+
+pub end_taken : (cap used : ℕ) → used + 184 + 372 ≤ cap → takes_end cap used ≡ true
+end_taken cap used h = go (nat_le (used + 184 + (180 + 192)) cap) refl
+  where
+    go : (t : Bool) → nat_le (used + 184 + (180 + 192)) cap ≡ t → t ≡ true
+    go true e = refl
+    go false e = absurd (grind (arith, nat_tests))
+
+pub end_refused : (cap used : ℕ) → cap < used + 184 + 372 → takes_next cap used [] ≡ false
+end_refused cap used h = end_due cap used h
+
+-- **a block is written** behind a change of the volume
+pub added_next : (vs : List Volume) (cap : ℕ) (set_id : List ℕ)
+    (file : Opened) (course : Course) (d : Draft) (b : Filled) (v : Vol1)
+    → IsWideVolume v → length vs ≤ 9999 → 1024 ≤ cap → cap ≤ 4294967295
+    → item_size (block b.bytes) + 460 ≤ cap → (0 < length b.bytes) × (length b.bytes ≤ 99999)
+    → Steady vs cap set_id file course d → cap < course.used + item_size (block b.bytes) + 192
+    → course.volume < length vs → slice_get vs course.volume ≡ Some (labelled v)
+    → Steady vs cap set_id file (added_course (changed_course course)
+    (item_size (block b.bytes))) (added_draft (changed_draft file course d) b)
+added_next vs cap set_id file course d b v wide few capacity most size sized s refused more g =
+    added vs cap set_id file (changed_course course) (changed_draft file course d) b sized
+    (changed vs cap set_id file course d (b ∷ []) v wide few capacity most s.inside
+    (block_due cap course.used (item_size (block b.bytes)) refused) more g) (omega (arith, size))
+
+-- **a file ends**
+pub ended : (vs : List Volume) (cap : ℕ) (set_id : List ℕ)
+    (file : Opened) (course : Course) (d : Draft)
+    → length vs ≤ 9999 → cap ≤ 4294967295
+    → Within vs cap set_id file course d.blocks d → course.used + 184 + 372 ≤ cap
+    → Between vs cap set_id (ended_course course) (ended_draft file course d)
+    × (body_items vs (ended_draft file course d)
+    ≡ open_items vs file course d ++ trailer_items file course.sect course.count true)
+    × (ended_volumes vs (ended_draft file course d) ≡ ended_volumes vs d)
+ended vs cap set_id file course d few most w room =
+    let x : Placed = here file course d.blocks true in
+    let one : 1 ≤ course.sect = omega (arith, w.sect) in
+    let sect : course.sect ≤ 9999 = omega (arith, w.sect_most, w.few, few) in
+    let all : placed (ended_draft file course d) ≡ placed d ++ x ∷ [] =
+    files_next file course d w.sequence w.sect in
+    let used : course.used ≡ used_before vs (placed d) x.section =
+    w.used ∙ used_is vs (placed d) file course d.blocks true d.past w.volume in
+    let end : used_before vs (placed d) x.section + 192 ≤ cap =
+    subst (λ n. n + 192 ≤ cap) used w.room in
+    let done : IsDone vs cap set_id (d.past + 1) (placed d ++ x ∷ []) =
+    done_push vs cap set_id (d.past + 1) (d.past + 1) file course d.blocks true (placed d) w.done
+    (omega arith) w.ready w.of_set
+    (omega (arith, w.volume)) (omega (arith, w.volume)) (omega (
+      arith,
+      w.count,
+      w.count_most,
+      w.room,
+      most,
+    )) one sect w.sized w.goes w.change (λ e. omega (arith, w.volume, w.fresh e)) end
+    (λ e. subst (λ n. takes_end cap n ≡ true) used (end_taken cap course.used room)) in
+    let items : body_items vs (ended_draft file course d)
+    ≡ open_items vs file course d ++ trailer_items file course.sect course.count true =
+    ap (λ z. map item_of (body vs z d.past)) all
+    ∙ body_ended vs file course d true w.volume w.count in
+    let volumes : ended_volumes vs (ended_draft file course d) ≡ ended_volumes vs d =
+    ap (λ z. first_volumes vs z d.past) all
+    ∙ first_same vs (placed d) x d.past (omega (arith, w.volume)) in (
+      record {
+        no_sects = refl;
+        no_blocks = refl;
+        volume = w.volume;
+        few = w.few;
+        done = subst (IsDone vs cap set_id (d.past + 1)) (sym all) done;
+        last = last_is (placed d) (placed (ended_draft file course d)) x (λ ys y. (y.file
+            ≡ length (ended_draft file course d).files) × (y.section.volume ≡ course.volume)) all (
+              w.sequence ∙ sym (length-append d.files
+                  ((d.sects ++ closing file course.volume course.sect d.blocks true ∷ []) ∷ [])),
+              refl,
+            );
+        fresh = λ e. absurd (not_nil (placed d) x (sym all ∙ e));
+        within = subst (λ z. AllByRecursion (IsWithin cap) z) (sym volumes) w.within;
+        used = ap (λ n. n + 184) w.used ∙ (ap (λ n. items_size (open_items vs file course d) + n)
+            (sym (trailer_size file course.sect course.count true w.ready one sect))
+            ∙ (sym (items_size-append (open_items vs file course d)
+            (trailer_items file course.sect course.count true)) ∙ ap items_size (sym items)));
+        room = omega (arith, room);
+      },
+      items,
+      volumes,
+    )
+
+-- **a file begins**
+pub begun : (vs : List Volume) (cap : ℕ) (set_id : List ℕ)
+    (file : Opened) (course : Course) (d : Draft)
+    → Between vs cap set_id course d → IsReady file → file.head.set_id ≡ set_id
+    → file.head.sequence ≡ length d.files + 1
+    → Steady vs cap set_id file (begun_course course) d
+    × (open_items vs file (begun_course course) d ≡ body_items vs d ++ header_items file 1)
+begun vs cap set_id file course d w r s f =
+    let items : open_items vs file (begun_course course) d
+    ≡ body_items vs d ++ header_items file 1 =
+    ap (λ z. body_items vs d ++ header_items file 1 ++ map data_item z) w.no_blocks
+    ∙ append-nil (body_items vs d ++ header_items file 1) in
+    let other : OfLast (placed d) (λ ys x. (x.file ≡ file.head.sequence) → ⊥) =
+    λ ys x e n. absurd (omega (arith, (w.last ys x e).0, n, f)) in (
+      record {
+        begins = λ e. other;
+        inside = record {
+          ready = r;
+          of_set = s;
+          sequence = f;
+          volume = w.volume;
+          few = w.few;
+          sect = ap (λ z. length z + 1) (sym w.no_sects);
+          sect_most = omega (arith, w.volume);
+          count = ap length (sym w.no_blocks);
+          count_most = omega arith;
+          sized = subst (AllByRecursion (λ b. (0 < length b.bytes) × (length b.bytes ≤ 99999)))
+              (sym w.no_blocks) tt;
+          done = w.done;
+          goes = λ ys x e. rw (eqb_other x.file file.head.sequence (other ys x e))
+              (inl (sym (w.last ys x e).1));
+          fresh = w.fresh;
+          change = λ ys x e. rw (eqb_other x.file file.head.sequence (other ys x e))
+              (sym (w.last ys x e).1);
+          going = subst (λ z. AllByRecursion (IsGoing file) (numbered file.head.sequence 1 z))
+              (sym w.no_sects) tt;
+          within = w.within;
+          used = ap (λ n. n + 180) w.used
+              ∙ (ap (λ n. items_size (body_items vs d) + n) (sym (header_size file 1 r (omega arith)
+              (omega arith))) ∙ (sym (items_size-append (body_items vs d) (header_items file 1))
+              ∙ ap items_size (sym items)));
+          room = omega (arith, w.room);
+        };
+      },
+      items,
+    )

@@ -1,0 +1,37 @@
+use Rattle.std.proofs.Common.{sym, subst, length, ◌<◌, ◌≤◌, ◌+◌}
+use Rattle.std.proofs.lemmas.Result.{err_from_is_err_and}
+use Rattle.tape_writer.specs.Draft.{IsOpen}
+use Rattle.tape_writer.specs.Inside.{IsStuck}
+use Rattle.tape_writer.proofs.Packed.{stuck_end, err_map}
+use Rattle.tape_writer.proofs.Ends.{between_closed}
+use Rattle.tape_writer.proofs.files.close_file.Goals as goal
+
+pub returns-clause-filed : goal.returns-clause-filed
+returns-clause-filed g c = λ set_id past records k.
+    between_closed (g.T.TapeOut.holds c.flush_last.new.tape.out)
+    (g.T.TapeOut.holds c.end_file.new.self.out) c.args.volumes.now c.args.capacity set_id
+    c.args.file.now c.flush_last.new.tape.course c.end_file.new.self.course past k.files
+    records c.end_file.result
+    c.requires.capacity k.filed (c.in_ok-flush_last.ensures.flat set_id k.files records k.inside)
+    (λ d o. c.end_file.ensures.closed set_id d o)
+
+pub returns-in_err-flush_last-clause-stuck : goal.returns-in_err-flush_last-clause-stuck
+returns-in_err-flush_last-clause-stuck g c =
+    let p = err_from_is_err_and c.from_residual.result c.from_residual.ensures.1 in
+    rw (p.1, p.2) c.in_err-flush_last.ensures.stuck
+
+pub returns-clause-stuck : goal.returns-clause-stuck
+returns-clause-stuck g c =
+    err_map c.end_file.result _ _ (λ f p e set_id fs records k.
+    let q = p e in
+    let flat = c.in_ok-flush_last.ensures.flat set_id fs records k in
+    subst (λ z. IsStuck (g.T.TapeOut.holds c.end_file.new.self.out) c.args.volumes.now
+    c.args.capacity set_id c.args.file.now c.end_file.new.self.course z) flat.files
+    (stuck_end (g.T.TapeOut.holds c.flush_last.new.tape.out)
+    (g.T.TapeOut.holds c.end_file.new.self.out) c.args.volumes.now c.args.capacity set_id
+    c.args.file.now c.flush_last.new.tape.course c.end_file.new.self.course flat.draft
+    (λ x. subst (λ t. IsOpen (g.T.TapeOut.holds t.out) c.args.volumes.now c.args.capacity set_id
+    c.args.file.now t.course flat.draft) (sym q.0) x)
+    (subst (λ t. length c.args.volumes.now ≤ t.course.volume) (sym q.0) q.1)
+    (subst (λ t. c.args.capacity < t.course.used + 184 + 372) (sym q.0) q.2) flat.is_open))
+    c.end_file.ensures.none

@@ -1,0 +1,75 @@
+-- The record's end, and one more block.
+use Rattle.std.proofs.Common.{rules, refl, ◌∙◌, subst, ap, inl, inr}
+use Rattle.std.proofs.lemmas.List.{take_rest}
+use Rattle.std.proofs.lemmas.Result.{err_from_is_err_and}
+use Rattle.tape_writer.specs.Inside.{IsStuck}
+use Rattle.tape_blocks.specs.Packing.{Packing, Offers}
+use Rattle.tape_blocks.specs.declared.offer.Offer.TheVariants.{Taken, BlockReady}
+use Rattle.tape_blocks.proofs.RunLaws.{offers_shape}
+use Rattle.tape_writer.proofs.Packed.{packing_first, packing_last, packing_next, judged_next}
+use Rattle.tape_writer.proofs.Packed.{judged_more}
+use Rattle.tape_writer.proofs.Last.{lasting_then, lasting_self}
+use Rattle.tape_writer.proofs.records.put_record.Goals as goal
+
+pub offers-init : goal.offers-init
+offers-init g c = record {
+  roomy = c.requires.roomy;
+  shape = c.requires.shape;
+  opened = c.requires.opened;
+  judged = inl (refl, refl, refl);
+  lasting = lasting_self _ _ _;
+  packing = λ set_id fs records k. packing_first (g.T.TapeOut.holds c.args.tape.now.out)
+      c.args.volumes.now c.args.capacity set_id c.args.file.now c.args.tape.now.course
+      c.args.packer.now fs records c.args.whole.now k;
+}
+
+pub returns-in-Ok-Taken-clause-packed : goal.returns-in-Ok-Taken-clause-packed
+returns-in-Ok-Taken-clause-packed g c = λ set_id fs records k.
+    let offers : Offers c.offers.packer c.offers.rest.now Taken c.offer.new.self =
+    rw c.in-Ok-Taken.field-0-is at c.in-Ok-Taken.ensures.ok in
+    packing_last (g.T.TapeOut.holds c.offers.tape.out) c.args.volumes.now c.args.capacity set_id
+    c.args.file.now c.offers.tape.course c.offers.packer c.offer.new.self fs
+    records c.args.whole.now c.offers.rest.now
+    c.in-Ok-Taken.ensures.judged offers (c.offers.invariant.packing set_id fs records k)
+
+pub offers-preserved : goal.offers-preserved
+offers-preserved g c =
+    let offers : Offers c.offers.packer c.offers.rest.now (BlockReady c.in-Ok-BlockReady.taken)
+    c.offer.new.self = rw c.in-Ok-BlockReady.field-0-is at c.in-Ok-BlockReady.ensures.ok in
+    let next = judged_next c.offers.packer c.offer.new.self c.flush.new.packer c.offers.rest.now
+    c.in-Ok-BlockReady.taken c.offers.invariant.opened c.in-Ok-BlockReady.ensures.judged offers
+    c.in_ok-flush-in-Ok-BlockReady.ensures.emptied in
+    record {
+      roomy = search rules;
+      shape = ap (λ (z : Packing). z.shape) c.in_ok-flush-in-Ok-BlockReady.ensures.emptied
+          ∙ (offers_shape c.offers.packer c.offer.new.self c.offers.rest.now
+          (BlockReady c.in-Ok-BlockReady.taken) offers ∙ c.offers.invariant.shape);
+      opened = ap (λ (z : Packing). z.closed) c.in_ok-flush-in-Ok-BlockReady.ensures.emptied;
+      judged = inr (
+        judged_more c.args.file.now.shape c.args.packer.now c.offers.packer c.args.whole.now
+            c.offers.rest.now c.requires.shape c.requires.opened c.requires.ended _
+            c.offers.invariant.judged c.in-Ok-BlockReady.ensures.judged,
+        rw (take_rest c.offers.rest.now c.in-Ok-BlockReady.taken) next,
+      );
+      lasting = lasting_then _ _ _ _ _ _ _ _ _ c.offers.invariant.lasting c.flush.ensures.lasting;
+      packing = λ set_id fs records k.
+          rw (take_rest c.offers.rest.now c.in-Ok-BlockReady.taken)
+          (packing_next (g.T.TapeOut.holds c.offers.tape.out)
+          (g.T.TapeOut.holds c.flush.new.tape.out) c.args.volumes.now c.args.capacity set_id
+          c.args.file.now c.offers.tape.course c.flush.new.tape.course
+          c.offers.packer c.offer.new.self c.flush.new.packer fs
+          records c.args.whole.now c.offers.rest.now c.in-Ok-BlockReady.taken
+          c.in-Ok-BlockReady.ensures.judged offers c.in_ok-flush-in-Ok-BlockReady.ensures.emptied
+          (λ d o. c.in_ok-flush-in-Ok-BlockReady.ensures.flushed offers.0 set_id d o)
+          (c.offers.invariant.packing set_id fs records k));
+    }
+
+pub returns-in_err-flush-in-Ok-BlockReady-clause-stuck :
+    goal.returns-in_err-flush-in-Ok-BlockReady-clause-stuck
+returns-in_err-flush-in-Ok-BlockReady-clause-stuck g c =
+    let p = err_from_is_err_and c.from_residual.result c.from_residual.ensures.1 in
+    rw (p.1, p.2) (λ e set_id fs records k.
+    let q = c.offers.invariant.packing set_id fs records k in
+    subst (λ z. IsStuck (g.T.TapeOut.holds c.flush.new.tape.out) c.args.volumes.now c.args.capacity
+    set_id c.args.file.now c.flush.new.tape.course z) q.files
+    (c.in_err-flush-in-Ok-BlockReady.ensures.stuck e set_id q.draft q.is_open))

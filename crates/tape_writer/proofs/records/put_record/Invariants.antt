@@ -1,0 +1,28 @@
+use Rattle.std.proofs.Common.{◌≡◌, ◌⊎◌, ℕ, ◌+◌, List, length, false}
+use Rattle.tape_blocks.specs.Packing.{HasRecordLength, IsJudged}
+use Rattle.tape_set.specs.Layout.{Section}
+use Rattle.tape_writer.specs.Draft.{IsRoomy}
+use Rattle.tape_writer.specs.Inside.{IsInside, IsPacking}
+use Rattle.tape_writer.specs.Lasting.{Lasting}
+use Rattle.tape_writer.proofs.records.put_record.Given as goal
+
+abbrev pub invariant-offers : goal.invariant-offers
+invariant-offers g l = record {
+  roomy : IsRoomy l.capacity (length l.volumes) l.tape.course;
+  shape : l.packer.shape ≡ l.file.shape;
+  opened : l.packer.closed ≡ false;
+  judged : ((l.tape ≡ l.fn.tape) × (l.packer ≡ l.fn.packer) × (l.rest ≡ l.whole))
+      ⊎ (HasRecordLength l.file.shape.format l.file.shape.rec_len (length l.whole)
+      × IsJudged l.packer l.rest);
+  lasting : Lasting (g.T.TapeOut.holds l.fn.tape.out)
+      (g.T.TapeOut.failures l.fn.tape.out) l.fn.tape.course.used (g.T.TapeOut.holds l.tape.out)
+      (g.T.TapeOut.failures l.tape.out) l.tape.course.used;
+  packing : (set_id : List ℕ) (fs : List (List Section)) (records : List (List ℕ))
+      → IsInside (g.T.TapeOut.holds l.fn.tape.out) l.volumes l.capacity set_id l.file
+      l.fn.tape.course l.fn.packer fs records
+      → IsPacking (g.T.TapeOut.holds l.tape.out) l.volumes l.capacity set_id l.file l.tape.course
+      l.packer fs records l.whole l.rest;
+}
+
+abbrev pub decreases-offers : goal.decreases-offers
+decreases-offers g l = length l.rest + length l.packer.parts

@@ -1,0 +1,30 @@
+use Rattle.std.proofs.Common.{rules, ap, ◌∙◌}
+use Rattle.tape_writer.specs.State.{SetState}
+use Rattle.tape_writer.proofs.Last.{lasting_self}
+use Rattle.tape_writer.proofs.Calls.{begin_told}
+use Rattle.tape_writer.proofs.set.SetWriter.begin_with.Goals as goal
+
+pub returns-then-is_err-clause-lasting : goal.returns-then-is_err-clause-lasting
+returns-then-is_err-clause-lasting g c = rw (← c.self.view_is) (lasting_self _ _ _)
+
+pub returns-in-Ok-clause-told : goal.returns-in-Ok-clause-told
+returns-in-Ok-clause-told g c =
+    let old : SetState g.row.T.Denot = record {
+      out = c.self.inside.tape.out;
+      volumes = c.self.inside.volumes.items;
+      capacity = c.self.inside.capacity;
+      set_id = c.self.inside.set_id;
+      files = c.self.inside.files.items;
+      course = c.self.inside.tape.course;
+      phase = c.self.inside.phase;
+    } in
+    let between = ap (λ (z : SetState g.row.T.Denot). z.phase) c.self.view_is
+    ∙ c.requires.between in
+    rw (← c.self.view_is) (λ told k.
+    begin_told (g.T.TapeOut.holds c.self.inside.tape.out)
+    (g.T.TapeOut.holds c.begin.new.tape.out) old
+    c.begin.new.tape.out c.deref.result.now c.push.new.self.items c.next_file-file.result
+    c.begin.new.tape.course c.args.packer told c.args.head c.args.shape between (search rules)
+    (search rules) (search rules)
+    (λ s f x.
+    c.in-Ok.ensures.filing c.self.inside.set_id told c.args.packer s f (search rules) x) k)

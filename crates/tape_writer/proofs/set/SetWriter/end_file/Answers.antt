@@ -1,0 +1,50 @@
+use Rattle.std.proofs.Common.{rules}
+use Rattle.tape_writer.specs.State.{SetState}
+use Rattle.tape_writer.proofs.Last.{lasting_self}
+use Rattle.tape_writer.proofs.Calls.{end_told, stuck_told}
+use Rattle.tape_writer.proofs.set.SetWriter.end_file.Goals as goal
+
+pub returns-in-Between-clause-lasting : goal.returns-in-Between-clause-lasting
+returns-in-Between-clause-lasting g c = rw (← c.self.view_is) (lasting_self _ _ _)
+
+pub returns-in-Failed-clause-lasting : goal.returns-in-Failed-clause-lasting
+returns-in-Failed-clause-lasting g c = rw (← c.self.view_is) (lasting_self _ _ _)
+
+pub returns-in-Finished-clause-lasting : goal.returns-in-Finished-clause-lasting
+returns-in-Finished-clause-lasting g c = rw (← c.self.view_is) (lasting_self _ _ _)
+
+pub returns-in-Ok-clause-told : goal.returns-in-Ok-clause-told
+returns-in-Ok-clause-told g c =
+    let old : SetState g.row.T.Denot = record {
+      out = c.self.inside.tape.out;
+      volumes = c.self.inside.volumes.items;
+      capacity = c.self.inside.capacity;
+      set_id = c.self.inside.set_id;
+      files = c.self.inside.files.items;
+      course = c.self.inside.tape.course;
+      phase = c.self.inside.phase;
+    } in
+    rw (← c.self.view_is) (λ told k.
+    end_told (g.T.TapeOut.holds c.self.inside.tape.out)
+    (g.T.TapeOut.holds c.close_file.new.tape.out) old
+    c.close_file.new.tape.out c.deref.result.now c.close_file.new.tape.course c.in-Filing.file told
+    c.in-Filing.is (search rules)
+    (λ past records x. c.in-Ok.ensures.filed c.self.inside.set_id past records x) k)
+
+pub returns-in-Err-clause-stuck : goal.returns-in-Err-clause-stuck
+returns-in-Err-clause-stuck g c =
+    let old : SetState g.row.T.Denot = record {
+      out = c.self.inside.tape.out;
+      volumes = c.self.inside.volumes.items;
+      capacity = c.self.inside.capacity;
+      set_id = c.self.inside.set_id;
+      files = c.self.inside.files.items;
+      course = c.self.inside.tape.course;
+      phase = c.self.inside.phase;
+    } in
+    rw (← c.self.view_is) (λ told k e.
+    stuck_told (g.T.TapeOut.holds c.self.inside.tape.out)
+    (g.T.TapeOut.holds c.close_file.new.tape.out) old
+    c.deref.result.now c.close_file.new.tape.course c.in-Filing.file told c.in-Filing.is
+    (search rules)
+    (λ fs records x. c.in-Err.ensures.stuck e c.self.inside.set_id fs records x) k)

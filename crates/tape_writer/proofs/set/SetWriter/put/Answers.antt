@@ -1,0 +1,57 @@
+use Rattle.std.proofs.Common.{rules}
+use Rattle.tape_writer.specs.State.{SetState}
+use Rattle.tape_writer.proofs.Last.{lasting_self}
+use Rattle.tape_writer.proofs.Calls.{put_told, stuck_told, if_filing}
+use Rattle.tape_writer.proofs.set.SetWriter.put.Goals as goal
+
+pub returns-in-Between-clause-lasting : goal.returns-in-Between-clause-lasting
+returns-in-Between-clause-lasting g c = rw (← c.self.view_is) (lasting_self _ _ _)
+
+pub returns-in-Failed-clause-lasting : goal.returns-in-Failed-clause-lasting
+returns-in-Failed-clause-lasting g c = rw (← c.self.view_is) (lasting_self _ _ _)
+
+pub returns-in-Finished-clause-lasting : goal.returns-in-Finished-clause-lasting
+returns-in-Finished-clause-lasting g c = rw (← c.self.view_is) (lasting_self _ _ _)
+
+pub returns-in-Ok-clause-told : goal.returns-in-Ok-clause-told
+returns-in-Ok-clause-told g c =
+    let old : SetState g.row.T.Denot = record {
+      out = c.self.inside.tape.out;
+      volumes = c.self.inside.volumes.items;
+      capacity = c.self.inside.capacity;
+      set_id = c.self.inside.set_id;
+      files = c.self.inside.files.items;
+      course = c.self.inside.tape.course;
+      phase = c.self.inside.phase;
+    } in
+    rw (← c.self.view_is) (λ told k.
+    put_told (g.T.TapeOut.holds c.self.inside.tape.out)
+    (g.T.TapeOut.holds c.put_record.new.tape.out) old
+    c.put_record.new.tape.out c.deref.result.now c.put_record.new.tape.course c.in-Filing.file
+    c.put_record.new.packer told c.args.bytes.now c.in-Filing.is (search rules)
+    (λ fs records x. c.in-Ok.ensures.packed c.self.inside.set_id fs records x) k)
+
+pub returns-in-Err-2-clause-stuck : goal.returns-in-Err-2-clause-stuck
+returns-in-Err-2-clause-stuck g c =
+    let old : SetState g.row.T.Denot = record {
+      out = c.self.inside.tape.out;
+      volumes = c.self.inside.volumes.items;
+      capacity = c.self.inside.capacity;
+      set_id = c.self.inside.set_id;
+      files = c.self.inside.files.items;
+      course = c.self.inside.tape.course;
+      phase = c.self.inside.phase;
+    } in
+    rw (← c.self.view_is) (λ told k e.
+    stuck_told (g.T.TapeOut.holds c.self.inside.tape.out)
+    (g.T.TapeOut.holds c.put_record.new.tape.out) old
+    c.deref.result.now c.put_record.new.tape.course c.in-Filing.file told c.in-Filing.is
+    (search rules)
+    (λ fs records x. c.in-Err.ensures.stuck e c.self.inside.set_id fs records x) k)
+
+pub returns-in-Err-2-clause-length : goal.returns-in-Err-2-clause-length
+returns-in-Err-2-clause-length g c =
+    rw (← c.self.view_is) (if_filing c.self.inside.phase c.in-Filing.file _ c.in-Filing.is (λ n.
+    let same = c.in-Err.ensures.always n in
+    let no = c.if-eq.ensures in
+    search rules))

@@ -1,0 +1,32 @@
+-- A file's end in the section under way, and behind a change.
+use Rattle.std.proofs.Common.{rules, arith}
+use Rattle.tape_set.proofs.Everywhere.{every_at}
+use Rattle.tape_label.specs.Widths.{IsWideVolume}
+use Rattle.tape_writer.proofs.Last.{lasting_self}
+use Rattle.tape_writer.proofs.Held.{got, close_here, close_next}
+use Rattle.tape_writer.proofs.tape.Tape.end_file.Goals as goal
+
+pub returns-then-takes_end-clause-closed : goal.returns-then-takes_end-clause-closed
+returns-then-takes_end-clause-closed g c = λ set_id d o.
+    close_here (g.T.TapeOut.holds c.args.self.now.out)
+    (g.T.TapeOut.holds c.end_section.new.self.out) c.args.volumes.now c.args.capacity set_id
+    c.args.file.now c.args.self.now.course c.end_section.new.self.course d c.end_section.result
+    o c.requires.volumes (omega arith) (let fits = c.takes_end.ensures.yes (search rules) in
+    omega (arith, fits)) c.end_section.ensures.ok c.end_section.ensures.course
+
+pub returns-clause-closed : goal.returns-clause-closed
+returns-clause-closed g c = λ set_id d o.
+    let there = got c.args.volumes.now c.from.result c.args.self.now.course.volume
+    c.in-Some.volume.now (search rules) c.in-Some.ensures.lookup.3.0 c.in-Some.ensures.lookup.1 in
+    close_next (g.T.TapeOut.holds c.args.self.now.out) (g.T.TapeOut.holds c.change_to.new.self.out)
+    (g.T.TapeOut.holds c.end_section-2.new.self.out) c.args.volumes.now c.args.capacity set_id
+    c.args.file.now c.args.self.now.course c.change_to.new.self.course
+    c.end_section-2.new.self.course d c.in-Some.volume.now c.end_section-2.result
+    o (let due = c.takes_end.ensures.no (search rules) in omega (arith, due)) there
+    (every_at IsWideVolume c.args.volumes.now c.args.self.now.course.volume c.in-Some.volume.now
+    c.requires.wide there) c.requires.volumes c.requires.capacity
+    (omega arith) c.in_ok-change_to.ensures.ok c.in_ok-change_to.ensures.course
+    c.end_section-2.ensures.ok c.end_section-2.ensures.course
+
+pub returns-in_default-clause-lasting : goal.returns-in_default-clause-lasting
+returns-in_default-clause-lasting g c = lasting_self _ _ _

@@ -1,0 +1,11 @@
+use Rattle.std.proofs.Common.{rules, refl}
+use Rattle.tape_writer.proofs.Last.{lasting_item, lasting_err}
+use Rattle.tape_writer.proofs.tape.Tape.mark.Goals as goal
+
+pub returns-in-Ok-clause-lasting : goal.returns-in-Ok-clause-lasting
+returns-in-Ok-clause-lasting g c =
+    lasting_item _ _ _ _ _ _ _ c.in-Ok.ensures.ok c.mark.ensures.count (search rules)
+
+pub returns-in-Err-clause-lasting : goal.returns-in-Err-clause-lasting
+returns-in-Err-clause-lasting g c =
+    lasting_err _ _ _ _ _ _ c.in-Err.ensures.err c.mark.ensures.count refl

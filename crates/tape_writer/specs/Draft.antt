@@ -1,0 +1,232 @@
+-- A set that is being written: what stands on its volumes, and what was decided of it.
+use Rattle.std.specs.Prelude.{◌≡◌, ◌<◌, ◌≤◌, ℕ, zero, suc, ◌+◌, List, [], ◌∷◌, ◌++◌, Bool, true}
+use Rattle.std.specs.Prelude.{false, length, map, slice_get}
+use Rattle.std.specs.List.{AllByRecursion}
+use Rattle.tape_image.specs.Tape.{TapeItem, block}
+use Rattle.tape_label.specs.declared.values.Vol1.{Vol1}
+use Rattle.tape_label.specs.declared.values.Kind.TheVariants as kinds
+use Rattle.tape_blocks.specs.Tight.{Filled, Chain}
+use Rattle.tape_set.specs.Layout.{Section, Placed, Volume, Entry, a_mark, numbered, all_numbered}
+use Rattle.tape_set.specs.Layout.{on, all_entries, group_of, item_of, ends_file}
+use Rattle.tape_set.specs.Before.{blocks_of_all}
+use Rattle.tape_set.specs.Sizes.{items_size, headers_size, volume_end_size}
+use Rattle.tape_set.specs.Lawful.{IsSection, GoesOn, StartsOnFirst}
+use Rattle.tape_set.specs.Tight.{IsTightChange, IsTightEnd, EachBehind, ChainBehind}
+use Rattle.tape_writer.specs.declared.course.Opened.{Opened}
+use Rattle.tape_writer.specs.declared.course.Course.{Course}
+use Rattle.tape_writer.specs.Tapes.{Tapes, UnderWay}
+use Rattle.tape_writer.specs.Labels.{IsReady, first_label, second_label, trailer_label, second_kind}
+use Rattle.tape_writer.specs.Labels.{header_items}
+use Rattle.tape_writer.specs.Told.{labelled, IsOfFile, IsWithin}
+
+-- The files that are finished; of the file under way the sections that are, and the blocks of the
+-- next one; and the number of volumes that ended.
+pub record Draft : Type 0 where
+  pub files : List (List Section)
+  pub sects : List Section
+  pub blocks : List Filled
+  pub past : ℕ
+
+-- the finished sections, in order
+abbrev pub placed : Draft → List Placed
+placed d = all_numbered 1 d.files ++ numbered (length d.files + 1) 1 d.sects
+
+-- the blocks of the file under way
+abbrev pub open_blocks : Draft → List Filled
+open_blocks d = blocks_of_all d.sects ++ d.blocks
+
+-- what stands on the volume behind the first k ones, but its last mark
+abbrev pub body : List Volume → List Placed → ℕ → List Entry
+body volumes xs k = group_of (slice_get volumes k) ++ all_entries (on (k + 1) xs)
+
+-- the items of the first k volumes
+abbrev pub first_volumes : List Volume → List Placed → ℕ → List (List TapeItem)
+first_volumes volumes xs zero = []
+first_volumes volumes xs (suc k) =
+    first_volumes volumes xs k ++ map item_of (body volumes xs k ++ a_mark ∷ []) ∷ []
+
+-- a section with its trailer
+abbrev pub closing : Opened → ℕ → ℕ → List Filled → Bool → Section
+closing file volume sect blocks eof = record {
+  volume = volume;
+  hdr1 = first_label file sect;
+  hdr2 = second_label file kinds.Hdr2;
+  headers = [];
+  blocks = blocks;
+  trailer = trailer_label file sect (length blocks) eof;
+  trailers = second_label file (second_kind eof) ∷ [];
+}
+
+-- the section under way, as if it ended here
+abbrev pub here : Opened → Course → List Filled → Bool → Placed
+here file course blocks eof = record {
+  file = file.head.sequence;
+  sect = course.sect;
+  section = closing file course.volume course.sect blocks eof;
+}
+
+-- a data block
+abbrev pub data_item : Filled → TapeItem
+data_item b = block b.bytes
+
+-- the volume under way between two files
+abbrev pub body_items : List Volume → Draft → List TapeItem
+body_items volumes d = map item_of (body volumes (placed d) d.past)
+
+-- the volume under way inside a file
+abbrev pub open_items : List Volume → Opened → Course → Draft → List TapeItem
+open_items volumes file course d =
+    body_items volumes d ++ header_items file course.sect ++ map data_item d.blocks
+
+-- the volumes that ended
+abbrev pub ended_volumes : List Volume → Draft → List (List TapeItem)
+ended_volumes volumes d = first_volumes volumes (placed d) d.past
+
+-- finished sections on the first volumes, so many, and what was decided of them
+pub record IsDone (volumes : List Volume) (capacity : ℕ) (set_id : List ℕ) (n : ℕ)
+    (xs : List Placed) : Type 0 where
+  pub each : AllByRecursion (IsSection set_id n) xs
+  pub first : StartsOnFirst xs
+  pub chain : Chain GoesOn xs
+  pub ends : EachBehind (IsTightEnd volumes capacity) [] xs
+  pub changes : ChainBehind (IsTightChange volumes capacity) [] xs
+
+-- what holds of the last of these and those before it
+abbrev pub OfLast : List Placed → (List Placed → Placed → Type 0) → Type 0
+OfLast xs P = (ys : List Placed) (x : Placed) → xs ≡ ys ++ x ∷ [] → P ys x
+
+-- a section that goes on
+abbrev pub IsGoing : Opened → Placed → Type 0
+IsGoing file x = IsOfFile file x × (ends_file x.section ≡ false)
+
+-- Between two files.
+pub record Between (volumes : List Volume) (capacity : ℕ) (set_id : List ℕ) (course : Course)
+    (d : Draft) : Type 0 where
+  pub no_sects : d.sects ≡ []
+  pub no_blocks : d.blocks ≡ []
+  pub volume : course.volume ≡ d.past + 1
+  pub few : course.volume ≤ length volumes
+  pub done : IsDone volumes capacity set_id (d.past + 1) (placed d)
+  pub last : OfLast (placed d)
+      (λ ys x. (x.file ≡ length d.files) × (x.section.volume ≡ course.volume))
+  pub fresh : placed d ≡ [] → d.past ≡ 0
+  pub within : AllByRecursion (IsWithin capacity) (ended_volumes volumes d)
+  pub used : course.used ≡ items_size (body_items volumes d)
+  pub room : course.used + (headers_size + volume_end_size) ≤ capacity
+
+-- Inside a file, whose section under way begins with these blocks.
+pub record Within (volumes : List Volume) (capacity : ℕ) (set_id : List ℕ) (file : Opened)
+    (course : Course) (next : List Filled) (d : Draft) : Type 0 where
+  pub ready : IsReady file
+  pub of_set : file.head.set_id ≡ set_id
+  pub sequence : file.head.sequence ≡ length d.files + 1
+  pub volume : course.volume ≡ d.past + 1
+  pub few : course.volume ≤ length volumes
+  pub sect : course.sect ≡ length d.sects + 1
+  pub sect_most : course.sect ≤ course.volume
+  pub count : course.count ≡ length d.blocks
+  pub count_most : course.count ≤ course.used
+  pub sized : AllByRecursion (λ b. (0 < length b.bytes) × (length b.bytes ≤ 99999))
+      d.blocks
+  pub done : IsDone volumes capacity set_id (d.past + 1) (placed d)
+  pub goes : OfLast (placed d) (λ ys x. GoesOn x (here file course [] true))
+  pub fresh : placed d ≡ [] → d.past ≡ 0
+  pub change : OfLast (placed d)
+      (λ ys x. IsTightChange volumes capacity ys x (here file course next true))
+  pub going : AllByRecursion (IsGoing file) (numbered file.head.sequence 1 d.sects)
+  pub within : AllByRecursion (IsWithin capacity) (ended_volumes volumes d)
+  pub used : course.used ≡ items_size (open_items volumes file course d)
+  pub room : course.used + volume_end_size ≤ capacity
+
+-- Between two calls inside a file.
+pub record Steady (volumes : List Volume) (capacity : ℕ) (set_id : List ℕ) (file : Opened)
+    (course : Course) (d : Draft) : Type 0 where
+  pub inside : Within volumes capacity set_id file course d.blocks d
+  pub begins : d.blocks ≡ [] → OfLast (placed d) (λ ys x. (x.file ≡ file.head.sequence) → ⊥)
+
+-- the draft behind a section's end by EOV
+abbrev pub changed_draft : Opened → Course → Draft → Draft
+changed_draft file course d = record {
+  files = d.files;
+  sects = d.sects ++ closing file course.volume course.sect d.blocks false ∷ [];
+  blocks = [];
+  past = d.past + 1;
+}
+
+-- and the course: VOL1 and the headers are written on the next volume
+abbrev pub changed_course : Course → Course
+changed_course course =
+    record { volume = course.volume + 1; sect = course.sect + 1; count = 0; used = 268 }
+
+-- the draft behind a file's end
+abbrev pub ended_draft : Opened → Course → Draft → Draft
+ended_draft file course d = record {
+  files = d.files
+      ++ (d.sects ++ closing file course.volume course.sect d.blocks true ∷ []) ∷ [];
+  sects = [];
+  blocks = [];
+  past = d.past;
+}
+
+-- one more block
+abbrev pub added_draft : Draft → Filled → Draft
+added_draft d b = record d { blocks = d.blocks ++ b ∷ [] }
+
+-- and the course, where the block takes so much
+abbrev pub added_course : Course → ℕ → Course
+added_course course size = record course { count = course.count + 1; used = course.used + size }
+
+-- the course behind a section's end
+abbrev pub ended_course : Course → Course
+ended_course course = record course { used = course.used + 184 }
+
+-- the course behind the headers of a file's first section
+abbrev pub begun_course : Course → Course
+begun_course course =
+    record { volume = course.volume; sect = 1; count = 0; used = course.used + 180 }
+
+-- Inside a file the tapes hold what the draft tells.
+pub record IsOpen (H : Tapes → Type 0) (volumes : List Vol1) (capacity : ℕ) (set_id : List ℕ)
+    (file : Opened) (course : Course) (d : Draft) : Type 0 where
+  pub steady : Steady (map labelled volumes) capacity set_id file course d
+  pub held : H (UnderWay (ended_volumes (map labelled volumes) d)
+      (open_items (map labelled volumes) file course d))
+
+-- So they do between two files.
+pub record IsResting (H : Tapes → Type 0) (volumes : List Vol1) (capacity : ℕ) (set_id : List ℕ)
+    (course : Course) (d : Draft) : Type 0 where
+  pub between : Between (map labelled volumes) capacity set_id course d
+  pub held : H (UnderWay (ended_volumes (map labelled volumes) d)
+      (body_items (map labelled volumes) d))
+
+-- One more block was written.
+pub record Grew (H : Tapes → Type 0) (volumes : List Vol1) (capacity : ℕ) (set_id : List ℕ)
+    (file : Opened) (course : Course) (d : Draft) (b : Filled) : Type 0 where
+  pub draft : Draft
+  pub is_open : IsOpen H volumes capacity set_id file course draft
+  pub files : draft.files ≡ d.files
+  pub blocks : open_blocks draft ≡ open_blocks d ++ b ∷ []
+
+-- The file has ended, with these sections.
+pub record Closed (H : Tapes → Type 0) (volumes : List Vol1) (capacity : ℕ) (set_id : List ℕ)
+    (file : Opened) (course : Course) (d : Draft) : Type 0 where
+  pub draft : Draft
+  pub resting : IsResting H volumes capacity set_id course draft
+  pub sects : List Section
+  pub last : Placed
+  pub files : draft.files ≡ d.files ++ (sects ++ last.section ∷ []) ∷ []
+  pub ready : IsReady file
+  pub sequence : file.head.sequence ≡ length d.files + 1
+  pub number : last.sect ≡ length sects + 1
+  pub going : AllByRecursion (IsGoing file) (numbered file.head.sequence 1 sects)
+  pub of_file : IsOfFile file last
+  pub ends : ends_file last.section ≡ true
+  pub blocks : blocks_of_all (sects ++ last.section ∷ []) ≡ open_blocks d
+
+-- The numbers allow what is written next, whatever the tapes tell.
+pub record IsRoomy (capacity volumes : ℕ) (course : Course) : Type 0 where
+  pub room : course.used + volume_end_size ≤ capacity
+  pub count : course.count ≤ course.used
+  pub some : 1 ≤ course.sect
+  pub sect : course.sect ≤ course.volume
+  pub volume : course.volume ≤ volumes

@@ -1,0 +1,96 @@
+-- The writer inside a file and between two: what the tapes hold, with what was told.
+use Rattle.std.specs.Prelude.{◌≡◌, ◌⊎◌, ◌≢◌, ◌≤◌, ℕ, List, [], ◌∷◌, ◌++◌, false, length}
+use Rattle.std.specs.List.{AllByRecursion}
+use Rattle.tape_label.specs.declared.values.Vol1.{Vol1}
+use Rattle.tape_blocks.specs.declared.shape.Shape.{Shape}
+use Rattle.tape_blocks.specs.Packing.{Packing, Given, HasRecordLength}
+use Rattle.tape_blocks.specs.Run.{RunOf, Going}
+use Rattle.tape_blocks.specs.Tight.{Filled}
+use Rattle.tape_blocks.specs.Tight as packing
+use Rattle.tape_set.specs.Layout.{Section}
+use Rattle.tape_set.specs.Tight.{takes_next}
+use Rattle.tape_writer.specs.declared.course.Opened.{Opened}
+use Rattle.tape_writer.specs.declared.course.Course.{Course}
+use Rattle.tape_writer.specs.Tapes.{Tapes, Ended}
+use Rattle.tape_writer.specs.Draft.{Draft, IsOpen, IsResting, open_blocks}
+use Rattle.tape_writer.specs.Told.{Told, AreFiled}
+
+-- the records have lengths of this shape
+abbrev pub HaveLengths : Shape → List (List ℕ) → Type 0
+HaveLengths shape records =
+    AllByRecursion (λ r. HasRecordLength shape.format shape.rec_len (length r)) records
+
+-- Behind the finished files fs, inside this one: these records were given.
+pub record IsInside (H : Tapes → Type 0) (volumes : List Vol1) (capacity : ℕ) (set_id : List ℕ)
+    (file : Opened) (course : Course) (p : Packing) (fs : List (List Section))
+    (records : List (List ℕ)) : Type 0 where
+  pub draft : Draft
+  pub is_open : IsOpen H volumes capacity set_id file course draft
+  pub files : draft.files ≡ fs
+  pub shape : p.shape ≡ file.shape
+  pub ended : p.begun ≡ false
+  pub run : RunOf (open_blocks draft) p records
+  pub lengths : HaveLengths file.shape records
+
+-- In the middle of a record, this rest of it is still to be packed.
+pub record IsPacking (H : Tapes → Type 0) (volumes : List Vol1) (capacity : ℕ) (set_id : List ℕ)
+    (file : Opened) (course : Course) (p : Packing) (fs : List (List Section))
+    (records : List (List ℕ)) (whole rest : List ℕ) : Type 0 where
+  pub draft : Draft
+  pub is_open : IsOpen H volumes capacity set_id file course draft
+  pub files : draft.files ≡ fs
+  pub shape : p.shape ≡ file.shape
+  pub going : Going (open_blocks draft) p records whole rest
+  pub lengths : HaveLengths file.shape records
+
+-- The block under way was written.
+pub record Flushed (H : Tapes → Type 0) (volumes : List Vol1) (capacity : ℕ) (set_id : List ℕ)
+    (file : Opened) (course : Course) (d : Draft) (p : Packing) : Type 0 where
+  pub draft : Draft
+  pub text : List ℕ
+  pub given : Given p text
+  pub is_open : IsOpen H volumes capacity set_id file course draft
+  pub files : draft.files ≡ d.files
+  pub blocks : open_blocks draft ≡ open_blocks d ++ record { bytes = text; parts = p.parts } ∷ []
+
+-- Inside a file, all its records stand in blocks.
+pub record IsFlat (H : Tapes → Type 0) (volumes : List Vol1) (capacity : ℕ) (set_id : List ℕ)
+    (file : Opened) (course : Course) (fs : List (List Section)) (records : List (List ℕ))
+    : Type 0 where
+  pub draft : Draft
+  pub is_open : IsOpen H volumes capacity set_id file course draft
+  pub files : draft.files ≡ fs
+  pub tight : packing.IsTight file.shape records (open_blocks draft)
+  pub lengths : HaveLengths file.shape records
+
+-- Between two files, these were told.
+pub record IsBetween (H : Tapes → Type 0) (volumes : List Vol1) (capacity : ℕ) (set_id : List ℕ)
+    (course : Course) (told : List Told) : Type 0 where
+  pub draft : Draft
+  pub resting : IsResting H volumes capacity set_id course draft
+  pub filed : AreFiled capacity told draft.files
+
+-- Inside a file, behind the ones told before it.
+pub record IsFiling (H : Tapes → Type 0) (volumes : List Vol1) (capacity : ℕ) (set_id : List ℕ)
+    (file : Opened) (course : Course) (p : Packing) (past : List Told) (records : List (List ℕ))
+    : Type 0 where
+  pub files : List (List Section)
+  pub filed : AreFiled capacity past files
+  pub inside : IsInside H volumes capacity set_id file course p files records
+
+-- before the first file, when nothing is written, or between two
+abbrev pub IsWaiting : (Tapes → Type 0) → List Vol1 → ℕ → List ℕ → Course → List Told → Type 0
+IsWaiting H volumes capacity set_id course told =
+    ((course.volume ≡ 0) × H (Ended []) × (told ≡ []))
+    ⊎ (IsBetween H volumes capacity set_id course told × (told ≢ []))
+
+-- A change is due and no volume is left: the volume under way holds an open section with its data
+-- blocks and no trailer, and the rule of the change refuses what comes next.
+pub record IsStuck (H : Tapes → Type 0) (volumes : List Vol1) (capacity : ℕ) (set_id : List ℕ)
+    (file : Opened) (course : Course) (fs : List (List Section)) : Type 0 where
+  pub draft : Draft
+  pub is_open : IsOpen H volumes capacity set_id file course draft
+  pub files : draft.files ≡ fs
+  pub none_left : length volumes ≤ course.volume
+  pub next : List Filled
+  pub due : takes_next capacity course.used next ≡ false

@@ -1,0 +1,25 @@
+-- What tapes in memory hold.
+use Rattle.std.specs.Prelude.{ℕ, List, map, Option, Some, None}
+use Rattle.tape_image.specs.Tape.{TapeItem, block, mark}
+use Rattle.tape_writer.specs.Tapes.{Tapes, Ended, UnderWay}
+use Rattle.tape_writer.specs.declared.memory.Kept.{Kept}
+use Rattle.tape_writer.specs.declared.memory.Kept.TheVariants.{Block, Mark}
+
+-- what is seen of tapes in memory: their volumes, and how often they were misused
+pub record InMemory : Type 0 where
+  pub tapes : Tapes
+  pub misused : ℕ
+
+-- an item as it is kept
+abbrev pub item_of : Kept → TapeItem
+item_of (Block bytes) = block bytes.items
+item_of Mark = mark
+
+-- a volume as it is kept
+abbrev pub volume_of : List Kept → List TapeItem
+volume_of kept = map item_of kept
+
+-- these volumes ended, and this one is under way, if one is
+abbrev pub tapes_of : List (List Kept) → Option (List Kept) → Tapes
+tapes_of ended None = Ended (map volume_of ended)
+tapes_of ended (Some current) = UnderWay (map volume_of ended) (volume_of current)

@@ -1,0 +1,14 @@
+-- to be believed, in this order:
+pub mod Tapes
+pub mod Kept
+pub mod Images
+pub mod Fields
+pub mod Labels
+pub mod Told
+pub mod State
+pub mod Lasting
+pub mod Faults
+pub mod Refusals
+-- what is written so far, in the proofs' own words:
+pub mod Draft
+pub mod Inside

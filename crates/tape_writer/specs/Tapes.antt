@@ -1,0 +1,50 @@
+-- What is written: volumes of items, and how the calls of a `TapeOut` change them.
+use Rattle.std.specs.Prelude.{◌≡◌, ◌<◌, ◌≤◌, ◌⊎◌, ℕ, List, [], ◌∷◌, ◌++◌, Result, OnOk, OnErr}
+use Rattle.std.specs.Prelude.{IfErr, slice_get, unwrap_or}
+use Rattle.tape_image.specs.Tape.{TapeItem}
+use Rattle.tape_writer.specs.declared.fault.OutFault.{OutFault}
+use Rattle.tape_writer.specs.declared.fault.OutFault.TheVariants.{Device}
+
+-- the volumes that ended, in order, and the items of the one under way, if there is one
+pub data Tapes : Type 0 where
+  Ended : (volumes : List (List TapeItem)) → Tapes
+  UnderWay : (volumes : List (List TapeItem)) (items : List TapeItem) → Tapes
+
+-- all volumes, the one under way ended too
+abbrev pub all_volumes : Tapes → List (List TapeItem)
+all_volumes (Ended volumes) = volumes
+all_volumes (UnderWay volumes items) = volumes ++ items ∷ []
+
+-- the items of a volume, counted from 0; none where there is no such volume
+abbrev pub volume_at : Tapes → ℕ → List TapeItem
+volume_at tapes k = unwrap_or (slice_get (all_volumes tapes) k) []
+
+-- success puts these items behind those of the volume under way, where there is one
+abbrev pub Takes : {E : Type 0} → List TapeItem → (Tapes → Type 0) → Result (Unit {0}) E
+    → (Tapes → Type 0) → Type 0
+Takes more H result H' = (volumes : List (List TapeItem)) (items : List TapeItem)
+    → H (UnderWay volumes items) → OnOk result (H' (UnderWay volumes (items ++ more)))
+
+-- success ends the volume under way, if there is one, and begins the next with these items
+abbrev pub Changes : {E : Type 0} → List TapeItem → (Tapes → Type 0) → Result (Unit {0}) E
+    → (Tapes → Type 0) → Type 0
+Changes first H result H' = (tapes : Tapes)
+    → H tapes → OnOk result (H' (UnderWay (all_volumes tapes) first))
+
+-- success ends the volume under way, if there is one
+abbrev pub Closes : {E : Type 0} → (Tapes → Type 0) → Result (Unit {0}) E → (Tapes → Type 0)
+    → Type 0
+Closes H result H' = (tapes : Tapes) → H tapes → OnOk result (H' (Ended (all_volumes tapes)))
+
+-- a refusal leaves what is held as it was
+abbrev pub Keeps : {E : Type 0} → (Tapes → Type 0) → Result (Unit {0}) E → (Tapes → Type 0)
+    → Type 0
+Keeps H result H' = (tapes : Tapes) → H tapes → OnErr result (H' tapes)
+
+-- a count of failures rose, or stands where it stays: it is kept in 64 bits
+abbrev pub Rose : ℕ → ℕ → Type 0
+Rose old new = (old < new) ⊎ (18446744073709551615 ≤ new)
+
+-- `Device` is answered only where the count rose in the call
+abbrev pub HasCause : ℕ → Result (Unit {0}) OutFault → ℕ → Type 0
+HasCause old result new = IfErr result (λ fault. fault ≡ Device → Rose old new)

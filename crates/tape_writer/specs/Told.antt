@@ -1,0 +1,85 @@
+-- What a writer was told, and when that is written.
+use Rattle.std.specs.Prelude.{◌≡◌, ◌≤◌, ℕ, ◌+◌, List, [], ◌∷◌, ◌++◌, Bool, None, length, map, take}
+use Rattle.std.specs.List.{AllByRecursion}
+use Rattle.tape_image.specs.Tape.{TapeItem}
+use Rattle.tape_label.specs.declared.values.Vol1.{Vol1}
+use Rattle.tape_label.specs.declared.values.Head1.{Head1}
+use Rattle.tape_label.specs.declared.values.Kind.TheVariants as kinds
+use Rattle.tape_blocks.specs.declared.shape.Shape.{Shape}
+use Rattle.tape_blocks.specs.Spans.{join}
+use Rattle.tape_set.specs.Layout.{FileSet, Section, Placed, Volume, numbered, all_items}
+use Rattle.tape_set.specs.Before.{section_parts}
+use Rattle.tape_set.specs.Lawful.{IsLawful, IsFile}
+use Rattle.tape_set.specs.Sizes.{items_size}
+use Rattle.tape_set.specs.Tight.{IsTight, IsTightFile}
+use Rattle.tape_writer.specs.declared.course.Opened.{Opened}
+use Rattle.tape_writer.specs.Tapes.{Tapes, Ended}
+use Rattle.tape_writer.specs.Labels.{volume_label, first_label, second_label, trailer_label}
+use Rattle.tape_writer.specs.Labels.{second_kind}
+
+-- ---- told
+
+-- A file that was begun: its head and shape, and the records given so far.
+pub record Told : Type 0 where
+  pub file : Opened
+  pub records : List (List ℕ)
+
+-- the file that `begin_file` begins: set identifier, section and number are the writer's
+abbrev pub opened_by : List ℕ → ℕ → Head1 → Shape → Opened
+opened_by set_id number head shape = record {
+  head = record head { set_id = set_id; sect = 1; sequence = number };
+  shape = shape;
+}
+
+-- one more record of the last file
+abbrev pub with_record : List Told → List ℕ → List Told
+with_record [] r = []
+with_record (t ∷ []) r = record { file = t.file; records = t.records ++ r ∷ [] } ∷ []
+with_record (t ∷ u ∷ ts) r = t ∷ with_record (u ∷ ts) r
+
+-- ---- written
+
+-- a volume with this VOL1 and no further label
+abbrev pub labelled : Vol1 → Volume
+labelled v = record { vol1 = volume_label v; labels = [] }
+
+-- the items and the end word take no more than the capacity
+abbrev pub IsWithin : ℕ → List TapeItem → Type 0
+IsWithin capacity items = items_size items + 4 ≤ capacity
+
+-- The section's labels are those that are written of this file, and no others.
+pub record IsOfFile (file : Opened) (x : Placed) : Type 0 where
+  pub number : (1 ≤ x.sect) × (x.sect ≤ 9999)
+  pub hdr1 : x.section.hdr1 ≡ first_label file x.sect
+  pub hdr2 : x.section.hdr2 ≡ second_label file kinds.Hdr2
+  pub headers : x.section.headers ≡ []
+  pub eof : Bool
+  pub trailer : x.section.trailer ≡ trailer_label file x.sect (length x.section.blocks) eof
+  pub trailers : x.section.trailers ≡ second_label file (second_kind eof) ∷ []
+
+-- These sections are that file: they have its labels, are packed tightly in its shape, and join to
+-- its records.
+pub record IsFiled (capacity : ℕ) (told : Told) (f : List Section) : Type 0 where
+  pub is_file : IsFile f
+  pub tight : IsTightFile capacity told.file.shape f
+  pub labels : AllByRecursion (IsOfFile told.file) (numbered told.file.head.sequence 1 f)
+  pub joins : join (section_parts f) ≡ record { records = told.records; rest = None }
+
+-- each file is the one told at its place
+abbrev pub AreFiled : ℕ → List Told → List (List Section) → Type 0
+AreFiled capacity [] [] = Unit {0}
+AreFiled capacity (t ∷ ts) (f ∷ fs) = IsFiled capacity t f × AreFiled capacity ts fs
+AreFiled capacity _ _ = ⊥
+
+-- The tapes hold the volumes of a lawful set that is tight in the capacity and the shapes told; its
+-- files are those told, and its volumes the first of those given; none is longer than the capacity.
+pub record IsWrittenSet (H : Tapes → Type 0) (volumes : List Vol1) (capacity : ℕ) (set_id : List ℕ)
+    (told : List Told) : Type 0 where
+  pub layout : FileSet
+  pub lawful : IsLawful layout
+  pub tight : IsTight layout capacity (map (λ t. t.file.shape) told)
+  pub held : H (Ended (all_items layout))
+  pub within : AllByRecursion (IsWithin capacity) (all_items layout)
+  pub of_set : layout.set_id ≡ set_id
+  pub of_volumes : layout.volumes ≡ take (length layout.volumes) (map labelled volumes)
+  pub files : AreFiled capacity told layout.files

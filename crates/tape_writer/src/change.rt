@@ -1,0 +1,143 @@
+//! What is written where the volume has room for it, and else on the next one.
+
+ghost use Rattle.std.specs.Prelude.{◌≡◌, ◌<◌, ◌≤◌, ◌+◌, List, ℕ, length, OnOk, IfErr, Err, true};
+ghost use Rattle.std.specs.Prelude.{false};
+ghost use Rattle.std.specs.List.{AllByRecursion};
+ghost use Rattle.tape_image.specs.Tape.{block as block_item};
+ghost use Rattle.tape_blocks.specs.Tight.{Filled};
+ghost use Rattle.tape_set.specs.Sizes.{item_size};
+ghost use Rattle.tape_writer.specs.Lasting.{Lasting};
+ghost use Rattle.tape_writer.specs.Faults.{FailsWith, IsOfTape};
+ghost use Rattle.tape_label.specs.Widths.{IsWideVolume};
+ghost use Rattle.tape_writer.specs.Labels.{IsReady};
+ghost use Rattle.tape_writer.specs.Draft.{Draft, IsOpen, IsRoomy, Grew, Closed};
+
+use crate::course::Opened;
+use crate::fault::WriteFault;
+use crate::out::TapeOut;
+use crate::tape::Tape;
+use tape_label::Vol1;
+
+/// The end of a volume inside a file: a mark, EOV1, EOV2, two marks and the end word.
+const VOLUME_END: u32 = 192;
+
+/// The end of a file: a mark, EOF1, EOF2 and a mark.
+const FILE_END: u32 = 184;
+
+/// The headers of one more file: HDR1, HDR2 and a mark.
+const HEADERS: u32 = 180;
+
+impl<T: TapeOut> Tape<T> {
+    /// Whether so many bytes more fit the capacity.
+    fn has_room(&self, capacity: u32, more: u32) -> bool
+        ensures yes { result ≡ true → self.now.course.used + more ≤ capacity }
+        ensures no { result ≡ false → capacity < self.now.course.used + more }
+    {
+        u64::from(self.course.used) + u64::from(more) <= u64::from(capacity)
+    }
+
+    /// Whether the volume has room for a block of these bytes and a volume end.
+    fn takes_block(&self, capacity: u32, bytes: &[u8]) -> bool
+        requires { length bytes.now ≤ 99999 }
+        ensures yes { result ≡ true
+            → self.now.course.used + item_size (block_item bytes.now) + 192 ≤ capacity }
+        ensures no { result ≡ false
+            → capacity < self.now.course.used + item_size (block_item bytes.now) + 192 }
+    {
+        let size = (8 + bytes.len() + bytes.len() % 2) as u32;
+        self.has_room(capacity, size + VOLUME_END)
+    }
+
+    /// Whether the volume has room for a file end, the headers of another file and a volume end.
+    fn takes_end(&self, capacity: u32) -> bool
+        ensures yes { result ≡ true → self.now.course.used + 184 + 372 ≤ capacity }
+        ensures no { result ≡ false → capacity < self.now.course.used + 184 + 372 }
+    {
+        self.has_room(capacity, FILE_END + HEADERS + VOLUME_END)
+    }
+
+    /// Writes a data block, behind a change of the volume where one is due.
+    #[tactic(auto, using(crate::proofs::Last::kept))]
+    pub(crate) fn write_block(
+        &mut self,
+        file: &Opened,
+        volumes: &[Vol1],
+        capacity: u32,
+        bytes: &[u8],
+    ) -> Result<(), WriteFault>
+        requires ready { IsReady file.now }
+        requires wide { AllByRecursion IsWideVolume volumes.now }
+        requires sized { (0 < length bytes.now) × (length bytes.now ≤ 99999) }
+        requires roomy { IsRoomy capacity (length volumes.now) self.old.course }
+        requires volumes { length volumes.now ≤ 9999 }
+        requires capacity { 1024 + length bytes.now ≤ capacity }
+        ensures roomy { OnOk result (IsRoomy capacity (length volumes.now) self.new.course) }
+        ensures grew { (set_id : List ℕ) (d : Draft) (b : Filled) → b.bytes ≡ bytes.now
+            → IsOpen (T.holds self.old.out) volumes.now capacity set_id file.now
+            self.old.course d
+            → OnOk result (Grew (T.holds self.new.out) volumes.now capacity set_id file.now
+            self.new.course d b) }
+        ensures none { IfErr result (λ fault. fault ≡ WriteFault.OutOfVolumes
+            → (self.new ≡ self.old) × (length volumes.now ≤ self.old.course.volume)
+            × (capacity < self.old.course.used + item_size (block_item bytes.now) + 192)) }
+        ensures always { length volumes.now ≤ self.old.course.volume
+            → capacity < self.old.course.used + item_size (block_item bytes.now) + 192
+            → result ≡ Err WriteFault.OutOfVolumes }
+        ensures of_tape { IfErr result IsOfTape }
+        ensures lasting { Lasting
+            (T.holds self.old.out) (T.failures self.old.out) self.old.course.used
+            (T.holds self.new.out) (T.failures self.new.out) self.new.course.used }
+        ensures cause { FailsWith (T.failures self.old.out) result (T.failures self.new.out) }
+    {
+        if self.takes_block(capacity, bytes) {
+            return self.add_block(bytes);
+        }
+        let Some(volume) = volumes.get(usize::from(self.course.volume)) else {
+            return Err(WriteFault::OutOfVolumes);
+        };
+        self.change_to(file, volume)?;
+        self.add_block(bytes)
+    }
+
+    /// Ends the file, behind a change of the volume where one is due.
+    #[tactic(auto, using(crate::proofs::Last::kept))]
+    pub(crate) fn end_file(
+        &mut self,
+        file: &Opened,
+        volumes: &[Vol1],
+        capacity: u32,
+    ) -> Result<(), WriteFault>
+        requires ready { IsReady file.now }
+        requires wide { AllByRecursion IsWideVolume volumes.now }
+        requires roomy { IsRoomy capacity (length volumes.now) self.old.course }
+        requires volumes { length volumes.now ≤ 9999 }
+        requires capacity { 1024 ≤ capacity }
+        ensures roomy { OnOk result ((self.new.course.used + 372 ≤ capacity)
+            × (self.new.course.volume ≤ length volumes.now) × (1 ≤ self.new.course.volume)) }
+        ensures closed { (set_id : List ℕ) (d : Draft)
+            → IsOpen (T.holds self.old.out) volumes.now capacity set_id file.now
+            self.old.course d
+            → OnOk result (Closed (T.holds self.new.out) volumes.now capacity set_id file.now
+            self.new.course d) }
+        ensures none { IfErr result (λ fault. fault ≡ WriteFault.OutOfVolumes
+            → (self.new ≡ self.old) × (length volumes.now ≤ self.old.course.volume)
+            × (capacity < self.old.course.used + 184 + 372)) }
+        ensures always { length volumes.now ≤ self.old.course.volume
+            → capacity < self.old.course.used + 184 + 372
+            → result ≡ Err WriteFault.OutOfVolumes }
+        ensures of_tape { IfErr result IsOfTape }
+        ensures lasting { Lasting
+            (T.holds self.old.out) (T.failures self.old.out) self.old.course.used
+            (T.holds self.new.out) (T.failures self.new.out) self.new.course.used }
+        ensures cause { FailsWith (T.failures self.old.out) result (T.failures self.new.out) }
+    {
+        if self.takes_end(capacity) {
+            return self.end_section(file, true);
+        }
+        let Some(volume) = volumes.get(usize::from(self.course.volume)) else {
+            return Err(WriteFault::OutOfVolumes);
+        };
+        self.change_to(file, volume)?;
+        self.end_section(file, true)
+    }
+}

@@ -1,0 +1,66 @@
+//! Where the writer stands on the volumes.
+
+ghost use Rattle.std.specs.Prelude.{◌≡◌};
+ghost use Rattle.tape_set.specs.Tight.{second_of};
+ghost use Rattle.tape_writer.specs.Labels.{head_at as head_at_of};
+
+use tape_blocks::Shape;
+use tape_label::{Head1, Head2};
+
+/// A file that was begun: its head, with the set's identifier, section 1 and the file's number, and
+/// its shape.
+#[derive(Clone, Copy, Debug)]
+pub struct Opened {
+    /// What HDR1 tells of the file's first section.
+    pub head: Head1,
+    /// How its records stand in blocks.
+    pub shape: Shape,
+}
+
+/// The volume and the section under way.
+#[derive(Clone, Copy, Debug)]
+pub struct Course {
+    /// The volume's number, from 1; 0 before the first.
+    pub volume: u16,
+    /// The section's number in its file, from 1.
+    pub sect: u16,
+    /// How many data blocks the section has so far.
+    pub count: u32,
+    /// How many bytes the volume takes as an image, so far.
+    pub used: u32,
+}
+
+impl Course {
+    /// Before the first volume.
+    pub(crate) fn start() -> Course
+        ensures { result ≡ record { volume = 0; sect = 0; count = 0; used = 0 } }
+    {
+        Course {
+            volume: 0,
+            sect: 0,
+            count: 0,
+            used: 0,
+        }
+    }
+}
+
+impl Opened {
+    /// What HDR1 tells of this section.
+    pub(crate) fn head_at(&self, sect: u16) -> Head1
+        ensures { result ≡ head_at_of self.now sect }
+    {
+        Head1 { sect, ..self.head }
+    }
+
+    /// What HDR2 tells of each section.
+    pub(crate) fn second(&self) -> Head2
+        ensures { result ≡ second_of self.now.shape }
+    {
+        Head2 {
+            format: self.shape.format,
+            block_len: self.shape.block_len,
+            rec_len: self.shape.rec_len,
+            offset: self.shape.offset,
+        }
+    }
+}

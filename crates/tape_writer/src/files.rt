@@ -1,0 +1,202 @@
+//! Files and the set, begun and ended.
+
+ghost use Rattle.std.specs.Prelude.{◌≡◌, ◌≢◌, ◌≤◌, ◌+◌, ◌++◌, ◌∷◌, [], ℕ, List, length, OnOk};
+ghost use Rattle.std.specs.Prelude.{IfErr, false};
+ghost use Rattle.std.specs.List.{AllByRecursion};
+ghost use Rattle.tape_image.specs.Tape.{TapeItem, mark as mark_item};
+ghost use Rattle.tape_blocks.specs.Packing.{Packing};
+ghost use Rattle.tape_set.specs.Layout.{Section};
+ghost use Rattle.tape_set.specs.Tight.{least_capacity};
+ghost use Rattle.tape_writer.specs.Tapes.{Ended, UnderWay};
+ghost use Rattle.tape_writer.specs.Lasting.{Lasting};
+ghost use Rattle.tape_writer.specs.Faults.{FailsWith, IsOfTape, IsOfOut};
+ghost use Rattle.tape_label.specs.Widths.{IsWideVolume};
+ghost use Rattle.tape_writer.specs.Labels.{IsReady};
+ghost use Rattle.tape_writer.specs.Draft.{IsRoomy};
+ghost use Rattle.tape_writer.specs.State.{IsSoundRest};
+ghost use Rattle.tape_writer.specs.Told.{Told, IsWrittenSet};
+ghost use Rattle.tape_writer.specs.Inside.{IsInside, IsBetween, IsFiling, IsWaiting, IsStuck};
+
+use crate::course::Opened;
+use crate::fault::WriteFault;
+use crate::out::TapeOut;
+use crate::records::flush_last;
+use crate::tape::Tape;
+use tape_blocks::Packer;
+use tape_label::Vol1;
+
+/// Ends the file, behind its last block.
+#[tactic(auto, using(crate::proofs::Last::kept))]
+pub(crate) fn close_file<T: TapeOut>(
+    tape: &mut Tape<T>,
+    packer: &mut Packer,
+    file: &Opened,
+    volumes: &[Vol1],
+    capacity: u32,
+) -> Result<(), WriteFault>
+    requires ready { IsReady file.now }
+    requires wide { AllByRecursion IsWideVolume volumes.now }
+    requires roomy { IsRoomy capacity (length volumes.now) tape.old.course }
+    requires volumes { length volumes.now ≤ 9999 }
+    requires capacity { least_capacity file.now.shape ≤ capacity }
+    requires shape { packer.old.shape ≡ file.now.shape }
+    ensures room { OnOk result ((tape.new.course.used + 372 ≤ capacity)
+        × (tape.new.course.volume ≤ length volumes.now) × (1 ≤ tape.new.course.volume)) }
+    ensures filed { (set_id : List ℕ) (past : List Told) (records : List (List ℕ))
+        → IsFiling (T.holds tape.old.out) volumes.now capacity set_id file.now
+        tape.old.course packer.old past records
+        → OnOk result (IsBetween (T.holds tape.new.out) volumes.now capacity set_id
+        tape.new.course (past ++ record { file = file.now; records = records } ∷ [])) }
+    ensures of_tape { IfErr result IsOfTape }
+    ensures stuck { IfErr result (λ fault. fault ≡ WriteFault.OutOfVolumes
+        → (set_id : List ℕ) (fs : List (List Section)) (records : List (List ℕ))
+        → IsInside (T.holds tape.old.out) volumes.now capacity set_id file.now
+        tape.old.course packer.old fs records
+        → IsStuck (T.holds tape.new.out) volumes.now capacity set_id file.now
+        tape.new.course fs) }
+    ensures lasting { Lasting
+        (T.holds tape.old.out) (T.failures tape.old.out) tape.old.course.used
+        (T.holds tape.new.out) (T.failures tape.new.out) tape.new.course.used }
+    ensures cause { FailsWith (T.failures tape.old.out) result (T.failures tape.new.out) }
+{
+    flush_last(tape, packer, file, volumes, capacity)?;
+    tape.end_file(file, volumes, capacity)
+}
+
+/// Begins the first volume.
+#[tactic(auto, using(crate::proofs::Last::kept))]
+fn begin_first<T: TapeOut>(
+    tape: &mut Tape<T>,
+    volumes: &[Vol1],
+    capacity: u32,
+) -> Result<(), WriteFault>
+    requires wide { AllByRecursion IsWideVolume volumes.now }
+    requires some { 1 ≤ length volumes.now }
+    requires fresh { tape.old.course.volume ≡ 0 }
+    requires capacity { 1024 ≤ capacity }
+    ensures room { OnOk result ((tape.new.course.used + 372 ≤ capacity)
+        × (tape.new.course.volume ≤ length volumes.now) × (1 ≤ tape.new.course.volume)) }
+    ensures resting { (set_id : List ℕ) → T.holds tape.old.out (Ended [])
+        → OnOk result (IsBetween (T.holds tape.new.out) volumes.now capacity set_id
+        tape.new.course []) }
+    ensures out { IfErr result IsOfOut }
+    ensures lasting { Lasting
+        (T.holds tape.old.out) (T.failures tape.old.out) tape.old.course.used
+        (T.holds tape.new.out) (T.failures tape.new.out) tape.new.course.used }
+    ensures cause { FailsWith (T.failures tape.old.out) result (T.failures tape.new.out) }
+{
+    tape.begin_volume(&volumes[0])
+}
+
+/// Begins a file on the volume under way.
+#[tactic(auto, using(crate::proofs::Last::kept))]
+fn open_file<T: TapeOut>(
+    tape: &mut Tape<T>,
+    file: &Opened,
+    volumes: &[Vol1],
+    capacity: u32,
+) -> Result<(), WriteFault>
+    requires ready { IsReady file.now }
+    requires room { tape.old.course.used + 372 ≤ capacity }
+    requires some { 1 ≤ tape.old.course.volume }
+    requires volume { tape.old.course.volume ≤ length volumes.now }
+    ensures roomy { OnOk result (IsRoomy capacity (length volumes.now) tape.new.course) }
+    ensures inside { (set_id : List ℕ) (told : List Told) (p : Packing)
+        → file.now.head.set_id ≡ set_id → file.now.head.sequence ≡ length told + 1
+        → p ≡ record { shape = file.now.shape; parts = []; begun = false; closed = false }
+        → IsBetween (T.holds tape.old.out) volumes.now capacity set_id tape.old.course told
+        → OnOk result (IsFiling (T.holds tape.new.out) volumes.now capacity set_id file.now
+        tape.new.course p told []) }
+    ensures out { IfErr result IsOfOut }
+    ensures lasting { Lasting
+        (T.holds tape.old.out) (T.failures tape.old.out) tape.old.course.used
+        (T.holds tape.new.out) (T.failures tape.new.out) tape.new.course.used }
+    ensures cause { FailsWith (T.failures tape.old.out) result (T.failures tape.new.out) }
+{
+    tape.begin_section(file, 1)
+}
+
+/// Sees that a volume is under way.
+#[tactic(auto, using(crate::proofs::Last::kept))]
+fn start<T: TapeOut>(tape: &mut Tape<T>, volumes: &[Vol1], capacity: u32) -> Result<(), WriteFault>
+    requires wide { AllByRecursion IsWideVolume volumes.now }
+    requires some { 1 ≤ length volumes.now }
+    requires rest { IsSoundRest volumes.now capacity tape.old.course }
+    requires capacity { 1024 ≤ capacity }
+    ensures room { OnOk result ((tape.new.course.used + 372 ≤ capacity)
+        × (tape.new.course.volume ≤ length volumes.now) × (1 ≤ tape.new.course.volume)) }
+    ensures between { (set_id : List ℕ) (told : List Told)
+        → IsWaiting (T.holds tape.old.out) volumes.now capacity set_id tape.old.course told
+        → OnOk result (IsBetween (T.holds tape.new.out) volumes.now capacity set_id
+        tape.new.course told) }
+    ensures out { IfErr result IsOfOut }
+    ensures lasting { Lasting
+        (T.holds tape.old.out) (T.failures tape.old.out) tape.old.course.used
+        (T.holds tape.new.out) (T.failures tape.new.out) tape.new.course.used }
+    ensures cause { FailsWith (T.failures tape.old.out) result (T.failures tape.new.out) }
+{
+    if tape.course.volume == 0 {
+        return begin_first(tape, volumes, capacity);
+    }
+    Ok(())
+}
+
+/// Begins a file, and before the first file a volume.
+#[tactic(auto, using(crate::proofs::Last::kept))]
+pub(crate) fn begin<T: TapeOut>(
+    tape: &mut Tape<T>,
+    file: &Opened,
+    volumes: &[Vol1],
+    capacity: u32,
+) -> Result<(), WriteFault>
+    requires ready { IsReady file.now }
+    requires wide { AllByRecursion IsWideVolume volumes.now }
+    requires some { 1 ≤ length volumes.now }
+    requires rest { IsSoundRest volumes.now capacity tape.old.course }
+    requires capacity { 1024 ≤ capacity }
+    ensures roomy { OnOk result (IsRoomy capacity (length volumes.now) tape.new.course) }
+    ensures filing { (set_id : List ℕ) (told : List Told) (p : Packing)
+        → file.now.head.set_id ≡ set_id → file.now.head.sequence ≡ length told + 1
+        → p ≡ record { shape = file.now.shape; parts = []; begun = false; closed = false }
+        → IsWaiting (T.holds tape.old.out) volumes.now capacity set_id tape.old.course told
+        → OnOk result (IsFiling (T.holds tape.new.out) volumes.now capacity set_id file.now
+        tape.new.course p told []) }
+    ensures out { IfErr result IsOfOut }
+    ensures lasting { Lasting
+        (T.holds tape.old.out) (T.failures tape.old.out) tape.old.course.used
+        (T.holds tape.new.out) (T.failures tape.new.out) tape.new.course.used }
+    ensures cause { FailsWith (T.failures tape.old.out) result (T.failures tape.new.out) }
+{
+    start(tape, volumes, capacity)?;
+    open_file(tape, file, volumes, capacity)
+}
+
+/// Ends the last volume: its second mark, and the end word.
+#[tactic(auto, using(crate::proofs::Last::kept))]
+pub(crate) fn end_set<T: TapeOut>(
+    tape: &mut Tape<T>,
+    volumes: &[Vol1],
+    capacity: u32,
+) -> Result<(), WriteFault>
+    requires wide { AllByRecursion IsWideVolume volumes.now }
+    requires room { tape.old.course.used + 372 ≤ capacity }
+    ensures written { (set_id : List ℕ) (told : List Told) → told ≢ []
+        → IsBetween (T.holds tape.old.out) volumes.now capacity set_id tape.old.course told
+        → OnOk result (IsWrittenSet (T.holds tape.new.out) volumes.now capacity set_id told) }
+    ensures closes { (past : List (List TapeItem)) (items : List TapeItem)
+        → T.holds tape.old.out (UnderWay past items)
+        → OnOk result (T.holds tape.new.out
+        (Ended (past ++ (items ++ mark_item ∷ []) ∷ []))) }
+    ensures used { OnOk result (tape.new.course ≡ record tape.old.course {
+      used = tape.old.course.used + 8;
+    }) }
+    ensures count { T.failures tape.old.out ≤ T.failures tape.new.out }
+    ensures out { IfErr result IsOfOut }
+    ensures lasting { IfErr result (λ _. Lasting
+        (T.holds tape.old.out) (T.failures tape.old.out) tape.old.course.used
+        (T.holds tape.new.out) (T.failures tape.new.out) tape.new.course.used) }
+    ensures cause { FailsWith (T.failures tape.old.out) result (T.failures tape.new.out) }
+{
+    tape.mark()?;
+    tape.close()
+}

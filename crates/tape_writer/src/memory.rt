@@ -1,0 +1,184 @@
+//! Volumes in memory.
+
+ghost use Rattle.std.specs.Prelude.{◌≡◌, ◌≤◌, [], length, slice_get};
+ghost use Rattle.std.specs.Option.{option_map, option_copied};
+ghost use Rattle.tape_image.specs.Reader.{tape_item};
+ghost use Rattle.tape_writer.specs.Tapes.{Ended, all_volumes, volume_at, Rose};
+
+use crate::fault::OutFault;
+use crate::out::TapeOut;
+use std::alloc::Global;
+use std::marker::Model;
+use tape_image::Item;
+use tape_label::Vol1;
+
+/// An item that is kept.
+#[derive(Drop)]
+enum Kept {
+    /// A block.
+    Block(Vec<u8>),
+    /// A tape mark.
+    Mark,
+}
+
+/// The n-th element, counted from 0.
+fn nth<T>(elements: &[T], n: usize) -> Option<&T>
+    ensures { option_copied result ≡ slice_get elements.now n }
+{
+    elements.get(n)
+}
+
+/// Keeps the volumes in memory.
+///
+/// What it holds is what `count`, `length` and `item` tell. `Device` is answered where no volume is
+/// under way.
+#[derive(Drop)]
+pub struct MemoryTapes {
+    alloc: Global,
+    ended: Vec<Vec<Kept>>,
+    current: Option<Vec<Kept>>,
+    misused: u64,
+}
+
+impl Model for MemoryTapes {
+    ghost use Rattle.tape_writer.specs.Kept.{InMemory, tapes_of};
+    ghost use Rattle.std.specs.Prelude.{map};
+    ghost use Rattle.std.specs.Option.{option_map};
+
+    ghost Value = { InMemory };
+
+    ghost view = { λ m. record {
+      tapes = tapes_of (map (λ v. v.items) m.ended.items) (option_map (λ v. v.items) m.current);
+      misused = m.misused;
+    } };
+}
+
+impl MemoryTapes {
+    ghost use Rattle.tape_writer.specs.Kept.{volume_of};
+
+    /// No volumes.
+    pub fn new(alloc: Global) -> Self
+        ensures { result ≡ record { tapes = Ended []; misused = 0 } }
+    {
+        MemoryTapes {
+            alloc,
+            ended: Vec::new(alloc),
+            current: None,
+            misused: 0,
+        }
+    }
+
+    /// How many volumes there are, the one under way too.
+    pub fn count(&self) -> usize
+        ensures { result ≡ length (all_volumes self.now.tapes) }
+    {
+        match &self.current {
+            None => self.ended.len(),
+            Some(_) => self.ended.len() + 1,
+        }
+    }
+
+    /// How many items stand on this volume, counted from 0; 0 where there is none.
+    #[tactic(auto, using(crate::proofs::Closing::kept_length))]
+    pub fn length(&self, volume: usize) -> usize
+        ensures { result ≡ length (volume_at self.now.tapes volume) }
+    {
+        self.items(volume).len()
+    }
+
+    /// The item at this place of this volume, both counted from 0.
+    #[tactic(auto, using(crate::proofs::Closing::kept_item))]
+    pub fn item(&self, volume: usize, place: usize) -> Option<Item<'_>>
+        ensures { option_map tape_item result
+            ≡ slice_get (volume_at self.now.tapes volume) place }
+    {
+        match nth(self.items(volume), place) {
+            Some(Kept::Block(bytes)) => Some(Item::Block(bytes.as_slice())),
+            Some(Kept::Mark) => Some(Item::Mark),
+            None => None,
+        }
+    }
+
+    /// The items of this volume, counted from 0; none where there is no such volume.
+    fn items(&self, volume: usize) -> &[Kept]
+        ensures { volume_of result.now ≡ volume_at self.now.tapes volume }
+    {
+        match self.volume(volume) {
+            Some(items) => items.as_slice(),
+            None => &[],
+        }
+    }
+
+    /// This volume, counted from 0.
+    fn volume(&self, volume: usize) -> Option<&Vec<Kept>>
+        ensures { option_map (λ v. volume_of v.items) (option_copied result)
+            ≡ slice_get (all_volumes self.now.tapes) volume }
+    {
+        let Some(current) = &self.current else {
+            return nth(self.ended.as_slice(), volume);
+        };
+        if volume == self.ended.len() {
+            return Some(current);
+        }
+        nth(self.ended.as_slice(), volume)
+    }
+
+    /// Counts a call that no volume was there for.
+    fn misuse(&mut self) -> OutFault
+        ensures fault { result ≡ OutFault.Device }
+        ensures counted { Rose self.old.misused self.new.misused }
+        ensures grew { self.old.misused ≤ self.new.misused }
+        ensures tapes { self.new.tapes ≡ self.old.tapes }
+    {
+        self.misused = self.misused.saturating_add(1);
+        OutFault::Device
+    }
+}
+
+impl TapeOut for MemoryTapes {
+    ghost holds = { λ m tapes. m.tapes ≡ tapes };
+
+    ghost failures = { λ m. m.misused };
+
+    fn block(&mut self, bytes: &[u8]) -> Result<(), OutFault> {
+        let Some(items) = &mut self.current else {
+            return Err(self.misuse());
+        };
+        let Ok(copy) = bytes.to_vec(self.alloc) else {
+            return Err(OutFault::OutOfMemory);
+        };
+        match items.push(Kept::Block(copy)) {
+            Ok(()) => Ok(()),
+            Err(_) => Err(OutFault::OutOfMemory),
+        }
+    }
+
+    fn mark(&mut self) -> Result<(), OutFault> {
+        let Some(items) = &mut self.current else {
+            return Err(self.misuse());
+        };
+        match items.push(Kept::Mark) {
+            Ok(()) => Ok(()),
+            Err(_) => Err(OutFault::OutOfMemory),
+        }
+    }
+
+    fn change_volume(&mut self, _volume: &Vol1) -> Result<(), OutFault> {
+        self.close()?;
+        self.current = Some(Vec::new(self.alloc));
+        Ok(())
+    }
+
+    fn close(&mut self) -> Result<(), OutFault> {
+        let Some(items) = self.current.take() else {
+            return Ok(());
+        };
+        match self.ended.push(items) {
+            Ok(()) => Ok(()),
+            Err(failed) => {
+                self.current = Some(failed.value);
+                Err(OutFault::OutOfMemory)
+            }
+        }
+    }
+}

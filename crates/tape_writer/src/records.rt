@@ -1,0 +1,155 @@
+//! Records put in the blocks of a file.
+
+ghost use Rattle.std.specs.Prelude.{◌≡◌, ◌≢◌, ◌≤◌, ◌++◌, ◌∷◌, [], ℕ, List, length, OnOk, IfErr, Ok};
+ghost use Rattle.std.specs.Prelude.{Err, false};
+ghost use Rattle.std.specs.List.{AllByRecursion};
+ghost use Rattle.tape_blocks.specs.Packing.{emptied, HasRecordLength};
+ghost use Rattle.tape_set.specs.Layout.{Section};
+ghost use Rattle.tape_set.specs.Tight.{least_capacity};
+ghost use Rattle.tape_writer.specs.Lasting.{Lasting};
+ghost use Rattle.tape_writer.specs.Faults.{FailsWith, IsOfTape, IsEnding};
+ghost use Rattle.tape_label.specs.Widths.{IsWideVolume};
+ghost use Rattle.tape_writer.specs.Labels.{IsReady};
+ghost use Rattle.tape_writer.specs.Draft.{Draft, IsOpen, IsRoomy};
+ghost use Rattle.tape_writer.specs.Inside.{IsInside, Flushed, IsFlat, IsStuck};
+
+use crate::course::Opened;
+use crate::fault::WriteFault;
+use crate::out::TapeOut;
+use crate::tape::Tape;
+use tape_blocks::{Offer, Packer};
+use tape_label::Vol1;
+
+/// Writes the block under way, if there is one.
+#[tactic(auto, using(crate::proofs::Last::kept))]
+fn flush<T: TapeOut>(
+    tape: &mut Tape<T>,
+    packer: &mut Packer,
+    file: &Opened,
+    volumes: &[Vol1],
+    capacity: u32,
+) -> Result<(), WriteFault>
+    requires ready { IsReady file.now }
+    requires wide { AllByRecursion IsWideVolume volumes.now }
+    requires roomy { IsRoomy capacity (length volumes.now) tape.old.course }
+    requires volumes { length volumes.now ≤ 9999 }
+    requires capacity { least_capacity file.now.shape ≤ capacity }
+    requires shape { packer.old.shape ≡ file.now.shape }
+    ensures roomy { OnOk result (IsRoomy capacity (length volumes.now) tape.new.course) }
+    ensures emptied { OnOk result (packer.new ≡ emptied packer.old) }
+    ensures none { packer.old.parts ≡ [] → (result ≡ Ok tt) × (tape.new ≡ tape.old) }
+    ensures stuck { IfErr result (λ fault. fault ≡ WriteFault.OutOfVolumes
+        → (set_id : List ℕ) (d : Draft)
+        → IsOpen (T.holds tape.old.out) volumes.now capacity set_id file.now tape.old.course d
+        → IsStuck (T.holds tape.new.out) volumes.now capacity set_id file.now tape.new.course
+        d.files) }
+    ensures flushed { packer.old.parts ≢ [] → (set_id : List ℕ) (d : Draft)
+        → IsOpen (T.holds tape.old.out) volumes.now capacity set_id file.now tape.old.course d
+        → OnOk result (Flushed (T.holds tape.new.out) volumes.now capacity set_id file.now
+        tape.new.course d packer.old) }
+    ensures of_tape { IfErr result IsOfTape }
+    ensures lasting { Lasting
+        (T.holds tape.old.out) (T.failures tape.old.out) tape.old.course.used
+        (T.holds tape.new.out) (T.failures tape.new.out) tape.new.course.used }
+    ensures cause { FailsWith (T.failures tape.old.out) result (T.failures tape.new.out) }
+{
+    match packer.take_block() {
+        None => Ok(()),
+        Some(block) => tape.write_block(file, volumes, capacity, block),
+    }
+}
+
+/// Puts a record in the file: each block is written when it is ready.
+#[tactic(auto, using(crate::proofs::Last::kept))]
+pub(crate) fn put_record<T: TapeOut>(
+    tape: &mut Tape<T>,
+    packer: &mut Packer,
+    file: &Opened,
+    volumes: &[Vol1],
+    capacity: u32,
+    whole: &[u8],
+) -> Result<(), WriteFault>
+    requires ready { IsReady file.now }
+    requires wide { AllByRecursion IsWideVolume volumes.now }
+    requires roomy { IsRoomy capacity (length volumes.now) tape.old.course }
+    requires volumes { length volumes.now ≤ 9999 }
+    requires capacity { least_capacity file.now.shape ≤ capacity }
+    requires shape { packer.old.shape ≡ file.now.shape }
+    requires opened { packer.old.closed ≡ false }
+    requires ended { packer.old.begun ≡ false }
+    ensures roomy { OnOk result (IsRoomy capacity (length volumes.now) tape.new.course) }
+    ensures packer { OnOk result ((packer.new.shape ≡ file.now.shape)
+        × (packer.new.closed ≡ false) × (packer.new.begun ≡ false)) }
+    ensures length { OnOk result (HasRecordLength
+        file.now.shape.format file.now.shape.rec_len (length whole.now)) }
+    ensures refused { IfErr result (λ fault. fault ≡ WriteFault.RecordLength
+        → (tape.new ≡ tape.old) × (packer.new ≡ packer.old)
+        × (HasRecordLength file.now.shape.format file.now.shape.rec_len (length whole.now) → ⊥)) }
+    ensures always { (HasRecordLength file.now.shape.format file.now.shape.rec_len
+        (length whole.now) → ⊥)
+        → result ≡ Err WriteFault.RecordLength }
+    ensures packed { (set_id : List ℕ) (fs : List (List Section)) (records : List (List ℕ))
+        → IsInside (T.holds tape.old.out) volumes.now capacity set_id file.now
+        tape.old.course packer.old fs records
+        → OnOk result (IsInside (T.holds tape.new.out) volumes.now capacity set_id file.now
+        tape.new.course packer.new fs (records ++ whole.now ∷ [])) }
+    ensures stuck { IfErr result (λ fault. fault ≡ WriteFault.OutOfVolumes
+        → (set_id : List ℕ) (fs : List (List Section)) (records : List (List ℕ))
+        → IsInside (T.holds tape.old.out) volumes.now capacity set_id file.now
+        tape.old.course packer.old fs records
+        → IsStuck (T.holds tape.new.out) volumes.now capacity set_id file.now
+        tape.new.course fs) }
+    ensures ending { IfErr result (λ fault. fault ≢ WriteFault.RecordLength → IsEnding fault) }
+    ensures lasting { Lasting
+        (T.holds tape.old.out) (T.failures tape.old.out) tape.old.course.used
+        (T.holds tape.new.out) (T.failures tape.new.out) tape.new.course.used }
+    ensures cause { FailsWith (T.failures tape.old.out) result (T.failures tape.new.out) }
+{
+    let mut rest = whole;
+    'offers: loop {
+        match packer.offer(rest) {
+            Err(_) => return Err(WriteFault::RecordLength),
+            Ok(Offer::Taken) => return Ok(()),
+            Ok(Offer::BlockReady(taken)) => {
+                flush(tape, packer, file, volumes, capacity)?;
+                rest = &rest[taken..];
+            }
+        }
+    }
+}
+
+/// Writes the last block of the file, if there is one.
+#[tactic(auto, using(crate::proofs::Last::kept))]
+pub(crate) fn flush_last<T: TapeOut>(
+    tape: &mut Tape<T>,
+    packer: &mut Packer,
+    file: &Opened,
+    volumes: &[Vol1],
+    capacity: u32,
+) -> Result<(), WriteFault>
+    requires ready { IsReady file.now }
+    requires wide { AllByRecursion IsWideVolume volumes.now }
+    requires roomy { IsRoomy capacity (length volumes.now) tape.old.course }
+    requires volumes { length volumes.now ≤ 9999 }
+    requires capacity { least_capacity file.now.shape ≤ capacity }
+    requires shape { packer.old.shape ≡ file.now.shape }
+    ensures roomy { OnOk result (IsRoomy capacity (length volumes.now) tape.new.course) }
+    ensures flat { (set_id : List ℕ) (fs : List (List Section)) (records : List (List ℕ))
+        → IsInside (T.holds tape.old.out) volumes.now capacity set_id file.now
+        tape.old.course packer.old fs records
+        → OnOk result (IsFlat (T.holds tape.new.out) volumes.now capacity set_id file.now
+        tape.new.course fs records) }
+    ensures of_tape { IfErr result IsOfTape }
+    ensures stuck { IfErr result (λ fault. fault ≡ WriteFault.OutOfVolumes
+        → (set_id : List ℕ) (fs : List (List Section)) (records : List (List ℕ))
+        → IsInside (T.holds tape.old.out) volumes.now capacity set_id file.now
+        tape.old.course packer.old fs records
+        → IsStuck (T.holds tape.new.out) volumes.now capacity set_id file.now
+        tape.new.course fs) }
+    ensures lasting { Lasting
+        (T.holds tape.old.out) (T.failures tape.old.out) tape.old.course.used
+        (T.holds tape.new.out) (T.failures tape.new.out) tape.new.course.used }
+    ensures cause { FailsWith (T.failures tape.old.out) result (T.failures tape.new.out) }
+{
+    flush(tape, packer, file, volumes, capacity)
+}

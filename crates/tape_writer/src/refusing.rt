@@ -1,0 +1,89 @@
+//! Tapes that refuse a call, for tests.
+
+ghost use Rattle.std.specs.Prelude.{◌≡◌, ◌+◌, ◌≤◌};
+ghost use Rattle.std.specs.Bool.{OnTrue, OnFalse};
+ghost use Rattle.tape_writer.specs.Tapes.{Rose};
+
+use crate::fault::OutFault;
+use crate::out::TapeOut;
+use tape_label::Vol1;
+
+/// Passes calls on, but for one, which it refuses as a failing device does.
+#[derive(Drop)]
+pub struct Refusing<T> {
+    inner: T,
+    left: usize,
+    refused: u64,
+}
+
+impl<T: TapeOut> Refusing<T> {
+    /// Refuses the call after the next `left`.
+    pub fn new(inner: T, left: usize) -> Self
+        ensures inner { result.inner ≡ inner }
+        ensures left { result.left ≡ left }
+        ensures refused { result.refused ≡ 0 }
+    {
+        Refusing {
+            inner,
+            left,
+            refused: 0,
+        }
+    }
+
+    /// What the calls were passed on to.
+    pub fn inner(&self) -> &T
+        ensures { result.now ≡ self.now.inner }
+    {
+        &self.inner
+    }
+
+    /// Whether this call is the one.
+    fn is_refused(&mut self) -> bool
+        ensures inner { self.new.inner ≡ self.old.inner }
+        ensures yes { OnTrue result (Rose self.old.refused self.new.refused) }
+        ensures no { OnFalse result (self.new.refused ≡ self.old.refused) }
+        ensures grew { self.old.refused ≤ self.new.refused }
+    {
+        if self.left == 0 {
+            self.left = usize::MAX;
+            self.refused = self.refused.saturating_add(1);
+            return true;
+        }
+        self.left -= 1;
+        false
+    }
+}
+
+impl<T: TapeOut> TapeOut for Refusing<T> {
+    ghost holds = { λ w tapes. T.holds w.inner tapes };
+
+    ghost failures = { λ w. T.failures w.inner + w.refused };
+
+    fn block(&mut self, bytes: &[u8]) -> Result<(), OutFault> {
+        if self.is_refused() {
+            return Err(OutFault::Device);
+        }
+        self.inner.block(bytes)
+    }
+
+    fn mark(&mut self) -> Result<(), OutFault> {
+        if self.is_refused() {
+            return Err(OutFault::Device);
+        }
+        self.inner.mark()
+    }
+
+    fn change_volume(&mut self, volume: &Vol1) -> Result<(), OutFault> {
+        if self.is_refused() {
+            return Err(OutFault::Device);
+        }
+        self.inner.change_volume(volume)
+    }
+
+    fn close(&mut self) -> Result<(), OutFault> {
+        if self.is_refused() {
+            return Err(OutFault::Device);
+        }
+        self.inner.close()
+    }
+}

@@ -1,0 +1,69 @@
+//! Sections begun and ended.
+
+ghost use Rattle.std.specs.Prelude.{◌≡◌, ◌≤◌, ◌+◌, OnOk, IfErr};
+ghost use Rattle.tape_writer.specs.Tapes.{Takes};
+ghost use Rattle.tape_writer.specs.Lasting.{Lasting};
+ghost use Rattle.tape_writer.specs.Faults.{FailsWith, IsOfOut};
+ghost use Rattle.tape_writer.specs.Labels.{IsReady, header_items, trailer_items};
+
+use crate::course::Opened;
+use crate::fault::WriteFault;
+use crate::labels::{first_label, second_kind, second_label, trailer_label};
+use crate::out::TapeOut;
+use crate::tape::Tape;
+use tape_label::Kind;
+
+impl<T: TapeOut> Tape<T> {
+    /// Writes the headers of this section: HDR1, HDR2 and a mark.
+    #[tactic(auto, using(crate::proofs::Last::lasting_then, crate::proofs::Last::rose_from))]
+    pub(crate) fn begin_section(&mut self, file: &Opened, sect: u16) -> Result<(), WriteFault>
+        requires ready { IsReady file.now }
+        requires first { 1 ≤ sect }
+        requires most { sect ≤ 9999 }
+        requires room { self.old.course.used + 180 ≤ 4294967295 }
+        ensures ok { Takes (header_items file.now sect)
+            (T.holds self.old.out) result (T.holds self.new.out) }
+        ensures course { OnOk result (self.new.course ≡ record {
+          volume = self.old.course.volume;
+          sect = sect;
+          count = 0;
+          used = self.old.course.used + 180;
+        }) }
+        ensures lasting { Lasting
+            (T.holds self.old.out) (T.failures self.old.out) self.old.course.used
+            (T.holds self.new.out) (T.failures self.new.out) self.new.course.used }
+        ensures cause { FailsWith (T.failures self.old.out) result (T.failures self.new.out) }
+        ensures out { IfErr result IsOfOut }
+    {
+        self.label(first_label(file, sect))?;
+        self.label(second_label(file, Kind::Hdr2))?;
+        self.mark()?;
+        self.course.sect = sect;
+        self.course.count = 0;
+        Ok(())
+    }
+
+    /// Ends the section, and with it the file where `eof` is true: a mark, two labels, a mark.
+    #[tactic(auto, using(crate::proofs::Last::lasting_then, crate::proofs::Last::rose_from))]
+    pub(crate) fn end_section(&mut self, file: &Opened, eof: bool) -> Result<(), WriteFault>
+        requires ready { IsReady file.now }
+        requires first { 1 ≤ self.old.course.sect }
+        requires most { self.old.course.sect ≤ 9999 }
+        requires room { self.old.course.used + 184 ≤ 4294967295 }
+        ensures ok { Takes
+            (trailer_items file.now self.old.course.sect self.old.course.count eof)
+            (T.holds self.old.out) result (T.holds self.new.out) }
+        ensures course { OnOk result (self.new.course
+            ≡ record self.old.course { used = self.old.course.used + 184 }) }
+        ensures lasting { Lasting
+            (T.holds self.old.out) (T.failures self.old.out) self.old.course.used
+            (T.holds self.new.out) (T.failures self.new.out) self.new.course.used }
+        ensures cause { FailsWith (T.failures self.old.out) result (T.failures self.new.out) }
+        ensures out { IfErr result IsOfOut }
+    {
+        self.mark()?;
+        self.label(trailer_label(file, self.course.sect, self.course.count, eof))?;
+        self.label(second_label(file, second_kind(eof)))?;
+        self.mark()
+    }
+}

@@ -1,0 +1,182 @@
+//! The writer of a file set.
+
+ghost use Rattle.std.specs.Prelude.{◌≡◌, ◌<◌, ◌≤◌, [], length, IfOk, IfErr, IsOk, OnOk, Err};
+ghost use Rattle.std.specs.List.{AllByRecursion};
+ghost use Rattle.tape_writer.specs.Tapes.{Ended};
+ghost use Rattle.tape_writer.specs.Fields.{IsText, IsTextVolume};
+ghost use Rattle.tape_writer.specs.State.{IsWriting};
+ghost use Rattle.tape_writer.specs.Refusals.{IsNewFault};
+
+mod begin;
+mod write;
+
+use crate::course::{Course, Opened};
+use crate::fault::WriteFault;
+use crate::fields::{are_text_volumes, is_text, tell_all_widths};
+use crate::out::TapeOut;
+use crate::phase::Phase;
+use crate::tape::Tape;
+use std::alloc::Global;
+use std::marker::Model;
+use tape_label::{Field, Vol1};
+
+/// The most volumes of a set: the labels have four digits for a section's number.
+const MOST_VOLUMES: usize = 9_999;
+
+/// Writes a file set on volumes of one capacity, from the first record to the last volume's end
+/// (ECMA-13, 4th edition: the order of labels and tape marks on volumes, file sections).
+///
+/// Files are begun, given records and ended, one behind the other. The writer writes all labels,
+/// packs the records into blocks, and changes the volume where a block or a file end does not fit.
+/// It holds one block; of the files that ended it keeps the heads and shapes.
+///
+/// What it promises of the volumes: they are those of a lawful file set whose files, in order, have
+/// the heads and shapes given and join to exactly the records given, and which is as tight as
+/// blocks and capacity allow. No volume is longer than the capacity, its end word included, and no
+/// call changes a volume that has ended.
+#[derive(Drop)]
+pub struct SetWriter<T: TapeOut + Drop> {
+    alloc: Global,
+    volumes: Vec<Vol1>,
+    capacity: u32,
+    set_id: Field<6>,
+    files: Vec<Opened>,
+    phase: Phase,
+    tape: Tape<T>,
+}
+
+impl<T: TapeOut + Drop> Model for SetWriter<T> {
+    ghost use Rattle.tape_writer.specs.State.{SetState, IsSound};
+
+    ghost Value = { SetState T };
+
+    ghost view = { λ w. record {
+      out = w.tape.out;
+      volumes = w.volumes.items;
+      capacity = w.capacity;
+      set_id = w.set_id;
+      files = w.files.items;
+      course = w.tape.course;
+      phase = w.phase;
+    } };
+
+    ghost invariant = { λ w. IsSound w.volumes.items w.capacity w.tape.course w.phase };
+}
+
+impl<T: TapeOut + Drop> SetWriter<T> {
+    ghost use Rattle.tape_writer.specs.declared.phase.Phase.TheVariants.{Between};
+
+    /// A writer of the set with this identifier on these volumes, in their order, each an image of
+    /// at most `capacity` bytes. It takes no memory, and nothing is written. `out` holds no volume
+    /// yet.
+    ///
+    /// # Errors
+    ///
+    /// `BadField` where the set identifier, or a field of a volume but its version, holds a byte
+    /// that is no a-character; `OutOfVolumes` where there is no volume; `TooMany` for more than
+    /// 9,999. A refusal drops the arguments.
+    pub fn new(
+        alloc: Global,
+        set_id: Field<6>,
+        volumes: Vec<Vol1>,
+        capacity: u32,
+        out: T,
+    ) -> Result<Self, WriteFault>
+        ensures field { (IsText set_id × AllByRecursion IsTextVolume volumes.items → ⊥)
+            → result ≡ Err WriteFault.BadField }
+        ensures none { IsText set_id → AllByRecursion IsTextVolume volumes.items
+            → length volumes.items ≡ 0 → result ≡ Err WriteFault.OutOfVolumes }
+        ensures many { IsText set_id → AllByRecursion IsTextVolume volumes.items
+            → 9999 < length volumes.items → result ≡ Err WriteFault.TooMany }
+        ensures ok { IsText set_id → AllByRecursion IsTextVolume volumes.items
+            → 0 < length volumes.items → length volumes.items ≤ 9999 → IsOk result }
+        ensures due { IfErr result (IsNewFault set_id volumes.items) }
+        ensures made { IfOk result (λ w. w ≡ record {
+          out = out;
+          volumes = volumes.items;
+          capacity = capacity;
+          set_id = set_id;
+          files = [];
+          course = record { volume = 0; sect = 0; count = 0; used = 0 };
+          phase = Between;
+        }) }
+        // Nothing was told so far.
+        ensures told { T.holds out (Ended []) → IfOk result (λ w. IsWriting (T.holds w.out) w []) }
+    {
+        if let Err(fault) = judge_set(&set_id, &volumes) {
+            return Err(fault);
+        }
+        tell_all_widths(&volumes);
+        Ok(SetWriter {
+            alloc,
+            volumes,
+            capacity,
+            set_id,
+            files: Vec::new(alloc),
+            phase: Phase::Between,
+            tape: Tape {
+                out,
+                course: Course::start(),
+            },
+        })
+    }
+
+    /// How many bytes the volume begun last takes as an image so far: 0 before the first file, with
+    /// the end word after `finish`, and after a failure those of what was taken of it.
+    pub fn used(&self) -> u32
+        ensures { result ≡ self.now.course.used }
+    {
+        self.tape.course.used
+    }
+
+    /// What is written to.
+    pub fn out(&self) -> &T
+        ensures { result.now ≡ self.now.out }
+    {
+        &self.tape.out
+    }
+
+    /// Gives back what was written to.
+    pub fn into_out(self) -> T
+        ensures { result ≡ self.out }
+    {
+        let SetWriter { tape, .. } = self;
+        let Tape { out, .. } = tape;
+        out
+    }
+
+    /// Gives back what was written to, and the volumes' labels.
+    pub fn into_parts(self) -> (T, Vec<Vol1>)
+        ensures out { result.0 ≡ self.out }
+        ensures volumes { result.1.items ≡ self.volumes }
+    {
+        let SetWriter { tape, volumes, .. } = self;
+        let Tape { out, .. } = tape;
+        (out, volumes)
+    }
+}
+
+/// Whether a set with this identifier can be written on these volumes.
+fn judge_set(set_id: &Field<6>, volumes: &[Vol1]) -> Result<(), WriteFault>
+    ensures field { (IsText set_id.now × AllByRecursion IsTextVolume volumes.now → ⊥)
+        → result ≡ Err WriteFault.BadField }
+    ensures none { IsText set_id.now → AllByRecursion IsTextVolume volumes.now
+        → length volumes.now ≡ 0 → result ≡ Err WriteFault.OutOfVolumes }
+    ensures many { IsText set_id.now → AllByRecursion IsTextVolume volumes.now
+        → 9999 < length volumes.now → result ≡ Err WriteFault.TooMany }
+    ensures ok { IsText set_id.now → AllByRecursion IsTextVolume volumes.now
+        → 0 < length volumes.now → length volumes.now ≤ 9999 → IsOk result }
+    ensures some { OnOk result ((0 < length volumes.now) × (length volumes.now ≤ 9999)) }
+    ensures due { IfErr result (IsNewFault set_id.now volumes.now) }
+{
+    if !is_text(set_id.bytes()) || !are_text_volumes(volumes) {
+        return Err(WriteFault::BadField);
+    }
+    if volumes.is_empty() {
+        return Err(WriteFault::OutOfVolumes);
+    }
+    if volumes.len() > MOST_VOLUMES {
+        return Err(WriteFault::TooMany);
+    }
+    Ok(())
+}

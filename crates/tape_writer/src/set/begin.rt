@@ -1,0 +1,194 @@
+//! Files begun.
+
+ghost use Rattle.std.specs.Prelude.{◌≡◌, ◌≢◌, ◌<◌, ◌≤◌, ◌+◌, ◌++◌, ◌∷◌, [], List, length, OnOk};
+ghost use Rattle.std.specs.Prelude.{IfErr, Err, false};
+ghost use Rattle.tape_blocks.specs.Packing.{IsWritable};
+ghost use Rattle.tape_set.specs.Tight.{least_capacity};
+ghost use Rattle.tape_writer.specs.Fields.{IsTextHead};
+ghost use Rattle.tape_writer.specs.Lasting.{Lasting};
+ghost use Rattle.tape_writer.specs.Faults.{FailsWith, IsOfOut};
+ghost use Rattle.tape_writer.specs.Told.{Told, opened_by};
+ghost use Rattle.tape_writer.specs.State.{IsWriting, Leaves, Refuses, IfFiling};
+ghost use Rattle.tape_writer.specs.Refusals.{IsBeginFault, IsInFile};
+ghost use Rattle.tape_writer.specs.declared.phase.Phase.TheVariants.{Between, Failed, Finished};
+
+use crate::course::Opened;
+use crate::fault::WriteFault;
+use crate::fields::is_text_head;
+use crate::files::begin;
+use crate::out::TapeOut;
+use crate::phase::{OpenFile, Phase};
+use crate::set::SetWriter;
+use tape_blocks::{Packer, Shape};
+use tape_label::Head1;
+use tape_label::laws::widths;
+
+/// The most files of a set: the labels have four digits for a file's number.
+const MOST_FILES: usize = 9_999;
+
+/// A volume of a set has room for this and a block.
+const LEAST_CAPACITY: u64 = 1_024;
+
+impl<T: TapeOut + Drop> SetWriter<T> {
+    /// Begins the next file. Of the head, the set identifier and the numbers of section and file
+    /// are replaced by the writer's. The first file begins the first volume.
+    ///
+    /// # Errors
+    ///
+    /// `Failed` and `Finished`, `FileBegun` inside a file; `BadField` where a field of the head but
+    /// its set identifier holds a byte that is no a-character; `BadShape` where blocks of this
+    /// shape are not written; `CapacityTooSmall` where the capacity is less than 1,024 bytes and
+    /// the block length; `TooMany` for the 10,000th file; these leave all as it was. Then, as they
+    /// come, `OutOfMemory` and `Device`.
+    #[tactic(auto, using(crate::proofs::Last::lasting_self, crate::proofs::Calls::leaves_failed))]
+    pub fn begin_file(&mut self, head: Head1, shape: Shape) -> Result<(), WriteFault>
+        ensures same { (self.new.volumes ≡ self.old.volumes)
+            × (self.new.capacity ≡ self.old.capacity) × (self.new.set_id ≡ self.old.set_id) }
+        ensures failed { self.old.phase ≡ Failed
+            → Refuses self.old result self.new WriteFault.Failed }
+        ensures finished { self.old.phase ≡ Finished
+            → Refuses self.old result self.new WriteFault.Finished }
+        ensures begun { IfFiling self.old.phase
+            (λ _. Refuses self.old result self.new WriteFault.FileBegun) }
+        ensures field { self.old.phase ≡ Between → (IsTextHead head → ⊥)
+            → Refuses self.old result self.new WriteFault.BadField }
+        ensures shape { self.old.phase ≡ Between → IsTextHead head → (IsWritable shape → ⊥)
+            → Refuses self.old result self.new WriteFault.BadShape }
+        ensures capacity { self.old.phase ≡ Between → IsTextHead head → IsWritable shape
+            → self.old.capacity < least_capacity shape
+            → Refuses self.old result self.new WriteFault.CapacityTooSmall }
+        ensures many { self.old.phase ≡ Between → IsTextHead head → IsWritable shape
+            → least_capacity shape ≤ self.old.capacity → 9999 ≤ length self.old.files
+            → Refuses self.old result self.new WriteFault.TooMany }
+        // No fault is answered where it is not due.
+        ensures due { self.old.phase ≡ Between
+            → IfErr result (IsBeginFault self.old.capacity (length self.old.files) head shape) }
+        ensures opened { OnOk result (IsInFile
+            (opened_by self.old.set_id (length self.old.files + 1) head shape) self.new.phase) }
+        ensures files { OnOk result (length self.new.files ≡ length self.old.files + 1) }
+        // One file more was told, without a record.
+        ensures told { (told : List Told) → IsWriting (T.holds self.old.out) self.old told
+            → OnOk result (IsWriting (T.holds self.new.out) self.new (told ++ record {
+              file = opened_by self.old.set_id (length told + 1) head shape;
+              records = [];
+            } ∷ [])) }
+        ensures lasting { Lasting
+            (T.holds self.old.out) (T.failures self.old.out) self.old.course.used
+            (T.holds self.new.out) (T.failures self.new.out) self.new.course.used }
+        ensures leaves { IfErr result (Leaves self.old self.new) }
+        ensures cause { FailsWith (T.failures self.old.out) result (T.failures self.new.out) }
+    {
+        if let Err(fault) = self.judge_file(&head, &shape) {
+            return Err(fault);
+        }
+        let Ok(packer) = Packer::new(self.alloc, shape) else {
+            self.phase = Phase::Failed;
+            return Err(WriteFault::OutOfMemory);
+        };
+        self.begin_with(head, shape, packer)
+    }
+
+    /// Whether a file of this head and shape can be begun now.
+    fn judge_file(&self, head: &Head1, shape: &Shape) -> Result<(), WriteFault>
+        ensures failed { self.now.phase ≡ Failed → result ≡ Err WriteFault.Failed }
+        ensures finished { self.now.phase ≡ Finished → result ≡ Err WriteFault.Finished }
+        ensures begun { IfFiling self.now.phase (λ _. result ≡ Err WriteFault.FileBegun) }
+        ensures field { self.now.phase ≡ Between → (IsTextHead head.now → ⊥)
+            → result ≡ Err WriteFault.BadField }
+        ensures shape { self.now.phase ≡ Between → IsTextHead head.now
+            → (IsWritable shape.now → ⊥) → result ≡ Err WriteFault.BadShape }
+        ensures capacity { self.now.phase ≡ Between → IsTextHead head.now → IsWritable shape.now
+            → self.now.capacity < least_capacity shape.now
+            → result ≡ Err WriteFault.CapacityTooSmall }
+        ensures many { self.now.phase ≡ Between → IsTextHead head.now → IsWritable shape.now
+            → least_capacity shape.now ≤ self.now.capacity → 9999 ≤ length self.now.files
+            → result ≡ Err WriteFault.TooMany }
+        ensures ok { OnOk result ((self.now.phase ≡ Between) × IsTextHead head.now
+            × IsWritable shape.now × (least_capacity shape.now ≤ self.now.capacity)
+            × (length self.now.files < 9999)) }
+        ensures due { self.now.phase ≡ Between → IfErr result
+            (IsBeginFault self.now.capacity (length self.now.files) head.now shape.now) }
+        ensures leaves { IfErr result (λ fault. Leaves self.now self.now fault) }
+        ensures cause { IfErr result (λ fault. fault ≢ WriteFault.Device) }
+    {
+        match self.phase {
+            Phase::Between => {}
+            Phase::Filing(_) => return Err(WriteFault::FileBegun),
+            Phase::Failed => return Err(WriteFault::Failed),
+            Phase::Finished => return Err(WriteFault::Finished),
+        }
+        if !is_text_head(head) {
+            return Err(WriteFault::BadField);
+        }
+        if !shape.is_writable() {
+            return Err(WriteFault::BadShape);
+        }
+        if u64::from(self.capacity) < LEAST_CAPACITY + u64::from(shape.block_len) {
+            return Err(WriteFault::CapacityTooSmall);
+        }
+        if self.files.len() >= MOST_FILES {
+            return Err(WriteFault::TooMany);
+        }
+        Ok(())
+    }
+
+    /// The next file of the set: the set identifier and the numbers are the writer's.
+    fn next_file(&self, head: Head1, shape: Shape) -> Opened
+        requires few { length self.now.files < 9999 }
+        ensures { result ≡ opened_by self.now.set_id (length self.now.files + 1) head shape }
+    {
+        Opened {
+            head: Head1 {
+                set_id: self.set_id,
+                sect: 1,
+                sequence: self.files.len() as u16 + 1,
+                ..head
+            },
+            shape,
+        }
+    }
+
+    /// Begins the next file, whose records this packer packs.
+    #[tactic(auto, using(crate::proofs::Calls::leaves_failed))]
+    fn begin_with(&mut self, head: Head1, shape: Shape, packer: Packer) -> Result<(), WriteFault>
+        requires between { self.old.phase ≡ Between }
+        requires writable { IsWritable shape }
+        requires capacity { least_capacity shape ≤ self.old.capacity }
+        requires few { length self.old.files < 9999 }
+        requires packer { packer
+            ≡ record { shape = shape; parts = []; begun = false; closed = false } }
+        ensures same { (self.new.volumes ≡ self.old.volumes)
+            × (self.new.capacity ≡ self.old.capacity) × (self.new.set_id ≡ self.old.set_id) }
+        ensures out { IfErr result IsOfOut }
+        ensures opened { OnOk result (IsInFile
+            (opened_by self.old.set_id (length self.old.files + 1) head shape) self.new.phase) }
+        ensures files { OnOk result (length self.new.files ≡ length self.old.files + 1) }
+        ensures told { (told : List Told) → IsWriting (T.holds self.old.out) self.old told
+            → OnOk result (IsWriting (T.holds self.new.out) self.new (told ++ record {
+              file = opened_by self.old.set_id (length told + 1) head shape;
+              records = [];
+            } ∷ [])) }
+        ensures lasting { Lasting
+            (T.holds self.old.out) (T.failures self.old.out) self.old.course.used
+            (T.holds self.new.out) (T.failures self.new.out) self.new.course.used }
+        ensures leaves { IfErr result (Leaves self.old self.new) }
+        ensures cause { FailsWith (T.failures self.old.out) result (T.failures self.new.out) }
+    {
+        let file = self.next_file(head, shape);
+        widths(&file.head);
+        if self.files.push(file).is_err() {
+            self.phase = Phase::Failed;
+            return Err(WriteFault::OutOfMemory);
+        }
+        match begin(&mut self.tape, &file, &self.volumes, self.capacity) {
+            Ok(()) => {
+                self.phase = Phase::Filing(OpenFile { file, packer });
+                Ok(())
+            }
+            Err(fault) => {
+                self.phase = Phase::Failed;
+                Err(fault)
+            }
+        }
+    }
+}

@@ -1,0 +1,200 @@
+//! Records put, files and the set ended.
+
+ghost use Rattle.std.specs.Prelude.{◌≡◌, ◌<◌, ◌+◌, ◌++◌, ◌∷◌, [], List, OnOk, IfErr};
+ghost use Rattle.tape_image.specs.Tape.{TapeItem, mark as mark_item};
+ghost use Rattle.tape_writer.specs.Tapes.{Ended, UnderWay};
+ghost use Rattle.tape_writer.specs.Lasting.{Lasting};
+ghost use Rattle.tape_writer.specs.Faults.{FailsWith, IsEnding};
+ghost use Rattle.tape_writer.specs.Told.{Told, with_record};
+ghost use Rattle.tape_writer.specs.State.{IsWriting, Leaves, Refuses, IfFiling, HasLength};
+ghost use Rattle.tape_writer.specs.State.{IsOutOfVolumes};
+ghost use Rattle.tape_writer.specs.Refusals.{IsPutFault, IsFinishFault, IsInFile};
+ghost use Rattle.tape_writer.specs.declared.course.Opened.{Opened};
+ghost use Rattle.tape_writer.specs.declared.phase.Phase.TheVariants.{Between, Failed, Finished};
+
+use crate::fault::WriteFault;
+use crate::files::{close_file, end_set};
+use crate::out::TapeOut;
+use crate::phase::Phase;
+use crate::records::put_record;
+use crate::set::SetWriter;
+
+impl<T: TapeOut + Drop> SetWriter<T> {
+    /// Puts a record in the file under way. Each block is written when it is full; where its volume
+    /// has no room, behind a change of the volume.
+    ///
+    /// # Errors
+    ///
+    /// `Failed`, `Finished` and `NoFile` by what the writer does; `RecordLength` where the record
+    /// has none of the lengths of the file's shape; these leave all as it was. Then, as they come,
+    /// `OutOfVolumes`, where a change is due and no volume is left, `Device` and `OutOfMemory`.
+    #[tactic(auto, using(crate::proofs::Last::lasting_self, crate::proofs::Calls::leaves_failed))]
+    pub fn put(&mut self, bytes: &[u8]) -> Result<(), WriteFault>
+        ensures same { (self.new.volumes ≡ self.old.volumes)
+            × (self.new.capacity ≡ self.old.capacity) × (self.new.set_id ≡ self.old.set_id) }
+        ensures failed { self.old.phase ≡ Failed
+            → Refuses self.old result self.new WriteFault.Failed }
+        ensures finished { self.old.phase ≡ Finished
+            → Refuses self.old result self.new WriteFault.Finished }
+        ensures no_file { self.old.phase ≡ Between
+            → Refuses self.old result self.new WriteFault.NoFile }
+        ensures length { IfFiling self.old.phase (λ o. (HasLength o bytes.now → ⊥)
+            → Refuses self.old result self.new WriteFault.RecordLength) }
+        ensures fits { OnOk result (IfFiling self.old.phase (λ o. HasLength o bytes.now)) }
+        // No fault is answered where it is not due.
+        ensures due { IfFiling self.old.phase (λ o. IfErr result (IsPutFault o bytes.now)) }
+        ensures stays { (file : Opened) → IsInFile file self.old.phase
+            → OnOk result (IsInFile file self.new.phase) }
+        ensures files { self.new.files ≡ self.old.files }
+        // The last file told has one record more, and nothing else is changed of what was told.
+        ensures told { (told : List Told) → IsWriting (T.holds self.old.out) self.old told
+            → OnOk result (IsWriting (T.holds self.new.out) self.new (with_record told bytes.now)) }
+        ensures stuck { (told : List Told) → IsWriting (T.holds self.old.out) self.old told
+            → IfErr result (λ fault. fault ≡ WriteFault.OutOfVolumes
+            → IsOutOfVolumes (T.holds self.new.out) self.old self.new.course) }
+        // Whatever the call answers.
+        ensures lasting { Lasting
+            (T.holds self.old.out) (T.failures self.old.out) self.old.course.used
+            (T.holds self.new.out) (T.failures self.new.out) self.new.course.used }
+        ensures leaves { IfErr result (Leaves self.old self.new) }
+        ensures cause { FailsWith (T.failures self.old.out) result (T.failures self.new.out) }
+    {
+        let file = match &mut self.phase {
+            Phase::Filing(file) => file,
+            Phase::Between => return Err(WriteFault::NoFile),
+            Phase::Failed => return Err(WriteFault::Failed),
+            Phase::Finished => return Err(WriteFault::Finished),
+        };
+        match put_record(
+            &mut self.tape,
+            &mut file.packer,
+            &file.file,
+            &self.volumes,
+            self.capacity,
+            bytes,
+        ) {
+            Ok(()) => Ok(()),
+            Err(fault) if fault == WriteFault::RecordLength => Err(fault),
+            Err(fault) => {
+                self.phase = Phase::Failed;
+                Err(fault)
+            }
+        }
+    }
+
+    /// Ends the file under way: its last block, if there is one, and its end are written, behind a
+    /// change of the volume where there is no room. The volume then has room for another file's
+    /// headers and a volume end.
+    ///
+    /// # Errors
+    ///
+    /// `Failed`, `Finished` and `NoFile` by what the writer does, and all is as it was; then, as
+    /// they come, `OutOfVolumes`, where a change is due and no volume is left, `Device` and
+    /// `OutOfMemory`.
+    #[tactic(auto, using(crate::proofs::Last::lasting_self, crate::proofs::Calls::leaves_failed))]
+    pub fn end_file(&mut self) -> Result<(), WriteFault>
+        ensures same { (self.new.volumes ≡ self.old.volumes)
+            × (self.new.capacity ≡ self.old.capacity) × (self.new.set_id ≡ self.old.set_id) }
+        ensures failed { self.old.phase ≡ Failed
+            → Refuses self.old result self.new WriteFault.Failed }
+        ensures finished { self.old.phase ≡ Finished
+            → Refuses self.old result self.new WriteFault.Finished }
+        ensures no_file { self.old.phase ≡ Between
+            → Refuses self.old result self.new WriteFault.NoFile }
+        ensures between { OnOk result (self.new.phase ≡ Between) }
+        ensures due { IfFiling self.old.phase (λ _. IfErr result IsEnding) }
+        ensures files { self.new.files ≡ self.old.files }
+        ensures volume { OnOk result (0 < self.new.course.volume) }
+        ensures told { (told : List Told) → IsWriting (T.holds self.old.out) self.old told
+            → OnOk result (IsWriting (T.holds self.new.out) self.new told) }
+        ensures stuck { (told : List Told) → IsWriting (T.holds self.old.out) self.old told
+            → IfErr result (λ fault. fault ≡ WriteFault.OutOfVolumes
+            → IsOutOfVolumes (T.holds self.new.out) self.old self.new.course) }
+        ensures lasting { Lasting
+            (T.holds self.old.out) (T.failures self.old.out) self.old.course.used
+            (T.holds self.new.out) (T.failures self.new.out) self.new.course.used }
+        ensures leaves { IfErr result (Leaves self.old self.new) }
+        ensures cause { FailsWith (T.failures self.old.out) result (T.failures self.new.out) }
+    {
+        let file = match &mut self.phase {
+            Phase::Filing(file) => file,
+            Phase::Between => return Err(WriteFault::NoFile),
+            Phase::Failed => return Err(WriteFault::Failed),
+            Phase::Finished => return Err(WriteFault::Finished),
+        };
+        match close_file(
+            &mut self.tape,
+            &mut file.packer,
+            &file.file,
+            &self.volumes,
+            self.capacity,
+        ) {
+            Ok(()) => {
+                self.phase = Phase::Between;
+                Ok(())
+            }
+            Err(fault) => {
+                self.phase = Phase::Failed;
+                Err(fault)
+            }
+        }
+    }
+
+    /// Ends the set: the second mark of its last volume and the end word are written.
+    ///
+    /// # Errors
+    ///
+    /// `Failed` and `Finished`, `FileBegun` inside a file, `NoFile` before the first one, and all
+    /// is as it was; then `Device` and `OutOfMemory`, as they come.
+    #[tactic(auto, using(crate::proofs::Last::lasting_self, crate::proofs::Calls::leaves_failed))]
+    pub fn finish(&mut self) -> Result<(), WriteFault>
+        ensures same { (self.new.volumes ≡ self.old.volumes)
+            × (self.new.capacity ≡ self.old.capacity) × (self.new.set_id ≡ self.old.set_id) }
+        ensures failed { self.old.phase ≡ Failed
+            → Refuses self.old result self.new WriteFault.Failed }
+        ensures finished { self.old.phase ≡ Finished
+            → Refuses self.old result self.new WriteFault.Finished }
+        ensures begun { IfFiling self.old.phase
+            (λ _. Refuses self.old result self.new WriteFault.FileBegun) }
+        ensures no_file { self.old.phase ≡ Between → self.old.course.volume ≡ 0
+            → Refuses self.old result self.new WriteFault.NoFile }
+        ensures due { self.old.phase ≡ Between
+            → IfErr result (IsFinishFault self.old.course.volume) }
+        // With `end`: the tapes hold a whole set of what was told.
+        ensures told { (told : List Told) → IsWriting (T.holds self.old.out) self.old told
+            → OnOk result (IsWriting (T.holds self.new.out) self.new told) }
+        ensures end { OnOk result (self.new.phase ≡ Finished) }
+        // The last volume has a mark more, and the others are as they were.
+        ensures closes { (volumes : List (List TapeItem)) (items : List TapeItem)
+            → T.holds self.old.out (UnderWay volumes items)
+            → OnOk result (T.holds self.new.out
+            (Ended (volumes ++ (items ++ mark_item ∷ []) ∷ []))) }
+        // The mark and the end word.
+        ensures used { OnOk result (self.new.course.used ≡ self.old.course.used + 8) }
+        ensures lasting { IfErr result (λ _. Lasting
+            (T.holds self.old.out) (T.failures self.old.out) self.old.course.used
+            (T.holds self.new.out) (T.failures self.new.out) self.new.course.used) }
+        ensures leaves { IfErr result (Leaves self.old self.new) }
+        ensures cause { FailsWith (T.failures self.old.out) result (T.failures self.new.out) }
+    {
+        match self.phase {
+            Phase::Between => {}
+            Phase::Filing(_) => return Err(WriteFault::FileBegun),
+            Phase::Failed => return Err(WriteFault::Failed),
+            Phase::Finished => return Err(WriteFault::Finished),
+        }
+        if self.tape.course.volume == 0 {
+            return Err(WriteFault::NoFile);
+        }
+        match end_set(&mut self.tape, &self.volumes, self.capacity) {
+            Ok(()) => {
+                self.phase = Phase::Finished;
+                Ok(())
+            }
+            Err(fault) => {
+                self.phase = Phase::Failed;
+                Err(fault)
+            }
+        }
+    }
+}

@@ -1,0 +1,126 @@
+//! Items written, and their sizes counted.
+
+ghost use Rattle.std.specs.Prelude.{◌≡◌, ◌<◌, ◌≤◌, ◌+◌, ◌∷◌, [], length, OnOk, IfErr};
+ghost use Rattle.tape_image.specs.Tape.{block as block_item, mark as mark_item};
+ghost use Rattle.tape_set.specs.Sizes.{item_size};
+ghost use Rattle.tape_writer.specs.Tapes.{Takes, Closes};
+ghost use Rattle.tape_writer.specs.Lasting.{Lasting};
+ghost use Rattle.tape_writer.specs.Draft.{added_course};
+ghost use Rattle.tape_writer.specs.Faults.{FailsWith, IsOfOut};
+
+use crate::course::Course;
+use crate::fault::{WriteFault, fault_of};
+use crate::out::TapeOut;
+
+/// What is written to, and where it stands.
+#[derive(Drop)]
+pub struct Tape<T> {
+    pub(crate) out: T,
+    pub(crate) course: Course,
+}
+
+impl<T: TapeOut> Tape<T> {
+    /// Writes a block.
+    fn block(&mut self, bytes: &[u8]) -> Result<(), WriteFault>
+        requires sized { (0 < length bytes.now) × (length bytes.now ≤ 99999) }
+        requires room { self.old.course.used + item_size (block_item bytes.now) ≤ 4294967295 }
+        ensures ok { Takes (block_item bytes.now ∷ [])
+            (T.holds self.old.out) result (T.holds self.new.out) }
+        ensures course { OnOk result (self.new.course ≡ record self.old.course {
+          used = self.old.course.used + item_size (block_item bytes.now);
+        }) }
+        ensures lasting { Lasting
+            (T.holds self.old.out) (T.failures self.old.out) self.old.course.used
+            (T.holds self.new.out) (T.failures self.new.out) self.new.course.used }
+        ensures cause { FailsWith (T.failures self.old.out) result (T.failures self.new.out) }
+        ensures out { IfErr result IsOfOut }
+    {
+        match self.out.block(bytes) {
+            Ok(()) => {
+                self.course.used += (8 + bytes.len() + bytes.len() % 2) as u32;
+                Ok(())
+            }
+            Err(fault) => Err(fault_of(fault)),
+        }
+    }
+
+    /// Writes a tape mark.
+    pub(crate) fn mark(&mut self) -> Result<(), WriteFault>
+        requires room { self.old.course.used + 4 ≤ 4294967295 }
+        ensures ok { Takes (mark_item ∷ []) (T.holds self.old.out) result (T.holds self.new.out) }
+        ensures course { OnOk result (self.new.course
+            ≡ record self.old.course { used = self.old.course.used + 4 }) }
+        ensures lasting { Lasting
+            (T.holds self.old.out) (T.failures self.old.out) self.old.course.used
+            (T.holds self.new.out) (T.failures self.new.out) self.new.course.used }
+        ensures cause { FailsWith (T.failures self.old.out) result (T.failures self.new.out) }
+        ensures out { IfErr result IsOfOut }
+    {
+        match self.out.mark() {
+            Ok(()) => {
+                self.course.used += 4;
+                Ok(())
+            }
+            Err(fault) => Err(fault_of(fault)),
+        }
+    }
+
+    /// Writes a label.
+    #[tactic(auto, using(crate::proofs::Last::lasting_then, crate::proofs::Last::rose_from))]
+    pub(crate) fn label(&mut self, label: [u8; 80]) -> Result<(), WriteFault>
+        requires room { self.old.course.used + 88 ≤ 4294967295 }
+        ensures ok { Takes (block_item label ∷ [])
+            (T.holds self.old.out) result (T.holds self.new.out) }
+        ensures course { OnOk result (self.new.course
+            ≡ record self.old.course { used = self.old.course.used + 88 }) }
+        ensures lasting { Lasting
+            (T.holds self.old.out) (T.failures self.old.out) self.old.course.used
+            (T.holds self.new.out) (T.failures self.new.out) self.new.course.used }
+        ensures cause { FailsWith (T.failures self.old.out) result (T.failures self.new.out) }
+        ensures out { IfErr result IsOfOut }
+    {
+        self.block(&label)
+    }
+
+    /// Writes a data block of the section under way.
+    #[tactic(auto, using(crate::proofs::Last::kept))]
+    pub(crate) fn add_block(&mut self, bytes: &[u8]) -> Result<(), WriteFault>
+        requires sized { (0 < length bytes.now) × (length bytes.now ≤ 99999) }
+        requires room { self.old.course.used + item_size (block_item bytes.now) ≤ 4294967295 }
+        // So the count stays in its 32 bits.
+        requires count { self.old.course.count ≤ self.old.course.used }
+        ensures ok { Takes (block_item bytes.now ∷ [])
+            (T.holds self.old.out) result (T.holds self.new.out) }
+        ensures course { OnOk result (self.new.course
+            ≡ added_course self.old.course (item_size (block_item bytes.now))) }
+        ensures lasting { Lasting
+            (T.holds self.old.out) (T.failures self.old.out) self.old.course.used
+            (T.holds self.new.out) (T.failures self.new.out) self.new.course.used }
+        ensures cause { FailsWith (T.failures self.old.out) result (T.failures self.new.out) }
+        ensures out { IfErr result IsOfOut }
+    {
+        self.block(bytes)?;
+        self.course.count += 1;
+        Ok(())
+    }
+
+    /// Ends the last volume.
+    pub(crate) fn close(&mut self) -> Result<(), WriteFault>
+        requires room { self.old.course.used + 4 ≤ 4294967295 }
+        ensures ok { Closes (T.holds self.old.out) result (T.holds self.new.out) }
+        ensures course { OnOk result (self.new.course
+            ≡ record self.old.course { used = self.old.course.used + 4 }) }
+        ensures lasting { IfErr result (λ _. Lasting
+            (T.holds self.old.out) (T.failures self.old.out) self.old.course.used
+            (T.holds self.new.out) (T.failures self.new.out) self.new.course.used) }
+        ensures count { T.failures self.old.out ≤ T.failures self.new.out }
+        ensures cause { FailsWith (T.failures self.old.out) result (T.failures self.new.out) }
+        ensures out { IfErr result IsOfOut }
+    {
+        if let Err(fault) = self.out.close() {
+            return Err(fault_of(fault));
+        }
+        self.course.used += 4;
+        Ok(())
+    }
+}
