@@ -1,0 +1,153 @@
+-- What a reader knows of the section awaited, and of what is ahead of it on the volume.
+use Rattle.std.proofs.Common.{◌≡◌, ◌<◌, ◌≤◌, ◌⊎◌, ℕ, List, [], ◌∷◌, ◌++◌, length, drop, Bool, true}
+use Rattle.std.proofs.Common.{false, Some, None, refl, sym, ap, ◌∙◌, subst, inl, inr, append_assoc}
+use Rattle.std.specs.Prelude.{◌||◌, MatchBool}
+use Rattle.std.proofs.lemmas.List.{drop-append-le}
+use Rattle.tape_set.specs.declared.position.Position.{Position}
+use Rattle.tape_set.specs.declared.position.Position.TheVariants.{Awaits}
+use Rattle.tape_set.specs.Position.{is_start}
+use Rattle.tape_set.specs.Layout.{FileSet, Section, Placed, Volume, Entry, a_mark, is_data, nth}
+use Rattle.tape_set.specs.Layout.{data_group, trailer_group, section_of, sections, on}
+use Rattle.tape_set.specs.Before.{parts_at}
+use Rattle.tape_set.specs.Lawful.{FileForm, IsLawful, TellsForm}
+use Rattle.tape_set.specs.Reach.{passes, far, before_data, moved}
+use Rattle.tape_set.proofs.Everywhere.{every-append}
+use Rattle.tape_set.proofs.Numbering.{FileOf, section_found}
+use Rattle.tape_set.proofs.Reaching.{passes_longer, passes_length}
+use Rattle.tape_set.proofs.Volumes.{IsOn}
+use Rattle.tape_set.proofs.Forms.{one_form, forms_alike, form_told}
+use Rattle.tape_core.specs.declared.phase.Heading.{Heading}
+use Rattle.tape_core.specs.State.{State}
+use Rattle.tape_core.specs.Follows.{FileTells, KnownAt, IsAt, reading, to_come, Among, Inside}
+use Rattle.tape_core.specs.Follows.{Reached}
+use Rattle.tape_core.proofs.Fronts.{left_more, ahead_later, wanted_here, AtIt, Ahead, among_on}
+use Rattle.tape_core.proofs.Fronts.{far_on, shorter}
+
+module _ (set : FileSet) (l : IsLawful set) (core : State) (at : IsAt set core)
+    (sect block part k : ℕ) (w : Section) (found : section_of set core.file sect ≡ Some w)
+    (inside : block ≤ length w.blocks)
+    (within : (part ≡ 0) ⊎ (part < length (parts_at w.blocks block))) (v : Volume)
+    (vol : nth set.volumes k ≡ Some v) (good : List Bool) where
+  abbrev here : Position
+  here = Awaits sect block part
+
+  pub ahead_at : (later : List Placed) (z : List Entry) → Among set k core.file later
+      → Ahead set core.file sect block part k w v l found vol (z ++ to_come later)
+  ahead_at later z among = ahead_later set core.file sect block part k w v l found vol later z among
+
+  -- all sections are to come
+  pub all_among : Among set k core.file (on k (sections set))
+  all_among = record { past = []; all = refl; earlier_files = tt }
+
+  -- one section more is passed
+  pub next_among : (x : Placed) (later : List Placed) → Among set k core.file (x ∷ later)
+      → x.file < core.file → Among set k core.file later
+  next_among x later a lt =
+      record {
+        past = a.past ++ x ∷ [];
+        all = append_assoc a.past (x ∷ []) later ∙ a.all;
+        earlier_files = every-append _ a.past (x ∷ []) a.earlier_files (lt, tt);
+      }
+
+  pub its_file : FileOf set core.file sect w
+  its_file = section_found set core.file sect w found
+
+  -- the labels of the section awaited tell the form of its file
+  pub told : (form : FileForm) × TellsForm form w
+  told = form_told set core.file l sect w found
+
+  pub file_tells : FileTells set core.file told.0
+  file_tells other s is = forms_alike set core.file l sect other w s told.0 found is told.1
+
+  -- what is known is nothing, or that form
+  pub known_cases : (core.known ≡ None) ⊎ (core.known ≡ Some told.0)
+  known_cases = go (is_start core.position) at.stands.tells
+    where
+      go : (b : Bool)
+          → MatchBool b (core.known ≡ None) ((form : FileForm) × (core.known ≡ Some form)
+          × FileTells set core.file form)
+          → (core.known ≡ None) ⊎ (core.known ≡ Some told.0)
+      go true h = inl h
+      go false h = inr (h.1 ∙ ap Some (one_form w h.0 told.0 (h.2 sect w found) told.1))
+
+  -- what is known behind the start
+  pub known_after : (p : Position) → is_start p ≡ false → (form : FileForm) → form ≡ told.0
+      → KnownAt set core.file p (Some form)
+  known_after p e form is = subst (λ b. MatchBool b (Some form ≡ None) ((f : FileForm)
+      × (Some form ≡ Some f) × FileTells set core.file f)) (sym e) (told.0, ap Some is, file_tells)
+
+  pub on_it : (x : Placed) (later : List Placed) → Among set k core.file (x ∷ later) → IsOn set k x
+  on_it x later among = (among_on set core.file sect block part k w v l found vol x later among).0
+
+  pub tells_each : (x : Placed) (later : List Placed) → Among set k core.file (x ∷ later)
+      → (form : FileForm) × TellsForm form x.section
+  tells_each x later among = form_told set x.file l x.sect x.section (on_it x later among).found
+
+  pub there : (x : Placed) (later : List Placed) → Among set k core.file (x ∷ later)
+      → x.file ≡ core.file → x.sect ≡ sect
+      → AtIt set core.file sect block part k w v l found vol x later
+  there x later among f s =
+      wanted_here set core.file sect block part k w v l found vol x later among f s
+
+  -- the next entry, good or a data block
+  pub on_with : (g : Bool) (heading : Heading) (wanted : Bool) (x : Placed) (e : Entry)
+      (rest : List Entry)
+      → Inside set core.file sect block part k good heading wanted x (e ∷ rest)
+      → (g || is_data e) ≡ true
+      → Inside set core.file sect block part k (good ++ g ∷ []) heading wanted x rest
+  on_with g heading wanted x e rest i t =
+      record {
+        later = i.later;
+        among = i.among;
+        numbers = i.numbers;
+        chosen = i.chosen;
+        left = left_more set k good g e (rest ++ to_come i.later) i.left t;
+      }
+
+  -- before its data nothing of the section awaited is passed
+  ahead_wanted : (x : Placed) (later : List Placed) (z : List Entry)
+      → AtIt set core.file sect block part k w v l found vol x later
+      → Ahead set core.file sect block part k w v l found vol
+      ((z ++ a_mark ∷ data_group x.section.blocks ++ trailer_group x.section) ++ to_come later)
+  ahead_wanted x later z at_it on = (
+    data_group w.blocks ++ trailer_group w ++ to_come later,
+    at_it.whole,
+    rw at_it.same (shorter z (data_group w.blocks) (trailer_group w) (to_come later)),
+  )
+
+  pub ahead_inside : (heading : Heading) (wanted : Bool) (x : Placed) (z : List Entry)
+      (i : Inside set core.file sect block part k good heading wanted x (z
+      ++ a_mark ∷ data_group x.section.blocks ++ trailer_group x.section))
+      → Ahead set core.file sect block part k w v l found vol
+      ((z ++ a_mark ∷ data_group x.section.blocks ++ trailer_group x.section) ++ to_come i.later)
+  ahead_inside heading true x z i =
+      ahead_wanted x i.later z (there x i.later i.among i.chosen.0 i.chosen.1)
+  ahead_inside heading false x z i = ahead_at i.later _ (next_among x i.later i.among i.chosen)
+
+  pub ahead_passed : (heading : Heading) (x : Placed) (z : List Entry)
+      (i : Inside set core.file sect block part k good heading false x z)
+      → Ahead set core.file sect block part k w v l found vol (z ++ to_come i.later)
+  ahead_passed heading x z i = ahead_at i.later z (next_among x i.later i.among i.chosen)
+
+  -- where the front was read whole and well, far is as from there
+  pub far_there : (more : List Bool) → w.volume ≡ k → (g : Bool) → (seen : List Bool)
+      → passes good (before_data set core.file sect w) ≡ true
+      → drop (length (before_data set core.file sect w)) good ≡ seen
+      → far set core.file here (reading k ((good ++ g ∷ []) ++ more))
+      ≡ moved here sect block w (seen ++ g ∷ more)
+  far_there more is g seen fine rest =
+      rw append_assoc
+      (far_on set core.file sect block part k w v l found vol is
+      (good ++ g ∷ more) (passes_longer good (g ∷ more) _ fine)
+      ∙ ap (λ z. moved here sect block w z) (drop-append-le (length (before_data set core.file sect
+      w)) good (g ∷ more) (passes_length good _ fine) ∙ ap (λ z. z ++ g ∷ more) rest))
+
+  pub reached_more : (s : Section) (g : Bool) (seen : List Bool)
+      → Reached set core.file sect block part k s good seen
+      → Reached set core.file sect block part k s (good ++ g ∷ []) (seen ++ g ∷ [])
+  reached_more s g seen r =
+      record {
+        fine = passes_longer good (g ∷ []) _ r.fine;
+        rest = drop-append-le (length (before_data set core.file sect s)) good (g
+            ∷ []) (passes_length good _ r.fine) ∙ ap (λ z. z ++ g ∷ []) r.rest;
+      }

@@ -1,0 +1,164 @@
+-- Items that change nothing: at the end of a reel, and behind a whole reading.
+use Rattle.std.proofs.Common.{◌≡◌, ℕ, List, length, Bool, true, false, Option, Some, None, refl}
+use Rattle.std.proofs.Common.{sym, ap, ◌∙◌, subst}
+use Rattle.std.specs.Prelude.{IsSome}
+use Rattle.std.proofs.lemmas.List.{length-map}
+use Rattle.tape_image.specs.Tape.{TapeItem, block as a_block, bad, mark}
+use Rattle.tape_set.specs.declared.position.Position.{Position}
+use Rattle.tape_set.specs.declared.position.Position.TheVariants.{Awaits, Finished}
+use Rattle.tape_set.specs.Layout.{FileSet, Volume, item_of, nth, entries, items}
+use Rattle.tape_set.specs.Lawful.{IsLawful}
+use Rattle.tape_set.specs.Reach.{passes}
+use Rattle.tape_core.specs.declared.answer.Reason.{Reason}
+use Rattle.tape_core.specs.declared.answer.Reason.TheVariants.{ReelEnded}
+use Rattle.tape_core.specs.declared.phase.Phase.{Phase}
+use Rattle.tape_core.specs.declared.phase.Phase.TheVariants.{Over, Broken, Volume as AtVolume}
+use Rattle.tape_core.specs.declared.phase.Phase.TheVariants.{VolumeLabels, Header2, Headers}
+use Rattle.tape_core.specs.declared.phase.Phase.TheVariants.{DataPassed, DataWanted, TrailerPassed}
+use Rattle.tape_core.specs.declared.phase.Phase.TheVariants.{TrailerWanted, Trailers, NextFile}
+use Rattle.tape_core.specs.State.{State, is_broken}
+use Rattle.tape_core.specs.Table.{Outcome, useless, at_item, unless_complete, at_reel_end, step_of}
+use Rattle.tape_core.specs.Follows.{IsAt, Follows, IsReading, Ended, Idle}
+use Rattle.tape_core.proofs.PositionSteps.{whole_over}
+
+pub end_stays : (set : FileSet) (core : State) → IsAt set core → Ended set core (step_of core None)
+end_stays set core at = go core.position
+  where
+    over : (phase : Phase) → is_broken phase ≡ false → Ended set core (at_reel_end core phase)
+    over Broken n = absurd (cc)
+    over Over n = record {
+      at = record { of_set = at.of_set; sound = refl; stands = at.stands };
+      same_file = refl;
+      same_position = refl;
+      silent = λ e. cc;
+    }
+    over AtVolume n = record {
+      at = record { of_set = at.of_set; sound = refl; stands = at.stands };
+      same_file = refl;
+      same_position = refl;
+      silent = λ e. cc;
+    }
+    over VolumeLabels n = record {
+      at = record { of_set = at.of_set; sound = refl; stands = at.stands };
+      same_file = refl;
+      same_position = refl;
+      silent = λ e. cc;
+    }
+    over (Header2 heading wanted) n = record {
+      at = record { of_set = at.of_set; sound = refl; stands = at.stands };
+      same_file = refl;
+      same_position = refl;
+      silent = λ e. cc;
+    }
+    over (Headers heading form) n = record {
+      at = record { of_set = at.of_set; sound = refl; stands = at.stands };
+      same_file = refl;
+      same_position = refl;
+      silent = λ e. cc;
+    }
+    over (DataPassed heading) n = record {
+      at = record { of_set = at.of_set; sound = refl; stands = at.stands };
+      same_file = refl;
+      same_position = refl;
+      silent = λ e. cc;
+    }
+    over (DataWanted heading form seen) n = record {
+      at = record { of_set = at.of_set; sound = refl; stands = at.stands };
+      same_file = refl;
+      same_position = refl;
+      silent = λ e. cc;
+    }
+    over (TrailerPassed heading) n = record {
+      at = record { of_set = at.of_set; sound = refl; stands = at.stands };
+      same_file = refl;
+      same_position = refl;
+      silent = λ e. cc;
+    }
+    over (TrailerWanted heading form) n = record {
+      at = record { of_set = at.of_set; sound = refl; stands = at.stands };
+      same_file = refl;
+      same_position = refl;
+      silent = λ e. cc;
+    }
+    over Trailers n = record {
+      at = record { of_set = at.of_set; sound = refl; stands = at.stands };
+      same_file = refl;
+      same_position = refl;
+      silent = λ e. cc;
+    }
+    over NextFile n = record {
+      at = record { of_set = at.of_set; sound = refl; stands = at.stands };
+      same_file = refl;
+      same_position = refl;
+      silent = λ e. cc;
+    }
+
+    go : (q : Position) → Ended set core (unless_complete core q (at_reel_end core core.phase))
+    go Finished = record { at = at; same_file = refl; same_position = refl; silent = λ e. cc }
+    go (Awaits a b c) = over core.phase at.sound
+
+pub idle_whole : (core : State) (set : FileSet) (p : Position) (k : ℕ) (good : List Bool)
+    (x : TapeItem)
+    → IsLawful set → IsSome (nth set.volumes k) → IsReading set p k good core
+    → length good ≡ length (items set k) → passes good (entries set k) ≡ true
+    → Idle set p k good core (step_of core (Some x))
+idle_whole core set Finished k good x l vol r n q = go core.position r.follows
+  where
+    go : (c : Position) → c ≡ Finished
+        → Idle set Finished k good core (unless_complete core c (at_item core core.phase x))
+    go Finished h = record { reads = r; same_file = refl; same_position = refl; silent = λ e. cc }
+    go (Awaits a b c) h = absurd (cc)
+idle_whole core set (Awaits sect block part) k good x l vol r n q = go core.position
+  where
+    over_at : (o : Option Volume) → nth set.volumes k ≡ o → IsSome o → core.phase ≡ Over
+    over_at None e s = absurd (cc)
+    over_at (Some v) e s = whole_over set l core r.at sect block part k r.from.0 r.from.1 r.from.2
+        r.from.3 v e good core.phase r.follows (n ∙ length-map (entries set k) item_of) q
+
+    over : core.phase ≡ Over
+    over = over_at (nth set.volumes k) refl vol
+
+    a : IsAt set core
+    a = r.at
+
+    useless_idle : (why : Reason) → Idle set (Awaits sect block part) k good core (useless core why)
+    useless_idle why = record {
+      reads = record {
+        from = r.from;
+        at = record { of_set = a.of_set; sound = refl; stands = a.stands };
+        follows = subst (λ z. Follows set core.file sect block part k z core.position good)
+            over r.follows;
+      };
+      same_file = refl;
+      same_position = refl;
+      silent = λ e. cc;
+    }
+
+    at_over : (y : TapeItem) → Idle set (Awaits sect block part) k good core (at_item core Over y)
+    at_over (a_block b) = useless_idle ReelEnded
+    at_over bad = useless_idle ReelEnded
+    at_over mark = useless_idle ReelEnded
+
+    go : (c : Position)
+        → Idle set (Awaits sect block part) k good core (unless_complete core c
+        (at_item core core.phase x))
+    go Finished = record { reads = r; same_file = refl; same_position = refl; silent = λ e. cc }
+    go (Awaits u d c) =
+        subst (λ z. Idle set (Awaits sect block part) k good core (at_item core z x))
+        (sym over) (at_over x)
+
+pub end_reads : (core : State) (out : Outcome) (arrived : Option TapeItem)
+    → out ≡ step_of core arrived → (set : FileSet) → arrived ≡ None → IsAt set core
+    → Ended set core out
+end_reads core out arrived is set none at =
+    subst (λ z. Ended set core z) (sym (is ∙ ap (λ z. step_of core z) none)) (end_stays set core at)
+
+pub idle_reads : (core : State) (out : Outcome) (arrived : Option TapeItem)
+    → out ≡ step_of core arrived
+    → (set : FileSet) (p : Position) (k : ℕ) (good : List Bool) (item : TapeItem) → IsLawful set
+    → IsSome (nth set.volumes k)
+    → length good ≡ length (items set k) → passes good (entries set k) ≡ true → arrived ≡ Some item
+    → IsReading set p k good core → Idle set p k good core out
+idle_reads core out arrived is set p k good item l vol n h came r =
+    subst (λ z. Idle set p k good core z) (sym (is ∙ ap (λ z. step_of core z) came))
+    (idle_whole core set p k good item l vol r n h)

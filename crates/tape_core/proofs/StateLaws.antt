@@ -1,0 +1,180 @@
+-- What is true of every reader stays so.
+use Rattle.std.proofs.Common.{◌≡◌, ◌<◌, ◌≤◌, ◌⊎◌, inl, inr, ℕ, zero, suc, ◌+◌, List, [], ◌∷◌, ◌++◌}
+use Rattle.std.proofs.Common.{length, take, Bool, true, false, Option, Some, Ok, refl, sym, ap, ◌∙◌}
+use Rattle.std.proofs.Common.{arith, length-append}
+use Rattle.std.specs.Prelude.{◌==◌, ◌&&◌, ◌||◌, not, nat_le}
+use Rattle.std.proofs.lemmas.Bool.Decides.{nat_tests}
+use Rattle.std.specs.List.{AllByRecursion}
+use Rattle.tape_label.specs.declared.values.Format.{Format}
+use Rattle.tape_label.specs.declared.values.Format.TheVariants.{Fixed, Counted, Spanned}
+use Rattle.tape_blocks.specs.declared.part.Span.TheVariants.{Whole}
+use Rattle.tape_blocks.specs.Block.{Portion, IsUnit}
+use Rattle.tape_blocks.specs.Spans.{InOrder, leaves}
+use Rattle.tape_blocks.specs.Faults.{bool_eq}
+use Rattle.tape_blocks.specs.Judged.{judged, begun_behind}
+use Rattle.tape_blocks.proofs.JudgedLaws.{judged_found}
+use Rattle.tape_set.specs.declared.position.Position.{Position}
+use Rattle.tape_set.specs.declared.position.Position.TheVariants.{Awaits, Finished}
+use Rattle.tape_set.specs.Position.{next_block, is_start, awaiting, block_of}
+use Rattle.tape_set.specs.Lawful.{FileForm, most_blocks}
+use Rattle.tape_set.proofs.FileParts.{begun_behind-append}
+use Rattle.tape_core.specs.declared.phase.Heading.{Heading}
+use Rattle.tape_core.specs.declared.phase.Phase.{Phase}
+use Rattle.tape_core.specs.declared.phase.Phase.TheVariants.{DataWanted, Over, Broken}
+use Rattle.tape_core.specs.declared.phase.Phase.TheVariants.{Volume as AtVolume, VolumeLabels}
+use Rattle.tape_core.specs.declared.phase.Phase.TheVariants.{Header2, Headers, DataPassed}
+use Rattle.tape_core.specs.declared.phase.Phase.TheVariants.{TrailerPassed, TrailerWanted, Trailers}
+use Rattle.tape_core.specs.declared.phase.Phase.TheVariants.{NextFile}
+use Rattle.tape_core.specs.Known.{is_finished, is_spanned}
+use Rattle.tape_core.specs.Parts.{parts_in, goes_on_at, begun_before, other_front}
+use Rattle.tape_core.specs.State.{IsState, ToldFits, is_broken}
+use Rattle.tape_core.specs.Follows.{Follows}
+use Rattle.tape_set.specs.Layout.{FileSet}
+
+pub later_start : (sect place : ℕ) → is_start (awaiting sect (place + 1)) ≡ false
+later_start sect place =
+    let z : ((place + 1) == 0) ≡ false = grind (arith, nat_tests) in
+    rw z (go (sect == 1))
+  where
+    go : (t : Bool) → ((t && false) && true) ≡ false
+    go true = refl
+    go false = refl
+
+-- a block was delivered
+pub delivered_fits : (file : ℕ) (p : Position) (begun end : Bool) (known : Option FileForm)
+    (phase : Phase) (heading : Heading) (form : FileForm) (seen : ℕ)
+    → IsState file p begun known phase → is_finished p ≡ false → block_of p < most_blocks
+    → ToldFits end (Some form)
+    → IsState file (next_block p) end (Some form) (DataWanted heading form seen)
+delivered_fits file Finished begun end known phase heading form seen i n m t = absurd (cc)
+delivered_fits file (Awaits sect place part) begun end known phase heading form seen i n m t =
+    record {
+      numbered = i.numbered;
+      stands = record {
+        numbers = (i.stands.numbers.0, i.stands.numbers.1, omega (arith, m), omega arith);
+        tells = sym (ap not (later_start sect place));
+        spans = t;
+        whole = λ e. absurd (cc);
+      };
+      told_fits = t;
+    }
+
+-- ---- the parts of a block of which some were delivered
+
+pub one_more : (first : Bool) (ps : List Portion) (p : Portion)
+    → begun_behind first (ps ++ p ∷ []) ≡ leaves p.span
+one_more first ps p = begun_behind-append first ps (p ∷ [])
+
+-- so many parts are there, and one more
+pub front_at : (form : FileForm) (part : ℕ) (begun going : Bool) (block : List ℕ)
+    (seen more : List Portion) (p : Portion)
+    → parts_in form block ≡ seen ++ p ∷ more → length seen ≡ part → (part ≡ 0 → ⊥)
+    → going ≡ begun_behind (goes_on_at form.format form.offset block) seen
+    → not (bool_eq going begun) ≡ other_front form part begun block
+front_at form zero begun going block seen more p is n some g = absurd (some refl)
+front_at form (suc part) begun going block seen more p is n some g =
+    let long : nat_le (length (parts_in form block)) (suc part) ≡ false =
+    (let q : length (parts_in form block) ≡ length seen + length (p ∷ more) = ap length is
+    ∙ length-append seen (p ∷ more) in grind (arith, nat_tests, q, n)) in
+    let front : take (suc part) (parts_in form block) ≡ seen =
+    ap (λ z. take (suc part) z) is ∙ take_front seen (p ∷ more) (suc part) n in
+    rw (long, front, sym g) refl
+  where
+    take_front : (xs ys : List Portion) (m : ℕ) → length xs ≡ m → take m (xs ++ ys) ≡ xs
+    take_front [] ys zero h = refl
+    take_front [] ys (suc m) h = absurd (omega arith)
+    take_front (x ∷ xs) ys zero h = absurd (omega arith)
+    take_front (x ∷ xs) ys (suc m) h = ap (λ z. x ∷ z) (take_front xs ys m (omega arith))
+
+-- there are no more
+pub front_short : (form : FileForm) (part : ℕ) (begun : Bool) (block : List ℕ)
+    → length (parts_in form block) ≤ part → (part ≡ 0 → ⊥)
+    → true ≡ other_front form part begun block
+front_short form zero begun block le some = absurd (some refl)
+front_short form (suc part) begun block le some =
+    let long : nat_le (length (parts_in form block)) (suc part) ≡ true = grind (arith, nat_tests) in
+    rw long refl
+
+-- ---- only format S leaves a record begun
+
+whole_ends : (begun end : Bool) (p : Portion) (ps : List Portion)
+    → AllByRecursion (λ q. q.span ≡ Whole) (p ∷ ps) → InOrder begun (p ∷ ps) end → false ≡ end
+whole_ends begun end p [] h o = sym (ap leaves h.0) ∙ o.1
+whole_ends begun end p (q ∷ ps) h o = whole_ends (leaves p.span) end q ps h.1 o.1
+
+wholes : (format : Format) (rec_len : ℕ) (ps : List Portion) → is_spanned format ≡ false
+    → AllByRecursion (IsUnit format rec_len) ps → AllByRecursion (λ q. q.span ≡ Whole) ps
+wholes format rec_len [] n h = tt
+wholes Fixed rec_len (p ∷ ps) n h = (h.0.0, wholes Fixed rec_len ps n h.1)
+wholes Counted rec_len (p ∷ ps) n h = (h.0.0, wholes Counted rec_len ps n h.1)
+wholes Spanned rec_len (p ∷ ps) n h = absurd (cc)
+
+pub begun_spans : (format : Format) (rec_len : ℕ) (begun end : Bool) (ps : List Portion)
+    → AllByRecursion (IsUnit format rec_len) ps → InOrder begun ps end
+    → (begun ≡ true → is_spanned format ≡ true) → end ≡ true → is_spanned format ≡ true
+begun_spans format rec_len begun end [] h o b e = b (o ∙ e)
+begun_spans format rec_len begun end (p ∷ ps) h o b e = go (is_spanned format) refl
+  where
+    go : (t : Bool) → is_spanned format ≡ t → is_spanned format ≡ true
+    go true q = q
+    go false q =
+        absurd (let d = whole_ends begun end p ps (wholes format rec_len (p ∷ ps) q h) o ∙ e in cc)
+
+goes_on_spans : (format : Format) (offset : ℕ) (block : List ℕ)
+    → goes_on_at format offset block ≡ true → is_spanned format ≡ true
+goes_on_spans Fixed offset block e = absurd (cc)
+goes_on_spans Counted offset block e = absurd (cc)
+goes_on_spans Spanned offset block e = refl
+
+pub before_spans : (form : FileForm) (part : ℕ) (begun : Bool) (block : List ℕ)
+    → ToldFits begun (Some form) → begun_before form part begun block ≡ true
+    → is_spanned form.format ≡ true
+before_spans form zero begun block t e = t e
+before_spans form (suc part) begun block t e = goes_on_spans form.format form.offset block e
+
+-- what a check leaves begun fits what the labels told
+pub judged_told : (form : FileForm) (part : ℕ) (begun end : Bool) (block : List ℕ)
+    → (form.format ≡ Fixed → 1 ≤ form.rec_len) → ToldFits begun (Some form)
+    → judged form.format form.rec_len form.offset (begun_before form part begun
+    block) block ≡ Ok end
+    → ToldFits end (Some form)
+judged_told form part begun end block some t is e =
+    let h = judged_found form.format form.rec_len form.offset
+    (begun_before form part begun block) end block some is in
+    begun_spans form.format form.rec_len (begun_before form part begun block) end h.0 h.1.1.units
+    h.2 (before_spans form part begun block t) e
+
+-- a block that is no other one holds the part that is awaited
+pub front_more : (form : FileForm) (part : ℕ) (begun : Bool) (block : List ℕ) (parts : List Portion)
+    → parts_in form block ≡ parts → other_front form part begun block ≡ false
+    → (part ≡ 0) ⊎ (part < length parts)
+front_more form zero begun block parts is e = inl refl
+front_more form (suc part) begun block parts is e =
+    go (nat_le (length (parts_in form block)) (suc part)) refl e
+  where
+    go : (t : Bool) → nat_le (length (parts_in form block)) (suc part) ≡ t
+        → (t || not (bool_eq (begun_behind (goes_on_at form.format form.offset block)
+        (take (suc part) (parts_in form block))) begun)) ≡ false
+        → (suc part ≡ 0) ⊎ (suc part < length parts)
+    go true q f = absurd (cc)
+    go false q f =
+        let n : length (parts_in form block) ≡ length parts = ap length is in
+        inr (grind (arith, nat_tests, q, n))
+
+-- what lies to a reading is not broken
+pub follows_sound : (set : FileSet) (file sect block part k : ℕ) (phase : Phase)
+    (position : Position)
+    (good : List Bool)
+    → Follows set file sect block part k phase position good → is_broken phase ≡ false
+follows_sound set file sect block part k Over position good h = refl
+follows_sound set file sect block part k Broken position good h = absurd h
+follows_sound set file sect block part k AtVolume position good h = refl
+follows_sound set file sect block part k VolumeLabels position good h = refl
+follows_sound set file sect block part k (Header2 heading wanted) position good h = refl
+follows_sound set file sect block part k (Headers heading form) position good h = refl
+follows_sound set file sect block part k (DataPassed heading) position good h = refl
+follows_sound set file sect block part k (DataWanted heading form seen) position good h = refl
+follows_sound set file sect block part k (TrailerPassed heading) position good h = refl
+follows_sound set file sect block part k (TrailerWanted heading form) position good h = refl
+follows_sound set file sect block part k Trailers position good h = refl
+follows_sound set file sect block part k NextFile position good h = refl

@@ -1,0 +1,45 @@
+-- Parts whose bytes lie one behind another.
+use Rattle.std.specs.Prelude.{◌≡◌, ◌≤◌, ℕ, ◌+◌, List, [], ◌∷◌, length, slice_range, Option, Some}
+use Rattle.std.specs.Prelude.{None}
+use Rattle.std.proofs.Props.{props}
+use Rattle.tape_blocks.specs.declared.part.Part.{Part}
+use Rattle.tape_blocks.specs.Parts.{view}
+use Rattle.tape_blocks.specs.Block.{Portion}
+use Rattle.tape_core.specs.declared.entry.Entry.{Entry}
+
+-- the part that an entry tells, which begins at `start` of the bytes
+abbrev pub part_at : ℕ → Entry → List ℕ → Portion
+part_at start e bytes = record { span = e.span; bytes = slice_range bytes start e.end }
+
+-- the parts that the entries tell, of which the first begins at `start` of the bytes
+abbrev pub parts_from : ℕ → List Entry → List ℕ → List Portion
+parts_from start [] bytes = []
+parts_from start (e ∷ es) bytes = part_at start e bytes ∷ parts_from e.end es bytes
+
+-- where the last part ends, or where the first would begin
+abbrev pub end_from : ℕ → List Entry → ℕ
+end_from start [] = start
+end_from start (e ∷ es) = end_from e.end es
+
+-- each part begins where the one before it ends, none has more than 99,999 bytes, and the last ends
+-- at `finish`
+abbrev pub AreLaid : ℕ → List Entry → ℕ → Type 0
+AreLaid start [] finish = start ≡ finish
+AreLaid start (e ∷ es) finish = (start ≤ e.end) × (e.end ≤ start + 99999)
+    × AreLaid e.end es finish
+
+-- the parts have these bytes, from the first to the last, and no others
+abbrev pub IsLaid : List Entry → List ℕ → Type 0
+IsLaid es bytes = AreLaid 0 es (length bytes)
+
+are_laid_one_way : (start : ℕ) (es : List Entry) (finish : ℕ) → IsProp (AreLaid start es finish)
+are_laid_one_way start [] finish = Prim.hlevel props
+are_laid_one_way start (e ∷ es) finish = Prim.hlevel (props, are_laid_one_way e.end es finish)
+
+pub laid_one_way : (es : List Entry) (bytes : List ℕ) → IsProp (IsLaid es bytes)
+laid_one_way es bytes = are_laid_one_way 0 es (length bytes)
+
+-- the part that is lent, if one is
+abbrev pub viewed : Option Part → Option Portion
+viewed (Some part) = Some (view part)
+viewed None = None

@@ -1,0 +1,56 @@
+-- What is known of a file by its labels, and the numbers that fit a checkpoint.
+use Rattle.std.specs.Prelude.{◌≡◌, ℕ, ◌≤◌, Bool, true, false, not, Option, Some, None, is_some}
+use Rattle.tape_label.specs.declared.values.Format.{Format}
+use Rattle.tape_label.specs.declared.values.Format.TheVariants.{Fixed, Counted, Spanned}
+use Rattle.tape_label.specs.Formats.{least_record}
+use Rattle.tape_set.specs.declared.position.Position.{Position}
+use Rattle.tape_set.specs.declared.position.Position.TheVariants.{Awaits, Finished}
+use Rattle.tape_set.specs.Position.{is_start}
+use Rattle.tape_set.specs.Lawful.{FileForm, binding_len, most_blocks}
+
+-- The numbers are those that a second label may tell: a record length binds format F alone, and is
+-- 0 in the others.
+pub record IsForm (format : Format) (rec_len offset : ℕ) : Type 0 where
+  pub least : least_record format ≤ rec_len
+  pub binding : binding_len format rec_len ≡ rec_len
+  pub len_fits : rec_len ≤ 99999
+  pub offset_fits : offset ≤ 99
+
+-- whether records may run on from block to block
+abbrev pub is_spanned : Format → Bool
+is_spanned Fixed = false
+is_spanned Counted = false
+is_spanned Spanned = true
+
+-- whether records of this file may run on; of a file of which nothing is known none does
+abbrev pub may_span : Option FileForm → Bool
+may_span None = false
+may_span (Some form) = is_spanned form.format
+
+-- the numbers of a position have their digits: sections from 1 to 9,999, blocks up to
+-- 4,294,967,295, and a block has at most 99,999 parts
+abbrev pub PositionFits : Position → Type 0
+PositionFits (Awaits sect block part) = (1 ≤ sect) × (sect ≤ 9999) × (block ≤ most_blocks)
+    × (part ≤ 99999)
+PositionFits Finished = Unit {0}
+
+-- whether the file is complete
+abbrev pub is_finished : Position → Bool
+is_finished (Awaits sect block part) = false
+is_finished Finished = true
+
+-- Where a reader may stand: something is known of the file exactly where it is not at its start, a
+-- record is begun only where records may run on, and none is begun at the file's end.
+pub record StandFits (position : Position) (begun : Bool) (known : Option FileForm) : Type 0 where
+  pub numbers : PositionFits position
+  pub tells : is_some known ≡ not (is_start position)
+  pub spans : begun ≡ true → may_span known ≡ true
+  pub whole : is_finished position ≡ true → begun ≡ false
+
+-- files are numbered from 1 to 9,999
+abbrev pub IsFileNumber : ℕ → Type 0
+IsFileNumber file = (1 ≤ file) × (file ≤ 9999)
+
+-- the greatest weight of staged parts
+abbrev pub most_staged : ℕ
+most_staged = 999999999999999

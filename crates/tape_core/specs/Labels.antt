@@ -1,0 +1,44 @@
+-- Which blocks are taken for which labels, and how what labels tell is compared.
+use Rattle.std.specs.Prelude.{ℕ, ◌==◌, ◌&&◌, not, Bool, false, if◌then◌else◌, List, length, Option}
+use Rattle.std.specs.Prelude.{Some, None}
+use Rattle.std.specs.Str.{bytes_eq}
+use Rattle.tape_label.specs.declared.fault.LabelFault.{LabelFault}
+use Rattle.tape_label.specs.declared.fault.LabelFault.TheVariants as faults
+use Rattle.tape_label.specs.declared.values.Head1.{Head1}
+use Rattle.tape_label.specs.declared.values.Head2.{Head2}
+use Rattle.tape_label.specs.Formats.{letter}
+use Rattle.tape_set.specs.Lawful.{FileForm, binding_len}
+use Rattle.tape_core.specs.declared.phase.Heading.{Heading}
+
+-- the fault of a block that is not of the kind that is expected
+abbrev pub not_of_kind : List ℕ → LabelFault
+not_of_kind block = if length block == 80 then faults.Identifier else faults.NotEighty
+
+-- what is kept of an HDR1 while its section is under way
+abbrev pub heading_of : Head1 → Heading
+heading_of h = record { sequence = h.sequence; sect = h.sect; file_id = h.file_id }
+
+-- what the labels of a section tell of its file
+abbrev pub form_at : Heading → Head2 → FileForm
+form_at heading g =
+    record {
+      file_id = heading.file_id;
+      format = g.format;
+      rec_len = binding_len g.format g.rec_len;
+      offset = g.offset;
+    }
+
+-- something is known of the file, and this is another file identifier
+abbrev pub other_file_id : Option FileForm → List ℕ → Bool
+other_file_id None file_id = false
+other_file_id (Some known) file_id = not (bytes_eq known.file_id file_id)
+
+-- the record format, the record length that binds and the offset are the same
+abbrev pub same_shape : FileForm → FileForm → Bool
+same_shape a b = (letter a.format == letter b.format) && (a.rec_len == b.rec_len)
+    && (a.offset == b.offset)
+
+-- something is known of the file, and these are another format, record length or offset
+abbrev pub other_shape : Option FileForm → FileForm → Bool
+other_shape None form = false
+other_shape (Some known) form = not (same_shape known form)

@@ -1,0 +1,37 @@
+-- Where a reader stands from reel to reel, and for which parts.
+use Rattle.std.specs.Prelude.{◌≡◌, List}
+use Rattle.tape_blocks.specs.Block.{Portion}
+use Rattle.tape_set.specs.Layout.{FileSet}
+use Rattle.tape_set.specs.Before.{before}
+use Rattle.tape_core.specs.declared.phase.Phase.{Phase}
+use Rattle.tape_core.specs.declared.phase.Phase.TheVariants.{Over, Broken}
+use Rattle.tape_core.specs.State.{State}
+use Rattle.tape_core.specs.Point.{Point}
+use Rattle.tape_core.specs.Follows.{IsAt}
+
+-- what is kept of the phase: only whether it is broken
+abbrev pub resting : Phase → Phase
+resting Broken = Broken
+resting _ = Over
+
+-- the state with no reading under way
+abbrev pub rest_of : State → State
+rest_of core = record core { phase = resting core.phase }
+
+-- the state that a checkpoint tells
+abbrev pub place_of : Point → State
+place_of c =
+    record {
+      set_id = c.set_id;
+      file = c.file;
+      position = c.position;
+      begun = c.begun;
+      known =
+          c.known;
+      phase = Over;
+    }
+
+-- The reader stands in a file of the set, and these are the parts before it.
+pub record IsPlaced (set : FileSet) (core : State) (parts : List Portion) : Type 0 where
+  pub at : IsAt set core
+  pub all : parts ≡ before set core.file core.position

@@ -1,0 +1,44 @@
+-- Checkpoints that stand: what was delivered up to them.
+use Rattle.std.specs.Prelude.{◌≡◌, ℕ, ◌+◌, ◌&&◌, Bool, Result, Ok, List, [], ◌∷◌, length}
+use Rattle.tape_blocks.specs.Block.{Portion}
+use Rattle.tape_set.specs.declared.position.Position.{Position}
+use Rattle.tape_set.specs.Position.{at_part}
+use Rattle.tape_set.specs.Layout.{FileSet}
+use Rattle.tape_set.specs.Before.{before}
+use Rattle.tape_core.specs.Known.{may_span}
+use Rattle.tape_core.specs.Point.{Point}
+use Rattle.tape_core.specs.Follows.{StandsAt, IsAt}
+use Rattle.tape_core.specs.State.{State}
+use Rattle.tape_core.specs.declared.fault.CoreFault.{CoreFault}
+
+-- the weight of parts: 5 and its length for each
+abbrev pub weight_of : List Portion → ℕ
+weight_of [] = 0
+weight_of (p ∷ ps) = (5 + length p.bytes) + weight_of ps
+
+-- The checkpoint is one of this file of the set, these are the parts before its position, and it
+-- tells their weight.
+pub record Stands (set : FileSet) (number : ℕ) (point : Point) (parts : List Portion) : Type 0 where
+  pub of_set : point.set_id ≡ set.set_id
+  pub of_file : point.file ≡ number
+  pub there : StandsAt set number point.position point.begun point.known
+  pub all : parts ≡ before set number point.position
+  pub staged : point.staged ≡ weight_of parts
+
+-- the checkpoint of the file where so many parts were delivered of the block that p awaits
+abbrev pub inside_block : Point → Position → ℕ → Bool → ℕ → Point
+inside_block point p part begun staged =
+    record point {
+      position = at_part part p;
+      begun = begun && may_span point.known;
+      staged =
+          staged;
+    }
+
+-- The reader went to where the checkpoint stands.
+pub record Went (set : FileSet) (old : State) (point : Point)
+    (out : Result (Unit {0}) CoreFault × State) : Type 0 where
+  pub taken : out.0 ≡ Ok tt
+  pub at : IsAt set out.1
+  pub same_file : out.1.file ≡ old.file
+  pub position : out.1.position ≡ point.position

@@ -1,0 +1,41 @@
+-- A reader's state, as contracts see it.
+use Rattle.std.specs.Prelude.{◌≡◌, ℕ, Bool, true, false, List, Option, Some, None}
+use Rattle.tape_set.specs.declared.position.Position.{Position}
+use Rattle.tape_set.specs.Lawful.{FileForm}
+use Rattle.tape_core.specs.declared.phase.Phase.{Phase}
+use Rattle.tape_core.specs.declared.phase.Phase.TheVariants.{Broken, Headers, DataWanted}
+use Rattle.tape_core.specs.declared.phase.Phase.TheVariants.{TrailerWanted}
+use Rattle.tape_core.specs.Known.{StandFits, IsFileNumber, is_spanned}
+
+pub record State : Type 0 where
+  pub set_id : List ℕ
+  pub file : ℕ
+  pub position : Position
+  pub begun : Bool
+  pub known : Option FileForm
+  pub phase : Phase
+
+-- whether nothing is read until a restart
+abbrev pub is_broken : Phase → Bool
+is_broken Broken = true
+is_broken _ = false
+
+-- the form that the labels of the section awaited told, where they were read
+abbrev pub told : Phase → Option FileForm
+told (Headers heading wanted) = wanted
+told (DataWanted heading form seen) = Some form
+told (TrailerWanted heading form) = Some form
+told _ = None
+
+-- a record that is begun may run on by what the labels told, if they were read
+abbrev pub ToldFits : Bool → Option FileForm → Type 0
+ToldFits begun None = Unit {0}
+ToldFits begun (Some form) = begun ≡ true → is_spanned form.format ≡ true
+
+-- What is true of every reader: its file has a number, it stands where a reader may stand, and
+-- where a record is begun the labels that were read since tell that records may run on.
+pub record IsState (file : ℕ) (position : Position) (begun : Bool) (known : Option FileForm)
+    (phase : Phase) : Type 0 where
+  pub numbered : IsFileNumber file
+  pub stands : StandFits position begun known
+  pub told_fits : ToldFits begun (told phase)

@@ -1,0 +1,319 @@
+-- What the reader answers to each item, and the state that it goes on in.
+use Rattle.std.specs.Prelude.{◌≡◌, ℕ, ◌+◌, ◌==◌, nat_lt, ◌&&◌, not, Bool, true, false}
+use Rattle.std.specs.Prelude.{if◌then◌else◌, List, Option, Some, None, Result, Ok, Err}
+use Rattle.std.specs.Str.{bytes_eq}
+use Rattle.tape_image.specs.Tape.{TapeItem, block, bad, mark}
+use Rattle.tape_label.specs.declared.fault.LabelFault.{LabelFault}
+use Rattle.tape_label.specs.declared.fault.LabelFault.TheVariants as faults
+use Rattle.tape_label.specs.declared.values.Kind.{Kind}
+use Rattle.tape_label.specs.declared.values.Kind.TheVariants as kinds
+use Rattle.tape_label.specs.declared.values.Head1.{Head1}
+use Rattle.tape_label.specs.declared.values.Head2.{Head2}
+use Rattle.tape_label.specs.declared.values.Trail1.{Trail1}
+use Rattle.tape_label.specs.Kinds.{kind_at}
+use Rattle.tape_label.specs.Reading.{head1_at, head2_at, trail1_at}
+use Rattle.tape_blocks.specs.declared.fault.BlockFault.{BlockFault}
+use Rattle.tape_blocks.specs.declared.shape.Shape.{Shape}
+use Rattle.tape_blocks.specs.Judged.{judged}
+use Rattle.tape_set.specs.declared.position.Position.{Position}
+use Rattle.tape_set.specs.declared.position.Position.TheVariants.{Awaits, Finished}
+use Rattle.tape_set.specs.Position.{start, next_block, next_section, sect_of, block_of, part_of}
+use Rattle.tape_set.specs.Lawful.{FileForm, label_count, most_blocks}
+use Rattle.tape_core.specs.declared.answer.Answer.{Answer}
+use Rattle.tape_core.specs.declared.answer.Answer.TheVariants.{Passed, Deliver, SectionDone}
+use Rattle.tape_core.specs.declared.answer.Answer.TheVariants.{Complete, Useless}
+use Rattle.tape_core.specs.declared.answer.Reason.{Reason}
+use Rattle.tape_core.specs.declared.answer.Reason.TheVariants as reasons
+use Rattle.tape_core.specs.declared.answer.Reason.TheVariants.{NotLabelled, OtherSet, NotOnReel}
+use Rattle.tape_core.specs.declared.answer.Reason.TheVariants.{LaterSection, EarlierSection}
+use Rattle.tape_core.specs.declared.answer.Reason.TheVariants.{BadItem, ReelEnded, BadBlock}
+use Rattle.tape_core.specs.declared.answer.Reason.TheVariants.{BlockCount, SpanLeft, SectionDiffers}
+use Rattle.tape_core.specs.declared.answer.Reason.TheVariants.{BadLabel}
+use Rattle.tape_core.specs.declared.phase.Heading.{Heading}
+use Rattle.tape_core.specs.declared.phase.Phase.{Phase}
+use Rattle.tape_core.specs.declared.phase.Phase.TheVariants.{Over, Broken, Volume, VolumeLabels}
+use Rattle.tape_core.specs.declared.phase.Phase.TheVariants.{Header2, Headers, DataPassed}
+use Rattle.tape_core.specs.declared.phase.Phase.TheVariants.{DataWanted, TrailerPassed}
+use Rattle.tape_core.specs.declared.phase.Phase.TheVariants.{TrailerWanted, Trailers, NextFile}
+use Rattle.tape_label.specs.VolumeLabels.{is_volume_label}
+use Rattle.tape_core.specs.Labels.{not_of_kind, heading_of, form_at, other_file_id, other_shape}
+use Rattle.tape_core.specs.declared.fault.CoreFault.{CoreFault}
+use Rattle.tape_core.specs.declared.fault.CoreFault.TheVariants.{OtherFile}
+use Rattle.tape_core.specs.Parts.{begun_before, other_front}
+use Rattle.tape_core.specs.Point.{Point}
+use Rattle.tape_core.specs.State.{State}
+
+-- ---- answers
+
+-- an answer, and the state after it
+abbrev pub Outcome : Type 0
+Outcome = Answer × State
+
+-- something else is expected next, and the position stays
+abbrev pub in_phase : State → Phase → State
+in_phase core phase = record core { phase = phase }
+
+-- what came was expected, and now this is
+abbrev pub passed : State → Phase → Outcome
+passed core phase = (Passed, in_phase core phase)
+
+-- the reading is over, at the position as it is
+abbrev pub useless : State → Reason → Outcome
+useless core why = (Useless why, in_phase core Over)
+
+-- the same, and no reading goes on until a restart
+abbrev pub broken : State → Reason → Outcome
+broken core why = (Useless why, in_phase core Broken)
+
+-- the position, with what is begun and known there
+abbrev pub moved_to : State → Position → Bool → FileForm → Phase → State
+moved_to core position begun form phase =
+    record core { position = position; begun = begun; known = Some form; phase = phase }
+
+-- ---- the rules, in the order in which a volume stands
+
+-- VOL1 is expected, and any other block is no front of a labelled volume
+abbrev pub first_label : State → Option Kind → Outcome
+first_label core (Some kinds.Vol1) = passed core VolumeLabels
+first_label core _ = useless core NotLabelled
+
+-- HDR1: set, file, section and file identifier are compared, in this order; a section of an earlier
+-- file is passed over
+abbrev pub at_head1 : State → Result Head1 LabelFault → Outcome
+at_head1 core (Err fault) = useless core (BadLabel fault)
+at_head1 core (Ok h) =
+    if not (bytes_eq h.set_id core.set_id) then useless core OtherSet
+    else if nat_lt h.sequence core.file then passed core (Header2 (heading_of h) false)
+    else if nat_lt core.file h.sequence then useless core NotOnReel
+    else if nat_lt h.sect (sect_of core.position) then useless core EarlierSection
+    else if nat_lt (sect_of core.position) h.sect then useless core LaterSection
+    else if other_file_id core.known h.file_id then useless core SectionDiffers
+    else passed core (Header2 (heading_of h) true)
+
+-- HDR1 of the volume's first section is expected
+abbrev pub first_labels : State → List ℕ → Option Kind → Outcome
+first_labels core bytes (Some kinds.Hdr1) = at_head1 core (head1_at bytes)
+first_labels core bytes _ = useless core NotLabelled
+
+-- HDR2 of the section awaited: format, record length and offset are those that are known
+abbrev pub at_head2 : State → Heading → Result Head2 LabelFault → Outcome
+at_head2 core heading (Err fault) = useless core (BadLabel fault)
+at_head2 core heading (Ok g) =
+    if other_shape core.known (form_at heading g) then useless core SectionDiffers
+    else passed core (Headers heading (Some (form_at heading g)))
+
+-- HDR2 is expected, and of a section passed over its kind alone is looked at
+abbrev pub second_label : State → Heading → Bool → List ℕ → Option Kind → Outcome
+second_label core heading false bytes (Some kinds.Hdr2) = passed core (Headers heading None)
+second_label core heading true bytes (Some kinds.Hdr2) = at_head2 core heading (head2_at bytes)
+second_label core heading wanted bytes _ = useless core (BadLabel (not_of_kind bytes))
+
+-- the mark behind the headers: data follow, of the section awaited or of one passed over
+abbrev pub data_phase : Heading → Option FileForm → Phase
+data_phase heading None = DataPassed heading
+data_phase heading (Some form) = DataWanted heading form 0
+
+-- the block awaited is the next one of the file
+abbrev pub delivered : State → Heading → FileForm → Bool → Outcome
+delivered core heading form end =
+    let behind = DataWanted heading form (block_of core.position + 1) in
+    (Deliver, moved_to core (next_block core.position) end form behind)
+
+-- the block awaited, by what its check found; it may not be another than the one of which some
+-- parts were delivered
+abbrev pub at_judged : State → Heading → FileForm → List ℕ → Result Bool BlockFault → Outcome
+at_judged core heading form bytes (Err fault) = useless core (BadBlock fault)
+at_judged core heading form bytes (Ok end) =
+    if other_front form (part_of core.position) core.begun bytes then useless core SectionDiffers
+    else delivered core heading form end
+
+-- the block awaited is checked, and behind the greatest number there is none
+abbrev pub at_awaited : State → Heading → FileForm → List ℕ → Outcome
+at_awaited core heading form bytes =
+    if not (nat_lt (block_of core.position) most_blocks) then useless core SectionDiffers
+    else at_judged core heading form bytes (judged form.format form.rec_len form.offset
+    (begun_before form (part_of core.position) core.begun bytes) bytes)
+
+-- a block of the section awaited: one that was delivered before is passed
+abbrev pub at_data : State → Heading → FileForm → ℕ → List ℕ → Outcome
+at_data core heading form seen bytes =
+    if nat_lt seen (block_of core.position) then passed core (DataWanted heading form (seen + 1))
+    else at_awaited core heading form bytes
+
+-- an item that could not be read: one that was delivered before is passed
+abbrev pub at_bad_data : State → Heading → FileForm → ℕ → Outcome
+at_bad_data core heading form seen =
+    if nat_lt seen (block_of core.position) then passed core (DataWanted heading form (seen + 1))
+    else useless core BadItem
+
+-- the mark behind the data: no block that was delivered before may be missing
+abbrev pub at_data_end : State → Heading → FileForm → ℕ → Outcome
+at_data_end core heading form seen =
+    if nat_lt seen (block_of core.position) then useless core SectionDiffers
+    else passed core (TrailerWanted heading form)
+
+-- the trailer has other numbers than the header
+abbrev pub other_numbers : Heading → Trail1 → Bool
+other_numbers heading t =
+    not ((t.head.sequence == heading.sequence) && (t.head.sect == heading.sect))
+
+-- the trailer of a section passed over: its numbers are those of the header
+abbrev pub at_passed_trailer : State → Heading → Result Trail1 LabelFault → Outcome
+at_passed_trailer core heading (Err fault) = useless core (BadLabel fault)
+at_passed_trailer core heading (Ok t) =
+    if other_numbers heading t then useless core SectionDiffers
+    else passed core Trailers
+
+-- EOF1 ends the file, which leaves no record begun; EOV1 ends the section, and the next one has a
+-- number
+abbrev pub at_end : State → FileForm → Bool → Outcome
+at_end core form true =
+    if core.begun then useless core SpanLeft
+    else (Complete, moved_to core Finished false form Over)
+at_end core form false =
+    if not (nat_lt (sect_of core.position) 9999) then useless core SectionDiffers
+    else (SectionDone, moved_to core (next_section core.position) core.begun form Over)
+
+-- the trailer of the section awaited, of which all blocks were seen: its numbers, then its count
+abbrev pub at_wanted_trailer :
+    State → Heading → FileForm → Result Trail1 LabelFault → Outcome
+at_wanted_trailer core heading form (Err fault) = useless core (BadLabel fault)
+at_wanted_trailer core heading form (Ok t) =
+    if other_numbers heading t then useless core SectionDiffers
+    else if not (t.blocks == label_count (block_of core.position))
+    then broken core (BlockCount t.blocks (block_of core.position))
+    else at_end core form t.eof
+
+-- ---- the table: what comes, by what is expected
+
+-- a block
+abbrev pub at_block : State → Phase → List ℕ → Outcome
+at_block core Over bytes = useless core ReelEnded
+at_block core Broken bytes = broken core reasons.Broken
+at_block core Volume bytes = first_label core (kind_at bytes)
+at_block core VolumeLabels bytes =
+    if is_volume_label bytes then passed core VolumeLabels
+    else first_labels core bytes (kind_at bytes)
+at_block core (Header2 heading wanted) bytes =
+    second_label core heading wanted bytes (kind_at bytes)
+at_block core (Headers heading wanted) bytes = passed core (Headers heading wanted)
+at_block core (DataPassed heading) bytes = passed core (DataPassed heading)
+at_block core (DataWanted heading form seen) bytes = at_data core heading form seen bytes
+at_block core (TrailerPassed heading) bytes = at_passed_trailer core heading (trail1_at bytes)
+at_block core (TrailerWanted heading form) bytes =
+    at_wanted_trailer core heading form (trail1_at bytes)
+at_block core Trailers bytes = passed core Trailers
+at_block core NextFile bytes = at_head1 core (head1_at bytes)
+
+-- a tape mark
+abbrev pub at_mark : State → Phase → Outcome
+at_mark core Over = useless core ReelEnded
+at_mark core Broken = broken core reasons.Broken
+at_mark core Volume = useless core NotLabelled
+at_mark core VolumeLabels = useless core NotLabelled
+at_mark core (Header2 heading wanted) = useless core (BadLabel faults.Identifier)
+at_mark core (Headers heading wanted) = passed core (data_phase heading wanted)
+at_mark core (DataPassed heading) = passed core (TrailerPassed heading)
+at_mark core (DataWanted heading form seen) = at_data_end core heading form seen
+at_mark core (TrailerPassed heading) = useless core (BadLabel faults.Identifier)
+at_mark core (TrailerWanted heading form) = useless core (BadLabel faults.Identifier)
+at_mark core Trailers = passed core NextFile
+at_mark core NextFile = useless core NotOnReel
+
+-- an item that could not be read
+abbrev pub at_bad : State → Phase → Outcome
+at_bad core Over = useless core ReelEnded
+at_bad core Broken = broken core reasons.Broken
+at_bad core (DataPassed heading) = passed core (DataPassed heading)
+at_bad core (DataWanted heading form seen) = at_bad_data core heading form seen
+at_bad core _ = useless core BadItem
+
+-- the end of the reel
+abbrev pub at_reel_end : State → Phase → Outcome
+at_reel_end core Broken = broken core reasons.Broken
+at_reel_end core _ = useless core ReelEnded
+
+-- an item of the reel
+abbrev pub at_item : State → Phase → TapeItem → Outcome
+at_item core phase (block bytes) = at_block core phase bytes
+at_item core phase mark = at_mark core phase
+at_item core phase bad = at_bad core phase
+
+-- an item, or the end of the reel
+abbrev pub at_arrival : State → Phase → Option TapeItem → Outcome
+at_arrival core phase None = at_reel_end core phase
+at_arrival core phase (Some item) = at_item core phase item
+
+-- a file that is complete stays so, whatever comes
+abbrev pub unless_complete : State → Position → Outcome → Outcome
+unless_complete core Finished other = (Complete, core)
+unless_complete core (Awaits sect b part) other = other
+
+-- one step: what comes is an item, or none at the reel's end
+abbrev pub step_of : State → Option TapeItem → Outcome
+step_of core arrived = unless_complete core core.position (at_arrival core core.phase arrived)
+
+-- ---- the other calls
+
+-- a reader of a file that begins
+abbrev pub reader_of : List ℕ → ℕ → State
+reader_of set_id file = record {
+  set_id = set_id;
+  file = file;
+  position = start;
+  begun = false;
+  known = None;
+  phase = Over;
+}
+
+-- what is expected first on a reel
+abbrev pub mounted : Phase → Position → Phase
+mounted Broken p = Broken
+mounted _ Finished = Over
+mounted _ (Awaits sect b part) = Volume
+
+abbrev pub mount_of : State → State
+mount_of core = in_phase core (mounted core.phase core.position)
+
+-- the shape binds a reader as the form does
+pub record IsShapeOf (form : FileForm) (shape : Shape) : Type 0 where
+  pub format : shape.format ≡ form.format
+  pub rec_len : shape.rec_len ≡ form.rec_len
+  pub offset : shape.offset ≡ form.offset
+  pub block_len : shape.block_len ≡ 0
+  pub pad_full : shape.pad_full ≡ false
+
+-- the shape is that of what is known, and there is none where nothing is
+abbrev pub Shows : Option FileForm → Option Shape → Type 0
+Shows None None = Unit {0}
+Shows (Some form) (Some shape) = IsShapeOf form shape
+Shows _ _ = ⊥
+
+-- the checkpoint of where the reader stands, with the weight of the parts kept
+abbrev pub saved : State → ℕ → Point
+saved core staged = record {
+  set_id = core.set_id;
+  file = core.file;
+  position = core.position;
+  begun = core.begun;
+  known = core.known;
+  staged = staged;
+}
+
+-- the reader where the checkpoint stands, with no reading under way
+abbrev pub restarted : State → Point → State
+restarted core point = record core {
+  position = point.position;
+  begun = point.begun;
+  known = point.known;
+  phase = Over;
+}
+
+-- whether the checkpoint is one of the reader's set and file
+abbrev pub is_of_file : State → Point → Bool
+is_of_file core point = bytes_eq core.set_id point.set_id && (core.file == point.file)
+
+-- a checkpoint of another set or file is refused, and changes nothing
+abbrev pub restart_of : State → Point → Result (Unit {0}) CoreFault × State
+restart_of core point = if is_of_file core point then (Ok tt, restarted core point)
+    else (Err OtherFile, core)

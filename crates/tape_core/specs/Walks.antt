@@ -1,0 +1,41 @@
+-- What a sink gives back.
+use Rattle.std.specs.Prelude.{◌≡◌, ℕ, ◌<◌, ◌≤◌, length, List, [], ◌∷◌, Option, Some, None, Result}
+use Rattle.std.specs.Prelude.{Ok, Err}
+use Rattle.tape_blocks.specs.declared.part.Part.{Part}
+use Rattle.tape_blocks.specs.Block.{Portion}
+use Rattle.tape_blocks.specs.Parts.{view}
+use Rattle.tape_core.specs.Point.{Point}
+use Rattle.tape_core.specs.Weight.{Rose}
+use Rattle.tape_core.specs.declared.sink.SinkFault.{SinkFault}
+
+-- what was to come, by what was answered: nothing, the part given and others, or the same
+abbrev pub GivesPart : Result (Option Part) SinkFault → List Portion → (List Portion → Type 0)
+    → Type 0
+GivesPart (Ok None) parts Ahead = (parts ≡ []) × Ahead []
+GivesPart (Ok (Some part)) parts Ahead = (rest : List Portion) × (parts ≡ view part ∷ rest)
+    × Ahead rest
+GivesPart (Err fault) parts Ahead = Ahead parts
+
+-- the refused calls are counted, and no others
+abbrev pub Counts : Result (Option Part) SinkFault → ℕ → ℕ → Type 0
+Counts (Ok given) old new = new ≡ old
+Counts (Err fault) old new = Rose old new
+
+-- a part that was lent is short enough to be put, and less is left
+abbrev pub Lends : Result (Option Part) SinkFault → ℕ → ℕ → Type 0
+Lends (Ok (Some part)) old new = (length part.bytes.now ≤ 99999) × (new < old)
+Lends _ old new = Unit {0}
+
+-- The sink holds what it held, and gave the next of the parts that were to come, or was refused.
+pub record HasGiven {S : Type 0} (holds : S → List Portion → Type 0) (weighs refusals : S → ℕ)
+    (returns : S → Point → List Portion → Type 0) (survives : S → Type 0)
+    (ahead : S → List Portion → Type 0) (left : S → ℕ) (old : S)
+    (result : Result (Option Part) SinkFault) (new : S) : Type 0 where
+  pub kept : (parts : List Portion) → holds old parts → holds new parts
+  pub crash : (parts : List Portion) → holds old parts → (back : Point) (there : List Portion)
+      → returns new back there → returns old back there
+  pub after : (parts : List Portion) → holds old parts → survives old → survives new
+  pub same_weight : weighs new ≡ weighs old
+  pub gives : (parts : List Portion) → ahead old parts → GivesPart result parts (ahead new)
+  pub lends : Lends result (left old) (left new)
+  pub counts : Counts result (refusals old) (refusals new)

@@ -1,0 +1,217 @@
+//! A sink in memory.
+
+ghost use Rattle.std.specs.Prelude.{◌≡◌, ◌≤◌, ◌<◌, ◌-◌, ◌+◌, ◌*◌, ◌++◌, ◌∷◌, [], List, Some, drop};
+ghost use Rattle.std.specs.Prelude.{take, length, slice_get, OnOk, OnErr};
+ghost use Rattle.tape_blocks.specs.Block.{Portion};
+ghost use Rattle.tape_blocks.specs.Parts.{view};
+ghost use Rattle.tape_core.specs.Weight.{Rose, IsFront};
+ghost use Rattle.tape_core.specs.Known.{most_staged};
+ghost use Rattle.tape_core.specs.Stands.{weight_of};
+ghost use Rattle.tape_core.specs.Entries.{IsLaid, laid_one_way, end_from, viewed};
+
+use crate::checkpoint::Checkpoint;
+use crate::entry::Entry;
+use crate::range::MOST_STAGED;
+use crate::sink::{PartSink, PartWalk, SinkFault};
+use std::alloc::{AllocError, Global};
+use tape_blocks::Part;
+
+/// Keeps the parts in memory. After a crash nothing comes back of it.
+///
+/// All bytes lie in one piece of memory, and beside them, in another, an entry of 16 bytes for each
+/// part. Each piece grows by doubling.
+#[derive(Drop)]
+pub struct MemorySink {
+    /// The bytes of all parts, one part behind another.
+    bytes: Vec<u8>,
+    /// For each part its entry, in order.
+    entries: Vec<Entry>,
+    /// How many calls were refused.
+    refused: u64,
+    /// How many parts the walk under way has given.
+    given: usize,
+    ghost laid: { IsLaid entries.items bytes.items } by { laid_one_way entries.items bytes.items },
+    ghost light: { 5 * length entries.items + length bytes.items ≤ most_staged },
+}
+
+impl MemorySink {
+    ghost use Rattle.tape_core.specs.Memory.{portions};
+
+    /// An empty sink. It takes no memory.
+    pub fn new(alloc: Global) -> Self
+        ensures empty { portions result ≡ [] }
+    {
+        MemorySink {
+            bytes: Vec::new(alloc),
+            entries: Vec::new(alloc),
+            refused: 0,
+            given: 0,
+        }
+    }
+
+    /// How many parts are kept.
+    pub fn count(&self) -> usize
+        ensures { result ≡ length (portions self.now) }
+    {
+        self.entries.len()
+    }
+
+    /// The part of this number, counted from 0; `None` behind the last.
+    pub fn part(&self, number: usize) -> Option<Part<'_>>
+        ensures { viewed result ≡ slice_get (portions self.now) number }
+    {
+        if number < self.count() {
+            Some(self.lent(number))
+        } else {
+            None
+        }
+    }
+
+    /// The part of this number, lent.
+    fn lent(&self, number: usize) -> Part<'_>
+        requires { number < length (portions self.now) }
+        ensures value { slice_get (portions self.now) number ≡ Some (view result) }
+        ensures short { length result.bytes.now ≤ 99999 }
+    {
+        let start = self.end_of(number);
+        let entry = self.entries[number];
+        Part {
+            span: entry.span,
+            bytes: &self.bytes[start..entry.end],
+        }
+    }
+
+    /// Where the bytes of the first parts end, so many.
+    fn end_of(&self, number: usize) -> usize
+        requires { number ≤ length (portions self.now) }
+        ensures { result ≡ end_from 0 (take number self.now.entries.items) }
+    {
+        if number == 0 {
+            return 0;
+        }
+        self.entries[number - 1].end
+    }
+
+    /// What the first parts weigh, so many.
+    fn weight_to(&self, number: usize) -> u64
+        requires { number ≤ length (portions self.now) }
+        ensures value { result ≡ weight_of (take number (portions self.now)) }
+        ensures limit { result ≤ most_staged }
+    {
+        5 * number as u64 + self.end_of(number) as u64
+    }
+
+    /// How many of the first parts weigh together at most so much.
+    fn front(&self, most: u64) -> usize
+        ensures within { result ≤ length (portions self.now) }
+        ensures light { weight_of (take result (portions self.now)) ≤ most }
+        ensures front { (front : List Portion) → IsFront front (portions self.now)
+            → weight_of front ≡ most → take result (portions self.now) ≡ front }
+    {
+        let mut number = self.count();
+        while self.weight_to(number) > most {
+            number -= 1;
+        }
+        number
+    }
+
+    /// Adds a part behind the others, or nothing where there is no memory for it.
+    fn add(&mut self, part: Part<'_>) -> Result<(), AllocError>
+        requires short { length part.bytes.now ≤ 99999 }
+        requires light { weight_of (portions self.old) + (5 + length part.bytes.now)
+            ≤ most_staged }
+        ensures ok { OnOk result (portions self.new ≡ portions self.old ++ view part.entry ∷ []) }
+        ensures err { OnErr result (portions self.new ≡ portions self.old) }
+        ensures refused { self.new.refused ≡ self.old.refused }
+    {
+        let end = self.bytes.len();
+        self.bytes.extend_from_slice(part.bytes)?;
+        let entry = Entry {
+            span: part.span,
+            end: self.bytes.len(),
+        };
+        match self.entries.push(entry) {
+            Ok(()) => Ok(()),
+            Err(_) => {
+                self.bytes.truncate(end);
+                Err(AllocError)
+            }
+        }
+    }
+
+    /// Counts a refused call.
+    fn refuse(&mut self, fault: SinkFault) -> SinkFault
+        ensures fault { result ≡ fault }
+        ensures counted { Rose self.old.refused self.new.refused }
+        ensures kept { portions self.new ≡ portions self.old }
+    {
+        self.refused = self.refused.saturating_add(1);
+        fault
+    }
+}
+
+impl PartSink for MemorySink {
+    ghost use Rattle.tape_core.specs.Memory.{portions};
+
+    ghost holds = { λ sink parts. parts ≡ portions sink };
+
+    ghost weighs = { λ sink. weight_of (portions sink) };
+
+    ghost refusals = { λ sink. sink.refused };
+
+    ghost returns = { λ sink back there. ⊥ };
+
+    ghost survives = { λ sink. ⊥ };
+
+    fn put(&mut self, part: Part<'_>) -> Result<(), SinkFault> {
+        let heavy = 5 + part.bytes.len() as u64;
+        if heavy > MOST_STAGED - self.weight() {
+            return Err(self.refuse(SinkFault::Full));
+        }
+        match self.add(part) {
+            Ok(()) => {
+                self.given = 0;
+                Ok(())
+            }
+            Err(_) => Err(self.refuse(SinkFault::OutOfMemory)),
+        }
+    }
+
+    fn cut_to(&mut self, point: &Checkpoint) -> Result<(), SinkFault> {
+        let number = self.front(point.staged);
+        let end = self.end_of(number);
+        self.entries.truncate(number);
+        self.bytes.truncate(end);
+        self.given = 0;
+        Ok(())
+    }
+
+    fn keep(&mut self, _point: &Checkpoint) -> Result<(), SinkFault> {
+        Ok(())
+    }
+
+    fn weight(&self) -> u64 {
+        self.weight_to(self.count())
+    }
+}
+
+impl PartWalk for MemorySink {
+    ghost use Rattle.tape_core.specs.Memory.{portions};
+
+    ghost ahead = { λ sink parts. parts ≡ drop sink.given (portions sink) };
+
+    ghost left = { λ sink. length (portions sink) - sink.given };
+
+    fn rewind(&mut self) {
+        self.given = 0;
+    }
+
+    fn next_part(&mut self) -> Result<Option<Part<'_>>, SinkFault> {
+        let given = self.given;
+        if given >= self.count() {
+            return Ok(None);
+        }
+        self.given += 1;
+        Ok(Some(self.lent(given)))
+    }
+}

@@ -1,0 +1,98 @@
+//! A sink that refuses one call, for tests.
+
+ghost use Rattle.std.specs.Prelude.{◌≡◌, ◌↔◌, ◌<◌, ◌+◌, IsTrue};
+ghost use Rattle.std.specs.Bool.{OnTrue, OnFalse};
+ghost use Rattle.tape_core.specs.Weight.{Rose};
+
+use crate::checkpoint::Checkpoint;
+use crate::sink::{PartSink, SinkFault};
+use tape_blocks::Part;
+
+/// Passes each call of a sink on to another, but for one that it refuses: `put` and `keep` with
+/// `Device`, `cut_to` with `Failed`. A refused call leaves the sink within.
+#[derive(Drop)]
+pub struct Refusing<S> {
+    /// The sink within.
+    inner: S,
+    /// How many calls come before the one that is refused.
+    left: usize,
+    /// How many calls were refused here.
+    refused: u64,
+}
+
+impl<S: PartSink> Refusing<S> {
+    /// Refuses the call after the next `left`, and no other.
+    pub fn new(inner: S, left: usize) -> Self
+        ensures inner { result.inner ≡ inner }
+        ensures left { result.left ≡ left }
+        ensures refused { result.refused ≡ 0 }
+    {
+        Refusing {
+            inner,
+            left,
+            refused: 0,
+        }
+    }
+
+    /// The sink within.
+    pub fn inner(&self) -> &S
+        ensures { result.now ≡ self.now.inner }
+    {
+        &self.inner
+    }
+
+    /// Whether this call is the one.
+    fn is_refused(&mut self) -> bool
+        ensures inner { self.new.inner ≡ self.old.inner }
+        ensures due { IsTrue result ↔ (self.old.left ≡ 0) }
+        ensures next { OnTrue result (0 < self.new.left) }
+        ensures left { OnFalse result (self.new.left + 1 ≡ self.old.left) }
+        ensures yes { OnTrue result (Rose self.old.refused self.new.refused) }
+        ensures no { OnFalse result (self.new.refused ≡ self.old.refused) }
+    {
+        if self.left == 0 {
+            self.left = usize::MAX;
+            self.refused = self.refused.saturating_add(1);
+            return true;
+        }
+        self.left -= 1;
+        false
+    }
+}
+
+impl<S: PartSink> PartSink for Refusing<S> {
+    ghost holds = { λ sink parts. S.holds sink.inner parts };
+
+    ghost weighs = { λ sink. S.weighs sink.inner };
+
+    ghost refusals = { λ sink. S.refusals sink.inner + sink.refused };
+
+    ghost returns = { λ sink back there. S.returns sink.inner back there };
+
+    ghost survives = { λ sink. S.survives sink.inner };
+
+    fn put(&mut self, part: Part<'_>) -> Result<(), SinkFault> {
+        if self.is_refused() {
+            return Err(SinkFault::Device);
+        }
+        self.inner.put(part)
+    }
+
+    fn cut_to(&mut self, point: &Checkpoint) -> Result<(), SinkFault> {
+        if self.is_refused() {
+            return Err(SinkFault::Failed);
+        }
+        self.inner.cut_to(point)
+    }
+
+    fn keep(&mut self, point: &Checkpoint) -> Result<(), SinkFault> {
+        if self.is_refused() {
+            return Err(SinkFault::Device);
+        }
+        self.inner.keep(point)
+    }
+
+    fn weight(&self) -> u64 {
+        self.inner.weight()
+    }
+}

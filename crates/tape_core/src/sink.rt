@@ -1,0 +1,173 @@
+//! Where the parts of a file go, and how they come back.
+
+ghost use Rattle.std.specs.Prelude.{◌≡◌, ◌≢◌, ◌<◌, ◌≤◌, ◌+◌, ◌++◌, ◌∷◌, [], ℕ, List, length, OnOk};
+ghost use Rattle.std.specs.Prelude.{OnErr, IfErr, Err};
+ghost use Rattle.std.specs.Borrow.{sem};
+ghost use Rattle.std.specs.Io.BufRead.{Rests};
+ghost use Rattle.tape_blocks.specs.Block.{Portion};
+ghost use Rattle.tape_blocks.specs.Parts.{view};
+ghost use Rattle.tape_core.specs.Weight.{Rose};
+ghost use Rattle.tape_core.specs.Crash.{NoMore, OrThis, OnlyThis};
+ghost use Rattle.tape_core.specs.Walks.{HasGiven};
+ghost use Rattle.tape_core.specs.Known.{most_staged};
+ghost use Rattle.tape_core.specs.Point.{Point};
+ghost use Rattle.tape_core.specs.Stands.{weight_of};
+ghost use Rattle.tape_core.specs.Faults.{sink_fault_number};
+
+use crate::checkpoint::Checkpoint;
+use tape_blocks::Part;
+use thiserror::Error;
+
+/// Why a sink refused a call.
+#[derive(Clone, Copy, Debug, PartialEq, Eq, Error)]
+pub enum SinkFault {
+    /// There was no memory for the part.
+    #[error("out of memory")]
+    OutOfMemory,
+    /// The device behind the sink failed in this call.
+    #[error("the sink's device failed")]
+    Device,
+    /// All parts would weigh more than 999,999,999,999,999.
+    #[error("the sink is full")]
+    Full,
+    /// An earlier call failed, and since then nothing is known of what is held.
+    #[error("the sink failed before")]
+    Failed,
+}
+
+impl SinkFault {
+    /// The fault's fixed number, from 1 for `OutOfMemory` to 4 for `Failed`.
+    pub fn number(&self) -> u8
+        ensures { result ≡ sink_fault_number self.now }
+    {
+        match self {
+            SinkFault::OutOfMemory => 1,
+            SinkFault::Device => 2,
+            SinkFault::Full => 3,
+            SinkFault::Failed => 4,
+        }
+    }
+}
+
+/// Takes the parts of a file, in order.
+///
+/// What a sink holds is said by a relation. Of a sink that cannot be believed nothing is held, and
+/// then nothing is promised but its weight and its count of refused calls.
+pub trait PartSink {
+    /// It holds these parts.
+    ghost holds: { Self → List Portion → Type 0 };
+
+    /// What it says that it weighs: a number of every sink.
+    ghost weighs: { Self → ℕ };
+
+    /// How many calls it refused.
+    ghost refusals: { Self → ℕ };
+
+    /// After a crash now it may come back with this checkpoint and these parts.
+    ghost returns: { Self → Point → List Portion → Type 0 };
+
+    /// Whatever a crash now leaves, it comes back with something.
+    ghost survives: { Self → Type 0 };
+
+    /// Adds a part of at most 99,999 bytes behind the others.
+    ///
+    /// # Errors
+    ///
+    /// `Full` where all parts would weigh more than 999,999,999,999,999; then what the sink's
+    /// memory or device refused. At every fault the sink holds what it held.
+    fn put(&mut self, part: Part<'_>) -> Result<(), SinkFault>
+        requires { length part.bytes.now ≤ 99999 }
+        ensures ok { OnOk result ((parts : List Portion) → holds self.old parts
+            → holds self.new (parts ++ view part.entry ∷ [])) }
+        ensures err { OnErr result ((parts : List Portion) → holds self.old parts
+            → holds self.new parts) }
+        ensures weight { OnOk result
+            (weighs self.new ≡ weighs self.old + (5 + length part.entry.bytes.now)) }
+        ensures same_weight { OnErr result (weighs self.new ≡ weighs self.old) }
+        ensures full { result ≡ Err SinkFault.Full
+            → most_staged < weighs self.old + (5 + length part.entry.bytes.now) }
+        ensures cause { OnErr result (Rose (refusals self.old) (refusals self.new)) }
+        ensures calm { OnOk result (refusals self.new ≡ refusals self.old) }
+        ensures crash { (parts : List Portion) → holds self.old parts → NoMore (returns self.old)
+            (returns self.new) }
+        ensures after { (parts : List Portion) → holds self.old parts → survives self.old
+            → survives self.new };
+
+    /// Keeps the first parts, those that weigh together what the checkpoint tells, and no others.
+    ///
+    /// # Errors
+    ///
+    /// What the sink's device refused. At every fault but `Device` the sink holds what it held.
+    fn cut_to(&mut self, point: &Checkpoint) -> Result<(), SinkFault>
+        requires { point.now.staged ≤ weighs self.old }
+        ensures weight { OnOk result (weighs self.new ≤ point.now.staged) }
+        ensures same_weight { OnErr result (weighs self.new ≡ weighs self.old) }
+        ensures ok { OnOk result ((front rest : List Portion) → holds self.old (front ++ rest)
+            → weight_of front ≡ point.now.staged → holds self.new front) }
+        ensures err { IfErr result (λ fault. fault ≢ SinkFault.Device → (parts : List Portion)
+            → holds self.old parts → holds self.new parts) }
+        ensures cause { OnErr result (Rose (refusals self.old) (refusals self.new)) }
+        ensures calm { OnOk result (refusals self.new ≡ refusals self.old) }
+        ensures crash { (front rest : List Portion) → holds self.old (front ++ rest)
+            → weight_of front ≡ point.now.staged → OrThis point.now front (returns self.old)
+            (returns self.new) }
+        ensures after { (front rest : List Portion) → holds self.old (front ++ rest)
+            → weight_of front ≡ point.now.staged → survives self.old → survives self.new };
+
+    /// Notes a checkpoint of all parts, where the sink outlives a crash.
+    ///
+    /// # Errors
+    ///
+    /// What the sink's device refused. The sink holds what it held.
+    fn keep(&mut self, point: &Checkpoint) -> Result<(), SinkFault>
+        requires { point.now.staged ≡ weighs self.old }
+        ensures same_weight { weighs self.new ≡ weighs self.old }
+        ensures same { (parts : List Portion) → holds self.old parts → holds self.new parts }
+        ensures cause { OnErr result (Rose (refusals self.old) (refusals self.new)) }
+        ensures calm { OnOk result (refusals self.new ≡ refusals self.old) }
+        ensures crash { (parts : List Portion) → holds self.old parts
+            → OrThis point.now parts (returns self.old) (returns self.new) }
+        ensures kept { OnOk result ((parts : List Portion) → holds self.old parts
+            → OnlyThis point.now parts (returns self.new)) }
+        ensures after { (parts : List Portion) → holds self.old parts → survives self.old
+            → survives self.new };
+
+    /// What the parts weigh: 5 for each, and one for each byte.
+    fn weight(&self) -> u64
+        ensures value { result ≡ weighs self.now }
+        ensures of { (parts : List Portion) → holds self.now parts → result ≡ weight_of parts }
+        ensures limit { result ≤ most_staged };
+}
+
+/// A sink whose parts can be read back.
+///
+/// A walk begins at the first part. After a `put` or a `cut_to` nothing is known of a walk that was
+/// under way, and `rewind` begins another.
+pub trait PartWalk: PartSink {
+    /// These parts are still to come.
+    ghost ahead: { Self → List Portion → Type 0 };
+
+    /// How much is still to come at most: a number of every sink.
+    ghost left: { Self → ℕ };
+
+    /// Begins again at the first part.
+    fn rewind(&mut self)
+        ensures keeps { (parts : List Portion) → Self.holds self.old parts
+            → Self.holds self.new parts }
+        ensures all { (parts : List Portion) → Self.holds self.old parts → ahead self.new parts }
+        ensures crash { (back : Point) (there : List Portion) → Self.returns self.new back there
+            → Self.returns self.old back there }
+        ensures after { Self.survives self.old → Self.survives self.new }
+        ensures same_weight { Self.weighs self.new ≡ Self.weighs self.old }
+        ensures calm { Self.refusals self.new ≡ Self.refusals self.old };
+
+    /// Lends the next part; `None` behind the last, and again from then on.
+    ///
+    /// # Errors
+    ///
+    /// What the sink's device refused. The same part is still to come.
+    fn next_part(&mut self) -> Result<Option<Part<'_>>, SinkFault>
+        ensures* after_borrow { sem 𝓛 (Rests Self.row self.entry (λ new.
+            HasGiven Self.holds Self.weighs Self.refusals Self.returns Self.survives Self.ahead
+            Self.left self.old result new)) };
+}
