@@ -1,0 +1,175 @@
+-- One more call.
+use Rattle.std.proofs.Common.{◌≡◌, ◌⊎◌, inl, inr, ℕ, zero, suc, ◌+◌, ◌≤◌, List, [], ◌∷◌, ◌++◌}
+use Rattle.std.proofs.Common.{length, take, drop, refl, sym, ◌∙◌, subst, arith, length-append}
+use Rattle.std.proofs.Common.{replicate, if◌then◌else◌}
+use Rattle.std.proofs.lemmas.List.{length-replicate}
+use Rattle.tape_stage.specs.Disk.{Elapses}
+use Rattle.std.proofs.Common.{Bool, true, false, ap}
+use Rattle.tape_stage.specs.Calls.{after, left_after, seen_by, left_by, since_by, IsImage, WasImage}
+use Rattle.tape_stage.specs.Calls.{Fits, AllFit, worst_after, worst_by, worst_longer, kept_or}
+use Rattle.tape_stage.specs.Calls.{IsRight}
+use Rattle.tape_stage.specs.declared.content.Call.{Call}
+
+pub seen_more : (seen : List ℕ) (calls : List Call) (call : Call)
+    → seen_by seen (calls ++ call ∷ []) ≡ after (seen_by seen calls) call
+seen_more seen [] call = refl
+seen_more seen (x ∷ calls) call = seen_more (after seen x) calls call
+
+left_more : (seen : List ℕ) (left : List ℕ → Type 0) (calls : List Call) (call : Call) (c : List ℕ)
+    → left_after (seen_by seen calls) (left_by seen left calls) call c
+    → left_by seen left (calls ++ call ∷ []) c
+left_more seen left [] call c now = now
+left_more seen left (x ∷ calls) call c now =
+    left_more (after seen x) (left_after seen left x) calls call c now
+
+left_back : (seen : List ℕ) (left : List ℕ → Type 0) (calls : List Call) (call : Call) (c : List ℕ)
+    → left_by seen left (calls ++ call ∷ []) c → left_after (seen_by seen calls)
+    (left_by seen left calls) call c
+left_back seen left [] call c now = now
+left_back seen left (x ∷ calls) call c now =
+    left_back (after seen x) (left_after seen left x) calls call c now
+
+since_keeps : (seen : List ℕ) (left : List ℕ → Type 0) (calls : List Call) (call : Call) (t : ℕ)
+    (c : List ℕ)
+    → since_by seen left calls t c → since_by seen left (calls ++ call ∷ []) t c
+since_keeps seen left [] call zero c was = inl was
+since_keeps seen left [] call (suc t) c was = absurd was
+since_keeps seen left (x ∷ calls) call zero c (inl was) = inl was
+since_keeps seen left (x ∷ calls) call zero c (inr was) =
+    inr (since_keeps (after seen x) (left_after seen left x) calls call zero c was)
+since_keeps seen left (x ∷ calls) call (suc t) c was =
+    since_keeps (after seen x) (left_after seen left x) calls call t c was
+
+since_else : (seen : List ℕ) (left : List ℕ → Type 0) (calls : List Call) (call : Call) (t : ℕ)
+    (c : List ℕ) → t ≤ length calls
+    → since_by seen left (calls ++ call ∷ []) t c → since_by seen left calls t c
+    ⊎ left_by seen left (calls ++ call ∷ []) c
+since_else seen left [] call zero c le (inl was) = inl was
+since_else seen left [] call zero c le (inr now) = inr now
+since_else seen left [] call (suc t) c le was = absurd (omega arith)
+since_else seen left (x ∷ calls) call zero c le (inl was) = inl (inl was)
+since_else seen left (x ∷ calls) call zero c le (inr was) =
+    elim (since_else (after seen x) (left_after seen left x) calls call zero c (omega arith) was)
+    [ inl here ↦ inl (inr here) | inr now ↦ inr now ]
+since_else seen left (x ∷ calls) call (suc t) c le was =
+    since_else (after seen x) (left_after seen left x) calls call t c (omega arith) was
+
+-- a call that left this of what a read gives
+pub image_more : (first bytes : List ℕ) (calls : List Call) (call : Call) (c : List ℕ)
+    → seen_by first calls ≡ bytes
+    → left_after bytes (IsImage first calls) call c → IsImage first (calls ++ call ∷ []) c
+image_more first bytes calls call c is now =
+    left_more first (λ d. d ≡ first) calls call c
+    (subst (λ (b : List ℕ). left_after b (IsImage first calls) call c) (sym is) now)
+
+pub image_back : (first bytes : List ℕ) (calls : List Call) (call : Call) (c : List ℕ)
+    → seen_by first calls ≡ bytes
+    → IsImage first (calls ++ call ∷ []) c → left_after bytes (IsImage first calls) call c
+image_back first bytes calls call c is now =
+    subst (λ (b : List ℕ). left_after b (IsImage first calls) call c) is
+    (left_back first (λ d. d ≡ first) calls call c now)
+
+pub elapses_more : (first : List ℕ) (calls : List Call) (call : Call)
+    → Elapses (length calls) (length (calls ++ call ∷ [])) (WasImage first calls)
+    (WasImage first (calls ++ call ∷ [])) (IsImage first (calls ++ call ∷ []))
+elapses_more first calls call = record {
+  later = omega (arith, length-append calls (call ∷ []));
+  nothing_else = λ t c le was. since_else first (λ d. d ≡ first) calls call t c le was;
+  keeps = λ t c le was. since_keeps first (λ d. d ≡ first) calls call t c was;
+}
+
+pub elapses_none : (first : List ℕ) (calls : List Call)
+    → Elapses (length calls) (length calls) (WasImage first calls) (WasImage first calls)
+    (IsImage first calls)
+elapses_none first calls = record {
+  later = omega arith;
+  nothing_else =
+      λ t c le was. inl was;
+  keeps = λ t c le was. was;
+}
+
+worst_more : (seen worst : List ℕ) (calls : List Call) (call : Call) → worst_by seen worst
+    (calls ++ call ∷ []) ≡ worst_after (seen_by seen calls) (worst_by seen worst calls) call
+worst_more seen worst [] call = refl
+worst_more seen worst (x ∷ calls) call =
+    worst_more (after seen x) (worst_after seen worst x) calls call
+
+fit_more : (seen : List ℕ) (calls : List Call) (call : Call) → AllFit seen calls
+    → Fits (seen_by seen calls) call → AllFit seen (calls ++ call ∷ [])
+fit_more seen [] call fit fits = (fits, tt)
+fit_more seen (x ∷ calls) call fit fits = (fit.0, fit_more (after seen x) calls call fit.1 fits)
+
+one_more : (first worst bytes : List ℕ) (calls : List Call) (call : Call)
+    → IsRight first worst bytes calls → Fits bytes call
+    → IsRight first (worst_after bytes worst call) (after bytes call) (calls ++ call ∷ [])
+one_more first worst bytes calls call right fits = record {
+  seen = seen_more first calls call ∙ ap (λ (b : List ℕ). after b call) right.seen;
+  fit = fit_more first calls call right.fit (subst (λ (b : List ℕ). Fits b call) (sym right.seen)
+      fits);
+  worst_is =
+      worst_more first first calls call ∙ ap (λ (b : List ℕ). worst_after b
+      (worst_by first first calls) call) right.seen ∙ ap (λ (w : List ℕ). worst_after bytes w call)
+      right.worst_is;
+  no_longer = worst_longer bytes worst call fits right.no_longer;
+}
+
+pub right_more : (changed : Bool) (first worst worst' bytes bytes' : List ℕ)
+    (calls calls' : List Call) (call : Call) → changed ≡ true
+    → IsRight (kept_or changed first bytes) (kept_or changed worst bytes) bytes calls
+    → Fits bytes call
+    → calls' ≡ calls ++ call ∷ [] → bytes' ≡ after bytes call → worst' ≡ worst_after bytes worst
+    call
+    → IsRight (kept_or changed first bytes') (kept_or changed worst' bytes') bytes' calls'
+right_more false first worst worst' bytes bytes' calls calls' call is right fits c b w = absurd (cc)
+right_more true first worst worst' bytes bytes' calls calls' call is right fits c b w =
+    subst (λ (l : List Call). IsRight first worst' bytes' l) (sym c)
+    (subst (λ (l : List ℕ). IsRight first worst' l (calls ++ call ∷ [])) (sym b)
+    (subst (λ (l : List ℕ). IsRight first l (after bytes call) (calls ++ call ∷ [])) (sym w)
+    (one_more first worst bytes calls call right fits)))
+
+-- a call that only looks
+pub right_looked : (first worst bytes : List ℕ) (calls calls' : List Call) (call : Call)
+    → (after bytes call ≡ bytes) → (worst_after bytes worst call ≡ worst) → Fits bytes call
+    → IsRight first worst bytes calls → calls' ≡ calls ++ call ∷ []
+    → IsRight first worst bytes calls'
+right_looked first worst bytes calls calls' call same same_worst fits right c =
+    subst (λ (l : List Call). IsRight first worst bytes l) (sym c)
+    (subst (λ (l : List ℕ). IsRight first worst l (calls ++ call ∷ [])) same
+    (subst (λ (l : List ℕ). IsRight first l (after bytes call) (calls ++ call ∷ [])) same_worst
+    (one_more first worst bytes calls call right fits)))
+
+pub right_kept : (changed : Bool) (first worst kept kept_worst bytes : List ℕ) (calls : List Call)
+    → changed ≡ false
+    → IsRight (kept_or changed first bytes) (kept_or changed worst bytes) bytes calls → kept ≡ bytes
+    → kept_worst ≡ bytes → IsRight kept kept_worst bytes calls
+right_kept true first worst kept kept_worst bytes calls is right k w = absurd (cc)
+right_kept false first worst kept kept_worst bytes calls is right k w =
+    subst (λ (l : List ℕ). IsRight l kept_worst bytes calls) (sym k)
+    (subst (λ (l : List ℕ). IsRight bytes l bytes calls) (sym w) right)
+
+pub over_same : (place : ℕ) (next old kept copy bytes : List ℕ) → next ≡ take place kept ++ bytes
+    ++ drop (place + length bytes) kept → kept ≡ old → copy ≡ bytes
+    → next ≡ take place old ++ copy ++ drop (place + length copy) old
+over_same place next old kept copy bytes is same copied = cc
+
+pub kept_any : (changed : Bool) (kept old new : List ℕ) → changed ≡ true → kept_or changed kept new
+    ≡ kept_or changed kept old
+kept_any true kept old new is = refl
+kept_any false kept old new is = absurd (cc)
+
+pub worst_over : (place : ℕ) (worst old copy bytes filled : List ℕ) (seen : List ℕ)
+    → worst ≡ take place old ++ filled ++ drop (place + length filled) old → filled ≡ replicate
+    (length bytes) 255 → copy ≡ bytes
+    → worst ≡ take place old ++ replicate (length copy) 255 ++ drop (place + length copy) old
+worst_over place worst old copy bytes filled seen is filled_is copied =
+    let n : length filled ≡ length bytes = ap length filled_is ∙ length-replicate {A =
+    ℕ} (length bytes) 255 in cc
+
+pub right_if : (done : Bool) (first worst bytes : List ℕ) (calls calls' : List Call) (call : Call)
+    → (after bytes call ≡ bytes) → (worst_after bytes worst call ≡ worst) → Fits bytes call
+    → IsRight first worst bytes calls → calls' ≡ (if done then calls ++ call ∷ [] else calls)
+    → IsRight first worst bytes calls'
+right_if true first worst bytes calls calls' call same same_worst fits right c =
+    right_looked first worst bytes calls calls' call same same_worst fits right c
+right_if false first worst bytes calls calls' call same same_worst fits right c =
+    subst (λ (l : List Call). IsRight first worst bytes l) (sym c) right

@@ -1,0 +1,66 @@
+-- What a call on the content of a disk in memory does to what a crash may leave.
+use Rattle.std.proofs.Common.{◌≡◌, ℕ, List, length, Vec, sym}
+use Rattle.std.proofs.Common.{subst}
+use Rattle.std.specs.declared.alloc.Global.{Global}
+use Rattle.tape_stage.specs.Disk.{Torn, CutShort, Elapses}
+use Rattle.tape_stage.specs.Calls.{kept_or, left_after, IsImage, WasImage, seen_image, worst_image}
+use Rattle.tape_stage.specs.Memory.{first_of}
+use Rattle.tape_stage.specs.Same.{DidCall}
+use Rattle.tape_stage.specs.declared.content.Call.{Call}
+use Rattle.tape_stage.specs.declared.content.Call.TheVariants.{Look, Write, Cut, Sync}
+use Rattle.tape_stage.specs.declared.content.Content.{Content}
+use Rattle.tape_stage.proofs.CallLaws.{image_back, elapses_more}
+
+abbrev Leaves : Content → List ℕ → Type 0
+Leaves content = IsImage (first_of content) content.calls.items
+
+pub did_elapses : (old mid new : Content) (call : Call) → mid ≡ old → DidCall call mid new
+    → Elapses (length old.calls.items) (length new.calls.items)
+    (WasImage (first_of old) old.calls.items) (WasImage (first_of new) new.calls.items) (Leaves new)
+did_elapses old mid new call is before =
+    let did = subst (λ (o : Content). DidCall call o new) is before in
+    let P : List ℕ → List Call → Type 0 = λ f calls. Elapses (length old.calls.items) (length calls)
+    (WasImage (first_of old) old.calls.items) (WasImage f calls) (IsImage f calls) in
+    subst (λ (f : List ℕ). P f new.calls.items) (sym did.first)
+    (subst (λ (calls : List Call). P (first_of old) calls) (sym did.calls)
+    (elapses_more (first_of old) old.calls.items call))
+
+pub did_left : (old mid new : Content) (call : Call) → mid ≡ old → DidCall call mid new
+    → (c : List ℕ) → Leaves new c → left_after old.bytes.items (Leaves old) call c
+did_left old mid new call is before c now =
+    let did = subst (λ (o : Content). DidCall call o new) is before in
+    let P : List ℕ → List Call → Type 0 = λ f calls. IsImage f calls c in
+    image_back (first_of old) old.bytes.items old.calls.items call c old.right.seen
+    (subst (λ (calls : List Call). P (first_of old) calls) did.calls
+    (subst (λ (f : List ℕ). P f new.calls.items) did.first now))
+
+pub looked_left : (old mid new : Content) → mid ≡ old → DidCall Look mid new → (c : List ℕ)
+    → Leaves new c → Leaves old c
+looked_left old mid new is did c now = did_left old mid new Look is did c now
+
+pub synced_left : (old mid new : Content) → mid ≡ old → DidCall Sync mid new → (c : List ℕ)
+    → Leaves new c → c ≡ old.bytes.items
+synced_left old mid new is did c now = did_left old mid new Sync is did c now
+
+pub synced_same : (old mid new : Content) → mid ≡ old → DidCall Sync mid new → (c : List ℕ)
+    → Leaves new c → Leaves old c
+synced_same old mid new is did c now =
+    subst (λ (b : List ℕ). Leaves old b) (sym (did_left old mid new Sync is did c now))
+    (seen_image (first_of old) old.bytes.items old.calls.items old.right.fit old.right.seen)
+
+pub cut_left : (old mid new : Content) (len : ℕ) → mid ≡ old → DidCall (Cut len) mid new
+    → (c : List ℕ) → Leaves new c → (d : List ℕ) × Leaves old d × CutShort len d c
+cut_left old mid new len is did c now = did_left old mid new (Cut len) is did c now
+
+pub written_left : (old mid new : Content) (place : ℕ) (copy : Vec ℕ Global) (bytes : List ℕ)
+    → mid ≡ old → copy.items ≡ bytes → DidCall (Write place copy) mid new
+    → (c : List ℕ) → Leaves new c → (d : List ℕ) × Leaves old d × Torn place (length bytes) d c
+written_left old mid new place copy bytes is same did c now =
+    let from = did_left old mid new (Write place copy) is did c now in
+    (from.0, from.1, subst (λ (b : List ℕ). Torn place (length b) from.0 c) same from.2)
+
+pub worst_left_now : (content : Content)
+    → Leaves content (kept_or content.changed content.worst.items content.bytes.items)
+worst_left_now content =
+    worst_image (first_of content) (kept_or content.changed content.worst.items content.bytes.items)
+    content.calls.items content.right.fit content.right.worst_is

@@ -1,0 +1,132 @@
+-- What is found in the slots.
+use Rattle.std.proofs.Common.{◌≡◌, ⊎_elim, ℕ, ◌+◌, ◌≤◌, Bool, true, false, not, List}
+use Rattle.std.proofs.Common.{take, length, Option, Some, None, ◌==◌, sym, ap, ◌∙◌}
+use Rattle.std.proofs.Common.{subst, arith}
+use Rattle.std.proofs.lemmas.List.{take-take, length-take, length-take-le}
+use Rattle.std.proofs.lemmas.Bool.Decides.{eqb_tells}
+use Rattle.tape_blocks.specs.Block.{Portion}
+use Rattle.tape_stage.specs.Body.{body_of}
+use Rattle.tape_stage.specs.Staged.{gate_at, body_at, read_slot, slot_at, best, Staged, StagedIn}
+use Rattle.tape_stage.specs.Staged.{Holding, Loses, Ready, StandsLike}
+use Rattle.tape_stage.specs.Found.{IsFound}
+use Rattle.tape_core.specs.Point.{Point}
+use Rattle.tape_stage.specs.declared.found.Found.{Found}
+use Rattle.tape_stage.proofs.Tears.{slot_alike, gate_alike, closed_none, open_reads}
+use Rattle.tape_stage.proofs.Tears.{alike_holding, best_named, staged_named}
+use Rattle.tape_stage.specs.Body.{Slot}
+
+pub front_same : (n : ℕ) (front bytes : List ℕ) → front ≡ take n bytes → take n front ≡ take n bytes
+front_same n front bytes is = ap (take n) is ∙ take-take n n bytes (omega arith)
+
+pub found_alike : (found : Found) (old new : List ℕ) → take 256 new ≡ take 256 old
+    → IsFound found old → IsFound found new
+found_alike found old new same is = record {
+  slot = slot_alike found.in_second 256 old new (omega arith) same ∙ is.slot;
+  other =
+      subst (Loses found.in_second found.generation)
+      (sym (slot_alike (not found.in_second) 256 old new (omega arith) same)) is.other;
+  gate =
+      is.gate ∙ ap (λ (n : ℕ). n == 79)
+      (sym (gate_alike (not found.in_second) 256 old new (omega arith) same));
+}
+
+pub none_staged : (front bytes : List ℕ) (g : ℕ) (point : Point) (parts : List Portion)
+    → take 256 front ≡ take 256 bytes → slot_at false front ≡ None → slot_at true front ≡ None
+    → Staged bytes g point parts → ⊥
+none_staged front bytes g point parts same no_first no_second staged =
+    let first : slot_at false bytes ≡ None =
+    sym (slot_alike false 256 bytes front (omega arith) same) ∙ no_first in
+    let second : slot_at true bytes ≡ None =
+    sym (slot_alike true 256 bytes front (omega arith) same) ∙ no_second in
+    let none : best (slot_at false bytes) (slot_at true bytes) ≡ None =
+    ap (λ (s : Option Slot). best s (slot_at true bytes)) first ∙ second in
+    cc (none, staged.slot)
+
+slot_gate : (gate : ℕ) (body : List ℕ) (found : Slot) → read_slot gate body ≡ Some found
+    → (gate ≡ 79) × (body_of body ≡ Some found)
+slot_gate gate body found is =
+    ⊎_elim (λ yes. (yes.1, sym (open_reads gate body yes.1) ∙ is)) (λ no. let none =
+    closed_none gate body no.1 in cc (none, is)) (eqb_tells gate 79)
+
+-- what was found, with frames behind it, is staged
+pub found_staged : (found : Found) (parts : List Portion) (bytes : List ℕ) → IsFound found bytes
+    → Holding found.point.staged parts bytes → StagedIn found.in_second found.generation found.point
+    parts bytes
+found_staged found parts bytes is holding =
+    let slot = slot_gate (gate_at found.in_second bytes) (body_at found.in_second bytes)
+    (found.generation, found.point) is.slot in
+    record { is_open = slot.0; body = slot.1; other = is.other; parts_are = holding }
+
+-- and is ready once it is all that a crash may leave
+pub found_ready : (found : Found) (parts : List Portion) (bytes : List ℕ) (may_leave : List ℕ
+    → Type 0) → IsFound found bytes → Holding found.point.staged parts bytes
+    → ((c : List ℕ) → may_leave c → c ≡ bytes)
+    → Ready found.in_second found.generation found.point parts found.other_open bytes may_leave
+found_ready found parts bytes may_leave is holding only = record {
+  staged = found_staged found parts bytes is holding;
+  gate = is.gate;
+  alike = λ c left. ap (take (256 + found.point.staged)) (only c left);
+}
+
+pub best_of : (second : Bool) (g : ℕ) (point : Point) (bytes : List ℕ) → slot_at second bytes ≡ Some
+    (g, point) → Loses second g (slot_at (not second) bytes) → best (slot_at false bytes)
+    (slot_at true bytes) ≡ Some (g, point)
+best_of false g point bytes is loses =
+    ap (λ (s : Option Slot). best s (slot_at true bytes)) is ∙ best_named false g point
+    (slot_at true bytes) loses
+best_of true g point bytes is loses =
+    ap (λ (s : Option Slot). best (slot_at false bytes) s) is ∙ best_named true g point
+    (slot_at false bytes) loses
+
+-- what has the same bytes up to the staged end stands for the same
+pub stands_like : (found : Found) (read c : List ℕ) (end : ℕ) → IsFound found read
+    → end ≡ 256 + found.point.staged → end ≤ length read → take end c ≡ take end read
+    → StandsLike read c
+stands_like found read c end is at room same g point parts staged =
+    let named = best_of found.in_second found.generation found.point read is.slot is.other in
+    let both : Some (found.generation, found.point) ≡ Some (g, point) = sym named ∙ staged.slot in
+    let e : (found.generation, found.point) ≡ (g, point) = cc in
+    let weight : found.point.staged ≡ point.staged = ap (λ (p : Slot). p.1.staged) e in
+    let long : end ≤ length c =
+    omega (arith, ap length same, length-take end c, length-take end read) in
+    record {
+      slot = ap (λ (s : Option Slot). best s (slot_at true c)) (slot_alike false end read c
+          (omega arith) same)
+          ∙ ap (λ (s : Option Slot). best (slot_at false read) s)
+          (slot_alike true end read c (omega arith) same) ∙ staged.slot;
+      parts_are = alike_holding end point.staged parts read c (omega (arith, weight)) same long
+          staged.parts_are;
+    }
+
+-- what is left after the cut is ready
+pub cut_ready : (found : Found) (parts : List Portion) (read new : List ℕ) (may_leave : List ℕ
+    → Type 0) (end : ℕ) → IsFound found read → end ≡ 256 + found.point.staged
+    → Holding found.point.staged parts read
+    → new ≡ take end read → ((c : List ℕ) → may_leave c → c ≡ new)
+    → Ready found.in_second found.generation found.point parts found.other_open new may_leave
+cut_ready found parts read new may_leave end is at holding cut only =
+    let room : end ≤ length read = omega (arith, holding.long) in
+    let same : take end new ≡ take end read =
+    ap (take end) cut ∙ take-take end end read (omega arith) in
+    let long : length new ≡ end = ap length cut ∙ length-take-le end read room in
+    let front : take 256 new ≡ take 256 read =
+    ap (take 256) cut ∙ take-take 256 end read (omega arith) in
+    found_ready found parts new may_leave (found_alike found read new front is)
+    (alike_holding end found.point.staged parts read new (omega arith) same
+    (omega (arith, long)) holding) only
+
+pub found_read : (found : Found) (parts : List Portion) (bytes : List ℕ) → IsFound found bytes
+    → Holding found.point.staged parts bytes → Staged bytes found.generation found.point parts
+found_read found parts bytes is holding =
+    staged_named found.in_second found.generation found.point parts bytes
+    (found_staged found parts bytes is holding)
+
+-- what is staged is behind the slot that was found
+pub staged_holds : (found : Found) (bytes : List ℕ) (g : ℕ) (point : Point) (parts : List Portion)
+    → IsFound found bytes → Staged bytes g point parts → Holding found.point.staged parts bytes
+staged_holds found bytes g point parts is staged =
+    let named = best_of found.in_second found.generation found.point bytes is.slot is.other in
+    let both : Some (found.generation, found.point) ≡ Some (g, point) = sym named ∙ staged.slot in
+    let e : (found.generation, found.point) ≡ (g, point) = cc in
+    let weight : found.point.staged ≡ point.staged = ap (λ (p : Slot). p.1.staged) e in
+    subst (λ (n : ℕ). Holding n parts bytes) (sym weight) staged.parts_are

@@ -1,0 +1,116 @@
+-- Frames of parts.
+use Rattle.std.proofs.Common.{◌≡◌, ℕ, ◌+◌, ◌≤◌, List, [], ◌∷◌, ◌++◌, length, take, drop, w32}
+use Rattle.std.proofs.Common.{refl, sym, ap, ◌∙◌, subst, arith, length-append, append_assoc}
+use Rattle.std.proofs.Common.{append-nil}
+use Rattle.std.proofs.lemmas.List.{take-take, take_at, length-take-le, drop-drop}
+use Rattle.std.proofs.Math.Seq.{take-add}
+use Rattle.std.specs.Int.{to_be_bytes}
+use Rattle.tape_stage.specs.Disk.{Holds}
+use Rattle.tape_blocks.specs.Block.{Portion}
+use Rattle.tape_core.specs.Stands.{weight_of}
+use Rattle.tape_stage.specs.Parts.{IsFront}
+use Rattle.tape_stage.specs.Parts.{frame, frames, AllShort}
+use Rattle.tape_blocks.specs.Block.{indicator}
+use Rattle.tape_stage.specs.Staged.{Holding, IsPut}
+use Rattle.tape_stage.proofs.Torn.{alike_piece, holds_torn, holds_piece, torn_front}
+
+frames-append : (xs ys : List Portion) → frames (xs ++ ys) ≡ frames xs ++ frames ys
+frames-append [] ys = refl
+frames-append (x ∷ xs) ys = ap (λ (l : List ℕ). frame x ++ l) (frames-append xs ys) ∙ sym
+    (append_assoc (frame x) (frames xs) (frames ys))
+
+pub length-frames : (xs : List Portion) → length (frames xs) ≡ weight_of xs
+length-frames [] = refl
+length-frames (x ∷ xs) =
+    let e = length-frames xs in
+    let f : length (frame x) ≡ 5 + length x.bytes =
+    omega (arith, length-append (to_be_bytes w32 (length x.bytes)) x.bytes) in
+    omega (arith, length-append (frame x) (frames xs), e, f)
+
+short_push : (xs : List Portion) (x : Portion) → AllShort xs → length x.bytes ≤ 99999
+    → AllShort (xs ++ x ∷ [])
+short_push [] x all short = (short, tt)
+short_push (y ∷ ys) x all short = (all.0, short_push ys x all.1 short)
+
+short_front : (xs ys : List Portion) → AllShort (xs ++ ys) → AllShort xs
+short_front [] ys all = tt
+short_front (x ∷ xs) ys all = (all.0, short_front xs ys all.1)
+
+-- one part more
+pub put_holding : (weight place : ℕ) (parts : List Portion) (part : Portion) (old new : List ℕ)
+    → place ≡ 256 + weight → length part.bytes ≤ 99999
+    → Holding weight parts old → IsPut place part old new
+    → Holding (weight + (5 + length part.bytes)) (parts ++ part ∷ []) new
+put_holding weight place parts part old new is short holding put =
+    let size = 5 + length part.bytes in
+    let there : drop weight (drop 256 new) ≡ drop place new =
+    drop-drop weight 256 new ∙ ap (λ (n : ℕ). drop n new) (sym is) in
+    let before : take weight (drop 256 new) ≡ frames parts =
+    alike_piece place 256 weight old new (omega arith) put.front ∙ holding.frames_are in
+    record {
+      long = omega (arith, put.long);
+      frames_are = take-add weight size (drop 256 new)
+          ∙ ap (λ (l : List ℕ). take weight (drop 256 new) ++ take size l) there
+          ∙ ap (λ (l : List ℕ). l ++ take size (drop place new)) before
+          ∙ ap (λ (l : List ℕ). frames parts ++ l) (put.frame_is ∙ sym (append-nil (frame part)))
+          ∙ sym (frames-append parts (part ∷ []));
+      short = short_push parts part holding.short short;
+    }
+
+-- the first parts alone
+pub front_holding : (weight staged : ℕ) (parts front : List Portion) (bytes : List ℕ)
+    → staged ≤ weight → IsFront staged front parts → Holding weight parts bytes
+    → Holding staged front bytes
+front_holding weight staged parts front bytes le is holding =
+    let all : take weight (drop 256 bytes) ≡ frames front ++ frames is.rest =
+    holding.frames_are ∙ ap frames is.whole ∙ frames-append front is.rest in
+    record {
+      long = omega (arith, holding.long);
+      frames_are = sym (take-take staged weight (drop 256 bytes) le) ∙ ap (take staged) all ∙
+          take_at (frames front) (frames is.rest) staged (length-frames front ∙ is.weighs);
+      short = short_front front is.rest (subst AllShort is.whole holding.short);
+    }
+
+-- a header and what it heads
+pub two_writes : (place : ℕ) (part : Portion) (header s0 s1 s2 : List ℕ)
+    → header ≡ indicator part.span ∷ to_be_bytes w32 (length part.bytes) → place ≤ length s0
+    → Holds s0 place header s1 → Holds s1 (place + 5) part.bytes s2 → IsPut place part s0 s2
+two_writes place part header s0 s1 s2 is le first second =
+    let size : length header ≡ 5 = ap length is in
+    let torn1 = holds_torn place header s0 s1 le first in
+    let room : place + 5 ≤ length s1 =
+    omega (
+      arith,
+      ap length first,
+      length-append (take place s0 ++ header)
+          (drop (place + length header) s0),
+      length-append (take place s0) header,
+      length-take-le
+          place s0 le,
+      size,
+    ) in
+    let torn2 = holds_torn (place + 5) part.bytes s1 s2 room second in
+    let head : take 5 (drop place s1) ≡ header =
+    subst (λ (n : ℕ). take n (drop place s1) ≡ header) size
+    (holds_piece place header s0 s1 le first) in
+    let head2 : take 5 (drop place s2) ≡ header =
+    alike_piece (place + 5) place 5 s1 s2 (omega arith) torn2.before ∙ head in
+    let tail : take (length part.bytes) (drop (place + 5) s2) ≡ part.bytes =
+    holds_piece (place + 5) part.bytes s1 s2 room second in
+    record {
+      front = torn_front (place + 5) (length part.bytes) place s1 s2 (omega arith) torn2 ∙
+          torn1.before;
+      frame_is = take-add 5 (length part.bytes) (drop place s2)
+          ∙ ap (λ (l : List ℕ). l ++ take (length part.bytes) (drop 5 (drop place s2))) head2
+          ∙ ap (λ (l : List ℕ). header ++ take (length part.bytes) l) (drop-drop 5 place s2)
+          ∙ ap (λ (l : List ℕ). header ++ l) tail
+          ∙ ap (λ (l : List ℕ). l ++ part.bytes) is;
+      long = omega (
+        arith,
+        ap length second,
+        length-append (take (place + 5) s1 ++ part.bytes)
+            (drop (place + 5 + length part.bytes) s1),
+        length-append (take (place + 5) s1) part.bytes,
+        length-take-le (place + 5) s1 room,
+      );
+    }

@@ -1,0 +1,119 @@
+-- What a stage holds, as a sink.
+use Rattle.std.proofs.Common.{◌≡◌, ℕ, Bool, false, List, length}
+use Rattle.std.proofs.Common.{drop, refl, sym, ap, ◌∙◌, subst, arith}
+use Rattle.std.proofs.lemmas.List.{length-take-le, length-drop}
+use Rattle.tape_stage.specs.declared.disk.Disk.{Ghosts}
+use Rattle.tape_blocks.specs.Block.{Portion}
+use Rattle.tape_core.specs.Stands.{weight_of}
+use Rattle.tape_stage.specs.Staged.{Holding, Ready}
+use Rattle.tape_stage.specs.Stages.{IsStage, IsStaged, AreHeld, Holds, HasRefused}
+use Rattle.tape_core.specs.Point.{Point}
+use Rattle.tape_stage.specs.declared.stage.Stage.{Stage}
+use Rattle.tape_stage.specs.declared.stage.StageFault.{StageFault}
+use Rattle.tape_stage.specs.declared.stage.StageFault.TheVariants.{NoPoint, BadFrame, Device}
+use Rattle.tape_stage.specs.declared.stage.StageFault.TheVariants.{OutOfMemory, Failed, Full}
+use Rattle.tape_stage.proofs.FrameLaws.{length-frames}
+
+-- framed parts weigh what they take
+pub holding_weighs : (weight : ℕ) (parts : List Portion) (bytes : List ℕ)
+    → Holding weight parts bytes → weight ≡ weight_of parts
+holding_weighs weight parts bytes holding =
+    sym (length-take-le weight (drop 256 bytes)
+    (omega (arith, length-drop 256 bytes, holding.long))) ∙ ap length holding.frames_are ∙
+    length-frames parts
+
+module _ {D : Type 0} {disk : Ghosts D} where
+  -- a stage that stands holds its parts
+  pub stage_holds : (stage : Stage D disk) (acked parts : List Portion) → disk.is_honest stage.disk
+      → IsStage stage acked parts → Holds stage parts
+  stage_holds stage acked parts honest is = record {
+    honest = honest;
+    framed = is.holds;
+    weighs = holding_weighs stage.weight parts (disk.seen stage.disk) is.holds;
+    ready = λ alive. (acked, is);
+  }
+
+  -- so does one that was just opened
+  pub opened_holds : (at : D) (in_second : Bool) (g : ℕ) (point : Point) (other_open : Bool)
+      (weight : ℕ) (parts : List Portion) → weight ≡ point.staged → disk.is_honest at
+      → Ready in_second g point parts other_open (disk.seen at) (disk.may_leave at)
+      → AreHeld disk at in_second g point other_open weight false parts
+  opened_holds at in_second g point other_open weight parts told honest ready =
+      let framed : Holding weight parts (disk.seen at) =
+      subst (λ (w : ℕ). Holding w parts (disk.seen at)) (sym told) ready.staged.parts_are in
+      record {
+        honest = honest;
+        framed = framed;
+        weighs = holding_weighs weight parts (disk.seen at) framed;
+        ready = λ alive. (
+          parts,
+          record {
+            alive = refl;
+            ready = ready;
+            holds = framed;
+            behind =
+                omega (arith, told);
+          },
+        );
+      }
+
+  -- so does one that was refused, where the frames stand as they stood
+  pub refused_holds : (old new : Stage D disk) (parts : List Portion) (fault : StageFault)
+      → HasRefused old new fault → (disk.is_honest old.disk → disk.is_honest new.disk)
+      → (disk.is_honest old.disk → Holding old.weight parts (disk.seen old.disk)
+      → Holding old.weight parts (disk.seen new.disk)) → Holds old parts → Holds new parts
+  refused_holds old new parts Device is honest kept holds = record {
+    honest = honest holds.honest;
+    framed = subst (λ (w : ℕ). Holding w parts (disk.seen new.disk)) (sym is.2)
+        (kept holds.honest holds.framed);
+    weighs = is.2 ∙ holds.weighs;
+    ready = λ alive. absurd (cc (alive, is.1));
+  }
+  refused_holds old new parts Full is honest kept holds =
+      subst (λ (s : Stage D disk). Holds s parts) (sym is) holds
+  refused_holds old new parts Failed is honest kept holds =
+      subst (λ (s : Stage D disk). Holds s parts) (sym is.0) holds
+  refused_holds old new parts NoPoint is honest kept holds = absurd is
+  refused_holds old new parts (BadFrame place) is honest kept holds = absurd is
+  refused_holds old new parts OutOfMemory is honest kept holds = absurd is
+
+  -- reading leaves what is held
+  read_staged : (old new : D) (in_second : Bool) (g : ℕ) (point : Point) (other_open : Bool)
+      (weight : ℕ) (failed : Bool) (acked parts : List Portion) → disk.seen new ≡ disk.seen old
+      → ((c : List ℕ) → disk.may_leave new c → disk.may_leave old c)
+      → IsStaged disk old in_second g point other_open weight failed acked parts
+      → IsStaged disk new in_second g point other_open weight failed acked parts
+  read_staged old new in_second g point other_open weight failed acked parts same no_more is =
+      record {
+        alive = is.alive;
+        ready =
+            subst (λ (bytes : List ℕ). Ready in_second g point acked other_open bytes
+            (disk.may_leave new)) (sym same)
+            (record {
+              staged = is.ready.staged;
+              gate = is.ready.gate;
+              alike =
+                  λ c left. is.ready.alike c (no_more c left);
+            });
+        holds = subst (Holding weight parts) (sym same) is.holds;
+        behind = is.behind;
+      }
+
+  pub read_held : (old new : D) (in_second : Bool) (g : ℕ) (point : Point) (other_open : Bool)
+      (weight : ℕ) (failed : Bool) (parts : List Portion)
+      → (disk.is_honest old → disk.is_honest new)
+      → (disk.is_honest old → disk.seen new ≡ disk.seen old) → (disk.is_honest old → (c : List ℕ)
+      → disk.may_leave new c → disk.may_leave old c)
+      → AreHeld disk old in_second g point other_open weight failed parts
+      → AreHeld disk new in_second g point other_open weight failed parts
+  read_held old new in_second g point other_open weight failed parts honest same no_more held =
+      record {
+        honest = honest held.honest;
+        framed = subst (Holding weight parts) (sym (same held.honest)) held.framed;
+        weighs = held.weighs;
+        ready = λ alive. let was = held.ready alive in (
+          was.0,
+          read_staged old new in_second g point other_open weight failed was.0 parts
+              (same held.honest) (no_more held.honest) was.1,
+        );
+      }

@@ -1,0 +1,61 @@
+-- A stage that was just made.
+use Rattle.std.proofs.Common.{◌≡◌, ℕ, ◌+◌, ◌==◌, true, false, List, [], ◌∷◌, ◌++◌}
+use Rattle.std.proofs.Common.{length, take, drop, get_or, refl, sym, ap, ◌∙◌, subst}
+use Rattle.std.proofs.Common.{arith, length-append, append-nil}
+use Rattle.std.proofs.lemmas.List.{take_at, get_or_at, nil_from_length, drop_all}
+use Rattle.tape_stage.specs.Disk.{Holds, Only}
+use Rattle.tape_stage.specs.Body.{body_text, body_of, FitBody}
+use Rattle.tape_stage.specs.Staged.{gate_at, body_at, Holding, Loses, Ready}
+use Rattle.tape_stage.specs.Staged.{blank}
+use Rattle.tape_core.specs.Point.{Point}
+use Rattle.tape_stage.proofs.Bodies.{body_reads, length-body}
+use Rattle.tape_stage.proofs.Tears.{closed_none, none_loses}
+
+ready_text : (point : Point) (staged_none : point.staged ≡ 0) (bytes : List ℕ) (may_leave : List ℕ
+    → Type 0) → FitBody 1 point → bytes ≡ 79 ∷ body_text 1 point ++ 67 ∷ blank
+    → Only bytes may_leave
+    → Ready false 1 point [] false bytes may_leave
+ready_text point none bytes may_leave fit is only =
+    let B = body_text 1 point in
+    let size = length-body 1 point fit in
+    let gate : gate_at true bytes ≡ 67 =
+    ap (λ (l : List ℕ). get_or l 128 0) is ∙ get_or_at B 67 blank 0 127 size in
+    let closed : gate_at true bytes ≡ 79 → ⊥ = λ open_now. absurd (omega (arith, gate, open_now)) in
+    record {
+      staged = record {
+        is_open = ap (λ (l : List ℕ). get_or l 0 0) is;
+        body =
+            ap body_of (ap (λ (l : List ℕ). take 127 (drop 1 l)) is ∙ take_at B (67 ∷ blank) 127
+            size) ∙ body_reads 1 point fit;
+        other =
+            subst (Loses false 1)
+            (sym (closed_none (gate_at true bytes) (body_at true bytes) closed))
+            (none_loses false 1);
+        parts_are = subst (λ (n : ℕ). Holding n [] bytes) (sym none) (record {
+          long =
+              omega (arith, ap length is, length-append B (67 ∷ blank), size);
+          frames_are =
+              refl;
+          short = tt;
+        });
+      };
+      gate = sym (ap (λ (n : ℕ). n == 79) gate);
+      alike = λ c left. ap (take (256 + point.staged)) (only c left);
+    }
+
+pub made_ready : (point : Point) (s0 s1 s2 : List ℕ) (may_leave : List ℕ → Type 0)
+    → point.staged ≡ 0 → FitBody 1 point → length s0 ≡ 0
+    → Holds s0 0 (67 ∷ body_text 1 point ++ 67 ∷ blank) s1 → Holds s1 0 (79 ∷ []) s2
+    → Only s2 may_leave
+    → Ready false 1 point [] false s2 may_leave
+made_ready point s0 s1 s2 may_leave none fit empty first second only =
+    let nil : s0 ≡ [] = nil_from_length s0 empty in
+    let header : List ℕ = 67 ∷ (body_text 1 point ++ 67 ∷ blank) in
+    let now : s1 ≡ header =
+    first ∙ ap (λ (l : List ℕ). take 0 l ++ (header ++ drop (0 + length header) l)) nil ∙
+    nothing_more header in
+    ready_text point none s2 may_leave fit (second ∙ ap (λ (l : List ℕ). 79 ∷ drop 1 l) now) only
+  where
+    nothing_more : (l : List ℕ) → l ++ drop (0 + length l) [] ≡ l
+    nothing_more l = ap (λ (r : List ℕ). l ++ r) (drop_all (0 + length l) [] (omega arith)) ∙
+        append-nil l

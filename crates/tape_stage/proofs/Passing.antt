@@ -1,0 +1,38 @@
+-- One call after another.
+use Rattle.std.proofs.Common.{inl, inr, ⊎_elim, ℕ, List, arith}
+use Rattle.tape_stage.specs.Disk.{Elapses}
+use Rattle.tape_stage.specs.Moments.{Passes}
+
+module _ {D : Type 0} (may_leave : D → List ℕ → Type 0) (moment : D → ℕ) (left_since : D → ℕ
+    → List ℕ → Type 0) where
+  pub weaken : (old new : D) (P Q : List ℕ → Type 0) → ((c : List ℕ) → P c → Q c)
+      → Passes may_leave moment left_since old new P → Passes may_leave moment left_since old new Q
+  weaken old new P Q also passes = record {
+    later = passes.later;
+    before = λ t c le was. ⊎_elim (λ here. inl here) (λ p. inr (also c p))
+        (passes.before t c le was);
+    now = λ c left. also c (passes.now c left);
+  }
+
+  pub follow : (a b c : D) (P : List ℕ → Type 0) → Passes may_leave moment left_since a b P
+      → Passes may_leave moment left_since b c P → Passes may_leave moment left_since a c P
+  follow a b c P first second = record {
+    later = omega (arith, first.later, second.later);
+    before = λ t x le was. ⊎_elim (λ here. first.before t x le here) (λ p. inr p)
+        (second.before t x (omega (arith, first.later)) was);
+    now = second.now;
+  }
+
+  pub stands : (a b : D) (P : List ℕ → Type 0) → Elapses (moment a) (moment b) (left_since a)
+      (left_since b) (may_leave b) → ((c : List ℕ) → may_leave b c → P c)
+      → Passes may_leave moment left_since a b P
+  stands a b P time now = record {
+    later = time.later;
+    before = λ t x le was. ⊎_elim (λ here. inl here) (λ left. inr (now x left))
+        (time.nothing_else t x le was);
+    now = now;
+  }
+
+  pub nothing : (a : D) (P : List ℕ → Type 0) → ((c : List ℕ) → may_leave a c → P c)
+      → Passes may_leave moment left_since a a P
+  nothing a P now = record { later = omega arith; before = λ t x le was. inl was; now = now }

@@ -1,0 +1,188 @@
+-- The text of a checkpoint, written and read.
+use Rattle.std.proofs.Common.{◌≡◌, ℕ, ◌^◌, ◌<◌, true, List, length}
+use Rattle.std.proofs.Common.{Option, None, Some, Result, Ok, Err, refl, sym, subst, ap, ◌∙◌}
+use Rattle.std.proofs.Common.{arith}
+use Rattle.std.specs.Prelude.{IfOk}
+use Rattle.tape_label.specs.Written.{text_of, HaveWidths}
+use Rattle.tape_label.proofs.Pieces.{StandAt, pieces_stand}
+use Rattle.tape_label.proofs.Steps.{length-positions}
+use Rattle.tape_label.proofs.DigitLaws.{length-digits}
+use Rattle.tape_set.specs.declared.position.Position.{Position}
+use Rattle.tape_set.specs.declared.position.Position.TheVariants.{Awaits, Finished}
+use Rattle.tape_set.specs.Position.{sect_of, block_of, part_of}
+use Rattle.tape_set.specs.Lawful.{FileForm}
+use Rattle.tape_core.specs.Known.{PositionFits}
+use Rattle.tape_core.specs.Point.{Point}
+use Rattle.tape_stage.specs.declared.point_fault.PointFault.{PointFault}
+use Rattle.tape_stage.specs.declared.point_fault.PointFault.TheVariants as faults
+use Rattle.tape_stage.specs.declared.fields.Version.{Version}
+use Rattle.tape_stage.specs.declared.fields.Version.TheVariants.{One, Two}
+use Rattle.tape_stage.specs.declared.fields.Fields.{Fields}
+use Rattle.tape_stage.specs.Fields.{form_of, fields_of, point_by}
+use Rattle.tape_stage.specs.Range.{is_right}
+use Rattle.tape_stage.specs.Reading.{text_at, right_point, reading}
+use Rattle.tape_stage.specs.Text.{pieces, Fit, KnownFits, IsWritable, IsPointText}
+use Rattle.tape_stage.proofs.Stood.{stood}
+use Rattle.tape_stage.proofs.Steps.{bind_ok, passed}
+use Rattle.tape_stage.proofs.TextLaws.{Reads, text_found, text_again, reads_stand, stands_read}
+use Rattle.tape_stage.proofs.TextLaws.{reads_fit}
+use Rattle.tape_stage.proofs.PointFields.{point_again, point_right, fields_again, right_writable}
+
+-- ---- the text of a checkpoint is read as it
+
+known_says : (known : Option FileForm) → KnownFits known → ((form_of known).rec_len < 10 ^ 5)
+    × ((form_of known).offset < 10 ^ 2)
+known_says None fits = (omega arith, omega arith)
+known_says (Some form) fits = (omega (arith, fits.len_fits), omega (arith, fits.offset_fits))
+
+sect_fits : (p : Position) → PositionFits p → sect_of p < 10 ^ 4
+sect_fits (Awaits sect block part) fits = omega (arith, fits.1)
+sect_fits Finished fits = omega arith
+
+pub point_fits : (v : Version) (c : Point) → IsWritable v c → Fit v (fields_of c)
+point_fits v c w =
+    let known = known_says c.known w.known in
+    record {
+      file = omega (arith, w.right.numbered.1);
+      sect = sect_fits c.position w.right.stands.numbers;
+      place = w.fits;
+      rec_len = known.0;
+      offset = known.1;
+      staged = omega (arith, w.right.light);
+    }
+
+widths : (v : Version) (c : Point) → length c.set_id ≡ 6 → length (form_of c.known).file_id ≡ 17
+    → HaveWidths (pieces v (fields_of c))
+widths One c set_id file_id = (
+  refl,
+  (
+    refl,
+    (
+      set_id,
+      (
+        length-digits 4 c.file,
+        (
+          length-digits 4 (sect_of c.position),
+          (
+            length-digits 6 (block_of c.position),
+            (
+              refl,
+              (
+                refl,
+                (
+                  refl,
+                  (
+                    refl,
+                    (
+                      length-digits 5 (form_of c.known).rec_len,
+                      (
+                        length-digits 2 (form_of c.known).offset,
+                        (file_id, (length-digits 15 c.staged, (refl, tt))),
+                      ),
+                    ),
+                  ),
+                ),
+              ),
+            ),
+          ),
+        ),
+      ),
+    ),
+  ),
+)
+widths Two c set_id file_id = (
+  refl,
+  (
+    refl,
+    (
+      set_id,
+      (
+        length-digits 4 c.file,
+        (
+          length-digits 4 (sect_of c.position),
+          (
+            length-digits 10 (block_of c.position),
+            (
+              length-digits 5 (part_of c.position),
+              (
+                refl,
+                (
+                  refl,
+                  (
+                    refl,
+                    (
+                      refl,
+                      (
+                        length-digits 5 (form_of c.known).rec_len,
+                        (
+                          length-digits 2 (form_of c.known).offset,
+                          (file_id, (length-digits 15 c.staged, (refl, tt))),
+                        ),
+                      ),
+                    ),
+                  ),
+                ),
+              ),
+            ),
+          ),
+        ),
+      ),
+    ),
+  ),
+)
+
+pub point_read : (v : Version) (c : Point) (text : List ℕ) → IsPointText v text c
+    → text_at text ≡ Ok (v, fields_of c)
+point_read v c text is =
+    let ps = pieces v (fields_of c) in
+    let stand : StandAt 0 ps text = subst (λ (t : List ℕ). StandAt 0 ps t) (sym is.text)
+    (pieces_stand ps (widths v c is.set_id is.file_id)) in
+    text_again text v (fields_of c) (stands_read v (fields_of c) text (point_fits v c is.writable)
+    stand)
+
+pub reads_only : (v : Version) (c : Point) (text : List ℕ) → IsPointText v text c
+    → reading text ≡ Ok c
+unfolding reading
+reads_only v c text is = rw (point_read v c text is, point_right v c is.writable, point_again c)
+    refl
+
+-- ---- what is read is the checkpoint of its text
+
+id_length : (v : Version) (f : Fields) (text : List ℕ) → Reads v f text → length f.form.file_id ≡ 17
+id_length One f text r = ap length (sym r.fields.form.file_id) ∙ length-positions text 37 53
+    (omega (arith, r.size))
+id_length Two f text r = ap length (sym r.fields.form.file_id) ∙ length-positions text 46 62
+    (omega (arith, r.size))
+
+is_text : (v : Version) (f : Fields) (text : List ℕ) → Reads v f text → is_right f ≡ true
+    → IsPointText v text (point_by f)
+is_text v f text r right =
+    let same = fields_again f right in
+    record {
+      writable = right_writable v f (reads_fit v f text r) right;
+      set_id = ap length (sym r.fields.set_id) ∙ length-positions text 6 11 (omega (arith, r.size));
+      file_id = ap (λ (x : Fields). length x.form.file_id) same ∙ id_length v f text r;
+      text = subst (λ (x : Fields). text ≡ text_of (pieces v x)) (sym same)
+          (stood 0 (pieces v f) text (reads_stand v f text r));
+    }
+
+pub reads_found : (c : Point) (text : List ℕ) → reading text ≡ Ok c → (v : Version)
+    × IsPointText v text c
+unfolding reading
+reads_found c text e =
+    let r = bind_ok (text_at text) (λ read. right_point read.1) c e in
+    let f = r.0.1 in
+    let right = passed (is_right f) faults.Range (point_by f) c r.2 in (
+      r.0.0,
+      subst (λ (x : Point). IsPointText r.0.0 text x) right.1
+          (is_text r.0.0 f text (text_found text r.0.0 f r.1) right.0),
+    )
+
+pub found_of : (r : Result Point PointFault) (text : List ℕ) → r ≡ reading text
+    → IfOk r (λ c. (v : Version) × IsPointText v text c)
+found_of (Ok c) text e = reads_found c text (sym e)
+found_of (Err fault) text e = tt
+
+-- a checkpoint's text has 80 characters
+pub text_size : (v : Version) (c : Point) (text : List ℕ) → IsPointText v text c → length text ≡ 80
+text_size v c text is = (text_found text v (fields_of c) (point_read v c text is)).size

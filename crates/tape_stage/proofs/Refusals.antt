@@ -1,0 +1,86 @@
+-- What a refusal to open leaves of a disk.
+use Rattle.std.proofs.Common.{◌≡◌, ℕ, ◌+◌, ◌≤◌, List, take, length, Some, Result, Ok, Err}
+use Rattle.std.proofs.Common.{OnErr, sym, ap, ◌∙◌, subst, arith}
+use Rattle.std.specs.Prelude.{IfErr}
+use Rattle.std.proofs.lemmas.List.{take-take, length-take-le}
+use Rattle.tape_blocks.specs.Block.{Portion}
+use Rattle.tape_core.specs.Point.{Point}
+use Rattle.tape_stage.specs.Body.{Slot}
+use Rattle.tape_stage.specs.Disk.{CutShort, Elapses, NoMore}
+use Rattle.tape_stage.specs.Found.{IsFound}
+use Rattle.tape_stage.specs.Moments.{Untouched}
+use Rattle.tape_stage.specs.Staged.{Staged, KeepsStaged}
+use Rattle.tape_stage.specs.declared.found.Found.{Found}
+use Rattle.tape_stage.proofs.Finds.{best_of}
+use Rattle.tape_stage.proofs.Passing.{stands, weaken, follow}
+
+pub each_err : {A B : Type 0} (r : Result A B) {P : B → Type 0} → ((e : B) → P e) → IfErr r P
+each_err (Ok x) each = tt
+each_err (Err e) each = each e
+
+pub on_each_err : {A B : Type 0} (r : Result A B) {P : Type 0} → P → OnErr r P
+on_each_err (Ok x) p = tt
+on_each_err (Err e) p = p
+
+module _ {D : Type 0} (seen : D → List ℕ) (may_leave : D → List ℕ → Type 0) (moment : D → ℕ)
+    (left_since : D → ℕ → List ℕ → Type 0) where
+  -- a call that only reads
+  pub untouched_by : (a b : D) → seen b ≡ seen a → NoMore (may_leave a) (may_leave b)
+      → Elapses (moment a) (moment b) (left_since a) (left_since b) (may_leave b)
+      → Untouched seen may_leave moment left_since a b
+  untouched_by a b same no_more time = record {
+    read = same;
+    crash = stands may_leave moment left_since a b (may_leave a) time no_more;
+  }
+
+  -- and another one
+  pub untouched_then : (a b c : D) → Untouched seen may_leave moment left_since a b
+      → Untouched seen may_leave moment left_since b c
+      → Untouched seen may_leave moment left_since a c
+  untouched_then a b c first second = record {
+    read = second.read ∙ first.read;
+    crash = follow may_leave moment left_since a b c (may_leave a) first.crash
+        (weaken may_leave moment left_since b c (may_leave b) (may_leave a) first.crash.now
+        second.crash);
+  }
+
+-- a cut that was done in full
+pub cut_whole : (n : ℕ) (old new : List ℕ) → n ≤ length old → new ≡ take n old → CutShort n old new
+cut_whole n old new le is =
+    let long : length new ≡ n = ap length is ∙ length-take-le n old le in
+    record {
+      no_shorter = omega (arith, long);
+      no_longer = omega (arith, long);
+      front = ap (take n) is ∙ take-take n n old (omega arith);
+    }
+
+-- a cut that was not done
+pub uncut : (n : ℕ) (old new : List ℕ) → new ≡ old → CutShort n old new
+uncut n old new same = record {
+  no_shorter = omega (arith, ap length same);
+  no_longer = omega (arith, ap length same);
+  front = ap (take n) same;
+}
+
+pub same_keeps : (old new : List ℕ) → new ≡ old → KeepsStaged old new
+same_keeps old new same g point parts staged = uncut (256 + point.staged) old new same
+
+-- a cut behind what was found keeps what is staged
+pub cut_keeps : (found : Found) (old new : List ℕ) (end : ℕ) → IsFound found old
+    → end ≡ 256 + found.point.staged → CutShort end old new → KeepsStaged old new
+cut_keeps found old new end is at cut g point parts staged =
+    let named = best_of found.in_second found.generation found.point old is.slot is.other in
+    let both : Some (found.generation, found.point) ≡ Some (g, point) = sym named ∙ staged.slot in
+    let e : (found.generation, found.point) ≡ (g, point) = cc in
+    let weight : found.point.staged ≡ point.staged = ap (λ (p : Slot). p.1.staged) e in
+    subst (λ (n : ℕ). CutShort n old new) (at ∙ ap (λ (n : ℕ). 256 + n) weight) cut
+
+-- nor does the cut at an opening take away what is staged
+pub opened_keeps : (g : ℕ) (point : Point) (parts : List Portion) (old new : List ℕ)
+    → Staged old g point parts → new ≡ take (256 + point.staged) old → KeepsStaged old new
+opened_keeps g point parts old new is cut h next more staged =
+    let both : Some (g, point) ≡ Some (h, next) = sym is.slot ∙ staged.slot in
+    let e : (g, point) ≡ (h, next) = cc in
+    let weight : point.staged ≡ next.staged = ap (λ (p : Slot). p.1.staged) e in
+    subst (λ (n : ℕ). CutShort n old new) (ap (λ (n : ℕ). 256 + n) weight)
+    (cut_whole (256 + point.staged) old new is.parts_are.long cut)

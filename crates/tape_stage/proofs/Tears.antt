@@ -1,0 +1,155 @@
+-- What torn and finished writes leave of the slots.
+use Rattle.std.proofs.Common.{◌≡◌, ℕ, ◌+◌, ◌≤◌, Bool, true, false, not}
+use Rattle.std.proofs.Common.{List, length, take, drop, Option, Some, None}
+use Rattle.std.proofs.Common.{if◌then◌else◌, ◌==◌, nat_lt, refl, sym, ap, ◌∙◌, subst, arith}
+use Rattle.std.proofs.lemmas.Bool.{ne_eqb, lt-ltb}
+use Rattle.std.proofs.lemmas.Bool.Decides.{nat_tests}
+use Rattle.tape_stage.specs.Disk.{Torn}
+use Rattle.tape_blocks.specs.Block.{Portion}
+use Rattle.tape_stage.specs.Body.{body_of}
+use Rattle.tape_stage.specs.Staged.{slot_place, gate_at, body_at, read_slot, slot_at, best, Holding}
+use Rattle.tape_stage.specs.Staged.{Staged, Loses, StagedIn}
+use Rattle.tape_core.specs.Point.{Point}
+use Rattle.tape_stage.proofs.Torn.{alike_piece, alike_byte, torn_low, torn_high, torn_byte_low}
+use Rattle.tape_stage.proofs.Torn.{torn_byte_high}
+use Rattle.tape_stage.specs.Body.{Slot}
+
+le-ltb-false : (m n : ℕ) → n ≤ m → nat_lt m n ≡ false
+le-ltb-false m n le = grind (arith, nat_tests)
+
+-- one slot and the frames are as before
+pub record KeptIn (second : Bool) (old new : List ℕ) : Type 0 where
+  pub gate : gate_at second new ≡ gate_at second old
+  pub body : body_at second new ≡ body_at second old
+  pub rest : drop 256 new ≡ drop 256 old
+  pub long : length old ≤ length new
+
+-- a write within the other slot
+pub torn_other : (second : Bool) (p n : ℕ) (old new : List ℕ) → slot_place (not second) ≤ p
+    → p + n ≤ slot_place (not second) + 128 → Torn p n old new → KeptIn second old new
+torn_other false p n old new low high torn = record {
+  gate = torn_byte_low p n 0 old new (omega arith) torn;
+  body = torn_low p n 1 127 old new (omega arith) torn;
+  rest = torn_high p n 256 old new (omega arith) torn;
+  long = torn.no_shorter;
+}
+torn_other true p n old new low high torn = record {
+  gate = torn_byte_high p n 128 old new (omega arith) torn;
+  body = ap (take 127) (torn_high p n 129 old new (omega arith) torn);
+  rest = torn_high p n 256 old new (omega arith) torn;
+  long = torn.no_shorter;
+}
+
+-- a write of the gate keeps the body, and one of the body keeps the gate
+pub torn_gate_body : (second : Bool) (old new : List ℕ) → Torn (slot_place second) 1 old new
+    → body_at second new ≡ body_at second old
+torn_gate_body false old new torn = ap (take 127) (torn_high 0 1 1 old new (omega arith) torn)
+torn_gate_body true old new torn = ap (take 127) (torn_high 128 1 129 old new (omega arith) torn)
+
+pub torn_body_gate : (second : Bool) (old new : List ℕ) → Torn (slot_place second + 1) 127 old new
+    → gate_at second new ≡ gate_at second old
+torn_body_gate false old new torn = torn_byte_low 1 127 0 old new (omega arith) torn
+torn_body_gate true old new torn = torn_byte_low 129 127 128 old new (omega arith) torn
+
+pub kept_holding : (second : Bool) (weight : ℕ) (parts : List Portion) (old new : List ℕ)
+    → KeptIn second old new → Holding weight parts old → Holding weight parts new
+kept_holding second weight parts old new kept holding = record {
+  long = omega (arith, kept.long, holding.long);
+  frames_are = ap (take weight) kept.rest ∙ holding.frames_are;
+  short = holding.short;
+}
+
+-- bytes with the same front
+pub alike_holding : (n weight : ℕ) (parts : List Portion) (old new : List ℕ) → 256 + weight ≤ n
+    → take n new ≡ take n old → n ≤ length new → Holding weight parts old → Holding weight parts new
+alike_holding n weight parts old new le same long holding = record {
+  long = omega arith;
+  frames_are = alike_piece n 256 weight old new le same ∙ holding.frames_are;
+  short = holding.short;
+}
+
+pub slot_alike : (second : Bool) (n : ℕ) (old new : List ℕ) → 256 ≤ n → take n new ≡ take n old
+    → slot_at second new ≡ slot_at second old
+slot_alike false n old new le same =
+    let gate = alike_byte n 0 old new (omega arith) same in
+    let body = alike_piece n 1 127 old new (omega arith) same in
+    ap (λ (g : ℕ). read_slot g (body_at false new)) gate ∙ ap
+    (λ (b : List ℕ). read_slot (gate_at false old) b) body
+slot_alike true n old new le same =
+    let gate = alike_byte n 128 old new (omega arith) same in
+    let body = alike_piece n 129 127 old new (omega arith) same in
+    ap (λ (g : ℕ). read_slot g (body_at true new)) gate ∙ ap
+    (λ (b : List ℕ). read_slot (gate_at true old) b) body
+
+pub gate_alike : (second : Bool) (n : ℕ) (old new : List ℕ) → 256 ≤ n → take n new ≡ take n old
+    → gate_at second new ≡ gate_at second old
+gate_alike false n old new le same = alike_byte n 0 old new (omega arith) same
+gate_alike true n old new le same = alike_byte n 128 old new (omega arith) same
+
+pub body_alike : (second : Bool) (n : ℕ) (old new : List ℕ) → 256 ≤ n → take n new ≡ take n old
+    → body_at second new ≡ body_at second old
+body_alike false n old new le same = alike_piece n 1 127 old new (omega arith) same
+body_alike true n old new le same = alike_piece n 129 127 old new (omega arith) same
+
+pub alike_staged : (second : Bool) (g : ℕ) (point : Point) (parts : List Portion) (n : ℕ)
+    (old new : List ℕ) → 256 + point.staged ≤ n → take n new ≡ take n old → n ≤ length new
+    → StagedIn second g point parts old → StagedIn second g point parts new
+alike_staged second g point parts n old new le same long staged = record {
+  is_open = gate_alike second n old new (omega arith) same ∙ staged.is_open;
+  body = ap body_of (body_alike second n old new (omega arith) same) ∙ staged.body;
+  other = subst (Loses second g) (sym (slot_alike (not second) n old new (omega arith) same))
+      staged.other;
+  parts_are = alike_holding n point.staged parts old new le same long staged.parts_are;
+}
+
+-- a gate that may be anything counts no more than one that stands open
+pub loses_gate : (second : Bool) (g gate : ℕ) (body : List ℕ) → Loses second g (body_of body)
+    → Loses second g (read_slot gate body)
+loses_gate second g gate body loses = by_test (gate == 79)
+  where
+    by_test : (b : Bool) → Loses second g (if b then body_of body else None)
+    by_test true = loses
+    by_test false = none second
+      where
+        none : (s : Bool) → Loses s g None
+        none true = tt
+        none false = tt
+
+-- a slot whose gate is closed doesn't count
+pub closed_none : (gate : ℕ) (body : List ℕ) → (gate ≡ 79 → ⊥) → read_slot gate body ≡ None
+closed_none gate body closed = ap (λ (b : Bool). if b then body_of body else None)
+    (ne_eqb gate 79 closed)
+
+pub open_reads : (gate : ℕ) (body : List ℕ) → gate ≡ 79 → read_slot gate body ≡ body_of body
+open_reads gate body is = ap (λ (g : ℕ). read_slot g body) is
+
+pub none_loses : (second : Bool) (g : ℕ) → Loses second g None
+none_loses true g = tt
+none_loses false g = tt
+
+-- the slot that is named is the one that is taken
+pub best_named : (second : Bool) (g : ℕ) (point : Point) (other : Option Slot)
+    → Loses second g other
+    → (if second then best other (Some (g, point)) else best (Some (g, point)) other) ≡ Some
+    (g, point)
+best_named false g point None loses = refl
+best_named false g point (Some other) loses =
+    ap (λ (b : Bool). if b then Some other else Some (g, point)) (le-ltb-false g other.0 loses)
+best_named true g point None loses = refl
+best_named true g point (Some other) loses =
+    ap (λ (b : Bool). if b then Some (g, point) else Some other) (lt-ltb other.0 g loses)
+
+pub staged_named : (second : Bool) (g : ℕ) (point : Point) (parts : List Portion) (bytes : List ℕ)
+    → StagedIn second g point parts bytes → Staged bytes g point parts
+staged_named false g point parts bytes staged = record {
+  slot = ap (λ (s : Option Slot). best s (slot_at true bytes)) (open_reads (gate_at false bytes)
+      (body_at false bytes) staged.is_open ∙ staged.body) ∙ best_named false g point
+      (slot_at true bytes) staged.other;
+  parts_are = staged.parts_are;
+}
+staged_named true g point parts bytes staged = record {
+  slot = ap (λ (s : Option Slot). best (slot_at false bytes) s) (open_reads (gate_at true bytes)
+      (body_at true bytes) staged.is_open ∙ staged.body) ∙ best_named true g point
+      (slot_at false bytes) staged.other;
+  parts_are = staged.parts_are;
+}

@@ -1,0 +1,97 @@
+-- One frame after another.
+use Rattle.std.proofs.Common.{◌≡◌, ⊎_elim, ℕ, zero, suc, ◌+◌, ◌-◌, ◌≤◌, ◌<◌, List}
+use Rattle.std.proofs.Common.{[], ◌∷◌, ◌++◌, take, drop, length, get_or, w32, refl, sym, ap, ◌∙◌}
+use Rattle.std.proofs.Common.{subst, arith}
+use Rattle.std.proofs.lemmas.List.{length-take-le, length-drop, drop-drop}
+use Rattle.std.proofs.lemmas.Bool.Decides.{eqb_tells}
+use Rattle.std.proofs.lemmas.Nat.{be_bytes_4}
+use Rattle.std.proofs.Math.Seq.{take-add}
+use Rattle.std.specs.Int.{to_be_bytes, from_be_bytes}
+use Rattle.tape_blocks.specs.Block.{Portion}
+use Rattle.tape_stage.specs.Parts.{frame, frames}
+use Rattle.tape_blocks.specs.Block.{indicator}
+use Rattle.tape_stage.specs.Staged.{Holding, IsPut, WalkedTo}
+use Rattle.tape_blocks.specs.declared.part.Span.{Span}
+use Rattle.tape_blocks.specs.declared.part.Span.TheVariants.{Whole, First, Middle, Last}
+use Rattle.tape_stage.proofs.FrameLaws.{put_holding}
+
+pub walked_holding : (place : ℕ) (bytes : List ℕ) → place ≤ length bytes
+    → (walked : WalkedTo place bytes) → Holding (place - 256) walked.parts bytes
+walked_holding place bytes le walked = record {
+  long = omega (arith, walked.low);
+  frames_are =
+      walked.frames_are;
+  short = walked.short;
+}
+
+pub walked_more : (place size : ℕ) (span : Span) (header bytes : List ℕ)
+    → place + (5 + size) ≤ length bytes → header ≡ take 5 (drop place bytes)
+    → header ≡ indicator span ∷ to_be_bytes w32 size → size ≤ 99999
+    → WalkedTo place bytes → WalkedTo (place + (5 + size)) bytes
+walked_more place size span header bytes room read is short walked =
+    let content : List ℕ = take size (drop (place + 5) bytes) in
+    let part : Portion = record { span = span; bytes = content } in
+    let n : length content ≡ size =
+    length-take-le size (drop (place + 5) bytes)
+    (omega (arith, length-drop (place + 5) bytes)) in
+    let head : take 5 (drop place bytes) ≡ indicator span ∷ to_be_bytes w32 (length content) =
+    sym read ∙ is ∙ ap (λ (k : ℕ). indicator span ∷ to_be_bytes w32 k) (sym n) in
+    let whole : take (5 + size) (drop place bytes) ≡ frame part =
+    take-add 5 size (drop place bytes) ∙ ap (λ (l : List ℕ). l ++ take size
+    (drop 5 (drop place bytes))) head
+    ∙ ap (λ (l : List ℕ). (indicator span ∷ to_be_bytes w32 (length content)) ++ take size l)
+    (drop-drop 5 place bytes) in
+    let put : IsPut place part bytes bytes = record {
+      front = refl;
+      frame_is = subst (λ (k : ℕ). take (5 + k) (drop place bytes) ≡ frame part) (sym n) whole;
+      long = omega (arith, n);
+    } in
+    let holding = put_holding (place - 256) place walked.parts part bytes bytes
+    (omega (arith, walked.low)) (omega (arith, n)) (walked_holding place bytes (omega arith)
+    walked) put in
+    record {
+      low = omega (arith, walked.low);
+      parts = walked.parts ++ part ∷ [];
+      frames_are = subst (λ (k : ℕ). take k (drop 256 bytes) ≡ frames (walked.parts ++ part ∷ []))
+          (omega (arith, n, walked.low)) holding.frames_are;
+      short = holding.short;
+    }
+
+digit_span : (n : ℕ) → 48 ≤ n → n ≤ 51 → (s : Span) × (n ≡ indicator s)
+digit_span n low high =
+    ⊎_elim (λ is. (Whole, is.1)) (λ no0. ⊎_elim (λ is. (First, is.1))
+    (λ no1. ⊎_elim (λ is. (Middle, is.1)) (λ no2.
+    let last : n ≡ 51 = omega (arith, no0.1, no1.1, no2.1) in (Last, last))
+    (eqb_tells n 50)) (eqb_tells n 49)) (eqb_tells n 48)
+
+five : (l : List ℕ) → length l ≡ 5 → l ≡ get_or l 0 0 ∷ get_or l 1 0 ∷ get_or l 2 0 ∷ get_or l 3 0
+    ∷ get_or l 4 0 ∷ []
+five [] is = absurd (omega arith)
+five (a ∷ []) is = absurd (omega arith)
+five (a ∷ b ∷ []) is = absurd (omega arith)
+five (a ∷ b ∷ c ∷ []) is = absurd (omega arith)
+five (a ∷ b ∷ c ∷ d ∷ []) is = absurd (omega arith)
+five (a ∷ b ∷ c ∷ d ∷ e ∷ []) is = refl
+five (a ∷ b ∷ c ∷ d ∷ e ∷ f ∷ l) is = absurd (omega arith)
+
+four_fit : (l : List ℕ) → ((i : ℕ) → get_or l i 0 < 256) → (i : ℕ)
+    → get_or (get_or l 1 0 ∷ get_or l 2 0 ∷ get_or l 3 0 ∷ get_or l 4 0 ∷ []) i 0 < 256
+four_fit l fits zero = fits 1
+four_fit l fits (suc zero) = fits 2
+four_fit l fits (suc (suc zero)) = fits 3
+four_fit l fits (suc (suc (suc zero))) = fits 4
+four_fit l fits (suc (suc (suc (suc i)))) = omega arith
+
+pub header_is : (header : List ℕ) (size : ℕ) → length header ≡ 5
+    → ((i : ℕ) → get_or header i 0 < 256) → 48 ≤ get_or header 0 0 → get_or header 0 0 ≤ 51
+    → size ≡ from_be_bytes w32 (get_or header 1 0 ∷ get_or header 2 0 ∷ get_or header 3 0 ∷ get_or
+    header 4 0 ∷ []) → (span : Span) × (header ≡ indicator span ∷ to_be_bytes w32 size)
+header_is header size long fits low high is =
+    let digit = digit_span (get_or header 0 0) low high in
+    let rest : List ℕ = get_or header 1 0 ∷ get_or header 2 0 ∷ get_or header 3 0 ∷ get_or header 4
+    0 ∷ [] in
+    let bytes = be_bytes_4 rest size refl (four_fit header fits) is in (
+      digit.0,
+      five header long ∙ ap (λ (l : List ℕ). get_or header 0 0 ∷ l) (sym bytes) ∙ ap
+          (λ (d : ℕ). d ∷ to_be_bytes w32 size) digit.1,
+    )

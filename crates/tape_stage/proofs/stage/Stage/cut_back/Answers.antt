@@ -1,0 +1,34 @@
+use Rattle.std.proofs.Common.{◌≡◌, true, false, subst, sym}
+use Rattle.tape_core.specs.Point.{Point}
+use Rattle.tape_stage.specs.Parts.{IsFront}
+use Rattle.tape_stage.proofs.Results.{on_ok, if_err}
+use Rattle.tape_stage.specs.declared.disk.Disk.{Ghosts}
+use Rattle.tape_stage.specs.declared.stage.Stage.{Stage}
+use Rattle.tape_stage.specs.declared.stage.StageFault.{StageFault}
+use Rattle.tape_stage.specs.declared.stage.StageFault.TheVariants.{Device}
+use Rattle.tape_stage.specs.Stages.{HasRefused}
+use Rattle.tape_stage.proofs.stage.Stage.cut_back.Goals as goal
+
+pub returns-then-self-staged-clause-ok : goal.returns-then-self-staged-clause-ok
+returns-then-self-staged-clause-ok g c honest =
+    on_ok c.cut_parts.result (λ holds acked parts front is of. (
+      acked,
+      holds acked parts front is (subst (λ (p : Point). IsFront p.staged front parts)
+          (sym c.point.view_is) of),
+    ))
+    (c.cut_parts.ensures.ok honest)
+
+pub returns-clause-ok : goal.returns-clause-ok
+returns-clause-ok g c honest =
+    on_ok c.restart.result (λ holds acked parts front is of. (front, holds acked parts front is of))
+    (c.restart.ensures.ok honest)
+
+cut_refused : {D : Type 0} {disk : Ghosts D} (old new : Stage D disk) (fault : StageFault)
+    → old.failed ≡ false → (fault ≡ Device) × (new.failed ≡ true) × (new.weight ≡ old.weight)
+    → HasRefused old new fault
+cut_refused old new fault alive is = rw is.0 (alive, is.1, is.2)
+
+pub returns-then-self-staged-clause-refused : goal.returns-then-self-staged-clause-refused
+returns-then-self-staged-clause-refused g c =
+    if_err c.cut_parts.result (λ fault is. cut_refused c.args.self.now c.cut_parts.new.self fault
+    c.cut_parts.ensures.was_alive is) c.cut_parts.ensures.refused

@@ -1,0 +1,56 @@
+use Rattle.std.proofs.Common.{◌≡◌, ◌+◌}
+use Rattle.std.proofs.Common.{length, take, ◌∙◌}
+use Rattle.std.proofs.Common.{ap, arith}
+use Rattle.std.proofs.lemmas.List.{take-take, length-take-le}
+use Rattle.tape_stage.specs.Staged.{StagedIn}
+use Rattle.tape_stage.proofs.Passing.{stands}
+use Rattle.tape_stage.proofs.Tears.{alike_holding}
+use Rattle.tape_stage.proofs.FrameLaws.{front_holding}
+use Rattle.tape_stage.proofs.Stays.{front_staged, still_ready}
+use Rattle.tape_stage.proofs.stage.Stage.cut_parts.Goals as goal
+
+pub returns-in-Ok-clause-ok : goal.returns-in-Ok-clause-ok
+returns-in-Ok-clause-ok g c honest acked parts front is of =
+    let s = c.args.self.now in
+    let old = g.D.Disk.seen s.disk in
+    let holding = front_holding s.weight c.args.staged parts front old c.requires.there of
+    is.holds in
+    let n = 256 + c.args.staged in
+    let new = g.D.Disk.seen c.cut.new.self in
+    let cut : new ≡ take n old = c.in-Ok.ensures.cut honest in
+    let long : length new ≡ n =
+    ap length cut ∙ length-take-le n old (omega (arith, holding.long)) in
+    let same : take n new ≡ take n old = ap (take n) cut ∙ take-take n n old (omega arith) in
+    record {
+      alive = is.alive;
+      ready = still_ready s.in_second s.generation s.acknowledged acked s.other_open n old new
+          (g.D.Disk.may_leave s.disk) (g.D.Disk.may_leave c.cut.new.self)
+          (omega (arith, c.requires.behind)) is.ready same (omega (arith, long))
+          (λ x left. let from = c.cut.ensures.crash honest x left in
+          (from.0, from.1, from.2.front));
+      holds = alike_holding n c.args.staged front old new (omega arith) same (omega (arith, long))
+          holding;
+      behind = c.requires.behind;
+    }
+
+pub returns-in-Ok-clause-any_moment : goal.returns-in-Ok-clause-any_moment
+returns-in-Ok-clause-any_moment g c honest acked parts is =
+    let s = c.args.self.now in
+    stands g.D.Disk.may_leave g.D.Disk.moment g.D.Disk.left_since s.disk c.cut.new.self
+    (StagedIn s.in_second s.generation s.acknowledged acked) (c.cut.ensures.time honest)
+    (λ x left.
+    let from = c.cut.ensures.crash honest x left in
+    front_staged s.in_second s.generation s.acknowledged acked s.other_open (256 + c.args.staged)
+    (g.D.Disk.seen s.disk) (g.D.Disk.may_leave s.disk) x (omega (arith, c.requires.behind))
+    is.ready (from.0, from.1, from.2.front))
+
+pub returns-in-Err-clause-any_moment : goal.returns-in-Err-clause-any_moment
+returns-in-Err-clause-any_moment g c honest acked parts is =
+    let s = c.args.self.now in
+    stands g.D.Disk.may_leave g.D.Disk.moment g.D.Disk.left_since s.disk c.cut.new.self
+    (StagedIn s.in_second s.generation s.acknowledged acked) (c.cut.ensures.time honest)
+    (λ x left.
+    let from = c.cut.ensures.crash honest x left in
+    front_staged s.in_second s.generation s.acknowledged acked s.other_open (256 + c.args.staged)
+    (g.D.Disk.seen s.disk) (g.D.Disk.may_leave s.disk) x (omega (arith, c.requires.behind))
+    is.ready (from.0, from.1, from.2.front))

@@ -1,0 +1,59 @@
+use Rattle.std.proofs.Common.{◌+◌}
+use Rattle.std.proofs.Common.{refl}
+use Rattle.std.proofs.Common.{arith}
+use Rattle.tape_blocks.specs.Parts.{view}
+use Rattle.tape_stage.specs.Staged.{StagedIn, FrontOf}
+use Rattle.tape_stage.proofs.Passing.{weaken, nothing}
+use Rattle.tape_stage.proofs.SlotSteps.{ready_each}
+use Rattle.tape_stage.proofs.FrameLaws.{put_holding}
+use Rattle.tape_stage.proofs.Stays.{front_staged, still_ready}
+use Rattle.tape_stage.proofs.stage.Stage.put_part.Goals as goal
+
+pub returns-then-size-self-clause-any_moment : goal.returns-then-size-self-clause-any_moment
+returns-then-size-self-clause-any_moment g c honest acked parts is =
+    let s = c.args.self.now in
+    nothing g.D.Disk.may_leave g.D.Disk.moment g.D.Disk.left_since s.disk
+    (StagedIn s.in_second s.generation s.acknowledged acked)
+    (λ x left. (ready_each s.in_second s.generation s.acknowledged acked s.other_open
+    (g.D.Disk.seen s.disk) (g.D.Disk.may_leave s.disk) x is.ready left).0)
+
+pub returns-in-Ok-clause-ok : goal.returns-in-Ok-clause-ok
+returns-in-Ok-clause-ok g c honest acked parts is =
+    let s = c.args.self.now in
+    let value = view c.args.part in
+    let old = g.D.Disk.seen s.disk in
+    let new = g.D.Disk.seen c.write_frame.new.disk in
+    let put = c.in-Ok.ensures.written honest in
+    record {
+      alive = is.alive;
+      ready = still_ready s.in_second s.generation s.acknowledged acked s.other_open
+          (256 + s.weight) old new (g.D.Disk.may_leave s.disk)
+          (g.D.Disk.may_leave c.write_frame.new.disk)
+          (omega (arith, is.behind)) is.ready put.front (omega (arith, put.long))
+          (λ x left. (c.write_frame.ensures.any_moment honest).now x left);
+      holds = put_holding s.weight (256 + s.weight) parts value old new refl c.requires is.holds
+          put;
+      behind = omega (arith, is.behind);
+    }
+
+pub returns-in-Ok-clause-any_moment : goal.returns-in-Ok-clause-any_moment
+returns-in-Ok-clause-any_moment g c honest acked parts is =
+    let s = c.args.self.now in
+    weaken g.D.Disk.may_leave g.D.Disk.moment g.D.Disk.left_since s.disk c.write_frame.new.disk
+    (FrontOf (256 + s.weight) (g.D.Disk.may_leave s.disk))
+    (StagedIn s.in_second s.generation s.acknowledged acked)
+    (λ x of. front_staged s.in_second s.generation s.acknowledged acked s.other_open
+    (256 + s.weight) (g.D.Disk.seen s.disk) (g.D.Disk.may_leave s.disk) x
+    (omega (arith, is.behind)) is.ready of)
+    (c.write_frame.ensures.any_moment honest)
+
+pub returns-in-Err-clause-any_moment : goal.returns-in-Err-clause-any_moment
+returns-in-Err-clause-any_moment g c honest acked parts is =
+    let s = c.args.self.now in
+    weaken g.D.Disk.may_leave g.D.Disk.moment g.D.Disk.left_since s.disk c.write_frame.new.disk
+    (FrontOf (256 + s.weight) (g.D.Disk.may_leave s.disk))
+    (StagedIn s.in_second s.generation s.acknowledged acked)
+    (λ x of. front_staged s.in_second s.generation s.acknowledged acked s.other_open
+    (256 + s.weight) (g.D.Disk.seen s.disk) (g.D.Disk.may_leave s.disk) x
+    (omega (arith, is.behind)) is.ready of)
+    (c.write_frame.ensures.any_moment honest)

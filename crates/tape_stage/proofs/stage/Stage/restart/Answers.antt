@@ -1,0 +1,72 @@
+use Rattle.std.proofs.Common.{◌≡◌, inr, ℕ, ◌+◌, Bool, true, false}
+use Rattle.std.proofs.Common.{subst, sym, ◌∙◌}
+use Rattle.tape_core.specs.Weight.{Rose}
+use Rattle.tape_stage.specs.Parts.{IsFront}
+use Rattle.tape_stage.specs.Staged.{StagedIn, IsEither}
+use Rattle.tape_core.specs.Point.{Point}
+use Rattle.tape_stage.proofs.Passing.{weaken, follow}
+use Rattle.tape_stage.proofs.Results.{on_ok, if_err}
+use Rattle.tape_stage.proofs.FrameLaws.{front_holding}
+use Rattle.tape_stage.specs.declared.disk.Disk.{Ghosts}
+use Rattle.tape_stage.specs.declared.stage.Stage.{Stage}
+use Rattle.tape_stage.specs.declared.stage.StageFault.{StageFault}
+use Rattle.tape_stage.specs.declared.stage.StageFault.TheVariants.{Device}
+use Rattle.tape_stage.specs.Stages.{HasRefused}
+use Rattle.tape_stage.proofs.stage.Stage.restart.Goals as goal
+
+pub returns-in-Err-clause-any_moment : goal.returns-in-Err-clause-any_moment
+returns-in-Err-clause-any_moment g c honest acked parts front is of =
+    let s = c.args.self.now in
+    c.acknowledge.ensures.any_moment honest acked parts front is
+    (front_holding s.weight c.args.point.now.staged parts front (g.D.Disk.seen s.disk)
+    c.requires of is.holds)
+
+pub returns-in-Ok-clause-ok : goal.returns-in-Ok-clause-ok
+returns-in-Ok-clause-ok g c honest =
+    let s = c.args.self.now in
+    on_ok c.cut_parts.result
+    (λ cut acked parts front is of.
+    let holding = front_holding s.weight c.args.point.now.staged parts front (g.D.Disk.seen s.disk)
+    c.requires of is.holds in
+    cut front parts front (c.in-Ok.ensures.ok honest acked parts front is holding)
+    (subst (λ (p : Point). IsFront p.staged front parts) (sym c.point.view_is) of))
+    (c.cut_parts.ensures.ok (c.acknowledge.ensures.honest.onward honest))
+
+pub returns-in-Ok-clause-any_moment : goal.returns-in-Ok-clause-any_moment
+returns-in-Ok-clause-any_moment g c honest acked parts front is of =
+    let s = c.args.self.now in
+    let holding = front_holding s.weight c.args.point.now.staged parts front (g.D.Disk.seen s.disk)
+    c.requires of is.holds in
+    let k = c.acknowledge.new.self in
+    let mid = c.in-Ok.ensures.ok honest acked parts front is holding in
+    let honest1 = c.acknowledge.ensures.honest.onward honest in
+    let point : k.acknowledged ≡ c.args.point.now = c.in-Ok.ensures.acknowledged in
+    let P = IsEither s.in_second s.generation s.acknowledged c.args.point.now acked front in
+    follow g.D.Disk.may_leave g.D.Disk.moment g.D.Disk.left_since s.disk k.disk
+    c.cut_parts.new.self.disk P (c.acknowledge.ensures.any_moment honest acked parts front is
+    holding)
+    (weaken g.D.Disk.may_leave g.D.Disk.moment g.D.Disk.left_since k.disk c.cut_parts.new.self.disk
+    (StagedIn k.in_second k.generation k.acknowledged front) P
+    (λ x now.
+    inr (subst (λ (b : Bool). StagedIn b (s.generation + 1) c.args.point.now front x)
+    c.in-Ok.ensures.slot
+    (subst (λ (n : ℕ). StagedIn k.in_second n c.args.point.now front x) c.in-Ok.ensures.generation
+    (subst (λ (p : Point). StagedIn k.in_second k.generation p front x) point now))))
+    (c.cut_parts.ensures.any_moment honest1 front parts mid))
+
+-- a failed cut, since the acknowledged stage
+cut_refused : {D : Type 0} {disk : Ghosts D} (old mid new : Stage D disk) (fault : StageFault)
+    → old.failed ≡ false → mid.weight ≡ old.weight → (fault ≡ Device) × (new.failed ≡ true)
+    × (new.weight ≡ mid.weight) → HasRefused old new fault
+cut_refused old mid new fault alive same is = rw is.0 (alive, is.1, is.2 ∙ same)
+
+pub returns-in-Ok-clause-refused : goal.returns-in-Ok-clause-refused
+returns-in-Ok-clause-refused g c =
+    if_err c.cut_parts.result (λ fault is. cut_refused c.args.self.now c.acknowledge.new.self
+    c.cut_parts.new.self fault c.in-Ok.ensures.was_alive c.acknowledge.ensures.weight is)
+    c.cut_parts.ensures.refused
+
+pub returns-in-Ok-clause-cause : goal.returns-in-Ok-clause-cause
+returns-in-Ok-clause-cause g c is =
+    subst (λ (n : ℕ). Rose n (g.D.Disk.faults c.cut_parts.new.self.disk)) c.in-Ok.ensures.calm
+    (c.cut_parts.ensures.cause is)

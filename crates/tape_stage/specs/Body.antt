@@ -1,0 +1,41 @@
+-- The 127 bytes behind a gate: a generation, a checkpoint and spaces.
+use Rattle.std.specs.Prelude.{ℕ, ◌^◌, ◌<◌, List, ◌++◌, take, drop, replicate, Option, Some}
+use Rattle.std.specs.Prelude.{None, if◌then◌else◌}
+use Rattle.std.specs.Str.{all_ascii_digits}
+use Rattle.tape_label.specs.Digits.{digits, number_of}
+use Rattle.tape_label.specs.Written.{text_of}
+use Rattle.tape_core.specs.Point.{Point}
+use Rattle.tape_stage.specs.declared.fields.Version.TheVariants.{Two}
+use Rattle.tape_stage.specs.Fields.{fields_of}
+use Rattle.tape_stage.specs.Reading.{point_in}
+use Rattle.tape_stage.specs.Text.{IsPointText, pieces}
+
+-- a generation and its checkpoint
+abbrev pub Slot : Type 0
+Slot = ℕ × Point
+
+-- the text of a checkpoint in version 2
+abbrev pub point_text : Point → List ℕ
+point_text c = text_of (pieces Two (fields_of c))
+
+-- what is written behind a gate: a generation of 15 digits, its checkpoint's text and 32 spaces
+unfoldable pub body_text : ℕ → Point → List ℕ
+body_text g point = digits 15 g ++ (point_text point ++ replicate 32 32)
+
+-- this generation and the checkpoint, where there is one
+abbrev pub with_generation : ℕ → Option Point → Option Slot
+with_generation g None = None
+with_generation g (Some point) = Some (g, point)
+
+-- what a body says: its generation is digits, and its text that of a checkpoint; what follows is
+-- not looked at
+unfoldable pub body_of : List ℕ → Option Slot
+body_of body =
+    if all_ascii_digits (take 15 body)
+    then with_generation (number_of (take 15 body)) (point_in (take 80 (drop 15 body)))
+    else None
+
+-- the generation has 15 digits, and the checkpoint a text
+pub record FitBody (g : ℕ) (point : Point) : Type 0 where
+  pub generation : g < 10 ^ 15
+  pub text : IsPointText Two (point_text point) point

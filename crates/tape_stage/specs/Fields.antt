@@ -1,0 +1,79 @@
+-- The fields of a checkpoint's text, and the checkpoint that has given fields.
+use Rattle.std.specs.Prelude.{Bool, if◌then◌else◌, replicate, Option, Some}
+use Rattle.std.specs.Prelude.{None, is_some}
+use Rattle.tape_label.specs.declared.values.Format.{Format}
+use Rattle.tape_set.specs.declared.position.Position.{Position}
+use Rattle.tape_set.specs.declared.position.Position.TheVariants.{Awaits, Finished}
+use Rattle.tape_set.specs.Position.{sect_of, block_of, part_of}
+use Rattle.tape_set.specs.Lawful.{FileForm}
+use Rattle.tape_core.specs.Known.{is_finished}
+use Rattle.tape_core.specs.Point.{Point}
+use Rattle.tape_stage.specs.declared.fields.Place.{Place}
+use Rattle.tape_stage.specs.declared.fields.Flags.{Flags}
+use Rattle.tape_stage.specs.declared.fields.Form.{Form}
+use Rattle.tape_stage.specs.declared.fields.Fields.{Fields}
+
+-- ---- the fields of a checkpoint
+
+-- the numbers of the block and the part; zeros where the file is whole
+abbrev pub place_of : Position → Place
+place_of p = record { block = block_of p; part = part_of p }
+
+-- the state, and whether a record is begun and anything known
+abbrev pub flags_of : Position → Bool → Option FileForm → Flags
+flags_of p begun known = record { done = is_finished p; begun = begun; known = is_some known }
+
+-- what is said of the file; where nothing is known a blank, zeros and blanks
+abbrev pub form_of : Option FileForm → Form
+form_of None = record { format = None; rec_len = 0; offset = 0; file_id = replicate 17 32 }
+form_of (Some form) =
+    record {
+      format = Some form.format;
+      rec_len = form.rec_len;
+      offset = form.offset;
+      file_id =
+          form.file_id;
+    }
+
+-- the fields of a checkpoint
+abbrev pub fields_of : Point → Fields
+fields_of c = record {
+  set_id = c.set_id;
+  file = c.file;
+  sect = sect_of c.position;
+  place = place_of c.position;
+  flags = flags_of c.position c.begun c.known;
+  form = form_of c.known;
+  staged = c.staged;
+}
+
+-- ---- the checkpoint of fields
+
+-- the end of the file, or what is awaited
+abbrev pub position_by : Fields → Position
+position_by f = if f.flags.done then Finished else Awaits f.sect f.place.block f.place.part
+
+-- what is said of the file, in a format
+abbrev pub form_as : Form → Format → FileForm
+form_as form format =
+    record { file_id = form.file_id; format = format; rec_len = form.rec_len; offset = form.offset }
+
+-- what is known by the format that is named
+abbrev pub known_as : Form → Option Format → Option FileForm
+known_as form None = None
+known_as form (Some format) = Some (form_as form format)
+
+-- what is known of the file
+abbrev pub known_by : Form → Option FileForm
+known_by form = known_as form form.format
+
+-- the checkpoint that these fields tell
+abbrev pub point_by : Fields → Point
+point_by f = record {
+  set_id = f.set_id;
+  file = f.file;
+  position = position_by f;
+  begun = f.flags.begun;
+  known = known_by f.form;
+  staged = f.staged;
+}

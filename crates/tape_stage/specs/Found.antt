@@ -1,0 +1,22 @@
+-- What the slots of a stage file say.
+use Rattle.std.specs.Prelude.{◌≡◌, ℕ, ◌+◌, min, length, true, false, not, List, Some, ◌==◌}
+use Rattle.tape_stage.specs.Staged.{best, WalkedTo}
+use Rattle.tape_stage.specs.Frames.{NoFrameAt}
+use Rattle.tape_core.specs.Point.{Point}
+use Rattle.tape_stage.specs.Staged.{gate_at, slot_at, Loses}
+use Rattle.tape_stage.specs.declared.found.Found.{Found}
+
+-- the slot that counts, and the other one's gate
+pub record IsFound (found : Found) (bytes : List ℕ) : Type 0 where
+  pub slot : slot_at found.in_second bytes ≡ Some (found.generation, found.point)
+  pub other : Loses found.in_second found.generation (slot_at (not found.in_second) bytes)
+  pub gate : found.other_open ≡ (gate_at (not found.in_second) bytes == 79)
+
+-- The frames behind the slot that counts are those of some parts up to this place, and no frame
+-- stands there that ends by the staged end and the file's.
+pub record IsBadPlace (bytes : List ℕ) (place : ℕ) : Type 0 where
+  pub generation : ℕ
+  pub point : Point
+  pub slot : best (slot_at false bytes) (slot_at true bytes) ≡ Some (generation, point)
+  pub walked : WalkedTo place bytes
+  pub none : NoFrameAt place (min (256 + point.staged) (length bytes)) bytes

@@ -1,0 +1,28 @@
+-- Frames at places of a list of bytes.
+use Rattle.std.specs.Prelude.{◌≡◌, ℕ, ◌+◌, ◌-◌, ◌≤◌, List, ◌∷◌, length, take, drop}
+use Rattle.std.specs.Int.{to_be_bytes}
+use Rattle.std.proofs.Common.{w32}
+use Rattle.tape_blocks.specs.declared.part.Span.{Span}
+use Rattle.tape_blocks.specs.Block.{Portion}
+use Rattle.tape_stage.specs.Parts.{frames, AllShort}
+use Rattle.tape_blocks.specs.Block.{indicator}
+
+-- From the place to the end stand the frames of these parts.
+pub record AheadIn (place end : ℕ) (bytes : List ℕ) (parts : List Portion) : Type 0 where
+  pub low : place ≤ end
+  pub high : end ≤ length bytes
+  pub frames_are : take (end - place) (drop place bytes) ≡ frames parts
+  pub short : AllShort parts
+
+-- A part's frame stands at a place, and ends at the end or before.
+pub record IsFrameAt (place end : ℕ) (bytes : List ℕ) (span : Span)
+    (content : List ℕ) : Type 0 where
+  pub room : place + (5 + length content) ≤ end
+  pub header : take 5 (drop place bytes) ≡ indicator span ∷ to_be_bytes w32 (length content)
+  pub content_is : take (length content) (drop (place + 5) bytes) ≡ content
+  pub short : length content ≤ 99999
+
+-- No frame of at most 99,999 bytes stands there.
+abbrev pub NoFrameAt : ℕ → ℕ → List ℕ → Type 0
+NoFrameAt place end bytes = (span : Span) (content : List ℕ)
+    → IsFrameAt place end bytes span content → ⊥

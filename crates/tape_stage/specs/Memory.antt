@@ -1,0 +1,24 @@
+-- What a disk in memory stands for.
+use Rattle.std.specs.Prelude.{ℕ, List}
+use Rattle.tape_stage.specs.Calls.{kept_or, worst_by, IsImage, WasImage}
+use Rattle.tape_stage.specs.declared.content.Content.{Content}
+use Rattle.tape_stage.specs.declared.memory.MemoryDisk.{MemoryDisk}
+
+abbrev pub first_of : Content → List ℕ
+first_of content = kept_or content.changed content.first.items content.bytes.items
+
+abbrev pub memory_bytes : MemoryDisk → List ℕ
+memory_bytes disk = disk.content.bytes.items
+
+-- what a crash may leave
+abbrev pub memory_leaves : MemoryDisk → List ℕ → Type 0
+memory_leaves disk c = IsImage (first_of disk.content) disk.content.calls.items c
+
+-- what a crash since then may have left
+abbrev pub memory_left : MemoryDisk → ℕ → List ℕ → Type 0
+memory_left disk t c = WasImage (first_of disk.content) disk.content.calls.items t c
+
+-- 255 wherever a byte is open, and nothing absent
+abbrev pub memory_worst : MemoryDisk → List ℕ
+memory_worst disk = worst_by (first_of disk.content)
+    (first_of disk.content) disk.content.calls.items

@@ -1,0 +1,26 @@
+-- Frames of parts, and fronts of a weight.
+use Rattle.std.specs.Prelude.{◌≡◌, ℕ, ◌≤◌, List, [], ◌∷◌, ◌++◌, length}
+use Rattle.std.specs.List.{flat_map}
+use Rattle.std.specs.Int.{to_be_bytes}
+use Rattle.std.proofs.Common.{w32}
+use Rattle.tape_blocks.specs.Block.{Portion, indicator}
+use Rattle.tape_core.specs.Stands.{weight_of}
+
+-- a frame: the span's indicator, the length in four bytes, greatest first, and the content
+abbrev pub frame : Portion → List ℕ
+frame part = indicator part.span ∷ to_be_bytes w32 (length part.bytes) ++ part.bytes
+
+-- frames one after another
+abbrev pub frames : List Portion → List ℕ
+frames parts = flat_map frame parts
+
+-- each part is short enough
+abbrev pub AllShort : List Portion → Type 0
+AllShort [] = Unit {0}
+AllShort (part ∷ parts) = (length part.bytes ≤ 99999) × AllShort parts
+
+-- the first of the parts, of this weight
+pub record IsFront (weight : ℕ) (front parts : List Portion) : Type 0 where
+  pub rest : List Portion
+  pub whole : parts ≡ front ++ rest
+  pub weighs : weight_of front ≡ weight

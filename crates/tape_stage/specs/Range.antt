@@ -1,0 +1,31 @@
+-- The rules that the fields of a checkpoint keep together.
+use Rattle.std.specs.Prelude.{nat_le, ◌==◌, ◌&&◌, not, Bool, if◌then◌else◌, replicate, Option}
+use Rattle.std.specs.Prelude.{Some, None}
+use Rattle.std.specs.Str.{bytes_eq}
+use Rattle.tape_label.specs.declared.values.Format.{Format}
+use Rattle.tape_set.specs.Lawful.{most_blocks}
+use Rattle.tape_core.specs.Range.{form_in_range, in_range}
+use Rattle.tape_stage.specs.declared.fields.Form.{Form}
+use Rattle.tape_stage.specs.declared.fields.Fields.{Fields}
+use Rattle.tape_stage.specs.Fields.{form_as, point_by}
+
+-- no section, block and part is awaited behind a whole file; else a block is one that a section may
+-- have
+abbrev pub place_agrees : Fields → Bool
+place_agrees f =
+    if f.flags.done then (f.sect == 0) && (f.place.block == 0) && (f.place.part == 0)
+    else nat_le f.place.block most_blocks
+
+-- nothing is said of the file
+abbrev pub is_blank : Form → Bool
+is_blank form = (form.rec_len == 0) && (form.offset == 0) && bytes_eq form.file_id (replicate 17 32)
+
+-- what is known is said in numbers that the format has, and where nothing is known nothing is said
+abbrev pub form_agrees : Form → Bool → Option Format → Bool
+form_agrees form known None = not known && is_blank form
+form_agrees form known (Some format) = known && form_in_range (form_as form format)
+
+-- the fields agree with one another, and what they tell is in the range of checkpoints
+abbrev pub is_right : Fields → Bool
+is_right f = place_agrees f && form_agrees f.form f.flags.known f.form.format && in_range
+    (point_by f)

@@ -1,0 +1,149 @@
+-- What reading a checkpoint's text answers, as a function of the text: the checkpoint, or the first
+-- of the tests that fails, in the order of the lines.
+use Rattle.std.specs.Prelude.{ℕ, ◌+◌, ◌-◌, ◌==◌, List, length, codes, replicate, drop}
+use Rattle.std.specs.Prelude.{slice_range, slice_index, Bool, true, false, if◌then◌else◌, Option}
+use Rattle.std.specs.Prelude.{Some, None, Result, Ok, Err}
+use Rattle.std.specs.Result.{result_ok}
+use Rattle.std.specs.Str.{bytes_eq, all_ascii_digits}
+use Rattle.tape_label.specs.declared.values.Format.{Format}
+use Rattle.tape_label.specs.declared.values.Format.TheVariants.{Fixed, Counted, Spanned}
+use Rattle.tape_label.specs.Digits.{number_of}
+use Rattle.tape_core.specs.Point.{Point}
+use Rattle.tape_stage.specs.declared.point_fault.PointFault.{PointFault}
+use Rattle.tape_stage.specs.declared.point_fault.PointFault.TheVariants as faults
+use Rattle.tape_stage.specs.declared.fields.Version.{Version}
+use Rattle.tape_stage.specs.declared.fields.Version.TheVariants.{One, Two}
+use Rattle.tape_stage.specs.declared.fields.Place.{Place}
+use Rattle.tape_stage.specs.declared.fields.Flags.{Flags}
+use Rattle.tape_stage.specs.declared.fields.Form.{Form}
+use Rattle.tape_stage.specs.declared.fields.Fields.{Fields}
+use Rattle.tape_stage.specs.Fields.{point_by}
+use Rattle.tape_stage.specs.Range.{is_right}
+
+-- the next step, where none has failed yet
+infixl 10 ◌>>=◌
+abbrev pub ◌>>=◌ : {A B : Type 0} → Result A PointFault → (A → Result B PointFault)
+    → Result B PointFault
+(Ok x) >>= f = f x
+(Err e) >>= f = Err e
+
+-- the characters at these positions, counted from 1
+abbrev pub chars_at : List ℕ → ℕ → ℕ → List ℕ
+chars_at text first last = slice_range text (first - 1) last
+
+-- the number in digits at these positions
+abbrev pub number_at : List ℕ → ℕ → ℕ → Result ℕ PointFault
+number_at text first last =
+    if all_ascii_digits (chars_at text first last)
+    then Ok (number_of (chars_at text first last)) else Err (faults.Field first)
+
+-- which of two characters stands at this position
+abbrev pub flag_at : List ℕ → ℕ → ℕ → ℕ → Result Bool PointFault
+flag_at text position one other =
+    let c = slice_index text (position - 1)
+    in if c == one then Ok true else (if c == other then Ok false else Err (faults.Field position))
+
+-- the record format at this position, or a space
+abbrev pub format_at : List ℕ → ℕ → Result (Option Format) PointFault
+format_at text position =
+    let c = slice_index text (position - 1)
+    in if c == 70 then Ok (Some Fixed)
+    else (if c == 68 then Ok (Some Counted)
+    else (if c == 83 then Ok (Some Spanned)
+    else (if c == 32 then Ok None else Err (faults.Field position))))
+
+-- spaces from this position on
+abbrev pub tail_at : List ℕ → ℕ → Result (Unit {0}) PointFault
+tail_at text first =
+    if bytes_eq (drop (first - 1) text) (replicate (81 - first) 32) then Ok tt else Err
+    (faults.Field first)
+
+-- the block and the part, which is 0 in version 1
+unfoldable pub place_at : Version → List ℕ → Result Place PointFault
+place_at One text = do
+  block ← number_at text 20 25
+  Ok record { block = block; part = 0 }
+place_at Two text = do
+  block ← number_at text 20 29
+  part ← number_at text 30 34
+  Ok record { block = block; part = part }
+
+-- the state and the two digits behind it
+unfoldable pub flags_at : List ℕ → ℕ → Result Flags PointFault
+flags_at text first = do
+  done ← flag_at text first 68 82
+  begun ← flag_at text (first + 1) 49 48
+  known ← flag_at text (first + 2) 49 48
+  Ok record { done = done; begun = begun; known = known }
+
+-- what is said of the file
+unfoldable pub form_at : List ℕ → ℕ → Result Form PointFault
+form_at text first = do
+  format ← format_at text first
+  rec_len ← number_at text (first + 1) (first + 5)
+  offset ← number_at text (first + 6) (first + 7)
+  Ok record {
+    format = format;
+    rec_len = rec_len;
+    offset = offset;
+    file_id = chars_at text (first + 8) (first + 24);
+  }
+
+-- the staged weight, and spaces to the end
+unfoldable pub staged_at : List ℕ → ℕ → Result ℕ PointFault
+staged_at text first = do
+  staged ← number_at text first (first + 14)
+  _ ← tail_at text (first + 15)
+  Ok staged
+
+-- where the state stands
+abbrev pub state_position : Version → ℕ
+state_position One = 26
+state_position Two = 35
+
+-- all fields behind the version
+unfoldable pub fields_at : Version → List ℕ → Result Fields PointFault
+fields_at version text = do
+  file ← number_at text 12 15
+  sect ← number_at text 16 19
+  place ← place_at version text
+  flags ← flags_at text (state_position version)
+  form ← form_at text (state_position version + 3)
+  staged ← staged_at text (state_position version + 28)
+  Ok record {
+    set_id = chars_at text 6 11;
+    file = file;
+    sect = sect;
+    place = place;
+    flags = flags;
+    form = form;
+    staged = staged;
+  }
+
+-- the version by its digit
+abbrev pub version_by : ℕ → Result Version PointFault
+version_by c = if c == 49 then Ok One else (if c == 50 then Ok Two else Err faults.Version)
+
+-- which version, and the fields
+unfoldable pub text_at : List ℕ → Result (Version × Fields) PointFault
+text_at text =
+    if length text == 80
+    then (if bytes_eq (slice_range text 0 4) (codes "TPCK")
+    then (version_by (slice_index text 4) >>= λ version.
+    fields_at version text >>= λ fields. Ok (version, fields))
+    else Err faults.Mark)
+    else Err faults.Length
+
+-- ---- the whole answer
+
+-- the checkpoint of the fields, where they are those of one
+abbrev pub right_point : Fields → Result Point PointFault
+right_point f = if is_right f then Ok (point_by f) else Err faults.Range
+
+-- what reading answers
+unfoldable pub reading : List ℕ → Result Point PointFault
+reading text = text_at text >>= λ read. right_point read.1
+
+-- the checkpoint whose text it is, whichever the version; none where it is that of none
+abbrev pub point_in : List ℕ → Option Point
+point_in text = result_ok (reading text)

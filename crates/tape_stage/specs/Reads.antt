@@ -1,0 +1,31 @@
+-- What a reader of parts leaves once its part is no longer borrowed.
+use Rattle.std.specs.Prelude.{◌≡◌, ◌-◌, [], Option, Result}
+use Rattle.std.specs.Borrow.{Fml, RattleType, MutBor}
+use Rattle.std.specs.Io.BufRead.{Rests}
+use mir.Syntax.{named}
+use Rattle.tape_stage.specs.declared.disk.Disk.{Ghosts}
+use Rattle.tape_core.specs.Walks.{HasGiven}
+use Rattle.tape_blocks.specs.declared.part.Part.{Part}
+use Rattle.tape_core.specs.declared.sink.SinkFault.{SinkFault}
+use Rattle.tape_stage.specs.Stages.{Holds, Returns, Survives, IsAhead}
+use Rattle.tape_stage.specs.declared.stage.Stage.{Stage}
+use Rattle.tape_stage.specs.declared.part_reader.PartReader.{PartReader}
+use Rattle.tape_stage.specs.contracts.part_reader.PartReader.{the_row}
+
+-- the stage gave its next part, or was refused
+abbrev pub StageGave : {D : Type 0} {disk : Ghosts D} → Stage D disk
+    → Result (Option Part) SinkFault → Stage D disk → Type 0
+StageGave old result new = HasGiven (λ s parts. Holds s parts) (λ s. s.weight) (λ s. s.refused)
+    (λ s back there. Returns s back there) (λ s. Survives s) (λ s parts. IsAhead s parts)
+    (λ s. s.weight - s.walked) old result new
+
+-- the reader reads the same stage, which gave its next part
+pub record HasRead {D : Type 0} {disk : Ghosts D} (old : PartReader D disk)
+    (result : Result (Option Part) SinkFault) (new : PartReader D disk) : Type 0 where
+  pub same_stage : new.stage.ghost_name ≡ old.stage.ghost_name
+  pub gave : StageGave old.stage.now result new.stage.now
+
+abbrev pub ReadsAs : (S : RattleType) (g : Ghosts S.Denot) → MutBor (PartReader S.Denot g)
+    → Result (Option Part) SinkFault → Fml
+ReadsAs S g reader result = Rests (the_row (record { mir = named 0; lft = [] }) S g) reader
+    (λ new. HasRead reader.now result new)

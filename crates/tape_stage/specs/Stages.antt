@@ -1,0 +1,75 @@
+-- What a stage stands for.
+use Rattle.std.specs.Prelude.{◌≡◌, ℕ, ◌+◌, ◌≤◌, Bool, true, false, List}
+use Rattle.tape_stage.specs.declared.disk.Disk.{Ghosts}
+use Rattle.tape_blocks.specs.Block.{Portion}
+use Rattle.tape_core.specs.Stands.{weight_of}
+use Rattle.tape_stage.specs.Frames.{AheadIn}
+use Rattle.tape_stage.specs.Staged.{Staged, Holding, Ready}
+use Rattle.tape_core.specs.Point.{Point}
+use Rattle.tape_stage.specs.declared.found.Found.{Found}
+use Rattle.tape_stage.specs.declared.stage.Stage.{Stage}
+use Rattle.tape_stage.specs.declared.stage.StageFault.{StageFault}
+use Rattle.tape_stage.specs.declared.stage.StageFault.TheVariants.{Device, Full, Failed}
+
+-- these parts are staged, and the first of them are acknowledged
+pub record IsStaged {D : Type 0} (disk : Ghosts D) (at : D) (in_second : Bool) (generation : ℕ)
+    (point : Point) (other_open : Bool) (weight : ℕ) (failed : Bool)
+    (acked parts : List Portion) : Type 0 where
+  pub alive : failed ≡ false
+  pub ready : Ready in_second generation point acked other_open (disk.seen at) (disk.may_leave at)
+  pub holds : Holding weight parts (disk.seen at)
+  pub behind : point.staged ≤ weight
+
+abbrev pub IsStage : {D : Type 0} {disk : Ghosts D} → Stage D disk → List Portion → List Portion
+    → Type 0
+IsStage {D} {disk} stage acked parts =
+    IsStaged disk stage.disk stage.in_second stage.generation stage.acknowledged
+    stage.other_open stage.weight stage.failed acked parts
+
+-- These parts are framed on a disk that can be believed, and acknowledged parts are ready unless
+-- the stage failed.
+pub record AreHeld {D : Type 0} (disk : Ghosts D) (at : D) (in_second : Bool) (generation : ℕ)
+    (point : Point) (other_open : Bool) (weight : ℕ) (failed : Bool)
+    (parts : List Portion) : Type 0 where
+  pub honest : disk.is_honest at
+  pub framed : Holding weight parts (disk.seen at)
+  pub weighs : weight ≡ weight_of parts
+  pub ready : failed ≡ false → (acked : List Portion)
+      × IsStaged disk at in_second generation point other_open weight failed acked parts
+
+-- the stage holds these parts
+abbrev pub Holds : {D : Type 0} {disk : Ghosts D} → Stage D disk → List Portion → Type 0
+Holds {D} {disk} stage parts =
+    AreHeld disk stage.disk stage.in_second stage.generation stage.acknowledged
+    stage.other_open stage.weight stage.failed parts
+
+-- these parts are still to come
+abbrev pub IsAhead : {D : Type 0} {disk : Ghosts D} → Stage D disk → List Portion → Type 0
+IsAhead {D} {disk} stage parts = disk.is_honest stage.disk
+    × AheadIn (256 + stage.walked) (256 + stage.weight) (disk.seen stage.disk) parts
+
+-- how a stage stands once a call was refused: failed by the disk, or as it was
+abbrev pub HasRefused : {D : Type 0} {disk : Ghosts D} → Stage D disk → Stage D disk → StageFault
+    → Type 0
+HasRefused old new Device = (old.failed ≡ false) × (new.failed ≡ true) × (new.weight ≡ old.weight)
+HasRefused old new Full = new ≡ old
+HasRefused old new Failed = (new ≡ old) × (old.failed ≡ true)
+HasRefused old new _ = ⊥
+
+-- a crash now may leave a file that stands for this checkpoint and these parts
+abbrev pub Returns : {D : Type 0} {disk : Ghosts D} → Stage D disk → Point → List Portion → Type 0
+Returns {D} {disk} stage back there = (bytes : List ℕ) × disk.may_leave stage.disk bytes
+    × ((g : ℕ) × Staged bytes g back there)
+
+-- each file that a crash now may leave stands for something
+abbrev pub Survives : {D : Type 0} {disk : Ghosts D} → Stage D disk → Type 0
+Survives {D} {disk} stage = (bytes : List ℕ) → disk.may_leave stage.disk bytes → (g : ℕ)
+    × (point : Point) × (parts : List Portion) × Staged bytes g point parts
+
+-- what was found is what is read, with its parts, and is ready
+pub record IsOpened {D : Type 0} (seen : D → List ℕ) (may_leave : D → List ℕ → Type 0)
+    (found : Found) (old new : D) : Type 0 where
+  pub parts : List Portion
+  pub read : Staged (seen old) found.generation found.point parts
+  pub ready : Ready found.in_second found.generation found.point parts found.other_open (seen new)
+      (may_leave new)

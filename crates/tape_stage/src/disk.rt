@@ -1,0 +1,126 @@
+//! A disk: what a read gives, what a crash may leave, and how often it failed.
+ghost use Rattle.std.specs.Prelude.{◌≡◌, ◌+◌, ◌≤◌, ℕ, List, length, take, max, slice_range, IfOk};
+ghost use Rattle.std.specs.Prelude.{OnOk, OnErr};
+ghost use Rattle.tape_stage.specs.Disk.{Holds, Torn, CutShort, Follows, NoMore, Only, Elapses};
+ghost use Rattle.tape_stage.specs.Disk.{SameFact};
+ghost use Rattle.tape_core.specs.Weight.{Rose};
+
+/// The disk failed.
+#[derive(Clone, Copy, Debug, PartialEq, Eq)]
+pub enum DiskFault {
+    Device,
+}
+
+pub trait Disk {
+    /// Whether what follows, the length and the count aside, can be believed.
+    ghost is_honest: { Self → Type 0 };
+
+    /// How many bytes there are.
+    ghost length_of: { Self → ℕ };
+
+    /// The bytes that reads give.
+    ghost seen: { Self → List ℕ };
+
+    /// What a crash at this moment may leave.
+    ghost may_leave: { Self → List ℕ → Type 0 };
+
+    /// The moment, as a number that doesn't fall.
+    ghost moment: { Self → ℕ };
+
+    /// What a crash at some moment from that one on might have left, during a call or between two.
+    ghost left_since: { Self → ℕ → List ℕ → Type 0 };
+
+    /// How often the disk has failed.
+    ghost faults: { Self → ℕ };
+
+    /// How many bytes there are.
+    fn len(&mut self) -> Result<u64, DiskFault>
+        ensures value { IfOk result (λ n. n ≡ length_of self.old) }
+        ensures same_length { length_of self.new ≡ length_of self.old }
+        ensures same { is_honest self.old → seen self.new ≡ seen self.old }
+        ensures crash { is_honest self.old → NoMore (may_leave self.old) (may_leave self.new) }
+        ensures time { is_honest self.old
+            → Elapses (moment self.old) (moment self.new) (left_since self.old)
+            (left_since self.new) (may_leave self.new) }
+        ensures cause { OnErr result (Rose (faults self.old) (faults self.new)) }
+        ensures calm { OnOk result (faults self.new ≡ faults self.old) }
+        ensures honest { SameFact (is_honest self.old) (is_honest self.new) };
+
+    /// Fills the buffer with the bytes from a place on.
+    fn read(&mut self, place: u64, buf: &mut [u8]) -> Result<(), DiskFault>
+        requires { place + length buf.old ≤ length_of self.old }
+        ensures bytes { is_honest self.old
+            → OnOk result (buf.new ≡ slice_range (seen self.old) place (place + length buf.old)) }
+        ensures same_length { length_of self.new ≡ length_of self.old }
+        ensures same { is_honest self.old → seen self.new ≡ seen self.old }
+        ensures crash { is_honest self.old → NoMore (may_leave self.old) (may_leave self.new) }
+        ensures time { is_honest self.old
+            → Elapses (moment self.old) (moment self.new) (left_since self.old)
+            (left_since self.new) (may_leave self.new) }
+        ensures cause { OnErr result (Rose (faults self.old) (faults self.new)) }
+        ensures calm { OnOk result (faults self.new ≡ faults self.old) }
+        ensures honest { SameFact (is_honest self.old) (is_honest self.new) };
+
+    /// Writes over what is there, and past the end. Until a sync, a crash may leave any bytes in
+    /// the range.
+    fn write_at(&mut self, place: u64, bytes: &[u8]) -> Result<(), DiskFault>
+        requires { place ≤ length_of self.old }
+        ensures written { is_honest self.old
+            → OnOk result (Holds (seen self.old) place bytes.now (seen self.new)) }
+        ensures long { OnOk result (length_of self.new ≡ max (length_of self.old)
+            (place + length bytes.now)) }
+        ensures partly { is_honest self.old
+            → OnErr result (Torn place (length bytes.now) (seen self.old) (seen self.new)) }
+        ensures crash { is_honest self.old
+            → Follows (Torn place (length bytes.now)) (may_leave self.old) (may_leave self.new) }
+        ensures time { is_honest self.old
+            → Elapses (moment self.old) (moment self.new) (left_since self.old)
+            (left_since self.new) (may_leave self.new) }
+        ensures cause { OnErr result (Rose (faults self.old) (faults self.new)) }
+        ensures calm { OnOk result (faults self.new ≡ faults self.old) }
+        ensures honest { SameFact (is_honest self.old) (is_honest self.new) };
+
+    /// Cuts to a length.
+    fn cut(&mut self, len: u64) -> Result<(), DiskFault>
+        requires { len ≤ length_of self.old }
+        ensures cut { is_honest self.old → OnOk result (seen self.new ≡ take len (seen self.old)) }
+        ensures short { OnOk result (length_of self.new ≡ len) }
+        ensures partly { is_honest self.old
+            → OnErr result (CutShort len (seen self.old) (seen self.new)) }
+        ensures crash { is_honest self.old
+            → Follows (CutShort len) (may_leave self.old) (may_leave self.new) }
+        ensures time { is_honest self.old
+            → Elapses (moment self.old) (moment self.new) (left_since self.old)
+            (left_since self.new) (may_leave self.new) }
+        ensures cause { OnErr result (Rose (faults self.old) (faults self.new)) }
+        ensures calm { OnOk result (faults self.new ≡ faults self.old) }
+        ensures honest { SameFact (is_honest self.old) (is_honest self.new) };
+
+    /// After it, a crash leaves what a read gives.
+    fn sync(&mut self) -> Result<(), DiskFault>
+        ensures durable { is_honest self.old
+            → OnOk result (Only (seen self.old) (may_leave self.new)) }
+        ensures same_length { length_of self.new ≡ length_of self.old }
+        ensures same { is_honest self.old → seen self.new ≡ seen self.old }
+        ensures crash { is_honest self.old → NoMore (may_leave self.old) (may_leave self.new) }
+        ensures time { is_honest self.old
+            → Elapses (moment self.old) (moment self.new) (left_since self.old)
+            (left_since self.new) (may_leave self.new) }
+        ensures cause { OnErr result (Rose (faults self.old) (faults self.new)) }
+        ensures calm { OnOk result (faults self.new ≡ faults self.old) }
+        ensures honest { SameFact (is_honest self.old) (is_honest self.new) };
+
+    /// The count of bytes is that of what is read.
+    ghost long_as_seen: { (disk : Self) → is_honest disk → length_of disk ≡ length (seen disk) };
+
+    /// What is read is what a crash may leave.
+    ghost seen_now: { (disk : Self) → is_honest disk → may_leave disk (seen disk) };
+
+    /// This moment is one of those since an earlier one.
+    ghost counts_now: { (disk : Self) (t : ℕ) (c : List ℕ) → is_honest disk → t ≤ moment disk
+        → may_leave disk c → left_since disk t c };
+
+    /// Since this moment there is no other.
+    ghost only_now: { (disk : Self) (c : List ℕ) → is_honest disk → left_since disk (moment disk) c
+        → may_leave disk c };
+}

@@ -1,0 +1,52 @@
+//! Laws about the texts of checkpoints and the bytes of stages, each as the contract of a call.
+
+ghost use Rattle.std.specs.Prelude.{◌≡◌, Ok, ℕ, List};
+ghost use Rattle.tape_stage.specs.Laws.{HasBothTexts, IsTextOfOne, IsTextOnce};
+ghost use Rattle.tape_stage.specs.StageLaws.{EitherStands, NamedStands, ReadsOneOf, StandsOnce};
+
+use crate::point::{read_point, write_point};
+use crate::point_fault::PointFault;
+use tape_core::Checkpoint;
+
+/// A checkpoint that was written is read again.
+pub fn point_again(point: &Checkpoint) -> Result<Checkpoint, PointFault>
+    ensures { result ≡ Ok point.now }
+{
+    read_point(&write_point(point))
+}
+
+/// A text is that of one checkpoint at most, in one version.
+pub fn points_have_texts_of_their_own()
+    ensures { IsTextOfOne }
+{}
+
+/// A version has one text of 80 characters for a checkpoint.
+pub fn points_are_spelled_once()
+    ensures { IsTextOnce }
+{}
+
+/// A checkpoint before the millionth block of a section, and at no part but the first, has a text
+/// in each version.
+pub fn early_points_have_both_texts()
+    ensures { HasBothTexts }
+{}
+
+/// The bytes of a stage stand for at most one generation, checkpoint and list of parts.
+pub fn stands_once()
+    ensures { (bytes : List ℕ) → StandsOnce bytes }
+{}
+
+/// Bytes of which a named slot stands for a checkpoint and its parts stand for these.
+pub fn named_slots_stand()
+    ensures { (bytes : List ℕ) → NamedStands bytes }
+{}
+
+/// Bytes of one generation or the next stand for one of the two checkpoints, with its parts.
+pub fn either_stands()
+    ensures { (bytes : List ℕ) → EitherStands bytes }
+{}
+
+/// Bytes that stand for one of two checkpoints are read as one of them, with its parts.
+pub fn reads_one_of()
+    ensures { (bytes : List ℕ) → ReadsOneOf bytes }
+{}

@@ -1,0 +1,41 @@
+//! The parts of a stage, one after another.
+ghost use Rattle.std.specs.Prelude.{◌≡◌, List};
+ghost use Rattle.tape_blocks.specs.Block.{Portion};
+ghost use Rattle.tape_stage.specs.Stages.{Holds, IsAhead};
+
+use crate::disk::Disk;
+use crate::stage::Stage;
+use tape_blocks::Part;
+use tape_core::{PartWalk, SinkFault};
+
+/// Reads the parts of a stage.
+#[derive(Drop)]
+pub struct PartReader<'s, D: Disk> {
+    stage: &'s mut Stage<D>,
+}
+
+impl<'s, D: Disk> PartReader<'s, D> {
+    ghost use Rattle.std.specs.Borrow.{sem};
+    ghost use Rattle.tape_stage.specs.Reads.{ReadsAs};
+
+    /// Lends the next part; `None` behind the last.
+    pub fn next(&mut self) -> Result<Option<Part<'_>>, SinkFault>
+        ensures* after { sem 𝓛 (ReadsAs D.row D.Disk self.entry result) }
+    {
+        self.stage.next_part()
+    }
+}
+
+impl<D: Disk> Stage<D> {
+    /// Reads the parts, from the first.
+    pub fn parts(&mut self) -> PartReader<'_, D>
+        ensures same_stage { result.stage.ghost_name ≡ self.entry.ghost_name }
+        ensures keeps { (parts : List Portion) → Holds self.old parts
+            → Holds result.stage.now parts }
+        ensures all { (parts : List Portion) → Holds self.old parts
+            → IsAhead result.stage.now parts }
+    {
+        self.rewind();
+        PartReader { stage: self }
+    }
+}

@@ -1,0 +1,104 @@
+//! A stage: parts on a disk, and the checkpoint that was acknowledged last.
+
+ghost use Rattle.std.specs.Prelude.{◌≡◌, ◌+◌, ◌≤◌, false, length};
+ghost use Rattle.tape_stage.specs.Faults.{number};
+ghost use Rattle.tape_stage.specs.declared.stage.StageFault.TheVariants.{Device, OutOfMemory};
+
+use crate::disk::{Disk, DiskFault};
+use std::alloc::AllocError;
+use tape_core::Checkpoint;
+use thiserror::Error;
+
+/// The greatest generation, and the greatest weight of staged parts.
+pub(crate) const MOST: u64 = 999_999_999_999_999;
+
+/// What stands in the gate of a slot that counts. Any other byte is a closed gate.
+pub(crate) const OPEN: u8 = b'O';
+
+/// What is written in a gate to close it.
+pub(crate) const CLOSED: u8 = b'C';
+
+/// Why a stage refused a call.
+#[derive(Clone, Copy, Debug, PartialEq, Eq, Error)]
+pub enum StageFault {
+    /// The disk holds no stage: it is too short, or no slot of it counts.
+    #[error("no checkpoint is staged")]
+    NoPoint,
+    /// Of the parts that the checkpoint tells, the frame at this place of the disk is none.
+    #[error("no frame of a part stands at {0}")]
+    BadFrame(u64),
+    /// The disk failed in this call.
+    #[error("the disk failed")]
+    Device,
+    /// There was no memory for the buffer or for the first slots.
+    #[error("out of memory")]
+    OutOfMemory,
+    /// The disk failed in an earlier call. The stage has to be opened again.
+    #[error("the stage failed before")]
+    Failed,
+    /// The weight or the generation would be above 999,999,999,999,999. Nothing was changed.
+    #[error("the stage is full")]
+    Full,
+}
+
+impl StageFault {
+    /// The fixed number of the fault, from 1 to 6 in the order of the list above.
+    pub fn number(&self) -> u8
+        ensures { result ≡ number self.now }
+    {
+        match self {
+            StageFault::NoPoint => 1,
+            StageFault::BadFrame(_) => 2,
+            StageFault::Device => 3,
+            StageFault::OutOfMemory => 4,
+            StageFault::Failed => 5,
+            StageFault::Full => 6,
+        }
+    }
+}
+
+impl From<DiskFault> for StageFault {
+    ghost from_gives = { λ _ e. e ≡ Device };
+
+    fn from(_: DiskFault) -> StageFault {
+        StageFault::Device
+    }
+}
+
+impl From<AllocError> for StageFault {
+    ghost from_gives = { λ _ e. e ≡ OutOfMemory };
+
+    fn from(_: AllocError) -> StageFault {
+        StageFault::OutOfMemory
+    }
+}
+
+/// Parts of a file on a disk, and a checkpoint for the first of them that a crash leaves.
+#[derive(Drop)]
+pub struct Stage<D: Disk> {
+    pub(crate) disk: D,
+    /// Which generation is acknowledged, and whether it stands in the second slot.
+    pub(crate) generation: u64,
+    pub(crate) in_second: bool,
+    /// Whether the gate of the other slot stands open.
+    pub(crate) other_open: bool,
+    /// The checkpoint that was acknowledged last.
+    pub(crate) acknowledged: Checkpoint,
+    /// The checkpoint that was being saved when the disk failed.
+    pub(crate) pending: Option<Checkpoint>,
+    /// What all staged parts weigh.
+    pub(crate) weight: u64,
+    /// Whether the disk failed.
+    pub(crate) failed: bool,
+    /// Where a part is read to that is lent.
+    pub(crate) buffer: Vec<u8>,
+    /// What the parts weigh that a walk has lent.
+    pub(crate) walked: u64,
+    /// How many calls were refused to it as a sink.
+    pub(crate) refused: u64,
+    ghost long: { failed ≡ false → 256 + weight ≤ D.length_of disk },
+    ghost behind: { walked ≤ weight },
+    ghost room: { 99999 ≤ length buffer.items },
+    ghost bounded: { weight ≤ 999999999999999 },
+    ghost bounded_generation: { generation ≤ 999999999999999 },
+}

@@ -1,0 +1,203 @@
+//! Disks that stop at each of their calls, and what is opened behind that.
+
+use super::*;
+use std::alloc::AllocError;
+use std::test::*;
+use tape_blocks::{Part, Span};
+use tape_core::{PartWalk, SinkFault};
+
+#[test]
+fn a_failed_stage_refuses_until_it_is_opened_again(rt: HostRuntime) -> Result<(), AllocError> {
+    let alloc = rt.alloc();
+    let Some(stage) = made(alloc) else {
+        assert!(rt; false);
+        return Ok(());
+    };
+    let mut disk = stage.into_disk();
+    disk.stop_after(7);
+    let Ok((mut stage, _)) = Stage::open_disk(alloc, disk) else {
+        assert!(rt; false);
+        return Ok(());
+    };
+    let part = Part {
+        span: Span::Whole,
+        bytes: b"AB",
+    };
+    assert_eq!(rt; stage.put_part(part), Err(StageFault::Device));
+    assert_eq!(rt; stage.put_part(part), Err(StageFault::Failed));
+    assert_eq!(rt; stage.restart(&start()), Err(StageFault::Failed));
+    assert_eq!(rt; stage.weight(), 0);
+    assert!(rt; Stage::open_disk(alloc, stage.into_disk().crash()).is_ok());
+    Ok(())
+}
+
+#[test]
+fn what_was_being_saved_when_the_disk_stopped(rt: HostRuntime) {
+    let Some(stage) = made(rt.alloc()) else {
+        assert!(rt; false);
+        return;
+    };
+    let mut disk = stage.into_disk();
+    disk.stop_after(8);
+    let Ok((mut stage, point)) = Stage::open_disk(rt.alloc(), disk) else {
+        assert!(rt; false);
+        return;
+    };
+    assert_eq!(rt; stage.pending(), None);
+    assert!(rt; !save(&mut stage, &point));
+    assert_eq!(rt; stage.pending(), Some(start()));
+    assert_eq!(rt; stage.next_part().err(), Some(SinkFault::Failed));
+}
+
+/// What the parts are of this weight, in the run of `day`.
+fn records_of(staged: u64) -> &'static [u8] {
+    match staged {
+        0 => b"",
+        170 => b"ab",
+        255 => b"abc",
+        _ => b"abde",
+    }
+}
+
+/// Goes back to the checkpoint, where so much is staged.
+fn restart(stage: &mut Stage<MemoryDisk>, point: &Checkpoint) -> bool {
+    point.staged <= stage.weight() && stage.restart(point).is_ok()
+}
+
+/// A run with three saves, and a restart behind the second. It ends at the first refusal.
+fn day(stage: &mut Stage<MemoryDisk>) -> bool {
+    let (Some(two), Some(three), Some(four)) = (
+        in_front(1, 170),
+        in_front(2, 255),
+        in_front(3, 340),
+    ) else {
+        return false;
+    };
+    let saved = put(stage, b'a') && put(stage, b'b') && save(stage, &two);
+    let saved = saved && put(stage, b'c') && save(stage, &three);
+    let saved = saved && restart(stage, &two);
+    saved && put(stage, b'd') && put(stage, b'e') && save(stage, &four)
+}
+
+/// What may come back of a disk: the checkpoint that was acknowledged, or the one that was being
+/// saved.
+#[derive(Drop)]
+struct Saved {
+    acknowledged: Checkpoint,
+    pending: Option<Checkpoint>,
+}
+
+impl Saved {
+    fn has(&self, point: Checkpoint) -> bool {
+        let pending = self.pending;
+        point == self.acknowledged || pending == Some(point)
+    }
+}
+
+/// The run on a disk that stops behind so many of its calls: the disk, and what may come back of
+/// it.
+fn stopped_after(alloc: Global, calls: u64) -> Option<(MemoryDisk, Saved)> {
+    let mut disk = made(alloc)?.into_disk();
+    disk.stop_after(calls);
+    Some(match Stage::open_disk(alloc, disk) {
+        Ok((mut stage, _)) => {
+            day(&mut stage);
+            let saved = Saved {
+                acknowledged: stage.acknowledged(),
+                pending: stage.pending(),
+            };
+            (stage.into_disk(), saved)
+        }
+        Err(refused) => {
+            let saved = Saved {
+                acknowledged: start(),
+                pending: None,
+            };
+            (refused.disk, saved)
+        }
+    })
+}
+
+/// Whether a disk that a crash left opens with a checkpoint that may come back, and its parts.
+fn comes_back(alloc: Global, disk: MemoryDisk, saved: &Saved) -> bool {
+    let Ok((mut stage, point)) = Stage::open_disk(alloc, disk) else {
+        return false;
+    };
+    saved.has(point) && holds(&mut stage, records_of(point.staged))
+}
+
+/// The disk with these bytes, behind an opening that stopped after so many calls.
+fn opened_until(alloc: Global, bytes: &[u8], calls: u64) -> Result<MemoryDisk, AllocError> {
+    let mut disk = disk_of(alloc, bytes)?;
+    disk.stop_after(calls);
+    Ok(match Stage::open_disk(alloc, disk) {
+        Ok((stage, _)) => stage.into_disk(),
+        Err(refused) => refused.disk,
+    })
+}
+
+/// How many of the stops of an opening leave what opens, of what a crash left at a stop of the run.
+fn openings(alloc: Global, left: &[u8], saved: &Saved) -> Result<u64, AllocError> {
+    let mut count = 0u64;
+    for calls in 0..11 {
+        let disk = opened_until(alloc, left, calls)?;
+        if comes_back(alloc, disk.crash(), saved) {
+            count = count.saturating_add(1);
+        }
+    }
+    Ok(count)
+}
+
+#[test]
+fn a_stop_at_each_call(rt: HostRuntime) {
+    for calls in 0..41 {
+        let Some((disk, saved)) = stopped_after(rt.alloc(), calls) else {
+            assert!(rt; false);
+            return;
+        };
+        assert!(rt; comes_back(rt.alloc(), disk.crash(), &saved), "{calls}");
+    }
+}
+
+#[test]
+fn a_stop_at_each_call_of_opening_behind_each_stop(rt: HostRuntime) -> Result<(), AllocError> {
+    // Opening makes 10 calls at most: it walks up to 4 frames.
+    for calls in 0..41 {
+        let Some((disk, saved)) = stopped_after(rt.alloc(), calls) else {
+            assert!(rt; false);
+            return Ok(());
+        };
+        let left = disk.crash();
+        assert_eq!(rt; openings(rt.alloc(), left.bytes(), &saved)?, 11, "{calls}");
+    }
+    Ok(())
+}
+
+/// The weight that is acknowledged at last, where the run stops behind so many calls.
+fn acknowledged_after(alloc: Global, calls: u64) -> Option<u64> {
+    let (_, saved) = stopped_after(alloc, calls)?;
+    Some(saved.acknowledged.staged)
+}
+
+#[test]
+fn how_many_calls_the_run_makes(rt: HostRuntime) {
+    // Opening makes 6: a sync, the length, both slots, the length, a cut and its sync. A part is
+    // put by 2. The first save makes 5, 3 of them syncs; each later one 6, since it closes a gate
+    // first. Going back makes 7, with its cut.
+    for (calls, weight) in [
+        (14, 0),
+        (15, 170),
+        (22, 170),
+        (23, 255),
+        (28, 255),
+        (29, 170),
+        (39, 170),
+        (40, 340),
+    ] {
+        assert_eq!(rt;
+            acknowledged_after(rt.alloc(), calls),
+            Some(weight),
+            "{calls}"
+        );
+    }
+}
