@@ -1,0 +1,221 @@
+-- A run is where its history leads.
+use Rattle.std.proofs.Common.{◌≡◌, ℕ, zero, suc, ◌+◌, ◌<◌, Bool, true, false, List, [], ◌∷◌, length}
+use Rattle.std.proofs.Common.{map, take, Some, Ok, refl, sym, ap, subst, ◌∙◌, inl, inr, arith}
+use Rattle.std.proofs.Common.{length-append}
+use Rattle.std.specs.List.{slice_get}
+use Rattle.std.proofs.lemmas.List.{map-append, take-map}
+use Rattle.std.proofs.lemmas.Option.{slice_get-map}
+use Rattle.tape_set.specs.Layout.{FileSet}
+use Rattle.tape_set.specs.Lawful.{IsLawful}
+use Rattle.tape_set.specs.declared.position.Position.{Position}
+use Rattle.tape_core.specs.Point.{Point}
+use Rattle.tape_core.specs.State.{State}
+use Rattle.tape_core.specs.Stands.{Stands}
+use Rattle.tape_core.specs.Table.{saved}
+use Rattle.tape_run.specs.Mount.{Happening, reads, foreign_reel, saves, restarts, IsMountOf}
+use Rattle.tape_run.specs.Mount.{after_mount}
+use Rattle.tape_core.specs.Stands.{weight_of}
+use Rattle.tape_run.specs.declared.script.Step.{Step}
+use Rattle.tape_run.specs.declared.script.Step.TheVariants.{Reel, Save, Restart}
+use Rattle.tape_run.specs.Given.{AreGiven, counted_up}
+use Rattle.tape_run.specs.Seen.{Seen, AreNotes, IsSession}
+use Rattle.tape_run.specs.History.{after, course, course_of, IsHistory}
+use Rattle.tape_run.specs.Steps.{Reeled, Saved, WentBack}
+use Rattle.tape_run.specs.Runs.{Runs}
+use Rattle.tape_run.specs.Headline.{Ran, HasRun}
+use Rattle.tape_core.proofs.Standing.{stood, noted}
+use Rattle.tape_run.proofs.Notes.{same_front, notes_grow, notes_push, note_at}
+
+-- ---- one step
+
+-- the step of a history
+pub record Stepped (set : FileSet) (old : Seen) (h : Happening) (new : Seen) : Type 0 where
+  pub session : IsSession set new
+  pub same_file : new.place.file ≡ old.place.file
+  pub moved : after set old.place.file (course_of old) h ≡ course_of new
+
+course_same : (old new : Seen) (p : Position) → p ≡ new.place.position → old.notes ≡ new.notes
+    → record { at = p; notes = map (λ (c : Point). c.position) old.notes } ≡ course_of new
+course_same old new p e f = rw (e, f) refl
+
+after_reel : (set : FileSet) (old new : Seen) (given : List ℕ) (h : Happening)
+    → IsMountOf set given h
+    → new.place.position ≡ after_mount set old.place.file old.place.position h
+    → new.notes ≡ old.notes
+    → after set old.place.file (course_of old) h ≡ course_of new
+after_reel set old new given (reads r) m e f = course_same old new _ (sym e) (sym f)
+after_reel set old new given foreign_reel m e f = course_same old new _ (sym e) (sym f)
+after_reel set old new given saves (xs, end, stop, b, m) e f = absurd m
+after_reel set old new given (restarts n) (xs, end, stop, b, m) e f = absurd m
+
+pub reel_steps : (set : FileSet) (old new : Seen) (bytes : List ℕ) (failed : Bool) (h : Happening)
+    → (r : Reeled bytes failed old new) → IsLawful set → IsMountOf set r.given h → IsSession set old
+    → Stepped set old h new
+reel_steps set old new bytes failed h r l m s =
+    let read = r.reads set h l m s.at in
+    let notes : AreNotes set old.place.file [] old.notes new.parts =
+    notes_grow set old.place.file [] old.notes old.parts new.parts r.grows s.notes in
+    record {
+      session = record { at = read.at; notes = rw (r.same_file, r.notes) notes };
+      same_file = r.same_file;
+      moved = after_reel set old new r.given h m read.position r.notes;
+    }
+
+pub save_steps : (set : FileSet) (old new : Seen) → Saved old new → IsSession set old
+    → Stepped set old saves new
+save_steps set old new v s =
+    let c = saved old.place (weight_of old.parts) in
+    let stands : Stands set old.place.file c old.parts = noted set old.place old.parts s.at in
+    let notes = notes_push set old.place.file [] old.notes c old.parts stands s.notes in
+    record {
+      session =
+          record { at = rw (v.place, v.parts) s.at; notes = rw (v.place, v.parts, v.notes) notes };
+      same_file = ap (λ (p : State). p.file) v.place;
+      moved = rw (v.place, v.notes, map-append (λ (c : Point). c.position) old.notes (c ∷ [])) refl;
+    }
+
+pub restart_steps : (set : FileSet) (old new : Seen) (n : ℕ) → WentBack n old new
+    → IsSession set old → Stepped set old (restarts n) new
+restart_steps set old new n w s =
+    let note = note_at set old.place.file [] old.notes n w.point old.parts w.noted s.notes in
+    let same : new.parts ≡ note.ps =
+    same_front new.parts note.ps old.parts w.front note.is_front (w.weighs ∙ note.stands.staged) in
+    let file : new.place.file ≡ old.place.file =
+    ap (λ (p : State). p.file) w.place ∙ note.stands.of_file in
+    let found : slice_get (map (λ (c : Point). c.position) old.notes) n ≡ Some w.point.position =
+    slice_get-map (λ (c : Point). c.position) old.notes n ∙ rw w.noted refl in
+    record {
+      session =
+          record {
+            at = rw (w.place, same) (stood set old.place.file w.point note.ps note.stands);
+            notes = rw (file, w.notes, same) note.notes_left;
+          };
+      same_file = file;
+      moved =
+          rw (found, w.place, w.notes, take-map (λ (c : Point). c.position) (n + 1) old.notes) refl;
+    }
+
+-- ---- a step and a run
+
+pub step_then_run : (set : FileSet) (old mid new : Seen) (h : Happening) (hs : List Happening)
+    → Stepped set old h mid → Ran set mid hs new → Ran set old (h ∷ hs) new
+step_then_run set old mid new h hs a b = record {
+  session = b.session;
+  same_file = b.same_file ∙ a.same_file;
+  reached = rw a.moved (subst (λ (file : ℕ). course set file (course_of mid) hs ≡ course_of new)
+      a.same_file b.reached);
+}
+
+all_given : (bytes : List (List ℕ)) → AreGiven 0 bytes bytes
+all_given [] = refl
+all_given (b ∷ bs) = inl ((refl, all_given bs))
+
+nothing_ran : (set : FileSet) (old new : Seen) (bytes : List (List ℕ)) (hs : List Happening)
+    → new ≡ old → IsHistory set (length old.notes) [] bytes hs → IsSession set old
+    → Ran set old hs new
+nothing_ran set old new bytes [] e h s =
+    rw e (record { session = s; same_file = refl; reached = refl })
+nothing_ran set old new bytes (h' ∷ hs) e h s = absurd h
+
+reel_then : (old mid new : Seen) (steps : List Step) (b : List ℕ) (bs : List (List ℕ))
+    (failed : Bool) (r : Reeled b failed old mid) (given : List (List ℕ))
+    → ((set : FileSet) (hs : List Happening) → IsLawful set
+    → IsHistory set (length mid.notes) steps given hs → IsSession set mid → Ran set mid hs new)
+    → (set : FileSet) (hs : List Happening) → IsLawful set
+    → IsHistory set (length old.notes) (Reel ∷ steps) (r.given ∷ given) hs → IsSession set old
+    → Ran set old hs new
+reel_then old mid new steps b bs failed r given rest set [] l h s = absurd h
+reel_then old mid new steps b bs failed r given rest set (x ∷ hs) l (m, h) s =
+    let step = reel_steps set old mid b failed x r l m s in
+    let left : IsHistory set (length mid.notes) steps given hs = rw r.notes h in
+    step_then_run set old mid new x hs step (rest set hs l left step.session)
+
+reel_given : (old mid new : Seen) (steps : List Step) (b : List ℕ) (bs : List (List ℕ))
+    (failed : Bool)
+    → Reeled b failed old mid → HasRun mid steps bs new → HasRun old (Reel ∷ steps) (b ∷ bs) new
+reel_given old mid new steps b bs true r rest = record {
+  given = r.given ∷ rest.given;
+  failed = suc rest.failed;
+  are_given = inr ((rest.failed, omega arith, r.is_given, rest.are_given));
+  count = rest.count ∙ ap (counted_up rest.failed) r.count;
+  ran = reel_then old mid new steps b bs true r rest.given rest.ran;
+}
+reel_given old mid new steps b bs false r rest = record {
+  given = r.given ∷ rest.given;
+  failed = rest.failed;
+  are_given = inl ((r.is_given, rest.are_given));
+  count = rest.count ∙ ap (counted_up rest.failed) r.count;
+  ran = reel_then old mid new steps b bs false r rest.given rest.ran;
+}
+
+save_then : (old mid new : Seen) (steps : List Step) (given : List (List ℕ)) → Saved old mid
+    → ((set : FileSet) (hs : List Happening) → IsLawful set
+    → IsHistory set (length mid.notes) steps given hs → IsSession set mid → Ran set mid hs new)
+    → (set : FileSet) (hs : List Happening) → IsLawful set
+    → IsHistory set (length old.notes) (Save ∷ steps) given hs → IsSession set old
+    → Ran set old hs new
+save_then old mid new steps given v rest set [] l h s = absurd h
+save_then old mid new steps given v rest set (x ∷ hs) l (e, h) s =
+    let step = save_steps set old mid v s in
+    let count : length mid.notes ≡ length old.notes + 1 =
+    ap length v.notes ∙ length-append old.notes _ in
+    let left : IsHistory set (length mid.notes) steps given hs = rw count h in
+    rw e (step_then_run set old mid new saves hs step (rest set hs l left step.session))
+
+pub took_so_many : {A : Type 0} (n : ℕ) (xs : List A) → n < length xs
+    → length (take (n + 1) xs) ≡ n + 1
+took_so_many n [] h = absurd (omega (arith, h))
+took_so_many zero (x ∷ xs) h = refl
+took_so_many (suc n) (x ∷ xs) h =
+    let less : n < length xs = omega (arith, h) in
+    let more : suc n + 1 ≡ suc (n + 1) = omega arith in
+    rw more (let e = took_so_many n xs less in omega (arith, e))
+
+restart_then : (old mid new : Seen) (n : ℕ) (steps : List Step) (given : List (List ℕ))
+    → WentBack n old mid
+    → ((set : FileSet) (hs : List Happening) → IsLawful set
+    → IsHistory set (length mid.notes) steps given hs → IsSession set mid → Ran set mid hs new)
+    → (set : FileSet) (hs : List Happening) → IsLawful set
+    → IsHistory set (length old.notes) (Restart n ∷ steps) given hs → IsSession set old
+    → Ran set old hs new
+restart_then old mid new n steps given w rest set [] l h s = absurd h
+restart_then old mid new n steps given w rest set (x ∷ hs) l (e, less, h) s =
+    let step = restart_steps set old mid n w s in
+    let count : length mid.notes ≡ n + 1 = ap length w.notes ∙ took_so_many n old.notes less in
+    let left : IsHistory set (length mid.notes) steps given hs = rw count h in
+    rw e (step_then_run set old mid new (restarts n) hs step (rest set hs l left step.session))
+
+-- All steps of a run that answered Ok were made.
+pub headline : (old new : Seen) (steps : List Step) (bytes : List (List ℕ))
+    → Runs old steps (map Some bytes) (Ok tt) new → HasRun old steps bytes new
+headline old new [] bytes (e, same) = record {
+  given = bytes;
+  failed = 0;
+  are_given = all_given bytes;
+  count = ap (λ (s : Seen). s.failures) same;
+  ran = λ set hs l h s. nothing_ran set old new bytes hs same h s;
+}
+headline old new (Reel ∷ steps) [] (e, same) = absurd (cc e)
+headline old new (Reel ∷ steps) (b ∷ bs) (inl (failed, mid, r, runs)) =
+    reel_given old mid new steps b bs failed r (headline mid new steps bs runs)
+headline old new (Reel ∷ steps) (b ∷ bs) (inr (fault, e, why)) = absurd (cc e)
+headline old new (Save ∷ steps) bytes (inl (mid, v, runs)) =
+    let rest = headline mid new steps bytes runs in
+    record {
+      given = rest.given;
+      failed = rest.failed;
+      are_given = rest.are_given;
+      count = rest.count ∙ ap (counted_up rest.failed) v.count;
+      ran = save_then old mid new steps rest.given v rest.ran;
+    }
+headline old new (Save ∷ steps) bytes (inr (fault, e, why)) = absurd (cc e)
+headline old new (Restart n ∷ steps) bytes (inl (mid, w, runs)) =
+    let rest = headline mid new steps bytes runs in
+    record {
+      given = rest.given;
+      failed = rest.failed;
+      are_given = rest.are_given;
+      count = rest.count ∙ ap (counted_up rest.failed) w.count;
+      ran = restart_then old mid new n steps rest.given w rest.ran;
+    }
+headline old new (Restart n ∷ steps) bytes (inr (fault, e, why)) = absurd (cc e)

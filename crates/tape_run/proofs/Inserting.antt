@@ -1,0 +1,27 @@
+-- Noting sections, as the map does it.
+use Rattle.std.proofs.Common.{◌≡◌, Bool, true, false, List, [], ◌∷◌, refl}
+use Rattle.std.specs.Prelude.{if◌then◌else◌}
+use Rattle.std.specs.Map.{lookup}
+use Rattle.indexmap.specs.IndexMap.{insert_entry}
+use Rattle.tape_run.specs.declared.section.SectionKey.{SectionKey}
+use Rattle.tape_run.specs.declared.section.Entry.{Entry}
+use Rattle.tape_run.specs.Passing.{Told}
+use Rattle.tape_run.specs.Noted.{same_key, kept, noted}
+
+abbrev put_at : Bool → Told → List Told → SectionKey → Entry → List Told → List Told
+put_at b x es key e others = if b then (x.0, e) ∷ es else x ∷ others
+
+inserted_here : (x : Told) (es : List Told) (key : SectionKey) (entry : Entry) (b : Bool)
+    → same_key key x.0 ≡ b
+    → insert_entry same_key es key (kept (lookup (same_key key) es) entry) ≡ noted es (key, entry)
+    → insert_entry same_key (x ∷ es) key (kept (lookup (same_key key) (x ∷ es)) entry)
+    ≡ noted (x ∷ es) (key, entry)
+inserted_here x es key entry true e rest = simp e
+inserted_here x es key entry false e rest = simp (e, rest)
+
+-- inserting what is kept is noting
+pub inserted : (es : List Told) (key : SectionKey) (entry : Entry)
+    → insert_entry same_key es key (kept (lookup (same_key key) es) entry) ≡ noted es (key, entry)
+inserted [] key entry = refl
+inserted (x ∷ es) key entry =
+    inserted_here x es key entry (same_key key x.0) refl (inserted es key entry)

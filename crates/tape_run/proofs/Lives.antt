@@ -1,0 +1,211 @@
+-- What a crash brings back stands.
+use Rattle.std.proofs.Common.{◌≡◌, ◌⊎◌, ℕ, List, [], ◌∷◌, ◌++◌, Option, Some, Result, Ok, Err, OnOk}
+use Rattle.std.proofs.Common.{length, map, refl, sym, ap, subst, ◌∙◌, inl, inr}
+use Rattle.std.specs.List.{slice_get}
+use Rattle.std.proofs.lemmas.Option.{slice_get-map}
+use Rattle.tape_blocks.specs.Block.{Portion}
+use Rattle.tape_set.specs.Layout.{FileSet}
+use Rattle.tape_set.specs.Lawful.{IsLawful}
+use Rattle.tape_set.specs.Before.{before}
+use Rattle.tape_core.specs.Point.{Point}
+use Rattle.tape_core.specs.State.{State}
+use Rattle.tape_core.specs.Stands.{Stands}
+use Rattle.tape_core.proofs.Standing.{noted}
+use Rattle.tape_run.specs.Mount.{Happening}
+use Rattle.tape_run.specs.declared.script.Step.{Step}
+use Rattle.tape_run.specs.declared.script.Step.TheVariants.{Reel, Save, Restart}
+use Rattle.tape_run.specs.Seen.{Seen, IsSession}
+use Rattle.tape_run.specs.History.{Course, course, course_of, IsHistory}
+use Rattle.tape_run.specs.Runs.{Runs}
+use Rattle.tape_run.specs.Headline.{HasRun}
+use Rattle.tape_run.specs.Crash.{IsOf, StoodAt}
+use Rattle.tape_run.specs.Lives.{IsPlaceOf, ComesBack, Life, IsResumed, Outlives, AreHistories}
+use Rattle.tape_run.specs.Lives.{GoesOn}
+use Rattle.tape_run.proofs.Notes.{same_front, note_at}
+use Rattle.tape_core.specs.Crash.{OnlyThis}
+use Rattle.tape_run.proofs.Headline.{headline}
+use Rattle.tape_run.proofs.Begin.{is_resumed}
+
+-- what is of a session stands
+of_stands : (set : FileSet) (s : Seen) (back : Point) (there : List Portion) → IsSession set s
+    → IsOf s back there → Stands set s.place.file back there × IsPlaceOf (course_of s) back.position
+of_stands set s back there is (inl (e, f)) =
+    (rw (e, f) (noted set s.place s.parts is.at), inl (ap (λ (c : Point). c.position) e))
+of_stands set s back there is (inr (n, e, f, w)) =
+    let note = note_at set s.place.file [] s.notes n back s.parts e is.notes in
+    let same : there ≡ note.ps =
+    same_front there note.ps s.parts f note.is_front (w ∙ note.stands.staged) in
+    let found : slice_get (map (λ (c : Point). c.position) s.notes) n ≡ Some back.position =
+    slice_get-map (λ (c : Point). c.position) s.notes n ∙ rw e refl in
+    (rw same note.stands, inr ((n, found)))
+
+-- some of the steps were made, and it is of the session behind them
+record Behind (old : Seen) (steps : List Step) (reels : List (Option (List ℕ)))
+    (back : Point) (there : List Portion) : Type 0 where
+  done : List Step
+  rest : List Step
+  all : steps ≡ done ++ rest
+  mid : Seen
+  runs : Runs old done reels (Ok tt) mid
+  is_of : IsOf mid back there
+
+none_made : (old : Seen) (steps : List Step) (reels : List (Option (List ℕ)))
+    (back : Point) (there : List Portion)
+    → IsOf old back there → Behind old steps reels back there
+none_made old steps reels back there h =
+    record { done = []; rest = steps; all = refl; mid = old; runs = (refl, refl); is_of = h }
+
+behind : (old : Seen) (steps : List Step) (bytes : List (List ℕ))
+    (back : Point) (there : List Portion)
+    → StoodAt old steps (map Some bytes) back there → Behind old steps (map Some bytes) back there
+behind old [] bytes back there h = none_made old [] _ back there h
+behind old (Reel ∷ steps) [] back there h = none_made old (Reel ∷ steps) _ back there h
+behind old (Reel ∷ steps) (b ∷ bs) back there (inl h) = none_made old (Reel ∷ steps) _ back there h
+behind old (Reel ∷ steps) (b ∷ bs) back there (inr (failed, mid, r, h)) =
+    let n = behind mid steps bs back there h in
+    record {
+      done = Reel ∷ n.done;
+      rest = n.rest;
+      all = ap (λ (l : List Step). Reel ∷ l) n.all;
+      mid = n.mid;
+      runs = inl ((failed, mid, r, n.runs));
+      is_of = n.is_of;
+    }
+behind old (Save ∷ steps) bytes back there (inl h) = none_made old (Save ∷ steps) _ back there h
+behind old (Save ∷ steps) bytes back there (inr (mid, v, h)) =
+    let n = behind mid steps bytes back there h in
+    record {
+      done = Save ∷ n.done;
+      rest = n.rest;
+      all = ap (λ (l : List Step). Save ∷ l) n.all;
+      mid = n.mid;
+      runs = inl ((mid, v, n.runs));
+      is_of = n.is_of;
+    }
+behind old (Restart k ∷ steps) bytes back there (inl h) =
+    none_made old (Restart k ∷ steps) _ back there h
+behind old (Restart k ∷ steps) bytes back there (inr (mid, w, h)) =
+    let n = behind mid steps bytes back there h in
+    record {
+      done = Restart k ∷ n.done;
+      rest = n.rest;
+      all = ap (λ (l : List Step). Restart k ∷ l) n.all;
+      mid = n.mid;
+      runs = inl ((mid, w, n.runs));
+      is_of = n.is_of;
+    }
+
+pub comes_back : (old : Seen) (steps : List Step) (bytes : List (List ℕ))
+    (back : Point) (there : List Portion)
+    → StoodAt old steps (map Some bytes) back there
+    → (done : List Step) × (given : List (List ℕ)) × ComesBack old steps done bytes given back there
+comes_back old steps bytes back there h =
+    let b = behind old steps bytes back there h in
+    let run = headline old b.mid b.done bytes b.runs in (
+      b.done,
+      run.given,
+      record {
+        rest = b.rest;
+        all = b.all;
+        failed = run.failed;
+        are_given = run.are_given;
+        stands = λ set hs l hist s.
+            let r = run.ran set hs l hist s in
+            let (stands, place) = of_stands set b.mid back there r.session b.is_of in (
+              subst (λ (f : ℕ). Stands set f back there) r.same_file stands,
+              subst (λ (c : Course). IsPlaceOf c back.position) (sym r.reached) place,
+            );
+      },
+    )
+
+resumed_session : (set : FileSet) (c : Point) (ps : List Portion) (s : Seen) → IsResumed c ps s
+    → Stands set c.file c ps → IsSession set s
+resumed_session set c ps s r st =
+    let at = is_resumed set c s.place s.failures s.refusals s.notes ps r.place r.notes st in
+    subst (λ (l : List Portion). IsSession set (record {
+      place = s.place;
+      parts = l;
+      notes = s.notes;
+      failures = s.failures;
+      refusals = s.refusals;
+    })) (sym r.parts) at
+
+-- what comes back of one life stands
+one_life : (set : FileSet) (c : Point) (ps : List Portion) (life : Life) (hs : List Happening)
+    (back : Point) (there : List Portion)
+    → IsLawful set → Stands set c.file c ps → IsResumed c ps life.began
+    → IsHistory set 0 life.done life.given hs
+    → ((back ≡ c) × (there ≡ ps))
+    ⊎ ComesBack life.began life.steps life.done life.bytes life.given back there
+    → Stands set c.file back there
+one_life set c ps life hs back there l st r h (inl (e, f)) = rw (e, f) st
+one_life set c ps life hs back there l st r h (inr b) =
+    let none : length life.began.notes ≡ 0 = ap length r.notes in
+    let file : life.began.place.file ≡ c.file = ap (λ (p : State). p.file) r.place in
+    let (stands, place) =
+    b.stands set hs l (subst (λ (n : ℕ). IsHistory set n life.done life.given hs) (sym none) h)
+    (resumed_session set c ps life.began r st) in
+    subst (λ (f : ℕ). Stands set f back there) file stands
+
+pub across : (set : FileSet) (c : Point) (ps : List Portion) (lives : List Life)
+    (hss : List (List Happening)) (back : Point) (there : List Portion)
+    → IsLawful set → Stands set c.file c ps
+    → Outlives c ps lives back there → AreHistories set lives hss → Stands set c.file back there
+across set c ps [] hss back there l st (e, f) h = rw (e, f) st
+across set c ps (life ∷ lives) [] back there l st o h = absurd h
+across set c ps (life ∷ lives) (hs ∷ hss) back there l st (r, (mid, front, how, left)) (h, more) =
+    let there_now = one_life set c ps life hs mid front l st r h how in
+    let file : mid.file ≡ c.file = there_now.of_file in
+    let next = across set mid front lives hss back there l
+    (subst (λ (f : ℕ). Stands set f mid front) (sym file) there_now) left more in
+    subst (λ (f : ℕ). Stands set f back there) file next
+
+-- one life, up to what a crash brought back
+pub one_more_life : (c : Point) (ps : List Portion) (s : Seen) (steps : List Step)
+    (reels : List (Option (List ℕ))) (bytes : List (List ℕ)) (old : Point → List Portion → Type 0)
+    (back : Point) (there : List Portion)
+    → IsResumed c ps s → reels ≡ map Some bytes
+    → OnlyThis c ps old → old back there ⊎ StoodAt s steps reels back there
+    → (life : Life) × (life.began ≡ s) × (life.steps ≡ steps) × (life.bytes ≡ bytes)
+    × Outlives c ps (life ∷ []) back there
+one_more_life c ps s steps reels bytes old back there r e only (inl h) = (
+  record { began = s; steps = steps; bytes = bytes; done = []; given = bytes },
+  refl,
+  refl,
+  refl,
+  (r, (back, there, inl (only back there h), (refl, refl))),
+)
+one_more_life c ps s steps reels bytes old back there r e only (inr h) =
+    let (done, given, b) = comes_back s steps bytes back there
+    (subst (λ (z : List (Option (List ℕ))). StoodAt s steps z back there) e h) in (
+      record { began = s; steps = steps; bytes = bytes; done = done; given = given },
+      refl,
+      refl,
+      refl,
+      (r, (back, there, inr b, (refl, refl))),
+    )
+
+pub goes_on : (c : Point) (ps : List Portion) (s new : Seen) (steps : List Step)
+    (bytes : List (List ℕ))
+    → IsResumed c ps s → HasRun s steps bytes new → GoesOn c ps steps bytes new.parts
+goes_on c ps s new steps bytes r h = record {
+  given = h.given;
+  failed = h.failed;
+  are_given = h.are_given;
+  delivers = λ set hs l st hist.
+      let none : length s.notes ≡ 0 = ap length r.notes in
+      let file : s.place.file ≡ c.file = ap (λ (p : State). p.file) r.place in
+      let from : course_of s ≡ record { at = c.position; notes = [] } =
+      rw (r.place, r.notes) refl in
+      let ran = h.ran set hs l (subst (λ (n : ℕ). IsHistory set n steps h.given hs) (sym none) hist)
+      (resumed_session set c ps s r st) in
+      let there : course set c.file (record { at = c.position; notes = [] }) hs ≡ course_of new =
+      sym (ap (λ (f : ℕ). course set f (course_of s) hs) file
+      ∙ ap (λ (z : Course). course set c.file z hs) from) ∙ ran.reached in
+      ran.session.at.all ∙ (ap (λ (f : ℕ). before set f new.place.position) (ran.same_file ∙ file)
+      ∙ ap (λ (z : Course). before set c.file z.at) (sym there));
+}
+
+pub on_ok : {B : Type 0} (r : Result (Unit {0}) B) (P Q : Type 0) → (P → Q) → OnOk r P → OnOk r Q
+on_ok (Ok x) P Q f h = f h
+on_ok (Err e) P Q f h = tt

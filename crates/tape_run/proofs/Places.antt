@@ -1,0 +1,234 @@
+-- Places in the midst of a block.
+use Rattle.std.proofs.Common.{◌≡◌, ◌≢◌, ℕ, zero, suc, ◌-◌, ◌<◌, ◌≤◌, ◌==◌, Bool, true, false}
+use Rattle.std.proofs.Common.{if◌then◌else◌, List, [], ◌∷◌, ◌++◌, length, take, drop, Option, Some}
+use Rattle.std.proofs.Common.{None, refl, sym, ap, subst, ◌∙◌, arith, append-nil}
+use Rattle.std.proofs.lemmas.Bool.Decides.{nat_tests}
+use Rattle.std.proofs.Math.Seq.{take-nil}
+use Rattle.std.specs.Prelude.{Result, Ok, Err, OnOk, OnErr, IsOk}
+use Rattle.tape_blocks.specs.declared.shape.Shape.{Shape}
+use Rattle.tape_blocks.specs.Block.{Portion, Holds}
+use Rattle.tape_blocks.specs.Judged.{begun_behind}
+use Rattle.tape_blocks.proofs.JoinLaws.{one_list}
+use Rattle.tape_image.specs.Tape.{TapeItem, block}
+use Rattle.tape_set.specs.declared.position.Position.{Position}
+use Rattle.tape_set.specs.declared.position.Position.TheVariants.{Awaits, Finished}
+use Rattle.tape_set.specs.Position.{at_part, part_of}
+use Rattle.tape_set.specs.Layout.{FileSet}
+use Rattle.tape_set.specs.Lawful.{FileForm}
+use Rattle.tape_set.specs.Before.{before}
+use Rattle.tape_core.specs.declared.answer.Answer.{Answer}
+use Rattle.tape_core.specs.declared.answer.Answer.TheVariants.{Passed, Deliver, SectionDone}
+use Rattle.tape_core.specs.declared.answer.Answer.TheVariants.{Complete, Useless}
+use Rattle.tape_core.specs.Point.{Point}
+use Rattle.tape_core.specs.State.{State}
+use Rattle.tape_core.specs.Table.{saved, Shows}
+use Rattle.tape_core.specs.Follows.{IsAt, Delivers, Gives}
+use Rattle.tape_core.specs.Stands.{weight_of, inside_block}
+use Rattle.tape_core.specs.Place.{place_of, IsPlaced}
+use Rattle.tape_core.proofs.Standing.{stood}
+use Rattle.tape_core.proofs.PartPoints.{part_stands}
+use Rattle.tape_run.specs.Puts.{refused_point}
+
+-- ---- the place of a refused part
+
+none_between : (k : ℕ) (ps : List Portion) → drop k (take k ps) ≡ []
+none_between zero ps = refl
+none_between (suc k) [] = refl
+none_between (suc k) (p ∷ ps) = none_between k ps
+
+drop_take : (k n : ℕ) (ps : List Portion) → drop k (take n ps) ≡ take (n - k) (drop k ps)
+drop_take zero n ps = let e : n - 0 ≡ n = omega arith in rw e refl
+drop_take (suc k) zero ps = let e : 0 - suc k ≡ 0 = omega arith in rw e refl
+drop_take (suc k) (suc n) [] = sym (take-nil {A = Portion} (suc n - suc k))
+drop_take (suc k) (suc n) (p ∷ ps) =
+    let e : suc n - suc k ≡ n - k = omega arith in
+    rw e (drop_take k n ps)
+
+pick_place : (g : Bool) (c : Point) (d : Point) (P : State → Type 0) → (g ≡ true → P (place_of c))
+    → (g ≡ false → P (place_of d)) → P (place_of (if g then c else d))
+pick_place true c d P x y = x refl
+pick_place false c d P x y = y refl
+
+at_same : (set : FileSet) (old : State) (held : List Portion) (staged k : ℕ) (ps : List Portion)
+    → IsPlaced set old held
+    → IsPlaced set (place_of (saved old staged)) (held ++ drop k (take k ps))
+at_same set old held staged k ps a =
+    let again : IsPlaced set (place_of (saved old staged)) held =
+    record {
+      at = record { of_set = a.at.of_set; sound = refl; stands = a.at.stands };
+      all = a.all;
+    } in
+    subst (IsPlaced set (place_of (saved old staged)))
+    (sym (append-nil held) ∙ ap (λ (l : List Portion). held ++ l) (sym (none_between k ps))) again
+
+at_later : (set : FileSet) (x : TapeItem) (old new : State) (held : List Portion)
+    (n : ℕ) (begun : Bool)
+    → (d : Delivers set x old new) → IsPlaced set old held → IsAt set new → new.file ≡ old.file
+    → d.part < n → n < length d.filled.parts
+    → begun ≡ begun_behind old.begun (drop d.part (take n d.filled.parts))
+    → IsPlaced set (place_of (inside_block (saved new 0) old.position n begun 0)) (held
+    ++ drop d.part (take n d.filled.parts))
+at_later set x old new held n begun d a b same lt within is =
+    let kept = take (n - d.part) (drop d.part d.filled.parts) in
+    let all = before set old.file old.position ++ kept in
+    let stands = part_stands set old new x 0 n begun (weight_of all) a.at b.of_set same d lt within
+    (is ∙ ap (begun_behind old.begun) (drop_take d.part n d.filled.parts)) refl in
+    let there = stood set old.file (inside_block (saved new 0) old.position n begun (weight_of all))
+    all stands in
+    let parts : all ≡ held ++ drop d.part (take n d.filled.parts) = ap (λ z. z ++ kept) (sym a.all)
+    ∙ ap (λ z. held ++ z) (sym (drop_take d.part n d.filled.parts)) in
+    subst (IsPlaced set (place_of (inside_block (saved new 0) old.position n begun 0))) parts
+    (record { at = there.at; all = there.all })
+
+-- At a refused part of the block delivered the core is right again with what was put.
+refused_place : (set : FileSet) (x : TapeItem) (old new : State) (held : List Portion) (n : ℕ)
+    → (d : Delivers set x old new) → IsPlaced set old held → IsAt set new → new.file ≡ old.file
+    → d.part ≤ n → n < length d.filled.parts
+    → IsPlaced set (place_of (refused_point (saved old 0) (saved new 0) n (begun_behind old.begun
+    (drop d.part (take n d.filled.parts))))) (held ++ drop d.part (take n d.filled.parts))
+refused_place set x old new held n d a b same le within =
+    let part_is : part_of old.position ≡ d.part = ap part_of d.awaited in
+    let begun = begun_behind old.begun (drop d.part (take n d.filled.parts)) in
+    pick_place (n == part_of old.position) (saved old 0)
+    (inside_block (saved new 0) old.position n begun 0)
+    (λ (p : State). IsPlaced set p (held ++ drop d.part (take n d.filled.parts)))
+    (λ e. let same_part : n ≡ d.part =
+    (let q : n ≡ part_of old.position = grind (arith, nat_tests) in q ∙ part_is) in
+    rw same_part (at_same set old held 0 d.part d.filled.parts a))
+    (λ e. at_later set x old new held n begun d a b same (let q : n ≢ part_of old.position =
+    grind (arith, nat_tests) in omega (arith, le, q, part_is)) within refl)
+
+pub refused_position : (old new : State) (n : ℕ) (begun : Bool)
+    → (place_of (refused_point (saved old 0) (saved new 0) n begun)).position
+    ≡ at_part n old.position
+refused_position old new n begun =
+    pick_place (n == part_of old.position) (saved old 0)
+    (inside_block (saved new 0) old.position n begun 0)
+    (λ (p : State). p.position ≡ at_part n old.position)
+    (λ e. let q : n ≡ part_of old.position = grind (arith, nat_tests) in kept old.position n q)
+    (λ e. refl)
+  where
+    kept : (p : Position) (n : ℕ) → n ≡ part_of p → p ≡ at_part n p
+    kept (Awaits sect b part) n e = rw e refl
+    kept Finished n e = refl
+
+-- ---- a step of a core
+
+same_known : (o : Option FileForm) (k l : FileForm) → o ≡ Some k → o ≡ Some l → k ≡ l
+same_known o k l e f = cc
+
+same_block : (x : TapeItem) (b c : List ℕ) → x ≡ block b → x ≡ block c → b ≡ c
+same_block x b c e f = cc
+
+same_parts : (set : FileSet) (x : TapeItem) (old new : State) (parts : List Portion)
+    (bytes : List ℕ) (k : FileForm)
+    → (d : Delivers set x old new) → x ≡ block bytes → new.known ≡ Some k
+    → Holds k.format k.rec_len k.offset bytes parts → d.filled.parts ≡ parts
+same_parts set x old new parts bytes k d is known holds =
+    let one : d.form ≡ k = same_known new.known d.form k d.is_known known in
+    let two : d.filled.bytes ≡ bytes = same_block x d.filled.bytes bytes d.is_block is in
+    let there =
+    subst (λ (z : FileForm). Holds z.format z.rec_len z.offset d.filled.bytes d.filled.parts)
+    one d.holds in
+    one_list k.format k.rec_len k.offset bytes d.filled.parts parts
+    (subst (λ (b : List ℕ). Holds k.format k.rec_len k.offset b d.filled.parts) two there) holds
+
+-- The whole rest of the block was put.
+pub delivered_at : (set : FileSet) (x : TapeItem) (old new : State) (held parts : List Portion)
+    (first : ℕ) (bytes : List ℕ) (k : FileForm)
+    → Delivers set x old new → IsPlaced set old held → IsAt set new
+    → x ≡ block bytes → new.known ≡ Some k → Holds k.format k.rec_len k.offset bytes parts
+    → first ≡ part_of old.position → IsPlaced set new (held ++ drop first parts)
+delivered_at set x old new held parts first bytes k d a b is known holds from =
+    let all = same_parts set x old new parts bytes k d is known holds in
+    let part : first ≡ d.part = from ∙ ap part_of d.awaited in
+    let next : before set new.file new.position ≡ held ++ drop first parts =
+    d.next ∙ (ap (λ (l : List Portion). l ++ drop d.part d.filled.parts) (sym a.all)
+    ∙ (ap (λ (n : ℕ). held ++ drop n d.filled.parts) (sym part)
+    ∙ ap (λ (l : List Portion). held ++ drop first l) all)) in
+    record { at = b; all = sym next }
+
+-- A part of it was refused.
+pub refused_at : (set : FileSet) (x : TapeItem) (old new : State) (held parts : List Portion)
+    (first n : ℕ) (bytes : List ℕ) (k : FileForm)
+    → Delivers set x old new → IsPlaced set old held → IsAt set new
+    → new.file ≡ old.file → x ≡ block bytes → new.known ≡ Some k
+    → Holds k.format k.rec_len k.offset bytes parts → first ≡ part_of old.position → first ≤ n
+    → n < length parts
+    → IsPlaced set (place_of (refused_point (saved old 0) (saved new 0) n
+    (begun_behind old.begun (drop first (take n parts))))) (held ++ drop first (take n parts))
+refused_at set x old new held parts first n bytes k d a b same is known holds from le lt =
+    let all = same_parts set x old new parts bytes k d is known holds in
+    let part : d.part ≡ first = sym (from ∙ ap part_of d.awaited) in
+    let there = refused_place set x old new held n d a b same
+    (omega (arith, le, part)) (subst (λ (l : List Portion). n < length l) (sym all) lt) in
+    subst (λ (l : List Portion). IsPlaced set (place_of (refused_point (saved old 0) (saved new 0) n
+    (begun_behind old.begun (drop first (take n l))))) (held ++ drop first (take n l))) all
+    (subst (λ (f : ℕ). IsPlaced set (place_of (refused_point (saved old 0) (saved new 0) n
+    (begun_behind old.begun (drop f (take n d.filled.parts))))) (held
+    ++ drop f (take n d.filled.parts))) part there)
+
+-- a step that delivers, and one that does not
+pub gives_block : (set : FileSet) (x : TapeItem) (answer : Answer) (old new : State)
+    → answer ≡ Deliver → Gives set x answer old new → Delivers set x old new
+gives_block set x answer old new e g = subst (λ (a : Answer). Gives set x a old new) e g
+
+pub gives_none : (set : FileSet) (x : TapeItem) (answer : Answer) (old new : State)
+    → answer ≢ Deliver → Gives set x answer old new
+    → before set new.file new.position ≡ before set old.file old.position
+gives_none set x Passed old new e g = g
+gives_none set x Deliver old new e g = absurd (e refl)
+gives_none set x SectionDone old new e g = g
+gives_none set x Complete old new e g = g
+gives_none set x (Useless why) old new e g = g
+
+-- the item that came
+pub came_block : (arrived : Option TapeItem) (x : TapeItem) (bytes : List ℕ) → arrived ≡ Some x
+    → arrived ≡ Some (block bytes) → x ≡ block bytes
+came_block arrived x bytes e f = cc
+
+-- ---- results
+
+pub on_err : {A B : Type 0} (r : Result A B) (P : Type 0) → P → OnErr r P
+on_err (Ok x) P p = tt
+on_err (Err e) P p = p
+
+pub from_ok : {A B : Type 0} (r : Result A B) (P : Type 0) → OnOk r P → IsOk r → P
+from_ok (Ok x) P p ok = p
+from_ok (Err e) P p ok = absurd (cc)
+
+pub from_taken : {B : Type 0} (r : Result (Unit {0}) B) (P : Type 0) → OnOk r P → r ≡ Ok tt → P
+from_taken (Ok x) P p ok = p
+from_taken (Err e) P p ok = absurd (cc)
+
+pub shape_fits : (known : Option FileForm) (shape : Option Shape) (k : FileForm) (s : Shape)
+    → Shows known shape → known ≡ Some k → shape ≡ Some s
+    → (s.format ≡ k.format) × (s.rec_len ≡ k.rec_len) × (s.offset ≡ k.offset)
+shape_fits None shape k s h e f = absurd (cc)
+shape_fits (Some l) None k s h e f = absurd h
+shape_fits (Some l) (Some t) k s h e f =
+    let a : l ≡ k = cc in
+    let b : t ≡ s = cc in
+    let one : (t.format ≡ l.format) × (t.rec_len ≡ l.rec_len) × (t.offset ≡ l.offset) =
+    (h.format, h.rec_len, h.offset) in
+    let two = subst (λ (z : FileForm). (t.format ≡ z.format) × (t.rec_len ≡ z.rec_len) × (t.offset
+    ≡ z.offset)) a one in
+    subst (λ (z : Shape). (z.format ≡ k.format) × (z.rec_len ≡ k.rec_len) × (z.offset ≡ k.offset)) b
+    two
+
+-- both checkpoints being of a file, the one at the refused part is
+pub refused_set : (c d : Point) (n : ℕ) (begun : Bool) (id : List ℕ) → c.set_id ≡ id → d.set_id ≡ id
+    → (refused_point c d n begun).set_id ≡ id
+refused_set c d n begun id e f = pick (n == part_of c.position)
+  where
+    pick : (g : Bool) → (if g then c else inside_block d c.position n begun 0).set_id ≡ id
+    pick true = e
+    pick false = f
+
+pub refused_file : (c d : Point) (n : ℕ) (begun : Bool) (file : ℕ) → c.file ≡ file → d.file ≡ file
+    → (refused_point c d n begun).file ≡ file
+refused_file c d n begun file e f = pick (n == part_of c.position)
+  where
+    pick : (g : Bool) → (if g then c else inside_block d c.position n begun 0).file ≡ file
+    pick true = e
+    pick false = f

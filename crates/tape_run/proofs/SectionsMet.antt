@@ -1,0 +1,323 @@
+-- What the items end with by what is expected next: the labels of a section, its data, or its end.
+use Rattle.std.proofs.Common.{◌≡◌, ℕ, suc, Bool, true, false, List, [], ◌∷◌, ◌++◌, length, Option}
+use Rattle.std.proofs.Common.{Some, None, Result, Ok, Err, refl, ap, ◌∙◌, arith, append_assoc}
+use Rattle.std.proofs.Common.{append-nil, length-append}
+use Rattle.std.specs.Prelude.{⊤, map, ◌==◌, ◌||◌, not, if◌then◌else◌}
+use Rattle.std.proofs.lemmas.Bool.Decides.{nat_tests}
+use Rattle.tape_image.specs.Tape.{TapeItem, block, mark}
+use Rattle.tape_label.specs.declared.fault.LabelFault.{LabelFault}
+use Rattle.tape_label.specs.declared.values.Kind.{Kind}
+use Rattle.tape_label.specs.declared.values.Kind.TheVariants as kinds
+use Rattle.tape_label.specs.declared.values.Vol1.{Vol1}
+use Rattle.tape_label.specs.declared.values.Head1.{Head1}
+use Rattle.tape_label.specs.declared.values.Trail1.{Trail1}
+use Rattle.tape_label.specs.Kinds.{HasKind, kind_at}
+use Rattle.tape_label.specs.Reading.{vol1_at, head1_at, trail1_at}
+use Rattle.tape_label.proofs.First.{vol1_found, head1_found, trail1_found}
+use Rattle.tape_label.proofs.Apart.{kind_found}
+use Rattle.tape_run.specs.declared.section.SectionKey.{SectionKey}
+use Rattle.tape_run.specs.declared.section.SectionState.TheVariants.{Good, Bad, Count}
+use Rattle.tape_run.specs.declared.section.Entry.{Entry}
+use Rattle.tape_run.specs.declared.met.Met.{Met}
+use Rattle.tape_run.specs.declared.passing.Phase.{Phase}
+use Rattle.tape_run.specs.declared.passing.Phase.TheVariants.{Volume, Labels, Second, Headers, Data}
+use Rattle.tape_run.specs.declared.passing.Phase.TheVariants.{Trailer, Trailers, Next, Over}
+use Rattle.tape_run.specs.Passing.{Told, with_block, state_by, closes, told, volume_with}
+use Rattle.tape_run.specs.Passing.{header_with, second_with}
+use Rattle.tape_set.specs.Lawful.{label_count}
+use Rattle.tape_run.specs.Shown.{BeginsVolume, HeadsSection, Shown}
+
+-- the items end with a section's first label
+pub record Headed (items : List TapeItem) (met : Met) : Type 0 where
+  pub volume : BeginsVolume items met.volume
+  pub before : List TapeItem
+  pub hdr1 : List ℕ
+  pub head : HeadsSection hdr1 met.key
+  pub stands : items ≡ before ++ block hdr1 ∷ []
+  pub none : met.blocks ≡ 0
+  pub good : met.bad ≡ false
+
+-- the items end with a section's labels
+pub record Labelled (items : List TapeItem) (met : Met) : Type 0 where
+  pub volume : BeginsVolume items met.volume
+  pub before : List TapeItem
+  pub hdr1 : List ℕ
+  pub hdr2 : List ℕ
+  pub headers : List (List ℕ)
+  pub head : HeadsSection hdr1 met.key
+  pub second : HasKind hdr2 kinds.Hdr2
+  pub stands : items ≡ before ++ block hdr1 ∷ block hdr2 ∷ map block headers
+  pub none : met.blocks ≡ 0
+  pub good : met.bad ≡ false
+
+-- the items end with a section's labels, a mark and its data, and none of these is bad unless it is
+-- said, and behind this
+pub record Filled (items : List TapeItem) (met : Met) (behind : List TapeItem) : Type 0 where
+  pub volume : BeginsVolume items met.volume
+  pub before : List TapeItem
+  pub hdr1 : List ℕ
+  pub hdr2 : List ℕ
+  pub headers : List (List ℕ)
+  pub content : List TapeItem
+  pub head : HeadsSection hdr1 met.key
+  pub second : HasKind hdr2 kinds.Hdr2
+  pub stands : items
+      ≡ before ++ block hdr1 ∷ block hdr2 ∷ map block headers ++ mark ∷ content ++ behind
+  pub many : met.blocks ≡ length content
+  pub whole : met.bad ≡ false → (blocks : List (List ℕ)) × (content ≡ map block blocks)
+
+abbrev pub Stood : Phase → List TapeItem → Type 0
+Stood Volume items = items ≡ []
+Stood (Labels v) items = BeginsVolume items v
+Stood (Second met) items = Headed items met
+Stood (Headers met) items = Labelled items met
+Stood (Data met) items = Filled items met []
+Stood (Trailer met) items = Filled items met (mark ∷ [])
+Stood (Trailers v) items = BeginsVolume items v
+Stood (Next v) items = BeginsVolume items v
+Stood Over items = ⊤
+
+-- a section that is told as good is shown
+abbrev pub ShownIfGood : List TapeItem → Option Told → Type 0
+ShownIfGood items None = ⊤
+ShownIfGood items (Some t) = t.1.state ≡ Good → Shown items t.0 t.1
+
+pub begins_more : (items : List TapeItem) (v : List ℕ) (more : List TapeItem) → BeginsVolume items v
+    → BeginsVolume (items ++ more) v
+begins_more items v more b = record {
+  bytes = b.bytes;
+  more = b.more ++ more;
+  first = ap (λ (r : List TapeItem). r ++ more) b.first;
+  label = b.label;
+  is = b.is;
+  named = b.named;
+}
+
+-- what is shown stays shown when items follow
+pub shown_more : (items : List TapeItem) (key : SectionKey) (entry : Entry) (more : List TapeItem)
+    → Shown items key entry → Shown (items ++ more) key entry
+shown_more items key entry more s = record {
+  volume = begins_more items entry.volume more s.volume;
+  before = s.before;
+  hdr1 = s.hdr1;
+  hdr2 = s.hdr2;
+  headers = s.headers;
+  content = s.content;
+  trailer = s.trailer;
+  after = s.after ++ more;
+  stands = ap (λ (r : List TapeItem). r ++ more) s.stands ∙ simp append_assoc;
+  head = s.head;
+  second = s.second;
+  ends = s.ends;
+  blocks = s.blocks;
+}
+
+-- a section's first label was read
+pub headed : (items : List TapeItem) (v b : List ℕ) (r : Result Head1 LabelFault) → head1_at b ≡ r
+    → BeginsVolume items v → Stood (header_with v r Over) (items ++ block b ∷ [])
+headed items v b (Ok head) e begins = record {
+  volume = begins_more items v (block b ∷ []) begins;
+  before = items;
+  hdr1 = b;
+  head =
+      record { label = head; is = head1_found b head e; set_id = refl; file = refl; sect = refl };
+  stands = refl;
+  none = refl;
+  good = refl;
+}
+headed items v b (Err _) e begins = tt
+
+pub begun : (b : List ℕ) (r : Result Vol1 LabelFault) → vol1_at b ≡ r
+    → Stood (volume_with r) (block b ∷ [])
+begun b (Ok label) e = record {
+  bytes = b;
+  more = [];
+  first = refl;
+  label = label;
+  is = vol1_found b label e;
+  named = refl;
+}
+begun b (Err _) e = tt
+
+pub labels_or : (items : List TapeItem) (v b : List ℕ) (is : Bool) → BeginsVolume items v
+    → Stood (if is then Labels v else header_with v (head1_at b) Over) (items ++ block b ∷ [])
+labels_or items v b true begins = begins_more items v (block b ∷ []) begins
+labels_or items v b false begins = headed items v b (head1_at b) refl begins
+
+pub seconded : (items : List TapeItem) (met : Met) (b : List ℕ) (k : Option Kind) → kind_at b ≡ k
+    → Headed items met → Stood (second_with met k) (items ++ block b ∷ [])
+seconded items met b None e h = tt
+seconded items met b (Some kinds.Hdr2) e h = record {
+  volume = begins_more items met.volume (block b ∷ []) h.volume;
+  before = h.before;
+  hdr1 = h.hdr1;
+  hdr2 = b;
+  headers = [];
+  head = h.head;
+  second = kind_found b kinds.Hdr2 e;
+  stands = ap (λ (r : List TapeItem). r ++ block b ∷ []) h.stands
+      ∙ append_assoc h.before (block h.hdr1 ∷ []) (block b ∷ []);
+  none = h.none;
+  good = h.good;
+}
+seconded items met b (Some kinds.Vol1) e h = tt
+seconded items met b (Some kinds.Hdr1) e h = tt
+seconded items met b (Some kinds.Eof1) e h = tt
+seconded items met b (Some kinds.Eof2) e h = tt
+seconded items met b (Some kinds.Eov1) e h = tt
+seconded items met b (Some kinds.Eov2) e h = tt
+
+map_push : (xs : List (List ℕ)) (b : List ℕ)
+    → map block xs ++ block b ∷ [] ≡ map block (xs ++ b ∷ [])
+map_push [] b = refl
+map_push (x ∷ xs) b = ap (λ (r : List TapeItem). block x ∷ r) (map_push xs b)
+
+long_map : (xs : List (List ℕ)) → length (map block xs) ≡ length xs
+long_map [] = refl
+long_map (x ∷ xs) = ap suc (long_map xs)
+
+pub labelled_more : (items : List TapeItem) (met : Met) (b : List ℕ) → Labelled items met
+    → Labelled (items ++ block b ∷ []) met
+labelled_more items met b h = record {
+  volume = begins_more items met.volume (block b ∷ []) h.volume;
+  before = h.before;
+  hdr1 = h.hdr1;
+  hdr2 = h.hdr2;
+  headers = h.headers ++ b ∷ [];
+  head = h.head;
+  second = h.second;
+  stands = ap (λ (r : List TapeItem). r ++ block b ∷ []) h.stands
+      ∙ append_assoc h.before (block h.hdr1 ∷ block h.hdr2 ∷ map block h.headers) (block b ∷ [])
+      ∙ ap (λ (r : List TapeItem). h.before ++ block h.hdr1 ∷ block h.hdr2 ∷ r) (map_push h.headers
+      b);
+  none = h.none;
+  good = h.good;
+}
+
+-- lists put together again
+regroup : (before a middle behind more : List TapeItem)
+    → (before ++ a ++ mark ∷ middle ++ behind) ++ more
+    ≡ before ++ a ++ mark ∷ middle ++ behind ++ more
+regroup before a middle behind more = simp (append_assoc, append-nil)
+
+regroup_first : (before a : List TapeItem)
+    → (before ++ a) ++ mark ∷ [] ≡ before ++ a ++ mark ∷ [] ++ []
+regroup_first before a = simp (append_assoc, append-nil)
+
+regroup_data : (before a middle : List TapeItem) (x : TapeItem)
+    → (before ++ a ++ mark ∷ middle ++ []) ++ x ∷ [] ≡ before ++ a ++ mark ∷ (middle
+    ++ x ∷ []) ++ []
+regroup_data before a middle x = simp (append_assoc, append-nil)
+
+regroup_close : (before a middle : List TapeItem)
+    → (before ++ a ++ mark ∷ middle ++ []) ++ mark ∷ [] ≡ before ++ a ++ mark ∷ middle ++ mark ∷ []
+regroup_close before a middle = simp (append_assoc, append-nil)
+
+regroup_end : (before a middle : List TapeItem) (x : TapeItem)
+    → (before ++ a ++ mark ∷ middle ++ mark ∷ []) ++ x ∷ []
+    ≡ before ++ a ++ mark ∷ middle ++ mark ∷ x ∷ []
+regroup_end before a middle x = simp (append_assoc, append-nil)
+
+pub filled_first : (items : List TapeItem) (met : Met) → Labelled items met
+    → Filled (items ++ mark ∷ []) met []
+filled_first items met h = record {
+  volume = begins_more items met.volume (mark ∷ []) h.volume;
+  before = h.before;
+  hdr1 = h.hdr1;
+  hdr2 = h.hdr2;
+  headers = h.headers;
+  content = [];
+  head = h.head;
+  second = h.second;
+  stands = ap (λ (r : List TapeItem). r ++ mark ∷ []) h.stands
+      ∙ regroup_first h.before (block h.hdr1 ∷ block h.hdr2 ∷ map block h.headers);
+  many = h.none;
+  whole = λ _. ([], refl);
+}
+
+pub filled_more : (items : List TapeItem) (met : Met) (x : TapeItem) (is_bad : Bool)
+    → ((met.bad || is_bad) ≡ false → (b : List ℕ) × (x ≡ block b))
+    → Filled items met [] → Filled (items ++ x ∷ []) (with_block met is_bad) []
+filled_more items met x is_bad is h = record {
+  volume = begins_more items met.volume (x ∷ []) h.volume;
+  before = h.before;
+  hdr1 = h.hdr1;
+  hdr2 = h.hdr2;
+  headers = h.headers;
+  content = h.content ++ x ∷ [];
+  head = h.head;
+  second = h.second;
+  stands = ap (λ (r : List TapeItem). r ++ x ∷ []) h.stands
+      ∙ regroup_data h.before (block h.hdr1 ∷ block h.hdr2 ∷ map block h.headers) h.content x;
+  many = omega (arith, h.many, length-append h.content (x ∷ []));
+  whole = λ e.
+      let (blocks, are) = h.whole (or_left met.bad is_bad e) in
+      let (b, now) = is e in (
+        blocks ++ b ∷ [],
+        ap (λ (r : List TapeItem). r ++ x ∷ []) are
+            ∙ ap (λ (y : TapeItem). map block blocks ++ y ∷ []) now ∙ map_push blocks b,
+      );
+}
+  where
+    or_left : (p q : Bool) → (p || q) ≡ false → p ≡ false
+    or_left true q e = e
+    or_left false q e = refl
+
+pub filled_closed : (items : List TapeItem) (met : Met) → Filled items met []
+    → Filled (items ++ mark ∷ []) met (mark ∷ [])
+filled_closed items met h = record {
+  volume = begins_more items met.volume (mark ∷ []) h.volume;
+  before = h.before;
+  hdr1 = h.hdr1;
+  hdr2 = h.hdr2;
+  headers = h.headers;
+  content = h.content;
+  head = h.head;
+  second = h.second;
+  stands = ap (λ (r : List TapeItem). r ++ mark ∷ []) h.stands
+      ∙ regroup_close h.before (block h.hdr1 ∷ block h.hdr2 ∷ map block h.headers) h.content;
+  many = h.many;
+  whole = h.whole;
+}
+
+-- a section that is told as good was counted right, and no block of it is bad
+state_good : (met : Met) (trail : Trail1) (same is_bad : Bool)
+    → (trail.blocks == label_count met.blocks) ≡ same → met.bad ≡ is_bad
+    → (if not same then Count else if is_bad then Bad else Good) ≡ Good
+    → (trail.blocks ≡ label_count met.blocks) × (met.bad ≡ false)
+state_good met trail true false a b e = (grind (arith, nat_tests, a), b)
+state_good met trail true true a b e = absurd (cc e)
+state_good met trail false is_bad a b e = absurd (cc e)
+
+pub shown : (items : List TapeItem) (met : Met) (b : List ℕ) (trail : Trail1)
+    → trail1_at b ≡ Ok trail → closes met trail ≡ true → Filled items met (mark ∷ [])
+    → state_by met trail.blocks ≡ Good → Shown (items ++ block b ∷ []) met.key (told met trail).1
+shown items met b trail e c h good =
+    let (count, fine) = state_good met trail _ _ refl refl good in
+    let (blocks, are) = h.whole fine in
+    let long : length h.content ≡ length blocks = ap length are ∙ long_map blocks in
+    record {
+      volume = begins_more items met.volume (block b ∷ []) h.volume;
+      before = h.before;
+      hdr1 = h.hdr1;
+      hdr2 = h.hdr2;
+      headers = h.headers;
+      content = blocks;
+      trailer = b;
+      after = [];
+      stands = ap (λ (r : List TapeItem). r ++ block b ∷ []) h.stands ∙ regroup_end h.before
+          (block h.hdr1 ∷ block h.hdr2 ∷ map block h.headers) h.content (block b)
+          ∙ ap (λ (r : List TapeItem). h.before ++ block h.hdr1 ∷ block h.hdr2 ∷ map block h.headers
+          ++ mark ∷ r ++ mark ∷ block b ∷ []) are;
+      head = h.head;
+      second = h.second;
+      ends = record {
+        label = trail;
+        is = trail1_found b trail e;
+        file = grind (arith, nat_tests, c);
+        sect = grind (arith, nat_tests, c);
+        count = count ∙ ap label_count (h.many ∙ long);
+        kind = refl;
+      };
+      blocks = h.many ∙ long;
+    }

@@ -1,0 +1,126 @@
+-- What is good in a catalogue stays so, and what is told as good becomes so.
+use Rattle.std.proofs.Common.{◌≡◌, ℕ, Bool, true, false, List, [], ◌∷◌, Option, Some, None, refl}
+use Rattle.std.proofs.Common.{ap, ◌∙◌, arith}
+use Rattle.std.specs.Prelude.{if◌then◌else◌, ◌==◌, ◌&&◌, not}
+use Rattle.std.specs.List.{AllByRecursion}
+use Rattle.std.proofs.lemmas.Slice.Eq.{bytes_eq-Decides}
+use Rattle.std.proofs.lemmas.Bool.Decides.{nat_tests}
+use Rattle.tape_run.specs.declared.section.SectionKey.{SectionKey}
+use Rattle.tape_run.specs.declared.section.SectionState.{SectionState}
+use Rattle.tape_run.specs.declared.section.SectionState.TheVariants.{Good, Bad, Count, Cut}
+use Rattle.tape_run.specs.declared.section.Entry.{Entry}
+use Rattle.tape_run.specs.Passing.{Told}
+use Rattle.tape_run.specs.Noted.{same_key, is_good, better, noted, noted_all}
+use Rattle.tape_run.specs.Lacks.{entry_at, IsGoodAt}
+
+pub key_again : (k : SectionKey) → same_key k k ≡ true
+key_again k =
+    ap (λ (b : Bool). b && ((k.file == k.file) && (k.sect == k.sect)))
+    ((bytes_eq-Decides k.set_id k.set_id).1 refl)
+    ∙ ap (λ (b : Bool). b && (k.sect == k.sect)) (again k.file) ∙ again k.sect
+  where
+    again : (n : ℕ) → (n == n) ≡ true
+    again n = grind (arith, nat_tests)
+
+good_is : (s : SectionState) → s ≡ Good → is_good s ≡ true
+good_is s e = ap is_good e
+
+-- a good entry is kept
+kept_good : (old new : Entry) → old.state ≡ Good → better old new ≡ old
+kept_good old new e = pick (is_good new.state) (is_good old.state) (good_is old.state e)
+  where
+    pick : (a b : Bool) → b ≡ true → (if a && not b then new else old) ≡ old
+    pick true true e = refl
+    pick false b e = refl
+    pick true false e = absurd (cc e)
+
+-- one of the two is good
+better_good : (old new : Entry) → new.state ≡ Good → (better old new).state ≡ Good
+better_good old new e = pick (is_good new.state) old.state refl (good_is new.state e)
+  where
+    pick : (a : Bool) (s : SectionState) → old.state ≡ s → a ≡ true
+        → (if a && not (is_good s) then new else old).state ≡ Good
+    pick true Good o h = o
+    pick true Bad o h = e
+    pick true Count o h = e
+    pick true Cut o h = e
+    pick false s o h = absurd (cc h)
+
+abbrev at_if : Bool → Entry → Option Entry → Option Entry
+at_if b e rest = if b then Some e else rest
+
+abbrev note_if : Bool → Told → List Told → Told → List Told
+note_if b x xs t = if b then (x.0, better x.1 t.1) ∷ xs else x ∷ noted xs t
+
+-- what is good stays so
+stays_here : (x : Told) (xs : List Told) (t : Told) (key : SectionKey) (a b : Bool) (e : Entry)
+    → same_key key x.0 ≡ a → e.state ≡ Good → at_if a x.1 (entry_at xs key) ≡ Some e
+    → (entry_at xs key ≡ Some e → IsGoodAt (noted xs t) key) → IsGoodAt (note_if b x xs t) key
+stays_here x xs t key true true e is good at rest =
+    let same : x.1 ≡ e = cc in
+    record {
+      entry = e;
+      there = ap (λ (c : Bool). at_if c (better x.1 t.1) (entry_at xs key)) is
+          ∙ ap Some (kept_good x.1 t.1 (ap (λ (y : Entry). y.state) same ∙ good) ∙ same);
+      good = good;
+    }
+stays_here x xs t key true false e is good at rest =
+    record {
+      entry = e;
+      there = ap (λ (c : Bool). at_if c x.1 (entry_at (noted xs t) key)) is ∙ at;
+      good = good;
+    }
+stays_here x xs t key false true e is good at rest =
+    record {
+      entry = e;
+      there = ap (λ (c : Bool). at_if c (better x.1 t.1) (entry_at xs key)) is ∙ at;
+      good = good;
+    }
+stays_here x xs t key false false e is good at rest =
+    let r = rest at in
+    record {
+      entry = r.entry;
+      there = ap (λ (c : Bool). at_if c x.1 (entry_at (noted xs t) key)) is ∙ r.there;
+      good = r.good;
+    }
+
+stays_one : (xs : List Told) (t : Told) (key : SectionKey) (e : Entry) → e.state ≡ Good
+    → entry_at xs key ≡ Some e → IsGoodAt (noted xs t) key
+stays_one [] t key e good at = absurd (cc at)
+stays_one (x ∷ xs) t key e good at = stays_here x xs t key (same_key key x.0)
+    (same_key t.0 x.0) e refl good at (stays_one xs t key e good)
+
+-- what is told as good becomes so
+becomes_here : (x : Told) (xs : List Told) (t : Told) (b : Bool) → same_key t.0 x.0 ≡ b
+    → t.1.state ≡ Good → IsGoodAt (noted xs t) t.0 → IsGoodAt (note_if b x xs t) t.0
+becomes_here x xs t true is good rest =
+    record {
+      entry = better x.1 t.1;
+      there = ap (λ (c : Bool). at_if c (better x.1 t.1) (entry_at xs t.0)) is;
+      good = better_good x.1 t.1 good;
+    }
+becomes_here x xs t false is good rest =
+    record {
+      entry = rest.entry;
+      there = ap (λ (c : Bool). at_if c x.1 (entry_at (noted xs t) t.0)) is ∙ rest.there;
+      good = rest.good;
+    }
+
+becomes_one : (xs : List Told) (t : Told) → t.1.state ≡ Good → IsGoodAt (noted xs t) t.0
+becomes_one [] t good =
+    record { entry = t.1; there = ap (λ (c : Bool). at_if c t.1 None) (key_again t.0); good = good }
+becomes_one (x ∷ xs) t good =
+    becomes_here x xs t (same_key t.0 x.0) refl good (becomes_one xs t good)
+
+pub stays_good : (c ts : List Told) (key : SectionKey) → IsGoodAt c key
+    → IsGoodAt (noted_all c ts) key
+stays_good c [] key g = g
+stays_good c (t ∷ ts) key g =
+    stays_good (noted c t) ts key (stays_one c t key g.entry g.good g.there)
+
+-- each section that is told as good is good behind
+pub become_good : (c ts : List Told) → AllByRecursion (λ t. t.1.state ≡ Good) ts
+    → AllByRecursion (λ t. IsGoodAt (noted_all c ts) t.0) ts
+become_good c [] h = tt
+become_good c (t ∷ ts) (h, hs) =
+    (stays_good (noted c t) ts t.0 (becomes_one c t h), become_good (noted c t) ts hs)

@@ -1,0 +1,11 @@
+use Rattle.std.proofs.Common.{◌∙◌, ap}
+use Rattle.indexmap.specs.IndexMap.{insert_entry}
+use Rattle.tape_run.specs.Noted.{same_key}
+use Rattle.tape_run.specs.declared.section.Entry.{Entry}
+use Rattle.tape_run.proofs.Inserting.{inserted}
+use Rattle.tape_run.proofs.sections.note.Goals as goal
+
+pub returns-in-Ok-clause-ok : goal.returns-in-Ok-clause-ok
+returns-in-Ok-clause-ok c = c.in-Ok.ensures.entries
+    ∙ ap (λ (e : Entry). insert_entry same_key c.args.sections.now.entries c.args.key e)
+    c.kept_of-kept.ensures ∙ inserted c.args.sections.now.entries c.args.key c.args.entry

@@ -1,0 +1,44 @@
+-- What an image adds to a catalogue.
+use Rattle.std.specs.Prelude.{◌≡◌, ℕ, List, length, Option, IfSome}
+use Rattle.tape_image.specs.declared.item.Ending.{Ending}
+use Rattle.tape_image.specs.declared.item.Ending.TheVariants as endings
+use Rattle.tape_image.specs.Tape.{TapeItem}
+use Rattle.tape_image.specs.Begins.{Walks}
+use Rattle.tape_image.specs.Reader.{IfKnown}
+use Rattle.tape_image.specs.Step.{TakesEnd, TakesFault}
+use Rattle.tape_run.specs.declared.section.ImageStop.{ImageStop}
+use Rattle.tape_run.specs.declared.section.ImageStop.TheVariants.{Marked, Physical, Fault}
+use Rattle.tape_run.specs.declared.section.ImageLine.{ImageLine}
+use Rattle.tape_run.specs.declared.passing.Phase.TheVariants.{Volume}
+use Rattle.tape_run.specs.Passing.{Told, told_from, met_in}
+use Rattle.tape_run.specs.Noted.{noted_all, KeepsPlaces, GoodIsShown}
+
+-- the end of medium as a stop
+abbrev pub stop_at : Ending → ImageStop
+stop_at endings.Marked = Marked
+stop_at endings.Physical = Physical
+
+-- The bytes begin with these items, and then stop so: at an end, or at a fault with its cause in
+-- the bytes, or, where the device failed, in those that it gave.
+abbrev pub StopsBehind : List TapeItem → ImageStop → List ℕ → List ℕ → Type 0
+StopsBehind items Marked xs ys = (place : ℕ) × TakesEnd 0 items endings.Marked place xs ys
+StopsBehind items Physical xs ys = (place : ℕ) × TakesEnd 0 items endings.Physical place xs ys
+StopsBehind items (Fault fault) xs ys = TakesFault 0 items fault xs ys
+
+-- All items that a reader gave were read, and the sections that they tell were noted. Before the
+-- call the reader had the bytes `before`, and then it has the bytes `after`.
+pub record Adds
+    (before after : Option (List ℕ)) (old : List Told) (line : ImageLine) (new : List Told) : Type 0
+  where
+    pub items : List TapeItem
+    pub counted : line.items ≡ length items
+    pub stop : IfKnown before after (StopsBehind items line.stop)
+    pub noted : new ≡ noted_all old (met_in items)
+    pub places : KeepsPlaces old new
+    pub good : GoodIsShown items old new
+
+-- There was no memory: the sections were noted that a front of the items tells.
+pub record AddsInPart (before : Option (List ℕ)) (old new : List Told) : Type 0 where
+  pub items : List TapeItem
+  pub front : IfSome before (λ xs. (place : ℕ) × (ys : List ℕ) × Walks 0 xs items place ys)
+  pub noted : new ≡ noted_all old (told_from Volume items)

@@ -1,0 +1,48 @@
+-- The bytes that readers gave, and the count of readers that failed.
+use Rattle.std.specs.Prelude.{◌≡◌, ◌⊎◌, ℕ, zero, suc, ◌+◌, Bool, true, false, List, [], ◌∷◌, ◌++◌}
+use Rattle.std.specs.Prelude.{min, Option, Some, None}
+use Rattle.tape_image.specs.declared.fault.ImageFault.{ImageFault}
+use Rattle.tape_image.specs.declared.fault.ImageCause.{ImageCause}
+use Rattle.tape_image.specs.declared.fault.ImageCause.TheVariants.{Truncated, LengthsDiffer}
+use Rattle.tape_image.specs.declared.fault.ImageCause.TheVariants.{Reserved, TooLong, Device}
+use Rattle.tape_image.specs.declared.fault.ImageCause.TheVariants.{OutOfMemory}
+
+-- whether the reader failed
+abbrev pub is_device_cause : ImageCause → Bool
+is_device_cause Device = true
+is_device_cause Truncated = false
+is_device_cause LengthsDiffer = false
+is_device_cause (Reserved _) = false
+is_device_cause TooLong = false
+is_device_cause OutOfMemory = false
+
+-- whether the fault, if there is one, is that of a reader that failed
+abbrev pub is_device : Option ImageFault → Bool
+is_device None = false
+is_device (Some fault) = is_device_cause fault.cause
+
+-- All that a reader has was given, or, where it failed, a front of that.
+abbrev pub IsGiven : Bool → List ℕ → List ℕ → Type 0
+IsGiven false bytes given = given ≡ bytes
+IsGiven true bytes given = (rest : List ℕ) × (bytes ≡ given ++ rest)
+
+-- a count of failures behind one more reader, which failed or did not; it stays at its greatest
+-- value
+abbrev pub counted : Bool → ℕ → ℕ
+counted false n = n
+counted true n = min (n + 1) 18446744073709551615
+
+-- The bytes that were given of each reader: all that it has, but for so many that failed, which
+-- gave a front of it.
+abbrev pub AreGiven : ℕ → List (List ℕ) → List (List ℕ) → Type 0
+AreGiven n [] [] = n ≡ 0
+AreGiven n [] (g ∷ given) = ⊥
+AreGiven n (bytes ∷ all) [] = ⊥
+AreGiven n (bytes ∷ all) (g ∷ given) =
+    (IsGiven false bytes g × AreGiven n all given)
+    ⊎ ((m : ℕ) × (n ≡ m + 1) × IsGiven true bytes g × AreGiven m all given)
+
+-- a count of failures behind n readers that failed
+abbrev pub counted_up : ℕ → ℕ → ℕ
+counted_up zero c = c
+counted_up (suc n) c = counted_up n (counted true c)

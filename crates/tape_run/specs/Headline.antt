@@ -1,0 +1,136 @@
+-- The headline: what a run of a session leaves, over the mounts that happened.
+--
+-- Premises, each a parameter or a field below: the set is lawful (`IsLawful`); each reader told its
+-- bytes, and these are a copy of one of the set's volumes, whole, cut or damaged, or a reel that is
+-- none of the set (`IsHistory`); the notes that the script goes back to exist (`IsHistory`); the
+-- sink holds the parts of the session before (`IsSession`, `IsNew`); no call was refused (`HasRun`,
+-- `IsRead`), or the first one that was ended the run (`HasStopped`).
+use Rattle.std.specs.Prelude.{◌≡◌, ℕ, suc, ◌≤◌, List, [], ◌∷◌, ◌++◌, length, drop, IsSome, Some}
+use Rattle.std.specs.Prelude.{slice_get}
+use Rattle.tape_image.specs.Tape.{TapeItem, block}
+use Rattle.tape_image.specs.Begins.{Stop, Begins}
+use Rattle.tape_set.specs.Position.{start, at_part}
+use Rattle.tape_set.specs.Layout.{FileSet, file_of}
+use Rattle.tape_set.specs.Lawful.{IsLawful}
+use Rattle.tape_set.specs.Before.{before}
+use Rattle.tape_run.specs.declared.script.Step.{Step}
+use Rattle.tape_run.specs.declared.script.Step.TheVariants.{Reel, Save, Restart}
+use Rattle.tape_run.specs.declared.fault.RunFault.{RunFault}
+use Rattle.tape_run.specs.declared.fault.RunFault.TheVariants.{Sink, NoSuchPoint, TooFewReels}
+use Rattle.tape_run.specs.declared.fault.RunFault.TheVariants.{OutOfMemory}
+use Rattle.tape_run.specs.Mount.{Happening, IsMount, cut, after_mount}
+use Rattle.tape_run.specs.History.{Course, course, course_of, IsHistory}
+use Rattle.tape_run.specs.Given.{AreGiven, counted_up}
+use Rattle.tape_run.specs.Seen.{Seen, IsSession}
+
+-- ---- all steps were made
+
+-- The session is where the history leads, with just the parts before that position.
+pub record Ran (set : FileSet) (old : Seen) (hs : List Happening) (new : Seen) : Type 0 where
+  pub session : IsSession set new
+  pub same_file : new.place.file ≡ old.place.file
+  pub reached : course set old.place.file (course_of old) hs ≡ course_of new
+
+-- All steps were made: of every lawful set and every history that the bytes given are, the session
+-- is where this leads.
+pub record HasRun (old : Seen) (steps : List Step) (bytes : List (List ℕ))
+    (new : Seen) : Type 0 where
+  pub given : List (List ℕ)
+  pub failed : ℕ
+  pub are_given : AreGiven failed bytes given
+  pub count : new.failures ≡ counted_up failed old.failures
+  pub ran : (set : FileSet) (hs : List Happening) → IsLawful set
+      → IsHistory set (length old.notes) steps given hs
+      → IsSession set old → Ran set old hs new
+
+-- ---- a session that begins a file
+
+-- the course of a file of which nothing was read
+abbrev pub begins : Course
+begins = record { at = start; notes = [] }
+
+-- A session of the set that stands at the start of the file.
+pub record IsNew (set : FileSet) (file : ℕ) (s : Seen) : Type 0 where
+  pub session : IsSession set s
+  pub its_file : s.place.file ≡ file
+  pub course : course_of s ≡ begins
+
+-- The session has read nothing of this file: in every lawful set of the identifier that has the
+-- file it stands at the file's start.
+pub record IsStart (set_id : List ℕ) (file : ℕ) (s : Seen) : Type 0 where
+  pub no_notes : s.notes ≡ []
+  pub no_failures : s.failures ≡ 0
+  pub each : (set : FileSet) → IsLawful set → set_id ≡ set.set_id → IsSome (file_of set file)
+      → IsNew set file s
+
+-- What was read of a file from its start: of every lawful set of this identifier that has the file,
+-- and every history that the bytes given are, the sink holds the parts before the position that
+-- this leads to, and the position and the notes are those of it.
+pub record IsRead (set_id : List ℕ) (file : ℕ) (steps : List Step) (bytes : List (List ℕ))
+    (s : Seen) : Type 0 where
+  pub given : List (List ℕ)
+  pub failed : ℕ
+  pub are_given : AreGiven failed bytes given
+  pub count : s.failures ≡ counted_up failed 0
+  pub reads : (set : FileSet) (hs : List Happening) → IsLawful set → set_id ≡ set.set_id
+      → IsSome (file_of set file)
+      → IsHistory set 0 steps given hs
+      → (course_of s ≡ course set file begins hs)
+      × (s.parts ≡ before set file (course set file begins hs).at)
+
+-- ---- a fault ended the run
+
+-- how many readers the steps take
+abbrev pub reels_in : List Step → ℕ
+reels_in [] = 0
+reels_in (Reel ∷ steps) = suc (reels_in steps)
+reels_in (Save ∷ steps) = reels_in steps
+reels_in (Restart n ∷ steps) = reels_in steps
+
+-- Behind these happenings a part of the block that stands behind n items of the reel was refused:
+-- the session is where the n items lead, in the block at the refused part, with just the parts
+-- before that position.
+pub record PutRefused (set : FileSet) (old : Seen) (hs : List Happening) (xs : List TapeItem)
+    (h : Happening) (new : Seen) : Type 0 where
+  pub session : IsSession set new
+  pub same_file : new.place.file ≡ old.place.file
+  pub n : ℕ
+  pub content : List ℕ
+  pub refused : slice_get xs n ≡ Some (block content)
+  pub part : ℕ
+  pub notes : (course_of new).notes ≡ (course set old.place.file (course_of old) hs).notes
+  pub position : new.place.position
+      ≡ at_part part (after_mount set old.place.file (course set old.place.file
+      (course_of old) hs).at (cut n h))
+
+-- The step was not made, for this reason, by a session that these happenings brought where it was,
+-- with these readers left: the session is there still, or at a part that the sink refused.
+abbrev pub Stops : FileSet → Seen → List Happening → Step → List (List ℕ) → RunFault → Seen → Type 0
+Stops set old hs Reel [] TooFewReels new = Ran set old hs new
+Stops set old hs Reel (bytes ∷ readers) OutOfMemory new = Ran set old hs new
+Stops set old hs Reel (bytes ∷ readers) (Sink cause) new = (xs : List TapeItem) (end : ℕ)
+    (stop : Stop) (h : Happening)
+    → Begins 0 bytes xs end stop → IsMount set xs h → PutRefused set old hs xs h new
+Stops set old hs Save readers OutOfMemory new = Ran set old hs new
+Stops set old hs Save readers (Sink cause) new = Ran set old hs new
+Stops set old hs (Restart n) readers NoSuchPoint new =
+    (length (course set old.place.file (course_of old) hs).notes ≤ n) × Ran set old hs new
+Stops set old hs (Restart n) readers (Sink cause) new = Ran set old hs new
+Stops set old hs step readers fault new = ⊥
+
+-- The steps before one of them were made, and this one was not: of every lawful set and every
+-- history that the steps made and the bytes given are, the session is where this leads, or at a
+-- part that the sink refused.
+pub record HasStopped (old : Seen) (steps : List Step) (bytes : List (List ℕ)) (fault : RunFault)
+    (new : Seen) : Type 0 where
+  pub made : List Step
+  pub step : Step
+  pub rest : List Step
+  pub all : steps ≡ made ++ step ∷ rest
+  pub given : List (List ℕ)
+  pub failed : ℕ
+  pub are_given : AreGiven failed bytes given
+  pub count : new.failures ≡ counted_up failed old.failures
+  pub stops : (set : FileSet) (hs : List Happening) → IsLawful set
+      → IsHistory set (length old.notes) made given hs
+      → IsSession set old → Stops set old hs step (drop (reels_in made) bytes) fault new

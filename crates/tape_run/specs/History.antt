@@ -1,0 +1,50 @@
+-- Histories, and the position that they define.
+use Rattle.std.specs.Prelude.{◌≡◌, ℕ, ◌+◌, ◌<◌, List, [], ◌∷◌, ◌++◌, map, take, Option, Some, None}
+use Rattle.std.specs.Prelude.{slice_get, ⊤}
+use Rattle.tape_set.specs.Layout.{FileSet}
+use Rattle.tape_set.specs.declared.position.Position.{Position}
+use Rattle.tape_set.specs.Reach.{far}
+use Rattle.tape_run.specs.Mount.{Happening, reads, foreign_reel, saves, restarts, IsMountOf}
+use Rattle.tape_run.specs.declared.script.Step.{Step}
+use Rattle.tape_run.specs.declared.script.Step.TheVariants.{Reel, Save, Restart}
+use Rattle.tape_run.specs.Seen.{Seen}
+
+-- a position, and those that were noted, the first of them first
+pub record Course : Type 0 where
+  pub at : Position
+  pub notes : List Position
+
+-- back at note n, if there is one: the later notes are forgotten
+abbrev pub at_note : Course → ℕ → Option Position → Course
+at_note c n None = c
+at_note c n (Some p) = record { at = p; notes = take (n + 1) c.notes }
+
+-- what one happening makes of it
+abbrev pub after : FileSet → ℕ → Course → Happening → Course
+after set file c (reads r) = record { at = far set file c.at r; notes = c.notes }
+after set file c foreign_reel = c
+after set file c saves = record { at = c.at; notes = c.notes ++ c.at ∷ [] }
+after set file c (restarts n) = at_note c n (slice_get c.notes n)
+
+-- what a whole history makes of it
+abbrev pub course : FileSet → ℕ → Course → List Happening → Course
+course set file c [] = c
+course set file c (h ∷ hs) = course set file (after set file c h) hs
+
+-- The steps, with so many notes before them, and the bytes of the reels are what happens. More
+-- reels than steps ask for may be there.
+abbrev pub IsHistory : FileSet → ℕ → List Step → List (List ℕ) → List Happening → Type 0
+IsHistory set notes [] reels [] = ⊤
+IsHistory set notes [] reels (h ∷ hs) = ⊥
+IsHistory set notes (s ∷ steps) reels [] = ⊥
+IsHistory set notes (Reel ∷ steps) [] (h ∷ hs) = ⊥
+IsHistory set notes (Reel ∷ steps) (bytes ∷ reels) (h ∷ hs) = IsMountOf set bytes h
+    × IsHistory set notes steps reels hs
+IsHistory set notes (Save ∷ steps) reels (h ∷ hs) = (h ≡ saves)
+    × IsHistory set (notes + 1) steps reels hs
+IsHistory set notes (Restart n ∷ steps) reels (h ∷ hs) = (h ≡ restarts n) × (n < notes)
+    × IsHistory set (n + 1) steps reels hs
+
+-- the course of a session
+abbrev pub course_of : Seen → Course
+course_of s = record { at = s.place.position; notes = map (λ c. c.position) s.notes }

@@ -1,0 +1,92 @@
+-- Sessions across crashes.
+use Rattle.std.specs.Prelude.{◌≡◌, ◌⊎◌, ℕ, List, [], ◌∷◌, ◌++◌, length, map, Some, slice_get}
+use Rattle.tape_blocks.specs.Block.{Portion}
+use Rattle.tape_set.specs.Layout.{FileSet}
+use Rattle.tape_set.specs.Lawful.{IsLawful}
+use Rattle.tape_set.specs.Before.{before}
+use Rattle.tape_set.specs.declared.position.Position.{Position}
+use Rattle.tape_core.specs.Point.{Point}
+use Rattle.tape_core.specs.Place.{place_of}
+use Rattle.tape_core.specs.Stands.{Stands}
+use Rattle.tape_run.specs.Mount.{Happening}
+use Rattle.tape_run.specs.declared.script.Step.{Step}
+use Rattle.tape_run.specs.Seen.{Seen, IsSession}
+use Rattle.tape_run.specs.History.{Course, course, course_of, IsHistory}
+use Rattle.tape_run.specs.Given.{AreGiven}
+use Rattle.tape_run.specs.Crash.{StoodAt}
+
+-- the position of the course, or one that it noted
+abbrev pub IsPlaceOf : Course → Position → Type 0
+IsPlaceOf c p = (p ≡ c.at) ⊎ ((n : ℕ) × (slice_get c.notes n ≡ Some p))
+
+-- This came back, of the session behind these of its steps: of every lawful set and every history
+-- that these steps and the bytes given are, it stands, at the position that the history leads to or
+-- at one that was noted on the way.
+pub record ComesBack (old : Seen) (steps done : List Step) (bytes given : List (List ℕ))
+    (back : Point) (there : List Portion) : Type 0 where
+  pub rest : List Step
+  pub all : steps ≡ done ++ rest
+  pub failed : ℕ
+  pub are_given : AreGiven failed bytes given
+  pub stands : (set : FileSet) (hs : List Happening) → IsLawful set
+      → IsHistory set (length old.notes) done given hs → IsSession set old
+      → Stands set old.place.file back there
+      × IsPlaceOf (course set old.place.file (course_of old) hs) back.position
+
+-- What may come back of a session over readers that tell their bytes comes back so.
+abbrev pub StoodComesBack : Type 0
+StoodComesBack = (old : Seen) (steps : List Step) (bytes : List (List ℕ)) (back : Point)
+    (there : List Portion) → StoodAt old steps (map Some bytes) back there
+    → (done : List Step) × (given : List (List ℕ)) × ComesBack old steps done bytes given back there
+
+-- one life of a session, up to a crash: its beginning, its steps and readers, and the steps that
+-- what came back stands behind, with what was given
+pub record Life : Type 0 where
+  pub began : Seen
+  pub steps : List Step
+  pub bytes : List (List ℕ)
+  pub done : List Step
+  pub given : List (List ℕ)
+
+-- the session was resumed at the checkpoint, over a sink that holds these parts
+pub record IsResumed (c : Point) (ps : List Portion) (s : Seen) : Type 0 where
+  pub place : s.place ≡ place_of c
+  pub parts : s.parts ≡ ps
+  pub notes : s.notes ≡ []
+
+-- Life after life was resumed at what the crash before it brought back: what was there when the
+-- life began, or what comes back of it.
+abbrev pub Outlives : Point → List Portion → List Life → Point → List Portion → Type 0
+Outlives c ps [] back there = (back ≡ c) × (there ≡ ps)
+Outlives c ps (life ∷ lives) back there =
+    IsResumed c ps life.began
+    × ((mid : Point) × (front : List Portion)
+    × (((mid ≡ c) × (front ≡ ps))
+    ⊎ ComesBack life.began life.steps life.done life.bytes life.given mid front)
+    × Outlives mid front lives back there)
+
+-- a history for each life
+abbrev pub AreHistories : FileSet → List Life → List (List Happening) → Type 0
+AreHistories set [] hss = hss ≡ []
+AreHistories set (life ∷ lives) [] = ⊥
+AreHistories set (life ∷ lives) (hs ∷ hss) = IsHistory set 0 life.done life.given hs
+    × AreHistories set lives hss
+
+-- Across any number of crashes what comes back stands.
+abbrev pub StandsAcrossCrashes : Type 0
+StandsAcrossCrashes = (set : FileSet) (c : Point) (ps : List Portion) (lives : List Life)
+    (hss : List (List Happening)) (back : Point) (there : List Portion) → IsLawful set
+    → Stands set c.file c ps → Outlives c ps lives back there → AreHistories set lives hss
+    → Stands set c.file back there
+
+-- What was delivered once a session resumed at the checkpoint made its steps: of every lawful set
+-- in which it stands, and every history that the bytes given are, the parts before the position
+-- that this leads to from there.
+pub record GoesOn (c : Point) (ps : List Portion) (steps : List Step) (bytes : List (List ℕ))
+    (now : List Portion) : Type 0 where
+  pub given : List (List ℕ)
+  pub failed : ℕ
+  pub are_given : AreGiven failed bytes given
+  pub delivers : (set : FileSet) (hs : List Happening) → IsLawful set → Stands set c.file c ps
+      → IsHistory set 0 steps given hs
+      → now ≡ before set c.file (course set c.file (record { at = c.position; notes = [] }) hs).at

@@ -1,0 +1,58 @@
+-- Parts of a block that were put.
+use Rattle.std.specs.Prelude.{◌≡◌, ℕ, ◌<◌, ◌≤◌, ◌==◌, Bool, if◌then◌else◌, List, ◌++◌, length, take}
+use Rattle.std.specs.Prelude.{drop, Option, Some, None, ⊤}
+use Rattle.tape_blocks.specs.Block.{Portion, Holds}
+use Rattle.tape_blocks.specs.Judged.{begun_behind}
+use Rattle.tape_image.specs.Tape.{TapeItem, IsTapeItem}
+use Rattle.tape_set.specs.Lawful.{FileForm}
+use Rattle.tape_set.specs.Position.{part_of}
+use Rattle.tape_core.specs.Point.{Point}
+use Rattle.tape_core.specs.State.{State}
+use Rattle.tape_core.specs.Table.{saved}
+use Rattle.tape_core.specs.Stands.{inside_block}
+use Rattle.tape_core.specs.Place.{place_of}
+use Rattle.tape_run.specs.declared.parts.Refused.{Refused}
+
+-- an item that came has a size that items have
+abbrev pub IsSized : Option TapeItem → Type 0
+IsSized None = ⊤
+IsSized (Some item) = IsTapeItem item
+
+-- Of the parts of a block those from the first on, up to the refused one, were put.
+pub record PutsFew (holds : List Portion → Type 0) (held parts : List Portion) (first : ℕ)
+    (begun : Bool) (r : Refused) : Type 0 where
+  pub from : first ≤ r.part
+  pub within : r.part < length parts
+  pub held_now : holds (held ++ drop first (take r.part parts))
+  pub begun_now : r.begun ≡ begun_behind begun (drop first (take r.part parts))
+
+-- the checkpoint at the refused part of a block: the one before the block, where none of its parts
+-- was put now
+abbrev pub refused_point : Point → Point → ℕ → Bool → Point
+refused_point before after part begun =
+    if part == part_of before.position then before
+    else inside_block after before.position part begun 0
+
+-- The parts of the block from the first on were put, whatever it holds as what is known says.
+abbrev pub PutsBlock : (List Portion → Type 0) → (List Portion → Type 0) → ℕ → List ℕ
+    → Option FileForm → Type 0
+PutsBlock old new first content known = (held parts : List Portion) (k : FileForm) → known ≡ Some k
+    → Holds k.format k.rec_len k.offset content parts
+    → old held → new (held ++ drop first parts)
+
+-- The parts before the n-th were put, and the core went back from behind the block to this part.
+pub record PutUpTo (new : List Portion → Type 0) (before : Point) (held parts : List Portion)
+    (behind place : State) : Type 0 where
+  pub n : ℕ
+  pub from : part_of before.position ≤ n
+  pub within : n < length parts
+  pub held_now : new (held ++ drop (part_of before.position) (take n parts))
+  pub back : place ≡ place_of (refused_point before (saved behind 0) n (begun_behind before.begun
+      (drop (part_of before.position) (take n parts))))
+
+-- The same where a part was refused.
+abbrev pub PutsFront : (List Portion → Type 0) → (List Portion → Type 0) → Point → List ℕ → State
+    → State → Type 0
+PutsFront old new before content behind place = (held parts : List Portion) (k : FileForm)
+    → behind.known ≡ Some k → Holds k.format k.rec_len k.offset content parts
+    → old held → PutUpTo new before held parts behind place

@@ -1,0 +1,61 @@
+-- What a session is, where its sink holds these parts.
+use Rattle.std.specs.Prelude.{◌≡◌, ℕ, List, [], ◌∷◌}
+use Rattle.tape_blocks.specs.Block.{Portion}
+use Rattle.tape_set.specs.Layout.{FileSet}
+use Rattle.tape_core.specs.Point.{Point}
+use Rattle.tape_core.specs.State.{State}
+use Rattle.tape_core.specs.Place.{IsPlaced}
+use Rattle.tape_core.specs.Stands.{Stands}
+use Rattle.tape_core.specs.Weight.{IsFront}
+use Rattle.tape_core.specs.Stands.{weight_of}
+use Rattle.tape_core.specs.Place.{rest_of}
+use Rattle.tape_run.specs.Story.{Story}
+
+-- a session at rest: its core, the parts that its sink holds, its notes, how many readers failed,
+-- and how many calls the sink refused
+pub record Seen : Type 0 where
+  pub place : State
+  pub parts : List Portion
+  pub notes : List Point
+  pub failures : ℕ
+  pub refusals : ℕ
+
+-- The notes stand with ever longer fronts of the parts, the first of them with one that has this
+-- front.
+abbrev pub AreNotes : FileSet → ℕ → List Portion → List Point → List Portion → Type 0
+AreNotes set file front [] parts = IsFront front parts
+AreNotes set file front (c ∷ cs) parts = (ps : List Portion) × IsFront front ps
+    × Stands set file c ps × AreNotes set file ps cs parts
+
+-- The session reads a file of the set: it is where its parts say, and each note stands with a front
+-- of them.
+pub record IsSession (set : FileSet) (s : Seen) : Type 0 where
+  pub at : IsPlaced set s.place s.parts
+  pub notes : AreNotes set s.place.file [] s.notes s.parts
+
+-- The note is one of the place's file, and has the weight of these parts.
+pub record IsNote (place : State) (c : Point) (ps : List Portion) : Type 0 where
+  pub of_set : c.set_id ≡ place.set_id
+  pub of_file : c.file ≡ place.file
+  pub staged : c.staged ≡ weight_of ps
+
+-- The notes have the weights of ever longer fronts of the parts, the first of them of one that has
+-- this front.
+abbrev pub KeepsNotes : State → List Portion → List Point → List Portion → Type 0
+KeepsNotes place front [] parts = IsFront front parts
+KeepsNotes place front (c ∷ cs) parts = (ps : List Portion) × IsFront front ps × IsNote place c ps
+    × KeepsNotes place ps cs parts
+
+-- What is true of each session, whatever set it reads.
+abbrev pub IsKept : Seen → Type 0
+IsKept s = KeepsNotes s.place [] s.notes s.parts
+
+-- a session, where its sink holds these parts
+abbrev pub seen : {S : Type 0} → (S → ℕ) → Story S → List Portion → Seen
+seen refusals s parts = record {
+  place = rest_of s.core;
+  parts = parts;
+  notes = s.notes;
+  failures = s.failures;
+  refusals = refusals s.sink;
+}

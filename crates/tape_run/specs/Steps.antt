@@ -1,0 +1,117 @@
+-- What one step of a run does, or leaves where it is not made.
+use Rattle.std.specs.Prelude.{◌≡◌, ℕ, ◌+◌, ◌≤◌, Bool, List, ◌∷◌, [], ◌++◌, length, take, Some}
+use Rattle.std.specs.Prelude.{slice_get}
+use Rattle.tape_image.specs.Tape.{TapeItem, block}
+use Rattle.tape_image.specs.Begins.{Stop, Begins}
+use Rattle.tape_set.specs.Layout.{FileSet}
+use Rattle.tape_set.specs.Lawful.{IsLawful}
+use Rattle.tape_set.specs.Position.{at_part}
+use Rattle.tape_core.specs.Point.{Point}
+use Rattle.tape_core.specs.Place.{IsPlaced, place_of}
+use Rattle.tape_core.specs.Table.{saved}
+use Rattle.tape_core.specs.Stands.{weight_of}
+use Rattle.tape_core.specs.Weight.{IsFront, Rose}
+use Rattle.tape_run.specs.declared.fault.RunFault.{RunFault}
+use Rattle.tape_run.specs.declared.fault.RunFault.TheVariants.{Sink, NoSuchPoint, TooFewReels}
+use Rattle.tape_run.specs.declared.fault.RunFault.TheVariants.{OutOfMemory, OtherFile}
+use Rattle.tape_run.specs.Mount.{Happening, IsMount, IsMountOf, cut, after_mount}
+use Rattle.tape_run.specs.Given.{IsGiven, counted}
+use Rattle.tape_run.specs.Seen.{Seen}
+
+-- ---- steps that were made
+
+-- the position that a mount makes, and the parts before it
+pub record ReadBy (set : FileSet) (old : Seen) (h : Happening) (new : Seen) : Type 0 where
+  pub at : IsPlaced set new.place new.parts
+  pub position : new.place.position ≡ after_mount set old.place.file old.place.position h
+
+-- A reel was read: what its reader gave, all of it or a front that ends where the reader failed.
+pub record Reeled (bytes : List ℕ) (failed : Bool) (old new : Seen) : Type 0 where
+  pub given : List ℕ
+  pub is_given : IsGiven failed bytes given
+  pub count : new.failures ≡ counted failed old.failures
+  pub notes : new.notes ≡ old.notes
+  pub same_set : new.place.set_id ≡ old.place.set_id
+  pub same_file : new.place.file ≡ old.place.file
+  pub calm : new.refusals ≡ old.refusals
+  pub grows : IsFront old.parts new.parts
+  pub reads : (set : FileSet) (h : Happening) → IsLawful set → IsMountOf set given h
+      → IsPlaced set old.place old.parts
+      → ReadBy set old h new
+
+-- The point was noted.
+pub record Saved (old new : Seen) : Type 0 where
+  pub place : new.place ≡ old.place
+  pub parts : new.parts ≡ old.parts
+  pub notes : new.notes ≡ old.notes ++ saved old.place (weight_of old.parts) ∷ []
+  pub count : new.failures ≡ old.failures
+  pub calm : new.refusals ≡ old.refusals
+
+-- The session went back to a note, with the front of the parts that this weighs, and forgot the
+-- later notes.
+pub record WentBack (n : ℕ) (old new : Seen) : Type 0 where
+  pub point : Point
+  pub noted : slice_get old.notes n ≡ Some point
+  pub place : new.place ≡ place_of point
+  pub front : IsFront new.parts old.parts
+  pub weighs : weight_of new.parts ≡ point.staged
+  pub notes : new.notes ≡ take (n + 1) old.notes
+  pub count : new.failures ≡ old.failures
+  pub calm : new.refusals ≡ old.refusals
+
+-- ---- steps that were not made
+
+-- The mount was read up to a block, the n-th item counted from 0, of which this part was refused.
+pub record StoppedBy (set : FileSet) (old : Seen) (xs : List TapeItem) (h : Happening)
+    (new : Seen) : Type 0 where
+  pub at : IsPlaced set new.place new.parts
+  pub n : ℕ
+  pub content : List ℕ
+  pub refused : slice_get xs n ≡ Some (block content)
+  pub part : ℕ
+  pub position : new.place.position ≡ at_part part
+      (after_mount set old.place.file old.place.position (cut n h))
+
+-- A reel was read up to a part that the sink refused: the session stands at this part.
+pub record CutShort (bytes : List ℕ) (old new : Seen) : Type 0 where
+  pub count : new.failures ≡ old.failures
+  pub notes : new.notes ≡ old.notes
+  pub same_set : new.place.set_id ≡ old.place.set_id
+  pub same_file : new.place.file ≡ old.place.file
+  pub rose : Rose old.refusals new.refusals
+  pub grows : IsFront old.parts new.parts
+  pub stops : (set : FileSet) (xs : List TapeItem) (end : ℕ) (stop : Stop) (h : Happening)
+      → IsLawful set
+      → Begins 0 bytes xs end stop → IsMount set xs h → IsPlaced set old.place old.parts
+      → StoppedBy set old xs h new
+
+-- the session as before, but for the count of refused calls
+pub record Unmoved (old new : Seen) : Type 0 where
+  pub place : new.place ≡ old.place
+  pub parts : new.parts ≡ old.parts
+  pub notes : new.notes ≡ old.notes
+  pub count : new.failures ≡ old.failures
+
+-- Why a reel was not read to its end: memory was refused before, or the sink refused a part.
+abbrev pub ReelFails : List ℕ → RunFault → Seen → Seen → Type 0
+ReelFails bytes (Sink cause) old new = CutShort bytes old new
+ReelFails bytes NoSuchPoint old new = ⊥
+ReelFails bytes TooFewReels old new = ⊥
+ReelFails bytes OutOfMemory old new = new ≡ old
+ReelFails bytes OtherFile old new = ⊥
+
+-- why nothing was noted
+abbrev pub SaveFails : RunFault → Seen → Seen → Type 0
+SaveFails (Sink cause) old new = Unmoved old new × Rose old.refusals new.refusals
+SaveFails NoSuchPoint old new = ⊥
+SaveFails TooFewReels old new = ⊥
+SaveFails OutOfMemory old new = new ≡ old
+SaveFails OtherFile old new = ⊥
+
+-- why the session did not go back
+abbrev pub RestartFails : ℕ → RunFault → Seen → Seen → Type 0
+RestartFails n (Sink cause) old new = Unmoved old new × Rose old.refusals new.refusals
+RestartFails n NoSuchPoint old new = (length old.notes ≤ n) × (new ≡ old)
+RestartFails n TooFewReels old new = ⊥
+RestartFails n OutOfMemory old new = ⊥
+RestartFails n OtherFile old new = ⊥

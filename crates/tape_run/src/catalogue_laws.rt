@@ -1,0 +1,46 @@
+//! Laws of the definitions that the catalogue's contracts cite: calls that do nothing, whose
+//! contract is the law.
+
+ghost use Rattle.tape_run.specs.Lacks.{LackIsFirst};
+ghost use Rattle.tape_run.specs.Shown.{GoodAreShown};
+ghost use Rattle.tape_run.specs.WholeSet.{WholeVolumeIsGood, WholeSetIsGood, WholeCopiesAreAdded};
+ghost use Rattle.tape_run.specs.WholeSet.{WholeSetLacksNothing, WholeSetIsFound};
+
+/// A section that is told as good stands whole in the items that tell it.
+pub fn good_sections_are_shown()
+    ensures { GoodAreShown }
+{}
+
+/// A whole copy of a volume of a lawful set makes each section on it good, whatever was noted
+/// before.
+pub fn whole_volumes_make_sections_good()
+    ensures { WholeVolumeIsGood }
+{}
+
+/// Whole copies of all volumes of a lawful set, in any order and with repeats, make each of its
+/// sections good.
+pub fn whole_sets_are_good()
+    ensures { WholeSetIsGood }
+{}
+
+/// What a file lacks is its first section that is not there as good, and it lacks none where its
+/// sections are good up to one that ends it.
+pub fn what_lacks_comes_first()
+    ensures { LackIsFirst }
+{}
+
+/// And where nothing else was noted, no file of the set lacks a section.
+pub fn whole_sets_lack_nothing()
+    ensures { WholeSetLacksNothing }
+{}
+
+/// So where the set has a file, all of it is found: something was met, and nothing lacks.
+pub fn whole_sets_are_found()
+    ensures { WholeSetIsFound }
+{}
+
+/// What [`Catalogue::add`](crate::Catalogue::add) notes of a whole copy whose reader did not fail
+/// is what the volume's items tell.
+pub fn whole_copies_are_added()
+    ensures { WholeCopiesAreAdded }
+{}

@@ -1,0 +1,45 @@
+//! Why a step of a run was not made.
+
+ghost use Rattle.std.specs.Prelude.{◌≡◌};
+ghost use Rattle.tape_run.specs.Fault.{number_of};
+
+use tape_core::SinkFault;
+use thiserror::Error;
+
+/// Why a step of a run was not made. The steps before it stand.
+#[derive(Clone, Copy, Debug, PartialEq, Eq, Error)]
+pub enum RunFault {
+    /// The sink refused a call, for this cause. In a reel the session stands at the part that was
+    /// refused, and the next reel goes on there; a save or a restart that was refused leaves the
+    /// session as it was.
+    #[error("the sink refused: {0}")]
+    Sink(SinkFault),
+    /// There is no note of this number. Nothing changed.
+    #[error("no such point was saved")]
+    NoSuchPoint,
+    /// A reel is asked for, and no reader is left. Nothing changed.
+    #[error("too few reels")]
+    TooFewReels,
+    /// There was no memory for the reader's buffer or for a note. Nothing changed.
+    #[error("out of memory")]
+    OutOfMemory,
+    /// A checkpoint that was stored belongs to another set or file. No session answers it: whoever
+    /// opens a stored checkpoint for a set and a file does, before there is a session.
+    #[error("the checkpoint is one of another file")]
+    OtherFile,
+}
+
+impl RunFault {
+    /// The fault's fixed number, from 1 for `Sink` to 5 for `OtherFile`.
+    pub fn number(&self) -> u8
+        ensures { result ≡ number_of self.now }
+    {
+        match self {
+            RunFault::Sink(_) => 1,
+            RunFault::NoSuchPoint => 2,
+            RunFault::TooFewReels => 3,
+            RunFault::OutOfMemory => 4,
+            RunFault::OtherFile => 5,
+        }
+    }
+}

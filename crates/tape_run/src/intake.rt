@@ -1,0 +1,191 @@
+//! A core and its sink: items taken, parts put.
+
+ghost use Rattle.std.specs.Prelude.{◌≡◌, is_some, true, false, ◌+◌, ◌<◌, ◌≤◌, List, Some, None};
+ghost use Rattle.std.specs.Prelude.{OnOk, OnErr, IfOk, IfSome, length};
+ghost use Rattle.tape_blocks.specs.Block.{Portion};
+ghost use Rattle.tape_image.specs.Reader.{going, tape_item, IfKnown};
+ghost use Rattle.tape_image.specs.Tape.{block};
+ghost use Rattle.tape_set.specs.Position.{part_of};
+ghost use Rattle.tape_core.specs.Known.{is_finished};
+ghost use Rattle.tape_core.specs.Arrive.{arrival};
+ghost use Rattle.tape_core.specs.Table.{step_of};
+ghost use Rattle.tape_run.specs.Followed.{IsChecked};
+ghost use Rattle.tape_core.specs.Crash.{AddsNothing};
+ghost use Rattle.tape_core.specs.Weight.{IsFront, Rose};
+ghost use Rattle.tape_run.specs.Following.{place, is_mounted};
+ghost use Rattle.tape_run.specs.Given.{is_device};
+ghost use Rattle.tape_run.specs.Puts.{IsSized, refused_point, PutsBlock, PutsFront};
+ghost use Rattle.tape_run.specs.Reels.{ReadsReel, ReadsToBlock, IsDelivery};
+ghost use Rattle.tape_run.specs.Taking.{TakesItem, RefusesItem, ReadsImage, RefusesImage};
+
+use crate::answer::ReelAnswer;
+use crate::follower::Follower;
+use crate::parts::put_parts;
+use std::io::Read;
+use tape_core::{Answer, Checkpoint, Event, PartSink, SinkFault};
+use tape_image::{ImageReader, Item};
+use tape_set::Position;
+
+/// A core, and the sink of what it delivers.
+#[derive(Drop)]
+pub struct Intake<S> {
+    pub core: Follower,
+    pub sink: S,
+}
+
+/// The event of an item.
+fn event_of<'a>(item: Item<'a>) -> Event<'a>
+    ensures { arrival result ≡ Some (tape_item item.entry) }
+{
+    match item {
+        Item::Block(bytes) => Event::Block(bytes),
+        Item::Bad => Event::Bad,
+        Item::Mark => Event::Mark,
+    }
+}
+
+/// The number of the part that is awaited.
+fn part_of(position: Position) -> u32
+    ensures { result ≡ part_of position }
+{
+    match position {
+        Position::Awaits { part, .. } => part,
+        Position::Finished => 0,
+    }
+}
+
+/// The checkpoint at a refused part of the block that was delivered between these two.
+fn refused_point(before: &Checkpoint, after: &Checkpoint, part: u32, begun: bool) -> Checkpoint
+    requires waits { is_finished before.now.position ≡ false }
+    requires from { part_of before.now.position ≤ part }
+    requires few { part ≤ 99999 }
+    requires known { is_some after.now.known ≡ true }
+    ensures { result ≡ refused_point before.now after.now part begun }
+{
+    let position = before.position();
+    if part == part_of(position) {
+        return *before;
+    }
+    after.inside_block(position, part, begun, 0)
+}
+
+impl<S: PartSink> Intake<S> {
+    /// Takes one event: gives it to the core, and puts what this delivers. At a refused part the
+    /// core goes back to that part.
+    fn take(&mut self, event: Event<'_>) -> Result<Answer, SinkFault>
+        requires sized { IsSized (arrival event) }
+        ensures file { (place self.new.core).file ≡ (place self.old.core).file }
+        ensures set_id { (place self.new.core).set_id ≡ (place self.old.core).set_id }
+        ensures table { IfOk result (λ answer.
+            (answer, self.new.core.core) ≡ step_of self.old.core.core (arrival event.entry)) }
+        ensures delivery { OnErr result (IsDelivery self.old.core.core (arrival event.entry)) }
+        ensures ok { IfOk result (λ answer. (held : List Portion) → S.holds self.old.sink held
+            → (now : List Portion) × S.holds self.new.sink now × IsFront held now
+            × TakesItem place is_mounted
+            (arrival event.entry) answer self.old.core self.new.core held now) }
+        ensures err { OnErr result ((held : List Portion) → S.holds self.old.sink held
+            → (now : List Portion) × S.holds self.new.sink now × IsFront held now
+            × RefusesItem place is_mounted
+            (arrival event.entry) self.old.core self.new.core held now) }
+        ensures cause { OnErr result (Rose (S.refusals self.old.sink) (S.refusals self.new.sink)) }
+        ensures calm { OnOk result (S.refusals self.new.sink ≡ S.refusals self.old.sink) }
+        ensures crash { (held : List Portion) → S.holds self.old.sink held
+            → AddsNothing (S.returns self.old.sink) (S.returns self.new.sink)
+            (S.survives self.old.sink) (S.survives self.new.sink) }
+    {
+        let before = self.core.save(0);
+        let answer = self.core.step(event);
+        if let Answer::Deliver = answer {
+            if let Event::Block(block) = event {
+                self.put_block(&before, block)?;
+            }
+        }
+        Ok(answer)
+    }
+
+    /// Puts the parts of the block that the core has just delivered, from the awaited one on.
+    fn put_block(&mut self, before: &Checkpoint, content: &[u8]) -> Result<(), SinkFault>
+        requires short { length content.now ≤ 99999 }
+        requires checked { IsChecked (Some (block content.now)) (place self.old.core) }
+        requires same_set { before.now.set_id ≡ (place self.old.core).set_id }
+        requires same_file { before.now.file ≡ (place self.old.core).file }
+        requires waits { is_finished before.now.position ≡ false }
+        ensures ok { OnOk result (PutsBlock (S.holds self.old.sink) (S.holds self.new.sink)
+            (part_of before.now.position) content.now (place self.old.core).known) }
+        ensures kept { OnOk result (self.new.core ≡ self.old.core) }
+        ensures err { OnErr result (PutsFront (S.holds self.old.sink) (S.holds self.new.sink)
+            before.now content.now (place self.old.core) (place self.new.core)) }
+        ensures file { (place self.new.core).file ≡ (place self.old.core).file }
+        ensures set_id { (place self.new.core).set_id ≡ (place self.old.core).set_id }
+        ensures cause { OnErr result (Rose (S.refusals self.old.sink) (S.refusals self.new.sink)) }
+        ensures calm { OnOk result (S.refusals self.new.sink ≡ S.refusals self.old.sink) }
+        ensures crash { (held : List Portion) → S.holds self.old.sink held
+            → AddsNothing (S.returns self.old.sink) (S.returns self.new.sink)
+            (S.survives self.old.sink) (S.survives self.new.sink) }
+    {
+        let Some(shape) = self.core.shape() else {
+            unreachable!()
+        };
+        let first = part_of(before.position);
+        match put_parts(&mut self.sink, &shape, content, first, before.begun) {
+            Ok(()) => Ok(()),
+            Err(refused) => {
+                // The core is behind the block already, and goes back into it.
+                let after = self.core.save(0);
+                let point = refused_point(before, &after, refused.part, refused.begun);
+                let _ = self.core.restart(&point);
+                Err(refused.cause)
+            }
+        }
+    }
+
+    /// Takes the items of an image of which nothing was read yet, up to a final answer, the end of
+    /// medium or a fault.
+    pub fn read<R: Read>(&mut self, image: &mut ImageReader<'_, R>) -> Result<ReelAnswer, SinkFault>
+        requires going { image.old.status ≡ going }
+        requires first { image.old.place ≡ 0 }
+        ensures same_device { image.new.device ≡ image.old.device }
+        ensures file { (place self.new.core).file ≡ (place self.old.core).file }
+        ensures set_id { (place self.new.core).set_id ≡ (place self.old.core).set_id }
+        ensures answer { IfOk result (λ answer. IfKnown image.old.left image.new.left
+            (λ bytes left. ReadsReel self.old.core.core bytes left answer)) }
+        ensures taken { OnErr result (IfKnown image.old.left image.new.left
+            (ReadsToBlock self.old.core.core)) }
+        ensures ok { IfOk result (λ answer. (held : List Portion) → S.holds self.old.sink held
+            → (now : List Portion) × S.holds self.new.sink now × IsFront held now
+            × IfSome image.old.left
+            (ReadsImage place is_mounted
+            (is_device answer.fault) self.old.core self.new.core held now)) }
+        ensures err { OnErr result ((held : List Portion) → S.holds self.old.sink held
+            → (now : List Portion) × S.holds self.new.sink now × IsFront held now
+            × IfSome image.old.left
+            (RefusesImage place is_mounted self.old.core self.new.core held now)) }
+        ensures cause { OnErr result (Rose (S.refusals self.old.sink) (S.refusals self.new.sink)) }
+        ensures calm { OnOk result (S.refusals self.new.sink ≡ S.refusals self.old.sink) }
+        ensures crash { (held : List Portion) → S.holds self.old.sink held
+            → AddsNothing (S.returns self.old.sink) (S.returns self.new.sink)
+            (S.survives self.old.sink) (S.survives self.new.sink) }
+    {
+        let mut blocks = 0u32;
+        'items: loop {
+            match image.next() {
+                Ok(Some(item)) => {
+                    let answer = self.take(event_of(item))?;
+                    match answer {
+                        Answer::Passed => {}
+                        Answer::Deliver => blocks += 1,
+                        _ => return Ok(ReelAnswer::new(answer, None, blocks)),
+                    }
+                }
+                Ok(None) => return Ok(ReelAnswer::new(
+                    self.core.step(Event::ReelEnd),
+                    None,
+                    blocks,
+                )),
+                Err(fault) => {
+                    return Ok(ReelAnswer::new(self.core.step(Event::ReelEnd), Some(fault), blocks));
+                }
+            }
+        }
+    }
+}

@@ -1,0 +1,50 @@
+//! What a catalogue lacks.
+
+ghost use Rattle.std.specs.Prelude.{◌≡◌, ◌+◌, ◌≤◌};
+ghost use Rattle.tape_run.specs.Lacks.{entry_at, key_at, good_end, first_lack, lack_of};
+
+use crate::section::SectionKey;
+use crate::sections::Sections;
+use tape_label::Field;
+
+/// Sections are numbered up to this.
+const MOST: u16 = 9_999;
+
+/// Whether a good section ends its file, and `None` where it is not there as good.
+fn good_end(sections: &Sections, key: &SectionKey) -> Option<bool>
+    ensures { result ≡ good_end (entry_at sections.now.entries key.now) }
+{
+    match sections.get(key) {
+        Some(entry) if entry.state.is_good() => Some(entry.eof),
+        _ => None,
+    }
+}
+
+/// The first section from this one on that is lacking, over so many at most.
+fn first_lack(sections: &Sections, set_id: Field<6>, file: u16, from: u16, most: u16) -> Option<u16>
+    requires { from + most ≤ 65535 }
+    ensures { result ≡ first_lack sections.now.entries set_id file from most }
+{
+    let mut sect = from;
+    let mut left = most;
+    'sections: while left > 0 {
+        let key = SectionKey { set_id, file, sect };
+        match good_end(sections, &key) {
+            None => return Some(sect),
+            Some(true) => return None,
+            Some(false) => {}
+        }
+        sect += 1;
+        left -= 1;
+    }
+    Some(sect)
+}
+
+/// The first section of a file that is lacking, going on from section 1 while good ones end by
+/// `EOV1`.
+#[tactic(auto, unfolding(crate::specs::Lacks::lack_of))]
+pub(crate) fn lack_of(sections: &Sections, set_id: Field<6>, file: u16) -> Option<u16>
+    ensures { result ≡ lack_of sections.now.entries set_id file }
+{
+    first_lack(sections, set_id, file, 1, MOST)
+}

@@ -1,0 +1,35 @@
+//! Reads a file of a labelled set from its reels, in any order, into a sink of parts: what the sink
+//! holds is exactly what lies before the position that the reels define. And tells of any reels
+//! which file sections are on them, which of these are whole, and which are missing.
+#![tactic(auto)]
+
+mod answer;
+mod catalogue;
+pub mod catalogue_laws;
+mod fault;
+mod follower;
+mod intake;
+mod lacks;
+mod laws;
+mod met;
+mod parts;
+mod passing;
+mod report;
+mod script;
+mod section;
+mod sections;
+mod session;
+mod whole;
+
+pub use answer::ReelAnswer;
+pub use catalogue::Catalogue;
+pub use fault::RunFault;
+pub use laws::{only_refusals_stop, stands_across_crashes, stood_comes_back};
+pub use report::{Report, check_set};
+pub use script::{Step, run};
+pub use section::{Entry, ImageLine, ImageStop, Lack, SectionKey, SectionLine, SectionState};
+pub use session::Session;
+pub use whole::{go_on, read_file};
+
+#[cfg(test)]
+mod tests;

@@ -1,0 +1,82 @@
+//! A file section under way: its labels were met, and its data are counted.
+
+ghost use Rattle.std.specs.Prelude.{◌≡◌, ◌<◌};
+
+use crate::section::{Entry, SectionKey, SectionState};
+use tape_label::{Field, Trail1};
+use tape_set::label_count;
+
+/// A section whose labels were met, with its data so far.
+#[derive(Clone, Copy)]
+pub(crate) struct Met {
+    pub(crate) volume: Field<6>,
+    pub(crate) key: SectionKey,
+    pub(crate) blocks: u32,
+    pub(crate) bad: bool,
+}
+
+/// A section that was told: what the catalogue is to know of it.
+pub(crate) type Told = (SectionKey, Entry);
+
+impl Met {
+    ghost use Rattle.tape_run.specs.Passing.{cut, closes, told, state_by, with_block};
+
+    /// One more data block.
+    pub(crate) fn with_block(self, bad: bool) -> Met
+        requires { self.blocks < 4294967295 }
+        ensures { result ≡ with_block self bad }
+    {
+        Met {
+            blocks: self.blocks + 1,
+            bad: self.bad || bad,
+            ..self
+        }
+    }
+
+    /// No trailer label was read.
+    pub(crate) fn cut(self) -> Told
+        ensures { result ≡ cut self }
+    {
+        let entry = Entry {
+            volume: self.volume,
+            blocks: self.blocks,
+            eof: false,
+            state: SectionState::Cut,
+        };
+        (self.key, entry)
+    }
+
+    /// Whether this is its trailer label.
+    pub(crate) fn closes(&self, trail: &Trail1) -> bool
+        ensures { result ≡ closes self.now trail.now }
+    {
+        trail.head.sect == self.key.sect && trail.head.sequence == self.key.file
+    }
+
+    /// How it was met, where its trailer label has this count.
+    fn state_by(&self, count: u32) -> SectionState
+        ensures { result ≡ state_by self.now count }
+    {
+        if count != label_count(self.blocks) {
+            SectionState::Count
+        } else if self.bad {
+            SectionState::Bad
+        } else {
+            SectionState::Good
+        }
+    }
+
+    /// What its trailer label tells.
+    pub(crate) fn told(&self, trail: &Trail1) -> Told
+        ensures { result ≡ told self.now trail.now }
+    {
+        let state = self.state_by(trail.blocks);
+        let entry = Entry {
+            volume: self.volume,
+            blocks: self.blocks,
+            eof: trail.eof,
+            state,
+        };
+        (self.key, entry)
+    }
+}

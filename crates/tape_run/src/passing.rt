@@ -1,0 +1,174 @@
+//! Reading a reel with every section passed over: what is expected next, and which sections it
+//! tells.
+
+ghost use Rattle.std.specs.Prelude.{◌≡◌, ◌<◌, Ok};
+ghost use Rattle.tape_image.specs.Reader.{tape_item};
+ghost use Rattle.tape_image.specs.Tape.{block, bad, mark};
+ghost use Rattle.tape_label.specs.Kinds.{kind_at};
+ghost use Rattle.tape_run.specs.Passing.{under_way, blocks_of, volume_phase, labels_phase};
+ghost use Rattle.tape_run.specs.Passing.{header_phase, second_with, told_with, told_by, step};
+
+use crate::met::{Met, Told};
+use crate::section::SectionKey;
+use tape_image::Item;
+use tape_label::{Field, Kind, Trail1, is_volume_label, kind, read_head1, read_trail1, read_vol1};
+
+/// What is expected next.
+#[derive(Clone, Copy)]
+pub(crate) enum Phase {
+    /// The volume label.
+    Volume,
+    /// A further volume label, or the first section.
+    Labels(Field<6>),
+    /// A section's second label.
+    Second(Met),
+    /// What follows a section's labels, up to a tape mark.
+    Headers(Met),
+    /// A section's data, up to a tape mark.
+    Data(Met),
+    /// A section's first trailer label.
+    Trailer(Met),
+    /// What follows a trailer label, up to a tape mark.
+    Trailers(Field<6>),
+    /// The next section.
+    Next(Field<6>),
+    /// Nothing: what follows is not read.
+    Over,
+}
+
+/// Behind the first block.
+fn volume_phase(block: &[u8]) -> Phase
+    ensures { result ≡ volume_phase block.now }
+{
+    match read_vol1(block) {
+        Ok(label) => Phase::Labels(label.volume),
+        Err(_) => Phase::Over,
+    }
+}
+
+/// Behind a block where a section may begin; `other` where it does not.
+fn header_phase(volume: Field<6>, block: &[u8], other: Phase) -> Phase
+    ensures { result ≡ header_phase volume block.now other }
+{
+    match read_head1(block) {
+        Ok(head) => Phase::Second(Met {
+            volume,
+            key: SectionKey {
+                set_id: head.set_id,
+                file: head.sequence,
+                sect: head.sect,
+            },
+            blocks: 0,
+            bad: false,
+        }),
+        Err(_) => other,
+    }
+}
+
+/// Behind a block where a further volume label or a section may begin.
+fn labels_phase(volume: Field<6>, bytes: &[u8]) -> Phase
+    ensures { result ≡ labels_phase volume bytes.now }
+{
+    if is_volume_label(bytes) {
+        return Phase::Labels(volume);
+    }
+    header_phase(volume, bytes, Phase::Over)
+}
+
+/// Behind a block where a section's trailer label is expected.
+fn told_by(met: Met, block: &[u8]) -> (Phase, Option<Told>)
+    ensures { result ≡ told_by met block.now }
+{
+    match read_trail1(block) {
+        Ok(trail) => told_with(met, &trail),
+        Err(_) => (Phase::Over, Some(met.cut())),
+    }
+}
+
+/// Behind a trailer label where a section's is expected.
+fn told_with(met: Met, trail: &Trail1) -> (Phase, Option<Told>)
+    ensures { result ≡ told_with met (Ok trail.now) }
+{
+    if met.closes(trail) {
+        (Phase::Trailers(met.volume), Some(met.told(trail)))
+    } else {
+        (Phase::Over, Some(met.cut()))
+    }
+}
+
+/// Behind a block where a section's second label is expected.
+fn second_phase(met: Met, block: &[u8]) -> Phase
+    ensures { result ≡ second_with met (kind_at block.now) }
+{
+    match kind(block) {
+        Some(Kind::Hdr2) => Phase::Headers(met),
+        _ => Phase::Over,
+    }
+}
+
+/// Behind a block, and the section that it tells.
+fn block_step(phase: Phase, bytes: &[u8]) -> (Phase, Option<Told>)
+    requires { blocks_of phase < 4294967295 }
+    ensures { result ≡ step phase (block bytes.now) }
+{
+    match phase {
+        Phase::Volume => (volume_phase(bytes), None),
+        Phase::Labels(volume) => (labels_phase(volume, bytes), None),
+        Phase::Second(met) => (second_phase(met, bytes), None),
+        Phase::Headers(met) => (Phase::Headers(met), None),
+        Phase::Data(met) => (Phase::Data(met.with_block(false)), None),
+        Phase::Trailer(met) => told_by(met, bytes),
+        Phase::Trailers(volume) => (Phase::Trailers(volume), None),
+        Phase::Next(volume) => (header_phase(volume, bytes, Phase::Over), None),
+        Phase::Over => (Phase::Over, None),
+    }
+}
+
+/// Behind a tape mark, and the section that it tells.
+fn mark_step(phase: Phase) -> (Phase, Option<Told>)
+    ensures { result ≡ step phase mark }
+{
+    match phase {
+        Phase::Headers(met) => (Phase::Data(met), None),
+        Phase::Data(met) => (Phase::Trailer(met), None),
+        Phase::Trailer(met) => (Phase::Over, Some(met.cut())),
+        Phase::Trailers(volume) => (Phase::Next(volume), None),
+        _ => (Phase::Over, None),
+    }
+}
+
+/// Behind a block that could not be read, and the section that it tells.
+fn bad_step(phase: Phase) -> (Phase, Option<Told>)
+    requires { blocks_of phase < 4294967295 }
+    ensures { result ≡ step phase bad }
+{
+    match phase {
+        Phase::Data(met) => (Phase::Data(met.with_block(true)), None),
+        Phase::Trailer(met) => (Phase::Over, Some(met.cut())),
+        _ => (Phase::Over, None),
+    }
+}
+
+/// What is expected behind an item, and the section that it tells, if it tells one.
+pub(crate) fn step(phase: Phase, item: Item<'_>) -> (Phase, Option<Told>)
+    requires { blocks_of phase < 4294967295 }
+    ensures { result ≡ step phase (tape_item item.entry) }
+{
+    match item {
+        Item::Block(bytes) => block_step(phase, bytes),
+        Item::Bad => bad_step(phase),
+        Item::Mark => mark_step(phase),
+    }
+}
+
+impl Phase {
+    /// The section that is not told yet, where the items end here: it is cut.
+    pub(crate) fn under_way(&self) -> Option<Told>
+        ensures { result ≡ under_way self.now }
+    {
+        match *self {
+            Phase::Data(met) | Phase::Trailer(met) => Some(met.cut()),
+            _ => None,
+        }
+    }
+}

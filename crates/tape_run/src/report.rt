@@ -1,0 +1,217 @@
+//! What a catalogue has, section by section, and what it lacks.
+
+ghost use Rattle.std.specs.Prelude.{◌≡◌, ◌<◌, ◌+◌, ◌++◌, [], length, map, take, IfOk, OnOk};
+ghost use Rattle.std.specs.Map.{lookup};
+ghost use Rattle.std.specs.Result.{IsOkUnless};
+ghost use Rattle.std.specs.Str.{bytes_eq};
+ghost use Rattle.tape_run.specs.Lacks.{line_of, greatest, with_file, sets_from, lack_of, one_lack};
+ghost use Rattle.tape_run.specs.Lacks.{file_lacks, set_lacks, lacks};
+ghost use Rattle.tape_run.specs.declared.fault.RunFault.TheVariants as faults;
+
+use crate::catalogue::Catalogue;
+use crate::fault::RunFault;
+use crate::lacks::lack_of;
+use crate::section::{Entry, Lack, SectionKey, SectionLine};
+use crate::sections::Sections;
+use indexmap::IndexMap;
+use std::alloc::{AllocError, Global};
+use tape_label::Field;
+use tape_set::Sequence;
+
+/// What a catalogue has and lacks.
+#[derive(Debug, Drop)]
+pub struct Report {
+    /// The sections, in the order in which they were met first.
+    pub lines: Sequence<SectionLine>,
+    /// The first section that each file lacks, where it lacks one: set by set in the order in which
+    /// they were met first, and file by file from 1 to the greatest number that was met.
+    pub lacks: Sequence<Lack>,
+}
+
+/// The file sets of a catalogue, each with the greatest number of a file.
+type Sets = IndexMap<Field<6>, u16>;
+
+/// A section's line.
+fn line_of(key: &SectionKey, entry: &Entry) -> SectionLine
+    ensures { result ≡ line_of (key.now, entry.now) }
+{
+    SectionLine {
+        set_id: key.set_id,
+        file: key.file,
+        sect: key.sect,
+        volume: entry.volume,
+        blocks: entry.blocks,
+        state: entry.state,
+    }
+}
+
+/// Adds the line of the section at a place to those before it.
+fn add_line(
+    lines: &mut Vec<SectionLine>,
+    sections: &Sections,
+    place: usize,
+) -> Result<(), AllocError>
+    requires { place < length sections.now.entries }
+    ensures { OnOk result (lines.old.items ≡ map line_of (take place sections.now.entries)
+        → lines.new.items ≡ map line_of (take (place + 1) sections.now.entries)) }
+{
+    let Some((key, entry)) = sections.get_index(place) else {
+        unreachable!()
+    };
+    match lines.push(line_of(key, entry)) {
+        Ok(()) => Ok(()),
+        Err(_) => Err(AllocError),
+    }
+}
+
+/// A line for each section.
+fn lines_of(alloc: Global, sections: &Sections) -> Result<Vec<SectionLine>, AllocError>
+    ensures { IfOk result (λ lines. lines.items ≡ map line_of sections.now.entries) }
+{
+    let mut lines = Vec::new(alloc);
+    for place in 0..sections.len() {
+        add_line(&mut lines, sections, place)?;
+    }
+    Ok(lines)
+}
+
+/// The greatest number of a file of a set, where one more file was met.
+fn greatest_of(sets: &Sets, set_id: &Field<6>, file: u16) -> u16
+    ensures { result ≡ greatest (lookup (bytes_eq set_id.now) sets.now.entries) file }
+{
+    match sets.get(set_id) {
+        Some(known) => (*known).max(file),
+        None => file,
+    }
+}
+
+/// Notes that a file of a set was met.
+fn note_file(sets: &mut Sets, set_id: Field<6>, file: u16) -> Result<(), AllocError>
+    ensures { OnOk result (sets.new.entries ≡ with_file sets.old.entries set_id file) }
+{
+    let greatest = greatest_of(sets, &set_id, file);
+    match sets.insert(set_id, greatest) {
+        Ok(_) => Ok(()),
+        Err(_) => Err(AllocError),
+    }
+}
+
+/// Notes the file of the section at a place behind those before it.
+fn note_place(sets: &mut Sets, sections: &Sections, place: usize) -> Result<(), AllocError>
+    requires { place < length sections.now.entries }
+    ensures { OnOk result (sets.old.entries ≡ sets_from [] (take place sections.now.entries)
+        → sets.new.entries ≡ sets_from [] (take (place + 1) sections.now.entries)) }
+{
+    let Some((key, _)) = sections.get_index(place) else {
+        unreachable!()
+    };
+    note_file(sets, key.set_id, key.file)?;
+    Ok(())
+}
+
+/// The sets in the order in which they were met first, each with the greatest number of a file.
+fn sets_of(alloc: Global, sections: &Sections) -> Result<Sets, AllocError>
+    ensures { IfOk result (λ sets. sets.entries ≡ sets_from [] sections.now.entries) }
+{
+    let mut sets = Sets::new(alloc);
+    for place in 0..sections.len() {
+        note_place(&mut sets, sections, place)?;
+    }
+    Ok(sets)
+}
+
+/// Adds what a file lacks, if it lacks a section.
+fn add_lack(
+    lacks: &mut Vec<Lack>,
+    sections: &Sections,
+    set_id: Field<6>,
+    file: u16,
+) -> Result<(), AllocError>
+    ensures { OnOk result (lacks.new.items
+        ≡ lacks.old.items ++ one_lack set_id file (lack_of sections.now.entries set_id file)) }
+{
+    let Some(sect) = lack_of(sections, set_id, file) else {
+        return Ok(());
+    };
+    match lacks.push(Lack { set_id, file, sect }) {
+        Ok(()) => Ok(()),
+        Err(_) => Err(AllocError),
+    }
+}
+
+/// Adds what the files of a set lack, up to the greatest number of a file.
+fn add_lacks(
+    lacks: &mut Vec<Lack>,
+    sections: &Sections,
+    set_id: Field<6>,
+    greatest: u16,
+) -> Result<(), AllocError>
+    ensures { OnOk result (lacks.new.items
+        ≡ lacks.old.items ++ file_lacks sections.now.entries set_id 1 greatest) }
+{
+    for before in 0..greatest {
+        add_lack(lacks, sections, set_id, before + 1)?;
+    }
+    Ok(())
+}
+
+/// Adds what the files of the set at a place lack to what those of the sets before it do.
+fn add_set(
+    lacks: &mut Vec<Lack>,
+    sections: &Sections,
+    sets: &Sets,
+    place: usize,
+) -> Result<(), AllocError>
+    requires { place < length sets.now.entries }
+    ensures { OnOk result (
+        lacks.old.items ≡ set_lacks sections.now.entries (take place sets.now.entries)
+        → lacks.new.items ≡ set_lacks sections.now.entries (take (place + 1) sets.now.entries)) }
+{
+    let Some((set_id, greatest)) = sets.get_index(place) else {
+        unreachable!()
+    };
+    add_lacks(lacks, sections, *set_id, *greatest)?;
+    Ok(())
+}
+
+/// What the files of these sets lack.
+fn lacks_of(alloc: Global, sections: &Sections, sets: &Sets) -> Result<Vec<Lack>, AllocError>
+    ensures { IfOk result (λ lacks.
+        lacks.items ≡ set_lacks sections.now.entries sets.now.entries) }
+{
+    let mut lacks = Vec::new(alloc);
+    for place in 0..sets.len() {
+        add_set(&mut lacks, sections, sets, place)?;
+    }
+    Ok(lacks)
+}
+
+/// The report of these sections.
+fn report_of(alloc: Global, sections: &Sections) -> Result<Report, AllocError>
+    ensures lines { IfOk result (λ report. report.lines ≡ map line_of sections.now.entries) }
+    ensures lacks { IfOk result (λ report. report.lacks ≡ lacks sections.now.entries) }
+{
+    let lines = lines_of(alloc, sections)?;
+    let sets = sets_of(alloc, sections)?;
+    let lacks = lacks_of(alloc, sections, &sets)?;
+    Ok(Report {
+        lines: Sequence::of_vec(lines),
+        lacks: Sequence::of_vec(lacks),
+    })
+}
+
+/// What a catalogue has, section by section, and what its files lack.
+///
+/// # Errors
+///
+/// `OutOfMemory` where memory was refused, and nothing else.
+pub fn check_set(alloc: Global, catalogue: &Catalogue) -> Result<Report, RunFault>
+    ensures lines { IfOk result (λ report. report.lines ≡ map line_of catalogue.now) }
+    ensures lacks { IfOk result (λ report. report.lacks ≡ lacks catalogue.now) }
+    ensures err { IsOkUnless result faults.OutOfMemory }
+{
+    match report_of(alloc, &catalogue.sections) {
+        Ok(report) => Ok(report),
+        Err(_) => Err(RunFault::OutOfMemory),
+    }
+}

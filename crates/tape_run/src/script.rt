@@ -1,0 +1,122 @@
+//! Scripts: steps of a session, one after another.
+
+ghost use Rattle.std.specs.Prelude.{◌≡◌, [], ◌≢◌, ℕ, List, Some, None, Ok, Err, OnOk, IfErr, map};
+ghost use Rattle.tape_blocks.specs.Block.{Portion};
+ghost use Rattle.tape_blocks.specs.Spans.{join};
+ghost use Rattle.tape_set.specs.declared.position.Position.TheVariants.{Finished};
+ghost use Rattle.tape_set.specs.Layout.{FileSet, Section, file_of};
+ghost use Rattle.tape_set.specs.Lawful.{IsLawful};
+ghost use Rattle.tape_set.specs.Before.{section_parts};
+ghost use Rattle.tape_core.specs.Place.{rest_of};
+ghost use Rattle.tape_core.specs.Crash.{AddsOnly};
+ghost use Rattle.tape_run.specs.Back.{reels_of, AreVolumes};
+ghost use Rattle.tape_run.specs.Crash.{StoodAt};
+ghost use Rattle.tape_run.specs.Headline.{IsStart, IsRead, HasRun, HasStopped};
+ghost use Rattle.tape_run.specs.Runs.{Runs};
+ghost use Rattle.tape_run.specs.Seen.{seen, IsKept};
+
+use crate::fault::RunFault;
+use crate::session::Session;
+use std::io::Read;
+use tape_core::{PartSink, SinkFault};
+
+/// One step of a script.
+#[derive(Clone, Copy, Debug, PartialEq, Eq)]
+pub enum Step {
+    /// The next reader's reel is read.
+    Reel,
+    /// It is noted where the session stands.
+    Save,
+    /// The session goes back to the note of this number, counted from 0.
+    Restart(usize),
+}
+
+/// Makes the steps, one after another, up to the first fault. Each `Reel` takes the next reader,
+/// also where the file is complete and nothing is read of it.
+///
+/// # Errors
+///
+/// The fault of the step that was not made, as `reel`, `save` and `restart` answer it, or
+/// `TooFewReels` where a reel is asked for and no reader is left. The steps before it stand.
+pub fn run<S: PartSink, R: Read>(
+    session: &mut Session<S>,
+    steps: &[Step],
+    reels: &mut [R],
+) -> Result<(), RunFault>
+    // The headline: the sink holds the parts before the position that the history leads to, and the
+    // session stands there with the notes of the history.
+    ensures headline { OnOk result ((held : List Portion) → S.holds session.old.sink held
+        → IsKept (seen S.refusals session.old held)
+        → (now : List Portion) × S.holds session.new.sink now
+        × IsKept (seen S.refusals session.new now)
+        × ((bytes : List (List ℕ)) → map R.remaining reels.old ≡ map Some bytes
+        → HasRun (seen S.refusals session.old held) steps.now bytes
+        (seen S.refusals session.new now))) }
+    // The same of a session that has read nothing of its file.
+    ensures start { OnOk result ((set_id : List ℕ) (file : ℕ) → S.holds session.old.sink []
+        → IsStart set_id file (seen S.refusals session.old [])
+        → (now : List Portion) × S.holds session.new.sink now
+        × ((bytes : List (List ℕ)) → map R.remaining reels.old ≡ map Some bytes
+        → IsRead set_id file steps.now bytes (seen S.refusals session.new now))) }
+    // There and back: over the images of all volumes, in order, where no reader failed, the sink
+    // holds the whole file.
+    ensures back { OnOk result ((set : FileSet) (file : ℕ) (f : List Section)
+        (bytes : List (List ℕ))
+        → S.holds session.old.sink [] → IsStart set.set_id file (seen S.refusals session.old [])
+        → IsLawful set → file_of set file ≡ Some f → AreVolumes set 0 bytes
+        → map R.remaining reels.old ≡ map Some bytes → steps.now ≡ reels_of bytes
+        → session.new.failures ≡ 0
+        → S.holds session.new.sink (section_parts f)
+        × ((rest_of session.new.core).position ≡ Finished)
+        × ((join (section_parts f)).rest ≡ None)) }
+    // Where a fault ended it the headline holds of the steps before; a part that was refused is
+    // where the session stands.
+    ensures stopped { IfErr result (λ fault. (held : List Portion) → S.holds session.old.sink held
+        → IsKept (seen S.refusals session.old held)
+        → (now : List Portion)
+        × (fault ≢ RunFault.Sink SinkFault.Device → S.holds session.new.sink now)
+        × IsKept (seen S.refusals session.new now)
+        × ((bytes : List (List ℕ)) → map R.remaining reels.old ≡ map Some bytes
+        → HasStopped (seen S.refusals session.old held) steps.now bytes fault
+        (seen S.refusals session.new now))) }
+    // Whatever the set and the history are: each step did, or left, what `reel`, `save` and
+    // `restart` promise.
+    ensures runs { OnOk result ((held : List Portion) → S.holds session.old.sink held
+        → IsKept (seen S.refusals session.old held)
+        → (now : List Portion) × S.holds session.new.sink now
+        × Runs (seen S.refusals session.old held) steps.now (map R.remaining reels.old) (Ok tt)
+        (seen S.refusals session.new now)) }
+    ensures faults { IfErr result (λ fault. (held : List Portion) → S.holds session.old.sink held
+        → IsKept (seen S.refusals session.old held)
+        → (now : List Portion)
+        × (fault ≢ RunFault.Sink SinkFault.Device → S.holds session.new.sink now)
+        × IsKept (seen S.refusals session.new now)
+        × Runs (seen S.refusals session.old held) steps.now (map R.remaining reels.old) (Err fault)
+        (seen S.refusals session.new now)) }
+    // Whatever it answered: what a crash behind it brings back could come back before, or is where
+    // the session stood between two steps, or one of its notes there.
+    ensures crash { (held : List Portion) → S.holds session.old.sink held
+        → IsKept (seen S.refusals session.old held)
+        → AddsOnly (StoodAt (seen S.refusals session.old held) steps.now
+        (map R.remaining reels.old))
+        (S.returns session.old.sink) (S.returns session.new.sink)
+        (S.survives session.old.sink) (S.survives session.new.sink) }
+{
+    let mut next = 0usize;
+    for step in steps {
+        match *step {
+            Step::Reel => {
+                if next >= reels.len() {
+                    return Err(RunFault::TooFewReels);
+                }
+                session.reel(&mut reels[next])?;
+                next += 1;
+            }
+            Step::Save => {
+                session.save()?;
+            }
+            Step::Restart(n) => session.restart(n)?,
+        }
+    }
+    Ok(())
+}

@@ -1,0 +1,113 @@
+//! The sections that were met, in the order in which they were met first.
+
+ghost use Rattle.std.specs.Result.{IsOkUnless};
+ghost use Rattle.tape_run.specs.declared.fault.RunFault.TheVariants as faults;
+ghost use Rattle.std.specs.Prelude.{◌≡◌, ◌<◌, OnOk, OnErr, IfOk};
+ghost use Rattle.std.specs.Map.{lookup};
+ghost use Rattle.tape_run.specs.Noted.{same_key, is_good, better, kept, noted, noted_all};
+ghost use Rattle.tape_run.specs.Passing.{in_list, under_way, blocks_of, step};
+ghost use Rattle.tape_image.specs.Reader.{tape_item};
+
+use crate::fault::RunFault;
+use crate::met::Told;
+use crate::passing::{Phase, step};
+use crate::section::{Entry, SectionKey, SectionState};
+use indexmap::IndexMap;
+use tape_image::Item;
+
+/// What is known of each section.
+pub(crate) type Sections = IndexMap<SectionKey, Entry>;
+
+impl SectionState {
+    /// Whether the section is whole.
+    pub fn is_good(&self) -> bool
+        ensures { result ≡ is_good self.now }
+    {
+        matches!(self, SectionState::Good)
+    }
+}
+
+/// What is kept of a section that was met before and is met again.
+fn better(old: Entry, new: Entry) -> Entry
+    ensures { result ≡ better old new }
+{
+    if new.state.is_good() && !old.state.is_good() {
+        return new;
+    }
+    old
+}
+
+/// What is kept of a section that is met, where the sections are as they are.
+fn kept_of(sections: &Sections, key: &SectionKey, entry: Entry) -> Entry
+    ensures { result ≡ kept (lookup (same_key key.now) sections.now.entries) entry }
+{
+    match sections.get(key) {
+        Some(old) => better(*old, entry),
+        None => entry,
+    }
+}
+
+/// Notes a section. One that is there keeps its place, and takes what is better.
+fn note(sections: &mut Sections, key: SectionKey, entry: Entry) -> Result<(), RunFault>
+    ensures fault { IsOkUnless result faults.OutOfMemory }
+    ensures ok { OnOk result (sections.new.entries ≡ noted sections.old.entries (key, entry)) }
+    ensures err { OnErr result (sections.new.entries ≡ sections.old.entries) }
+{
+    let kept = kept_of(sections, &key, entry);
+    match sections.insert(key, kept) {
+        Ok(_) => Ok(()),
+        Err(_) => Err(RunFault::OutOfMemory),
+    }
+}
+
+/// Makes room for a section whose headers' mark was met, so that it can be noted later.
+fn make_room(sections: &mut Sections, phase: &Phase) -> Result<(), RunFault>
+    ensures fault { IsOkUnless result faults.OutOfMemory }
+    ensures same { sections.new.entries ≡ sections.old.entries }
+{
+    if phase.under_way().is_none() {
+        return Ok(());
+    }
+    match sections.reserve(1) {
+        Ok(()) => Ok(()),
+        Err(_) => Err(RunFault::OutOfMemory),
+    }
+}
+
+/// Notes a section that was told, if one was.
+fn note_told(sections: &mut Sections, told: Option<Told>) -> Result<(), RunFault>
+    ensures fault { IsOkUnless result faults.OutOfMemory }
+    ensures ok { OnOk result (sections.new.entries
+        ≡ noted_all sections.old.entries (in_list told)) }
+    ensures err { OnErr result (sections.new.entries ≡ sections.old.entries) }
+{
+    match told {
+        Some((key, entry)) => note(sections, key, entry),
+        None => Ok(()),
+    }
+}
+
+/// Notes what an item tells, and says what is expected behind it.
+pub(crate) fn take(sections: &mut Sections, phase: Phase, item: Item<'_>) -> Result<Phase, RunFault>
+    requires { blocks_of phase < 4294967295 }
+    ensures fault { IsOkUnless result faults.OutOfMemory }
+    ensures phase { IfOk result (λ next. next ≡ (step phase (tape_item item.entry)).0) }
+    ensures ok { OnOk result (sections.new.entries
+        ≡ noted_all sections.old.entries (in_list (step phase (tape_item item.entry)).1)) }
+    ensures err { OnErr result (sections.new.entries ≡ sections.old.entries) }
+{
+    let (next, told) = step(phase, item);
+    make_room(sections, &next)?;
+    note_told(sections, told)?;
+    Ok(next)
+}
+
+/// Notes the section that is under way where the items end, if one is.
+pub(crate) fn close(sections: &mut Sections, phase: Phase) -> Result<(), RunFault>
+    ensures fault { IsOkUnless result faults.OutOfMemory }
+    ensures ok { OnOk result (sections.new.entries
+        ≡ noted_all sections.old.entries (in_list (under_way phase))) }
+    ensures err { OnErr result (sections.new.entries ≡ sections.old.entries) }
+{
+    note_told(sections, phase.under_way())
+}

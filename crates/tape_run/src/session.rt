@@ -1,0 +1,276 @@
+//! Sessions: one file read from its reels, in any order, into one sink.
+
+ghost use Rattle.std.specs.Prelude.{◌≡◌, [], ◌≢◌, List, Option, None, Ok, Err, IsOk, OnOk, IfOk};
+ghost use Rattle.std.specs.Prelude.{IfErr, IfSome};
+ghost use Rattle.tape_blocks.specs.Block.{Portion};
+ghost use Rattle.tape_image.specs.Reader.{IfKnown};
+ghost use Rattle.tape_set.specs.Layout.{FileSet};
+ghost use Rattle.tape_set.specs.Position.{want_at};
+ghost use Rattle.tape_core.specs.Known.{IsFileNumber};
+ghost use Rattle.tape_core.specs.Place.{rest_of};
+ghost use Rattle.tape_core.specs.Stands.{Stands, weight_of};
+ghost use Rattle.tape_core.specs.Table.{saved, reader_of};
+ghost use Rattle.tape_core.specs.Crash.{AddsNothing, AddsOnly};
+ghost use Rattle.tape_run.specs.Crash.{IsOf};
+ghost use Rattle.tape_run.specs.Following.{place};
+ghost use Rattle.tape_run.specs.Given.{is_device};
+ghost use Rattle.tape_run.specs.Headline.{IsStart};
+ghost use Rattle.tape_run.specs.Lives.{IsResumed};
+ghost use Rattle.tape_run.specs.Reels.{Reads, Leaves};
+ghost use Rattle.tape_run.specs.Seen.{seen, IsKept, IsSession};
+ghost use Rattle.tape_run.specs.Steps.{Reeled, ReelFails, Saved, SaveFails, WentBack, RestartFails};
+
+use crate::answer::ReelAnswer;
+use crate::fault::RunFault;
+use crate::follower::Follower;
+use crate::intake::Intake;
+use std::alloc::Global;
+use std::io::Read;
+use std::marker::Model;
+use tape_core::{Answer, Checkpoint, CoreFault, PartSink, ReaderCore, SinkFault};
+use tape_image::{ImageBuffer, ImageReader};
+use tape_label::Field;
+use tape_set::Want;
+
+/// A session over one file: it reads reel after reel, and its sink holds exactly the parts of the
+/// file that lie before its position.
+#[derive(Drop)]
+pub struct Session<S> {
+    alloc: Global,
+    intake: Intake<S>,
+    notes: Vec<Checkpoint>,
+    failures: u64,
+}
+
+impl<S> Model for Session<S> {
+    ghost use Rattle.tape_run.specs.Story.{Story};
+
+    ghost Value = { Story S };
+
+    ghost view = { λ s. record {
+      core = s.intake.core.core;
+      sink = s.intake.sink;
+      notes = s.notes.items;
+      failures = s.failures;
+    } };
+}
+
+impl<S: PartSink + Drop> Session<S> {
+    /// A session at the start of a file of the set with this identifier, over an empty sink. It
+    /// takes no memory.
+    ///
+    /// # Errors
+    ///
+    /// `FileNumber`, where the file's number is not 1 to 9,999; the sink is then dropped.
+    pub fn new(alloc: Global, set_id: Field<6>, file: u16, sink: S) -> Result<Session<S>, CoreFault>
+        ensures sink { IfOk result (λ session. session.sink ≡ sink) }
+        ensures start { IfOk result (λ session. IsStart set_id file (seen S.refusals session [])) }
+        ensures kept { IfOk result (λ session. IsKept (seen S.refusals session [])) }
+        ensures core { IfOk result (λ session. session.core ≡ reader_of set_id file) }
+        ensures number { IsFileNumber file → IsOk result }
+        ensures refused { (IsFileNumber file → ⊥) → result ≡ Err CoreFault.FileNumber }
+    {
+        match ReaderCore::new(set_id, file) {
+            Ok(core) => Ok(Session::over(alloc, core, sink)),
+            Err(fault) => Err(fault),
+        }
+    }
+}
+
+impl<S: PartSink> Session<S> {
+    /// A session over a core and a sink, without notes.
+    fn over(alloc: Global, core: ReaderCore, sink: S) -> Session<S>
+        ensures sink { result.sink ≡ sink }
+        ensures core { result.core ≡ core }
+        ensures place { rest_of result.core ≡ rest_of core }
+        ensures notes { result.notes ≡ [] }
+        ensures failures { result.failures ≡ 0 }
+    {
+        Session {
+            alloc,
+            intake: Intake {
+                core: Follower { core },
+                sink,
+            },
+            notes: Vec::new(alloc),
+            failures: 0,
+        }
+    }
+
+    /// A session at a checkpoint, over a sink that holds the parts before it. It has no notes, and
+    /// takes no memory.
+    pub fn resume(alloc: Global, point: &Checkpoint, sink: S) -> Session<S>
+        ensures sink { result.sink ≡ sink }
+        ensures kept { (held : List Portion) → IsKept (seen S.refusals result held) }
+        ensures session { (set : FileSet) (held : List Portion)
+            → Stands set point.now.file point.now held
+            → IsSession set (seen S.refusals result held) }
+        ensures resumed { (held : List Portion)
+            → IsResumed point.now held (seen S.refusals result held) }
+        ensures failures { result.failures ≡ 0 }
+    {
+        // What a checkpoint tells of its file is a number of a file: a core can be made.
+        let _position = point.position();
+        let Ok(mut core) = ReaderCore::new(point.set_id, point.file) else {
+            unreachable!()
+        };
+        let _ = core.restart(point);
+        Session::over(alloc, core, sink)
+    }
+
+    /// The sink, with what was delivered.
+    pub fn sink(&self) -> &S
+        ensures { result.now ≡ self.now.sink }
+    {
+        &self.intake.sink
+    }
+
+    /// Ends the session, and gives its sink back.
+    pub fn into_sink(self) -> S
+        ensures { result ≡ self.sink }
+    {
+        self.intake.sink
+    }
+
+    /// Reads a reel: what its reader gives, up to the first item behind which no further one of the
+    /// reel can tell anything of the file, and nothing behind that. The parts of each block that
+    /// the file awaits go to the sink, one by one, from the awaited part on. Where the file is
+    /// complete nothing is read. The only memory taken is the image reader's buffer.
+    ///
+    /// A fault of the image (also a reader that failed) ends the reading and is told in the answer;
+    /// what was read before it counts.
+    ///
+    /// # Errors
+    ///
+    /// `Sink`, where the sink refused a part: the sink holds what lies before that part, where the
+    /// session stands, and the next reel goes on there. `OutOfMemory`, where the image reader's
+    /// buffer was refused: nothing changed, and nothing was read.
+    pub fn reel<R: Read>(&mut self, device: &mut R) -> Result<ReelAnswer, RunFault>
+        ensures ok { IfOk result (λ answer. (held : List Portion) → S.holds self.old.sink held
+            → (now : List Portion) × S.holds self.new.sink now
+            × (IsKept (seen S.refusals self.old held) → IsKept (seen S.refusals self.new now))
+            × IfSome (R.remaining device.old) (λ bytes. Reeled bytes (is_device answer.fault)
+            (seen S.refusals self.old held) (seen S.refusals self.new now))) }
+        ensures err { IfErr result (λ fault. (held : List Portion) → S.holds self.old.sink held
+            → (now : List Portion) × S.holds self.new.sink now
+            × (IsKept (seen S.refusals self.old held) → IsKept (seen S.refusals self.new now))
+            × IfSome (R.remaining device.old) (λ bytes. ReelFails bytes fault
+            (seen S.refusals self.old held) (seen S.refusals self.new now))) }
+        // The answer is the core's last one, and no byte behind what ended the reading was read.
+        ensures answer { IfOk result (λ answer. IfKnown (R.remaining device.old)
+            (R.remaining device.new)
+            (λ bytes left. Reads self.old.core.position self.old.core bytes left answer)) }
+        ensures unread { IfErr result (λ fault.
+            Leaves fault self.old.core (R.remaining device.old) (R.remaining device.new)) }
+        // Whatever it answered: a crash behind it brings back nothing that none before it could.
+        ensures crash { (held : List Portion) → S.holds self.old.sink held
+            → AddsNothing (S.returns self.old.sink) (S.returns self.new.sink)
+            (S.survives self.old.sink) (S.survives self.new.sink) }
+    {
+        if self.intake.core.want().is_none() {
+            return Ok(ReelAnswer::new(Answer::Complete, None, 0));
+        }
+        let Ok(buffer) = ImageBuffer::new(self.alloc) else {
+            return Err(RunFault::OutOfMemory);
+        };
+        let mut image = ImageReader::over(buffer, device);
+        self.intake.core.mount();
+        let read = self.intake.read(&mut image);
+        // What the reader has left is its caller's again.
+        image.into_device();
+        match read {
+            Ok(answer) => {
+                if answer.is_device() {
+                    self.failures = self.failures.saturating_add(1);
+                }
+                Ok(answer)
+            }
+            Err(cause) => Err(RunFault::Sink(cause)),
+        }
+    }
+
+    /// Notes where the session stands, in its list and, where the sink is durable, in the sink.
+    ///
+    /// # Errors
+    ///
+    /// `OutOfMemory`, where the list could not grow, before the sink is asked; `Sink`, where the
+    /// sink refused. Both leave the session as it was.
+    pub fn save(&mut self) -> Result<Checkpoint, RunFault>
+        ensures ok { OnOk result ((held : List Portion) → S.holds self.old.sink held
+            → (now : List Portion) × S.holds self.new.sink now
+            × Saved (seen S.refusals self.old held) (seen S.refusals self.new now)) }
+        ensures point { IfOk result (λ point. (held : List Portion) → S.holds self.old.sink held
+            → point ≡ saved (rest_of self.old.core) (weight_of held)) }
+        ensures err { IfErr result (λ fault. (held : List Portion) → S.holds self.old.sink held
+            → (now : List Portion) × S.holds self.new.sink now
+            × SaveFails fault (seen S.refusals self.old held) (seen S.refusals self.new now)) }
+        ensures crash { (held : List Portion) → S.holds self.old.sink held
+            → AddsOnly (IsOf (seen S.refusals self.old held)) (S.returns self.old.sink)
+            (S.returns self.new.sink) (S.survives self.old.sink) (S.survives self.new.sink) }
+    {
+        let point = self.intake.core.save(self.intake.sink.weight());
+        if self.notes.push(point).is_err() {
+            return Err(RunFault::OutOfMemory);
+        }
+        match self.intake.sink.keep(&point) {
+            Ok(()) => Ok(point),
+            Err(cause) => {
+                self.notes.pop();
+                Err(RunFault::Sink(cause))
+            }
+        }
+    }
+
+    /// Goes back to the note of this number, counted from 0: the sink is cut to what it held then,
+    /// and the later notes are forgotten. It takes no memory.
+    ///
+    /// # Errors
+    ///
+    /// `NoSuchPoint`, where there are not so many notes; `Sink`, where the sink refused. Both leave
+    /// the session as it was, but that of a sink which answered `Device` nothing is said until it
+    /// is opened again.
+    pub fn restart(&mut self, n: usize) -> Result<(), RunFault>
+        ensures ok { OnOk result ((held : List Portion) → S.holds self.old.sink held
+            → IsKept (seen S.refusals self.old held)
+            → (now : List Portion) × S.holds self.new.sink now
+            × WentBack n (seen S.refusals self.old held) (seen S.refusals self.new now)) }
+        ensures err { IfErr result (λ fault. (held : List Portion) → S.holds self.old.sink held
+            → IsKept (seen S.refusals self.old held)
+            → (fault ≢ RunFault.Sink SinkFault.Device → S.holds self.new.sink held)
+            × RestartFails n fault (seen S.refusals self.old held)
+            (seen S.refusals self.new held)) }
+        ensures crash { (held : List Portion) → S.holds self.old.sink held
+            → IsKept (seen S.refusals self.old held)
+            → AddsOnly (IsOf (seen S.refusals self.old held)) (S.returns self.old.sink)
+            (S.returns self.new.sink) (S.survives self.old.sink) (S.survives self.new.sink) }
+    {
+        if n >= self.notes.len() {
+            return Err(RunFault::NoSuchPoint);
+        }
+        let point = self.notes[n];
+        if point.staged > self.intake.sink.weight() {
+            return Err(RunFault::Sink(SinkFault::Failed));
+        }
+        match self.intake.sink.cut_to(&point) {
+            Err(cause) => return Err(RunFault::Sink(cause)),
+            Ok(()) => {}
+        }
+        let _ = self.intake.core.restart(&point);
+        self.notes.truncate(n + 1);
+        Ok(())
+    }
+
+    /// What is wanted next of the file: nothing exactly where it is complete.
+    pub fn want(&self) -> Option<Want>
+        ensures { result ≡ want_at (rest_of self.now.core).file (rest_of self.now.core).position }
+    {
+        self.intake.core.want()
+    }
+
+    /// How many reels were not read to their end because their reader failed.
+    pub fn device_faults(&self) -> u64
+        ensures { result ≡ self.now.failures }
+    {
+        self.failures
+    }
+}

@@ -1,0 +1,262 @@
+//! Images, written word by word and label by label.
+use std::alloc::{AllocError, Global};
+use tape_core::MemorySink;
+use tape_label::Field;
+
+/// What stands on a tape, as the bytes of its image.
+#[derive(Drop)]
+pub struct Image {
+    alloc: Global,
+    pub bytes: Vec<u8>,
+}
+
+/// So many of the bytes in front, or all of them where there are no more.
+pub fn front(bytes: &[u8], count: usize) -> &[u8] {
+    if count <= bytes.len() {
+        &bytes[..count]
+    } else {
+        bytes
+    }
+}
+
+/// What stands behind so many of the bytes.
+pub fn behind(bytes: &[u8], count: usize) -> &[u8] {
+    if count <= bytes.len() {
+        &bytes[count..]
+    } else {
+        b""
+    }
+}
+
+/// The set of all worked images but the foreign one.
+pub fn set_id() -> Field<6> {
+    Field::of_bytes(*b"ABC001")
+}
+
+impl Image {
+    pub fn new(alloc: Global) -> Image {
+        Image {
+            alloc,
+            bytes: Vec::new(alloc),
+        }
+    }
+
+    /// A word, least byte first.
+    pub fn word(&mut self, word: [u8; 4]) -> Result<(), AllocError> {
+        self.bytes.extend_from_slice(&word)
+    }
+
+    pub fn mark(&mut self) -> Result<(), AllocError> {
+        self.word([0, 0, 0, 0])
+    }
+
+    /// The second mark of a volume, and the end word.
+    pub fn end(&mut self) -> Result<(), AllocError> {
+        self.mark()?;
+        self.word([0xFF, 0xFF, 0xFF, 0xFF])
+    }
+
+    /// The content between two words with this high byte, and a pad byte where its length is odd.
+    fn framed(&mut self, content: &[u8], high: u8) -> Result<(), AllocError> {
+        let count = content.len();
+        let word = [
+            (count % 256) as u8,
+            (count / 256 % 256) as u8,
+            (count / 65536 % 256) as u8,
+            high,
+        ];
+        self.word(word)?;
+        self.bytes.extend_from_slice(content)?;
+        if count % 2 == 1 {
+            self.bytes.push(0)?;
+        }
+        self.word(word)
+    }
+
+    pub fn block(&mut self, content: &[u8]) -> Result<(), AllocError> {
+        self.framed(content, 0)
+    }
+
+    /// A block that was recorded with an error.
+    pub fn bad(&mut self, content: &[u8]) -> Result<(), AllocError> {
+        self.framed(content, 0x80)
+    }
+
+    /// A block of 80 characters: the text, and spaces behind it.
+    pub fn label(&mut self, text: &str) -> Result<(), AllocError> {
+        let mut label = [b' '; 80];
+        for (slot, byte) in label.iter_mut().zip(text.as_bytes()) {
+            *slot = *byte;
+        }
+        self.block(&label)
+    }
+
+    /// Labels up to the mark before the data.
+    pub fn headers(&mut self, labels: &[&str]) -> Result<(), AllocError> {
+        for label in labels {
+            self.label(label)?;
+        }
+        self.mark()
+    }
+
+    /// The mark behind the data, and labels up to the mark behind them.
+    pub fn trailers(&mut self, labels: &[&str]) -> Result<(), AllocError> {
+        self.mark()?;
+        self.headers(labels)
+    }
+
+    /// Records of 80 characters, of these numbers, in one block; bad blocks are as long as good
+    /// ones.
+    pub fn records(&mut self, from: u8, to: u8, good: bool) -> Result<(), AllocError> {
+        let mut block = Vec::new(self.alloc);
+        for number in from..to {
+            block.extend_from_slice(&record(number))?;
+        }
+        if good {
+            self.block(block.as_slice())
+        } else {
+            self.bad(block.as_slice())
+        }
+    }
+}
+
+/// The record of 80 characters with this number: two digits, and 78 spaces.
+pub fn record(number: u8) -> [u8; 80] {
+    let mut record = [b' '; 80];
+    record[0] = b'0' + number / 10 % 10;
+    record[1] = b'0' + number % 10;
+    record
+}
+
+pub const VOL1: &str =
+    "VOL1ABC001                                                                     4";
+
+pub const HDR1: &str = "HDR1PAYROLL          ABC00100010001000100 00000 00000 000000";
+
+/// Format F, records of 80 characters.
+pub const HDR2: &str = "HDR2F0080000080                                   00";
+
+/// The worked volume: 25 records in blocks of 10, 10 and 5, in 2,484 bytes. The first data block
+/// begins at 268, the others at 1,076 and 1,884; the closing mark at 2,292.
+pub fn payroll(alloc: Global) -> Result<Image, AllocError> {
+    let mut image = Image::new(alloc);
+    image.headers(&[VOL1, HDR1, HDR2])?;
+    image.records(0, 10, true)?;
+    image.records(10, 20, true)?;
+    image.records(20, 25, true)?;
+    image.trailers(&[
+        "EOF1PAYROLL          ABC00100010001000100 00000 00000 000003",
+        "EOF2F0080000080                                   00",
+    ])?;
+    image.end()?;
+    Ok(image)
+}
+
+/// 25 records in five blocks of 5, of which one may be bad (5: none is), with this count in the
+/// trailer.
+pub fn five_blocks(alloc: Global, bad: u8, trailer: &str) -> Result<Image, AllocError> {
+    let mut image = Image::new(alloc);
+    image.headers(&[VOL1, HDR1, HDR2])?;
+    for number in 0..5u8 {
+        image.records(number * 5, number * 5 + 5, number != bad)?;
+    }
+    image.trailers(&[
+        trailer,
+        "EOF2F0040000080                                   00",
+    ])?;
+    image.end()?;
+    Ok(image)
+}
+
+/// The trailer of five blocks.
+pub const EOF_FIVE: &str = "EOF1PAYROLL          ABC00100010001000100 00000 00000 000005";
+
+/// The record of 290 bytes in blocks of 18: byte i is `a` and the rest of i by 26.
+pub fn long_byte(place: usize) -> u8 {
+    b'a' + (place % 26) as u8
+}
+
+/// A block of 18 bytes with 13 bytes of the long record from a place on.
+fn segment(indicator: u8, from: usize) -> [u8; 18] {
+    let mut block = *b"?0018^^^^^^^^^^^^^";
+    block[0] = indicator;
+    for (place, slot) in (from..).zip(block[5..].iter_mut()) {
+        *slot = long_byte(place);
+    }
+    block
+}
+
+/// The first volume of the long record: 22 blocks with 286 of its bytes, and an end of volume;
+/// 1,032 bytes. Its first data block begins at 268, each takes 26 bytes, and the closing mark
+/// stands at 840.
+pub fn long_first(alloc: Global) -> Result<Image, AllocError> {
+    let mut image = Image::new(alloc);
+    image.headers(&[
+        VOL1,
+        HDR1,
+        "HDR2S0001800000                                   00",
+    ])?;
+    image.block(&segment(b'1', 0))?;
+    for number in 1..22usize {
+        image.block(&segment(b'2', number * 13))?;
+    }
+    image.trailers(&[
+        "EOV1PAYROLL          ABC00100010001000100 00000 00000 000022",
+        "EOV2S0001800000                                   00",
+    ])?;
+    image.end()?;
+    Ok(image)
+}
+
+/// The second volume: one block with the last 4 bytes, and the end of the file; 486 bytes.
+pub fn long_second(alloc: Global) -> Result<Image, AllocError> {
+    let mut image = Image::new(alloc);
+    image.headers(&[
+        "VOL1ABC002                                                                     4",
+        "HDR1PAYROLL          ABC00100020001000100 00000 00000 000000",
+        "HDR2S0001800000                                   00",
+    ])?;
+    let mut last = *b"30009    ^^^^^^^^^";
+    for (place, slot) in (286usize..).zip(last[5..9].iter_mut()) {
+        *slot = long_byte(place);
+    }
+    image.block(&last)?;
+    image.trailers(&[
+        "EOF1PAYROLL          ABC00100020001000100 00000 00000 000001",
+        "EOF2S0001800000                                   00",
+    ])?;
+    image.end()?;
+    Ok(image)
+}
+
+/// The sink holds the records of 80 characters with the numbers from 0 on, so many.
+pub fn holds_records(sink: &MemorySink, count: u8) -> bool {
+    sink.count() == count as usize
+        && (0..count).all(|number| match sink.part(number as usize) {
+            Some(part) => part.bytes == record(number).as_slice(),
+            None => false,
+        })
+}
+
+/// The sink holds so many bytes of the long record, in parts of 13 but for the last of the whole.
+pub fn holds_long(sink: &MemorySink, parts: usize) -> bool {
+    let mut place = 0usize;
+    for number in 0..sink.count() {
+        let Some(part) = sink.part(number) else {
+            return false;
+        };
+        for byte in part.bytes {
+            if *byte != long_byte(place) {
+                return false;
+            }
+            place = place.saturating_add(1);
+        }
+    }
+    sink.count() == parts
+        && place
+            == if parts == 23 {
+                290
+            } else {
+                parts.saturating_mul(13)
+            }
+}
