@@ -1,5 +1,7 @@
 -- A front of the listing stands when `list` stops within the text that comes next.
-use Rattle.std.proofs.Common.{◌≡◌, ℕ, ◌+◌, ◌≤◌, List, [], ◌∷◌, ◌++◌, length, Option, Some, None, IfSome, Result, Ok, Err, OnErr, refl, sym, ap, ◌∙◌, arith, append_assoc, append-nil}
+use Rattle.std.proofs.Common.{◌≡◌, ℕ, ◌+◌, ◌≤◌, List, [], ◌∷◌, ◌++◌, length, Option, Some, None}
+use Rattle.std.proofs.Common.{IfSome, Result, Ok, Err, OnErr, refl, sym, ap, ◌∙◌, arith}
+use Rattle.std.proofs.Common.{append_assoc, append-nil}
 use Rattle.std.specs.Io.KnownBytes.{Appends, Keeps}
 use Rattle.std.proofs.KnownBytes.{Appends-trans, Appends-nil}
 use Rattle.tape_image.specs.declared.item.Ending.{Ending}
@@ -21,14 +23,17 @@ on_err (Ok x) P p = tt
 on_err (Err e) P p = p
 
 -- all of the text was written, and no more
-pub whole_front : (old mid new : Option (List ℕ)) (text : List ℕ) → Appends old mid text → Keeps mid new → AppendsFront old new text
-whole_front old mid new text wrote keeps = (text, [], kept old mid new text wrote keeps, sym (append-nil text))
+pub whole_front : (old mid new : Option (List ℕ)) (text : List ℕ) → Appends old mid text
+    → Keeps mid new → AppendsFront old new text
+whole_front old mid new text wrote keeps =
+    (text, [], kept old mid new text wrote keeps, sym (append-nil text))
 
 -- no more was written
 pub no_front : (mid new : Option (List ℕ)) → Keeps mid new → AppendsFront mid new []
 no_front mid new keeps = ([], [], kept mid mid new [] (Appends-nil mid) keeps, refl)
 
--- the bytes ys at a place begin so, and the listing of that, the numbers going on from count, begins with the text
+-- the bytes ys at a place begin so, and the listing of that, the numbers going on from count,
+-- begins with the text
 pub record ListsNext (place count : ℕ) (ys text : List ℕ) : Type 0 where
   pub more : List TapeItem
   pub end : ℕ
@@ -37,8 +42,10 @@ pub record ListsNext (place count : ℕ) (ys text : List ℕ) : Type 0 where
   pub rest : List ℕ
   pub listed : lines_from (count + 1) more ++ last_line stop ≡ text ++ rest
 
-pub in_part : (all left : Option (List ℕ)) (place count : ℕ) (old mid new : Option (List ℕ)) (text : List ℕ) → SoFar all left place count old mid → AppendsFront mid new text
-    → ((ys : List ℕ) → left ≡ Some ys → ListsNext place count ys text) → IfSome all (ListsInPart old new)
+pub in_part : (all left : Option (List ℕ)) (place count : ℕ) (old mid new : Option (List ℕ))
+    (text : List ℕ) → SoFar all left place count old mid → AppendsFront mid new text
+    → ((ys : List ℕ) → left ≡ Some ys → ListsNext place count ys text)
+    → IfSome all (ListsInPart old new)
 in_part None left place count old mid new text s front next = tt
 in_part (Some xs) None place count old mid new text s front next = absurd s.known
 in_part (Some xs) (Some ys) place count old mid new text s front next =
@@ -47,11 +54,19 @@ in_part (Some xs) (Some ys) place count old mid new text s front next =
     let tail = lines_from (count + 1) n.more ++ last_line n.stop in
     let number : 1 + length s.items ≡ count + 1 = omega (arith, s.counted) in
     let whole : listing_of (s.items ++ n.more) n.stop ≡ done ++ tail =
-    ap (λ l. l ++ last_line n.stop) (lines_from-append 1 s.items n.more ∙ ap (λ m. done ++ lines_from m n.more) number)
+    ap (λ l. l ++ last_line n.stop)
+    (lines_from-append 1 s.items n.more ∙ ap (λ m. done ++ lines_from m n.more) number)
     ∙ append_assoc done (lines_from (count + 1) n.more) (last_line n.stop) in
-    let split : tail ≡ front.0 ++ (front.1 ++ n.rest) = n.listed ∙ ap (λ l. l ++ n.rest) front.3 ∙ append_assoc front.0 front.1 n.rest in (
+    let split : tail ≡ front.0 ++ (front.1 ++ n.rest) =
+    n.listed ∙ ap (λ l. l ++ n.rest) front.3 ∙ append_assoc front.0 front.1 n.rest in (
       listing_of (s.items ++ n.more) n.stop,
-      record { items = s.items ++ n.more; end = n.end; stop = n.stop; begins = Walks-begins 0 place n.end xs ys s.items n.more n.stop s.known n.begins; listed = refl },
+      record {
+        items = s.items ++ n.more;
+        end = n.end;
+        stop = n.stop;
+        begins = Walks-begins 0 place n.end xs ys s.items n.more n.stop s.known n.begins;
+        listed = refl;
+      },
       (
         done ++ front.0,
         front.1 ++ n.rest,
@@ -61,13 +76,22 @@ in_part (Some xs) (Some ys) place count old mid new text s front next =
     )
 
 -- nothing comes next
-pub after_none : (left : Option (List ℕ)) (place count : ℕ) → place ≤ image_limit → (ys : List ℕ) → left ≡ Some ys → ListsNext place count ys []
+pub after_none : (left : Option (List ℕ)) (place count : ℕ) → place ≤ image_limit → (ys : List ℕ)
+    → left ≡ Some ys → ListsNext place count ys []
 after_none left place count within ys is =
     let (more, end, stop, begins) = Begins-some place ys within in
-    record { more = more; end = end; stop = stop; begins = begins; rest = lines_from (count + 1) more ++ last_line stop; listed = refl }
+    record {
+      more = more;
+      end = end;
+      stop = stop;
+      begins = begins;
+      rest = lines_from (count + 1) more ++ last_line stop;
+      listed = refl;
+    }
 
 -- the line of an item comes next
-pub after_item : (left next : Option (List ℕ)) (place q count : ℕ) (item : TapeItem) → q ≤ image_limit → IfKnown left next (TakesItem place item q) → (ys : List ℕ) → left ≡ Some ys
+pub after_item : (left next : Option (List ℕ)) (place q count : ℕ) (item : TapeItem)
+    → q ≤ image_limit → IfKnown left next (TakesItem place item q) → (ys : List ℕ) → left ≡ Some ys
     → ListsNext place count ys (line_of (count + 1) item)
 after_item left next place q count item within takes ys is =
     let (zs, there, taken) = IfKnown-at left next (TakesItem place item q) ys is takes in
@@ -76,13 +100,24 @@ after_item left next place q count item within takes ys is =
       more = item ∷ more;
       end = end;
       stop = stop;
-      begins = Walks-begins place q end ys zs (item ∷ []) more stop (Walks-item place q ys zs item taken) begins;
+      begins = Walks-begins place q end ys zs (item ∷ []) more stop
+          (Walks-item place q ys zs item taken) begins;
       rest = lines_from (count + 1 + 1) more ++ last_line stop;
-      listed = append_assoc (line_of (count + 1) item) (lines_from (count + 1 + 1) more) (last_line stop);
+      listed = append_assoc (line_of (count + 1) item) (lines_from (count + 1 + 1) more)
+          (last_line stop);
     }
 
 -- the last line comes next
-pub after_end : (left next : Option (List ℕ)) (place q count : ℕ) (ending : Ending) → IfKnown left next (TakesEnd place [] ending q) → (ys : List ℕ) → left ≡ Some ys → ListsNext place count ys (end_line ending)
+pub after_end : (left next : Option (List ℕ)) (place q count : ℕ) (ending : Ending)
+    → IfKnown left next (TakesEnd place [] ending q) → (ys : List ℕ) → left ≡ Some ys
+    → ListsNext place count ys (end_line ending)
 after_end left next place q count ending takes ys is =
     let (zs, there, taken) = IfKnown-at left next (TakesEnd place [] ending q) ys is takes in
-    record { more = []; end = taken.end; stop = ends ending; begins = taken.begins; rest = []; listed = sym (append-nil (end_line ending)) }
+    record {
+      more = [];
+      end = taken.end;
+      stop = ends ending;
+      begins = taken.begins;
+      rest = [];
+      listed = sym (append-nil (end_line ending));
+    }

@@ -1,7 +1,10 @@
 -- The fixed numbers of faults.
 use Rattle.std.specs.Prelude.{ℕ}
+use Rattle.tape_writer.specs.declared.fault.WriteFault.{WriteFault}
+use Rattle.tape_writer.specs.declared.fault.WriteFault.TheVariants as writes
 use Rattle.tape_tool.specs.declared.fault.FileFault.{FileFault}
-use Rattle.tape_tool.specs.declared.fault.FileFault.TheVariants.{Exists, NotOpened, ReadFailed, WriteFailed}
+use Rattle.tape_tool.specs.declared.fault.FileFault.TheVariants.{Exists, NotOpened, ReadFailed}
+use Rattle.tape_tool.specs.declared.fault.FileFault.TheVariants.{WriteFailed}
 
 -- the number of a file's fault
 abbrev pub file_number : FileFault → ℕ
@@ -9,3 +12,18 @@ file_number Exists = 1
 file_number NotOpened = 2
 file_number ReadFailed = 3
 file_number WriteFailed = 4
+
+-- the number of a fault of the writer
+abbrev pub write_number : WriteFault → ℕ
+write_number writes.BadField = 1
+write_number writes.BadShape = 2
+write_number writes.CapacityTooSmall = 3
+write_number writes.RecordLength = 4
+write_number writes.NoFile = 5
+write_number writes.FileBegun = 6
+write_number writes.OutOfVolumes = 7
+write_number writes.TooMany = 8
+write_number writes.Device = 9
+write_number writes.OutOfMemory = 10
+write_number writes.Failed = 11
+write_number writes.Finished = 12

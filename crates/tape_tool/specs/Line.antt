@@ -1,5 +1,6 @@
 -- What `list` prints for one item.
-use Rattle.std.specs.Prelude.{ℕ, ◌++◌, ◌&&◌, nat_le, nat_lt, if◌then◌else◌, List, ◌∷◌, take, length, map, codes, Bool, Result, Ok, Err}
+use Rattle.std.specs.Prelude.{ℕ, ◌++◌, ◌&&◌, nat_le, nat_lt, if◌then◌else◌, List, ◌∷◌, length, map}
+use Rattle.std.specs.Prelude.{codes, Bool, Result, Ok, Err}
 use Rattle.tape_image.specs.Tape.{TapeItem, block, bad, mark}
 use Rattle.tape_label.specs.declared.fault.LabelFault.{LabelFault}
 use Rattle.tape_label.specs.declared.values.Vol1.{Vol1}
@@ -8,7 +9,11 @@ use Rattle.tape_label.specs.declared.values.Head2.{Head2}
 use Rattle.tape_label.specs.declared.values.Trail1.{Trail1}
 use Rattle.tape_label.specs.Digits.{digits}
 use Rattle.tape_label.specs.Formats.{letter}
-use Rattle.tape_label.specs.Reading.{vol1_at, head1_at, head2_at, trail1_at}
+use Rattle.tape_label.specs.declared.values.Kind.{Kind}
+use Rattle.tape_label.specs.declared.label.Label.{Label}
+use Rattle.tape_label.specs.declared.label.Label.TheVariants as labels
+use Rattle.tape_label.specs.Kinds.{identifier}
+use Rattle.tape_label.specs.Labels.{label_at}
 
 -- a byte of an identifier: a question mark stands for one outside the printable range
 abbrev pub printed : ℕ → ℕ
@@ -18,20 +23,27 @@ printed byte = if nat_le 32 byte && nat_le byte 126 then byte else 63
 abbrev pub identifier_text : List ℕ → List ℕ
 identifier_text bytes = map printed bytes
 
--- The number of an item in digits: six, and more where it needs them. An image has room for less than 2 ^ 30 items.
+-- The number of an item in digits: six, and more where it needs them. An image has room for less
+-- than 2 ^ 30 items.
 abbrev pub item_number : ℕ → List ℕ
 item_number n =
     if nat_lt n 1000000 then digits 6 n
-    else (if nat_lt n 10000000 then digits 7 n else (if nat_lt n 100000000 then digits 8 n else (if nat_lt n 1000000000 then digits 9 n else digits 10 n)))
+    else (if nat_lt n 10000000 then digits 7 n
+    else (if nat_lt n 100000000 then digits 8 n
+    else (if nat_lt n 1000000000 then digits 9 n
+    else digits 10 n)))
 
+-- a volume label
 abbrev pub vol1_text : Vol1 → List ℕ
 vol1_text label = codes "VOL1 " ++ identifier_text label.volume
 
 -- file, file set, section and sequence number
 abbrev pub head_text : Head1 → List ℕ
 head_text head =
-    identifier_text head.file_id ++ codes " " ++ identifier_text head.set_id ++ codes " " ++ digits 4 head.sect ++ codes " " ++ digits 4 head.sequence
+    identifier_text head.file_id ++ codes " " ++ identifier_text head.set_id ++ codes " "
+    ++ digits 4 head.sect ++ codes " " ++ digits 4 head.sequence
 
+-- a first header label
 abbrev pub head1_text : Head1 → List ℕ
 head1_text head = codes "HDR1 " ++ head_text head
 
@@ -41,13 +53,24 @@ trail_name eof = if eof then codes "EOF1 " else codes "EOV1 "
 
 -- the same as a header, and the number of blocks
 abbrev pub trail1_text : Trail1 → List ℕ
-trail1_text label = trail_name label.eof ++ head_text label.head ++ codes " " ++ digits 6 label.blocks
+trail1_text label =
+    trail_name label.eof ++ head_text label.head ++ codes " " ++ digits 6 label.blocks
 
--- the label's own identifier, the format, the block length, the record length and the buffer offset
-abbrev pub head2_text : List ℕ → Head2 → List ℕ
-head2_text bytes label =
-    take 4 bytes ++ codes " " ++ letter label.format ∷ codes " " ++ digits 5 label.block_len ++ codes " " ++ digits 5 label.rec_len ++ codes " " ++ digits 2 label.offset
+-- the label's identifier, the format, block length, record length and buffer offset
+abbrev pub head2_text : Kind → Head2 → List ℕ
+head2_text kind label =
+    identifier kind ++ codes " " ++ letter label.format ∷ codes " "
+    ++ digits 5 label.block_len ++ codes " "
+    ++ digits 5 label.rec_len ++ codes " " ++ digits 2 label.offset
 
+-- a label
+abbrev pub label_text : Label → List ℕ
+label_text (labels.Vol1 label) = vol1_text label
+label_text (labels.Head1 label) = head1_text label
+label_text (labels.Second kind label) = head2_text kind label
+label_text (labels.Trail1 label) = trail1_text label
+
+-- a block that reads as no label
 abbrev pub plain_text : List ℕ → List ℕ
 plain_text bytes = codes "BLOCK " ++ digits 5 (length bytes)
 
@@ -56,11 +79,11 @@ abbrev pub text_or : {T : Type 0} → Result T LabelFault → (T → List ℕ) �
 text_or (Ok label) text other = text label
 text_or (Err _) text other = other
 
--- A block that reads as a label is told as that label, wherever it stands. No block reads as two of them.
+-- a block that reads as a label is told as that label, wherever it stands
 abbrev pub block_text : List ℕ → List ℕ
-block_text bytes =
-    text_or (vol1_at bytes) vol1_text (text_or (head1_at bytes) head1_text (text_or (trail1_at bytes) trail1_text (text_or (head2_at bytes) (head2_text bytes) (plain_text bytes))))
+block_text bytes = text_or (label_at bytes) label_text (plain_text bytes)
 
+-- an item
 abbrev pub item_text : TapeItem → List ℕ
 item_text (block bytes) = block_text bytes
 item_text bad = codes "BAD"

@@ -11,6 +11,7 @@ abbrev pub lines_from : ℕ → List TapeItem → List ℕ
 lines_from n [] = []
 lines_from n (item ∷ items) = line_of n item ++ lines_from (n + 1) items
 
+-- the line of each end of medium
 abbrev pub end_line : Ending → List ℕ
 end_line Marked = codes "END MARKED\n"
 end_line Physical = codes "END PHYSICAL\n"
@@ -24,7 +25,8 @@ last_line (faults _) = []
 abbrev pub listing_of : List TapeItem → Stop → List ℕ
 listing_of items stop = lines_from 1 items ++ last_line stop
 
--- The text is the listing of the image with these bytes: it has the lines of the items that they begin with.
+-- The text is the listing of the image with these bytes: it has the lines of the items that they
+-- begin with.
 pub record IsListing (bytes text : List ℕ) : Type 0 where
   pub items : List TapeItem
   pub end : ℕ
@@ -34,4 +36,5 @@ pub record IsListing (bytes text : List ℕ) : Type 0 where
 
 -- each image has one listing
 abbrev pub OneListing : Type 0
-OneListing = (bytes : List ℕ) → (text : List ℕ) × IsListing bytes text × ((other : List ℕ) → IsListing bytes other → other ≡ text)
+OneListing = (bytes : List ℕ) → (text : List ℕ) × IsListing bytes text
+    × ((other : List ℕ) → IsListing bytes other → other ≡ text)

@@ -1,22 +1,23 @@
 -- What a run of `list` leaves, where the writer held `old` before and holds `new` after.
-use Rattle.std.specs.Prelude.{◌≡◌, ◌≢◌, ℕ, List, Option}
+use Rattle.std.specs.Prelude.{◌≡◌, ◌≢◌, ℕ, ◌+◌, List, [], ◌∷◌, ◌++◌, length, Option}
 use Rattle.std.specs.Io.KnownBytes.{Appends, Keeps}
 use Rattle.tape_image.specs.declared.item.Ending.{Ending}
 use Rattle.tape_image.specs.declared.fault.ImageCause.{ImageCause}
 use Rattle.tape_image.specs.declared.fault.ImageCause.TheVariants.{Device, OutOfMemory}
 use Rattle.tape_image.specs.declared.fault.ImageFault.{ImageFault}
 use Rattle.tape_image.specs.Tape.{TapeItem}
-use Rattle.tape_image.specs.Begins.{ends}
+use Rattle.tape_image.specs.Begins.{ends, Walks}
 use Rattle.tape_image.specs.Reader.{IfKnown}
 use Rattle.tape_image.specs.Step.{TakesEnd, TakesFault}
 use Rattle.tape_tool.specs.declared.fault.FileFault.TheVariants.{WriteFailed}
 use Rattle.tape_tool.specs.declared.fault.ToolFault.{ToolFault}
-use Rattle.tape_tool.specs.declared.fault.ToolFault.TheVariants.{Image, File}
-use Rattle.tape_tool.specs.Listing.{lines_from, listing_of, IsListing}
+use Rattle.tape_tool.specs.declared.fault.ToolFault.TheVariants.{Image, File, Run}
+use Rattle.tape_tool.specs.Line.{line_of}
+use Rattle.tape_tool.specs.Listing.{lines_from, end_line, listing_of, IsListing}
 use Rattle.tape_tool.specs.Output.{AppendsFront}
 
--- The items that the bytes begin with, up to the end of medium, were read, and the listing of the image was written. What
--- is left of the bytes begins behind the end word, if there is one.
+-- The items that the bytes begin with, up to the end of medium, were read, and the listing of the
+-- image was written. What is left of the bytes begins behind the end word, if there is one.
 pub record ListsToEnd (old new : Option (List ℕ)) (bytes left : List ℕ) : Type 0 where
   pub items : List TapeItem
   pub ending : Ending
@@ -25,9 +26,10 @@ pub record ListsToEnd (old new : Option (List ℕ)) (bytes left : List ℕ) : Ty
   pub listed : IsListing bytes (listing_of items (ends ending))
   pub wrote : Appends old new (listing_of items (ends ending))
 
--- The items before the fault were read, and their lines were written. The fault has its cause in the bytes, and then these
--- lines are the listing of the image; or the reader failed there.
-pub record ListsToFault (fault : ImageFault) (old new : Option (List ℕ)) (bytes left : List ℕ) : Type 0 where
+-- The items before the fault were read, and their lines were written. The fault has its cause in
+-- the bytes, and then these lines are the listing of the image; or the reader failed there.
+pub record ListsToFault (fault : ImageFault) (old new : Option (List ℕ)) (bytes left : List ℕ) :
+    Type 0 where
   pub items : List TapeItem
   pub takes : TakesFault 0 items fault bytes left
   pub listed : fault.cause ≢ Device → IsListing bytes (lines_from 1 items)
@@ -37,12 +39,42 @@ pub record ListsToFault (fault : ImageFault) (old new : Option (List ℕ)) (byte
 abbrev pub ListsInPart : Option (List ℕ) → Option (List ℕ) → List ℕ → Type 0
 ListsInPart old new bytes = (text : List ℕ) × IsListing bytes text × AppendsFront old new text
 
--- Where memory was refused nothing was written. Otherwise the image was listed up to its fault.
-abbrev pub FitsCause : ImageCause → ImageFault → Option (List ℕ) → Option (List ℕ) → Option (List ℕ) → Option (List ℕ) → Type 0
-FitsCause OutOfMemory fault before after old new = (fault.place ≡ 0) × Keeps old new
+-- All of this was written, and then a front of that.
+abbrev pub AppendsInto : Option (List ℕ) → Option (List ℕ) → List ℕ → List ℕ → Type 0
+AppendsInto old new all part =
+    (front rest : List ℕ) × Appends old new (all ++ front) × (part ≡ front ++ rest)
+
+-- Where a write failed: what was read of the bytes, and which line was not written whole. Nothing
+-- is read behind the item whose line it is.
+pub data StopsWriting (old new : Option (List ℕ)) (bytes left : List ℕ) : Type 0 where
+  -- at the line of an item
+  at_item : (done : List TapeItem) (item : TapeItem) (place : ℕ)
+      → Walks 0 bytes (done ++ item ∷ []) place left
+      → AppendsInto old new (lines_from 1 done) (line_of (length done + 1) item)
+      → StopsWriting old new bytes left
+  -- at the last line, or as it was passed on
+  at_end : (items : List TapeItem) (ending : Ending) (place : ℕ)
+      → TakesEnd 0 items ending place bytes left
+      → AppendsInto old new (lines_from 1 items) (end_line ending)
+      → StopsWriting old new bytes left
+  -- as the lines before a fault of the image were passed on
+  at_fault : (items : List TapeItem) (fault : ImageFault)
+      → TakesFault 0 items fault bytes left
+      → Appends old new (lines_from 1 items)
+      → StopsWriting old new bytes left
+
+-- Where memory was refused nothing was read or written. Otherwise the image was listed up to its
+-- fault.
+abbrev pub FitsCause : ImageCause → ImageFault → Option (List ℕ) → Option (List ℕ)
+    → Option (List ℕ) → Option (List ℕ) → Type 0
+FitsCause OutOfMemory fault before after old new =
+    (fault.place ≡ 0) × (after ≡ before) × Keeps old new
 FitsCause _ fault before after old new = IfKnown before after (ListsToFault fault old new)
 
 -- the fault comes where it should, of a reader with the bytes `before` and then `after`
-abbrev pub FitsFault : Option (List ℕ) → Option (List ℕ) → Option (List ℕ) → Option (List ℕ) → ToolFault → Type 0
+abbrev pub FitsFault : Option (List ℕ) → Option (List ℕ) → Option (List ℕ) → Option (List ℕ)
+    → ToolFault → Type 0
 FitsFault before after old new (Image fault) = FitsCause fault.cause fault before after old new
-FitsFault before after old new (File fault) = fault ≡ WriteFailed
+FitsFault before after old new (File fault) =
+    (fault ≡ WriteFailed) × IfKnown before after (StopsWriting old new)
+FitsFault before after old new _ = ⊥

@@ -1,9 +1,13 @@
 //! What can go wrong, and how it is told.
 ghost use Rattle.std.specs.Prelude.{◌≡◌};
-ghost use Rattle.tape_tool.specs.Fault.{file_number};
-ghost use Rattle.tape_tool.specs.declared.fault.ToolFault.TheVariants.{Image, File};
+ghost use Rattle.tape_tool.specs.Fault.{file_number, write_number};
+ghost use Rattle.tape_tool.specs.declared.fault.ToolFault.TheVariants.{Image, File, Run};
 
 use tape_image::ImageFault;
+use tape_label::LabelFault;
+use tape_run::RunFault;
+use tape_stage::StageFault;
+use tape_writer::WriteFault;
 use thiserror::Error;
 
 /// Why a file or a stream that the program was given is of no use.
@@ -37,15 +41,41 @@ impl FileFault {
     }
 }
 
-/// What ends a command of the program. Its text is the fault line, behind the program's name.
-#[derive(Clone, Copy, Debug, PartialEq, Eq, Error)]
+/// The number of a fault of the writer, as the program prints it.
+pub fn number_of_write(fault: WriteFault) -> u8
+    ensures { result ≡ write_number fault }
+{
+    match fault {
+        WriteFault::BadField => 1,
+        WriteFault::BadShape => 2,
+        WriteFault::CapacityTooSmall => 3,
+        WriteFault::RecordLength => 4,
+        WriteFault::NoFile => 5,
+        WriteFault::FileBegun => 6,
+        WriteFault::OutOfVolumes => 7,
+        WriteFault::TooMany => 8,
+        WriteFault::Device => 9,
+        WriteFault::OutOfMemory => 10,
+        WriteFault::Failed => 11,
+        WriteFault::Finished => 12,
+    }
+}
+
+/// What ends a command of the program.
+#[derive(Clone, Copy, Debug, PartialEq, Eq)]
 pub enum ToolFault {
     /// An image could not be read on.
-    #[error("image fault {} at {}", .0.cause.number(), .0.place)]
     Image(ImageFault),
+    /// A text is no field of a label.
+    Label(LabelFault),
+    /// A set could not be written.
+    Write(WriteFault),
     /// A file or a stream failed.
-    #[error("file fault {}", .0.number())]
     File(FileFault),
+    /// A session or a catalogue could not go on.
+    Run(RunFault),
+    /// A stage could not be opened or made.
+    Stage(StageFault),
 }
 
 impl From<ImageFault> for ToolFault {
@@ -62,4 +92,21 @@ impl From<FileFault> for ToolFault {
     fn from(fault: FileFault) -> ToolFault {
         ToolFault::File(fault)
     }
+}
+
+impl From<RunFault> for ToolFault {
+    ghost from_gives = { λ fault e. e ≡ Run fault };
+
+    fn from(fault: RunFault) -> ToolFault {
+        ToolFault::Run(fault)
+    }
+}
+
+/// What ends the program with status 1, and is told in one line.
+#[derive(Clone, Copy, Debug, PartialEq, Eq)]
+pub enum Fault {
+    /// The fault of a command.
+    Tool(ToolFault),
+    /// No memory for the words of the command line.
+    OutOfMemory,
 }

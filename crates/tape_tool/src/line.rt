@@ -1,5 +1,6 @@
 //! The line of one item, built without taking memory.
-ghost use Rattle.std.specs.Prelude.{◌≡◌, ◌<◌, ◌≤◌, ◌+◌, ◌-◌, ◌^◌, ◌++◌, [], ◌∷◌, length, codes, map};
+ghost use Rattle.std.specs.Prelude.{◌≡◌, ◌<◌, ◌≤◌, ◌+◌, ◌-◌, ◌^◌, ◌++◌, [], ◌∷◌, ℕ, List, length};
+ghost use Rattle.std.specs.Prelude.{codes, map};
 ghost use Rattle.arrayvec.specs.ArrayVec.{array_vec_len};
 ghost use Rattle.tape_image.specs.Reader.{tape_item};
 ghost use Rattle.tape_label.specs.Digits.{digits};
@@ -7,11 +8,15 @@ ghost use Rattle.tape_image.specs.Tape.{IsTapeItem};
 ghost use Rattle.tape_label.specs.Head1.{HeadFits};
 ghost use Rattle.tape_label.specs.Head2.{Head2Fits};
 ghost use Rattle.tape_label.specs.Trail1.{TrailFits};
-ghost use Rattle.tape_tool.specs.Line.{printed, identifier_text, item_number, vol1_text, head_text, head1_text, trail1_text, head2_text, plain_text, block_text, item_text, line_of};
+ghost use Rattle.tape_label.specs.Kinds.{identifier};
+ghost use Rattle.tape_label.specs.Labels.{IsLabel};
+ghost use Rattle.tape_tool.specs.Line.{printed, identifier_text, item_number, vol1_text, head_text};
+ghost use Rattle.tape_tool.specs.Line.{head1_text, trail1_text, head2_text, label_text, plain_text};
+ghost use Rattle.tape_tool.specs.Line.{block_text, item_text, line_of};
 
 use arrayvec::ArrayVec;
 use tape_image::Item;
-use tape_label::{Field, Head1, Head2, Trail1, Vol1, digits_of};
+use tape_label::{Field, Head1, Head2, Kind, Label, Trail1, Vol1, digits_of};
 
 /// Room for the longest line, which is that of a trailer.
 pub type Line = ArrayVec<u8, 64>;
@@ -46,6 +51,7 @@ fn put_item_number(line: &mut Line, number: u64)
     }
 }
 
+/// The text of an item.
 fn put_item(line: &mut Line, item: Item<'_>)
     requires room { array_vec_len line.old ≤ 11 }
     requires fits { IsTapeItem (tape_item item) }
@@ -66,19 +72,25 @@ fn put_block(line: &mut Line, bytes: &[u8])
     ensures items { line.new.items ≡ line.old.items ++ block_text bytes.now }
     ensures len { array_vec_len line.new ≤ 63 }
 {
-    if let Ok(label) = tape_label::read_vol1(bytes) {
-        return put_vol1(line, &label);
+    match tape_label::read_label(bytes) {
+        Ok(label) => put_label(line, &label),
+        Err(_) => put_plain(line, bytes),
     }
-    if let Ok(label) = tape_label::read_head1(bytes) {
-        return put_head1(line, &label);
+}
+
+/// A label that was read from a block.
+fn put_label(line: &mut Line, label: &Label)
+    requires room { array_vec_len line.old ≤ 11 }
+    requires read { (block : List ℕ) × IsLabel block label.now }
+    ensures items { line.new.items ≡ line.old.items ++ label_text label.now }
+    ensures len { array_vec_len line.new ≤ 63 }
+{
+    match label {
+        Label::Vol1(label) => put_vol1(line, label),
+        Label::Head1(label) => put_head1(line, label),
+        Label::Second(kind, label) => put_head2(line, *kind, label),
+        Label::Trail1(label) => put_trail1(line, label),
     }
-    if let Ok(label) = tape_label::read_trail1(bytes) {
-        return put_trail1(line, &label);
-    }
-    if let Ok(label) = tape_label::read_head2(bytes) {
-        return put_head2(line, bytes, &label);
-    }
-    put_plain(line, bytes);
 }
 
 /// A block that reads as no label.
@@ -92,6 +104,7 @@ fn put_plain(line: &mut Line, bytes: &[u8])
     put_number::<5>(line, bytes.len() as u64);
 }
 
+/// The volume's identifier.
 fn put_vol1(line: &mut Line, label: &Vol1)
     requires { array_vec_len line.old ≤ 11 }
     ensures items { line.new.items ≡ line.old.items ++ vol1_text label.now }
@@ -101,6 +114,7 @@ fn put_vol1(line: &mut Line, label: &Vol1)
     put_identifier(line, &label.volume);
 }
 
+/// A first header label.
 fn put_head1(line: &mut Line, label: &Head1)
     requires room { array_vec_len line.old ≤ 11 }
     requires fits { HeadFits label.now }
@@ -111,6 +125,7 @@ fn put_head1(line: &mut Line, label: &Head1)
     put_head(line, label);
 }
 
+/// A first trailer label: as the header, and the number of blocks.
 fn put_trail1(line: &mut Line, label: &Trail1)
     requires room { array_vec_len line.old ≤ 11 }
     requires fits { TrailFits label.now }
@@ -139,14 +154,14 @@ fn put_head(line: &mut Line, head: &Head1)
     put_number::<4>(line, u64::from(head.sequence));
 }
 
-fn put_head2(line: &mut Line, bytes: &[u8], label: &Head2)
+/// A second label: its identifier, format, lengths and buffer offset.
+fn put_head2(line: &mut Line, kind: Kind, label: &Head2)
     requires room { array_vec_len line.old ≤ 11 }
-    requires named { 4 ≤ length bytes.now }
     requires fits { Head2Fits label.now }
-    ensures items { line.new.items ≡ line.old.items ++ head2_text bytes.now label.now }
+    ensures items { line.new.items ≡ line.old.items ++ head2_text kind label.now }
     ensures len { array_vec_len line.new ≤ 63 }
 {
-    put(line, &bytes[..4]);
+    put(line, identifier(kind));
     put(line, b" ");
     line.push(label.format.letter());
     put(line, b" ");
@@ -157,6 +172,22 @@ fn put_head2(line: &mut Line, bytes: &[u8], label: &Head2)
     put_number::<2>(line, u64::from(label.offset));
 }
 
+/// The four characters that name a kind of label.
+fn identifier(kind: Kind) -> &'static [u8; 4]
+    ensures { result.now ≡ identifier kind }
+{
+    match kind {
+        Kind::Vol1 => b"VOL1",
+        Kind::Hdr1 => b"HDR1",
+        Kind::Hdr2 => b"HDR2",
+        Kind::Eof1 => b"EOF1",
+        Kind::Eof2 => b"EOF2",
+        Kind::Eov1 => b"EOV1",
+        Kind::Eov2 => b"EOV2",
+    }
+}
+
+/// An identifier in its full width, with a question mark for each byte that can't be printed.
 fn put_identifier<const N: usize>(line: &mut Line, field: &Field<N>)
     requires { array_vec_len line.old + N ≤ 64 }
     ensures items { line.new.items ≡ line.old.items ++ identifier_text field.now }
@@ -167,7 +198,8 @@ fn put_identifier<const N: usize>(line: &mut Line, field: &Field<N>)
     }
 }
 
-fn printed(byte: u8) -> u8
+/// The byte, or a question mark for one outside the printable range.
+pub fn printed(byte: u8) -> u8
     ensures { result ≡ printed byte }
 {
     if (b' '..=b'~').contains(&byte) {
@@ -177,6 +209,7 @@ fn printed(byte: u8) -> u8
     }
 }
 
+/// A number in exactly W digits.
 fn put_number<const W: usize>(line: &mut Line, number: u64)
     requires room { array_vec_len line.old + W ≤ 64 }
     requires fits { number < 10 ^ W }
@@ -186,7 +219,8 @@ fn put_number<const W: usize>(line: &mut Line, number: u64)
     put(line, &digits_of::<W>(number));
 }
 
-fn put(line: &mut Line, text: &[u8])
+/// Any text that fits.
+pub fn put(line: &mut Line, text: &[u8])
     requires { array_vec_len line.old + length text.now ≤ 64 }
     ensures items { line.new.items ≡ line.old.items ++ text.now }
     ensures len { array_vec_len line.new ≡ array_vec_len line.old + length text.now }

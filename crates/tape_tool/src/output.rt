@@ -10,11 +10,13 @@ use std::io::Write;
 ///
 /// # Errors
 ///
-/// `WriteFailed` where the writer answers an error, an interruption too, or takes nothing of what is left; then it
-/// took a front of the text.
+/// `WriteFailed` where the writer answers an error, an interruption too, or takes nothing of what
+/// is left; then it took a front of the text. A write that failed is not tried again.
 pub fn write_text<W: Write>(writer: &mut W, text: &[u8]) -> Result<(), FileFault>
-    ensures ok { OnOk result (Appends (W.contents writer.old) (W.contents writer.new) text.now) }
-    ensures err { OnErr result (AppendsFront (W.contents writer.old) (W.contents writer.new) text.now) }
+    ensures ok { OnOk result
+        (Appends (W.contents writer.old) (W.contents writer.new) text.now) }
+    ensures err { OnErr result
+        (AppendsFront (W.contents writer.old) (W.contents writer.new) text.now) }
     ensures kind { IsOkUnless result FileFault.WriteFailed }
 {
     let mut rest = text;

@@ -1,86 +1,59 @@
-//! The program around the engines: words, files, buffers and exit statuses.
-use crate::fault::{FileFault, ToolFault};
+//! The program around the engines: words, files, buffers.
+use crate::check_files::check;
+use crate::end::{End, end_of, finish, no_words_end, words_end};
+use crate::extract::extract;
+use crate::fault::{Fault, FileFault, ToolFault};
+use crate::init::init;
 use crate::list::list_to;
 use crate::words::{Order, order_of};
+use crate::write::command::write;
 use clap::error::ErrorKind;
 use std::fs::File;
 use std::io::{BufReader, BufWriter, Read};
 use std::rt::Runtime;
 use std::{env, io};
 use tape_image::{ImageCause, ImageFault};
-use thiserror::Error;
-
-/// What ends the program with status 1. Its text is the one line that tells it.
-#[derive(Clone, Copy, Debug, PartialEq, Eq, Error)]
-pub enum Fault {
-    /// The fault of a command.
-    #[error("tape: {0}")]
-    Tool(ToolFault),
-    /// No memory for the words of the command line.
-    #[error("tape: run fault 4")]
-    OutOfMemory,
-}
-
-/// The exit status of what was done, help that was printed among it.
-const DONE: u8 = 0;
-
-/// The exit status of a fault.
-const FAULT: u8 = 1;
-
-/// The exit status of a wrong command line.
-const WRONG_WORDS: u8 = 2;
 
 /// Runs the program, tells a fault in one line, and gives the exit status.
 pub fn run<R: Runtime + AllocGlobal>(rt: &R) -> u8 {
-    let done = match env::args(rt) {
+    let end = match env::args(rt) {
         Ok(words) => match words.collect::<Vec<String>>(rt.alloc()) {
             Ok(words) => perform(rt, words.as_slice()),
-            Err(_) => Err(Fault::OutOfMemory),
+            Err(_) => End::Faulted(Fault::OutOfMemory),
         },
-        Err(error) if error.kind() == io::ErrorKind::OutOfMemory => Err(Fault::OutOfMemory),
-        Err(_) => {
-            let _ = eprintln!(rt; "error: the command line is not UTF-8 text");
-            Ok(WRONG_WORDS)
-        }
+        Err(error) => without_words(rt, error.kind()),
     };
-    match done {
-        Ok(status) => status,
-        Err(fault) => {
-            // There is no one left to tell that the standard error is closed.
-            let _ = rt.eprintln(format_args!("{fault}"));
-            FAULT
-        }
-    }
+    finish(rt, end)
 }
 
-/// Does what the words ask for, the program's own name first, and gives the exit status.
-///
-/// # Errors
-///
-/// What ends the program with status 1.
-pub fn perform<R: Runtime + AllocGlobal>(rt: &R, words: &[String]) -> Result<u8, Fault> {
+/// Ends a run whose words could not be had.
+pub fn without_words<R: Eprint>(rt: &R, kind: io::ErrorKind) -> End {
+    let end = no_words_end(kind);
+    if end == End::WrongWords {
+        let _ = rt.eprint("error: the command line is not UTF-8 text\n");
+    }
+    end
+}
+
+/// Does what the words ask for, the program's own name first.
+pub fn perform<R: Runtime + AllocGlobal>(rt: &R, words: &[String]) -> End {
     match order_of(rt.alloc(), words) {
-        Ok(Order::List { image }) => match list(rt, image) {
-            Ok(()) => Ok(DONE),
-            Err(fault) => Err(Fault::Tool(fault)),
-        },
+        Ok(Order::List { image }) => end_of(list(rt, image)),
+        Ok(Order::Init(order)) => init(rt, &order),
+        Ok(Order::Check { images }) => check(rt, images.as_slice()),
+        Ok(Order::Write(order)) => end_of(write(rt, &order)),
+        Ok(Order::Extract(order)) => extract(rt, &order),
         Err(error) => refuse(rt, &error),
     }
 }
 
-/// Prints what the parser of words has to say: help to the standard output, and a mistake to the standard error.
-fn refuse<R: Print + Eprint>(rt: &R, error: &clap::Error) -> Result<u8, Fault> {
-    if error.kind() == ErrorKind::OutOfMemory {
-        return Err(Fault::OutOfMemory);
-    }
-    let printed = error.print(rt);
-    if error.use_stderr() {
-        return Ok(WRONG_WORDS);
-    }
-    match printed {
-        Ok(()) => Ok(DONE),
-        Err(_) => Err(Fault::Tool(ToolFault::File(FileFault::WriteFailed))),
-    }
+/// Prints what the parser of words has to say: help to standard output, a mistake to standard
+/// error.
+pub fn refuse<R: Print + Eprint>(rt: &R, error: &clap::Error) -> End {
+    let kind = error.kind();
+    // That memory was refused is a fault, and told by the one line of a fault.
+    let printed = kind != ErrorKind::OutOfMemory && error.print(rt).is_ok();
+    words_end(kind, printed)
 }
 
 /// Lists the image at the path, or that on standard input.

@@ -1,8 +1,20 @@
 //! Listings of images that are written out from their format, and command lines.
+mod check;
+mod check_faults;
 mod devices;
+mod extract;
+mod extract_program;
 mod faults;
 mod image;
+mod init;
 mod labels;
 mod listing;
 mod program;
+mod reels;
+mod staged_program;
+mod staging;
+mod volumes;
 mod words;
+mod write;
+mod write_faults;
+mod write_program;

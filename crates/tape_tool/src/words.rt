@@ -1,71 +1,267 @@
 //! What the words of a command line ask for.
-use clap::{Arg, Command, Error};
+use crate::form::Form;
+use crate::help;
+use crate::volume::Prefix;
+use crate::write::words::{WriteOrder, write_command, write_order};
+use arrayvec::ArrayVec;
+use clap::builder::ValueParser;
+use clap::error::ErrorKind;
+use clap::{Arg, ArgMatches, Command, Error};
 use std::alloc::{AllocError, Global};
+use tape_label::Field;
 
 /// What is to be done.
-#[derive(Clone, Copy, Debug, PartialEq, Eq)]
+#[derive(Drop)]
 pub enum Order<'a> {
     /// List the image at this path, or that on standard input.
     List { image: Option<&'a str> },
+    /// Make images of volumes without files.
+    Init(Init<'a>),
+    /// Tell which sections are on the images at these paths.
+    Check { images: Vec<&'a str> },
+    /// Write files on volumes.
+    Write(WriteOrder<'a>),
+    /// Get a file back from images.
+    Extract(Extract<'a>),
 }
 
-const AFTER: &str = "Exit status: 0 done, 1 a fault, 2 a wrong command line.
-A fault is one line on standard error: 'tape: KIND fault NUMBER', for an image with ' at PLACE', the place of a byte.
+/// What `init` makes: images of the volumes from 1 to the count, in a folder.
+#[derive(Clone, Copy, Debug, PartialEq, Eq)]
+pub struct Init<'a> {
+    pub folder: &'a str,
+    pub prefix: Prefix,
+    pub count: u16,
+}
 
-Faults of an image:
-  1  cut off inside a word, a block, its pad byte or its trailing word
-  2  the words before and behind a block differ
-  3  a word that begins nothing
-  4  longer than 4,294,967,295 bytes
-  5  reading it failed
-  6  no memory
+/// The names of images, of which a run takes at most 256.
+pub type Names<'a> = ArrayVec<&'a str, 256>;
 
-Faults of a file:
-  2  it could not be opened
-  4  writing to it failed
+/// What `extract` gets back, and from what: a file of a set, from images in their order.
+#[derive(Debug, Drop, PartialEq, Eq)]
+pub struct Extract<'a> {
+    pub set_id: Field<6>,
+    pub file: u16,
+    pub out: &'a str,
+    pub images: Names<'a>,
+    pub form: Form,
+    /// Where what was gathered is kept.
+    pub stage: Option<&'a str>,
+}
 
-Fault of the run:
-  4  no memory for the command line";
-
-const ABOUT_LIST: &str =
-    "Lists an image, a line for each item: blocks, tape marks, and the labels of ECMA-13";
-
-const AFTER_LIST: &str =
-    "The last line is 'END MARKED' where an end word stands, or 'END PHYSICAL' where the bytes end between two items.
-At a fault there is none: what was read before is listed, and the fault is told on standard error.
-Labels in other codes than that of ECMA-13, as EBCDIC, are listed as blocks.
-
-Examples:
-  tape list reel.tap
-  zcat reel.tap.gz | tape list
-
-Exit status: 0 listed to the end of medium, 1 a fault, 2 a wrong command line.";
-
+/// The commands and their words.
 fn command<'a>(alloc: Global) -> Result<Command<'a>, AllocError> {
-    let image = Arg::new(alloc, "IMAGE").help(
-        "A SIMH .tap image, or standard input where none is given",
-    );
-    let list = Command::new(alloc, "list")
-        .about(ABOUT_LIST)
-        .after_help(AFTER_LIST)
-        .arg(image)?;
     Command::new(alloc, "tape")
+        // Usage names the program as its user does, whatever the file is called.
+        .bin_name("tape")?
         .version("0.1.0")
-        .about("Reads labelled magnetic tape volumes (ECMA-13) in SIMH .tap images")
-        .after_help(AFTER)
+        .about(help::ABOUT)
+        .after_help(help::AFTER)
         .subcommand_required(true)
-        .subcommand(list)
+        .subcommand(list_command(alloc)?)?
+        .subcommand(check_command(alloc)?)?
+        .subcommand(extract_command(alloc)?)?
+        .subcommand(init_command(alloc)?)?
+        .subcommand(write_command(alloc)?)
+}
+
+/// `init`.
+fn init_command<'a>(alloc: Global) -> Result<Command<'a>, AllocError> {
+    let folder = Arg::new(alloc, "DIR").required(true).help(help::FOLDER);
+    let prefix = Arg::new(alloc, "PRE").required(true).help(help::PREFIX);
+    let count = Arg::new(alloc, "COUNT")
+        .required(true)
+        .value_parser(ValueParser::Unsigned(1, 999))
+        .help(help::COUNT);
+    Command::new(alloc, "init")
+        .bin_name("tape init")?
+        .about(help::ABOUT_INIT)
+        .after_help(help::AFTER_INIT)
+        .arg(folder)?
+        .arg(prefix)?
+        .arg(count)
+}
+
+/// `check`. An image is named at least, and 256 at most.
+fn check_command<'a>(alloc: Global) -> Result<Command<'a>, AllocError> {
+    let images = Arg::new(alloc, "IMAGE")
+        .required(true)
+        .num_args(1..=256)
+        .help(help::IMAGES);
+    Command::new(alloc, "check")
+        .bin_name("tape check")?
+        .about(help::ABOUT_CHECK)
+        .after_help(help::AFTER_CHECK)
+        .arg(images)
+}
+
+/// `extract`.
+fn extract_command<'a>(alloc: Global) -> Result<Command<'a>, AllocError> {
+    let set_id = Arg::new(alloc, "SET").required(true).help(help::SET);
+    let file = Arg::new(alloc, "FILE")
+        .required(true)
+        .value_parser(ValueParser::Unsigned(1, 9999))
+        .help(help::FILE);
+    let out = Arg::new(alloc, "OUT").required(true).help(help::OUT);
+    let images = Arg::new(alloc, "IMAGE")
+        .required(true)
+        .num_args(1..)
+        .help(help::REELS);
+    Command::new(alloc, "extract")
+        .bin_name("tape extract")?
+        .about(help::ABOUT_EXTRACT)
+        .after_help(help::AFTER_EXTRACT)
+        .arg(set_id)?
+        .arg(file)?
+        .arg(out)?
+        .arg(images)?
+        .arg(form_argument(alloc))?
+        .arg(stage_argument(alloc))
+}
+
+/// `--form`.
+fn form_argument<'a>(alloc: Global) -> Arg<'a> {
+    Arg::new(alloc, "form")
+        .long("form")
+        .value_name("FORM")
+        .value_parser(ValueParser::Names(&["lines", "raw"]))
+        .default_value("lines")
+        .help(help::FORM_OF_OUT)
+}
+
+/// `--stage`.
+fn stage_argument<'a>(alloc: Global) -> Arg<'a> {
+    Arg::new(alloc, "stage")
+        .long("stage")
+        .value_name("PATH")
+        .help(help::STAGE)
+}
+
+/// `list`. Its argument takes any number of images, so that a second one is answered with a loop.
+fn list_command<'a>(alloc: Global) -> Result<Command<'a>, AllocError> {
+    let image = Arg::new(alloc, "IMAGE").num_args(..).help(help::IMAGE);
+    Command::new(alloc, "list")
+        .about(help::ABOUT_LIST)
+        .override_usage("tape list [IMAGE]")
+        .after_help(help::AFTER_LIST)
+        .arg(image)
 }
 
 /// What the words ask for, the program's own name first.
 ///
 /// # Errors
 ///
-/// The error of a wrong command line, of a call for help, or of memory refused. It has its text and its exit status.
+/// The error of a wrong command line, of a call for help, or of memory refused. It has its text.
 pub fn order_of<'a>(alloc: Global, words: &'a [String]) -> Result<Order<'a>, Error> {
     let matches = command(alloc)?.try_get_matches_from(words)?;
-    let image = matches
-        .subcommand_matches("list")
-        .and_then(|list| list.get_str("IMAGE"));
-    Ok(Order::List { image })
+    if let Some(init) = matches.subcommand_matches("init") {
+        return init_order(alloc, init);
+    }
+    if let Some(check) = matches.subcommand_matches("check") {
+        return check_order(alloc, check);
+    }
+    if let Some(write) = matches.subcommand_matches("write") {
+        return write_order(alloc, write);
+    }
+    if let Some(extract) = matches.subcommand_matches("extract") {
+        return extract_order(alloc, extract);
+    }
+    match matches.subcommand_matches("list") {
+        Some(list) => list_order(alloc, list),
+        None => Ok(Order::List { image: None }),
+    }
+}
+
+/// What the words behind `init` ask for. The parser has seen to it that all three are there.
+fn init_order<'a>(alloc: Global, matches: &ArgMatches<'a>) -> Result<Order<'a>, Error> {
+    let folder = matches.get_str("DIR").unwrap_or("");
+    let count = matches.get_one::<u16>("COUNT").unwrap_or(0);
+    match Prefix::new(matches.get_str("PRE").unwrap_or("")) {
+        Some(prefix) => Ok(Order::Init(Init {
+            folder,
+            prefix,
+            count,
+        })),
+        None => Err(init_command(alloc)?.error(ErrorKind::ValueValidation, help::WRONG_PREFIX)?),
+    }
+}
+
+/// What the words behind `check` ask for. The parser has seen to it that an image is named.
+fn check_order<'a>(alloc: Global, matches: &ArgMatches<'a>) -> Result<Order<'a>, Error> {
+    let named = matches.get_strs("IMAGE").unwrap_or(&[]);
+    Ok(Order::Check {
+        images: Vec::from_slice(alloc, named)?,
+    })
+}
+
+/// What the words behind `extract` ask for. The parser has seen to it that all of them are there.
+fn extract_order<'a>(alloc: Global, matches: &ArgMatches<'a>) -> Result<Order<'a>, Error> {
+    let Some(set_id) = set_id_of(matches.get_str("SET").unwrap_or("")) else {
+        return Err(extract_mistake(alloc, help::WRONG_SET)?);
+    };
+    let Some(images) = names_of(matches.get_strs("IMAGE").unwrap_or(&[])) else {
+        return Err(extract_mistake(alloc, help::TOO_MANY_IMAGES)?);
+    };
+    Ok(Order::Extract(Extract {
+        set_id,
+        file: matches.get_one::<u16>("FILE").unwrap_or(0),
+        out: matches.get_str("OUT").unwrap_or(""),
+        images,
+        form: form_of(matches),
+        stage: matches.get_str("stage"),
+    }))
+}
+
+/// A mistake in the words of `extract`, with its usage behind the text.
+fn extract_mistake(alloc: Global, text: &str) -> Result<Error, AllocError> {
+    extract_command(alloc)?.error(ErrorKind::ValueValidation, text)
+}
+
+/// A set's identifier: 1 to 6 bytes, with spaces behind them.
+fn set_id_of(text: &str) -> Option<Field<6>> {
+    let bytes = text.as_bytes();
+    if bytes.is_empty() || bytes.len() > 6 {
+        return None;
+    }
+    let mut padded = [b' '; 6];
+    for (slot, byte) in padded.iter_mut().zip(bytes) {
+        *slot = *byte;
+    }
+    Some(Field::of_bytes(padded))
+}
+
+/// The names, if there are not too many.
+fn names_of<'a>(words: &[&'a str]) -> Option<Names<'a>> {
+    let mut names = Names::new();
+    for word in words {
+        names.try_push(*word).ok()?;
+    }
+    Some(names)
+}
+
+/// The form that was asked for.
+fn form_of(matches: &ArgMatches<'_>) -> Form {
+    match matches.get_str("form") {
+        Some("raw") => Form::Raw,
+        _ => Form::Lines,
+    }
+}
+
+/// What the words behind `list` ask for.
+fn list_order<'a>(alloc: Global, matches: &ArgMatches<'a>) -> Result<Order<'a>, Error> {
+    let Some(images) = matches.get_strs("IMAGE") else {
+        return Ok(Order::List { image: None });
+    };
+    match images {
+        [] => Ok(Order::List { image: None }),
+        ["-"] => Err(list_mistake(alloc, help::DASH)?),
+        [image] => Ok(Order::List {
+            image: Some(*image),
+        }),
+        _ => Err(list_mistake(alloc, help::ONE_IMAGE)?),
+    }
+}
+
+/// A mistake in the words of `list`, with its usage behind the text.
+fn list_mistake(alloc: Global, text: &str) -> Result<Error, AllocError> {
+    list_command(alloc)?.error(ErrorKind::TooManyValues, text)
 }

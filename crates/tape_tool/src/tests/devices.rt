@@ -43,7 +43,8 @@ impl Read for Zeros {
     }
 }
 
-/// Takes one byte a call, and after `left` of them takes none, or fails. A flush fails where it is told to.
+/// Takes one byte a call, and after `left` of them takes none, or fails. A flush fails where it is
+/// told to.
 #[derive(Drop)]
 pub struct Narrow {
     pub taken: Vec<u8>,
@@ -75,6 +76,33 @@ impl Write for Narrow {
             return Ok(());
         }
         Err(Error::from(ErrorKind::Other))
+    }
+}
+
+/// Fails once, when it was called so often, and takes everything else. It counts the calls.
+#[derive(Drop)]
+pub struct FailsOnce {
+    pub taken: Vec<u8>,
+    pub good: usize,
+    pub calls: usize,
+    pub kind: Option<ErrorKind>,
+}
+
+impl Write for FailsOnce {
+    fn write(&mut self, buf: &[u8]) -> Result<usize> {
+        self.calls = self.calls.saturating_add(1);
+        if self.calls == self.good.saturating_add(1) {
+            return match self.kind {
+                Some(kind) => Err(Error::from(kind)),
+                None => Ok(0),
+            };
+        }
+        self.taken.extend_from_slice(buf)?;
+        Ok(buf.len())
+    }
+
+    fn flush(&mut self) -> Result<()> {
+        Ok(())
     }
 }
 

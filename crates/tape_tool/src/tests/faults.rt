@@ -1,8 +1,9 @@
 //! Images that can't be read on, devices that fail, and how a fault is told.
-use super::devices::{Dribble, Narrow};
+use super::devices::{Dribble, FailsOnce, Narrow};
 use super::image::{GAP, Image, MARK, WORKED};
-use crate::fault::{FileFault, ToolFault};
+use crate::fault::{Fault, FileFault, ToolFault};
 use crate::list::list_to;
+use crate::telling::fault_line;
 use std::alloc::{AllocError, Global};
 use std::io::ErrorKind;
 use std::process::Abort;
@@ -26,12 +27,12 @@ fn check<A: Abort>(
     assert_eq!(rt;
         list_to(alloc, &mut reader, &mut out),
         Err(fault),
-        "{fault}"
+        "{fault:?}"
     );
     assert_eq!(rt;
         out.as_slice(),
         first_lines(alloc, lines)?.as_slice(),
-        "{fault}"
+        "{fault:?}"
     );
     Ok(())
 }
@@ -89,7 +90,8 @@ fn damaged_words(rt: HostRuntime) -> Result<(), Fail> {
     Ok(())
 }
 
-/// The place of the item under way when so many bytes were given, and the number of items before it.
+/// The place of the item under way when so many bytes were given, and the number of items before
+/// it.
 fn under_way(given: usize) -> (u64, usize) {
     let starts = [
         0usize, 88, 176, 264, 268, 1076, 1884, 2292, 2296, 2384, 2472, 2476, 2480,
@@ -159,7 +161,57 @@ fn a_writer_fails(rt: HostRuntime) -> Result<(), Fail> {
     Ok(())
 }
 
-/// The last flush fails, at the end of medium and at a fault of the image, where it is told in that fault's place.
+/// A write that failed is not tried again, nor is anything written behind it.
+#[test]
+fn a_writer_fails_once(rt: HostRuntime) -> Result<(), Fail> {
+    let worked = Image::worked(rt.alloc(), &[])?;
+    let write_failed = ToolFault::File(FileFault::WriteFailed);
+    for good in 0..13 {
+        for kind in [None, Some(ErrorKind::Interrupted), Some(ErrorKind::Other)] {
+            let mut out = FailsOnce {
+                taken: Vec::new(rt.alloc()),
+                good,
+                calls: 0,
+                kind,
+            };
+            let mut image = worked.bytes.as_slice();
+            assert_eq!(rt;
+                list_to(rt.alloc(), &mut image, &mut out),
+                Err(write_failed)
+            );
+            assert_eq!(rt; out.calls, good + 1);
+            assert_eq!(rt;
+                out.taken.as_slice(),
+                first_lines(rt.alloc(), good)?.as_slice()
+            );
+        }
+    }
+    Ok(())
+}
+
+/// Where a write failed nothing was read behind the item whose line it was.
+#[test]
+fn what_was_read_when_a_write_failed(rt: HostRuntime) -> Result<(), Fail> {
+    let worked = Image::worked(rt.alloc(), &[])?;
+    let ends = [
+        88usize, 176, 264, 268, 1076, 1884, 2292, 2296, 2384, 2472, 2476, 2480, 2484,
+    ];
+    for (good, end) in ends.iter().enumerate() {
+        let mut out = FailsOnce {
+            taken: Vec::new(rt.alloc()),
+            good,
+            calls: 0,
+            kind: None,
+        };
+        let mut image = worked.bytes.as_slice();
+        assert!(rt; list_to(rt.alloc(), &mut image, &mut out).is_err());
+        assert_eq!(rt; image.len(), 2484 - *end, "line {good}");
+    }
+    Ok(())
+}
+
+/// The last flush fails, at the end of medium and at a fault of the image, where it is told in that
+/// fault's place.
 #[test]
 fn the_last_flush(rt: HostRuntime) -> Result<(), Fail> {
     let not_written = Err(ToolFault::File(FileFault::WriteFailed));
@@ -207,7 +259,7 @@ fn a_fault_behind_gaps(rt: HostRuntime) -> Result<(), Fail> {
 }
 
 #[test]
-fn the_fault_line(rt: HostRuntime) -> Result<(), Fail> {
+fn the_fault_line_of_each(rt: HostRuntime) -> Result<(), Fail> {
     let cases = [
         (
             fault_at(1884, ImageCause::Truncated),
@@ -218,8 +270,8 @@ fn the_fault_line(rt: HostRuntime) -> Result<(), Fail> {
             "image fault 2 at 268",
         ),
         (
-            fault_at(268, ImageCause::Reserved(0xFFFE_FFFF)),
-            "image fault 3 at 268",
+            fault_at(0, ImageCause::Reserved(0xFFFE_FFFF)),
+            "image fault 3 at 0",
         ),
         (
             fault_at(4_278_192_120, ImageCause::TooLong),
@@ -233,7 +285,8 @@ fn the_fault_line(rt: HostRuntime) -> Result<(), Fail> {
         (ToolFault::File(FileFault::WriteFailed), "file fault 4"),
     ];
     for (fault, text) in cases {
-        assert_eq!(rt; fault.to_string(rt.alloc())?.as_str(), text);
+        let wanted = format!(in rt.alloc(); "tape: {text}\n")?;
+        assert_eq!(rt; fault_line(Fault::Tool(fault)).as_str(), wanted.as_str());
     }
     Ok(())
 }

@@ -74,7 +74,8 @@ impl Image {
         self.label_of(text.as_bytes(), b' ')
     }
 
-    /// A block of 80 bytes: the front, and copies of another byte behind it, the last of them the version of a volume label.
+    /// A block of 80 bytes: the front, and copies of another byte behind it, the last of them the
+    /// version of a volume label.
     pub fn label_of(&mut self, front: &[u8], filler: u8) -> Result<(), AllocError> {
         let mut label = [filler; 80];
         for (slot, byte) in label.iter_mut().zip(front) {
@@ -83,7 +84,8 @@ impl Image {
         self.block(&label, 0)
     }
 
-    /// The worked volume's labels and mark, up to the first data block: 268 bytes where nothing stands between.
+    /// The worked volume's labels and mark, up to the first data block: 268 bytes where nothing
+    /// stands between.
     pub fn headers(&mut self) -> Result<(), AllocError> {
         self.label(
             "VOL1ABC001                                                                     4",
@@ -93,7 +95,9 @@ impl Image {
         self.word(&MARK)
     }
 
-    /// The 25 records of the worked volume: 800, 800 and 400 bytes. Record i is i in four digits and 76 spaces.
+    /// The 25 records of the worked volume: 800, 800 and 400 bytes. Record i is i in four digits
+    /// and
+    /// 76 spaces.
     pub fn records(&mut self, alloc: Global) -> Result<(), AllocError> {
         let mut block = Vec::new(alloc);
         for number in 1..26u8 {
@@ -117,7 +121,8 @@ impl Image {
         self.word(&END)
     }
 
-    /// The worked volume: 25 records of 80 characters in blocks of 800, 2,484 bytes where nothing stands between.
+    /// The worked volume: 25 records of 80 characters in blocks of 800, 2,484 bytes where nothing
+    /// stands between.
     pub fn worked(alloc: Global, between: &'static [u8]) -> Result<Image, AllocError> {
         let mut image = Image::with(alloc, between);
         image.headers()?;

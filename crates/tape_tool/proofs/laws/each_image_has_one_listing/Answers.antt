@@ -6,8 +6,10 @@ use Rattle.tape_image.proofs.Uniqueness.{Begins-one}
 use Rattle.tape_tool.specs.Listing.{listing_of}
 use Rattle.tape_tool.proofs.laws.each_image_has_one_listing.Goals as goal
 
-same_listing : (items others : List TapeItem) (stop other : Stop) → items ≡ others → stop ≡ other → listing_of items stop ≡ listing_of others other
-same_listing items others stop other a b = ap (λ l. listing_of l stop) a ∙ ap (λ s. listing_of others s) b
+same_listing : (items others : List TapeItem) (stop other : Stop) → items ≡ others → stop ≡ other
+    → listing_of items stop ≡ listing_of others other
+same_listing items others stop other a b =
+    ap (λ l. listing_of l stop) a ∙ ap (λ s. listing_of others s) b
 
 pub returns : goal.returns
 returns c = λ bytes.

@@ -10,7 +10,8 @@ invariant-items g l = record {
   limit : l.image.place ≤ image_limit;
   few : l.number * 4 ≤ l.image.place;
   same_device : l.image.device ≡ l.fn.image.device;
-  so_far : SoFar l.fn.image.left l.image.left l.image.place l.number (g.W.Write.contents l.fn.writer) (g.W.Write.contents l.writer);
+  so_far : SoFar l.fn.image.left l.image.left l.image.place l.number
+      (g.W.Write.contents l.fn.writer) (g.W.Write.contents l.writer);
 }
 
 abbrev pub decreases-items : goal.decreases-items

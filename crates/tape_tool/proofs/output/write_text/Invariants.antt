@@ -3,7 +3,8 @@ use Rattle.std.specs.Io.KnownBytes.{Appends}
 use Rattle.tape_tool.proofs.output.write_text.Given as goal
 
 abbrev pub invariant-writes : goal.invariant-writes
-invariant-writes g l = (front : List ℕ) × Appends (g.W.Write.contents l.fn.writer) (g.W.Write.contents l.writer) front × (l.text ≡ front ++ l.rest)
+invariant-writes g l = (front : List ℕ) × Appends (g.W.Write.contents l.fn.writer)
+    (g.W.Write.contents l.writer) front × (l.text ≡ front ++ l.rest)
 
 abbrev pub decreases-writes : goal.decreases-writes
 decreases-writes g l = length l.rest

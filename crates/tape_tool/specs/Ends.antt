@@ -1,0 +1,54 @@
+-- How a run of the program ends.
+use Rattle.std.specs.Prelude.{ℕ, Bool, true, false, Option, Some, None, Result, Ok, Err}
+use Rattle.clap.specs.declared.error.kind.ErrorKind.{ErrorKind}
+use Rattle.clap.specs.declared.error.kind.ErrorKind.TheVariants as kinds
+use Rattle.std.specs.declared.io.ErrorKind as io_error
+use Rattle.std.specs.declared.io.ErrorKind.TheVariants as io_kinds
+use Rattle.tape_set.specs.declared.position.Want.{Want}
+use Rattle.tape_tool.specs.declared.end.End.{End}
+use Rattle.tape_tool.specs.declared.end.End.TheVariants.{Done, Faulted, WrongWords, Incomplete}
+use Rattle.tape_tool.specs.declared.fault.FileFault.TheVariants.{WriteFailed}
+use Rattle.tape_tool.specs.declared.fault.ToolFault.{ToolFault}
+use Rattle.tape_tool.specs.declared.fault.ToolFault.TheVariants.{File}
+use Rattle.tape_tool.specs.declared.fault.Fault.TheVariants.{Tool, OutOfMemory}
+
+-- the exit status of each end
+abbrev pub exit_status : End → ℕ
+exit_status Done = 0
+exit_status (Faulted _) = 1
+exit_status WrongWords = 2
+exit_status Incomplete = 3
+
+-- how a command ends that answered this
+abbrev pub end_of : Result (Unit {0}) ToolFault → End
+end_of (Ok _) = Done
+end_of (Err fault) = Faulted (Tool fault)
+
+-- how a check ends, which found all or did not
+abbrev pub check_end : Result Bool ToolFault → End
+check_end (Ok true) = Done
+check_end (Ok false) = Incomplete
+check_end (Err fault) = Faulted (Tool fault)
+
+-- how `extract` ends: what is still wanted of the file is no success
+abbrev pub extract_end : Result (Option Want) ToolFault → End
+extract_end (Ok None) = Done
+extract_end (Ok (Some want)) = Incomplete
+extract_end (Err fault) = Faulted (Tool fault)
+
+-- help is a success where it was printed
+abbrev pub help_end : Bool → End
+help_end true = Done
+help_end false = Faulted (Tool (File WriteFailed))
+
+-- how a run ends for which the parser of words has only a text, which was printed or was not
+abbrev pub words_end : ErrorKind → Bool → End
+words_end kinds.OutOfMemory printed = Faulted OutOfMemory
+words_end kinds.DisplayHelp printed = help_end printed
+words_end kinds.DisplayVersion printed = help_end printed
+words_end _ printed = WrongWords
+
+-- how a run ends that was given no words, for this reason
+abbrev pub no_words_end : io_error.ErrorKind → End
+no_words_end io_kinds.OutOfMemory = Faulted OutOfMemory
+no_words_end _ = WrongWords

@@ -1,0 +1,22 @@
+-- What `write` prints.
+use Rattle.std.specs.Prelude.{ℕ, List, [], ◌∷◌, ◌++◌, length, codes, decimal}
+use Rattle.tape_tool.specs.declared.write.report.Ended.{Ended}
+
+-- a volume: its identifier, and how many bytes its image has
+abbrev pub volume_line : Ended → List ℕ
+volume_line ended =
+    codes "VOLUME " ++ ended.volume ++ codes " " ++ decimal ended.size ++ codes "\n"
+
+-- how many files, and on how many volumes
+abbrev pub files_line : ℕ → ℕ → List ℕ
+files_line files volumes =
+    codes "FILES " ++ decimal files ++ codes " VOLUMES " ++ decimal volumes ++ codes "\n"
+
+-- the lines of volumes
+abbrev pub volume_lines : List Ended → List ℕ
+volume_lines [] = []
+volume_lines (ended ∷ more) = volume_line ended ++ volume_lines more
+
+-- a line for each volume, and one for all
+abbrev pub report : ℕ → List Ended → List ℕ
+report files ended = volume_lines ended ++ files_line files (length ended)

@@ -1,0 +1,54 @@
+-- What a session over a stage is.
+use Rattle.std.specs.Prelude.{◌≡◌, ℕ, List}
+use Rattle.tape_blocks.specs.Block.{Portion}
+use Rattle.tape_core.specs.Crash.{OnlyThis}
+use Rattle.tape_core.specs.Point.{Point}
+use Rattle.tape_core.specs.Table.{saved, reader_of}
+use Rattle.tape_run.specs.Lives.{IsResumed}
+use Rattle.tape_run.specs.Seen.{seen}
+use Rattle.tape_run.specs.Story.{Story}
+use Rattle.tape_stage.specs.Faults.{SaysNone, IsNotDevice}
+use Rattle.tape_stage.specs.Staged.{Staged, HoldsNone}
+use Rattle.tape_stage.specs.Stages.{Holds, Returns, Survives}
+use Rattle.tape_stage.specs.declared.disk.Disk.{Ghosts}
+use Rattle.tape_stage.specs.declared.stage.Stage.{Stage}
+use Rattle.tape_tool.specs.declared.staging.StagingFault.{StagingFault}
+use Rattle.tape_tool.specs.declared.staging.StagingFault.TheVariants as faults
+
+-- the checkpoint is one of this file, of a set of this identifier
+abbrev pub IsOfFile : List ℕ → ℕ → Point → Type 0
+IsOfFile set_id file point = (point.set_id ≡ set_id) × (point.file ≡ file)
+
+-- the checkpoint at the start of a file
+abbrev pub first_point : List ℕ → ℕ → Point
+first_point set_id file = saved (reader_of set_id file) 0
+
+-- The session stands at the checkpoint. Its stage holds these parts and no others, and whatever a
+-- crash leaves of it now stands for this checkpoint and these parts.
+pub record StandsAt {D : Type 0} {disk : Ghosts D} (point : Point) (parts : List Portion)
+    (session : Story (Stage D disk)) : Type 0 where
+  pub resumed : IsResumed point parts (seen (λ s. s.refused) session parts)
+  pub holds : Holds session.sink parts
+  pub only : OnlyThis point parts (λ back there. Returns session.sink back there)
+  pub survives : Survives session.sink
+
+-- The session stands at the checkpoint that was read, with its parts, and this is one of the file.
+pub record GoesOn {D : Type 0} {disk : Ghosts D} (set_id : List ℕ) (file : ℕ) (read : List ℕ)
+    (session : Story (Stage D disk)) : Type 0 where
+  pub generation : ℕ
+  pub point : Point
+  pub parts : List Portion
+  pub staged : Staged read generation point parts
+  pub of_file : IsOfFile set_id file point
+  pub stands : StandsAt point parts session
+
+-- What the fault says of the bytes that were read.
+abbrev pub Says : List ℕ → ℕ → List ℕ → StagingFault → Type 0
+Says set_id file read (faults.Stage fault) = SaysNone fault → HoldsNone read
+Says set_id file read faults.OtherFile = (generation : ℕ) (point : Point) (parts : List Portion)
+    → Staged read generation point parts → IsOfFile set_id file point → ⊥
+
+-- No stage was opened, and the disk did not fail.
+abbrev pub IsUnopened : StagingFault → Type 0
+IsUnopened (faults.Stage fault) = IsNotDevice fault
+IsUnopened faults.OtherFile = ⊥

@@ -1,0 +1,43 @@
+-- The line that tells a fault.
+use Rattle.std.specs.Prelude.{ℕ, List, ◌++◌, codes, decimal}
+use Rattle.tape_image.specs.declared.fault.ImageFault.{ImageFault}
+use Rattle.tape_image.specs.Fault.{number_of}
+use Rattle.tape_label.specs.Faults.{number}
+use Rattle.tape_run.specs.Fault as run_faults
+use Rattle.tape_stage.specs.Faults as stage_faults
+use Rattle.tape_tool.specs.declared.fault.ToolFault.{ToolFault}
+use Rattle.tape_tool.specs.declared.fault.ToolFault.TheVariants.{Image, Label, Write, File, Run}
+use Rattle.tape_tool.specs.declared.fault.ToolFault.TheVariants.{Stage}
+use Rattle.tape_tool.specs.declared.fault.Fault.{Fault}
+use Rattle.tape_tool.specs.declared.fault.Fault.TheVariants.{Tool, OutOfMemory}
+use Rattle.tape_tool.specs.Fault.{file_number, write_number}
+
+-- a kind of fault, and its number
+abbrev pub numbered : List ℕ → ℕ → List ℕ
+numbered kind n = kind ++ codes " fault " ++ decimal n
+
+-- the place of a byte
+abbrev pub place_text : ℕ → List ℕ
+place_text place = codes " at " ++ decimal place
+
+-- the fault of an image, with its place
+abbrev pub image_text : ImageFault → List ℕ
+image_text fault = numbered (codes "image") (number_of fault.cause) ++ place_text fault.place
+
+-- the fault of a command
+abbrev pub tool_text : ToolFault → List ℕ
+tool_text (Image fault) = image_text fault
+tool_text (Label fault) = numbered (codes "label") (number fault)
+tool_text (Write fault) = numbered (codes "write") (write_number fault)
+tool_text (File fault) = numbered (codes "file") (file_number fault)
+tool_text (Run fault) = numbered (codes "run") (run_faults.number_of fault)
+tool_text (Stage fault) = numbered (codes "stage") (stage_faults.number fault)
+
+-- what ended the program; no memory for the words of the command line is the fourth of a run
+abbrev pub fault_text : Fault → List ℕ
+fault_text (Tool fault) = tool_text fault
+fault_text OutOfMemory = numbered (codes "run") 4
+
+-- the line on standard error
+abbrev pub fault_line : Fault → List ℕ
+fault_line fault = codes "tape: " ++ fault_text fault ++ codes "\n"

@@ -1,0 +1,272 @@
+//! The texts of help, and of mistakes in words that the program finds itself.
+
+/// What the program does.
+pub const ABOUT: &str =
+    "Reads and writes labelled magnetic tape volumes (ECMA-13) as SIMH .tap images";
+
+/// Help behind the list of commands.
+pub const AFTER: &str = "Examples:
+  tape list reel.tap
+  zcat reel.tap.gz | tape list
+  for f in *.tap; do why=$(tape list \"$f\" 2>&1 >\"$f.txt\") || echo \"$f: $why\"; done
+
+Exit status: 0 done, 1 a fault, 2 a wrong command line, 3 something is missing or still wanted.
+A fault is one line on standard error: 'tape: KIND fault NUMBER'; of an image, with the place of
+the byte: 'tape: image fault 1 at 1884'. What it means, and what to do:
+
+Faults of an image:
+  1  cut off: the image ends inside a block                  copy it again from its source
+  2  the lengths before and behind a block differ            damaged there, or no .tap image
+  3  a word that begins nothing                              at 0: no .tap image, or compressed
+                                                             (zcat); else damaged there
+  4  longer than 4,294,967,295 bytes                         no image that can be read here
+  5  reading it failed                                       a folder, or a failing disk
+  6  no memory
+
+Faults of a file:
+  1  it is there already                                     it is left as it is
+  2  it could not be opened                                  is the name right, may you read it?
+  3  reading an input failed                                 a folder, or a failing disk
+  4  writing failed                                          a full disk, or a pipe that was
+                                                             closed, as 'head' does
+
+Faults of a label and of writing are listed by 'tape write --help'.
+
+Faults of a run:
+  1  what was gathered could not be kept                     no memory; with --stage a full or a
+                                                             failing disk: run it again
+  4  no memory                                               also for the command line
+  5  the stage is one of another file or set
+
+Faults of a stage:
+  1  the file is no stage                                    is the name right?
+  2  the file is no stage any more                           something else wrote to it
+  3  reading or writing it failed                            a full or a failing disk
+  4  no memory";
+
+/// What `list` does.
+pub const ABOUT_LIST: &str = "Lists an image, a line for each block, tape mark and ECMA-13 label";
+
+/// What IMAGE is.
+pub const IMAGE: &str = "A SIMH .tap image, or standard input where none is given";
+
+/// Help behind the words of `list`.
+pub const AFTER_LIST: &str = "Examples:
+  tape list reel.tap
+  zcat reel.tap.gz | tape list
+  for f in *.tap; do why=$(tape list \"$f\" 2>&1 >\"$f.txt\") || echo \"$f: $why\"; done
+
+A line: a number, the kind, and what the label says.
+  000001 VOL1 ABC001                                  volume
+  000002 HDR1 PAYROLL           ABC001 0001 0001      file, file set, section, sequence number
+  000003 HDR2 F 00800 00080 00                        format, block length, record length, offset
+  000004 MARK                                         a tape mark
+  000005 BLOCK 00800                                  any other block, and its length
+  000007 BAD                                          a block recorded with an error, or too long
+  000009 EOF1 PAYROLL           ABC001 0001 0001 000003   as HDR1, and the number of blocks
+EOV1 and EOV2 stand at the end of a volume whose file goes on on the next one.
+Identifiers may hold spaces: cut by column, as 'cut -c13-29' for the file of HDR1.
+Labels in other codes than that of ECMA-13, as EBCDIC, are listed as blocks.
+
+The last line is 'END MARKED' where an end word stands, or 'END PHYSICAL' where the bytes end
+between two items. At a fault there is none: what was read before it is listed, and the fault is
+told on standard error ('tape --help' says what each one means).
+
+Exit status: 0 listed to the end of medium, 1 a fault, 2 a wrong command line.";
+
+/// What `check` does.
+pub const ABOUT_CHECK: &str =
+    "Tells which file sections are on images, whole or not, and what lacks";
+
+/// What the IMAGEs of `check` are.
+pub const IMAGES: &str = "SIMH .tap images, up to 256, in any order";
+
+/// Help behind the words of `check`.
+pub const AFTER_CHECK: &str = "Example:
+  tape check *.tap
+
+A line for each image, in the order named: its number, how many items it has, and how it stops.
+  IMAGE 1 12 MARKED                    by an end word; PHYSICAL where its bytes end between items
+  IMAGE 2 6 FAULT 1 1884               at a fault: its number ('tape --help') and place
+  IMAGE 3 0 NOT OPENED                 the name is wrong, or you may not read it: passed over
+A line for each file section that was met, in the order in which they were met first: file set,
+file, section, the volume that it was met on, its data blocks, and how it was met.
+  SECTION ABC001 1 1 ABC001 3 GOOD     whole
+  SECTION ABC001 1 2 ABC002 5 BAD      a data block could not be read
+  SECTION ABC001 1 3 ABC003 5 COUNT    its trailer label counts other blocks
+  SECTION ABC001 1 4 ABC004 3 CUT      its trailer label was not met
+A section that is met again, whole, takes the place of one that was not.
+For each file, from 1 to the greatest number that was met of its set, the first section that is
+not there as GOOD:
+  LACKS ABC001 1 2
+  ALL SECTIONS FOUND                   something was met, and nothing lacks
+
+A file ends where a GOOD section says so. Whether files follow behind the last one that was met,
+no label tells.
+
+Exit status: 0 all sections found, 1 a fault, 2 a wrong command line, 3 something lacks or nothing
+was met.";
+
+/// `list` was given the word '-'.
+pub const DASH: &str = "'-' is no image: leave IMAGE out to list standard input,
+or write './-' for a file of that name";
+
+/// `list` was given several images.
+pub const ONE_IMAGE: &str = "list takes one image; for several of them:
+  for f in *.tap; do echo \"$f\"; tape list \"$f\"; done";
+
+/// What `init` does.
+pub const ABOUT_INIT: &str = "Makes images of blank volumes, for 'tape write' or an old machine";
+
+/// What DIR is.
+pub const FOLDER: &str = "The folder of the images, which is there already";
+
+/// What PRE is.
+pub const PREFIX: &str = "What the volume identifiers begin with: three of A to Z and 0 to 9";
+
+/// What COUNT is.
+pub const COUNT: &str = "How many volumes, 1 to 999: PRE001, PRE002, ..";
+
+/// PRE is none.
+pub const WRONG_PREFIX: &str = "PRE is three characters of A to Z and 0 to 9, as 'ABC'";
+
+/// Help behind the words of `init`.
+pub const AFTER_INIT: &str = "Example:
+  tape init . ABC 2          makes ABC001.tap and ABC002.tap, and prints 'INIT 2'
+
+Each image has 100 bytes: the volume label, two tape marks and the end word. A file that is there
+already is refused ('tape: file fault 1'); images that were made before it stay.
+
+Exit status: 0 all were made, 1 a fault, 2 a wrong command line.";
+
+/// What `write` does.
+pub const ABOUT_WRITE: &str = "Writes files on labelled volumes, as images";
+
+/// What CAPACITY is.
+pub const CAPACITY: &str = "The most bytes of an image, at least 1,024 and the block length";
+
+/// What ID=PATH is.
+pub const FILES: &str = "A file: its identifier, up to the first '=', and where its records are";
+
+/// What FORMAT is.
+pub const FORMAT: &str = "F fixed, D counted, or S spanned records";
+
+/// What the block length is.
+pub const BLOCK: &str = "The greatest length of a block, 18 to 99999; with S at most 9999";
+
+/// What the record length is.
+pub const RECORD: &str = "The length of a record: wanted with F, 18 to 99999; with D the greatest \
+and 4 more, up to 9999, which is the default where blocks have room; none with S";
+
+/// What the offset is.
+pub const OFFSET: &str = "How many characters stand before the records of a block, 0 to 99";
+
+/// What padding is.
+pub const PAD_FULL: &str = "With D: each block is filled to the block length";
+
+/// What FORM is.
+pub const FORM: &str = "lines: each line is a record, without its line feed; raw: with F the input \
+is cut into records, with S it is one";
+
+/// An ID=PATH has no '='.
+pub const NO_PATH: &str = "a file is named as ID=PATH, as 'PAYROLL=payroll.txt'";
+
+/// F without a record length.
+pub const RECORD_WANTED: &str = "--format F wants --record N";
+
+/// S with a record length.
+pub const NO_RECORD: &str = "--format S takes no --record";
+
+/// D with raw inputs.
+pub const RAW_COUNTED: &str = "--form raw goes with --format F or S";
+
+/// Help behind the words of `write`.
+pub const AFTER_WRITE: &str = "Example:
+  printf 'one\\ntwo\\n' > words.txt
+  tape write . ABC 100000 WORDS=words.txt
+makes ABC001.tap and prints 'VOLUME ABC001 486' and 'FILES 1 VOLUMES 1'.
+
+The images are DIR/PRE001.tap, DIR/PRE002.tap and so on, as many as are needed, up to 256. One that
+is there must be blank, as 'tape init' makes it; any other is refused ('tape: file fault 1'). The
+set's identifier is that of its first volume. When a fault ends the command, images that were begun
+or ended stay; they are not blank any more, and have to go before the command is tried again.
+
+Faults of a label:                            Faults of writing:
+  6  a character of ID is none of labels        2  blocks of these lengths are not written
+     (A to Z, 0 to 9, space and                 3  CAPACITY is less than 1,024 and the block length
+     ! \" % & ' ( ) * + , - . / : ; < = > ? _)   4  a record is too long, or with F not as long
+  7  ID is longer than 17                       7  the 257th volume is wanted
+                                                8  more than 9,999 files
+                                               10  no memory
+Faults of a file: 1 an image is there, 2 one could not be opened, 3 reading, 4 writing failed.
+
+Exit status: 0 all was written, 1 a fault, 2 a wrong command line.";
+
+/// What `extract` does.
+pub const ABOUT_EXTRACT: &str = "Gets a file back from the images of its set, in any order";
+
+/// What SET is.
+pub const SET: &str = "The set identifier, up to 6 characters: that of its first volume";
+
+/// What FILE is.
+pub const FILE: &str = "The number of the file in its set, 1 to 9999";
+
+/// What OUT is.
+pub const OUT: &str = "Where its records go, written anew once the file is complete";
+
+/// What IMAGE is, where there are several.
+pub const REELS: &str = "SIMH .tap images, 1 to 256, read in this order";
+
+/// What the form is.
+pub const FORM_OF_OUT: &str = "How records stand in OUT: each with a line feed, or just joined";
+
+/// What the stage is.
+pub const STAGE: &str = "Keeps what was gathered in this file, and goes on there another day";
+
+/// SET is none.
+pub const WRONG_SET: &str = "SET has 1 to 6 bytes, as 'ABC001'";
+
+/// Too many images.
+pub const TOO_MANY_IMAGES: &str = "extract takes up to 256 images";
+
+/// Help behind the words of `extract`.
+pub const AFTER_EXTRACT: &str = "Example:
+  tape extract ABC001 1 payroll.txt *.tap
+
+SET and FILE are the set identifier and the sequence number of HDR1: 'tape list reel.tap' shows
+them. Name all images at hand, in any order, damaged copies and second readings too: reels of other
+sets do no harm. Each is read up to what it has to give, and those behind the one that completes
+the file are not read. A line for each:
+  REEL n COMPLETE                 the file is complete
+  REEL n SECTION DONE             a section is whole, and the file goes on on another reel
+  REEL n NOT OPENED               is the name right, may you read it?
+  REEL n NOT LABELLED             no ECMA-13 labels at the front, or a volume without files
+  REEL n OTHER SET                a reel of another set
+  REEL n NOT ON REEL              nothing of the file is on it
+  REEL n LATER SECTION            a later section of the file: name the reel again behind the others
+  REEL n EARLIER SECTION          a section that is there already
+  REEL n BAD ITEM                 a block that is needed cannot be read: try another copy
+  REEL n REEL ENDED               the reel ends before the section does: try another copy
+  REEL n BAD BLOCK CAUSE PLACE    the block is no block of the file's format
+  REEL n BLOCK COUNT LABEL SEEN   the trailer counts other blocks than were read: one was lost
+  REEL n BROKEN                   nothing is read behind a wrong count
+  REEL n SPAN LEFT                the last section ends inside a record
+  REEL n SECTION DIFFERS          labels that do not fit to those of the file
+  REEL n BAD LABEL CAUSE          a label that cannot be read
+Behind them stands ' IMAGE CAUSE PLACE' where the image itself ended the reading ('tape --help' has
+the causes). The last line is 'COMPLETE n', with the number of records, or what is still wanted:
+'AWAITS FILE SECTION BLOCK', and the part of the block where some of its parts are there.
+
+Damaged copies: each reading goes on at the block that is wanted, so name several copies of a reel
+one behind another, and one of them again behind the others. What is bad in one comes from another:
+  tape extract ABC001 1 payroll.txt copy1.tap copy2.tap copy1.tap
+
+Over several days: --stage keeps what was gathered in a file of its own, after each reel, and
+another day's run goes on there. It is made where there is none. A stop at any moment, in the
+middle of a write too, leaves what was saved last or what was just being saved:
+  tape extract ABC001 1 payroll.txt reel1.tap --stage payroll.stage
+
+OUT is made, or written anew, only when the file is complete. Until then it is left as it is. Where
+a fault is told behind the last REEL line, OUT may have a front of the records.
+
+Exit status: 0 the file is complete, 1 a fault, 2 a wrong command line, 3 something is wanted.";

@@ -1,0 +1,170 @@
+//! Sessions over stages: begun on one day, and gone on with on another.
+ghost use Rattle.std.specs.Prelude.{◌≡◌, ◌↔◌, [], IfOk, IfErr, IsTrue};
+ghost use Rattle.tape_core.specs.Known.{IsFileNumber};
+ghost use Rattle.tape_core.specs.Weight.{Rose};
+ghost use Rattle.tape_run.specs.Headline.{IsStart};
+ghost use Rattle.tape_run.specs.Seen.{seen};
+ghost use Rattle.tape_stage.specs.Moments.{Untouched};
+ghost use Rattle.tape_stage.specs.Staged.{HoldsNone, KeepsStaged};
+ghost use Rattle.tape_tool.specs.Staging.{IsOfFile, StandsAt, GoesOn, Says, IsUnopened};
+ghost use Rattle.tape_tool.specs.Staging.{first_point};
+
+use std::alloc::Global;
+use tape_core::{Checkpoint, ReaderCore};
+use tape_label::Field;
+use tape_label::laws::same_field;
+use tape_run::Session;
+use tape_stage::{Disk, Stage, StageFault};
+
+/// Why there is no session over a stage.
+#[derive(Clone, Copy, Debug, PartialEq, Eq)]
+pub enum StagingFault {
+    /// The stage could not be opened or made.
+    Stage(StageFault),
+    /// What is staged is a file of another number or of another set; or the number is that of no
+    /// file.
+    OtherFile,
+}
+
+/// The disk that was handed in, and why there is no session over it.
+#[derive(Drop)]
+pub struct NoSession<D> {
+    pub disk: D,
+    pub fault: StagingFault,
+}
+
+/// A session for this file over the stage that the disk holds: it goes on where the stage's
+/// checkpoint stands, with the parts before it. On an empty disk a stage is made, and the session
+/// stands at the file's start.
+///
+/// # Errors
+///
+/// `Stage`, with the fault of opening or making it; `OtherFile`, where the checkpoint belongs to
+/// another file or set, and where the number is not 1 to 9,999. Each hands the disk back.
+pub fn open_session<D: Disk + Drop>(
+    alloc: Global,
+    disk: D,
+    set_id: Field<6>,
+    file: u16,
+) -> Result<Session<Stage<D>>, NoSession<D>>
+    // Where something is staged the session stands at the checkpoint that was read, with its parts.
+    ensures goes_on { D.is_honest disk → (D.length_of disk ≡ 0 → ⊥)
+        → IfOk result (GoesOn set_id file (D.seen disk)) }
+    // Where the disk is empty it stands at the file's start, with none.
+    ensures begins { D.is_honest disk → D.length_of disk ≡ 0
+        → IfOk result (StandsAt (first_point set_id file) []) }
+    ensures start { D.length_of disk ≡ 0
+        → IfOk result (λ session. IsStart set_id file (seen (λ s. s.refused) session [])) }
+    // On any disk it is a session of this file.
+    ensures file { IfOk result (λ session.
+        (session.core.set_id ≡ set_id) × (session.core.file ≡ file)) }
+    // What is said of the bytes by a fault holds of them.
+    ensures says { D.is_honest disk → (D.length_of disk ≡ 0 → ⊥)
+        → IfErr result (λ refused. Says set_id file (D.seen disk) refused.fault) }
+    ensures number { D.length_of disk ≡ 0 → IfErr result
+        (λ refused. refused.fault ≡ StagingFault.OtherFile → IsFileNumber file → ⊥) }
+    // A disk that has bytes and holds no stage is left as it was, even where it failed.
+    ensures foreign { D.is_honest disk → (D.length_of disk ≡ 0 → ⊥) → HoldsNone (D.seen disk)
+        → IfErr result (λ refused.
+        Untouched D.seen D.may_leave D.moment D.left_since disk refused.disk) }
+    // What is staged stands where it stood, and at most what follows it was cut.
+    ensures kept { D.is_honest disk → (D.length_of disk ≡ 0 → ⊥)
+        → IfErr result (λ refused. KeepsStaged (D.seen disk) (D.seen refused.disk)) }
+    // On any disk, one that can't be believed too.
+    ensures same_length { (D.length_of disk ≡ 0 → ⊥) → IfErr result (λ refused.
+        IsUnopened refused.fault → D.length_of refused.disk ≡ D.length_of disk) }
+    ensures cause { IfErr result (λ refused. refused.fault ≡ StagingFault.Stage StageFault.Device
+        → Rose (D.faults disk) (D.faults refused.disk)) }
+{
+    let mut disk = disk;
+    match disk.len() {
+        Ok(0) => begin(alloc, disk, set_id, file),
+        Ok(_) => resume(alloc, disk, set_id, file),
+        Err(_) => Err(NoSession {
+            disk,
+            fault: StagingFault::Stage(StageFault::Device),
+        }),
+    }
+}
+
+/// A session at the start of the file, over a new stage.
+fn begin<D: Disk + Drop>(
+    alloc: Global,
+    disk: D,
+    set_id: Field<6>,
+    file: u16,
+) -> Result<Session<Stage<D>>, NoSession<D>>
+    requires empty { D.length_of disk ≡ 0 }
+    ensures begins { D.is_honest disk → IfOk result (StandsAt (first_point set_id file) []) }
+    ensures start { IfOk result
+        (λ session. IsStart set_id file (seen (λ s. s.refused) session [])) }
+    ensures file { IfOk result (λ session.
+        (session.core.set_id ≡ set_id) × (session.core.file ≡ file)) }
+    ensures number { IfErr result
+        (λ refused. refused.fault ≡ StagingFault.OtherFile → IsFileNumber file → ⊥) }
+    ensures cause { IfErr result (λ refused. refused.fault ≡ StagingFault.Stage StageFault.Device
+        → Rose (D.faults disk) (D.faults refused.disk)) }
+{
+    let Ok(core) = ReaderCore::new(set_id, file) else {
+        let fault = StagingFault::OtherFile;
+        return Err(NoSession { disk, fault });
+    };
+    match Stage::create(alloc, disk, &core.save(0)) {
+        Ok(stage) => {
+            // The number is that of a file, since the reader could be made.
+            let Ok(session) = Session::new(alloc, set_id, file, stage) else {
+                unreachable!()
+            };
+            Ok(session)
+        }
+        Err(refused) => Err(NoSession {
+            disk: refused.disk,
+            fault: StagingFault::Stage(refused.fault),
+        }),
+    }
+}
+
+/// A session at the checkpoint of the stage that the disk holds.
+fn resume<D: Disk>(
+    alloc: Global,
+    disk: D,
+    set_id: Field<6>,
+    file: u16,
+) -> Result<Session<Stage<D>>, NoSession<D>>
+    ensures goes_on { D.is_honest disk → IfOk result (GoesOn set_id file (D.seen disk)) }
+    ensures file { IfOk result (λ session.
+        (session.core.set_id ≡ set_id) × (session.core.file ≡ file)) }
+    ensures says { D.is_honest disk
+        → IfErr result (λ refused. Says set_id file (D.seen disk) refused.fault) }
+    ensures foreign { D.is_honest disk → HoldsNone (D.seen disk) → IfErr result (λ refused.
+        Untouched D.seen D.may_leave D.moment D.left_since disk refused.disk) }
+    ensures kept { D.is_honest disk
+        → IfErr result (λ refused. KeepsStaged (D.seen disk) (D.seen refused.disk)) }
+    ensures same_length { IfErr result (λ refused.
+        IsUnopened refused.fault → D.length_of refused.disk ≡ D.length_of disk) }
+    ensures cause { IfErr result (λ refused. refused.fault ≡ StagingFault.Stage StageFault.Device
+        → Rose (D.faults disk) (D.faults refused.disk)) }
+{
+    match Stage::open_disk(alloc, disk) {
+        Ok((stage, point)) => {
+            if same_file(&point, set_id, file) {
+                return Ok(Session::resume(alloc, &point, stage));
+            }
+            Err(NoSession {
+                disk: stage.into_disk(),
+                fault: StagingFault::OtherFile,
+            })
+        }
+        Err(refused) => Err(NoSession {
+            disk: refused.disk,
+            fault: StagingFault::Stage(refused.fault),
+        }),
+    }
+}
+
+/// Whether the checkpoint is one of this file, of a set of this identifier.
+pub fn same_file(point: &Checkpoint, set_id: Field<6>, file: u16) -> bool
+    ensures { IsTrue result ↔ IsOfFile set_id file point.now }
+{
+    same_field(&point.set_id, &set_id) && point.file == file
+}

@@ -1,0 +1,174 @@
+//! Files of images, made when they are first written to.
+use crate::fault::{FileFault, ToolFault};
+use crate::init::image_path;
+use crate::output::write_text;
+use crate::volume::{BLANK, Prefix, blank_image, blank_volume};
+use std::fs::{Files, OpenOptions};
+use std::io::{Error, ErrorKind, Read, Result, Write};
+use std::rt::Runtime;
+use tape_writer::WriteFault;
+
+/// How many bytes are held before they are written to the file, at most.
+const ROOM: usize = 8_192;
+
+/// The file of an image. It is made at the first write; one that is there has to be a blank volume.
+///
+/// Bytes are held and written together. A fault is kept: every later call is refused.
+#[derive(Drop)]
+pub struct ImageFile<'a, R: Runtime + AllocGlobal> {
+    rt: &'a R,
+    folder: &'a str,
+    prefix: Prefix,
+    number: u16,
+    file: Option<<R as Files>::File>,
+    held: Vec<u8>,
+    fault: Option<ToolFault>,
+}
+
+impl<'a, R: Runtime + AllocGlobal> ImageFile<'a, R> {
+    /// The file of the volume with this number, from 1 to 999. Nothing is opened yet.
+    pub fn new(rt: &'a R, folder: &'a str, prefix: Prefix, number: u16) -> ImageFile<'a, R> {
+        ImageFile {
+            rt,
+            folder,
+            prefix,
+            number,
+            file: None,
+            held: Vec::new(rt.alloc()),
+            fault: None,
+        }
+    }
+
+    /// Writes what is held, and says what failed, if anything did.
+    pub fn end(&mut self) -> Option<ToolFault> {
+        if self.fault.is_none() {
+            self.pass_on();
+        }
+        self.fault
+    }
+
+    /// Opens the file, once.
+    fn make_ready(&mut self) {
+        if self.file.is_some() || self.fault.is_some() {
+            return;
+        }
+        if self.held.reserve(ROOM).is_err() {
+            self.fault = Some(ToolFault::Write(WriteFault::OutOfMemory));
+            return;
+        }
+        match open(self.rt, self.folder, self.prefix, self.number) {
+            Ok(file) => self.file = Some(file),
+            Err(fault) => self.fault = Some(fault),
+        }
+    }
+
+    /// Writes to the file what is held.
+    fn pass_on(&mut self) {
+        let Some(file) = &mut self.file else {
+            return;
+        };
+        if let Err(fault) = write_text(file, self.held.as_slice()) {
+            self.fault = Some(ToolFault::File(fault));
+        }
+        self.held.clear();
+    }
+
+    /// Holds more bytes, or writes them where there are too many.
+    fn hold(&mut self, bytes: &[u8]) {
+        if bytes.len() > ROOM - self.held.len().min(ROOM) {
+            self.pass_on();
+        }
+        if bytes.len() <= ROOM && self.held.extend_from_slice(bytes).is_ok() {
+            return;
+        }
+        let Some(file) = &mut self.file else {
+            return;
+        };
+        if let Err(fault) = write_text(file, bytes) {
+            self.fault = Some(ToolFault::File(fault));
+        }
+    }
+}
+
+impl<R: Runtime + AllocGlobal> Write for ImageFile<'_, R> {
+    fn write(&mut self, buf: &[u8]) -> Result<usize> {
+        self.make_ready();
+        if self.fault.is_none() {
+            self.hold(buf);
+        }
+        if self.fault.is_none() {
+            return Ok(buf.len());
+        }
+        Err(Error::from(ErrorKind::Other))
+    }
+
+    fn flush(&mut self) -> Result<()> {
+        match self.end() {
+            None => Ok(()),
+            Some(_) => Err(Error::from(ErrorKind::Other)),
+        }
+    }
+}
+
+/// Makes the file, or takes the one that is there, if it is a blank volume.
+fn open<R: Runtime + AllocGlobal>(
+    rt: &R,
+    folder: &str,
+    prefix: Prefix,
+    number: u16,
+) -> std::result::Result<<R as Files>::File, ToolFault> {
+    let Ok(path) = image_path(rt, folder, prefix, number) else {
+        return Err(ToolFault::Write(WriteFault::OutOfMemory));
+    };
+    let mut options = OpenOptions::new();
+    options.write(true).create_new(true);
+    match options.open(rt, path.as_str()) {
+        Ok(file) => Ok(file),
+        Err(error) if error.kind() == ErrorKind::AlreadyExists => {
+            Ok(open_blank(rt, path.as_str(), prefix, number)?)
+        }
+        Err(_) => Err(ToolFault::File(FileFault::NotOpened)),
+    }
+}
+
+/// Opens a file that is there, if it is a blank volume, from its start.
+fn open_blank<R: Runtime>(
+    rt: &R,
+    path: &str,
+    prefix: Prefix,
+    number: u16,
+) -> std::result::Result<<R as Files>::File, FileFault> {
+    let mut options = OpenOptions::new();
+    options.read(true).write(true);
+    let Ok(mut there) = options.open(rt, path) else {
+        return Err(FileFault::NotOpened);
+    };
+    if !is_blank(&mut there, prefix, number)? {
+        return Err(FileFault::Exists);
+    }
+    options.read(false).truncate(true);
+    match options.open(rt, path) {
+        Ok(file) => Ok(file),
+        Err(_) => Err(FileFault::NotOpened),
+    }
+}
+
+/// Whether the reader gives just the image of this blank volume.
+fn is_blank<R: Read>(
+    reader: &mut R,
+    prefix: Prefix,
+    number: u16,
+) -> std::result::Result<bool, FileFault> {
+    // One byte more than a blank volume has.
+    let mut bytes = [0; BLANK + 1];
+    let mut count = 0;
+    'reads: for _ in 0..=BLANK {
+        match reader.read(&mut bytes[count..]) {
+            Ok(0) => break,
+            Ok(more) => count += more,
+            Err(_) => return Err(FileFault::ReadFailed),
+        }
+    }
+    let blank = blank_image(&blank_volume(prefix, number.min(999)));
+    Ok(&bytes[..count] == blank.as_slice())
+}

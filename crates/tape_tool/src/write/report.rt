@@ -1,0 +1,70 @@
+//! What `write` prints.
+ghost use Rattle.std.specs.Prelude.{◌≡◌, ◌≤◌, ◌+◌, ◌++◌, decimal, OnOk};
+ghost use Rattle.std.specs.Io.KnownBytes.{Appends};
+ghost use Rattle.arrayvec.specs.ArrayVec.{array_vec_len};
+ghost use Rattle.tape_tool.specs.Report.{volume_line, files_line, report};
+
+use crate::fault::FileFault;
+use crate::line::{Line, put};
+use crate::output::{flush, write_text};
+use std::io::Write;
+use tape_label::Field;
+
+/// A volume that was written.
+#[derive(Clone, Copy, Debug, PartialEq, Eq)]
+pub struct Ended {
+    pub volume: Field<6>,
+    /// How many bytes its image has, its end word included.
+    pub size: u64,
+}
+
+/// Prints a line for each volume, and one that says how many files and volumes there are.
+///
+/// # Errors
+///
+/// `WriteFailed` where the writer fails, also where its flush does.
+pub fn say<W: Write>(writer: &mut W, files: u64, ended: &[Ended]) -> Result<(), FileFault>
+    ensures ok { OnOk result
+        (Appends (W.contents writer.old) (W.contents writer.new) (report files ended.now)) }
+{
+    for volume in ended {
+        write_text(writer, &volume_line(volume))?;
+    }
+    write_text(writer, &files_line(files, ended.len() as u64))?;
+    flush(writer)
+}
+
+/// The line of a volume.
+fn volume_line(ended: &Ended) -> Line
+    ensures { result.items ≡ volume_line ended.now }
+{
+    let mut line = Line::new();
+    put(&mut line, b"VOLUME ");
+    put(&mut line, ended.volume.bytes());
+    put(&mut line, b" ");
+    put_decimal(&mut line, ended.size);
+    put(&mut line, b"\n");
+    line
+}
+
+/// The line of all.
+fn files_line(files: u64, volumes: u64) -> Line
+    ensures { result.items ≡ files_line files volumes }
+{
+    let mut line = Line::new();
+    put(&mut line, b"FILES ");
+    put_decimal(&mut line, files);
+    put(&mut line, b" VOLUMES ");
+    put_decimal(&mut line, volumes);
+    put(&mut line, b"\n");
+    line
+}
+
+/// A number in decimals, without leading zeros.
+fn put_decimal(line: &mut Line, number: u64)
+    requires room { array_vec_len line.old ≤ 44 }
+    ensures items { line.new.items ≡ line.old.items ++ decimal number }
+    ensures len { array_vec_len line.new ≤ array_vec_len line.old + 20 }
+{
+    put(line, itoa::Buffer::new().format(number).as_bytes());
+}
