@@ -141,7 +141,7 @@ struct packer {
     int begun; /* a record goes on in the next block */
 };
 
-static void begin_packer(struct packer *packer, struct shape shape)
+static inline void begin_packer(struct packer *packer, struct shape shape)
 {
     packer->shape = shape;
     packer->used = shape.offset;

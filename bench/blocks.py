@@ -10,47 +10,17 @@ turn, compares the parts that they met, and prints the times and their ratios as
 """
 
 import argparse
-import shutil
 import statistics
 import subprocess
 import sys
 import tempfile
 from pathlib import Path
 
-HERE = Path(__file__).resolve().parent
-ROOT = HERE.parent
+sys.dont_write_bytecode = True
+from timing import build, build_proved, print_load
+
 LIBRARIES = ("tape_label", "tape_blocks")
 PASSES = 16
-
-
-def build_c(folder):
-    program = folder / "blocks"
-    subprocess.run(["cc", "-O2", "-Wall", "-o", program, HERE / "blocks.c"], check=True)
-    return program
-
-
-def library_lines():
-    lines = (ROOT / "crates.txt").read_text().splitlines()
-    return [line for line in lines if line.split(":")[0].strip() in LIBRARIES]
-
-
-def build_proved(folder):
-    """A repository of the two crates and the program; the program's path."""
-    for name in LIBRARIES:
-        if not (ROOT / "crates" / name).exists():
-            sys.exit(f"crates/{name} is not there; --c-only times the C loops alone")
-        shutil.copytree(ROOT / "crates" / name, folder / "crates" / name)
-    crate = folder / "crates" / "bench_blocks"
-    (crate / "src").mkdir(parents=True)
-    shutil.copy(HERE / "blocks.rt.txt", crate / "src" / "main.rt")
-    shutil.copy(ROOT / "HANDLES", folder / "HANDLES")
-    lines = library_lines() + ["bench_blocks: " + " ".join(LIBRARIES)]
-    (folder / "crates.txt").write_text("\n".join(lines) + "\n")
-    subprocess.run(["git", "init", "-q", "."], cwd=folder, check=True)
-    built = subprocess.run(["rt", "run"], cwd=crate, capture_output=True, text=True, check=False)
-    if built.returncode != 0:
-        sys.exit(f"the program is not built:\n{built.stdout[-2000:]}{built.stderr[-2000:]}")
-    return crate / "out" / "bench_blocks"
 
 
 def run(program):
@@ -91,9 +61,11 @@ def main():
     options = parser.parse_args()
     with tempfile.TemporaryDirectory(prefix="tape-bench-") as temporary:
         folder = Path(temporary)
-        programs = {"C": build_c(folder)}
+        build(folder, ["blocks"])
+        programs = {"C": folder / "blocks"}
         if not options.c_only:
-            programs = {"`tape_blocks`": build_proved(folder)} | programs
+            programs = {"`tape_blocks`": build_proved(folder, "blocks", LIBRARIES)} | programs
+        print_load()
         times, met = in_turn(programs, options.runs)
     print("| Format | Loop | Program | Best, s | Median, s | Best, ns a part | Ratio, best | Ratio, median |")
     print("|---|---|---|---|---|---|---|---|")

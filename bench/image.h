@@ -10,13 +10,13 @@
 #define IMAGE_LIMIT 4294967295ull
 
 enum item { MARK, BLOCK, BAD, END_MARKED, END_PHYSICAL, FAULT };
-enum cause { TRUNCATED = 1, LENGTHS_DIFFER, RESERVED, TOO_LONG, DEVICE };
+enum image_cause { TRUNCATED = 1, LENGTHS_DIFFER, RESERVED, TOO_LONG, DEVICE };
 
 struct image {
     FILE *in;
     uint64_t place; /* where the spelling under way begins */
     uint32_t length; /* of the block given last */
-    enum cause cause; /* of the fault */
+    enum image_cause cause; /* of the fault */
     unsigned char data[LONGEST_BLOCK + 1];
 };
 
@@ -25,7 +25,7 @@ static inline uint32_t word_of(const unsigned char *bytes)
     return bytes[0] | (uint32_t)bytes[1] << 8 | (uint32_t)bytes[2] << 16 | (uint32_t)bytes[3] << 24;
 }
 
-static inline enum item fail(struct image *image, enum cause cause)
+static inline enum item fail(struct image *image, enum image_cause cause)
 {
     image->cause = cause;
     return FAULT;

@@ -2,9 +2,9 @@
 
    Each is one volume of at most BYTES bytes (1,000,000,000 where none are named), as long as its
    blocks allow: VOL1, then files of HDR1, HDR2, a tape mark, data blocks, a tape mark, EOF1, EOF2
-   and a tape mark, then a second tape mark and the end word. A label's count of blocks has six
-   digits, so a file ends at 999,999 blocks and the next one begins: the image in blocks of 8,192
-   has one file, the one in blocks of 80 has twelve. Records are of fixed length (format F) and fill
+   and a tape mark, then a second tape mark and the end word. A file here ends at 999,999
+   blocks and the next one begins, so that the six digits of each label's count tell them all: the
+   image in blocks of 8,192 has one file, the one in blocks of 80 has twelve. Records are of fixed length (format F) and fill
    their blocks; each begins with its number, so that no data block looks like a label. */
 #include <stdint.h>
 #include <stdio.h>

@@ -1,6 +1,7 @@
-/* measure REPORT PROGRAM [WORD]..: runs the program and writes its seconds, its greatest memory in
-   kilobytes and its status into the file REPORT. A small program does this, since the memory that
-   the system counts for a child begins with that of the process that started it. */
+/* measure REPORT PROGRAM [WORD]..: runs the program and writes its seconds, the seconds that processors
+   worked for it, its greatest memory in kilobytes and its status into the file REPORT. A small program
+   does this, since the memory that the system counts for a child begins with that of the process that
+   started it. */
 #include <stdio.h>
 #include <sys/resource.h>
 #include <sys/wait.h>
@@ -12,6 +13,12 @@ static double seconds(void)
     struct timespec now;
     clock_gettime(CLOCK_MONOTONIC, &now);
     return (double)now.tv_sec + (double)now.tv_nsec / 1e9;
+}
+
+static double processor_seconds(const struct rusage *usage)
+{
+    return (double)(usage->ru_utime.tv_sec + usage->ru_stime.tv_sec)
+        + (double)(usage->ru_utime.tv_usec + usage->ru_stime.tv_usec) / 1e6;
 }
 
 int main(int words, char **word)
@@ -33,6 +40,7 @@ int main(int words, char **word)
     FILE *report = fopen(word[1], "w");
     if (!report)
         return perror(word[1]), 1;
-    fprintf(report, "%.6f %ld %d\n", taken, usage.ru_maxrss, WIFEXITED(status) ? WEXITSTATUS(status) : -1);
+    fprintf(report, "%.6f %.6f %ld %d\n", taken, processor_seconds(&usage), usage.ru_maxrss,
+        WIFEXITED(status) ? WEXITSTATUS(status) : -1);
     return fclose(report) != 0;
 }

@@ -14,14 +14,16 @@ import argparse
 import filecmp
 import os
 import shutil
-import statistics
 import subprocess
 import sys
 import tempfile
 from pathlib import Path
 
-HERE = Path(__file__).resolve().parent
+sys.dont_write_bytecode = True
+from timing import HERE, build, in_turn, print_head, print_load, print_rows, read_once
+
 CRATE = HERE.parent / "crates" / "tape_tool"
+PROGRAMS = ("make_images", "lister", "walk", "measure")
 IMAGES = ("blocks_8192.tap", "blocks_80.tap")
 HOW_TO_BUILD = """{program} is not there.
 Build the program first: in crates/tape_tool run `rt run -- --help`, which proves it and leaves it as out/tape_tool.
@@ -38,11 +40,6 @@ def arguments():
     return parser.parse_args()
 
 
-def build(folder):
-    for name in ("make_images", "lister", "walk", "measure"):
-        subprocess.run(["cc", "-O2", "-Wall", "-o", folder / name, HERE / f"{name}.c"], check=True)
-
-
 def make_images(build_folder, folder, size):
     """Writes the images, unless images of this greatest size are there."""
     noted = folder / "bytes"
@@ -50,28 +47,6 @@ def make_images(build_folder, folder, size):
     if not kept:
         subprocess.run([build_folder / "make_images", folder, str(size)], check=True, stdout=subprocess.DEVNULL)
         noted.write_text(str(size))
-
-
-def run(build_folder, command, output):
-    """Seconds, the greatest memory in MB. The program must end with status 0."""
-    report = build_folder / "report"
-    with open(output, "wb") as out:
-        subprocess.run([build_folder / "measure", report, *command], check=True, stdout=out, stdin=subprocess.DEVNULL)
-    seconds, kilobytes, status = report.read_text().split()
-    if status != "0":
-        sys.exit(f"{command}: status {status}")
-    return float(seconds), int(kilobytes) / 1024
-
-
-def in_turn(build_folder, commands, outputs, runs):
-    """Each program once, then each once more, and so on: seconds and memory by name."""
-    times = {name: [] for name in commands}
-    memory = {}
-    for _ in range(runs):
-        for name, command in commands.items():
-            seconds, memory[name] = run(build_folder, command, outputs[name])
-            times[name].append(seconds)
-    return times, memory
 
 
 def programs(options, folder, image):
@@ -87,42 +62,31 @@ def others(folder, image):
     }
 
 
-def print_times(image, where, times, memory):
-    base = times["C lister"]
-    for name, taken in times.items():
-        best, median = min(taken), statistics.median(taken)
-        print(
-            f"| {image} | {where} | {name} | {best:.3f} | {median:.3f} | {best / min(base):.2f} |"
-            f" {median / statistics.median(base):.2f} | {memory[name]:.1f} |",
-            flush=True,
-        )
-
-
 def compare_outputs(options, folder, image):
     """Both listings in files in memory, timed, compared and removed."""
     with tempfile.TemporaryDirectory(dir="/dev/shm") as memory_folder:
         commands = programs(options, folder, image)
         outputs = {name: os.path.join(memory_folder, str(i)) for i, name in enumerate(commands)}
-        times, memory = in_turn(folder, commands, outputs, options.runs)
+        times = in_turn(folder, commands, outputs, options.runs)
         files = list(outputs.values())
         same = all(filecmp.cmp(files[0], other, shallow=False) for other in files[1:])
-        print_times(image.name, "file in memory", times, memory)
+        print_rows([image.name, "file in memory"], "C lister", times)
     if not same:
         sys.exit(f"{image.name}: the outputs differ")
 
 
 def time_image(options, folder, image):
-    run(folder, ["cat", image], os.devnull)  # from here on the image lies in the system's cache
+    read_once(image)
     commands = programs(options, folder, image) | others(folder, image)
-    times, memory = in_turn(folder, commands, dict.fromkeys(commands, os.devnull), options.runs)
-    print_times(image.name, "/dev/null", times, memory)
+    times = in_turn(folder, commands, dict.fromkeys(commands, os.devnull), options.runs)
+    print_rows([image.name, "/dev/null"], "C lister", times)
     compare_outputs(options, folder, image)
 
 
 def time_all(options, build_folder, folder):
     make_images(build_folder, folder, options.bytes)
-    print("| Image | Output to | Program | Best, s | Median, s | Ratio, best | Ratio, median | Memory, MB |")
-    print("|---|---|---|---|---|---|---|---|")
+    print_load()
+    print_head(["Image", "Output to"])
     for name in IMAGES:
         time_image(options, build_folder, folder / name)
     same = "" if options.c_only else " The two listings of each image are the same, byte for byte."
@@ -136,7 +100,7 @@ def main():
     options.program = options.program.resolve()
     with tempfile.TemporaryDirectory(prefix="tape-bench-") as temporary:
         build_folder = Path(temporary)
-        build(build_folder)
+        build(build_folder, PROGRAMS)
         if options.folder:
             options.folder.mkdir(parents=True, exist_ok=True)
             time_all(options, build_folder, options.folder.resolve())

@@ -1,0 +1,218 @@
+#!/usr/bin/env python3
+"""Times `tape write`, `tape extract`, its `--stage` and `tape check` on 1 GB. By hand; the gate does not run it.
+
+    ./commands.py [--program PATH] [--folder FOLDER] [--memory FOLDER] [--count N] [--runs N] [--c-only] [COMMAND]..
+
+COMMAND is write, extract, stage or check; all of them where none is named.
+
+write: lines of 80 characters on images, against write_lines.c; the images are compared byte by byte.
+extract: these lines again out of the images, against extract.c; the lines are compared byte by byte.
+stage: extract with --stage, the file made anew, against extract without; both write in one folder.
+check: the images, against `tape list` of each of them; the output goes to /dev/null.
+
+What is timed is written in a folder of memory (/dev/shm), and removed. The lines and the images that
+extract and check read lie in a temporary folder (under TMPDIR), or in --folder, where they are kept
+and used again; each is read once before, so that it lies in the system's cache.
+"""
+
+import argparse
+import filecmp
+import os
+import shutil
+import subprocess
+import sys
+import tempfile
+from pathlib import Path
+
+sys.dont_write_bytecode = True
+from timing import HERE, build, in_turn, print_head, print_load, print_rows, read_once
+
+CRATE = HERE.parent / "crates" / "tape_tool"
+RECORD = 80
+CAPACITY = "500000000"
+# format, block length, and the record length where it is named
+SHAPES = (("F", "8192", "80"), ("F", "80", "80"), ("D", "8192", "0"), ("D", "84", "0"), ("S", "8192", "0"), ("S", "80", "0"))
+
+
+def arguments():
+    parser = argparse.ArgumentParser(description=__doc__.split("\n\n")[0])
+    parser.add_argument("--program", type=Path, default=CRATE / "out" / "tape_tool", help="the built `tape`")
+    parser.add_argument("--folder", type=Path, help="where the lines and the images are kept")
+    parser.add_argument("--memory", type=Path, default=Path("/dev/shm"), help="where the programs write")
+    parser.add_argument("--count", type=int, default=12_500_000, help="how many lines of 80 characters")
+    parser.add_argument("--runs", type=int, default=5, help="how often each program runs")
+    parser.add_argument("--c-only", action="store_true", help="without `tape`")
+    parser.add_argument("commands", nargs="*", metavar="COMMAND", help="write, extract, stage, check")
+    return parser.parse_args()
+
+
+class Bench:
+    """Where things are, and the programs."""
+
+    def __init__(self, options, build_folder, folder, memory):
+        self.options, self.build, self.folder, self.memory = options, build_folder, folder, memory
+        self.lines = folder / f"lines_{options.count}"
+
+    def has(self, command):
+        """Whether it is asked for."""
+        return not self.options.commands or command in self.options.commands
+
+    def images(self, shape):
+        return sorted((self.folder / f"images_{'_'.join(shape)}_{self.options.count}").glob("*.tap"))
+
+    def time(self, front, base, commands, before=None):
+        outputs = dict.fromkeys(commands, os.devnull)
+        print_rows(front, base, in_turn(self.build, commands, outputs, self.options.runs, before))
+
+    def with_tape(self, words, others):
+        return others if self.options.c_only else {f"`tape {words[0]}`": [self.options.program, *words]} | others
+
+
+def make_lines(path, count):
+    letters = bytes(ord("A") + i % 26 for i in range(26 + RECORD))
+    period = b"".join(letters[i:i + RECORD] + b"\n" for i in range(26))
+    with open(path, "wb") as out:
+        for _ in range(count // 26):
+            out.write(period)
+        out.write(period[: count % 26 * (RECORD + 1)])
+
+
+def make_images(bench, shape):
+    """The images that extract and check read, by the C writer."""
+    if not bench.images(shape):
+        folder = bench.folder / f"images_{'_'.join(shape)}_{bench.options.count}"
+        folder.mkdir(exist_ok=True)
+        words = [bench.build / "write_lines", folder, "ABC", CAPACITY, *shape, f"LINES={bench.lines}"]
+        subprocess.run(words, check=True, stdout=subprocess.DEVNULL)
+    for image in bench.images(shape):
+        read_once(image)
+
+
+def drop_images(bench, shape):
+    if not bench.options.folder:
+        shutil.rmtree(bench.images(shape)[0].parent)
+
+
+def front(command, shape):
+    return [command, shape[0], shape[1]]
+
+
+# ---- write ----
+
+
+def write_words(bench, shape):
+    form, block, record = shape
+    named = [] if record == "0" else ["--record", record]
+    return ["write", bench.memory, "ABC", CAPACITY, f"LINES={bench.lines}", "--format", form, "--block", block, *named]
+
+
+def compare_images(bench, shape):
+    written = sorted(bench.memory.glob("*.tap"))
+    expected = bench.images(shape)
+    if [path.name for path in written] != [path.name for path in expected] or not all(
+        filecmp.cmp(one, other, shallow=False) for one, other in zip(written, expected)
+    ):
+        sys.exit(f"write {shape}: the images differ")
+
+
+def empty(folder):
+    for path in folder.iterdir():
+        path.unlink()
+
+
+def time_write(bench, shape):
+    others = {"C": [bench.build / "write_lines", bench.memory, "ABC", CAPACITY, *shape, f"LINES={bench.lines}"]}
+    commands = bench.with_tape(write_words(bench, shape), others)
+    bench.time(front("write", shape), "C", commands, lambda: empty(bench.memory))
+    for command in commands.values():
+        empty(bench.memory)
+        subprocess.run(command, check=True, stdout=subprocess.DEVNULL)
+        compare_images(bench, shape)
+    empty(bench.memory)
+
+
+# ---- extract ----
+
+
+def time_extract(bench, shape):
+    out = bench.memory / "out"
+    words = ["ABC001", "1", out, *bench.images(shape)]
+    others = {
+        "C, gathering": [bench.build / "extract", *words],
+        "C, streaming": [bench.build / "extract", "--stream", *words],
+    }
+    commands = bench.with_tape(["extract", *words], others)
+    bench.time(front("extract", shape), "C, gathering", commands, lambda: empty(bench.memory))
+    for command in commands.values():
+        empty(bench.memory)
+        subprocess.run(command, check=True, stdout=subprocess.DEVNULL)
+        if not filecmp.cmp(out, bench.lines, shallow=False):
+            sys.exit(f"extract {shape}: the lines differ")
+    empty(bench.memory)
+
+
+# ---- stage ----
+
+
+def time_stage(bench, shape):
+    if bench.options.c_only:
+        return
+    out, stage = bench.memory / "out", bench.memory / "stage"
+    words = [bench.options.program, "extract", "ABC001", "1", out, *bench.images(shape)]
+    commands = {"`tape extract --stage`": [*words, "--stage", stage], "`tape extract`": words}
+    bench.time(front("extract", shape), "`tape extract`", commands, lambda: empty(bench.memory))
+    for command in commands.values():
+        empty(bench.memory)
+        subprocess.run(command, check=True, stdout=subprocess.DEVNULL)
+        if not filecmp.cmp(out, bench.lines, shallow=False):
+            sys.exit(f"stage {shape}: the lines differ")
+    empty(bench.memory)
+
+
+# ---- check ----
+
+
+def time_check(bench, shape):
+    images = bench.images(shape)
+    if bench.options.c_only:
+        return
+    program = bench.options.program
+    commands = {
+        "`tape check`": [program, "check", *images],
+        "`tape list` of each": ["sh", "-c", 'for image; do "$0" list "$image" || exit; done', program, *images],
+    }
+    bench.time(front("check", shape), "`tape list` of each", commands)
+
+
+def time_all(bench):
+    if not bench.lines.exists():
+        make_lines(bench.lines, bench.options.count)
+    read_once(bench.lines)
+    parts = {"write": time_write, "extract": time_extract, "stage": time_stage, "check": time_check}
+    asked = [command for command in parts if bench.has(command)]
+    print_load()
+    print_head(["Command", "Format", "Block"])
+    for shape in SHAPES:
+        make_images(bench, shape)
+        for command in asked:
+            parts[command](bench, shape)
+        drop_images(bench, shape)
+    print("\nThe ratio is the time over that of C, of `tape extract` or of `tape list`. What was written is the same, byte for byte.")
+
+
+def main():
+    options = arguments()
+    if not options.c_only and not options.program.exists():
+        sys.exit(f"{options.program} is not there: in crates/tape_tool run `rt run -- --help`, or name it with --program")
+    options.program = options.program.resolve()
+    with tempfile.TemporaryDirectory(prefix="tape-bench-") as temporary:
+        build_folder = Path(temporary)
+        build(build_folder, ("write_lines", "extract", "measure"))
+        folder = options.folder or build_folder
+        folder.mkdir(parents=True, exist_ok=True)
+        with tempfile.TemporaryDirectory(prefix="tape-bench-", dir=options.memory) as memory:
+            time_all(Bench(options, build_folder, folder.resolve(), Path(memory)))
+
+
+if __name__ == "__main__":
+    main()

@@ -1,0 +1,170 @@
+/* Refuses calls of a built program, to see what it answers. Loaded before the C library:
+
+       cc -O2 -shared -fPIC -o fail.so fail.c
+       FAIL=r3 LD_PRELOAD=./fail.so tape list reel.tap
+
+   FAIL is a letter and a number: a (allocations), o (files opened), r (reads), w (writes), y (syncs). That call of the
+   kind, counted from 1, fails; with a plus behind the number all later ones fail too. FAIL=s fails none, but lets each read and write
+   pass one byte alone. Where FAIL_COUNTS names a file, the numbers of calls are written into it at the end, in the order
+   of the letters, and behind them how many bytes the reads gave.
+
+   The C library's own calls do not come by here: the program is to do its input and output without stdio. */
+#define _GNU_SOURCE
+#include <errno.h>
+#include <fcntl.h>
+#include <stdarg.h>
+#include <stdint.h>
+#include <stdio.h>
+#include <stdlib.h>
+#include <string.h>
+#include <sys/syscall.h>
+#include <sys/types.h>
+#include <sys/uio.h>
+#include <unistd.h>
+
+enum kind { ALLOCATION, OPEN, READ, WRITE, SYNC, KINDS };
+
+static const char letters[KINDS + 1] = "aorwy";
+static long counts[KINDS], given; /* calls of each kind; bytes that reads gave */
+
+void *__libc_malloc(size_t size);
+void *__libc_calloc(size_t count, size_t size);
+void *__libc_realloc(void *old, size_t size);
+void *__libc_memalign(size_t alignment, size_t size);
+
+static int is_refused(enum kind kind)
+{
+    const char *word = getenv("FAIL");
+    char *end;
+    counts[kind]++;
+    if (!word || word[0] != letters[kind])
+        return 0;
+    long number = strtol(word + 1, &end, 10);
+    return counts[kind] == number || (*end == '+' && counts[kind] > number);
+}
+
+static size_t allowed(size_t count)
+{
+    const char *word = getenv("FAIL");
+    return word && word[0] == 's' && count > 1 ? 1 : count;
+}
+
+static void *no_memory(void)
+{
+    errno = ENOMEM;
+    return NULL;
+}
+
+static ssize_t no_device(void)
+{
+    errno = EIO;
+    return -1;
+}
+
+void *malloc(size_t size)
+{
+    return is_refused(ALLOCATION) ? no_memory() : __libc_malloc(size);
+}
+
+void *calloc(size_t count, size_t size)
+{
+    return is_refused(ALLOCATION) ? no_memory() : __libc_calloc(count, size);
+}
+
+void *realloc(void *old, size_t size)
+{
+    return is_refused(ALLOCATION) ? no_memory() : __libc_realloc(old, size);
+}
+
+void *aligned_alloc(size_t alignment, size_t size)
+{
+    return is_refused(ALLOCATION) ? no_memory() : __libc_memalign(alignment, size);
+}
+
+int posix_memalign(void **at, size_t alignment, size_t size)
+{
+    void *got = is_refused(ALLOCATION) ? NULL : __libc_memalign(alignment, size);
+    if (!got)
+        return ENOMEM;
+    *at = got;
+    return 0;
+}
+
+static int open_file(int folder, const char *path, int flags, mode_t mode)
+{
+    if (is_refused(OPEN)) {
+        errno = EACCES;
+        return -1;
+    }
+    return (int)syscall(SYS_openat, folder, path, flags, mode);
+}
+
+static mode_t mode_of(int flags, va_list rest)
+{
+    return flags & (O_CREAT | __O_TMPFILE) ? va_arg(rest, mode_t) : 0;
+}
+
+int open(const char *path, int flags, ...)
+{
+    va_list rest;
+    va_start(rest, flags);
+    mode_t mode = mode_of(flags, rest);
+    va_end(rest);
+    return open_file(AT_FDCWD, path, flags, mode);
+}
+
+int openat(int folder, const char *path, int flags, ...)
+{
+    va_list rest;
+    va_start(rest, flags);
+    mode_t mode = mode_of(flags, rest);
+    va_end(rest);
+    return open_file(folder, path, flags, mode);
+}
+
+int open64(const char *path, int flags, ...) __attribute__((alias("open")));
+int openat64(int folder, const char *path, int flags, ...) __attribute__((alias("openat")));
+
+ssize_t read(int file, void *bytes, size_t count)
+{
+    ssize_t got = is_refused(READ) ? no_device() : syscall(SYS_read, file, bytes, allowed(count));
+    given += got > 0 ? got : 0;
+    return got;
+}
+
+ssize_t write(int file, const void *bytes, size_t count)
+{
+    return is_refused(WRITE) ? no_device() : syscall(SYS_write, file, bytes, allowed(count));
+}
+
+/* a part of what is given may always be taken: here the first piece that is not empty */
+ssize_t writev(int file, const struct iovec *pieces, int count)
+{
+    int at = 0;
+    while (at < count - 1 && pieces[at].iov_len == 0)
+        at++;
+    return count > 0 ? write(file, pieces[at].iov_base, pieces[at].iov_len) : 0;
+}
+
+int fsync(int file)
+{
+    return is_refused(SYNC) ? (int)no_device() : (int)syscall(SYS_fsync, file);
+}
+
+int fdatasync(int file)
+{
+    return is_refused(SYNC) ? (int)no_device() : (int)syscall(SYS_fdatasync, file);
+}
+
+__attribute__((destructor)) static void tell_counts(void)
+{
+    char text[100];
+    const char *path = getenv("FAIL_COUNTS");
+    if (!path)
+        return;
+    int length = snprintf(text, sizeof text, "%ld %ld %ld %ld %ld %ld\n", counts[ALLOCATION], counts[OPEN],
+        counts[READ], counts[WRITE], counts[SYNC], given);
+    long file = syscall(SYS_openat, AT_FDCWD, path, O_WRONLY | O_CREAT | O_TRUNC, 0600);
+    if (file >= 0 && syscall(SYS_write, file, text, (size_t)length) == length)
+        syscall(SYS_close, file);
+}

@@ -1,0 +1,299 @@
+#!/usr/bin/env python3
+"""Refuses every allocation, opening, read and write of the built program in turn, and judges what it answers.
+By hand; the gate does not run it.
+
+    ./fail.py [--program PATH] [COMMAND]..
+
+Each trial is run once as it is, and then once for each call of a kind with that call refused, by
+fail.c: alone, and with all later ones of its kind. Right is:
+
+- status 1 and one line on standard error, which is a fault that this refusal may have (none where
+  writing that line was refused); or what the command says of an image that is not opened or read;
+- on standard output a front of the right lines, of whole ones where no write was refused;
+- of each image a front, and of an output file nothing: a part of it only with the fault of writing.
+
+A refusal that changes nothing is counted by itself. One run more lets reads and writes pass one byte
+alone: nothing may change. Prints a line for wrong answers that are alike, and a table. The status is 1 where an
+answer was wrong. Commands that the program does not have are left out.
+"""
+
+import argparse
+import os
+import re
+import subprocess
+import sys
+import tempfile
+from dataclasses import dataclass, field
+from pathlib import Path
+
+sys.dont_write_bytecode = True
+from make_worked_image import block, first_label, mark, second_label, volume_label, word
+
+HERE = Path(__file__).resolve().parent
+CRATE = HERE.parent / "crates" / "tape_tool"
+# allocations, openings, reads, writes, syncs, as fail.c counts them
+KINDS = "aorwy"
+
+
+@dataclass
+class Trial:
+    """A command line over files, and what it may say where a call is refused."""
+
+    name: str
+    words: list
+    faults: dict
+    files: dict = field(default_factory=dict)
+    stdin: bytes = b""
+    # the file that holds nothing but the whole result, or is as it was
+    result: str = ""
+    # what standard output is where the command reports a refusal by lines: by kind and status
+    reports: dict = field(default_factory=dict)
+    # the image that is listed: its fault tells the place of the item under way
+    image: bytes = b""
+
+
+@dataclass
+class Answer:
+    status: int
+    out: str
+    err: str
+    files: dict
+    counts: list
+
+
+# ---- images ----
+
+
+def places(image):
+    """Where each item of a whole image begins, and the place behind it."""
+    found, at = [], 0
+    while at < len(image):
+        length = int.from_bytes(image[at:at + 4], "little")
+        if length == 0xFFFFFFFF:
+            break
+        size = 4 if length == 0 else 8 + length + length % 2
+        found.append((at, at + size))
+        at += size
+    return found + [(at, at + 4)]
+
+
+def section(number, ends, records):
+    """One section of the worked file: its records in blocks of 800 bytes."""
+    lines = [f"{i:04}".encode("ascii") + b" " * 76 for i in records]
+    blocks = [b"".join(lines[i:i + 10]) for i in range(0, len(lines), 10)]
+    numbered = lambda label: label.replace(b"ABC00100010001", b"ABC001%04d0001" % number)
+    trailer = "EOF" if ends else "EOV"
+    return b"".join(
+        [numbered(first_label("HDR1", 0)), second_label("HDR2"), mark()]
+        + [block(data) for data in blocks]
+        + [mark(), numbered(first_label(trailer + "1", len(blocks))), second_label(trailer + "2"), mark()]
+    )
+
+
+def volume(number, ends, records):
+    return volume_label(f"ABC{number:03}") + section(number, ends, records) + mark() + word(0xFFFFFFFF)
+
+
+ONE, TWO = volume(1, False, range(1, 301)), volume(2, True, range(301, 601))
+LINES = b"".join(b"%04d" % i + b" " * 76 + b"\n" for i in range(1, 601))
+
+# ---- trials ----
+
+NO_MEMORY = {"run fault 4", "image fault 6 at 0"}
+LIST = {"a": NO_MEMORY, "o": {"file fault 2"}, "r": {"image fault 5"}, "w": {"file fault 4"}}
+INIT = {"a": {"run fault 4"}, "o": {"file fault 2"}, "w": {"file fault 4"}}
+WRITE = {
+    "a": {"run fault 4", "write fault 10"},
+    "o": {"file fault 2"},
+    "r": {"file fault 3"},
+    "w": {"write fault 9", "file fault 4"},
+}
+EXTRACT = {"a": NO_MEMORY | {"run fault 1"}, "o": {"file fault 2"}, "w": {"file fault 4"}}
+REELS = r"(REEL \d+ .*\n)*"
+UNREAD = {"o": r"REEL \d+ NOT OPENED\n", "r": r"REEL \d+ (REEL ENDED|NOT LABELLED) IMAGE 5 \d+\n"}
+EXTRACT_REPORTS = {
+    kind: {0: REELS + line + REELS + r"COMPLETE \d+\n", 3: REELS + line + REELS + r"AWAITS .*\n"} for kind, line in UNREAD.items()
+}
+CHECK = {"a": NO_MEMORY, "w": {"file fault 4"}}
+IMAGES = r"(IMAGE .*\n)*"
+SECTIONS = r"(SECTION .*\n)*(LACKS .*\n|ALL SECTIONS FOUND\n)*"
+CHECK_REPORTS = {
+    "o": dict.fromkeys((0, 3), IMAGES + r"IMAGE \d+ 0 NOT OPENED\n" + IMAGES + SECTIONS),
+    "r": dict.fromkeys((0, 3), IMAGES + r"IMAGE \d+ \d+ FAULT 5 \d+\n" + IMAGES + SECTIONS),
+}
+
+
+def trials():
+    reels = {"one.tap": ONE, "two.tap": TWO}
+    lines = {"lines": LINES}
+    blanks = {f"ABC{number:03}.tap": volume_label(f"ABC{number:03}") + mark() + mark() + word(0xFFFFFFFF) for number in (1, 2)}
+    shape = ["--format", "F", "--block", "800", "--record", "80"]
+    return [
+        Trial("list, standard input", ["list"], LIST, stdin=ONE, image=ONE),
+        Trial("list, a file", ["list", "one.tap"], LIST, reels, image=ONE),
+        Trial("list, an image cut off", ["list", "cut.tap"], LIST, {"cut.tap": ONE[:20_000]}, image=ONE),
+        Trial("init, two volumes", ["init", ".", "ABC", "2"], INIT),
+        Trial("write, F", ["write", ".", "ABC", "30000", "PAYROLL=lines", *shape], WRITE, lines),
+        Trial("write, D", ["write", ".", "ABC", "100000", "PAYROLL=lines"], WRITE, lines),
+        Trial("write, S", ["write", ".", "ABC", "30000", "PAYROLL=lines", "--format", "S"], WRITE, lines),
+        Trial("write, over blank volumes", ["write", ".", "ABC", "30000", "A=lines", *shape], WRITE, lines | blanks),
+        Trial("extract, two reels", ["extract", "ABC001", "1", "OUT", "one.tap", "two.tap"], EXTRACT, reels, result="OUT",
+            reports=EXTRACT_REPORTS),
+        Trial("extract, OUT is there", ["extract", "ABC001", "1", "OUT", "two.tap", "one.tap", "two.tap"], EXTRACT,
+            reels | {"OUT": b"older\n"}, result="OUT", reports=EXTRACT_REPORTS),
+        Trial("check, two reels", ["check", "one.tap", "two.tap"], CHECK, reels, reports=CHECK_REPORTS),
+    ]
+
+
+# ---- one run ----
+
+
+def run(options, library, trial, refusal):
+    with tempfile.TemporaryDirectory(prefix="tape-fail-") as folder:
+        work, counts = Path(folder, "work"), Path(folder, "counts")
+        work.mkdir()
+        for name, content in trial.files.items():
+            (work / name).write_bytes(content)
+        told = os.environ | {"LD_PRELOAD": str(library), "FAIL": refusal, "FAIL_COUNTS": str(counts)}
+        # a file, not a pipe: each run then has the same reads
+        Path(folder, "stdin").write_bytes(trial.stdin)
+        with open(Path(folder, "stdin"), "rb") as stdin:
+            done = subprocess.run([options.program, *trial.words], cwd=work, env=told, stdin=stdin, capture_output=True, check=False)
+        files = {path.name: path.read_bytes() for path in work.iterdir()}
+        numbers = [int(count) for count in counts.read_text().split()] if counts.exists() else []
+        return Answer(done.returncode, done.stdout.decode(), done.stderr.decode(), files, numbers)
+
+
+# ---- judging ----
+
+
+def may_be_silent(kind, all_later, right, answer):
+    """Whether the fault line itself was refused."""
+    return kind == "w" and (all_later or (right.err != "" and answer.out == right.out))
+
+
+def wrong_text(trial, kind, all_later, right, answer):
+    """Why status, fault line and lines are wrong; None where they are right."""
+    report = trial.reports.get(kind)
+    if report and (answer.status == 3 or (answer.status == 0 and answer.files == right.files)):
+        told = answer.err == "" and re.fullmatch(report[answer.status], answer.out)
+        return None if told else "a report that does not tell the refusal"
+    if answer.status != 1:
+        return "the status"
+    if answer.err != "" or not may_be_silent(kind, all_later, right, answer):
+        fault = re.fullmatch(r"tape: (.*)\n", answer.err)
+        allowed = trial.faults.get(kind, set())
+        if not fault or not any(fault[1] == text or fault[1].startswith(text + " at ") for text in allowed):
+            return "the fault line"
+    if not right.out.startswith(answer.out):
+        return "the lines"
+    if kind != "w" and answer.out and not answer.out.endswith("\n"):
+        return "half a line"
+    return None
+
+
+def wrong_place(trial, kind, right, answer):
+    """Of a listing whose read was refused: the place is that of the item under way, and all before it is listed."""
+    if kind != "r" or not trial.image:
+        return None
+    given = answer.counts[len(KINDS)]
+    under_way = next(i for i, (_, end) in enumerate(places(trial.image)) if end > given)
+    lines = right.out.splitlines(keepends=True)[:under_way]
+    expected = f"tape: image fault 5 at {places(trial.image)[under_way][0]}\n"
+    return None if answer.err == expected and answer.out == "".join(lines) else "the place, or what is listed before it"
+
+
+def wrong_files(trial, right, answer):
+    for name, content in answer.files.items():
+        before, whole = trial.files.get(name), right.files.get(name)
+        if content in (before, whole):
+            continue
+        if whole is None or not whole.startswith(content):
+            return f"the bytes of {name}"
+        if name == trial.result and answer.err not in ("tape: file fault 4\n", ""):
+            return f"a part of {name} without the fault of writing"
+    gone = trial.files.keys() - answer.files.keys()
+    return f"no {gone.pop()}" if gone else None
+
+
+def judge(trial, kind, all_later, right, answer):
+    return (
+        wrong_text(trial, kind, all_later, right, answer)
+        or wrong_place(trial, kind, right, answer)
+        or wrong_files(trial, right, answer)
+    )
+
+
+def same(one, other):
+    return (one.status, one.out, one.err, one.files) == (other.status, other.out, other.err, other.files)
+
+
+# ---- all runs of a trial ----
+
+
+def print_wrong(trial, wrong):
+    """Wrong answers that are alike are told at once."""
+    alike = {}
+    for refusal, why, answer in wrong:
+        alike.setdefault((why, answer.status, answer.err, answer.out[-200:]), []).append(refusal)
+    for (why, status, err, out), refusals in alike.items():
+        print(f"{trial.name}: {why}: status {status}, {err!r}, {out!r}, at {refusals[0]} and {len(refusals) - 1} more")
+
+
+def refuse_each(options, library, trial, kind, number_of_calls, right):
+    unchanged, wrong = 0, []
+    refusals = [f"{kind}{number}{behind}" for number in range(1, number_of_calls + 1) for behind in ("", "+")]
+    for refusal in refusals:
+        answer = run(options, library, trial, refusal)
+        if same(answer, right):
+            unchanged += 1
+            continue
+        why = judge(trial, kind, refusal.endswith("+"), right, answer)
+        if why:
+            wrong.append((refusal, why, answer))
+    print_wrong(trial, wrong)
+    return len(refusals), unchanged, len(wrong)
+
+
+def try_all(options, library, trial):
+    """A row of the table, and how many answers were wrong."""
+    right = run(options, library, trial, "")
+    each = [refuse_each(options, library, trial, kind, right.counts[place], right) for place, kind in enumerate(KINDS)]
+    runs, unchanged, wrong = (sum(numbers) for numbers in zip(*each))
+    if not same(run(options, library, trial, "s"), right):
+        wrong += 1
+        print(f"{trial.name}: another answer where one byte passes at a time")
+    calls = " | ".join(str(right.counts[place]) for place in range(len(KINDS)))
+    return f"| {trial.name} | {calls} | {runs + 1} | {unchanged} | {wrong} |", wrong
+
+
+def has_command(options, name):
+    return subprocess.run([options.program, name, "--help"], capture_output=True, check=False).returncode == 0
+
+
+def main():
+    parser = argparse.ArgumentParser(description=__doc__.split("\n\n")[0])
+    parser.add_argument("--program", type=Path, default=CRATE / "out" / "tape_tool", help="the built `tape`")
+    parser.add_argument("commands", nargs="*", metavar="COMMAND", help="these commands alone")
+    options = parser.parse_args()
+    if not options.program.exists():
+        sys.exit(f"{options.program} is not there: in crates/tape_tool run `rt run -- --help`, or name it with --program")
+    options.program = options.program.resolve()
+    rows, wrong = [], 0
+    with tempfile.TemporaryDirectory(prefix="tape-fail-") as folder:
+        library = Path(folder) / "fail.so"
+        subprocess.run(["cc", "-O2", "-Wall", "-shared", "-fPIC", "-o", library, HERE / "fail.c"], check=True)
+        for trial in trials():
+            name = trial.words[0]
+            if (options.commands and name not in options.commands) or not has_command(options, name):
+                continue
+            row, count = try_all(options, library, trial)
+            rows, wrong = [*rows, row], wrong + count
+    print("| Trial | Allocations | Openings | Reads | Writes | Syncs | Runs | Nothing changed | Wrong answers |")
+    print("|---|---|---|---|---|---|---|---|---|")
+    print("\n".join(rows))
+    return wrong != 0
+
+
+if __name__ == "__main__":
+    sys.exit(main())

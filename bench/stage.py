@@ -1,0 +1,158 @@
+#!/usr/bin/env python3
+"""Stops `tape extract --stage` at every call of the system and at random instants, and goes on.
+By hand; the gate does not run it.
+
+    ./stage.py [--program PATH] [--kills N] [--seed N]
+
+First each allocation, opening, read, write and sync is refused in turn by fail.c, alone and with all
+later ones of its kind: the answer is status 1 with one fault line, or what the report says of an image
+that is not read; and the same command behind it, in which nothing is refused, completes the file.
+A stage that was not made to its end is no stage: its file has to be removed, and then the command
+completes the file.
+Then the program is killed at random instants, over many reels, until a run completes: what it
+writes is each time the whole file. Prints a line for each wrong answer and a table; the status is 1
+where there was one.
+"""
+
+import argparse
+import os
+import random
+import re
+import subprocess
+import sys
+import tempfile
+import time
+from pathlib import Path
+
+sys.dont_write_bytecode = True
+import fail
+
+WORDS = ["extract", "ABC001", "1", "OUT"]
+KEEP = ["--stage", "kept"]
+FAULTS = r"tape: (run fault [14]|stage fault [34]|file fault [24]|image fault 6 at 0)\n"
+# records on each of the reels on which the program is killed
+RECORDS, REELS = 100_000, 20
+
+
+def run(options, folder, images, preload=None, refusal=""):
+    told = os.environ | ({"LD_PRELOAD": str(preload), "FAIL": refusal, "FAIL_COUNTS": str(folder / "counts")} if preload else {})
+    return subprocess.run([options.program, *WORDS, *images, *KEEP], cwd=folder, env=told, stdin=subprocess.DEVNULL,
+        capture_output=True, text=True, check=False)
+
+
+def is_unmade(folder, done):
+    """Whether the stage was not made to its end; then its file is removed."""
+    kept = folder / "kept"
+    unmade = done.stderr == "tape: stage fault 1\n" and kept.stat().st_size <= 256
+    if unmade:
+        kept.unlink()
+    return unmade
+
+
+def fresh(folder):
+    for name, content in (("one.tap", fail.ONE), ("two.tap", fail.TWO)):
+        (folder / name).write_bytes(content)
+
+
+def wrong_refusal(options, library, refusal):
+    """What was wrong where a call was refused, if anything was, and how many calls of each kind there were."""
+    with tempfile.TemporaryDirectory(prefix="tape-stage-") as place:
+        folder = Path(place)
+        fresh(folder)
+        images = ["one.tap", "two.tap"]
+        done = run(options, folder, images, library, refusal)
+        counts = [int(count) for count in (folder / "counts").read_text().split()]
+        if done.returncode == 1 and done.stderr and not re.fullmatch(FAULTS, done.stderr):
+            return f"the fault line {done.stderr!r}", counts
+        if done.returncode not in (0, 1, 3) or (done.returncode == 0 and (folder / "OUT").read_bytes() != fail.LINES):
+            return f"status {done.returncode}", counts
+        again = run(options, folder, images)
+        if is_unmade(folder, again) and done.stderr in ("", "tape: stage fault 3\n"):
+            again = run(options, folder, images)
+        if again.returncode != 0 or (folder / "OUT").read_bytes() != fail.LINES:
+            return f"the run behind it: status {again.returncode}, {again.stderr!r}, {again.stdout!r}", counts
+        return None, counts
+
+
+def refuse_each(options):
+    """The number of runs, and of wrong answers."""
+    runs, wrong = 0, 0
+    with tempfile.TemporaryDirectory(prefix="tape-stage-") as place:
+        library = Path(place) / "fail.so"
+        subprocess.run(["cc", "-O2", "-Wall", "-shared", "-fPIC", "-o", library, fail.HERE / "fail.c"], check=True)
+        why, counts = wrong_refusal(options, library, "")
+        if why:
+            sys.exit(f"with nothing refused: {why}")
+        for kind, count in zip(fail.KINDS, counts):
+            for refusal in (f"{kind}{n}{behind}" for n in range(1, count + 1) for behind in ("", "+")):
+                why, _ = wrong_refusal(options, library, refusal)
+                runs += 1
+                if why:
+                    wrong += 1
+                    print(f"{refusal}: {why}")
+    return counts, runs, wrong
+
+
+def many_reels(folder):
+    """A file on many reels, each with one section; returns their names and the lines of the file."""
+    lines = []
+    for n in range(REELS):
+        numbers = [i % 10_000 for i in range(n * RECORDS, (n + 1) * RECORDS)]
+        (folder / f"reel{n}.tap").write_bytes(fail.volume(n + 1, n == REELS - 1, numbers))
+        lines.append(b"".join(b"%04d" % i + b" " * 76 + b"\n" for i in numbers))
+    return [f"reel{n}.tap" for n in range(REELS)], b"".join(lines)
+
+
+def kill_at_random(options):
+    """How many runs were killed, how many files were completed, and how many of them were wrong."""
+    killed = completed = wrong = 0
+    with tempfile.TemporaryDirectory(prefix="tape-stage-") as place:
+        folder = Path(place)
+        names, lines = many_reels(folder)
+        began = time.monotonic()
+        run(options, folder, names)
+        longest = time.monotonic() - began
+        while killed < options.kills:
+            for name in ("OUT", "kept"):
+                (folder / name).unlink(missing_ok=True)
+            left = random.randint(1, 12)
+            while True:
+                process = subprocess.Popen([options.program, *WORDS, *names, *KEEP], cwd=folder, stdin=subprocess.DEVNULL,
+                    stdout=subprocess.DEVNULL, stderr=subprocess.PIPE, text=True)
+                try:
+                    _, told = process.communicate(timeout=random.uniform(0, longest) if left else None)
+                    process.stderr = told
+                    if is_unmade(folder, process):
+                        continue
+                    break
+                except subprocess.TimeoutExpired:
+                    process.kill()
+                    process.communicate()
+                    killed, left = killed + 1, left - 1
+            completed += 1
+            if process.returncode != 0 or (folder / "OUT").read_bytes() != lines:
+                wrong += 1
+                print(f"behind kills: status {process.returncode}, {told!r}")
+    return killed, completed, wrong
+
+
+def main():
+    parser = argparse.ArgumentParser(description=__doc__.split("\n\n")[0])
+    parser.add_argument("--program", type=Path, default=fail.CRATE / "out" / "tape_tool", help="the built `tape`")
+    parser.add_argument("--kills", type=int, default=300, help="how often the program is killed")
+    parser.add_argument("--seed", type=int, default=1, help="of the random instants")
+    options = parser.parse_args()
+    if not options.program.exists():
+        sys.exit(f"{options.program} is not there: in crates/tape_tool run `rt run -- --help`, or name it with --program")
+    options.program = options.program.resolve()
+    random.seed(options.seed)
+    counts, runs, wrong = refuse_each(options)
+    killed, completed, torn = kill_at_random(options)
+    print("| Allocations | Openings | Reads | Writes | Syncs | Refused runs | Wrong | Kills | Files completed | Wrong |")
+    print("|---|---|---|---|---|---|---|---|---|---|")
+    print("| " + " | ".join(str(n) for n in [*counts[:5], runs, wrong, killed, completed, torn]) + " |")
+    return wrong + torn != 0
+
+
+if __name__ == "__main__":
+    sys.exit(main())

@@ -1,0 +1,68 @@
+#!/bin/bash
+# Runs every example of README.md and docs/RECIPES.md with the built program, in a fresh folder, and
+# compares what it prints with what the page shows. An example is an indented line that begins with
+# '$ '; what stands below it in the same block is what it prints, standard output and standard error
+# together. A line of the form '    [status N]' says an exit status other than 0.
+# The last line printed is the number of examples that differ. By hand, not part of the gate.
+here=$(dirname "$(readlink -f "$0")")
+top=$(dirname "$here")
+program=${TAPE:-$top/crates/tape_tool/out/tape_tool}
+if [ ! -x "$program" ]; then
+    echo "no program at $program: run ./tape --help first" >&2
+    exit 2
+fi
+folder=$(mktemp -d) || exit 2
+trap 'rm -rf "$folder"' EXIT
+mkdir "$folder/bin"
+ln -s "$program" "$folder/bin/tape"
+export PATH="$folder/bin:$PATH" LC_ALL=C
+examples=0
+differ=0
+
+# A fresh folder with the two images that the pages name.
+fresh() {
+    rm -rf "$folder/run"
+    mkdir "$folder/run"
+    ln -s "$program" "$folder/run/tape"
+    cp "$top/crates/tape_tool/stdin" "$folder/run/reel.tap"
+    head -c 2288 "$folder/run/reel.tap" >"$folder/run/cut.tap"
+}
+
+# Runs one example and compares.
+try() {
+    command=$1 wanted=$2
+    examples=$((examples + 1))
+    got=$(cd "$folder/run" && eval "$command" 2>&1; status=$?
+        [ $status -eq 0 ] || echo "[status $status]")
+    if [ "$got" != "$wanted" ]; then
+        differ=$((differ + 1))
+        printf '%s\n' "differs: $command" "$(diff <(echo "$wanted") <(echo "$got"))" ''
+    fi
+}
+
+# The examples of a page, in order, in one folder.
+page() {
+    fresh
+    command='' wanted=''
+    while IFS= read -r line; do
+        case $line in
+        '    $ '*)
+            [ -n "$command" ] && try "$command" "$wanted"
+            command=${line#'    $ '} wanted='' ;;
+        '    '*)
+            if [ -n "$command" ]; then
+                [ -n "$wanted" ] && wanted="$wanted"$'\n'
+                wanted="$wanted${line#'    '}"
+            fi ;;
+        *)
+            [ -n "$command" ] && try "$command" "$wanted"
+            command='' wanted='' ;;
+        esac
+    done <"$1"
+    [ -n "$command" ] && try "$command" "$wanted"
+}
+
+page "$top/README.md"
+page "$top/docs/RECIPES.md"
+echo "$differ of $examples examples differ"
+[ "$differ" -eq 0 ]
