@@ -1,9 +1,11 @@
 //! A disk over a file.
-ghost use Rattle.std.specs.Prelude.{◌≡◌, [], length, IfOk, IfSome};
+ghost use Rattle.std.specs.Prelude.{◌≡◌, ◌+◌, ◌≤◌, [], false, length, true, IfOk, IfSome, OnErr};
+ghost use Rattle.std.specs.Prelude.{OnOk};
 ghost use Rattle.tape_core.specs.Weight.{Rose};
 
 use crate::disk::{Disk, DiskFault};
-use crate::whole::{read_whole, write_whole};
+use crate::whole::{read_from, write_from};
+use crate::window::{ROOM, Window};
 use std::fs::OpenFile;
 use std::io::{Read, Seek, SeekFrom, Write};
 
@@ -14,11 +16,19 @@ use std::io::{Read, Seek, SeekFrom, Write};
 /// nothing where bytes are due. What becomes of the bytes of a file nothing here can say: it claims
 /// no honesty, and what is proved of stages on honest disks is a promise for a file whose system
 /// keeps what it synced.
+///
+/// Up to 8,192 bytes are held before they are written, and as many are read ahead. What is held is
+/// written when a write goes on elsewhere or does not fit, and before each read, cut and sync, so
+/// reads see it and a sync keeps it. Where that fails, these bytes are lost and not tried again:
+/// this call and every later one but `len` is `Device`, so that no sync passes over them. A disk
+/// that is let go does not write what it holds.
 #[derive(Drop)]
 pub struct FileDisk<F> {
     file: F,
     len: u64,
     failed: u64,
+    held: Window,
+    lost: bool,
 }
 
 impl<F: Seek + Drop> FileDisk<F> {
@@ -38,6 +48,8 @@ impl<F: Seek + Drop> FileDisk<F> {
                 file,
                 len,
                 failed: 0,
+                held: Window::new(),
+                lost: false,
             }),
             Err(_) => Err(DiskFault::Device),
         }
@@ -45,7 +57,7 @@ impl<F: Seek + Drop> FileDisk<F> {
 }
 
 impl<F> FileDisk<F> {
-    /// Hands the file back.
+    /// Hands the file back. Bytes that are held are not written: no sync has kept them.
     pub fn into_file(self) -> F
         ensures { result ≡ self.file }
     {
@@ -63,25 +75,108 @@ impl<F> FileDisk<F> {
 }
 
 impl<F: Read + Write + Seek + OpenFile> FileDisk<F> {
-    /// Reads from a place on, until the buffer is full.
-    fn read_from(&mut self, place: u64, buf: &mut [u8]) -> Result<(), DiskFault>
+    /// Writes what is to be written. Where that fails, or has failed, nothing is held any more.
+    fn pass_on(&mut self) -> Result<(), DiskFault>
+        ensures same_length { self.new.len ≡ self.old.len }
+        ensures same_count { self.new.failed ≡ self.old.failed }
+        ensures alive { OnOk result (self.old.lost ≡ false) }
+        ensures written { OnOk result (self.new.held.is_unwritten ≡ false) }
+        ensures lost { OnErr result (self.new.lost ≡ true) }
+    {
+        if self.lost {
+            return Err(DiskFault::Device);
+        }
+        if !self.held.is_unwritten {
+            return Ok(());
+        }
+        let written = write_from(&mut self.file, self.held.start, self.held.bytes.as_slice());
+        self.held.clear();
+        self.lost = written.is_err();
+        written
+    }
+
+    /// Holds bytes to be written from a place on, or writes them where there are too many.
+    fn hold(&mut self, place: u64, bytes: &[u8]) -> Result<(), DiskFault>
+        ensures same_length { self.new.len ≡ self.old.len }
+        ensures same_count { self.new.failed ≡ self.old.failed }
+        ensures alive { OnOk result (self.old.lost ≡ false) }
+    {
+        if !self.lost && self.held.takes(place, bytes.len()) {
+            self.held.add(bytes);
+            return Ok(());
+        }
+        self.pass_on()?;
+        self.held.clear();
+        if bytes.len() > ROOM {
+            return write_from(&mut self.file, place, bytes);
+        }
+        self.held.begin(place, bytes);
+        self.held.is_unwritten = true;
+        Ok(())
+    }
+
+    /// Fills the buffer from a place on.
+    fn look(&mut self, place: u64, buf: &mut [u8]) -> Result<(), DiskFault>
+        requires { place + length buf.old ≤ self.old.len }
+        ensures same_size { length buf.new ≡ length buf.old }
+        ensures same_length { self.new.len ≡ self.old.len }
+        ensures same_count { self.new.failed ≡ self.old.failed }
+        ensures alive { OnOk result (self.old.lost ≡ false) }
+    {
+        self.pass_on()?;
+        if self.held.give(place, buf) {
+            return Ok(());
+        }
+        if buf.len() <= ROOM {
+            return self.look_ahead(place, buf);
+        }
+        let size = buf.len();
+        read_from(&mut self.file, place, buf, size)?;
+        Ok(())
+    }
+
+    /// Fills the buffer from a place on, and holds what the file gives behind that. A failure there
+    /// goes unseen: nobody asked for these bytes.
+    fn look_ahead(&mut self, place: u64, buf: &mut [u8]) -> Result<(), DiskFault>
+        requires there { place + length buf.old ≤ self.old.len }
+        requires short { length buf.old ≤ 8192 }
         ensures same_size { length buf.new ≡ length buf.old }
         ensures same_length { self.new.len ≡ self.old.len }
         ensures same_count { self.new.failed ≡ self.old.failed }
     {
-        match self.file.seek(SeekFrom::Start(place)) {
-            Ok(_) => read_whole(&mut self.file, buf),
+        let mut ahead = [0; ROOM];
+        let room = (self.len - place).min(ROOM as u64) as usize;
+        let count = read_from(&mut self.file, place, &mut ahead[..room], buf.len())?;
+        buf.copy_from_slice(&ahead[..buf.len()]);
+        self.held.begin(place, &ahead[..count]);
+        Ok(())
+    }
+
+    /// Cuts the file, and forgets what was read ahead.
+    fn cut_file(&mut self, len: u64) -> Result<(), DiskFault>
+        ensures same_length { self.new.len ≡ self.old.len }
+        ensures same_count { self.new.failed ≡ self.old.failed }
+        ensures alive { OnOk result (self.old.lost ≡ false) }
+        ensures written { OnOk result (self.new.held.is_unwritten ≡ false) }
+    {
+        self.pass_on()?;
+        self.held.clear();
+        match self.file.set_len(len) {
+            Ok(()) => Ok(()),
             Err(_) => Err(DiskFault::Device),
         }
     }
 
-    /// Writes all bytes from a place on.
-    fn write_from(&mut self, place: u64, bytes: &[u8]) -> Result<(), DiskFault>
+    /// Syncs the file.
+    fn sync_file(&mut self) -> Result<(), DiskFault>
         ensures same_length { self.new.len ≡ self.old.len }
         ensures same_count { self.new.failed ≡ self.old.failed }
+        ensures alive { OnOk result (self.old.lost ≡ false) }
+        ensures written { OnOk result (self.new.held.is_unwritten ≡ false) }
     {
-        match self.file.seek(SeekFrom::Start(place)) {
-            Ok(_) => write_whole(&mut self.file, bytes),
+        self.pass_on()?;
+        match self.file.sync_all() {
+            Ok(()) => Ok(()),
             Err(_) => Err(DiskFault::Device),
         }
     }
@@ -115,7 +210,7 @@ impl<F: Read + Write + Seek + OpenFile> Disk for FileDisk<F> {
     }
 
     fn read(&mut self, place: u64, buf: &mut [u8]) -> Result<(), DiskFault> {
-        match self.read_from(place, buf) {
+        match self.look(place, buf) {
             Ok(()) => Ok(()),
             Err(_) => Err(self.fail()),
         }
@@ -125,7 +220,7 @@ impl<F: Read + Write + Seek + OpenFile> Disk for FileDisk<F> {
         let Some(end) = place.checked_add(bytes.len() as u64) else {
             return Err(self.fail());
         };
-        match self.write_from(place, bytes) {
+        match self.hold(place, bytes) {
             Ok(()) => {
                 self.len = self.len.max(end);
                 Ok(())
@@ -135,7 +230,7 @@ impl<F: Read + Write + Seek + OpenFile> Disk for FileDisk<F> {
     }
 
     fn cut(&mut self, len: u64) -> Result<(), DiskFault> {
-        match self.file.set_len(len) {
+        match self.cut_file(len) {
             Ok(()) => {
                 self.len = len;
                 Ok(())
@@ -146,7 +241,7 @@ impl<F: Read + Write + Seek + OpenFile> Disk for FileDisk<F> {
 
     // The length and the bytes: both belong to what a crash leaves.
     fn sync(&mut self) -> Result<(), DiskFault> {
-        match self.file.sync_all() {
+        match self.sync_file() {
             Ok(()) => Ok(()),
             Err(_) => Err(self.fail()),
         }

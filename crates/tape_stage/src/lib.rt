@@ -32,6 +32,7 @@ mod stage;
 mod to_fields;
 mod walking;
 mod whole;
+mod window;
 mod writing;
 
 pub use disk::{Disk, DiskFault};

@@ -3,6 +3,7 @@
 
 mod disks;
 mod files;
+mod held;
 mod points;
 mod sinks;
 mod stages;

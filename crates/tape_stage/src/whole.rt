@@ -1,26 +1,60 @@
 //! Whole reads and writes of a file, with no second try after a failure.
-ghost use Rattle.std.specs.Prelude.{◌≡◌, length};
+ghost use Rattle.std.specs.Prelude.{◌≡◌, ◌≤◌, length, IfOk};
 
 use crate::disk::DiskFault;
-use std::io::{Read, Write};
+use std::io::{Read, Seek, SeekFrom, Write};
 
-/// Fills the buffer. An end before it is full is a failure, and so is an interruption.
-pub(crate) fn read_whole<R: Read>(file: &mut R, buf: &mut [u8]) -> Result<(), DiskFault>
+/// Reads from a place on until so many bytes are there, and says how many are. It asks for as many
+/// as the buffer takes, but an end before the least, or an interruption there, is a failure.
+pub(crate) fn read_from<R: Read + Seek>(
+    file: &mut R,
+    place: u64,
+    buf: &mut [u8],
+    least: usize,
+) -> Result<usize, DiskFault>
+    requires { least ≤ length buf.old }
     ensures same_size { length buf.new ≡ length buf.old }
+    ensures enough { IfOk result (λ count. least ≤ count) }
+    ensures within { IfOk result (λ count. count ≤ length buf.new) }
+{
+    match file.seek(SeekFrom::Start(place)) {
+        Ok(_) => read_least(file, buf, least),
+        Err(_) => Err(DiskFault::Device),
+    }
+}
+
+/// Reads on until so many bytes are there, and says how many are.
+fn read_least<R: Read>(file: &mut R, buf: &mut [u8], least: usize) -> Result<usize, DiskFault>
+    requires { least ≤ length buf.old }
+    ensures same_size { length buf.new ≡ length buf.old }
+    ensures enough { IfOk result (λ count. least ≤ count) }
+    ensures within { IfOk result (λ count. count ≤ length buf.new) }
 {
     let mut at = 0;
-    'reads: while at < buf.len() {
+    'reads: while at < least {
         match file.read(&mut buf[at..]) {
             Ok(0) => return Err(DiskFault::Device),
             Ok(n) => at += n,
             Err(_) => return Err(DiskFault::Device),
         }
     }
-    Ok(())
+    Ok(at)
+}
+
+/// Writes all bytes from a place on.
+pub(crate) fn write_from<W: Write + Seek>(
+    file: &mut W,
+    place: u64,
+    bytes: &[u8],
+) -> Result<(), DiskFault> {
+    match file.seek(SeekFrom::Start(place)) {
+        Ok(_) => write_whole(file, bytes),
+        Err(_) => Err(DiskFault::Device),
+    }
 }
 
 /// Writes all bytes. A write that takes nothing is a failure, and so is an interruption.
-pub(crate) fn write_whole<W: Write>(file: &mut W, bytes: &[u8]) -> Result<(), DiskFault> {
+fn write_whole<W: Write>(file: &mut W, bytes: &[u8]) -> Result<(), DiskFault> {
     let mut rest = bytes;
     'writes: while !rest.is_empty() {
         match file.write(rest) {

@@ -62,8 +62,11 @@ fn a_stage_in_a_file(rt: HostRuntime) -> Result<(), Fail> {
     };
     assert!(rt; put_record(&mut stage, b'a'));
     assert!(rt; stage.weight() == one.staged && stage.save(&one).is_ok());
-    // This one is not acknowledged, and goes when the file is opened again.
+    // This one is not acknowledged, and goes when the file is opened again. It is held until the
+    // parts are read.
     assert!(rt; put_record(&mut stage, b'b'));
+    assert_eq!(rt; fs::read(&rt, path)?.len(), 341);
+    assert!(rt; matches!(stage.parts().next(), Ok(Some(_))));
     drop(stage);
     assert_eq!(rt; fs::read(&rt, path)?.len(), 426);
     let Some((mut stage, point)) = opened_in(&rt, path) else {
@@ -181,14 +184,14 @@ fn read_slowly(left: u8, buf: &mut [u8]) -> bool {
     }
 }
 
-/// The file behind a write to its second byte, where so many moves are left.
+/// The file behind a write to its second byte and a sync, where so many moves are left.
 fn write_slowly(left: u8, bytes: &[u8]) -> Option<[u8; 4]> {
     let Ok(mut disk) = FileDisk::new(four_bytes(left)) else {
         return None;
     };
     match disk.len() {
         Ok(len) if len >= 1 => {
-            if disk.write_at(1, bytes).is_err() {
+            if disk.write_at(1, bytes).is_err() || disk.sync().is_err() {
                 return None;
             }
         }
@@ -210,7 +213,7 @@ fn short_reads_and_writes_are_gone_on_with(rt: HostRuntime) {
     let mut three = [0; 3];
     assert!(rt; read_slowly(3, &mut three));
     assert_eq!(rt; &three, b"abc");
-    assert_eq!(rt; write_slowly(2, b"XY"), Some(*b"aXYd"));
+    assert_eq!(rt; write_slowly(3, b"XY"), Some(*b"aXYd"));
 }
 
 #[test]

@@ -1,0 +1,278 @@
+//! Disks over files: what is held before it is written, and what is read ahead.
+
+use super::*;
+use std::alloc::AllocError;
+use std::fs::{File, Metadata, OpenFile, OpenOptions};
+use std::io::{ErrorKind, Read, Seek, SeekFrom, Write};
+use std::test::*;
+use std::{fs, io};
+
+/// A file of a fixed length, in memory. It counts its reads and its writes, and one of its writes
+/// fails.
+#[derive(Drop)]
+struct Counting {
+    bytes: Vec<u8>,
+    at: usize,
+    reads: u32,
+    writes: u32,
+    failing: u32,
+}
+
+impl Counting {
+    /// So many bytes, all of them `.`.
+    fn new(alloc: Global, size: usize, failing: u32) -> Result<Counting, AllocError> {
+        let mut bytes = Vec::new(alloc);
+        bytes.resize(size, b'.')?;
+        Ok(Counting {
+            bytes,
+            at: 0,
+            reads: 0,
+            writes: 0,
+            failing,
+        })
+    }
+}
+
+impl Read for Counting {
+    fn read(&mut self, buf: &mut [u8]) -> io::Result<usize> {
+        self.reads = self.reads.saturating_add(1);
+        let rest = &self.bytes[self.at.min(self.bytes.len())..];
+        let count = rest.len().min(buf.len());
+        buf[..count].copy_from_slice(&rest[..count]);
+        self.at = self.at.saturating_add(count);
+        Ok(count)
+    }
+}
+
+impl Write for Counting {
+    fn write(&mut self, buf: &[u8]) -> io::Result<usize> {
+        self.writes = self.writes.saturating_add(1);
+        if self.writes == self.failing {
+            return Err(io::Error::from(ErrorKind::Other));
+        }
+        let start = self.at.min(self.bytes.len());
+        let rest = &mut self.bytes[start..];
+        let count = rest.len().min(buf.len());
+        rest[..count].copy_from_slice(&buf[..count]);
+        self.at = self.at.saturating_add(count);
+        Ok(count)
+    }
+
+    fn flush(&mut self) -> io::Result<()> {
+        Ok(())
+    }
+}
+
+impl Seek for Counting {
+    fn seek(&mut self, to: SeekFrom) -> io::Result<u64> {
+        match to {
+            SeekFrom::Start(at) => {
+                self.at = at.min(1_000_000) as usize;
+                Ok(at)
+            }
+            SeekFrom::End(_) => Ok(self.bytes.len() as u64),
+            SeekFrom::Current(_) => Err(io::Error::from(ErrorKind::Unsupported)),
+        }
+    }
+}
+
+impl OpenFile for Counting {
+    fn metadata(&self) -> io::Result<Metadata> {
+        Err(io::Error::from(ErrorKind::Unsupported))
+    }
+
+    fn set_len(&self, _size: u64) -> io::Result<()> {
+        Ok(())
+    }
+
+    fn sync_all(&self) -> io::Result<()> {
+        Ok(())
+    }
+
+    fn sync_data(&self) -> io::Result<()> {
+        Err(io::Error::from(ErrorKind::Unsupported))
+    }
+}
+
+/// A disk over such a file.
+fn disk_counting(alloc: Global, size: usize, failing: u32) -> Option<FileDisk<Counting>> {
+    FileDisk::new(Counting::new(alloc, size, failing).ok()?).ok()
+}
+
+/// A disk over a new file.
+fn made_in(rt: &HostRuntime, path: &str) -> Option<FileDisk<File>> {
+    let _ = fs::remove_file(rt, path);
+    let mut options = OpenOptions::new();
+    options.read(true).write(true).create(true);
+    FileDisk::new(options.open(rt, path).ok()?).ok()
+}
+
+/// Reads, where so many bytes are there.
+fn read<D: Disk>(disk: &mut D, place: u64, buf: &mut [u8]) -> bool {
+    match disk.len() {
+        Ok(len) => {
+            place <= len && buf.len() as u64 <= len - place && disk.read(place, buf).is_ok()
+        }
+        Err(_) => false,
+    }
+}
+
+/// Writes, where the place is there.
+fn write<D: Disk>(disk: &mut D, place: u64, bytes: &[u8]) -> bool {
+    match disk.len() {
+        Ok(len) => place <= len && disk.write_at(place, bytes).is_ok(),
+        Err(_) => false,
+    }
+}
+
+/// Cuts, where so many bytes are there.
+fn cut<D: Disk>(disk: &mut D, to: u64) -> bool {
+    match disk.len() {
+        Ok(len) => to <= len && disk.cut(to).is_ok(),
+        Err(_) => false,
+    }
+}
+
+#[test]
+fn small_calls_are_put_together(rt: HostRuntime) {
+    let Some(mut disk) = disk_counting(rt.alloc(), 25_500, 0) else {
+        assert!(rt; false);
+        return;
+    };
+    for record in 0..300u64 {
+        assert!(rt; write(&mut disk, record * 85, &[record.to_be_bytes()[7]; 85]));
+    }
+    assert_eq!(rt; disk.sync(), Ok(()));
+    let mut bytes = [0; 85];
+    for record in 0..300u64 {
+        assert!(rt; read(&mut disk, record * 85, &mut bytes));
+        assert!(rt; bytes == [record.to_be_bytes()[7]; 85]);
+    }
+    // In 8,192 bytes there are 96 records of 85.
+    let file = disk.into_file();
+    assert_eq!(rt; (file.writes, file.reads), (4, 4));
+}
+
+#[test]
+fn a_write_elsewhere_comes_behind_what_is_held(rt: HostRuntime) {
+    let Some(mut disk) = disk_counting(rt.alloc(), 12, 0) else {
+        assert!(rt; false);
+        return;
+    };
+    assert!(rt; write(&mut disk, 0, b"abc") && write(&mut disk, 3, b"de"));
+    assert!(rt; write(&mut disk, 8, b"XY") && write(&mut disk, 1, b"BC"));
+    let mut all = [0; 12];
+    assert!(rt; read(&mut disk, 0, &mut all));
+    assert_eq!(rt; &all, b"aBCde...XY..");
+    // A write over what was read ahead.
+    assert!(rt; write(&mut disk, 5, b"fg") && read(&mut disk, 0, &mut all));
+    assert_eq!(rt; &all, b"aBCdefg.XY..");
+    assert!(rt; write(&mut disk, 11, b"Z"));
+    let file = disk.into_file();
+    // The last one was not written: no sync kept it.
+    assert_eq!(rt; file.bytes.as_slice(), b"aBCdefg.XY..".as_slice());
+    assert_eq!(rt; file.writes, 4);
+}
+
+#[test]
+fn a_failed_write_is_not_tried_again(rt: HostRuntime) {
+    let Some(mut disk) = disk_counting(rt.alloc(), 12, 1) else {
+        assert!(rt; false);
+        return;
+    };
+    assert!(rt; write(&mut disk, 0, b"ab"));
+    assert_eq!(rt; disk.sync(), Err(DiskFault::Device));
+    // What was held is lost, so nothing later passes for kept.
+    assert_eq!(rt; disk.sync(), Err(DiskFault::Device));
+    assert!(rt; !write(&mut disk, 2, b"cd") && !cut(&mut disk, 0));
+    let mut two = *b"..";
+    assert!(rt; !read(&mut disk, 6, &mut two));
+    assert_eq!(rt; disk.len(), Ok(12));
+    assert_eq!(rt; disk.into_file().writes, 1);
+}
+
+#[test]
+fn a_cut_forgets_what_was_read_ahead(rt: HostRuntime) {
+    let Some(mut disk) = made_in(&rt, "a_cut_forgets_what_was_read_ahead.disk") else {
+        assert!(rt; false);
+        return;
+    };
+    let mut two = [0; 2];
+    assert!(rt; write(&mut disk, 0, b"abcdef") && read(&mut disk, 0, &mut two));
+    assert!(rt; cut(&mut disk, 3) && write(&mut disk, 3, b"XYZ"));
+    let mut six = [0; 6];
+    assert!(rt; read(&mut disk, 0, &mut six));
+    assert_eq!(rt; &six, b"abcXYZ");
+    // What is held goes before the cut, which takes its end away again.
+    assert!(rt; write(&mut disk, 6, b"gh") && cut(&mut disk, 7) && !read(&mut disk, 6, &mut two));
+    assert!(rt; read(&mut disk, 5, &mut two));
+    assert_eq!(rt; &two, b"Zg");
+}
+
+/// Whether both disks read the same.
+fn reads_agree<A: Disk, B: Disk>(one: &mut A, two: &mut B, place: u64, size: usize) -> bool {
+    let (mut left, mut right) = ([1; 9_000], [1; 9_000]);
+    let size = size.min(9_000);
+    let first = read(one, place, &mut left[..size]);
+    first == read(two, place, &mut right[..size]) && left == right
+}
+
+/// Whether both disks answer the same to a write of so many bytes.
+fn writes_agree<A: Disk, B: Disk>(
+    one: &mut A,
+    two: &mut B,
+    place: u64,
+    byte: u8,
+    size: usize,
+) -> bool {
+    let most = [byte; 9_000];
+    let Some(bytes) = most.as_slice().get(..size) else {
+        return false;
+    };
+    write(one, place, bytes) == write(two, place, bytes)
+}
+
+/// Whether both disks answer the same to a call that these bytes tell.
+fn calls_agree<A: Disk, B: Disk>(one: &mut A, two: &mut B, told: [u8; 8]) -> bool {
+    let size = if told[0] < 12 {
+        9_000
+    } else {
+        usize::from(told[1])
+    };
+    let place = u64::from(told[2]) * 150 + u64::from(told[3]);
+    let Ok(len) = one.len() else {
+        return false;
+    };
+    if two.len() != Ok(len) {
+        return false;
+    }
+    match told[5] {
+        0..=140 => writes_agree(one, two, len, told[4], size),
+        141..=170 => writes_agree(one, two, place, told[4], size),
+        171..=247 => reads_agree(one, two, place, size),
+        248..=251 => cut(one, place) == cut(two, place),
+        _ => one.sync() == two.sync(),
+    }
+}
+
+#[test]
+fn a_row_of_calls_does_what_it_does_in_memory(rt: HostRuntime) -> Result<(), Fail> {
+    let path = "a_row_of_calls_does_what_it_does_in_memory.disk";
+    let Some(mut disk) = made_in(&rt, path) else {
+        return Err(Fail::from("a disk"));
+    };
+    let mut memory = MemoryDisk::new(rt.alloc());
+    let mut state = 1u64;
+    for step in 0..600 {
+        state = state
+            .wrapping_mul(6_364_136_223_846_793_005)
+            .wrapping_add(step);
+        assert!(rt;
+            calls_agree(&mut disk, &mut memory, state.to_be_bytes()),
+            "at {step}"
+        );
+    }
+    assert_eq!(rt; disk.sync(), Ok(()));
+    assert_eq!(rt; fs::read(&rt, path)?.as_slice(), memory.bytes());
+    Ok(())
+}
