@@ -50,72 +50,76 @@ pub struct Extract<'a> {
 
 /// The commands and their words.
 fn command<'a>(alloc: Global) -> Result<Command<'a>, AllocError> {
-    Command::new(alloc, "tape")
-        // Usage names the program as its user does, whatever the file is called.
-        .bin_name("tape")?
-        .version("0.1.0")
-        .about(help::ABOUT)
-        .after_help(help::AFTER)
-        .subcommand_required(true)
-        .subcommand(list_command(alloc)?)?
-        .subcommand(check_command(alloc)?)?
-        .subcommand(extract_command(alloc)?)?
-        .subcommand(init_command(alloc)?)?
-        .subcommand(write_command(alloc)?)
+    let command = with_command(tape_command(alloc)?, list_command(alloc))?;
+    let command = with_command(command, check_command(alloc))?;
+    let command = with_command(command, extract_command(alloc))?;
+    let command = with_command(command, init_command(alloc))?;
+    with_command(command, write_command(alloc))
+}
+
+/// The program. Usage names it as its user does, whatever the file is called.
+fn tape_command<'a>(alloc: Global) -> Result<Command<'a>, AllocError> {
+    let command = Command::new(alloc, "tape").bin_name("tape")?;
+    Ok(
+        command
+            .version("0.1.0")
+            .about(help::ABOUT)
+            .after_help(help::AFTER)
+            .subcommand_required(true),
+    )
+}
+
+/// The program with one more command.
+fn with_command<'a>(
+    program: Command<'a>,
+    command: Result<Command<'a>, AllocError>,
+) -> Result<Command<'a>, AllocError> {
+    program.subcommand(command?)
 }
 
 /// `init`.
 fn init_command<'a>(alloc: Global) -> Result<Command<'a>, AllocError> {
-    let folder = Arg::new(alloc, "DIR").required(true).help(help::FOLDER);
-    let prefix = Arg::new(alloc, "PRE").required(true).help(help::PREFIX);
-    let count = Arg::new(alloc, "COUNT")
-        .required(true)
-        .value_parser(ValueParser::Unsigned(1, 999))
-        .help(help::COUNT);
     Command::new(alloc, "init")
         .bin_name("tape init")?
         .about(help::ABOUT_INIT)
         .after_help(help::AFTER_INIT)
-        .arg(folder)?
-        .arg(prefix)?
-        .arg(count)
+        .arg(required(alloc, "DIR", help::FOLDER))?
+        .arg(required(alloc, "PRE", help::PREFIX))?
+        .arg(required(alloc, "COUNT", help::COUNT).value_parser(ValueParser::Unsigned(1, 999)))
+}
+
+/// A word that has to be there.
+pub fn required<'a>(alloc: Global, name: &'a str, help: &'a str) -> Arg<'a> {
+    Arg::new(alloc, name).required(true).help(help)
 }
 
 /// `check`. An image is named at least, and 256 at most.
 fn check_command<'a>(alloc: Global) -> Result<Command<'a>, AllocError> {
-    let images = Arg::new(alloc, "IMAGE")
-        .required(true)
-        .num_args(1..=256)
-        .help(help::IMAGES);
     Command::new(alloc, "check")
         .bin_name("tape check")?
         .about(help::ABOUT_CHECK)
         .after_help(help::AFTER_CHECK)
-        .arg(images)
+        .arg(required(alloc, "IMAGE", help::IMAGES).num_args(1..=256))
 }
 
 /// `extract`.
 fn extract_command<'a>(alloc: Global) -> Result<Command<'a>, AllocError> {
-    let set_id = Arg::new(alloc, "SET").required(true).help(help::SET);
-    let file = Arg::new(alloc, "FILE")
-        .required(true)
-        .value_parser(ValueParser::Unsigned(1, 9999))
-        .help(help::FILE);
-    let out = Arg::new(alloc, "OUT").required(true).help(help::OUT);
-    let images = Arg::new(alloc, "IMAGE")
-        .required(true)
-        .num_args(1..)
-        .help(help::REELS);
-    Command::new(alloc, "extract")
+    let command = Command::new(alloc, "extract")
         .bin_name("tape extract")?
         .about(help::ABOUT_EXTRACT)
-        .after_help(help::AFTER_EXTRACT)
-        .arg(set_id)?
-        .arg(file)?
-        .arg(out)?
-        .arg(images)?
+        .after_help(help::AFTER_EXTRACT);
+    with_reels(alloc, command)?
         .arg(form_argument(alloc))?
         .arg(stage_argument(alloc))
+}
+
+/// The words of `extract`.
+fn with_reels<'a>(alloc: Global, command: Command<'a>) -> Result<Command<'a>, AllocError> {
+    command
+        .arg(required(alloc, "SET", help::SET))?
+        .arg(required(alloc, "FILE", help::FILE).value_parser(ValueParser::Unsigned(1, 9999)))?
+        .arg(required(alloc, "OUT", help::OUT))?
+        .arg(required(alloc, "IMAGE", help::REELS).num_args(1..))
 }
 
 /// `--form`.

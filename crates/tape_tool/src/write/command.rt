@@ -173,17 +173,24 @@ fn end<R: Runtime + AllocGlobal>(
     } = done;
     let mut ended = Vec::new(rt.alloc());
     for (image, label) in images.into_iter().zip(volumes.as_slice()) {
-        let size = image.size();
-        let mut file = image.into_device();
-        if let Some(fault) = file.end() {
-            return Err(fault);
-        }
+        let size = end_image(image)?;
         if ended.len() < count {
             let volume = label.volume;
             ended.push(Ended { volume, size }).map_err(|_| no_memory())?;
         }
     }
     say(&mut io::writer(rt), files as u64, ended.as_slice()).map_err(ToolFault::File)
+}
+
+/// Has an image's file written to its end, and gives its size.
+fn end_image<R: Runtime + AllocGlobal>(
+    image: ImageWriter<ImageFile<'_, R>>,
+) -> Result<u64, ToolFault> {
+    let size = image.size();
+    match image.into_device().end() {
+        Some(fault) => Err(fault),
+        None => Ok(size),
+    }
 }
 
 /// What to tell of a refusal: in place of a device's fault, that of the file.

@@ -2,7 +2,7 @@
 use crate::form::Form;
 use crate::help;
 use crate::volume::Prefix;
-use crate::words::Order;
+use crate::words::{Order, required};
 use clap::builder::ValueParser;
 use clap::error::ErrorKind;
 use clap::{Arg, ArgAction, ArgMatches, Command, Error};
@@ -35,42 +35,32 @@ pub struct WriteOrder<'a> {
 
 /// `write`.
 pub fn write_command<'a>(alloc: Global) -> Result<Command<'a>, AllocError> {
-    let folder = Arg::new(alloc, "DIR").required(true).help(help::FOLDER);
-    let prefix = Arg::new(alloc, "PRE").required(true).help(help::PREFIX);
-    let capacity = number(Arg::new(alloc, "CAPACITY"), MOST)
-        .required(true)
-        .help(help::CAPACITY);
-    let files = Arg::new(alloc, "ID=PATH")
-        .required(true)
-        .num_args(1..)
-        .help(help::FILES);
     let command = Command::new(alloc, "write")
         .bin_name("tape write")?
         .about(help::ABOUT_WRITE)
-        .after_help(help::AFTER_WRITE)
-        .arg(folder)?
-        .arg(prefix)?
-        .arg(capacity)?
-        .arg(files)?;
-    with_options(alloc, command)
-}
-
-/// The options of `write`.
-fn with_options<'a>(alloc: Global, command: Command<'a>) -> Result<Command<'a>, AllocError> {
-    let block = number(option(alloc, "block"), MOST)
-        .default_value("2048")
-        .help(help::BLOCK);
-    let record = number(option(alloc, "record"), MOST).help(help::RECORD);
-    let offset = number(option(alloc, "offset"), 255)
-        .default_value("0")
-        .help(help::OFFSET);
-    command
-        .arg(format_option(alloc))?
-        .arg(block)?
-        .arg(record)?
-        .arg(offset)?
+        .after_help(help::AFTER_WRITE);
+    let command = with_words(alloc, command)?;
+    with_lengths(alloc, command)?
         .arg(pad_full_option(alloc))?
         .arg(form_option(alloc))
+}
+
+/// The words of `write`.
+fn with_words<'a>(alloc: Global, command: Command<'a>) -> Result<Command<'a>, AllocError> {
+    command
+        .arg(required(alloc, "DIR", help::FOLDER))?
+        .arg(required(alloc, "PRE", help::PREFIX))?
+        .arg(number(required(alloc, "CAPACITY", help::CAPACITY), MOST))?
+        .arg(required(alloc, "ID=PATH", help::FILES).num_args(1..))
+}
+
+/// The options that tell how records lie in blocks.
+fn with_lengths<'a>(alloc: Global, command: Command<'a>) -> Result<Command<'a>, AllocError> {
+    command
+        .arg(format_option(alloc))?
+        .arg(number(option(alloc, "block", help::BLOCK), MOST).default_value("2048"))?
+        .arg(number(option(alloc, "record", help::RECORD), MOST))?
+        .arg(number(option(alloc, "offset", help::OFFSET), 255).default_value("0"))
 }
 
 /// `--format`.
@@ -102,8 +92,8 @@ fn form_option<'a>(alloc: Global) -> Arg<'a> {
 }
 
 /// An option that takes a number.
-fn option(alloc: Global, name: &str) -> Arg<'_> {
-    Arg::new(alloc, name).long(name).value_name("N")
+fn option<'a>(alloc: Global, name: &'a str, help: &'a str) -> Arg<'a> {
+    Arg::new(alloc, name).long(name).value_name("N").help(help)
 }
 
 /// A number from 0 to this one.
