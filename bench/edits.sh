@@ -9,7 +9,8 @@ trap 'rm -rf "$room"' EXIT
 cp -rp "$here" "$room/copy"
 cd "$room/copy"
 for name in "$@"; do
-    rm crates/"$name"/must-fail/*.edit
+    rm -rf crates/"$name"/must-fail
+    mkdir crates/"$name"/must-fail
     mv crates/"$name"/by-hand/*.edit crates/"$name"/must-fail/
 done
 rt must-fail "$@"
