@@ -1,8 +1,10 @@
 -- The parts that an iterator has left are those of the one reading of its bytes.
 use Rattle.std.proofs.Common.{◌≡◌, ℕ, zero, suc, ◌+◌, ◌-◌, ◌≤◌, List, [], ◌∷◌, ◌++◌, length, take}
 use Rattle.std.proofs.Common.{drop, Option, Some, None, Result, Ok, Err, refl, sym, ap, ◌∙◌}
-use Rattle.std.proofs.Common.{append_assoc, arith, length-append}
+use Rattle.std.proofs.Common.{append_assoc, arith, length-append, true}
+use Rattle.std.specs.Prelude.{nat_lt}
 use Rattle.std.specs.List.{AllByRecursion}
+use Rattle.std.proofs.lemmas.Bool.Decides.{nat_tests}
 use Rattle.std.proofs.lemmas.List.{append-nil, length-drop, length-take, drop-take, take-take}
 use Rattle.std.proofs.lemmas.List.Concat.{flat_map-cons}
 use Rattle.tape_label.specs.declared.values.Format.{Format}
@@ -134,6 +136,22 @@ stops_by u zero format rec_len bytes e never = refl
 stops_by (Ok (Some found)) (suc n) format rec_len bytes e never = absurd (never found refl)
 stops_by (Ok None) (suc n) format rec_len bytes e never = step_is n format rec_len bytes (Ok None) e
 stops_by (Err f) (suc n) format rec_len bytes e never = step_is n format rec_len bytes (Err f) e
+
+-- no bytes, no unit and no part
+pub unit_none : (format : Format) (rec_len : ℕ) → (format ≡ Fixed → 1 ≤ rec_len)
+    → unit_at format rec_len [] ≡ Ok None
+unfolding unit_at
+unit_none Fixed rec_len some =
+    let more : nat_lt 0 rec_len ≡ true = grind (arith, nat_tests, some refl) in
+    rw more refl
+unit_none Counted rec_len some = refl
+unit_none Spanned rec_len some = refl
+
+pub parts_none : (format : Format) (rec_len : ℕ) (bytes : List ℕ) → length bytes ≡ 0
+    → parts_of format rec_len bytes ≡ []
+unfolding parts_by
+parts_none format rec_len [] e = refl
+parts_none format rec_len (c ∷ cs) e = absurd (omega (arith, e))
 
 pub parts_end : (format : Format) (rec_len : ℕ) (bytes : List ℕ)
     → unit_at format rec_len bytes ≡ Ok None → parts_of format rec_len bytes ≡ []

@@ -42,6 +42,9 @@ fn judge(shape: &Shape, begun: bool, block: &[u8]) -> Result<bool, BlockFault>
     let mut going = begun;
     let mut place = offset;
     'units: loop {
+        if place == block.len() {
+            return Ok(going);
+        }
         match unit_at(shape.format, shape.rec_len as usize, &block[place..]) {
             Err(fault) => return refuse(place + fault.place, fault.cause),
             Ok(None) => return Ok(going),

@@ -49,7 +49,11 @@ impl<'a> Iterator for Parts<'a> {
 
     ghost remaining = { item_count parts_left };
 
+    #[inline(always)]
     fn next(&mut self) -> Option<Part<'a>> {
+        if self.rest.is_empty() {
+            return None;
+        }
         match unit_at(self.format, self.rec_len, self.rest) {
             Ok(Some(found)) => {
                 let (unit, rest) = self.rest.split_at(found.len);

@@ -61,6 +61,7 @@ fn span_by(indicator: u8) -> Option<Span>
 
 /// A unit with a count, which stands in the last four characters of the head and counts the head
 /// too.
+#[inline(always)]
 fn counted(span: Span, head: usize, bytes: &[u8]) -> Result<Option<Found>, BlockFault>
     requires { 4 ≤ head }
     ensures exact { result ≡ counted span head bytes.now }
@@ -85,6 +86,7 @@ fn counted(span: Span, head: usize, bytes: &[u8]) -> Result<Option<Found>, Block
 
 /// A record of the fixed length. A rest that is shorter than one is padding.
 #[tactic(auto, unfolding(crate::specs::Units::unit_at))]
+#[inline(always)]
 fn fixed(rec_len: usize, bytes: &[u8]) -> Result<Option<Found>, BlockFault>
     ensures exact { result ≡ unit_at Format.Fixed rec_len bytes.now }
     ensures inside { IfOk result (λ unit. IfSome unit (λ found.
@@ -108,6 +110,7 @@ fn fixed(rec_len: usize, bytes: &[u8]) -> Result<Option<Found>, BlockFault>
 /// The unit at the front, or none where padding stands. The fault's place is counted from the
 /// front.
 #[tactic(auto, unfolding(crate::specs::Units::unit_at))]
+#[inline(always)]
 pub(crate) fn unit_at(
     format: Format,
     rec_len: usize,

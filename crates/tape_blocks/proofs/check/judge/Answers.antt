@@ -1,6 +1,6 @@
 use Rattle.std.proofs.Common.{◌≡◌, ◌+◌, false, [], ◌∷◌, ◌++◌, drop, Option, Some, None, Result, Ok}
 use Rattle.std.proofs.Common.{Err, refl, sym, ap, ◌∙◌, arith}
-use Rattle.std.proofs.lemmas.List.{length-drop, take_rest}
+use Rattle.std.proofs.lemmas.List.{length-drop, take_rest, drop_all}
 use Rattle.tape_blocks.specs.declared.fault.BlockFault.{BlockFault}
 use Rattle.tape_blocks.specs.declared.unit.Found.{Found}
 use Rattle.tape_blocks.specs.Faults.{bool_eq}
@@ -8,6 +8,7 @@ use Rattle.tape_blocks.specs.Parts.{portion}
 use Rattle.tape_blocks.specs.Spans.{continues}
 use Rattle.tape_blocks.specs.Units.{unit_at}
 use Rattle.tape_blocks.proofs.FrontLaws.{begins_more, InOrder-append, bool_eq-true}
+use Rattle.tape_blocks.proofs.PartsLaws.{unit_none}
 use Rattle.tape_blocks.proofs.LongestFronts.{judged_where, judged_short}
 use Rattle.tape_blocks.proofs.check.judge.Goals as goal
 
@@ -19,6 +20,18 @@ returns-then-block-offset c =
     let shape = c.args.shape.now in
     c.refuse.ensures ∙ sym (judged_short shape.format shape.rec_len shape.offset c.args.begun
     c.args.block.now (omega (arith, c.if-block-offset.true, c.from-offset.ensures)))
+
+pub returns-then-place-block : goal.returns-then-place-block
+returns-then-place-block c =
+    let shape = c.args.shape.now in
+    let rest : drop c.units.place c.args.block.now ≡ [] =
+    drop_all c.units.place c.args.block.now (omega (arith, c.if-place-block.true)) in
+    let unit : unit_at shape.format shape.rec_len (drop c.units.place c.args.block.now) ≡ Ok None =
+    ap (unit_at shape.format shape.rec_len) rest
+    ∙ unit_none shape.format shape.rec_len shape.some_record in
+    sym (judged_where shape.format shape.rec_len shape.offset c.args.begun c.args.block.now
+    c.units.invariant.front.0 c.units.going c.units.place
+    (Ok None) shape.some_record c.units.invariant.inside c.units.invariant.front.1 unit tt)
 
 pub returns-in-Err : goal.returns-in-Err
 returns-in-Err c =
