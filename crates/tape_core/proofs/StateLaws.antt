@@ -40,25 +40,6 @@ later_start sect place =
     go true = refl
     go false = refl
 
--- a block was delivered
-pub delivered_fits : (file : ℕ) (p : Position) (begun end : Bool) (known : Option FileForm)
-    (phase : Phase) (heading : Heading) (form : FileForm) (seen : ℕ)
-    → IsState file p begun known phase → is_finished p ≡ false → block_of p < most_blocks
-    → ToldFits end (Some form)
-    → IsState file (next_block p) end (Some form) (DataWanted heading form seen)
-delivered_fits file Finished begun end known phase heading form seen i n m t = absurd (cc)
-delivered_fits file (Awaits sect place part) begun end known phase heading form seen i n m t =
-    record {
-      numbered = i.numbered;
-      stands = record {
-        numbers = (i.stands.numbers.0, i.stands.numbers.1, omega (arith, m), omega arith);
-        tells = sym (ap not (later_start sect place));
-        spans = t;
-        whole = λ e. absurd (cc);
-      };
-      told_fits = t;
-    }
-
 -- ---- the parts of a block of which some were delivered
 
 pub one_more : (first : Bool) (ps : List Portion) (p : Portion)
@@ -131,18 +112,6 @@ pub before_spans : (form : FileForm) (part : ℕ) (begun : Bool) (block : List �
     → is_spanned form.format ≡ true
 before_spans form zero begun block t e = t e
 before_spans form (suc part) begun block t e = goes_on_spans form.format form.offset block e
-
--- what a check leaves begun fits what the labels told
-pub judged_told : (form : FileForm) (part : ℕ) (begun end : Bool) (block : List ℕ)
-    → (form.format ≡ Fixed → 1 ≤ form.rec_len) → ToldFits begun (Some form)
-    → judged form.format form.rec_len form.offset (begun_before form part begun
-    block) block ≡ Ok end
-    → ToldFits end (Some form)
-judged_told form part begun end block some t is e =
-    let h = judged_found form.format form.rec_len form.offset
-    (begun_before form part begun block) end block some is in
-    begun_spans form.format form.rec_len (begun_before form part begun block) end h.0 h.1.1.units
-    h.2 (before_spans form part begun block t) e
 
 -- a block that is no other one holds the part that is awaited
 pub front_more : (form : FileForm) (part : ℕ) (begun : Bool) (block : List ℕ) (parts : List Portion)

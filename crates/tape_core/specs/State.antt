@@ -20,6 +20,11 @@ abbrev pub is_broken : Phase → Bool
 is_broken Broken = true
 is_broken _ = false
 
+-- whether data of the section awaited follow
+abbrev pub wants_data : Phase → Bool
+wants_data (DataWanted heading form seen) = true
+wants_data _ = false
+
 -- the form that the labels of the section awaited told, where they were read
 abbrev pub told : Phase → Option FileForm
 told (Headers heading wanted) = wanted

@@ -119,6 +119,11 @@ delivered core heading form end =
     let behind = DataWanted heading form (block_of core.position + 1) in
     (Deliver, moved_to core (next_block core.position) end form behind)
 
+-- the block awaited, where it leaves a record begun or not, or is not the one
+abbrev pub found_awaited : State → Heading → FileForm → Result Bool Reason → Outcome
+found_awaited core heading form (Err why) = useless core why
+found_awaited core heading form (Ok end) = delivered core heading form end
+
 -- the block awaited, by what its check found; it may not be another than the one of which some
 -- parts were delivered
 abbrev pub at_judged : State → Heading → FileForm → List ℕ → Result Bool BlockFault → Outcome

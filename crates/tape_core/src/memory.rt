@@ -50,6 +50,7 @@ impl MemorySink {
     }
 
     /// How many parts are kept.
+    #[inline(always)]
     pub fn count(&self) -> usize
         ensures { result ≡ length (portions self.now) }
     {
@@ -68,6 +69,7 @@ impl MemorySink {
     }
 
     /// The part of this number, lent.
+    #[inline(always)]
     fn lent(&self, number: usize) -> Part<'_>
         requires { number < length (portions self.now) }
         ensures value { slice_get (portions self.now) number ≡ Some (view result) }
@@ -82,6 +84,7 @@ impl MemorySink {
     }
 
     /// Where the bytes of the first parts end, so many.
+    #[inline(always)]
     fn end_of(&self, number: usize) -> usize
         requires { number ≤ length (portions self.now) }
         ensures { result ≡ end_from 0 (take number self.now.entries.items) }
@@ -93,6 +96,7 @@ impl MemorySink {
     }
 
     /// What the first parts weigh, so many.
+    #[inline(always)]
     fn weight_to(&self, number: usize) -> u64
         requires { number ≤ length (portions self.now) }
         ensures value { result ≡ weight_of (take number (portions self.now)) }
@@ -116,6 +120,7 @@ impl MemorySink {
     }
 
     /// Adds a part behind the others, or nothing where there is no memory for it.
+    #[inline(always)]
     fn add(&mut self, part: Part<'_>) -> Result<(), AllocError>
         requires short { length part.bytes.now ≤ 99999 }
         requires light { weight_of (portions self.old) + (5 + length part.bytes.now)
@@ -163,6 +168,7 @@ impl PartSink for MemorySink {
 
     ghost survives = { λ sink. ⊥ };
 
+    #[inline(always)]
     fn put(&mut self, part: Part<'_>) -> Result<(), SinkFault> {
         let heavy = 5 + part.bytes.len() as u64;
         if heavy > MOST_STAGED - self.weight() {
@@ -190,6 +196,7 @@ impl PartSink for MemorySink {
         Ok(())
     }
 
+    #[inline(always)]
     fn weight(&self) -> u64 {
         self.weight_to(self.count())
     }
@@ -206,6 +213,7 @@ impl PartWalk for MemorySink {
         self.given = 0;
     }
 
+    #[inline(always)]
     fn next_part(&mut self) -> Result<Option<Part<'_>>, SinkFault> {
         let given = self.given;
         if given >= self.count() {

@@ -122,6 +122,7 @@ impl ReaderCore {
     /// While the file is complete the answer is `Complete`, whatever comes. After a `BlockCount` it
     /// is `Useless(Broken)` until `restart`, and with no reading under way `Useless(ReelEnded)`.
     /// `Useless` never moves the position. `Reason` tells which refusal comes when.
+    #[inline(always)]
     pub fn step(&mut self, event: Event<'_>) -> Answer
         ensures table { (result, self.new) ≡ Table.step_of self.old (arrival event.entry) }
         // The next item of a volume of a lawful set, or a bad one in its place, makes the reading

@@ -5,7 +5,7 @@ ghost use Rattle.tape_image.specs.Tape.{block as block'};
 ghost use Rattle.tape_core.specs.Arrive.{arrival};
 ghost use Rattle.tape_core.specs.Follows.{Checked};
 ghost use Rattle.tape_core.specs.Known.{is_finished};
-ghost use Rattle.tape_core.specs.State.{ToldFits};
+ghost use Rattle.tape_core.specs.State.{ToldFits, wants_data};
 ghost use Rattle.tape_core.specs.Table as Table;
 
 use crate::answer::{Answer, Reason};
@@ -18,6 +18,7 @@ use tape_set::Position;
 
 impl ReaderCore {
     /// One step. A file that is complete stays so, whatever comes.
+    #[inline(always)]
     pub(crate) fn advance(&mut self, event: Event<'_>) -> Answer
         ensures table { (result, self.new) ≡ Table.step_of self.old (arrival event.entry) }
         ensures complete { result ≡ Answer.Complete → self.new.position ≡ Position.Finished }
@@ -35,12 +36,26 @@ impl ReaderCore {
         }
     }
 
-    /// A block.
+    /// A block. Nearly all blocks of a reel are data, which need no copy of what is expected.
+    #[inline(always)]
     fn at_block(&mut self, block: &[u8]) -> Answer
         requires { is_finished self.old.position ≡ false }
         ensures table { (result, self.new) ≡ Table.at_block self.old self.old.phase block.now }
         ensures checked { result ≡ Answer.Deliver
             → Checked (Some (block' block.now)) self.old self.new }
+    {
+        if let Phase::DataWanted(..) = self.phase {
+            self.at_data(block)
+        } else {
+            self.at_other_block(block)
+        }
+    }
+
+    /// A block that is none of the data of the section awaited.
+    fn at_other_block(&mut self, block: &[u8]) -> Answer
+        requires other { wants_data self.old.phase ≡ false }
+        ensures table { (result, self.new) ≡ Table.at_block self.old self.old.phase block.now }
+        ensures silent { result ≢ Answer.Deliver }
     {
         let phase = self.phase;
         match phase {
@@ -51,7 +66,7 @@ impl ReaderCore {
             Phase::VolumeLabels => self.first_labels(block),
             Phase::Header2(heading, wanted) => self.second_label(heading, wanted, block),
             Phase::Headers(..) | Phase::DataPassed(_) | Phase::Trailers => Answer::Passed,
-            Phase::DataWanted(heading, form, seen) => self.at_data(heading, form, seen, block),
+            Phase::DataWanted(..) => unreachable!(),
             Phase::TrailerPassed(heading) => self.at_passed_trailer(heading, read_trail1(block)),
             Phase::TrailerWanted(heading, form) => {
                 self.at_wanted_trailer(heading, form, read_trail1(block))

@@ -1,12 +1,15 @@
 //! The rules for the data of the section awaited.
 
-ghost use Rattle.std.specs.Prelude.{◌≡◌, ◌≢◌, ◌<◌, false, Some};
+ghost use Rattle.std.specs.Prelude.{◌≡◌, ◌≢◌, ◌<◌, ◌≤◌, ◌⊎◌, Bool, List, true, false, Some, length};
+ghost use Rattle.std.specs.Prelude.{OnOk, IfOk};
 ghost use Rattle.tape_image.specs.Tape.{block as block'};
+ghost use Rattle.tape_blocks.specs.Block.{Portion, Holds};
+ghost use Rattle.tape_blocks.specs.Spans.{InOrder};
 ghost use Rattle.tape_set.specs.Lawful.{most_blocks};
-ghost use Rattle.tape_set.specs.Position.{block_of};
+ghost use Rattle.tape_set.specs.Position.{block_of, part_of};
 ghost use Rattle.tape_core.specs.Follows.{Checked};
 ghost use Rattle.tape_core.specs.Known.{is_finished};
-ghost use Rattle.tape_core.specs.State.{ToldFits};
+ghost use Rattle.tape_core.specs.State.{State, ToldFits, wants_data};
 ghost use Rattle.tape_core.specs.Table as Table;
 
 use crate::answer::{Answer, Reason};
@@ -17,24 +20,34 @@ use crate::reader::ReaderCore;
 use tape_blocks::check_block;
 
 impl ReaderCore {
-    /// A block, behind so many: one that was delivered before is passed.
-    pub(crate) fn at_data(
-        &mut self,
-        heading: Heading,
-        form: Known,
-        seen: u32,
-        block: &[u8],
-    ) -> Answer
-        requires told { ToldFits self.old.begun (Some form) }
+    /// A block: one that was delivered before is passed. What is expected is changed in place,
+    /// since nearly all that a reel holds are such blocks.
+    #[inline(always)]
+    pub(crate) fn at_data(&mut self, block: &[u8]) -> Answer
+        requires wanted { wants_data self.old.phase ≡ true }
         requires waits { is_finished self.old.position ≡ false }
-        ensures table { (result, self.new) ≡ Table.at_data self.old heading form seen block.now }
+        ensures table { (result, self.new) ≡ Table.at_block self.old self.old.phase block.now }
         ensures checked { result ≡ Answer.Deliver
             → Checked (Some (block' block.now)) self.old self.new }
     {
-        if seen < self.block() {
-            self.passed(Phase::DataWanted(heading, form, seen + 1))
-        } else {
-            self.at_awaited(heading, form, block)
+        let number = self.block();
+        let part = self.part();
+        let Phase::DataWanted(_, form, seen) = &mut self.phase else {
+            unreachable!()
+        };
+        if *seen < number {
+            *seen += 1;
+            return Answer::Passed;
+        }
+        match judge_awaited(form, number, part, self.begun, block) {
+            Err(why) => self.useless(why),
+            Ok(end) => {
+                *seen = number + 1;
+                self.known = Some(*form);
+                self.position = self.position.next_block();
+                self.begun = end;
+                Answer::Deliver
+            }
         }
     }
 
@@ -64,41 +77,38 @@ impl ReaderCore {
             self.passed(Phase::TrailerWanted(heading, form))
         }
     }
+}
 
-    /// The block awaited.
-    fn at_awaited(&mut self, heading: Heading, form: Known, block: &[u8]) -> Answer
-        requires told { ToldFits self.old.begun (Some form) }
-        requires waits { is_finished self.old.position ≡ false }
-        ensures table { (result, self.new) ≡ Table.at_awaited self.old heading form block.now }
-        ensures checked { result ≡ Answer.Deliver
-            → Checked (Some (block' block.now)) self.old self.new }
-    {
-        if self.block() == u32::MAX {
-            return self.useless(Reason::SectionDiffers);
-        }
-        let part = self.part();
-        let begun = begun_before(&form, part, self.begun, block);
-        match check_block(&shape_of(&form), begun, block) {
-            Err(fault) => self.useless(Reason::BadBlock(fault)),
-            Ok(_) if other_front(&form, part, self.begun, block) => {
-                self.useless(Reason::SectionDiffers)
-            }
-            Ok(end) => self.deliver(heading, form, end),
-        }
+/// Whether a block leaves a record begun, where it is the one of this number, or why it is not. So
+/// many of its parts were delivered, and `begun` is said of the next.
+#[inline(always)]
+fn judge_awaited(
+    form: &Known,
+    number: u32,
+    part: u32,
+    begun: bool,
+    block: &[u8],
+) -> Result<bool, Reason>
+    requires told { ToldFits begun (Some form.now) }
+    ensures table { (core : State) (heading : Heading) → block_of core.position ≡ number
+        → part_of core.position ≡ part → core.begun ≡ begun
+        → Table.at_awaited core heading form.now block.now
+        ≡ Table.found_awaited core heading form.now result }
+    ensures more { OnOk result (number < most_blocks) }
+    ensures told { IfOk result (λ end. ToldFits end (Some form.now)) }
+    ensures holds { IfOk result (λ end. (begun : Bool) × (parts : List Portion)
+        × Holds form.now.format form.now.rec_len form.now.offset block.now parts
+        × InOrder begun parts end
+        × ((part ≡ 0) ⊎ (part < length parts))
+        × (length parts ≤ length block.now)) }
+{
+    if number == u32::MAX {
+        return Err(Reason::SectionDiffers);
     }
-
-    /// The block awaited is the next one of the file.
-    fn deliver(&mut self, heading: Heading, form: Known, end: bool) -> Answer
-        requires told { ToldFits end (Some form) }
-        requires waits { is_finished self.old.position ≡ false }
-        requires more { block_of self.old.position < most_blocks }
-        ensures { (result, self.new) ≡ Table.delivered self.old heading form end }
-    {
-        let seen = self.block() + 1;
-        self.position = self.position.next_block();
-        self.begun = end;
-        self.known = Some(form);
-        self.phase = Phase::DataWanted(heading, form, seen);
-        Answer::Deliver
+    let before = begun_before(form, part, begun, block);
+    match check_block(&shape_of(form), before, block) {
+        Err(fault) => Err(Reason::BadBlock(fault)),
+        Ok(_) if other_front(form, part, begun, block) => Err(Reason::SectionDiffers),
+        Ok(end) => Ok(end),
     }
 }
