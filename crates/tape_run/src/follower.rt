@@ -42,6 +42,7 @@ impl Follower {
     }
 
     /// Takes what comes next.
+    #[inline(always)]
     pub fn step(&mut self, event: Event<'_>) -> Answer
         ensures table { (result, self.new.core) ≡ step_of self.old.core (arrival event.entry) }
         ensures file { (place self.new).file ≡ (place self.old).file }

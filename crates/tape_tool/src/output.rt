@@ -12,6 +12,7 @@ use std::io::Write;
 ///
 /// `WriteFailed` where the writer answers an error, an interruption too, or takes nothing of what
 /// is left; then it took a front of the text. A write that failed is not tried again.
+#[inline(always)]
 pub fn write_text<W: Write>(writer: &mut W, text: &[u8]) -> Result<(), FileFault>
     ensures ok { OnOk result
         (Appends (W.contents writer.old) (W.contents writer.new) text.now) }

@@ -12,6 +12,12 @@ use std::rt::Runtime;
 use tape_core::{MemorySink, PartWalk};
 use tape_run::Session;
 
+/// How many bytes of an image are read ahead, at most. All images of a run have such a buffer.
+const READ_AHEAD: usize = 32_768;
+
+/// How many bytes of the output are held before they are written, at most.
+const HELD: usize = 65_536;
+
 /// The images of a run, each behind a buffer, or `None` where one was not opened.
 type Images<R> = Vec<Option<BufReader<<R as Files>::File>>>;
 
@@ -41,7 +47,7 @@ fn gather<R: Runtime + AllocGlobal, S: PartWalk + Drop>(
     session: Session<S>,
 ) -> End {
     let mut images = images;
-    let Ok(mut out) = BufWriter::new(rt.alloc(), OutFile::new(rt, order.out)) else {
+    let Ok(mut out) = BufWriter::with_capacity(rt.alloc(), HELD, OutFile::new(rt, order.out)) else {
         return End::Faulted(Fault::OutOfMemory);
     };
     let mut report = io::writer(rt);
@@ -63,7 +69,7 @@ fn open_images<R: Runtime + AllocGlobal>(rt: &R, names: &Names<'_>) -> io::Resul
     let mut images = Vec::new(rt.alloc());
     for name in names {
         images.push(match File::open(rt, *name) {
-            Ok(file) => Some(BufReader::new(rt.alloc(), file)?),
+            Ok(file) => Some(BufReader::with_capacity(rt.alloc(), READ_AHEAD, file)?),
             Err(_) => None,
         })?;
     }

@@ -91,6 +91,7 @@ pub fn walk_fault(cause: SinkFault) -> ToolFault
 }
 
 /// Writes one part, and the end of the record where it ends one.
+#[inline(always)]
 fn write_part<W: Write>(out: &mut W, part: Part<'_>, form: Form) -> Result<(), FileFault>
     ensures ok { OnOk result (Appends (W.contents out.old) (W.contents out.new)
         (part_text form (view part.entry))) }
