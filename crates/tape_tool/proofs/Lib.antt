@@ -18,3 +18,6 @@ mod Extracted
 mod Fitting
 mod Streams
 mod Turns
+mod Mistakes
+mod MistakesOfEngines
+mod MistakesOfListing
