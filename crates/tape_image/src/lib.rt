@@ -12,8 +12,6 @@ pub mod laws;
 mod put;
 mod reader;
 mod state;
-#[cfg(test)]
-mod tests;
 mod word;
 mod writer;
 

@@ -1,0 +1,44 @@
+//! What a writer answers, call by call.
+
+use super::checks::{same_count, same_write_fault};
+use std::io::Write;
+use std::process::Abort;
+use tape_image::{ImageWriteFault, ImageWriter};
+
+/// A call of a writer.
+#[derive(Clone, Copy)]
+pub(super) enum Call<'a> {
+    Block(&'a [u8]),
+    Mark,
+    Finish,
+}
+
+impl Call<'_> {
+    /// Makes the call. The result is its fault, if it is refused.
+    pub(super) fn on<W: Write + Drop>(
+        self,
+        writer: &mut ImageWriter<W>,
+    ) -> Option<ImageWriteFault> {
+        let answer = match self {
+            Call::Block(content) => writer.block(content),
+            Call::Mark => writer.mark(),
+            Call::Finish => writer.finish(),
+        };
+        answer.err()
+    }
+}
+
+/// A call, the fault with which it is refused, and how many bytes the writer counts behind it.
+pub(super) type Row<'a> = (Call<'a>, Option<ImageWriteFault>, u64);
+
+/// The writer answers so to these calls, one after another.
+pub(super) fn answers<W: Write + Drop>(
+    rt: &impl Abort,
+    writer: &mut ImageWriter<W>,
+    rows: &[Row<'_>],
+) {
+    for (row, (call, fault, size)) in rows.iter().enumerate() {
+        same_write_fault(rt, row, call.on(writer), *fault);
+        same_count(rt, row, writer.size(), *size);
+    }
+}
