@@ -54,9 +54,6 @@ const STARTS: [usize; 13] = [
     0, 88, 176, 264, 268, 1_076, 1_884, 2_292, 2_296, 2_384, 2_472, 2_476, 2_480,
 ];
 
-/// How many bytes the worked image has.
-pub(super) const SIZE: usize = 2_484;
-
 /// How many items end within the first `size` bytes of the worked image, and where the next one
 /// begins.
 pub(super) fn whole_items(size: usize) -> (usize, usize) {
@@ -72,6 +69,11 @@ pub(super) fn whole_items(size: usize) -> (usize, usize) {
 /// So many of the bytes in front, or all where there are no more.
 pub(super) fn front(bytes: &[u8], count: usize) -> &[u8] {
     &bytes[..count.min(bytes.len())]
+}
+
+/// The bytes behind so many.
+pub(super) fn behind(bytes: &[u8], count: usize) -> &[u8] {
+    &bytes[count.min(bytes.len())..]
 }
 
 /// Record `number`: its four digits, and spaces up to 80 characters.
@@ -112,6 +114,14 @@ impl Image<'_> {
         self.bytes.extend_from_slice(&word)
     }
 
+    /// A block of these bytes, or a mark.
+    fn item(&mut self, content: Option<&[u8]>) -> Result<(), AllocError> {
+        match content {
+            Some(content) => self.block(content),
+            None => self.word(MARK),
+        }
+    }
+
     /// A block of fewer than 65,536 bytes.
     fn block(&mut self, content: &[u8]) -> Result<(), AllocError> {
         let [low, high, ..] = content.len().to_le_bytes();
@@ -131,10 +141,7 @@ pub(super) fn worked(alloc: Global, before: &[u8]) -> Result<Vec<u8>, AllocError
         before,
     };
     for item in ITEMS {
-        match item.content(alloc)? {
-            Some(content) => image.block(content.as_slice())?,
-            None => image.word(MARK)?,
-        }
+        image.item(item.content(alloc)?.as_deref())?;
     }
     image.word(END)?;
     Ok(image.bytes)

@@ -18,12 +18,18 @@ fn digits(alloc: Global, count: u32) -> Result<Vec<u8>, AllocError> {
 
 /// A block of these 99,999 digits, one of 100,000 digits and a mark.
 fn two_blocks(alloc: Global, longest: &[u8]) -> Result<Vec<u8>, AllocError> {
-    let mut image = b"\x9F\x86\x01\x00".to_vec(alloc)?;
-    image.extend_from_slice(longest)?;
-    image.extend_from_slice(b"\x00\x9F\x86\x01\x00")?;
-    image.extend_from_slice(b"\xA0\x86\x01\x00")?;
-    image.extend_from_slice(digits(alloc, 100_000)?.as_slice())?;
-    image.extend_from_slice(b"\xA0\x86\x01\x00\x00\x00\x00\x00")?;
+    let longer = digits(alloc, 100_000)?;
+    let pieces: [&[u8]; 5] = [
+        b"\x9F\x86\x01\x00",
+        longest,
+        b"\x00\x9F\x86\x01\x00\xA0\x86\x01\x00",
+        longer.as_slice(),
+        b"\xA0\x86\x01\x00\x00\x00\x00\x00",
+    ];
+    let mut image = Vec::new(alloc);
+    for piece in pieces {
+        image.extend_from_slice(piece)?;
+    }
     Ok(image)
 }
 

@@ -10,6 +10,21 @@ use std::process::Abort;
 use std::test::Fail;
 use tape_image::{Ending, ImageCause, ImageFault, ImageReader, Item};
 
+/// The reader gives this item.
+fn gives_item<R: Read>(
+    rt: &impl Abort,
+    row: usize,
+    reader: &mut ImageReader<'_, R>,
+    content: Option<&[u8]>,
+) {
+    let item = match content {
+        Some(content) => Item::Block(content),
+        None => Item::Mark,
+    };
+    same_ending(rt, row, reader.ending(), None);
+    is_so(rt, row, reader.next() == Ok(Some(item)));
+}
+
 /// Reads the worked image's items one after another, and its end at a place.
 fn reads_each_item<R: Read>(
     rt: &impl Abort,
@@ -20,12 +35,7 @@ fn reads_each_item<R: Read>(
     let mut reader = ImageReader::new(alloc, device)?;
     for (row, item) in ITEMS.iter().enumerate() {
         let content = item.content(alloc)?;
-        let item = match &content {
-            Some(content) => Item::Block(content.as_slice()),
-            None => Item::Mark,
-        };
-        same_ending(rt, row, reader.ending(), None);
-        is_so(rt, row, reader.next() == Ok(Some(item)));
+        gives_item(rt, row, &mut reader, content.as_deref());
     }
     ends(rt, ITEMS.len(), &mut reader, Ending::Marked, end);
     Ok(())

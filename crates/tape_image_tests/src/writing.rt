@@ -18,12 +18,12 @@ const IMAGE: [u8; 30] = [
     0xFF,
 ];
 
-/// The calls that write it.
-const CALLS: [Call<'static>; 4] = [
-    Call::Block(&[7, 8, 9]),
-    Call::Mark,
-    Call::Block(&[5, 6]),
-    Call::Finish,
+/// The calls that write it, and the size behind each.
+const CALLS: [Row<'static>; 4] = [
+    (Call::Block(&[7, 8, 9]), None, 12),
+    (Call::Mark, None, 16),
+    (Call::Block(&[5, 6]), None, 26),
+    (Call::Finish, None, 30),
 ];
 
 /// What a writer of nothing so far writes, which answers so to these calls.
@@ -38,13 +38,7 @@ fn written(rt: &impl Abort, alloc: Global, rows: &[Row<'_>]) -> Vec<u8> {
 
 #[test]
 fn an_image_is_written(rt: HostRuntime) -> Result<(), Fail> {
-    let rows = [
-        (CALLS[0], None, 12),
-        (CALLS[1], None, 16),
-        (CALLS[2], None, 26),
-        (CALLS[3], None, 30),
-    ];
-    let image = written(&rt, rt.alloc(), &rows);
+    let image = written(&rt, rt.alloc(), &CALLS);
     is_so(&rt, 4, image.as_slice() == IMAGE.as_slice());
     Ok(())
 }
@@ -75,12 +69,12 @@ fn bytes_that_the_device_holds_stay(rt: HostRuntime) -> Result<(), Fail> {
 #[test]
 fn a_block_has_1_to_99999_bytes(rt: HostRuntime) -> Result<(), Fail> {
     let bytes = Vec::from_elem(rt.alloc(), 0u8, 100_000)?;
-    let longest = Vec::from_elem(rt.alloc(), 0u8, 99_999)?;
+    let longest = front(bytes.as_slice(), 99_999);
     let mut writer = ImageWriter::new(Counting { taken: 0, calls: 0 });
     let rows = [
         (Call::Block(b""), Some(BlockLength), 0),
         (Call::Block(bytes.as_slice()), Some(BlockLength), 0),
-        (Call::Block(longest.as_slice()), None, 100_008),
+        (Call::Block(longest), None, 100_008),
         (Call::Block(b"x"), None, 100_018),
     ];
     answers(&rt, &mut writer, &rows);
@@ -107,7 +101,7 @@ fn nothing_is_written_behind_the_end_word(rt: HostRuntime) -> Result<(), Fail> {
 fn writes_the_image(device: &mut Narrow) -> (Option<ImageWriteFault>, u64) {
     let mut writer = ImageWriter::new(device);
     let mut fault = None;
-    for call in CALLS {
+    for (call, _, _) in CALLS {
         fault = fault.or(call.on(&mut writer));
     }
     (fault, writer.size())
