@@ -1,0 +1,293 @@
+-- Answers of `ImageReader::next`, and what the reader then is, that its contract excludes: each is
+-- what a wrong body would give for the bytes that are written out.
+use Rattle.std.proofs.Common.{◌≡◌, ◌≢◌, ◌≤◌, ◌+◌, ℕ, List, [], ◌∷◌, ◌++◌, length, refl, sym, ap, ◌∙◌}
+use Rattle.std.proofs.Common.{subst, arith, length-append}
+use Rattle.std.specs.Prelude.{Option, Some, Result, Ok, Err}
+use Rattle.tape_image.specs.declared.item.Ending.TheVariants.{Marked, Physical}
+use Rattle.tape_image.specs.declared.item.Item.{Item}
+use Rattle.tape_image.specs.declared.fault.ImageCause.{ImageCause}
+use Rattle.tape_image.specs.declared.fault.ImageCause.TheVariants.{Truncated, LengthsDiffer}
+use Rattle.tape_image.specs.declared.fault.ImageCause.TheVariants.{Reserved, TooLong, Device}
+use Rattle.tape_image.specs.declared.fault.ImageFault.{ImageFault}
+use Rattle.tape_image.specs.Tape.{TapeItem, block, bad, mark}
+use Rattle.tape_image.specs.Spelling.{a_block, a_gap}
+use Rattle.tape_image.specs.Begins.{image_limit, Stop, ends, faults, Stops, Begins}
+use Rattle.tape_image.specs.Begins.{nothing, at_end_word, past_limit, in_block, words_differ}
+use Rattle.tape_image.specs.Reader.{Reader, going, ended, failed, seen}
+use Rattle.tape_image.specs.Step.{Meets, GivesItem, MeetsFault, TakesItem, TakesFault}
+use Rattle.tape_image.specs.Next.{HasMoved}
+use Rattle.tape_image.proofs.Uniqueness.{Begins-one}
+use Rattle.tape_image.proofs.Walks.{Walks-nil, Walks-item, TakesFault-begins, IfKnown-at}
+use Rattle.tape_image.proofs.Callers.{walked_front, from_going, stays_ended, same_some}
+use Rattle.tape_image.proofs.reader.ImageReader.next.Reads as next
+
+-- ---- readers and bytes
+
+-- a reader that goes on at a place, whose device has these bytes left
+abbrev at : ℕ → List ℕ → ℕ → ℕ → Reader
+at place left device room = record {
+  place = place;
+  left = Some left;
+  status = going;
+  device = device;
+  room = room;
+}
+
+-- a fault at a place
+abbrev fault : ℕ → ImageCause → ImageFault
+fault place cause = record { place = place; cause = cause }
+
+-- bytes that stop at once
+at_once : (p : ℕ) (xs : List ℕ) (stop : Stop) → p ≤ image_limit → Stops p xs stop
+    → Begins p xs [] p stop
+at_once p xs stop near stops =
+    record { rest = xs; walks = Walks-nil p xs; within = near; stops = stops }
+
+-- the item that a call gave is the first that the bytes begin with
+gives_first : (p : ℕ) (xs : List ℕ) (device room : ℕ) (old new : Reader)
+    (result : Result (Option Item) ImageFault) (item : TapeItem) (items : List TapeItem) (end : ℕ)
+    (stop : Stop) → HasMoved old result new → old ≡ at p xs device room
+    → seen result ≡ Ok (Some item) → Begins p xs items end stop
+    → (more : List TapeItem) × (items ≡ (item ∷ []) ++ more)
+gives_first p xs device room old new result item items end stop h e w b =
+    let here : Reader = at p xs device room in
+    let moved : HasMoved here result new = subst (λ r. HasMoved r result new) e h in
+    let gave : GivesItem here item new = subst (λ r. Meets here r new) w moved.answers in
+    let (ys, there, takes) =
+    IfKnown-at (Some xs) new.left (TakesItem p item new.place) xs refl gave.takes in
+    let (more, same, _) = walked_front p xs ys (item ∷ []) items new.place end stop
+    (Walks-item p new.place xs ys item takes) gave.within b in
+    (more, same)
+
+-- so no item is given of bytes that begin with none
+gives_none : (p : ℕ) (xs : List ℕ) (device room : ℕ) (old new : Reader)
+    (result : Result (Option Item) ImageFault) (item : TapeItem) (end : ℕ) (stop : Stop)
+    → HasMoved old result new → old ≡ at p xs device room
+    → seen result ≡ Ok (Some item) → Begins p xs [] end stop → ⊥
+gives_none p xs device room old new result item end stop h e w b =
+    let (more, same) = gives_first p xs device room old new result item [] end stop h e w b in
+    absurd (cc same)
+
+-- what a call took of the bytes for the fault that it told
+takes_fault : (p : ℕ) (xs : List ℕ) (device room : ℕ) (old new : Reader)
+    (result : Result (Option Item) ImageFault) (f : ImageFault) → HasMoved old result new
+    → old ≡ at p xs device room → seen result ≡ Err f
+    → (ys : List ℕ) × (new.left ≡ Some ys) × TakesFault p [] f xs ys
+takes_fault p xs device room old new result f h e w =
+    let here : Reader = at p xs device room in
+    let moved : HasMoved here result new = subst (λ r. HasMoved r result new) e h in
+    let met : MeetsFault here f new = subst (λ r. Meets here r new) w moved.answers in
+    IfKnown-at (Some xs) new.left (TakesFault p [] f) xs refl met.takes
+
+-- a fault that is not the device's is the one stop of the bytes, with no item before it
+fails_so : (p : ℕ) (xs : List ℕ) (device room : ℕ) (old new : Reader)
+    (result : Result (Option Item) ImageFault) (q : ℕ) (cause : ImageCause)
+    (items : List TapeItem) (end : ℕ) (stop : Stop) → HasMoved old result new
+    → old ≡ at p xs device room → seen result ≡ Err (fault q cause) → cause ≢ Device
+    → Begins p xs items end stop → ([] ≡ items) × (q ≡ end) × (faults cause ≡ stop)
+fails_so p xs device room old new result q cause items end stop h e w other b =
+    let (ys, _, takes) = takes_fault p xs device room old new result (fault q cause) h e w in
+    Begins-one p xs [] items q end (faults cause) stop
+    (TakesFault-begins p [] (fault q cause) xs ys takes other) b
+
+-- the block of one byte, its pad byte and its words
+abbrev one_byte : List ℕ
+one_byte = 1 ∷ 0 ∷ 0 ∷ 0 ∷ 7 ∷ 0 ∷ 1 ∷ 0 ∷ 0 ∷ 0 ∷ []
+
+one_byte_begins : Begins 0 one_byte (block (7 ∷ []) ∷ []) 10 (ends Physical)
+one_byte_begins = record {
+  rest = [];
+  walks = record {
+    leads = record {
+      spellings = record {
+        bytes = one_byte;
+        given = block (7 ∷ []) ∷ [];
+        spelled = a_block 1 (7 ∷ []) refl (record {
+          lead = 1 ∷ 0 ∷ 0 ∷ 0 ∷ [];
+          pad = 0 ∷ [];
+          trail = 1 ∷ 0 ∷ 0 ∷ 0 ∷ [];
+          whole = refl;
+          lead_is = record { four = refl; value = refl };
+          pad_is = refl;
+          trail_is = record { four = refl; value = refl };
+        }) refl;
+      } ∷ [];
+      whole = refl;
+      items_are = refl;
+    };
+    moves = refl;
+  };
+  within = omega arith;
+  stops = nothing refl refl;
+}
+
+gap_begins : Begins 0 (254 ∷ 255 ∷ 255 ∷ 255 ∷ []) [] 4 (ends Physical)
+gap_begins = record {
+  rest = [];
+  walks = record {
+    leads = record {
+      spellings = record {
+        bytes = 254 ∷ 255 ∷ 255 ∷ 255 ∷ [];
+        given = [];
+        spelled = a_gap (record { four = refl; value = refl }) refl;
+      } ∷ [];
+      whole = refl;
+      items_are = refl;
+    };
+    moves = refl;
+  };
+  within = omega arith;
+  stops = nothing refl refl;
+}
+
+-- how many bytes the first item has, where it is a block
+abbrev first_length : List TapeItem → ℕ
+first_length (block bytes ∷ items) = length bytes
+first_length (bad ∷ items) = 0
+first_length (mark ∷ items) = 0
+first_length [] = 0
+
+-- ---- one call of `next`, over any reader of bytes
+
+module _ (T : _) (L : _) (g : _) (d : _) (κs : _) (a : _) (z : _) (s : _)
+    (h : next.tells T L g d κs a z s) (device room : ℕ) where
+  abbrev new : Reader
+  new = h.0.lender-at-none
+
+  -- words_not_compared: a block is given whose leading word is 1, and its trailing word 2
+  words_not_compared : a.0.now ≡ at 0 (1 ∷ 0 ∷ 0 ∷ 0 ∷ 7 ∷ 0 ∷ 2 ∷ 0 ∷ 0 ∷ 0 ∷ []) device room
+      → seen z ≡ Ok (Some (block (7 ∷ []))) → ⊥
+  words_not_compared e w =
+      let xs : List ℕ = 1 ∷ 0 ∷ 0 ∷ 0 ∷ 7 ∷ 0 ∷ 2 ∷ 0 ∷ 0 ∷ 0 ∷ [] in
+      gives_none 0 xs device room a.0.now new z (block (7 ∷ [])) 0 (faults LengthsDiffer)
+      h.0.holds-at-none e w
+      (at_once 0 xs (faults LengthsDiffer) (omega arith)
+      (words_differ (omega arith) 1 refl (omega arith) (omega arith)
+      (λ same. let n : 2 ≡ 1 = same in omega arith) refl))
+
+  -- bad_block_words_not_compared: a block that was recorded with an error is told as such, and
+  -- its trailing word is another one
+  bad_block_words_not_compared :
+      a.0.now ≡ at 0 (1 ∷ 0 ∷ 0 ∷ 128 ∷ 7 ∷ 0 ∷ 1 ∷ 0 ∷ 0 ∷ 0 ∷ []) device room
+      → seen z ≡ Ok (Some bad) → ⊥
+  bad_block_words_not_compared e w =
+      let xs : List ℕ = 1 ∷ 0 ∷ 0 ∷ 128 ∷ 7 ∷ 0 ∷ 1 ∷ 0 ∷ 0 ∷ 0 ∷ [] in
+      gives_none 0 xs device room a.0.now new z bad 0 (faults LengthsDiffer)
+      h.0.holds-at-none e w
+      (at_once 0 xs (faults LengthsDiffer) (omega arith)
+      (words_differ (omega arith) 1 refl (omega arith) (omega arith)
+      (λ same. let n : 1 ≡ 2147483649 = same in omega arith) refl))
+
+  -- block_before_trailing_word: a block is given, and the bytes end before its trailing word
+  block_before_trailing_word : a.0.now ≡ at 0 (1 ∷ 0 ∷ 0 ∷ 0 ∷ 7 ∷ 0 ∷ []) device room
+      → seen z ≡ Ok (Some (block (7 ∷ []))) → ⊥
+  block_before_trailing_word e w =
+      let xs : List ℕ = 1 ∷ 0 ∷ 0 ∷ 0 ∷ 7 ∷ 0 ∷ [] in
+      gives_none 0 xs device room a.0.now new z (block (7 ∷ [])) 0 (faults Truncated)
+      h.0.holds-at-none e w
+      (at_once 0 xs (faults Truncated) (omega arith)
+      (in_block (omega arith) 10 refl (omega arith) (omega arith) refl))
+
+  -- pad_byte_forgotten: a block of one byte is given, with no pad byte before its trailing word
+  pad_byte_forgotten : a.0.now ≡ at 0 (1 ∷ 0 ∷ 0 ∷ 0 ∷ 7 ∷ 1 ∷ 0 ∷ 0 ∷ 0 ∷ []) device room
+      → seen z ≡ Ok (Some (block (7 ∷ []))) → ⊥
+  pad_byte_forgotten e w =
+      let xs : List ℕ = 1 ∷ 0 ∷ 0 ∷ 0 ∷ 7 ∷ 1 ∷ 0 ∷ 0 ∷ 0 ∷ [] in
+      gives_none 0 xs device room a.0.now new z (block (7 ∷ [])) 0 (faults Truncated)
+      h.0.holds-at-none e w
+      (at_once 0 xs (faults Truncated) (omega arith)
+      (in_block (omega arith) 10 refl (omega arith) (omega arith) refl))
+
+  -- pad_byte_forgotten_in_pieces: the same of a block that is passed by, as one that was recorded
+  -- with an error
+  pad_byte_forgotten_in_pieces :
+      a.0.now ≡ at 0 (1 ∷ 0 ∷ 0 ∷ 128 ∷ 7 ∷ 1 ∷ 0 ∷ 0 ∷ 128 ∷ []) device room
+      → seen z ≡ Ok (Some bad) → ⊥
+  pad_byte_forgotten_in_pieces e w =
+      let xs : List ℕ = 1 ∷ 0 ∷ 0 ∷ 128 ∷ 7 ∷ 1 ∷ 0 ∷ 0 ∷ 128 ∷ [] in
+      gives_none 0 xs device room a.0.now new z bad 0 (faults Truncated)
+      h.0.holds-at-none e w
+      (at_once 0 xs (faults Truncated) (omega arith)
+      (in_block (omega arith) 10 refl (omega arith) (omega arith) refl))
+
+  -- end_word_read_past: the mark behind an end word is given
+  end_word_read_past :
+      a.0.now ≡ at 0 (255 ∷ 255 ∷ 255 ∷ 255 ∷ 0 ∷ 0 ∷ 0 ∷ 0 ∷ []) device room
+      → seen z ≡ Ok (Some mark) → ⊥
+  end_word_read_past e w =
+      let xs : List ℕ = 255 ∷ 255 ∷ 255 ∷ 255 ∷ 0 ∷ 0 ∷ 0 ∷ 0 ∷ [] in
+      gives_none 0 xs device room a.0.now new z mark 0 (ends Marked) h.0.holds-at-none e w
+      (at_once 0 xs (ends Marked) (omega arith)
+      (at_end_word (omega arith) refl (omega arith) refl))
+
+  -- gap_given_as_mark: an erase gap is given as a mark
+  gap_given_as_mark : a.0.now ≡ at 0 (254 ∷ 255 ∷ 255 ∷ 255 ∷ []) device room
+      → seen z ≡ Ok (Some mark) → ⊥
+  gap_given_as_mark e w =
+      gives_none 0 (254 ∷ 255 ∷ 255 ∷ 255 ∷ []) device room a.0.now new z mark 4 (ends Physical)
+      h.0.holds-at-none e w gap_begins
+
+  -- block_lent_shifted: a block is lent without its first byte
+  block_lent_shifted : a.0.now ≡ at 0 one_byte device room → seen z ≡ Ok (Some (block [])) → ⊥
+  block_lent_shifted e w =
+      let (more, same) = gives_first 0 one_byte device room a.0.now new z (block [])
+      (block (7 ∷ []) ∷ []) 10 (ends Physical) h.0.holds-at-none e w one_byte_begins in
+      absurd (let n : 1 ≡ 0 = ap first_length same in omega arith)
+
+  -- whole_bytes_told_as_truncated: a whole block is told as cut off
+  whole_bytes_told_as_truncated : a.0.now ≡ at 0 one_byte device room
+      → seen z ≡ Err (fault 0 Truncated) → ⊥
+  whole_bytes_told_as_truncated e w =
+      let (none, _, _) = fails_so 0 one_byte device room a.0.now new z 0 Truncated
+      (block (7 ∷ []) ∷ []) 10 (ends Physical) h.0.holds-at-none e w (λ same. absurd (cc same))
+      one_byte_begins in
+      absurd (cc none)
+
+  -- too_long_told_as_truncated: a mark that would end past the limit is told as cut off
+  too_long_told_as_truncated : a.0.now ≡ at 4294967292 (0 ∷ 0 ∷ 0 ∷ 0 ∷ []) device room
+      → seen z ≡ Err (fault 4294967292 Truncated) → ⊥
+  too_long_told_as_truncated e w =
+      let xs : List ℕ = 0 ∷ 0 ∷ 0 ∷ 0 ∷ [] in
+      let (_, _, same) = fails_so 4294967292 xs device room a.0.now new z 4294967292 Truncated []
+      4294967292 (faults TooLong) h.0.holds-at-none e w (λ same. absurd (cc same))
+      (at_once 4294967292 xs (faults TooLong) (omega arith)
+      (past_limit (omega arith) 4 refl (omega arith) refl)) in
+      absurd (cc same)
+
+  -- too_long_after_the_data: a block that would end past the limit is taken whole before the fault
+  too_long_after_the_data : a.0.now ≡ at 4294967290 one_byte device room
+      → seen z ≡ Err (fault 4294967290 TooLong) → new.left ≡ Some [] → ⊥
+  too_long_after_the_data e w none =
+      let (ys, there, takes) = takes_fault 4294967290 one_byte device room a.0.now new z
+      (fault 4294967290 TooLong) h.0.holds-at-none e w in
+      let left : ys ≡ [] = same_some ys [] new.left there none in
+      let whole : 10 ≡ length takes.given + length ys
+      = ap length takes.whole ∙ length-append takes.given ys in
+      let word : 4294967290 + length takes.given ≡ 4294967290 + 4 = takes.cause.1 in
+      absurd (omega (arith, whole, word, ap length left))
+
+  -- place_behind_the_fault: the reader stands behind the word that begins nothing
+  place_behind_the_fault : (p w : ℕ) → a.0.now.status ≡ going
+      → seen z ≡ Err (fault p (Reserved w)) → new.place ≡ p + 4 → ⊥
+  place_behind_the_fault p w on e far =
+      let m : MeetsFault a.0.now (fault p (Reserved w)) new = subst (λ r. Meets a.0.now r new) e
+      (from_going a.0.now z new h.0.holds-at-none on) in
+      absurd (omega (arith, far, m.place))
+
+  -- fault_not_kept: behind a word that begins nothing the reader goes on
+  fault_not_kept : (p w : ℕ) → a.0.now.status ≡ going → seen z ≡ Err (fault p (Reserved w))
+      → new.status ≡ going → ⊥
+  fault_not_kept p w on e goes_on =
+      let m : MeetsFault a.0.now (fault p (Reserved w)) new = subst (λ r. Meets a.0.now r new) e
+      (from_going a.0.now z new h.0.holds-at-none on) in
+      absurd (let d : going ≡ failed (fault p (Reserved w)) = sym goes_on ∙ m.failed in cc)
+
+  -- end_answered_once: behind the end that it answered the reader goes on
+  end_answered_once : a.0.now.status ≡ ended Marked → new.status ≡ going → ⊥
+  end_answered_once e goes_on =
+      let (_, same) = stays_ended a.0.now z new Marked h.0.holds-at-none e in
+      absurd (let d : going ≡ ended Marked = sym goes_on ∙ ap (λ r. r.status) same ∙ e in cc)
+
+  -- memory_taken_at_each_call: a call doubles the buffer's memory
+  memory_taken_at_each_call : a.0.now.room ≡ 100000 → new.room ≡ 200000 → ⊥
+  memory_taken_at_each_call e w = absurd (omega (arith, e, w, h.0.holds-at-none.same_room))
