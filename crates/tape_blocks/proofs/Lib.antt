@@ -5,6 +5,9 @@ pub mod JoinLaws
 pub mod JudgedLaws
 pub mod LongerRuns
 pub mod LongestFronts
+mod Mistakes
+mod MistakesOfPacking
+mod MistakesOfParts
 pub mod PackLaws
 pub mod PackerSteps
 pub mod PaddingLaws
