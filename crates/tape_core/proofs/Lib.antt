@@ -22,3 +22,7 @@ pub mod OneFile
 pub mod Standing
 pub mod Weights
 pub mod Laid
+mod Cases
+mod Mistakes
+mod MistakesOfPlaces
+mod MistakesOfSinks
