@@ -25,3 +25,7 @@ pub mod WholeSets
 pub mod WholeCopies
 pub mod Lacking
 pub mod Listing
+mod Mistakes
+mod MistakesOfCatalogues
+mod MistakesOfReels
+mod MistakesOfRuns

@@ -1,0 +1,223 @@
+-- Answers that the contract of `Session::reel` excludes: each is what a wrong body would give.
+use Rattle.std.proofs.Common.{◌≡◌, ◌⊎◌, inl, inr, ℕ, ◌+◌, ◌≤◌, List, [], ◌∷◌, ◌++◌, length, refl}
+use Rattle.std.proofs.Common.{sym, ap, ◌∙◌, subst, arith, length-append, append_assoc, append-nil}
+use Rattle.std.specs.Prelude.{Option, Some, None, Ok}
+use Rattle.std.specs.List.{AllByRecursion}
+use Rattle.tape_image.specs.declared.fault.ImageCause.TheVariants as causes
+use Rattle.tape_image.specs.declared.fault.ImageFault.{ImageFault}
+use Rattle.tape_image.specs.declared.item.Ending.TheVariants as endings
+use Rattle.tape_image.specs.Tape.{TapeItem, mark}
+use Rattle.tape_image.specs.Begins.{image_limit, Stop, ends, faults, Begins, in_word, nothing}
+use Rattle.tape_image.specs.Reader.{IfKnown}
+use Rattle.tape_image.proofs.Callers.{walked_front}
+use Rattle.tape_image.proofs.Uniqueness.{Begins-one}
+use Rattle.tape_image.proofs.Walks.{Walks-nil, TakesFault-begins}
+use Rattle.tape_set.specs.declared.position.Position.{Position}
+use Rattle.tape_set.specs.declared.position.Position.TheVariants.{Awaits, Finished}
+use Rattle.tape_core.specs.declared.answer.Answer.TheVariants.{SectionDone, Complete, Useless}
+use Rattle.tape_core.specs.declared.answer.Reason.TheVariants.{NotLabelled}
+use Rattle.tape_core.specs.State.{State}
+use Rattle.tape_core.specs.Table.{mount_of, reader_of}
+use Rattle.tape_run.specs.declared.answer.ReelAnswer.{ReelAnswer}
+use Rattle.tape_run.specs.Reels.{Reads, ReadsReel, EndedByItem, EndedByMedium, EndedByFault, GoesOn}
+use Rattle.tape_run.specs.Reels.{answers_to, delivered_by}
+use Rattle.tape_run.proofs.session.Session.reel.Reads as reel
+
+-- what a reel answers that is read from this position on, where the reader tells its bytes
+read_from : (old : State) (p : Position) (before after : Option (List ℕ)) (bytes left : List ℕ)
+    (answer : ReelAnswer)
+    → IfKnown before after (λ xs ys. Reads old.position old xs ys answer)
+    → old.position ≡ p → before ≡ Some bytes → after ≡ Some left → Reads p old bytes left answer
+read_from old p before after bytes left answer k q b e =
+    let f : (xs ys : List ℕ) → Type 0 = λ xs ys. Reads old.position old xs ys answer in
+    let r : f bytes left = subst (λ v. IfKnown (Some bytes) v f) e
+    (subst (λ v. IfKnown v after f) b k) in
+    subst (λ v. Reads v old bytes left answer) q r
+
+-- complete_without_end: of a complete file another answer than Complete.
+complete_without_end : (S : _) (R : _) (LS : _) (LR : _) (g : _) (d : _) (h : _) (e : _) (κs : _)
+    (a : _) (answer : _) (s : _) (bytes left : List ℕ)
+    → reel.Learnt-named S R LS LR g d h e κs a (Ok answer) s
+    → a.0.now.core.position ≡ Finished → h.remaining a.1.0.now ≡ Some bytes
+    → h.remaining s.1.0.now ≡ Some left → answer.answer ≡ SectionDone → ⊥
+complete_without_end S R LS LR g d h e κs a answer s bytes left l p b q w =
+    let c = read_from a.0.now.core Finished (h.remaining a.1.0.now) (h.remaining s.1.0.now) bytes
+    left answer l.answer p b q in
+    let f : SectionDone ≡ Complete = sym w ∙ c.1 in
+    absurd (cc)
+
+-- three bytes, which are no word
+abbrev three : List ℕ
+three = 1 ∷ 2 ∷ 3 ∷ []
+
+-- they begin with no item, and the fault is that they are cut off
+cut_word : Begins 0 three [] 0 (faults causes.Truncated)
+cut_word = record {
+  rest = three;
+  walks = Walks-nil 0 three;
+  within = omega arith;
+  stops = in_word (omega arith) (omega arith) refl;
+}
+
+-- of them only an answer with a fault can be given
+cut_is_told : (core : State) (items : List TapeItem) (left : List ℕ) (answer : ReelAnswer)
+    → answer.fault ≡ None
+    → EndedByItem core items three left answer
+    ⊎ (EndedByMedium core items three left answer ⊎ EndedByFault core items three left answer) → ⊥
+cut_is_told core items left answer none (inl w) =
+    let far : 0 + 3 ≡ w.at + length left = w.taken.moves in
+    let (more, same, _) = walked_front 0 three left (items ++ w.item ∷ []) [] w.at 0
+    (faults causes.Truncated) w.taken (omega (arith, far)) cut_word in
+    omega (
+      arith,
+      ap length same,
+      length-append (items ++ w.item ∷ []) more,
+      length-append items (w.item ∷ []),
+    )
+cut_is_told core items left answer none (inr (inl w)) =
+    let e : faults causes.Truncated ≡ ends w.ending
+    = (Begins-one 0 three [] items 0 w.taken.end (faults causes.Truncated) (ends w.ending)
+    cut_word w.taken.begins).2 in
+    absurd (cc e)
+cut_is_told core items left answer none (inr (inr w)) = absurd (cc (none, w.told))
+
+-- image_fault_swallowed: of an image of three bytes, which are no word, no fault is told.
+image_fault_swallowed : (S : _) (R : _) (LS : _) (LR : _) (g : _) (d : _) (h : _) (e : _) (κs : _)
+    (a : _) (answer : _) (s : _) (left : List ℕ)
+    → reel.Learnt-named S R LS LR g d h e κs a (Ok answer) s
+    → a.0.now.core.position ≡ Awaits 1 0 0 → h.remaining a.1.0.now ≡ Some three
+    → h.remaining s.1.0.now ≡ Some left → answer.fault ≡ None → ⊥
+image_fault_swallowed S R LS LR g d h e κs a answer s left l p b q none =
+    let old : State = a.0.now.core in
+    let c : ReadsReel (mount_of old) three left answer = read_from old (Awaits 1 0 0)
+    (h.remaining a.1.0.now) (h.remaining s.1.0.now) three left answer l.answer p b q in
+    cut_is_told (mount_of old) c.items left answer none c.ended
+
+-- the items behind which a cut image stopped are those that the answer's fault was met behind
+cut_behind : (core : State) (items xs : List TapeItem) (bytes left : List ℕ) (answer : ReelAnswer)
+    (place end : ℕ)
+    → answer.fault ≡ Some (record { place = place; cause = causes.Truncated })
+    → Begins 0 bytes xs end (faults causes.Truncated)
+    → EndedByItem core items bytes left answer
+    ⊎ (EndedByMedium core items bytes left answer ⊎ EndedByFault core items bytes left answer)
+    → items ≡ xs
+cut_behind core items xs bytes left answer place end told begins (inl w) =
+    absurd (cc (told, w.no_fault))
+cut_behind core items xs bytes left answer place end told begins (inr (inl w)) =
+    absurd (cc (told, w.no_fault))
+cut_behind core items xs bytes left answer place end told begins (inr (inr w)) =
+    let cut : ImageFault = record { place = place; cause = causes.Truncated } in
+    let same : w.fault ≡ cut = cc (told, w.told) in
+    let cause : w.fault.cause ≡ causes.Truncated = ap (λ f. f.cause) same in
+    let there = TakesFault-begins 0 items w.fault bytes left w.taken (λ device. absurd
+    (cc (device, cause))) in
+    (Begins-one 0 bytes items xs w.fault.place end (faults w.fault.cause)
+    (faults causes.Truncated) there begins).0
+
+-- blocks_not_counted: two blocks of a cut image were delivered, and none is told.
+blocks_not_counted : (S : _) (R : _) (LS : _) (LR : _) (g : _) (d : _) (h : _) (e : _) (κs : _)
+    (a : _) (answer : _) (s : _) (bytes left : List ℕ) (xs : List TapeItem) (place end : ℕ)
+    → reel.Learnt-named S R LS LR g d h e κs a (Ok answer) s
+    → a.0.now.core.position ≡ Awaits 1 0 0 → h.remaining a.1.0.now ≡ Some bytes
+    → h.remaining s.1.0.now ≡ Some left
+    → Begins 0 bytes xs end (faults causes.Truncated)
+    → delivered_by (answers_to (mount_of a.0.now.core) xs) ≡ 2
+    → answer.fault ≡ Some (record { place = place; cause = causes.Truncated })
+    → answer.blocks ≡ 0 → ⊥
+blocks_not_counted S R LS LR g d h e κs a answer s bytes left xs place end l p b q begins two told
+    none =
+    let old : State = a.0.now.core in
+    let c : ReadsReel (mount_of old) bytes left answer = read_from old (Awaits 1 0 0)
+    (h.remaining a.1.0.now) (h.remaining s.1.0.now) bytes left answer l.answer p b q in
+    let same : c.items ≡ xs
+    = cut_behind (mount_of old) c.items xs bytes left answer place end told begins c.ended in
+    let n : 0 ≡ 2 = sym none ∙ c.blocks
+    ∙ ap (λ v. delivered_by (answers_to (mount_of old) v)) same ∙ two in
+    absurd (omega (arith, n))
+
+-- a session at the start of a file, where a reel is mounted
+abbrev mounted : List ℕ → State
+mounted set_id = mount_of (reader_of set_id 1)
+
+-- a tape mark is no volume label, and no reading goes on behind it
+marked_first : (set_id : List ℕ) (x : TapeItem) (items : List TapeItem) → x ≡ mark
+    → AllByRecursion GoesOn (answers_to (mounted set_id) (x ∷ items)) → ⊥
+marked_first set_id x items e on = goes (subst
+    (λ v. AllByRecursion GoesOn (answers_to (mounted set_id) (v ∷ items))) e on).0
+  where
+    goes : GoesOn (Useless NotLabelled) → ⊥
+    goes (inl w) = absurd (cc w)
+    goes (inr w) = absurd (cc w)
+
+-- an image of two tape marks
+abbrev marks : List TapeItem
+marks = mark ∷ mark ∷ []
+
+-- the first item of these
+abbrev front_item : List TapeItem → TapeItem
+front_item [] = mark
+front_item (x ∷ xs) = x
+
+-- a reading that went on behind these items of the image went on behind none
+none_before : (set_id : List ℕ) (items more : List TapeItem)
+    → AllByRecursion GoesOn (answers_to (mounted set_id) items) → marks ≡ items ++ more
+    → items ≡ []
+none_before set_id [] more on e = refl
+none_before set_id (x ∷ items) more on e =
+    absurd (marked_first set_id x items (sym (ap front_item e)) on)
+
+-- the second mark was not taken
+second_stays : (set_id bytes : List ℕ) (items : List TapeItem) (answer : ReelAnswer) (end : ℕ)
+    (stop : Stop) → length bytes ≤ image_limit → Begins 0 bytes marks end stop
+    → answer.fault ≡ None
+    → AllByRecursion GoesOn (answers_to (mounted set_id) items)
+    → EndedByItem (mounted set_id) items bytes [] answer
+    ⊎ (EndedByMedium (mounted set_id) items bytes [] answer
+    ⊎ EndedByFault (mounted set_id) items bytes [] answer) → ⊥
+second_stays set_id bytes items answer end stop near begins none on (inl w) =
+    let far : 0 + length bytes ≡ w.at + 0 = w.taken.moves in
+    let (more, same, rest) = walked_front 0 bytes [] (items ++ w.item ∷ []) marks w.at end stop
+    w.taken (omega (arith, near, far)) begins in
+    let all : marks ≡ items ++ (w.item ∷ more) = same ∙ append_assoc items (w.item ∷ []) more in
+    let no : items ≡ [] = none_before set_id items (w.item ∷ more) on all in
+    let gone : Begins w.at [] [] w.at (ends endings.Physical) = record {
+      rest = [];
+      walks = Walks-nil w.at [];
+      within = omega (arith, near, far);
+      stops = nothing refl refl;
+    } in
+    let empty : more ≡ [] = (Begins-one w.at [] more [] end w.at stop (ends endings.Physical)
+    rest gone).0 in
+    omega (
+      arith,
+      ap length same,
+      ap length empty,
+      ap length no,
+      length-append (items ++ w.item ∷ []) more,
+      length-append items (w.item ∷ []),
+    )
+second_stays set_id bytes items answer end stop near begins none on (inr (inl w)) =
+    let same : marks ≡ items = (Begins-one 0 bytes marks items end w.taken.end stop (ends w.ending)
+    begins w.taken.begins).0 in
+    let no : items ≡ [] = none_before set_id items [] on (same ∙ sym (append-nil items)) in
+    omega (arith, ap length same, ap length no)
+second_stays set_id bytes items answer end stop near begins none on (inr (inr w)) =
+    absurd (cc (none, w.told))
+
+-- reads_on_after_final_answer: of an image of two tape marks, the first of which ends the reading,
+-- nothing is left.
+reads_on_after_final_answer : (S : _) (R : _) (LS : _) (LR : _) (g : _) (d : _) (h : _) (e : _)
+    (κs : _) (a : _) (answer : _) (s : _) (set_id bytes : List ℕ) (end : ℕ) (stop : Stop)
+    → reel.Learnt-named S R LS LR g d h e κs a (Ok answer) s
+    → a.0.now.core ≡ reader_of set_id 1 → h.remaining a.1.0.now ≡ Some bytes
+    → length bytes ≡ 8 → Begins 0 bytes marks end stop
+    → answer.fault ≡ None → h.remaining s.1.0.now ≡ Some [] → ⊥
+reads_on_after_final_answer S R LS LR g d h e κs a answer s set_id bytes end stop l p b eight
+    begins none q =
+    let old : State = a.0.now.core in
+    let c : ReadsReel (mount_of old) bytes [] answer = read_from old (Awaits 1 0 0)
+    (h.remaining a.1.0.now) (h.remaining s.1.0.now) bytes [] answer l.answer
+    (ap (λ v. v.position) p) b q in
+    let r : ReadsReel (mounted set_id) bytes [] answer
+    = subst (λ v. ReadsReel (mount_of v) bytes [] answer) p c in
+    second_stays set_id bytes r.items answer end stop (omega (arith, eight)) begins none r.on r.ended

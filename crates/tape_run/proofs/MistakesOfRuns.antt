@@ -1,0 +1,151 @@
+-- Answers that the contracts of a run and of whole readings exclude: each is what a wrong body
+-- would give.
+use Rattle.std.proofs.Common.{◌≡◌, ◌⊎◌, inl, inr, ℕ, List, [], ◌∷◌, map, Bool, true, false, refl}
+use Rattle.std.proofs.Common.{sym, ap, ◌∙◌, subst, arith}
+use Rattle.std.specs.Prelude.{Option, Some, Ok, Err, IsSome}
+use Rattle.tape_blocks.specs.Block.{Portion}
+use Rattle.tape_set.specs.declared.position.Position.TheVariants.{Awaits}
+use Rattle.tape_set.specs.Position.{part_of, start}
+use Rattle.tape_set.specs.Before.{before}
+use Rattle.tape_set.specs.Layout.{FileSet, file_of}
+use Rattle.tape_set.specs.Lawful.{IsLawful}
+use Rattle.tape_set.specs.Reach.{far}
+use Rattle.tape_set.proofs.Reaching.{far_keeps_part}
+use Rattle.tape_core.specs.Place.{rest_of}
+use Rattle.tape_core.specs.Point.{Point}
+use Rattle.tape_core.specs.Stands.{Stands}
+use Rattle.tape_core.specs.State.{State}
+use Rattle.tape_run.specs.declared.fault.RunFault.TheVariants as run_faults
+use Rattle.tape_run.specs.declared.script.Step.{Step}
+use Rattle.tape_run.specs.declared.script.Step.TheVariants.{Reel}
+use Rattle.tape_run.specs.Given.{IsGiven, AreGiven}
+use Rattle.tape_run.specs.Headline.{begins}
+use Rattle.tape_run.specs.History.{IsHistory, course, after}
+use Rattle.tape_run.specs.Mount.{Happening, reads, foreign_reel, saves, restarts, IsMountOf}
+use Rattle.tape_run.specs.Runs.{Runs}
+use Rattle.tape_run.specs.Seen.{Seen, seen, KeepsNotes}
+use Rattle.tape_run.proofs.script.run.Reads as run
+use Rattle.tape_run.proofs.whole.go_on.Reads as go_on
+use Rattle.tape_run.proofs.whole.read_file.Reads as read_file
+
+-- a sink of which this is said holds one list of parts, as a sink in memory does
+abbrev HoldsOne : (List Portion → Type 0) → Type 0
+HoldsOne holds = (xs ys : List Portion) → holds xs → holds ys → xs ≡ ys
+
+-- ---- scripts
+
+-- what `run` asks of notes holds where there are none
+kept_without : (place : State) (held : List Portion) (notes : List Point) → notes ≡ []
+    → KeepsNotes place [] notes held
+kept_without place held notes none =
+    subst (λ v. KeepsNotes place [] v held) (sym none) (held, refl)
+
+-- a run that asks for a reel where no reader is left is not ended by another fault
+other_fault : (old new : Seen) (steps : List Step) (left : List (Option (List ℕ)))
+    → steps ≡ Reel ∷ [] → left ≡ [] → Runs old steps left (Err run_faults.NoSuchPoint) new → ⊥
+other_fault old new steps left one none r =
+    let w = subst (λ v. Runs old v [] (Err run_faults.NoSuchPoint) new) one
+    (subst (λ v. Runs old steps v (Err run_faults.NoSuchPoint) new) none r) in
+    absurd (cc (w.0))
+
+-- no_reel_told_as_no_point: a reel is asked for and there is no reader, and it is told that no such
+-- point was saved.
+no_reel_told_as_no_point : (S : _) (R : _) (LS : _) (LR : _) (g : _) (d : _) (h : _) (e : _)
+    (κs : _) (a : _) (s : _) (held : List Portion)
+    → run.Learnt-named S R LS LR g d h e κs a (Err run_faults.NoSuchPoint) s
+    → g.holds a.0.now.sink held → a.0.now.notes ≡ []
+    → a.1.0.now ≡ Reel ∷ [] → map h.remaining a.1.1.0.now ≡ [] → ⊥
+no_reel_told_as_no_point S R LS LR g d h e κs a s held l was fresh one none =
+    let kept = kept_without (rest_of a.0.now.core) held a.0.now.notes fresh in
+    other_fault _ _ a.1.0.now (map h.remaining a.1.1.0.now) one none (l.faults held was kept).3
+
+-- of two reels that a script asks for the second is not made where there is one reader
+second_reel : (old new : Seen) (bytes : List ℕ)
+    → Runs old (Reel ∷ Reel ∷ []) (Some bytes ∷ []) (Ok tt) new → ⊥
+second_reel old new bytes (inl (failed, mid, r, runs)) = absurd (cc (runs.0))
+second_reel old new bytes (inr (fault, e, why)) = absurd (cc e)
+
+-- same_reel_read_again: there is one reader, and both reels of a script are told as read.
+same_reel_read_again : (S : _) (R : _) (LS : _) (LR : _) (g : _) (d : _) (h : _) (e : _)
+    (κs : _) (a : _) (s : _) (held : List Portion) (bytes : List ℕ)
+    → run.Learnt-named S R LS LR g d h e κs a (Ok tt) s
+    → g.holds a.0.now.sink held → a.0.now.notes ≡ []
+    → a.1.0.now ≡ Reel ∷ Reel ∷ [] → map h.remaining a.1.1.0.now ≡ Some bytes ∷ [] → ⊥
+same_reel_read_again S R LS LR g d h e κs a s held bytes l was fresh two one =
+    let kept = kept_without (rest_of a.0.now.core) held a.0.now.notes fresh in
+    let r = l.runs held was kept in
+    let old : Seen = seen g.refusals a.0.now held in
+    let new : Seen = seen g.refusals s.0.now r.0 in
+    second_reel old new bytes (subst (λ v. Runs old v (Some bytes ∷ []) (Ok tt) new) two
+    (subst (λ v. Runs old a.1.0.now v (Ok tt) new) one r.2))
+
+-- ---- whole readings
+
+-- a mount takes the start of a file to the front of a block
+to_a_front : (set : FileSet) (file : ℕ) (bytes : List ℕ) (m : Happening) → IsMountOf set bytes m
+    → part_of (after set file begins m).at ≡ 0
+to_a_front set file bytes (reads r) m = at_front (far_keeps_part set file start r)
+  where
+    at_front : (far set file start r ≡ start) ⊎ (part_of (far set file start r) ≡ 0)
+        → part_of (far set file start r) ≡ 0
+    at_front (inl e) = ap part_of e
+    at_front (inr e) = e
+to_a_front set file bytes foreign_reel m = refl
+to_a_front set file bytes saves (xs, end, stop, b, m) = absurd m
+to_a_front set file bytes (restarts n) (xs, end, stop, b, m) = absurd m
+
+-- whatever a reader gives of its bytes is a copy of a volume of the set, or none of the set: so it
+-- is with the image of a volume, any front of which is a reading that was cut there
+abbrev GivesMounts : FileSet → List ℕ → Type 0
+GivesMounts set bytes =
+    (failed : Bool) (given : List ℕ) → IsGiven failed bytes given
+    → (m : Happening) × IsMountOf set given m
+
+-- what was given of one reader
+one_given : (set : FileSet) (bytes : List ℕ) (failed : ℕ) (given : List (List ℕ))
+    → GivesMounts set bytes → AreGiven failed (bytes ∷ []) given
+    → (m : Happening) × IsHistory set 0 (Reel ∷ []) given (m ∷ [])
+    × ((file : ℕ) → part_of (course set file begins (m ∷ [])).at ≡ 0)
+one_given set bytes failed [] all a = absurd a
+one_given set bytes failed (x ∷ xs) all (inl (is, rest)) =
+    let (m, of) = all false x is in (m, (of, tt), λ file. to_a_front set file x m of)
+one_given set bytes failed (x ∷ xs) all (inr (n, more, is, rest)) =
+    let (m, of) = all true x is in (m, (of, tt), λ file. to_a_front set file x m of)
+
+-- partial_file_given: the sink refused part 3 of a block, and the file is given as one that was
+-- read.
+partial_file_given : (R : _) (LR : _) (h : _) (d : _) (κs : _) (a : _) (session : _) (s : _)
+    (set : FileSet) (bytes : List ℕ) → read_file.Learnt R LR h d κs a (Some session) s
+    → IsLawful set → a.1.0 ≡ set.set_id → IsSome (file_of set a.1.1.0) → GivesMounts set bytes
+    → a.1.1.1.0.now ≡ Reel ∷ [] → map h.remaining a.1.1.1.1.0.now ≡ Some bytes ∷ []
+    → session.core.position ≡ Awaits 1 0 3 → ⊥
+partial_file_given R LR h d κs a session s set bytes k lawful id file all one known stands =
+    let r = k (bytes ∷ []) known in
+    let (m, history, front) = one_given set bytes r.3.failed r.3.given all r.3.are_given in
+    let steps : IsHistory set 0 a.1.1.1.0.now r.3.given (m ∷ [])
+    = subst (λ v. IsHistory set 0 v r.3.given (m ∷ [])) (sym one) history in
+    let c = (r.3.reads set (m ∷ []) lawful id file steps).0 in
+    let n : 3 ≡ 0 = sym (ap part_of stands) ∙ sym (ap (λ v. part_of v.position) r.2)
+    ∙ ap (λ v. part_of v.at) c ∙ front a.1.1.0 in
+    absurd (omega (arith, n))
+
+-- stopped_run_told_as_done: the sink refused a part, and the run is told as done. What it holds lies
+-- before no position that the readers' histories lead to: all of these are at the front of a block,
+-- and it has some parts of one.
+stopped_run_told_as_done : (S : _) (R : _) (LS : _) (LR : _) (g : _) (d : _) (h : _) (e : _)
+    (κs : _) (a : _) (session : _) (s : _) (set : FileSet) (held now : List Portion)
+    (bytes : List (List ℕ))
+    → go_on.Learnt-named S R LS LR g d h e κs a (session, Ok tt) s
+    → g.holds a.1.1.0 held → IsLawful set → Stands set a.1.0.now.file a.1.0.now held
+    → map h.remaining a.1.1.1.1.0.now ≡ map Some bytes
+    → HoldsOne (g.holds session.sink) → g.holds session.sink now
+    → ((failed : ℕ) (given : List (List ℕ)) → AreGiven failed bytes given
+    → (hs : List Happening) × IsHistory set 0 a.1.1.1.0.now given hs
+    × (now ≡ before set a.1.0.now.file (course set a.1.0.now.file
+    (record { at = a.1.0.now.position; notes = [] }) hs).at → ⊥)) → ⊥
+stopped_run_told_as_done S R LS LR g d h e κs a session s set held now bytes l was lawful stands
+    known one there none =
+    let r = l.delivers held was in
+    let f = r.2 bytes known in
+    let (hs, history, other) = none f.failed f.given f.are_given in
+    other (one now r.0 there r.1 ∙ f.delivers set hs lawful stands history)

@@ -1,0 +1,99 @@
+-- Answers that the contracts of an intake exclude: each is what a wrong body would give.
+use Rattle.std.proofs.Common.{◌≡◌, ℕ, ◌+◌, ◌<◌, List, [], ◌∷◌, ◌++◌, length, drop, Bool, true}
+use Rattle.std.proofs.Common.{false, sym, ap, ◌∙◌, subst, arith, length-append}
+use Rattle.std.specs.Prelude.{Some, Ok, slice_get, ◌==◌, ◌&&◌, if◌then◌else◌}
+use Rattle.tape_blocks.specs.Block.{Portion, Holds}
+use Rattle.tape_image.specs.Tape.{TapeItem}
+use Rattle.tape_set.specs.declared.position.Position.{Position}
+use Rattle.tape_set.specs.declared.position.Position.TheVariants.{Awaits}
+use Rattle.tape_set.specs.Position.{block_of, part_of}
+use Rattle.tape_set.specs.Before.{before}
+use Rattle.tape_set.specs.Layout.{FileSet}
+use Rattle.tape_set.specs.Lawful.{FileForm, IsLawful}
+use Rattle.tape_core.specs.declared.answer.Answer.TheVariants.{Passed}
+use Rattle.tape_core.specs.Arrive.{arrival}
+use Rattle.tape_core.specs.Known.{may_span}
+use Rattle.tape_core.specs.Place.{IsPlaced}
+use Rattle.tape_core.specs.Point.{Point}
+use Rattle.tape_core.specs.Stands.{inside_block}
+use Rattle.tape_run.specs.Following.{place, is_mounted}
+use Rattle.tape_run.specs.Mount.{Happening, IsMount}
+use Rattle.tape_run.specs.Puts as puts
+use Rattle.tape_run.proofs.intake.refused_point.Reads as refused_point
+use Rattle.tape_run.proofs.intake.Intake.put_block.Reads as put_block
+use Rattle.tape_run.proofs.intake.Intake.take.Reads as take
+
+-- a sink of which this is said holds one list of parts, as a sink in memory does
+abbrev HoldsOne : (List Portion → Type 0) → Type 0
+HoldsOne holds = (xs ys : List Portion) → holds xs → holds ys → xs ≡ ys
+
+-- the checkpoint at part 2 of block 4
+at_part_two : (before after : Point) (n : ℕ) (begun : Bool) → n ≡ 2 → before.position ≡ Awaits 1 4 0
+    → puts.refused_point before after n begun ≡ inside_block after (Awaits 1 4 0) 2 begun 0
+at_part_two before after n begun two four =
+    ap (λ k. puts.refused_point before after k begun) two
+    ∙ ap (λ p. if 2 == part_of p then before else inside_block after p 2 begun 0) four
+
+-- position_behind_refused_block: part 2 of block 4 was refused, and block 5 is awaited.
+position_behind_refused_block : (κs : _) (a : _) (z : _) (s : _) → refused_point.Learnt κs a z s
+    → a.0.now.position ≡ Awaits 1 4 0 → a.1.1.0 ≡ 2 → z.position ≡ Awaits 1 5 0 → ⊥
+position_behind_refused_block κs a z s h four two five =
+    let e = h ∙ at_part_two a.0.now a.1.0.now a.1.1.0 a.1.1.1.0 two four in
+    absurd (let n : 5 ≡ 4 = ap block_of (sym five ∙ ap (λ c. c.position) e) in omega arith)
+
+-- span_forgotten_at_refused_part: part 2 of block 4 was refused, before which a record is begun
+-- that may run on, and none is begun there.
+span_forgotten_at_refused_part : (κs : _) (a : _) (z : _) (s : _) → refused_point.Learnt κs a z s
+    → a.0.now.position ≡ Awaits 1 4 0 → a.1.1.0 ≡ 2 → a.1.1.1.0 ≡ true
+    → may_span a.1.0.now.known ≡ true → z.begun ≡ false → ⊥
+span_forgotten_at_refused_part κs a z s h four two begun spans none =
+    let e = h ∙ at_part_two a.0.now a.1.0.now a.1.1.0 a.1.1.1.0 two four in
+    let b : z.begun ≡ (true && true) = ap (λ c. c.begun) e
+    ∙ ap (λ v. v && may_span a.1.0.now.known) begun ∙ ap (λ v. true && v) spans in
+    let f : false ≡ true = sym none ∙ b in
+    absurd (cc f)
+
+-- first_parts_put_twice: of a block with two parts the second is awaited, and both are put.
+first_parts_put_twice : (S : _) (LS : _) (g : _) (d : _) (κs : _) (a : _) (s : _)
+    (held : List Portion) (first second : Portion) (form : FileForm)
+    → put_block.Learnt-named S LS g d κs a (Ok tt) s
+    → (place a.0.now.core).known ≡ Some form → a.1.0.now.position ≡ Awaits 1 0 1
+    → Holds form.format form.rec_len form.offset a.1.1.0.now (first ∷ second ∷ [])
+    → g.holds a.0.now.sink held → HoldsOne (g.holds s.0.now.sink)
+    → g.holds s.0.now.sink (held ++ first ∷ second ∷ []) → ⊥
+first_parts_put_twice S LS g d κs a s held first second form l known awaits holds was one both =
+    let parts : List Portion = first ∷ second ∷ [] in
+    let put : g.holds s.0.now.sink (held ++ second ∷ []) = subst
+    (λ p. g.holds s.0.now.sink (held ++ drop (part_of p) parts)) awaits
+    (l.ok held parts form known holds was) in
+    absurd (omega (
+      arith,
+      ap length (one (held ++ parts) (held ++ second ∷ []) both put),
+      length-append held parts,
+      length-append held (second ∷ []),
+    ))
+
+-- parts_put_before_the_check: of a block that is passed over a part is put. The premises on the set,
+-- the mount and the place are those under which `take` promises a place that is right; every session
+-- of a lawful set that reads a copy of a volume meets them.
+parts_put_before_the_check : (S : _) (LS : _) (g : _) (d : _) (κs : _) (a : _) (s : _)
+    (set : FileSet) (p : Position) (xs : List TapeItem) (i : ℕ) (m : Happening)
+    (held : List Portion) (part : Portion)
+    → take.Learnt-named S LS g d κs a (Ok Passed) s
+    → IsLawful set → IsMount set xs m → IsPlaced set (place a.0.now.core) held
+    → is_mounted a.0.now.core set p xs i m → i < length xs → arrival a.1.0 ≡ slice_get xs i
+    → (place s.0.now.core).position ≡ (place a.0.now.core).position
+    → g.holds a.0.now.sink held → HoldsOne (g.holds s.0.now.sink)
+    → g.holds s.0.now.sink (held ++ part ∷ []) → ⊥
+parts_put_before_the_check S LS g d κs a s set p xs i m held part l lawful mount placed under less
+    came stays was one more =
+    let r = l.ok held was in
+    let at = (r.3 set p xs i m lawful mount placed under less came).at in
+    let same : r.0 ≡ held = at.all ∙ ap (λ f. before set f (place s.0.now.core).position) l.file
+    ∙ ap (before set (place a.0.now.core).file) stays ∙ sym placed.all in
+    absurd (omega (
+      arith,
+      ap length (one (held ++ part ∷ []) r.0 more r.1),
+      ap length same,
+      length-append held (part ∷ []),
+    ))
