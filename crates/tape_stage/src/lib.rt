@@ -43,6 +43,3 @@ pub use part_reader::PartReader;
 pub use point::{read_point, write_point};
 pub use point_fault::PointFault;
 pub use stage::{Stage, StageFault};
-
-#[cfg(test)]
-mod tests;

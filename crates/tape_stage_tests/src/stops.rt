@@ -1,52 +1,47 @@
 //! Disks that stop at each of their calls, and what is opened behind that.
 
-use super::*;
-use std::alloc::AllocError;
+use crate::fixtures::*;
+use std::alloc::{AllocError, Global};
 use std::test::*;
 use tape_blocks::{Part, Span};
-use tape_core::{PartWalk, SinkFault};
+use tape_core::{Checkpoint, PartSink, PartWalk, SinkFault};
+use tape_stage::{MemoryDisk, Stage, StageFault};
+
+/// A new stage whose disk stops behind so many calls of its opening and what follows.
+fn stopping(alloc: Global, calls: u64) -> Option<(Stage<MemoryDisk>, Checkpoint)> {
+    let mut disk = made(alloc)?.into_disk();
+    disk.stop_after(calls);
+    Stage::open_disk(alloc, disk).ok()
+}
 
 #[test]
-fn a_failed_stage_refuses_until_it_is_opened_again(rt: HostRuntime) -> Result<(), AllocError> {
-    let alloc = rt.alloc();
-    let Some(stage) = made(alloc) else {
+fn a_failed_stage_refuses_until_it_is_opened_again(rt: HostRuntime) {
+    let Some((mut stage, _)) = stopping(rt.alloc(), 7) else {
         assert!(rt; false);
-        return Ok(());
+        return;
     };
-    let mut disk = stage.into_disk();
-    disk.stop_after(7);
-    let Ok((mut stage, _)) = Stage::open_disk(alloc, disk) else {
-        assert!(rt; false);
-        return Ok(());
-    };
-    let part = Part {
-        span: Span::Whole,
-        bytes: b"AB",
-    };
-    assert_eq!(rt; stage.put_part(part), Err(StageFault::Device));
-    assert_eq!(rt; stage.put_part(part), Err(StageFault::Failed));
-    assert_eq!(rt; stage.restart(&start()), Err(StageFault::Failed));
-    assert_eq!(rt; stage.weight(), 0);
-    assert!(rt; Stage::open_disk(alloc, stage.into_disk().crash()).is_ok());
-    Ok(())
+    for fault in [SinkFault::Device, SinkFault::Failed] {
+        let part = Part {
+            span: Span::Whole,
+            bytes: b"AB",
+        };
+        assert!(rt; stage.put(part) == Err(fault), "{fault}");
+    }
+    assert!(rt; stage.restart(&start()) == Err(StageFault::Failed));
+    assert!(rt; stage.weight() == 0);
+    assert!(rt; Stage::open_disk(rt.alloc(), stage.into_disk().crash()).is_ok());
 }
 
 #[test]
 fn what_was_being_saved_when_the_disk_stopped(rt: HostRuntime) {
-    let Some(stage) = made(rt.alloc()) else {
+    let Some((mut stage, point)) = stopping(rt.alloc(), 8) else {
         assert!(rt; false);
         return;
     };
-    let mut disk = stage.into_disk();
-    disk.stop_after(8);
-    let Ok((mut stage, point)) = Stage::open_disk(rt.alloc(), disk) else {
-        assert!(rt; false);
-        return;
-    };
-    assert_eq!(rt; stage.pending(), None);
+    assert!(rt; stage.pending().is_none());
     assert!(rt; !save(&mut stage, &point));
-    assert_eq!(rt; stage.pending(), Some(start()));
-    assert_eq!(rt; stage.next_part().err(), Some(SinkFault::Failed));
+    assert!(rt; stage.pending() == Some(start()));
+    assert!(rt; stage.next_part().err() == Some(SinkFault::Failed));
 }
 
 /// What the parts are of this weight, in the run of `day`.
@@ -168,7 +163,10 @@ fn a_stop_at_each_call_of_opening_behind_each_stop(rt: HostRuntime) -> Result<()
             return Ok(());
         };
         let left = disk.crash();
-        assert_eq!(rt; openings(rt.alloc(), left.bytes(), &saved)?, 11, "{calls}");
+        assert!(rt;
+            openings(rt.alloc(), left.bytes(), &saved)? == 11,
+            "{calls}"
+        );
     }
     Ok(())
 }
@@ -194,9 +192,8 @@ fn how_many_calls_the_run_makes(rt: HostRuntime) {
         (39, 170),
         (40, 340),
     ] {
-        assert_eq!(rt;
-            acknowledged_after(rt.alloc(), calls),
-            Some(weight),
+        assert!(rt;
+            acknowledged_after(rt.alloc(), calls) == Some(weight),
             "{calls}"
         );
     }

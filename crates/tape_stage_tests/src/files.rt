@@ -1,10 +1,12 @@
 //! Files as disks.
 
-use super::*;
+use crate::fixtures::*;
 use std::fs::{File, Metadata, OpenFile, OpenOptions};
 use std::io::{ErrorKind, Read, Seek, SeekFrom, Write};
 use std::test::*;
 use std::{fs, io};
+use tape_core::Checkpoint;
+use tape_stage::{Disk, DiskFault, FileDisk, Stage};
 
 /// A file that is there, or a new one, for reading and writing.
 fn open(rt: &HostRuntime, path: &str) -> io::Result<File> {
@@ -32,60 +34,54 @@ fn opened_in(rt: &HostRuntime, path: &str) -> Option<(Stage<FileDisk<File>>, Che
     Stage::open_disk(rt.alloc(), disk).ok()
 }
 
-fn put_record(stage: &mut Stage<FileDisk<File>>, record: u8) -> bool {
-    let part = Part {
-        span: Span::Whole,
-        bytes: &[record; 80],
-    };
-    stage.put_part(part).is_ok()
+/// How many bytes the file has.
+fn size_of(rt: &HostRuntime, path: &str) -> io::Result<usize> {
+    Ok(fs::read(rt, path)?.len())
 }
 
-fn gives_record(stage: &mut Stage<FileDisk<File>>, record: u8) -> bool {
-    let mut parts = stage.parts();
-    match parts.next() {
-        Ok(Some(part)) => {
-            if part.span != Span::Whole || part.bytes != [record; 80].as_slice() {
-                return false;
-            }
-        }
-        _ => return false,
+/// Leaves a file with a part that is acknowledged, and one behind it that is not. How many bytes it
+/// has while that is held, and once the parts were read.
+fn leave_two_parts(
+    rt: &HostRuntime,
+    path: &str,
+    one: &Checkpoint,
+) -> io::Result<Option<(usize, usize)>> {
+    let Some(mut stage) = made_in(rt, path) else {
+        return Ok(None);
+    };
+    let done = put(&mut stage, b'a') && save(&mut stage, one) && put(&mut stage, b'b');
+    let held = size_of(rt, path)?;
+    let read = matches!(stage.parts().next(), Ok(Some(_)));
+    drop(stage);
+    let sizes = (held, size_of(rt, path)?);
+    Ok(if done && read { Some(sizes) } else { None })
+}
+
+/// Whether the file opens with this checkpoint, and gives the part that it tells.
+fn opens_with_one_part(rt: &HostRuntime, path: &str, one: &Checkpoint) -> bool {
+    match opened_in(rt, path) {
+        Some((mut stage, point)) => point == *one && holds(&mut stage, b"a"),
+        None => false,
     }
-    matches!(parts.next(), Ok(None))
 }
 
 #[test]
 fn a_stage_in_a_file(rt: HostRuntime) -> Result<(), Fail> {
     let path = "a_stage_in_a_file.stage";
     let _ = fs::remove_file(&rt, path);
-    let (Some(mut stage), Some(one)) = (made_in(&rt, path), in_front(1, 85)) else {
-        return Err(Fail::from("a stage"));
+    let Some(one) = in_front(1, 85) else {
+        return Err(Fail::from("a checkpoint"));
     };
-    assert!(rt; put_record(&mut stage, b'a'));
-    assert!(rt; stage.weight() == one.staged && stage.save(&one).is_ok());
-    // This one is not acknowledged, and goes when the file is opened again. It is held until the
-    // parts are read.
-    assert!(rt; put_record(&mut stage, b'b'));
-    assert_eq!(rt; fs::read(&rt, path)?.len(), 341);
-    assert!(rt; matches!(stage.parts().next(), Ok(Some(_))));
-    drop(stage);
-    assert_eq!(rt; fs::read(&rt, path)?.len(), 426);
-    let Some((mut stage, point)) = opened_in(&rt, path) else {
-        return Err(Fail::from("the stage again"));
-    };
-    assert_eq!(rt; point, one);
-    assert!(rt; gives_record(&mut stage, b'a'));
-    drop(stage);
+    assert!(rt; leave_two_parts(&rt, path, &one)? == Some((341, 426)));
+    assert!(rt; opens_with_one_part(&rt, path, &one));
     let bytes = fs::read(&rt, path)?;
-    assert_eq!(rt; bytes.len(), 341);
-    assert!(rt; bytes.starts_with(b"O000000000000001TPCK2"));
-    assert_eq!(rt;
-        bytes.get(128..149),
-        Some(b"O000000000000002TPCK2".as_slice())
-    );
-    assert_eq!(rt;
-        bytes.get(256..263),
-        Some(b"0\x00\x00\x00\x50aa".as_slice())
-    );
+    assert!(rt; bytes.len() == 341);
+    let there: [(usize, &[u8]); 3] = [
+        (0, b"O000000000000001TPCK2"),
+        (128, b"O000000000000002TPCK2"),
+        (256, b"0\x00\x00\x00\x50aa"),
+    ];
+    stand(&rt, &bytes, &there);
     Ok(())
 }
 
@@ -173,13 +169,18 @@ impl OpenFile for Slow {
     }
 }
 
+fn four_bytes(left: u8) -> Slow {
+    Slow {
+        bytes: *b"abcd",
+        at: 0,
+        left,
+    }
+}
+
 /// The first bytes of such a file, where so many moves are left.
 fn read_slowly(left: u8, buf: &mut [u8]) -> bool {
-    let Ok(mut disk) = FileDisk::new(four_bytes(left)) else {
-        return false;
-    };
-    match disk.len() {
-        Ok(len) => buf.len() as u64 <= len && disk.read(0, buf).is_ok(),
+    match FileDisk::new(four_bytes(left)) {
+        Ok(mut disk) => read(&mut disk, 0, buf),
         Err(_) => false,
     }
 }
@@ -189,22 +190,11 @@ fn write_slowly(left: u8, bytes: &[u8]) -> Option<[u8; 4]> {
     let Ok(mut disk) = FileDisk::new(four_bytes(left)) else {
         return None;
     };
-    match disk.len() {
-        Ok(len) if len >= 1 => {
-            if disk.write_at(1, bytes).is_err() || disk.sync().is_err() {
-                return None;
-            }
-        }
-        _ => return None,
-    }
-    Some(disk.into_file().bytes)
-}
-
-fn four_bytes(left: u8) -> Slow {
-    Slow {
-        bytes: *b"abcd",
-        at: 0,
-        left,
+    let kept = write(&mut disk, 1, bytes) && disk.sync().is_ok();
+    if kept {
+        Some(disk.into_file().bytes)
+    } else {
+        None
     }
 }
 
@@ -212,23 +202,27 @@ fn four_bytes(left: u8) -> Slow {
 fn short_reads_and_writes_are_gone_on_with(rt: HostRuntime) {
     let mut three = [0; 3];
     assert!(rt; read_slowly(3, &mut three));
-    assert_eq!(rt; &three, b"abc");
-    assert_eq!(rt; write_slowly(3, b"XY"), Some(*b"aXYd"));
+    assert!(rt; &three == b"abc");
+    assert!(rt; write_slowly(3, b"XY") == Some(*b"aXYd"));
 }
 
 #[test]
 fn interruptions_and_ends_are_failures(rt: HostRuntime) {
     let mut three = [0; 3];
     assert!(rt; !read_slowly(2, &mut three));
-    assert_eq!(rt; write_slowly(1, b"XY"), None);
+    assert!(rt; write_slowly(1, b"XY").is_none());
     // The fifth byte is not taken.
-    assert_eq!(rt; write_slowly(9, b"WXYZ"), None);
+    assert!(rt; write_slowly(9, b"WXYZ").is_none());
+}
+
+#[test]
+fn the_length_and_a_sync_take_no_move(rt: HostRuntime) {
     let Ok(mut disk) = FileDisk::new(four_bytes(1)) else {
         assert!(rt; false);
         return;
     };
-    assert_eq!(rt; disk.len(), Ok(4));
-    assert_eq!(rt; disk.sync(), Ok(()));
+    assert!(rt; disk.len() == Ok(4));
+    assert!(rt; disk.sync() == Ok(()));
 }
 
 #[test]
@@ -237,17 +231,9 @@ fn the_length_is_counted(rt: HostRuntime) {
         assert!(rt; false);
         return;
     };
-    match disk.len() {
-        Ok(len) => {
-            if len >= 3 {
-                assert_eq!(rt; disk.cut(3), Err(DiskFault::Device));
-                assert_eq!(rt; disk.len(), Ok(4));
-                assert_eq!(rt; disk.cut(0), Ok(()));
-            }
-        }
-        Err(_) => return,
-    }
-    assert_eq!(rt; disk.len(), Ok(0));
-    assert!(rt; disk.write_at(0, b"ab").is_ok());
-    assert_eq!(rt; disk.len(), Ok(2));
+    assert!(rt; disk.len() == Ok(4));
+    // This file cuts to nothing alone.
+    assert!(rt; !cut(&mut disk, 3) && disk.len() == Ok(4));
+    assert!(rt; cut(&mut disk, 0) && disk.len() == Ok(0));
+    assert!(rt; write(&mut disk, 0, b"ab") && disk.len() == Ok(2));
 }

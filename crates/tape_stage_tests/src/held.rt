@@ -1,11 +1,12 @@
 //! Disks over files: what is held before it is written, and what is read ahead.
 
-use super::*;
-use std::alloc::AllocError;
+use crate::fixtures::{cut, gives, read, write};
+use std::alloc::{AllocError, Global};
 use std::fs::{File, Metadata, OpenFile, OpenOptions};
 use std::io::{ErrorKind, Read, Seek, SeekFrom, Write};
 use std::test::*;
 use std::{fs, io};
+use tape_stage::{Disk, DiskFault, FileDisk, MemoryDisk};
 
 /// A file of a fixed length, in memory. It counts its reads and its writes, and one of its writes
 /// fails.
@@ -107,30 +108,15 @@ fn made_in(rt: &HostRuntime, path: &str) -> Option<FileDisk<File>> {
     FileDisk::new(options.open(rt, path).ok()?).ok()
 }
 
-/// Reads, where so many bytes are there.
-fn read<D: Disk>(disk: &mut D, place: u64, buf: &mut [u8]) -> bool {
-    match disk.len() {
-        Ok(len) => {
-            place <= len && buf.len() as u64 <= len - place && disk.read(place, buf).is_ok()
-        }
-        Err(_) => false,
-    }
+/// A record of 85 bytes, all of them the last byte of its number.
+fn record_of(number: u64) -> [u8; 85] {
+    [number.to_be_bytes()[7]; 85]
 }
 
-/// Writes, where the place is there.
-fn write<D: Disk>(disk: &mut D, place: u64, bytes: &[u8]) -> bool {
-    match disk.len() {
-        Ok(len) => place <= len && disk.write_at(place, bytes).is_ok(),
-        Err(_) => false,
-    }
-}
-
-/// Cuts, where so many bytes are there.
-fn cut<D: Disk>(disk: &mut D, to: u64) -> bool {
-    match disk.len() {
-        Ok(len) => to <= len && disk.cut(to).is_ok(),
-        Err(_) => false,
-    }
+/// Whether the disk gives such a record at its place.
+fn gives_record<D: Disk>(disk: &mut D, number: u64) -> bool {
+    let mut bytes = [0; 85];
+    number < 300 && read(disk, number * 85, &mut bytes) && bytes == record_of(number)
 }
 
 #[test]
@@ -140,17 +126,18 @@ fn small_calls_are_put_together(rt: HostRuntime) {
         return;
     };
     for record in 0..300u64 {
-        assert!(rt; write(&mut disk, record * 85, &[record.to_be_bytes()[7]; 85]));
+        assert!(rt;
+            write(&mut disk, record * 85, &record_of(record)),
+            "{record}"
+        );
     }
-    assert_eq!(rt; disk.sync(), Ok(()));
-    let mut bytes = [0; 85];
+    assert!(rt; disk.sync() == Ok(()));
     for record in 0..300u64 {
-        assert!(rt; read(&mut disk, record * 85, &mut bytes));
-        assert!(rt; bytes == [record.to_be_bytes()[7]; 85]);
+        assert!(rt; gives_record(&mut disk, record), "{record}");
     }
     // In 8,192 bytes there are 96 records of 85.
     let file = disk.into_file();
-    assert_eq!(rt; (file.writes, file.reads), (4, 4));
+    assert!(rt; file.writes == 4 && file.reads == 4);
 }
 
 #[test]
@@ -161,17 +148,20 @@ fn a_write_elsewhere_comes_behind_what_is_held(rt: HostRuntime) {
     };
     assert!(rt; write(&mut disk, 0, b"abc") && write(&mut disk, 3, b"de"));
     assert!(rt; write(&mut disk, 8, b"XY") && write(&mut disk, 1, b"BC"));
-    let mut all = [0; 12];
-    assert!(rt; read(&mut disk, 0, &mut all));
-    assert_eq!(rt; &all, b"aBCde...XY..");
+    assert!(rt; gives(&mut disk, 0, b"aBCde...XY.."));
     // A write over what was read ahead.
-    assert!(rt; write(&mut disk, 5, b"fg") && read(&mut disk, 0, &mut all));
-    assert_eq!(rt; &all, b"aBCdefg.XY..");
+    assert!(rt; write(&mut disk, 5, b"fg") && gives(&mut disk, 0, b"aBCdefg.XY.."));
     assert!(rt; write(&mut disk, 11, b"Z"));
     let file = disk.into_file();
     // The last one was not written: no sync kept it.
-    assert_eq!(rt; file.bytes.as_slice(), b"aBCdefg.XY..".as_slice());
-    assert_eq!(rt; file.writes, 4);
+    assert!(rt; file.bytes.as_slice() == b"aBCdefg.XY..".as_slice() && file.writes == 4);
+}
+
+/// Whether each call but `len` fails.
+fn is_lost<D: Disk>(disk: &mut D) -> bool {
+    let mut two = *b"..";
+    let kept = disk.sync().is_ok() || write(disk, 2, b"cd") || cut(disk, 0);
+    !kept && !read(disk, 6, &mut two)
 }
 
 #[test]
@@ -181,14 +171,16 @@ fn a_failed_write_is_not_tried_again(rt: HostRuntime) {
         return;
     };
     assert!(rt; write(&mut disk, 0, b"ab"));
-    assert_eq!(rt; disk.sync(), Err(DiskFault::Device));
+    assert!(rt; disk.sync() == Err(DiskFault::Device));
     // What was held is lost, so nothing later passes for kept.
-    assert_eq!(rt; disk.sync(), Err(DiskFault::Device));
-    assert!(rt; !write(&mut disk, 2, b"cd") && !cut(&mut disk, 0));
-    let mut two = *b"..";
-    assert!(rt; !read(&mut disk, 6, &mut two));
-    assert_eq!(rt; disk.len(), Ok(12));
-    assert_eq!(rt; disk.into_file().writes, 1);
+    assert!(rt; is_lost(&mut disk));
+    assert!(rt; disk.len() == Ok(12) && disk.into_file().writes == 1);
+}
+
+/// Whether the disk, which held nothing, forgets at a cut what it read ahead.
+fn forgets<D: Disk>(disk: &mut D) -> bool {
+    let ahead = write(disk, 0, b"abcdef") && gives(disk, 0, b"ab");
+    ahead && cut(disk, 3) && write(disk, 3, b"XYZ") && gives(disk, 0, b"abcXYZ")
 }
 
 #[test]
@@ -197,16 +189,12 @@ fn a_cut_forgets_what_was_read_ahead(rt: HostRuntime) {
         assert!(rt; false);
         return;
     };
-    let mut two = [0; 2];
-    assert!(rt; write(&mut disk, 0, b"abcdef") && read(&mut disk, 0, &mut two));
-    assert!(rt; cut(&mut disk, 3) && write(&mut disk, 3, b"XYZ"));
-    let mut six = [0; 6];
-    assert!(rt; read(&mut disk, 0, &mut six));
-    assert_eq!(rt; &six, b"abcXYZ");
+    assert!(rt; forgets(&mut disk));
     // What is held goes before the cut, which takes its end away again.
-    assert!(rt; write(&mut disk, 6, b"gh") && cut(&mut disk, 7) && !read(&mut disk, 6, &mut two));
-    assert!(rt; read(&mut disk, 5, &mut two));
-    assert_eq!(rt; &two, b"Zg");
+    assert!(rt; write(&mut disk, 6, b"gh") && cut(&mut disk, 7));
+    let mut two = [0; 2];
+    assert!(rt; !read(&mut disk, 6, &mut two));
+    assert!(rt; gives(&mut disk, 5, b"Zg"));
 }
 
 /// Whether both disks read the same.

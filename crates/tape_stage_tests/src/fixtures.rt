@@ -1,0 +1,182 @@
+//! Checkpoints, their texts and stages that several tests use.
+
+ghost use Rattle.std.specs.Prelude.{◌≡◌};
+
+use std::alloc::{AllocError, Global};
+use std::process::Abort;
+use std::test::*;
+use tape_blocks::{Part, Span};
+use tape_core::{Checkpoint, Known, PartSink};
+use tape_label::{Field, Format};
+use tape_set::Position;
+use tape_stage::{Disk, MemoryDisk, Stage};
+
+// All 25 records of 80 bytes, in three blocks, were delivered, and the end of the section was not
+// met.
+pub const PAYROLL_1: &[u8; 80] =
+    b"TPCK1ABC00100010001000003R01F0008000PAYROLL          000000000002125            ";
+
+pub const PAYROLL_2: &[u8; 80] =
+    b"TPCK2ABC00100010001000000000300000R01F0008000PAYROLL          000000000002125   ";
+
+pub const START_1: &[u8; 80] =
+    b"TPCK1ABC00100010001000000R00 0000000                 000000000000000            ";
+
+pub const START_2: &[u8; 80] =
+    b"TPCK2ABC00100010001000000000000000R00 0000000                 000000000000000   ";
+
+/// The whole file of 25 records, all of them staged.
+pub const WHOLE_2: &[u8; 80] =
+    b"TPCK2ABC00100010000000000000000000D01F0008000PAYROLL          000000000002125   ";
+
+pub fn awaits(sect: u16, block: u32, part: u32) -> Position
+    ensures { result ≡ Position.Awaits sect block part }
+{
+    Position::Awaits { sect, block, part }
+}
+
+pub fn fixed() -> Known {
+    Known {
+        format: Format::Fixed,
+        rec_len: 80,
+        offset: 0,
+        file_id: Field::of_bytes(*b"PAYROLL          "),
+    }
+}
+
+pub fn payroll() -> Checkpoint {
+    Checkpoint {
+        file: 1,
+        begun: false,
+        staged: 2125,
+        set_id: Field::of_bytes(*b"ABC001"),
+        position: Position::Awaits {
+            sect: 1,
+            block: 3,
+            part: 0,
+        },
+        known: Some(fixed()),
+    }
+}
+
+pub fn whole() -> Checkpoint {
+    Checkpoint {
+        file: 1,
+        begun: false,
+        staged: 2125,
+        set_id: Field::of_bytes(*b"ABC001"),
+        position: Position::Finished,
+        known: Some(fixed()),
+    }
+}
+
+pub fn start() -> Checkpoint
+    ensures { result.staged ≡ 0 }
+{
+    Checkpoint {
+        file: 1,
+        begun: false,
+        staged: 0,
+        set_id: Field::of_bytes(*b"ABC001"),
+        position: Position::Awaits {
+            sect: 1,
+            block: 0,
+            part: 0,
+        },
+        known: None,
+    }
+}
+
+/// The checkpoint in front of a block of section 1, where so much is staged.
+pub fn in_front(block: u32, staged: u64) -> Option<Checkpoint> {
+    let position = awaits(1, block, 0);
+    Checkpoint::from_parts(
+        Field::of_bytes(*b"ABC001"),
+        1,
+        position,
+        false,
+        Some(fixed()),
+        staged,
+    )
+}
+
+/// A stage on a disk that held nothing.
+pub fn made(alloc: Global) -> Option<Stage<MemoryDisk>> {
+    Stage::create(alloc, MemoryDisk::new(alloc), &start()).ok()
+}
+
+/// A disk that holds these bytes.
+pub fn disk_of(alloc: Global, bytes: &[u8]) -> Result<MemoryDisk, AllocError> {
+    Ok(MemoryDisk::from_bytes(alloc, bytes.to_vec(alloc)?))
+}
+
+/// A record of 80 bytes, staged.
+pub fn put<D: Disk>(stage: &mut Stage<D>, record: u8) -> bool {
+    let part = Part {
+        span: Span::Whole,
+        bytes: &[record; 80],
+    };
+    stage.put(part).is_ok()
+}
+
+/// The checkpoint, saved where it tells the weight of what is staged.
+pub fn save<D: Disk>(stage: &mut Stage<D>, point: &Checkpoint) -> bool {
+    point.staged == stage.weight() && stage.save(point).is_ok()
+}
+
+/// Whether the stage gives these records of 80 bytes, each of one character, and no others.
+pub fn holds<D: Disk>(stage: &mut Stage<D>, records: &[u8]) -> bool {
+    let mut parts = stage.parts();
+    for record in records {
+        match parts.next() {
+            Ok(Some(part)) => {
+                if part.span != Span::Whole || part.bytes != [*record; 80].as_slice() {
+                    return false;
+                }
+            }
+            _ => return false,
+        }
+    }
+    matches!(parts.next(), Ok(None))
+}
+
+/// The bytes of each row stand at its place.
+pub fn stand(rt: &impl Abort, bytes: &[u8], rows: &[(usize, &[u8])]) {
+    for (place, there) in rows {
+        let from = bytes.get(*place..).unwrap_or_default();
+        assert!(rt; from.starts_with(there), "at {place}");
+    }
+}
+
+/// Reads, where so many bytes are there.
+pub fn read<D: Disk>(disk: &mut D, place: u64, buf: &mut [u8]) -> bool {
+    match disk.len() {
+        Ok(len) => {
+            place <= len && buf.len() as u64 <= len - place && disk.read(place, buf).is_ok()
+        }
+        Err(_) => false,
+    }
+}
+
+/// Writes, where the place is there.
+pub fn write<D: Disk>(disk: &mut D, place: u64, bytes: &[u8]) -> bool {
+    match disk.len() {
+        Ok(len) => place <= len && disk.write_at(place, bytes).is_ok(),
+        Err(_) => false,
+    }
+}
+
+/// Cuts, where so many bytes are there.
+pub fn cut<D: Disk>(disk: &mut D, to: u64) -> bool {
+    match disk.len() {
+        Ok(len) => to <= len && disk.cut(to).is_ok(),
+        Err(_) => false,
+    }
+}
+
+/// Whether the disk gives these bytes from a place on, 12 at most.
+pub fn gives<D: Disk>(disk: &mut D, place: u64, bytes: &[u8]) -> bool {
+    let mut buf = [0; 12];
+    let size = bytes.len().min(12);
+    read(disk, place, &mut buf[..size]) && &buf[..size] == bytes
+}

@@ -1,0 +1,20 @@
+//! Tests of `tape_stage`: checkpoints, disks and stages with bytes that were written out from the
+//! description of the formats.
+#![tactic(auto)]
+
+#[cfg(test)]
+mod disks;
+#[cfg(test)]
+mod files;
+#[cfg(test)]
+mod fixtures;
+#[cfg(test)]
+mod held;
+#[cfg(test)]
+mod points;
+#[cfg(test)]
+mod sinks;
+#[cfg(test)]
+mod stages;
+#[cfg(test)]
+mod stops;

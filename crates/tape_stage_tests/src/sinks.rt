@@ -1,0 +1,76 @@
+//! A stage as the sink of a session.
+
+use crate::fixtures::*;
+use std::alloc::Global;
+use std::process::Abort;
+use std::test::*;
+use tape_blocks::{Part, Span};
+use tape_core::{Checkpoint, PartSink, PartWalk};
+use tape_stage::{MemoryDisk, Stage};
+
+/// The checkpoint, kept by the sink where it tells the weight of what is staged.
+fn keep(stage: &mut Stage<MemoryDisk>, point: &Checkpoint) -> bool {
+    point.staged == stage.weight() && stage.keep(point).is_ok()
+}
+
+/// The sink cut to the checkpoint, where so much is staged.
+fn cut_to(stage: &mut Stage<MemoryDisk>, point: &Checkpoint) -> bool {
+    point.staged <= stage.weight() && stage.cut_to(point).is_ok()
+}
+
+/// A sink with two records, kept under the checkpoint, and a third behind them.
+fn with_three(alloc: Global, two: &Checkpoint) -> Option<Stage<MemoryDisk>> {
+    let mut stage = made(alloc)?;
+    let put_two = put(&mut stage, b'a') && put(&mut stage, b'b');
+    let done = put_two && keep(&mut stage, two) && put(&mut stage, b'c');
+    if done { Some(stage) } else { None }
+}
+
+/// No part is staged, and the slots have the generations 3 and 2.
+fn has_generations(rt: &impl Abort, bytes: &[u8]) {
+    assert!(rt; bytes.len() == 256);
+    assert!(rt; bytes.starts_with(b"O000000000000003"));
+    assert!(rt; bytes.get(128..144) == Some(b"O000000000000002".as_slice()));
+}
+
+#[test]
+fn a_sink_cuts_at_once_down_to_what_was_saved(rt: HostRuntime) {
+    let Some(two) = in_front(1, 170) else {
+        assert!(rt; false);
+        return;
+    };
+    let Some(mut stage) = with_three(rt.alloc(), &two) else {
+        assert!(rt; false);
+        return;
+    };
+    assert!(rt; stage.weight() == 255);
+    assert!(rt; cut_to(&mut stage, &two) && holds(&mut stage, b"ab"));
+    assert!(rt; stage.acknowledged() == two);
+    // Below it, the earlier checkpoint is saved as a new generation first.
+    assert!(rt; cut_to(&mut stage, &start()) && holds(&mut stage, b""));
+    assert!(rt; stage.acknowledged() == start());
+    has_generations(&rt, stage.into_disk().bytes());
+}
+
+/// Whether a walk from the first part gives the part `AB` and then, twice, none.
+fn walks_one_part(stage: &mut Stage<MemoryDisk>) -> bool {
+    stage.rewind();
+    let given = matches!(stage.next_part(), Ok(Some(part)) if part.bytes == b"AB".as_slice());
+    given && matches!(stage.next_part(), Ok(None)) && matches!(stage.next_part(), Ok(None))
+}
+
+#[test]
+fn a_sink_walks_its_parts(rt: HostRuntime) {
+    let Some(mut stage) = made(rt.alloc()) else {
+        assert!(rt; false);
+        return;
+    };
+    let part = Part {
+        span: Span::First,
+        bytes: b"AB",
+    };
+    assert!(rt; stage.put(part) == Ok(()));
+    for walk in 1..3 {
+        assert!(rt; walks_one_part(&mut stage), "walk {walk}");
+    }
+}
