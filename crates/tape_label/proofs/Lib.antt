@@ -9,3 +9,5 @@ pub mod Apart
 pub mod VolumeLabels
 pub mod Cases
 pub mod AnyLabel
+mod Mistakes
+mod MistakesOfWriting
