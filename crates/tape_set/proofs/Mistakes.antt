@@ -1,0 +1,274 @@
+-- Answers that the contracts of positions, layouts and lists exclude: each is what a wrong body
+-- would give. A lemma has the name of the edit that makes this mistake.
+use Rattle.std.proofs.Common.{◌≡◌, ℕ, List, [], ◌∷◌, length, Bool, true, false}
+use Rattle.std.proofs.Common.{refl, sym, ap, ◌∙◌, subst₂, arith, inl, inr, lit<, Less, Greater}
+use Rattle.std.specs.Prelude.{get_or, replicate, Option, Some, None, Ok, option_map, unwrap_or}
+use Rattle.std.specs.Prelude.{option_and_then}
+use Rattle.tape_set.specs.declared.position.Position.{Position}
+use Rattle.tape_set.specs.declared.position.Position.TheVariants.{Awaits, Finished}
+use Rattle.tape_set.specs.declared.position.Want.{Want}
+use Rattle.tape_set.specs.Position.{start, is_start as begins, sect_of, block_of, part_of, IsBefore}
+use Rattle.tape_set.specs.Position.{want_at}
+use Rattle.tape_set.specs.Before.{before as parts_before}
+use Rattle.tape_set.specs.Contents.{entries_told}
+use Rattle.tape_set.specs.Layout.{Section, FileSet, nth as nth_of, section_of, volume_group}
+use Rattle.tape_set.specs.Layout.{entries as entries_of}
+use Rattle.tape_set.specs.Reach.{far as far_of}
+use Rattle.tape_set.proofs.Worked.{plain_volume}
+use Rattle.tape_set.proofs.WorkedFile.{one_volume}
+use Rattle.tape_set.proofs.contents.entries.Reads as entries
+use Rattle.tape_set.proofs.delivered.before.Reads as before
+use Rattle.tape_set.proofs.layout.label_count.Reads as label_count
+use Rattle.tape_set.proofs.layout.nth.Reads as nth
+use Rattle.tape_set.proofs.layout.volume_of.Reads as volume_of
+use Rattle.tape_set.proofs.list.Sequence.as_slice.Reads as as_slice
+use Rattle.tape_set.proofs.list.Sequence.into_vec.Reads as into_vec
+use Rattle.tape_set.proofs.list.Sequence.of_vec.Reads as of_vec
+use Rattle.tape_set.proofs.position.Position.at_part.Reads as at_part
+use Rattle.tape_set.proofs.position.Position.awaiting.Reads as awaiting
+use Rattle.tape_set.proofs.position.Position.is_start.Reads as is_start
+use Rattle.tape_set.proofs.position.Position.next_block.Reads as next_block
+use Rattle.tape_set.proofs.position.Position.next_section.Reads as next_section
+use Rattle.tape_set.proofs.position.Position.start.Reads as start_given
+use Rattle.tape_set.proofs.position.Position.want.Reads as want
+use Rattle.tape_set.proofs.position.position_cmp.Reads as position_cmp
+use Rattle.tape_set.proofs.reach.far.Reads as far
+
+-- ---- where positions go on
+
+-- file_starts_at_section_0: a file begins in section 0
+file_starts_at_section_0 : (κs : _) (a : _) (s : _) → start_given.Learnt κs a (Awaits 0 0 0) s → ⊥
+file_starts_at_section_0 κs a s h = absurd (let n : 0 ≡ 1 = ap sect_of h in omega arith)
+
+-- front_is_second_part: the front of a block is behind its first part
+front_is_second_part : (κs : _) (s : _)
+    → awaiting.Learnt κs (1, (0, tt)) (Awaits 1 0 1) s → ⊥
+front_is_second_part κs s h = absurd (let n : 1 ≡ 0 = ap part_of h in omega arith)
+
+-- block_numbered_as_section: block 5 of section 1 becomes block 1
+block_numbered_as_section : (κs : _) (s : _)
+    → awaiting.Learnt κs (1, (5, tt)) (Awaits 1 1 0) s → ⊥
+block_numbered_as_section κs s h = absurd (let n : 1 ≡ 5 = ap block_of h in omega arith)
+
+-- first_part_skipped: where no part was delivered, one is passed over
+first_part_skipped : (κs : _) (s : _)
+    → at_part.Learnt κs (Awaits 1 2 3, (0, tt)) (Awaits 1 2 1) s → ⊥
+first_part_skipped κs s h = absurd (let n : 1 ≡ 0 = ap part_of h in omega arith)
+
+-- each_part_is_the_start: a file begins behind the first parts of its first block
+each_part_is_the_start : (κs : _) (a : _) (s : _) → is_start.Learnt κs a true s
+    → a.0.now ≡ Awaits 1 0 5 → ⊥
+each_part_is_the_start κs a s h e = absurd (let n : true ≡ false = h ∙ ap begins e in cc)
+
+-- each_section_is_the_start: a file begins with its second section
+each_section_is_the_start : (κs : _) (a : _) (s : _) → is_start.Learnt κs a true s
+    → a.0.now ≡ Awaits 2 0 0 → ⊥
+each_section_is_the_start κs a s h e = absurd (let n : true ≡ false = h ∙ ap begins e in cc)
+
+-- block_delivered_twice: behind block 2 block 2 is awaited again
+block_delivered_twice : (κs : _) (s : _)
+    → next_block.Learnt κs (Awaits 1 2 0, tt) (Awaits 1 2 0) s → ⊥
+block_delivered_twice κs s h = absurd (let n : 2 ≡ 3 = ap block_of h in omega arith)
+
+-- part_kept_in_next_block: part 3 of the next block is awaited
+part_kept_in_next_block : (κs : _) (s : _)
+    → next_block.Learnt κs (Awaits 1 2 3, tt) (Awaits 1 3 3) s → ⊥
+part_kept_in_next_block κs s h = absurd (let n : 3 ≡ 0 = ap part_of h in omega arith)
+
+-- part_kept_in_next_section: part 3 of the next section's first block is awaited
+part_kept_in_next_section : (κs : _) (s : _)
+    → next_section.Learnt κs (Awaits 1 2 3, tt) (Awaits 2 0 3) s → ⊥
+part_kept_in_next_section κs s h = absurd (let n : 3 ≡ 0 = ap part_of h in omega arith)
+
+-- section_passed_over: the next section is awaited from its second block on
+section_passed_over : (κs : _) (s : _)
+    → next_section.Learnt κs (Awaits 1 2 3, tt) (Awaits 2 1 0) s → ⊥
+section_passed_over κs s h = absurd (let n : 1 ≡ 0 = ap block_of h in omega arith)
+
+-- ---- what is wanted at a position
+
+abbrev part_wanted : Option Want → ℕ
+part_wanted None = 0
+part_wanted (Some w) = w.part
+
+-- finished_file_wanted: of a file that is complete something is wanted
+finished_file_wanted : (κs : _) (a : _) (w : Want) (s : _) → want.Learnt κs a (Some w) s
+    → a.0.now ≡ Finished → ⊥
+finished_file_wanted κs a w s h e =
+    absurd (let n : Some w ≡ None = h ∙ ap (want_at a.1.0) e in cc)
+
+-- whole_block_wanted: the five parts that were delivered are wanted again
+whole_block_wanted : (κs : _) (a : _) (w : Want) (s : _) → want.Learnt κs a (Some w) s
+    → a.0.now ≡ Awaits 1 0 5 → w.part ≡ 0 → ⊥
+whole_block_wanted κs a w s h e z =
+    absurd (let n : 0 ≡ 5 = sym z ∙ ap part_wanted (h ∙ ap (want_at a.1.0) e) in omega arith)
+
+-- ---- the order of positions
+
+-- where a is before b, it is not told to be behind it
+not_behind : (κs : _) (a : _) (s : _) (p q : Position) → position_cmp.Learnt-named κs a Greater s
+    → a.0.now ≡ p → a.1.0.now ≡ q → IsBefore p q → ⊥
+not_behind κs a s p q l e f b =
+    absurd (let n : Greater ≡ Less = l.less.1 (subst₂ IsBefore (sym e) (sym f) b) in cc)
+
+-- finished_is_least: a block is behind the end of the file
+finished_is_least : (κs : _) (a : _) (s : _) → position_cmp.Learnt-named κs a Greater s
+    → a.0.now ≡ Awaits 1 0 0 → a.1.0.now ≡ Finished → ⊥
+finished_is_least κs a s l e f = not_behind κs a s (Awaits 1 0 0) Finished l e f tt
+
+-- positions_by_block_first: block 5 of section 1 is behind block 0 of section 2
+positions_by_block_first : (κs : _) (a : _) (s : _) → position_cmp.Learnt-named κs a Greater s
+    → a.0.now ≡ Awaits 1 5 0 → a.1.0.now ≡ Awaits 2 0 0 → ⊥
+positions_by_block_first κs a s l e f =
+    not_behind κs a s (Awaits 1 5 0) (Awaits 2 0 0) l e f (inl (lit< tt))
+
+-- part_compared_before_block: part 5 of block 0 is behind the front of block 1
+part_compared_before_block : (κs : _) (a : _) (s : _) → position_cmp.Learnt-named κs a Greater s
+    → a.0.now ≡ Awaits 1 0 5 → a.1.0.now ≡ Awaits 1 1 0 → ⊥
+part_compared_before_block κs a s l e f =
+    not_behind κs a s (Awaits 1 0 5) (Awaits 1 1 0) l e f (inr (refl, inl (lit< tt)))
+
+-- later_part_first: part 1 of a block is behind its part 2
+later_part_first : (κs : _) (a : _) (s : _) → position_cmp.Learnt-named κs a Greater s
+    → a.0.now ≡ Awaits 1 0 1 → a.1.0.now ≡ Awaits 1 0 2 → ⊥
+later_part_first κs a s l e f =
+    not_behind κs a s (Awaits 1 0 1) (Awaits 1 0 2) l e f (inr (refl, inr (refl, lit< tt)))
+
+-- ---- look-ups
+
+-- counted_from_0: there is an element with the number 0
+counted_from_0 : (T : _) (L : _) (κs : _) (a : _) (r : _) (s : _)
+    → nth.Learnt T L κs a (Some r) s → a.1.0 ≡ 0 → ⊥
+counted_from_0 T L κs a r s h e =
+    absurd (let n : Some r.now ≡ None = h ∙ ap (nth_of a.0.now) e in cc)
+
+-- label_counts_all_blocks: of 1,000,003 blocks the label counts 999,999
+label_counts_all_blocks : (κs : _) (s : _)
+    → label_count.Learnt-named κs (1000003, tt) 999999 s → ⊥
+label_counts_all_blocks κs s l = absurd (let n : 999999 ≡ 3 = l.last_digits in omega arith)
+
+-- what is told of a section that is found
+volume_is : (κs : _) (a : _) (s : _) (told volume : ℕ) → volume_of.Learnt κs a (Some told) s
+    → option_map (λ s. s.volume) (section_of a.0.now a.1.0 a.1.1.0) ≡ Some volume
+    → told ≡ volume
+volume_is κs a s told volume h e = ap (λ v. unwrap_or v 0) (h ∙ e)
+
+-- volume_of_another_file: the section stands on volume 3, and the volume 5 of a section of another
+-- file is answered
+volume_of_another_file : (κs : _) (a : _) (s : _) → volume_of.Learnt κs a (Some 5) s
+    → option_map (λ s. s.volume) (section_of a.0.now a.1.0 a.1.1.0) ≡ Some 3 → ⊥
+volume_of_another_file κs a s h e =
+    absurd (let n : 5 ≡ 3 = volume_is κs a s 5 3 h e in omega arith)
+
+-- volume_off_by_one: the section stands on volume 3, and 2 is answered
+volume_off_by_one : (κs : _) (a : _) (s : _) → volume_of.Learnt κs a (Some 2) s
+    → option_map (λ s. s.volume) (section_of a.0.now a.1.0 a.1.1.0) ≡ Some 3 → ⊥
+volume_off_by_one κs a s h e =
+    absurd (let n : 2 ≡ 3 = volume_is κs a s 2 3 h e in omega arith)
+
+no_section_0 : (file : Option (List Section))
+    → option_map (λ s. s.volume) (option_and_then (λ f. nth_of f 0) file) ≡ None
+no_section_0 None = refl
+no_section_0 (Some f) = refl
+
+-- volume_of_section_0: a section with the number 0 stands on a volume
+volume_of_section_0 : (κs : _) (a : _) (s : _) (volume : ℕ) → volume_of.Learnt κs a (Some volume) s
+    → a.1.1.0 ≡ 0 → ⊥
+volume_of_section_0 κs a s volume h e =
+    absurd (let n : Some volume ≡ None
+    = h ∙ ap (λ k. option_map (λ s. s.volume) (section_of a.0.now a.1.0 k)) e
+    ∙ no_section_0 (nth_of a.0.now.files a.1.0) in cc)
+
+-- ---- lists
+
+-- two elements are turned round only where they are one
+turned : {A : Type 0} (x y : A) (xs : List A) → xs ≡ x ∷ y ∷ [] → xs ≡ y ∷ x ∷ [] → x ≡ y
+turned x y xs e f = ap (λ v. get_or v 0 x) (sym e ∙ f)
+
+-- elements_reversed: the elements of a list are those of the vector, turned round
+elements_reversed : (T : _) (L : _) (κs : _) (a : _) (r : _) (s : _) (x y : _)
+    → of_vec.Learnt T L κs a r s → a.0.items ≡ x ∷ y ∷ [] → r ≡ y ∷ x ∷ [] → (x ≡ y → ⊥) → ⊥
+elements_reversed T L κs a r s x y h e w other = other (turned x y r (h ∙ e) w)
+
+-- elements_given_back_reversed: the vector has the elements of the list, turned round
+elements_given_back_reversed : (T : _) (L : _) (κs : _) (a : _) (r : _) (s : _) (x y : _)
+    → into_vec.Learnt T L κs a r s → a.0 ≡ x ∷ y ∷ [] → r.items ≡ y ∷ x ∷ [] → (x ≡ y → ⊥) → ⊥
+elements_given_back_reversed T L κs a r s x y h e w other = other (turned x y r.items (h ∙ e) w)
+
+-- elements_lost: of a list of one element none are lent
+elements_lost : (T : _) (L : _) (κs : _) (a : _) (r : _) (s : _) → as_slice.Learnt T L κs a r s
+    → length a.0.now ≡ 1 → length r.now ≡ 0 → ⊥
+elements_lost T L κs a r s h e w =
+    absurd (let n : 0 ≡ 1 = sym w ∙ ap length h ∙ e in omega arith)
+
+-- ---- plain programs, over the worked file of three blocks with 25 parts
+
+-- how many parts are given before a position of the worked file
+parts_given : (κs : _) (a : _) (v : _) (s : _) (p : Position) → before.Learnt κs a (Ok v) s
+    → a.1.0.now ≡ one_volume → a.1.1.0 ≡ 1 → a.1.1.1.0.now ≡ p
+    → length v.items ≡ length (parts_before one_volume 1 p)
+parts_given κs a v s p h e k f =
+    ap length (h ∙ ap (λ set. parts_before set a.1.1.0 a.1.1.1.0.now) e
+    ∙ ap (λ file. parts_before one_volume file a.1.1.1.0.now) k ∙ ap (parts_before one_volume 1) f)
+
+-- how far the position is taken by a reading of the worked file's volume
+reached : (κs : _) (a : _) (s : _) (to p : Position) (good : List Bool)
+    → far.Learnt-named κs a (Ok (Some to)) s → a.1.0.now ≡ one_volume → a.1.1.0 ≡ 1
+    → a.1.1.1.0 ≡ p → a.1.1.1.1.0 ≡ 1 → a.1.1.1.1.1.0.now ≡ good
+    → to ≡ far_of one_volume 1 p (record { volume = 1; good = good })
+reached κs a s to p good l e k f v g =
+    let over : FileSet → ℕ → Position → ℕ → List Bool → Position
+    = λ set file from volume met. far_of set file from (record { volume = volume; good = met }) in
+    l.found ∙ ap (λ set. over set a.1.1.0 a.1.1.1.0 a.1.1.1.1.0 a.1.1.1.1.1.0.now) e
+    ∙ ap (λ file. over one_volume file a.1.1.1.0 a.1.1.1.1.0 a.1.1.1.1.1.0.now) k
+    ∙ ap (λ from. over one_volume 1 from a.1.1.1.1.0 a.1.1.1.1.1.0.now) f
+    ∙ ap (λ volume. over one_volume 1 p volume a.1.1.1.1.1.0.now) v
+    ∙ ap (over one_volume 1 p 1) g
+
+-- sections_left_out: on a volume its labels stand alone
+sections_left_out : (κs : _) (a : _) (v : _) (s : _) → entries.Learnt-named κs a (Ok v) s
+    → a.1.0.now ≡ one_volume → a.1.1.0 ≡ 1 → entries_told v.items ≡ volume_group plain_volume → ⊥
+sections_left_out κs a v s l e k w =
+    let same : volume_group plain_volume ≡ entries_of one_volume 1
+    = sym w ∙ l.entries ∙ ap (λ set. entries_of set a.1.1.0) e ∙ ap (entries_of one_volume) k in
+    absurd (let n : 1 ≡ 12 = ap length same in omega arith)
+
+-- part_under_way_left_out: of the block that is awaited no part is given, where one was delivered
+part_under_way_left_out : (κs : _) (a : _) (v : _) (s : _) → before.Learnt κs a (Ok v) s
+    → a.1.0.now ≡ one_volume → a.1.1.0 ≡ 1 → a.1.1.1.0.now ≡ Awaits 1 0 1 → v.items ≡ [] → ⊥
+part_under_way_left_out κs a v s h e k p w =
+    absurd (let n : 0 ≡ 1 = ap length (sym w) ∙ parts_given κs a v s (Awaits 1 0 1) h e k p in
+    omega arith)
+
+-- whole_file_before_each_position: all 25 parts are given before the start of the file
+whole_file_before_each_position : (κs : _) (a : _) (v : _) (s : _) → before.Learnt κs a (Ok v) s
+    → a.1.0.now ≡ one_volume → a.1.1.0 ≡ 1 → a.1.1.1.0.now ≡ start → length v.items ≡ 25 → ⊥
+whole_file_before_each_position κs a v s h e k p w =
+    absurd (let n : 25 ≡ 0 = sym w ∙ parts_given κs a v s start h e k p in omega arith)
+
+-- met_from_the_front_of_the_volume: labels that were read well are counted as blocks
+met_from_the_front_of_the_volume : (κs : _) (a : _) (s : _)
+    → far.Learnt-named κs a (Ok (Some (Awaits 1 3 0))) s → a.1.0.now ≡ one_volume → a.1.1.0 ≡ 1
+    → a.1.1.1.0 ≡ start → a.1.1.1.1.0 ≡ 1 → a.1.1.1.1.1.0.now ≡ replicate 4 true → ⊥
+met_from_the_front_of_the_volume κs a s l e k p v g =
+    let same : Awaits 1 3 0 ≡ Awaits 1 0 0
+    = reached κs a s (Awaits 1 3 0) start (replicate 4 true) l e k p v g in
+    absurd (let n : 3 ≡ 0 = ap block_of same in omega arith)
+
+-- part_kept_at_a_later_block: one block was read, and part 5 of the block before it is awaited
+part_kept_at_a_later_block : (κs : _) (a : _) (s : _)
+    → far.Learnt-named κs a (Ok (Some (Awaits 1 0 5))) s → a.1.0.now ≡ one_volume → a.1.1.0 ≡ 1
+    → a.1.1.1.0 ≡ Awaits 1 0 5 → a.1.1.1.1.0 ≡ 1 → a.1.1.1.1.1.0.now ≡ replicate 5 true → ⊥
+part_kept_at_a_later_block κs a s l e k p v g =
+    let same : Awaits 1 0 5 ≡ Awaits 1 1 0
+    = reached κs a s (Awaits 1 0 5) (Awaits 1 0 5) (replicate 5 true) l e k p v g in
+    absurd (let n : 5 ≡ 0 = ap part_of same in omega arith)
+
+-- passes_bad_labels: the volume label was not read well, and a block behind it is passed
+passes_bad_labels : (κs : _) (a : _) (s : _)
+    → far.Learnt-named κs a (Ok (Some (Awaits 1 1 0))) s → a.1.0.now ≡ one_volume → a.1.1.0 ≡ 1
+    → a.1.1.1.0 ≡ start → a.1.1.1.1.0 ≡ 1 → a.1.1.1.1.1.0.now ≡ false ∷ replicate 4 true → ⊥
+passes_bad_labels κs a s l e k p v g =
+    let same : Awaits 1 1 0 ≡ Awaits 1 0 0
+    = reached κs a s (Awaits 1 1 0) start (false ∷ replicate 4 true) l e k p v g in
+    absurd (let n : 1 ≡ 0 = ap block_of same in omega arith)
