@@ -30,6 +30,3 @@ pub use script::{Step, run};
 pub use section::{Entry, ImageLine, ImageStop, Lack, SectionKey, SectionLine, SectionState};
 pub use session::Session;
 pub use whole::{go_on, read_file};
-
-#[cfg(test)]
-mod tests;

@@ -1,9 +1,11 @@
 //! One volume, cut at each length.
-use super::image::{front, holds_long, long_first, set_id};
-use super::readers::Failing;
-use crate::{Session, Step, run};
+use crate::image::{front, holds_long, long_first};
+use crate::readers::Failing;
+use crate::sessions::{begun, wanted};
+use std::process::Abort;
 use std::test::Fail;
 use tape_core::MemorySink;
+use tape_run::{Session, Step, run};
 use tape_set::Want;
 
 /// How many of the blocks end at the cut or before it.
@@ -17,39 +19,37 @@ fn blocks_before(cut: usize) -> u16 {
 
 /// What is awaited behind the first bytes of the volume: the next block, or, once the trailer label
 /// that ends at 932 was read, the next section.
-fn awaited(cut: usize) -> Want {
+fn awaited(cut: usize) -> Option<Want> {
     if cut >= 932 {
-        return Want {
-            file: 1,
-            sect: 2,
-            block: 0,
-            part: 0,
-        };
+        return wanted(2, 0);
     }
-    Want {
-        file: 1,
-        sect: 1,
-        block: blocks_before(cut) as u32,
-        part: 0,
-    }
+    wanted(1, blocks_before(cut) as u32)
+}
+
+/// A session that read the volume up to a cut stands there, and so many of its readers failed.
+fn stands_behind<A: Abort>(rt: &A, session: &Session<MemorySink>, cut: usize, failed: u64) {
+    assert_eq!(rt;
+        (session.want(), session.device_faults()),
+        (awaited(cut), failed),
+        "{cut}"
+    );
+    assert!(rt;
+        holds_long(session.sink(), blocks_before(cut) as usize),
+        "{cut}"
+    );
 }
 
 #[test]
 fn by_the_end_of_the_bytes(rt: HostRuntime) -> Result<(), Fail> {
     let image = long_first(rt.alloc())?;
     for cut in 0..1033usize {
-        let mut session = Session::new(rt.alloc(), set_id(), 1, MemorySink::new(rt.alloc()))?;
+        let mut session = begun(rt.alloc(), 1)?;
         run(
             &mut session,
             &[Step::Reel],
             &mut [front(image.bytes.as_slice(), cut)],
         )?;
-        assert_eq!(rt; session.want(), Some(awaited(cut)), "{cut}");
-        assert!(rt;
-            holds_long(session.sink(), blocks_before(cut) as usize),
-            "{cut}"
-        );
-        assert_eq!(rt; session.device_faults(), 0, "{cut}");
+        stands_behind(&rt, &session, cut, 0);
     }
     Ok(())
 }
@@ -58,17 +58,11 @@ fn by_the_end_of_the_bytes(rt: HostRuntime) -> Result<(), Fail> {
 fn by_a_reader_that_fails(rt: HostRuntime) -> Result<(), Fail> {
     let image = long_first(rt.alloc())?;
     for cut in 0..1033usize {
-        let mut session = Session::new(rt.alloc(), set_id(), 1, MemorySink::new(rt.alloc()))?;
+        let mut session = begun(rt.alloc(), 1)?;
         let mut reels = [Failing(front(image.bytes.as_slice(), cut))];
         run(&mut session, &[Step::Reel], &mut reels)?;
-        assert_eq!(rt; session.want(), Some(awaited(cut)), "{cut}");
-        assert!(rt;
-            holds_long(session.sink(), blocks_before(cut) as usize),
-            "{cut}"
-        );
         // Behind the trailer label nothing is asked of the reader.
-        let failed = if cut < 932 { 1 } else { 0 };
-        assert_eq!(rt; session.device_faults(), failed, "{cut}");
+        stands_behind(&rt, &session, cut, if cut < 932 { 1 } else { 0 });
     }
     Ok(())
 }

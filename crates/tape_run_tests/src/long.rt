@@ -1,10 +1,34 @@
 //! A record that is longer than any buffer, into a sink that keeps no byte of it.
-use super::image::{HDR1, Image, VOL1, behind, front, long_byte, set_id};
-use super::readers::Counting;
-use crate::{Session, Step, run};
+use crate::image::{HDR1, Image, VOL1, front, long_byte, set_id};
+use crate::readers::Counting;
 use std::alloc::{AllocError, Global};
 use std::test::Fail;
 use tape_core::PartSink;
+use tape_run::{Session, Step, run};
+
+/// A block of this segment: its control word, and so many of the long record's bytes.
+fn segment(alloc: Global, control: &[u8; 5], count: usize) -> Result<Vec<u8>, AllocError> {
+    let mut block = Vec::new(alloc);
+    block.extend_from_slice(control)?;
+    for place in 0..count {
+        block.push(long_byte(place))?;
+    }
+    Ok(block)
+}
+
+/// Adds a number of blocks with the same segment.
+fn add_blocks(
+    image: &mut Image,
+    times: usize,
+    control: &[u8; 5],
+    count: usize,
+) -> Result<(), AllocError> {
+    let block = segment(image.alloc, control, count)?;
+    for _ in 0..times {
+        image.block(block.as_slice())?;
+    }
+    Ok(())
+}
 
 /// One record of 3,000,000 bytes in format S: 301 blocks, of 9,999 bytes but the last, whose 1,800
 /// bytes of the record fill up what 300 times 9,994 lack.
@@ -15,22 +39,9 @@ fn image(alloc: Global) -> Result<Image, AllocError> {
         HDR1,
         "HDR2S0999900000                                   00",
     ])?;
-    let mut block = Vec::new(alloc);
-    block.extend_from_slice(b"19999")?;
-    for place in 0..9994usize {
-        block.push(long_byte(place))?;
-    }
-    image.block(block.as_slice())?;
-    let mut middle = Vec::new(alloc);
-    middle.extend_from_slice(b"29999")?;
-    middle.extend_from_slice(behind(block.as_slice(), 5))?;
-    for _ in 1..300usize {
-        image.block(middle.as_slice())?;
-    }
-    let mut last = Vec::new(alloc);
-    last.extend_from_slice(b"31805")?;
-    last.extend_from_slice(behind(front(block.as_slice(), 1805), 5))?;
-    image.block(last.as_slice())?;
+    add_blocks(&mut image, 1, b"19999", 9994)?;
+    add_blocks(&mut image, 299, b"29999", 9994)?;
+    add_blocks(&mut image, 1, b"31805", 1800)?;
     image.trailers(&["EOF1PAYROLL          ABC00100010001000100 00000 00000 000301"])?;
     image.end()?;
     Ok(image)
@@ -53,7 +64,7 @@ fn three_million_bytes(rt: HostRuntime) -> Result<(), Fail> {
         &mut [front(whole, 1_500_000), whole],
     )?;
     assert_eq!(rt; session.want(), None);
-    assert_eq!(rt; session.sink().parts, 301);
-    assert_eq!(rt; session.sink().weight(), 3_000_000 + 301 * 5);
+    let counts = (session.sink().parts, session.sink().weight());
+    assert_eq!(rt; counts, (301, 3_000_000 + 301 * 5));
     Ok(())
 }

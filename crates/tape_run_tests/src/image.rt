@@ -6,7 +6,7 @@ use tape_label::Field;
 /// What stands on a tape, as the bytes of its image.
 #[derive(Drop)]
 pub struct Image {
-    alloc: Global,
+    pub alloc: Global,
     pub bytes: Vec<u8>,
 }
 
@@ -16,15 +16,6 @@ pub fn front(bytes: &[u8], count: usize) -> &[u8] {
         &bytes[..count]
     } else {
         bytes
-    }
-}
-
-/// What stands behind so many of the bytes.
-pub fn behind(bytes: &[u8], count: usize) -> &[u8] {
-    if count <= bytes.len() {
-        &bytes[count..]
-    } else {
-        b""
     }
 }
 
@@ -164,6 +155,14 @@ pub fn five_blocks(alloc: Global, bad: u8, trailer: &str) -> Result<Image, Alloc
         trailer,
         "EOF2F0040000080                                   00",
     ])?;
+    image.end()?;
+    Ok(image)
+}
+
+/// A volume with no file.
+pub fn blank(alloc: Global) -> Result<Image, AllocError> {
+    let mut image = Image::new(alloc);
+    image.headers(&[VOL1])?;
     image.end()?;
     Ok(image)
 }

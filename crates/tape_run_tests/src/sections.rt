@@ -1,0 +1,73 @@
+//! Volumes with the sections that a catalogue is to find.
+use crate::image::{HDR1, HDR2, Image, VOL1};
+use std::alloc::{AllocError, Global};
+
+/// The worked file on a volume that is too small for its end: three blocks, and an end of volume.
+pub fn first_of_two(alloc: Global) -> Result<Image, AllocError> {
+    let mut image = Image::new(alloc);
+    image.headers(&[VOL1, HDR1, HDR2])?;
+    image.records(0, 10, true)?;
+    image.records(10, 20, true)?;
+    image.records(20, 25, true)?;
+    image.trailers(&[
+        "EOV1PAYROLL          ABC00100010001000100 00000 00000 000003",
+        "EOV2F0080000080                                   00",
+    ])?;
+    image.end()?;
+    Ok(image)
+}
+
+/// Its second volume: an empty section, and the end of the file.
+pub fn second_of_two(alloc: Global) -> Result<Image, AllocError> {
+    let mut image = Image::new(alloc);
+    image.headers(&[
+        "VOL1ABC002                                                                     4",
+        "HDR1PAYROLL          ABC00100020001000100 00000 00000 000000",
+        HDR2,
+    ])?;
+    image.trailers(&[
+        "EOF1PAYROLL          ABC00100020001000100 00000 00000 000000",
+        "EOF2F0080000080                                   00",
+    ])?;
+    image.end()?;
+    Ok(image)
+}
+
+/// A volume with this header label and trailer label, and one block of a byte between them.
+pub fn one_section(alloc: Global, header: &str, trailer: &str) -> Result<Image, AllocError> {
+    let mut image = Image::new(alloc);
+    image.headers(&[VOL1, header, HDR2])?;
+    image.block(b"x")?;
+    image.trailers(&[trailer])?;
+    image.end()?;
+    Ok(image)
+}
+
+/// A volume with the section of this number alone, which goes on.
+pub fn numbered(alloc: Global, number: u16) -> Result<Image, AllocError> {
+    let mut header = *b"HDR1PAYROLL          ABC00100000001000100 00000 00000 000000";
+    let mut trailer = *b"EOV1PAYROLL          ABC00100000001000100 00000 00000 000001";
+    for (place, unit) in [(27usize, 1000u16), (28, 100), (29, 10), (30, 1)] {
+        let digit = b'0' + (number / unit % 10) as u8;
+        header[place] = digit;
+        trailer[place] = digit;
+    }
+    one_section(alloc, text(&header), text(&trailer))
+}
+
+/// The characters as text.
+fn text(bytes: &[u8]) -> &str {
+    std::str::from_utf8(bytes).unwrap_or("")
+}
+
+/// A section with so many blocks of a byte, and this trailer label.
+pub fn of_blocks(alloc: Global, count: u32, trailer: &str) -> Result<Image, AllocError> {
+    let mut image = Image::new(alloc);
+    image.headers(&[VOL1, HDR1, HDR2])?;
+    for _ in 0..count {
+        image.block(b"x")?;
+    }
+    image.trailers(&[trailer])?;
+    image.end()?;
+    Ok(image)
+}
