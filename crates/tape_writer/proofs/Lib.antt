@@ -13,3 +13,7 @@ pub mod Ends
 pub mod Calls
 pub mod Closing
 pub mod Written
+mod Mistakes
+mod MistakesOfRecords
+mod MistakesOfTapes
+mod MistakesOnVolumes

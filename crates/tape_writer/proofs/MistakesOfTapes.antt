@@ -1,0 +1,84 @@
+-- Answers that the contracts of the tapes exclude: each is what a wrong body would give.
+use Rattle.std.proofs.Common.{◌≡◌, ◌+◌, List, [], ◌∷◌, ◌++◌, length, sym, ap, ◌∙◌, subst, arith}
+use Rattle.std.proofs.Common.{length-append}
+use Rattle.std.specs.Prelude.{Some, Ok, slice_get}
+use Rattle.tape_image.specs.Tape.{TapeItem, block, bad, mark}
+use Rattle.tape_image.specs.declared.item.Item.TheVariants.{Bad}
+use Rattle.tape_writer.specs.Tapes.{Tapes, Ended, UnderWay, all_volumes, volume_at}
+use Rattle.tape_writer.specs.Kept.{InMemory}
+use Rattle.tape_writer.specs.Images.{AreFresh, Holds}
+use Rattle.tape_writer.proofs.memory.MemoryTapes.count.Reads as count
+use Rattle.tape_writer.proofs.memory.MemoryTapes.length.Reads as length_of
+use Rattle.tape_writer.proofs.memory.MemoryTapes.item.Reads as item
+use Rattle.tape_writer.proofs.images.ImageTapes.new.Reads as new_images
+use Rattle.tape_writer.proofs.images.ImageTapes.end_image.Reads as end_image
+use Rattle.tape_writer.proofs.refusing.RefusingTapeOut.block.Reads as refusing_block
+
+-- ---- tapes in memory
+
+-- what they hold is one thing alone
+one_in_memory : (m : InMemory) (x y : Tapes) → m.tapes ≡ x → m.tapes ≡ y → x ≡ y
+one_in_memory m x y p q = sym p ∙ q
+
+-- volume_under_way_not_counted: there is a volume under way, and 0 volumes are told
+volume_under_way_not_counted : (κs : _) (a : _) (s : _) (items : List TapeItem)
+    → count.Learnt κs a 0 s → a.0.now.tapes ≡ UnderWay [] items → ⊥
+volume_under_way_not_counted κs a s items h tapes =
+    absurd (let n : 0 ≡ 1 = h ∙ ap (λ t. length (all_volumes t)) tapes in omega arith)
+
+-- length_of_the_first_volume: the first volume has one item and the second none; 1 is told of the
+-- second
+length_of_the_first_volume : (κs : _) (a : _) (s : _) → length_of.Learnt κs a 1 s
+    → a.0.now.tapes ≡ Ended ((mark ∷ []) ∷ [] ∷ []) → a.1.0 ≡ 1 → ⊥
+length_of_the_first_volume κs a s h tapes second =
+    absurd (let n : 1 ≡ 0 = h ∙ ap (λ t. length (volume_at t a.1.0)) tapes
+    ∙ ap (λ k. length (volume_at (Ended ((mark ∷ []) ∷ [] ∷ [])) k)) second in omega arith)
+
+-- mark_told_as_bad: a mark is given as a block that cannot be given
+mark_told_as_bad : (κs : _) (a : _) (s : _) → item.Learnt κs a (Some Bad) s
+    → a.0.now.tapes ≡ Ended ((mark ∷ []) ∷ []) → a.1.0 ≡ 0 → a.1.1.0 ≡ 0 → ⊥
+mark_told_as_bad κs a s h tapes first place =
+    let q : Some bad ≡ Some mark = h ∙ ap (λ t. slice_get (volume_at t a.1.0) a.1.1.0) tapes
+    ∙ ap (λ k. slice_get (volume_at (Ended ((mark ∷ []) ∷ [])) k) a.1.1.0) first
+    ∙ ap (λ k. slice_get (mark ∷ []) k) place in
+    absurd (cc)
+
+-- ---- images
+
+-- first_image_left_out: images that hold nothing count one volume that ended
+first_image_left_out : (W : _) (L : _) (g : _) (d : _) (e : _) (κs : _) (a : _) (t : _) (s : _)
+    → new_images.Learnt-named W L g d e κs a t s → AreFresh a.0.items → t.ended ≡ 1 → ⊥
+first_image_left_out W L g d e κs a t s l fresh one =
+    absurd (let n : 1 ≡ 0 = sym one ∙ (l.held fresh).1 in omega arith)
+
+-- ended_image_written_again: the image has ended, and no volume more is counted, so that the next
+-- one is written behind its end word
+ended_image_written_again : (W : _) (L : _) (g : _) (d : _) (e : _) (κs : _) (a : _) (s : _)
+    (volumes : List (List TapeItem)) (items : List TapeItem)
+    → end_image.Learnt-named W L g d e κs a (Ok tt) s
+    → Holds a.0.now (UnderWay volumes items) → s.0.now.ended ≡ a.0.now.ended → ⊥
+ended_image_written_again W L g d e κs a s volumes items l held same =
+    absurd (omega (
+      arith,
+      same,
+      held.1,
+      (l.ok (UnderWay volumes items) held).1,
+      length-append volumes (items ∷ []),
+    ))
+
+-- ---- a call that is refused
+
+-- refused_call_passed_on: a block is answered as written, and what it was to be passed on to is as
+-- it was. What that holds is one thing alone, as of tapes in memory (`one_in_memory`).
+refused_call_passed_on : (T : _) (L : _) (g : _) (d : _) (κs : _) (a : _) (s : _)
+    (items : List TapeItem) → refusing_block.Learnt-named T L g d κs a (Ok tt) s
+    → s.0.now.inner ≡ a.0.now.inner → g.holds a.0.now.inner (UnderWay [] items)
+    → ((x y : Tapes) → g.holds a.0.now.inner x → g.holds a.0.now.inner y → x ≡ y) → ⊥
+refused_call_passed_on T L g d κs a s items l same held one =
+    let w : g.holds a.0.now.inner (UnderWay [] (items ++ block a.1.0.now ∷ []))
+    = subst (λ r. g.holds r (UnderWay [] (items ++ block a.1.0.now ∷ []))) same
+    (l.ok [] items held) in
+    let q : UnderWay [] (items ++ block a.1.0.now ∷ []) ≡ UnderWay [] items = one _ _ w held in
+    let n : length (items ++ block a.1.0.now ∷ []) ≡ length items
+    = ap (λ t. length (volume_at t 0)) q in
+    absurd (omega (arith, n, length-append items (block a.1.0.now ∷ [])))
