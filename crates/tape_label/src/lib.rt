@@ -24,6 +24,3 @@ pub use label::{Label, read_label};
 pub use reading::{read_head1, read_head2, read_trail1, read_vol1};
 pub use values::{Format, Head1, Head2, Kind, Trail1, Vol1};
 pub use writing::{write_head1, write_head2, write_trail1, write_vol1};
-
-#[cfg(test)]
-mod tests;

@@ -1,39 +1,34 @@
-//! Labels with bytes that were written out from the description of the format.
-
-mod fields;
-mod reading;
-mod writing;
+//! The labels of a volume with one file of 25 records of 80 bytes, in three blocks of up to 800
+//! bytes, and the values that they tell.
 
 ghost use Rattle.tape_label.specs.Head1.{HeadFits};
-ghost use Rattle.tape_label.specs.Trail1.{TrailFits};
 ghost use Rattle.tape_label.specs.Head2.{Head2Fits};
+ghost use Rattle.tape_label.specs.Trail1.{TrailFits};
 
-use super::*;
+use tape_label::{Field, Format, Head1, Head2, Trail1, Vol1};
 
-// The labels of a volume with one file of 25 records of 80 bytes, in three blocks of up to 800
-// bytes.
-const VOL1: &[u8; 80] =
+pub(crate) const VOL1: &[u8; 80] =
     b"VOL1ABC001                                                                     4";
 
-const HDR1: &[u8; 80] =
+pub(crate) const HDR1: &[u8; 80] =
     b"HDR1PAYROLL          ABC00100010001000100 00000 00000 000000                    ";
 
-const HDR2: &[u8; 80] =
+pub(crate) const HDR2: &[u8; 80] =
     b"HDR2F0080000080                                   00                            ";
 
-const EOF1: &[u8; 80] =
+pub(crate) const EOF1: &[u8; 80] =
     b"EOF1PAYROLL          ABC00100010001000100 00000 00000 000003                    ";
 
-const EOF2: &[u8; 80] =
+pub(crate) const EOF2: &[u8; 80] =
     b"EOF2F0080000080                                   00                            ";
 
-const EOV1: &[u8; 80] =
+pub(crate) const EOV1: &[u8; 80] =
     b"EOV1PAYROLL          ABC00100010001000100 00000 00000 000003                    ";
 
-const EOV2: &[u8; 80] =
+pub(crate) const EOV2: &[u8; 80] =
     b"EOV2F0080000080                                   00                            ";
 
-fn volume() -> Vol1 {
+pub(crate) fn volume() -> Vol1 {
     Vol1 {
         volume: Field::of_bytes(*b"ABC001"),
         access: b' ',
@@ -43,7 +38,7 @@ fn volume() -> Vol1 {
     }
 }
 
-fn head() -> Head1
+pub(crate) fn head() -> Head1
     ensures { HeadFits result }
 {
     Head1 {
@@ -60,7 +55,7 @@ fn head() -> Head1
     }
 }
 
-fn second() -> Head2
+pub(crate) fn second() -> Head2
     ensures { Head2Fits result }
 {
     Head2 {
@@ -71,7 +66,7 @@ fn second() -> Head2
     }
 }
 
-fn trailer(eof: bool) -> Trail1
+pub(crate) fn trailer(eof: bool) -> Trail1
     ensures { TrailFits result }
 {
     Trail1 {

@@ -1,0 +1,17 @@
+//! Tests of the labels, with bytes that were written out from the description of the format.
+#![tactic(auto)]
+
+#[cfg(test)]
+mod faults;
+#[cfg(test)]
+mod fields;
+#[cfg(test)]
+mod kinds;
+#[cfg(test)]
+mod producers;
+#[cfg(test)]
+mod reading;
+#[cfg(test)]
+mod samples;
+#[cfg(test)]
+mod writing;
