@@ -22,6 +22,3 @@ pub use packing::pack_all;
 pub use part::{Part, Span};
 pub use parts::Parts;
 pub use shape::Shape;
-
-#[cfg(test)]
-mod tests;

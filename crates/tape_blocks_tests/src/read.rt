@@ -1,6 +1,9 @@
 //! Blocks that pass, and their parts.
 
-use super::*;
+use crate::worked::{counted, fixed, reads, refuses, spanned};
+use std::test::*;
+use tape_blocks::{check_block, laws, BlockCause, Shape, Span};
+use tape_label::{Format, Head2};
 
 #[test]
 fn records_of_format_d(rt: HostRuntime) {

@@ -1,6 +1,8 @@
 //! A packer, call by call.
 
-use super::*;
+use crate::worked::{counted, fixed, reads, spanned};
+use std::test::*;
+use tape_blocks::{Offer, PackFault, Packer, Shape, Span};
 
 #[test]
 fn answers_each_offer(rt: HostRuntime) -> Result<(), Fail> {

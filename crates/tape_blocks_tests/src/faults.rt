@@ -1,6 +1,8 @@
 //! Blocks that are refused: where, and why.
 
-use super::*;
+use crate::worked::{counted, fixed, refuses, spanned};
+use std::test::*;
+use tape_blocks::{BlockCause, BlockFault, PackFault};
 
 #[test]
 fn in_format_d(rt: HostRuntime) {

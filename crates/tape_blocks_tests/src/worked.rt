@@ -2,17 +2,12 @@
 
 ghost use Rattle.std.specs.Prelude.{◌≤◌};
 
-use super::*;
 use std::alloc::Global;
 use std::test::*;
-use tape_label::{Format, Head2};
+use tape_blocks::{check_block, pack_all, BlockCause, BlockFault, PackFault, Part, Parts, Shape, Span};
+use tape_label::Format;
 
-mod faults;
-mod packed;
-mod packers;
-mod read;
-
-fn fixed(block_len: u32, rec_len: u32) -> Shape
+pub fn fixed(block_len: u32, rec_len: u32) -> Shape
     requires { 1 ≤ rec_len }
 {
     Shape {
@@ -24,7 +19,7 @@ fn fixed(block_len: u32, rec_len: u32) -> Shape
     }
 }
 
-fn counted(block_len: u32, rec_len: u32) -> Shape {
+pub fn counted(block_len: u32, rec_len: u32) -> Shape {
     Shape {
         format: Format::Counted,
         block_len,
@@ -34,7 +29,7 @@ fn counted(block_len: u32, rec_len: u32) -> Shape {
     }
 }
 
-fn spanned(block_len: u32) -> Shape {
+pub fn spanned(block_len: u32) -> Shape {
     Shape {
         format: Format::Spanned,
         block_len,
@@ -45,7 +40,7 @@ fn spanned(block_len: u32) -> Shape {
 }
 
 // Whether the block passes, leaves a record begun or not, and has just these parts.
-fn reads(shape: &Shape, begun: bool, block: &[u8], end: bool, wanted: &[(Span, &[u8])]) -> bool {
+pub fn reads(shape: &Shape, begun: bool, block: &[u8], end: bool, wanted: &[(Span, &[u8])]) -> bool {
     if check_block(shape, begun, block) != Ok(end) {
         return false;
     }
@@ -60,11 +55,11 @@ fn reads(shape: &Shape, begun: bool, block: &[u8], end: bool, wanted: &[(Span, &
 }
 
 // Whether the block is refused at this place for this cause.
-fn refuses(shape: &Shape, begun: bool, block: &[u8], place: usize, cause: BlockCause) -> bool {
+pub fn refuses(shape: &Shape, begun: bool, block: &[u8], place: usize, cause: BlockCause) -> bool {
     check_block(shape, begun, block) == Err(BlockFault { place, cause })
 }
 
-fn copies(alloc: Global, texts: &[&[u8]]) -> Result<Vec<Vec<u8>>, PackFault> {
+pub fn copies(alloc: Global, texts: &[&[u8]]) -> Result<Vec<Vec<u8>>, PackFault> {
     let mut all = Vec::new(alloc);
     for text in texts {
         let mut copy = Vec::new(alloc);
@@ -76,7 +71,7 @@ fn copies(alloc: Global, texts: &[&[u8]]) -> Result<Vec<Vec<u8>>, PackFault> {
 }
 
 // Whether these records are packed into just these blocks.
-fn packs(alloc: Global, shape: Shape, records: &[&[u8]], wanted: &[&[u8]]) -> bool {
+pub fn packs(alloc: Global, shape: Shape, records: &[&[u8]], wanted: &[&[u8]]) -> bool {
     let Ok(records) = copies(alloc, records) else {
         return false;
     };

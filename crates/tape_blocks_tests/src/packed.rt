@@ -1,6 +1,8 @@
 //! Whole lists of records in blocks.
 
-use super::*;
+use crate::worked::{copies, counted, fixed, packs, spanned};
+use std::test::*;
+use tape_blocks::{laws, pack_all, PackFault, Packer};
 
 #[test]
 fn of_format_d(rt: HostRuntime) {
