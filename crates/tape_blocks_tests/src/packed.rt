@@ -1,152 +1,185 @@
 //! Whole lists of records in blocks.
 
-use crate::worked::{copies, counted, fixed, packs, spanned};
+use crate::worked::{copies, is_judged, pack_fault, packs, padded, shape};
+use std::alloc::Global;
 use std::test::*;
-use tape_blocks::{laws, pack_all, PackFault, Packer};
+use tape_blocks::{PackFault, Shape, laws};
+use tape_label::Format;
 
 #[test]
 fn of_format_d(rt: HostRuntime) {
-    let alloc = rt.alloc();
-    let mut shape = counted(18, 18);
-    assert!(rt; packs(alloc, shape, &[b"AB", b""], &[b"0006AB0004^^^^^^^^"]));
-    assert!(rt; packs(alloc, shape, &[b"^^^^"], &[b"0008^^^^^^^^^^^^^^"]));
-    shape.offset = 2;
-    shape.block_len = 20;
-    assert!(rt; packs(alloc, shape, &[b"AB", b""], &[b"  0006AB0004^^^^^^"]));
-    shape.offset = 0;
-    shape.block_len = 24;
-    shape.pad_full = true;
-    assert!(rt; packs(alloc, shape, &[b"AB"], &[b"0006AB^^^^^^^^^^^^^^^^^^"]));
-    assert!(rt; packs(alloc, shape, &[], &[]));
+    let d = shape(Format::Counted, 18, 18, 0);
+    let behind = shape(Format::Counted, 20, 18, 2);
+    let full = padded(Format::Counted, 24, 18, 0);
+    let rows: [(&str, Shape, &[&[u8]], &[&[u8]]); 5] = [
+        ("two", d, &[b"AB", b""], &[b"0006AB0004^^^^^^^^"]),
+        ("circumflexes", d, &[b"^^^^"], &[b"0008^^^^^^^^^^^^^^"]),
+        ("offset", behind, &[b"AB", b""], &[b"  0006AB0004^^^^^^"]),
+        ("in full", full, &[b"AB"], &[b"0006AB^^^^^^^^^^^^^^^^^^"]),
+        ("none", full, &[], &[]),
+    ];
+    for (name, shape, records, blocks) in rows {
+        assert!(rt; packs(rt.alloc(), shape, records, blocks), "{name}");
+    }
 }
 
 #[test]
 fn of_format_f(rt: HostRuntime) {
-    let alloc = rt.alloc();
     let record = [b'R'; 80];
     let full = [b'R'; 800];
     let half = [b'R'; 400];
     let records: [&[u8]; 25] = [&record; 25];
-    assert!(rt; packs(alloc, fixed(800, 80), &records, &[&full, &full, &half]));
     // A block is not padded, and holds whole records alone.
-    assert!(rt; packs(alloc, fixed(850, 80), &records, &[&full, &full, &half]));
+    for block_len in [800, 850] {
+        let f = shape(Format::Fixed, block_len, 80, 0);
+        assert!(rt;
+            packs(rt.alloc(), f, &records, &[&full, &full, &half]),
+            "{block_len}"
+        );
+    }
 }
 
 #[test]
 fn of_format_s(rt: HostRuntime) {
-    let alloc = rt.alloc();
-    let shape = spanned(18);
-    assert!(rt;
-        packs(
-            alloc,
-            shape,
-            &[b"123456789012345678901234567890"],
-            &[
-                b"100181234567890123",
-                b"200184567890123456",
-                b"300097890^^^^^^^^^"
-            ]
-        )
-    );
-    assert!(rt; packs(alloc, shape, &[b""], &[b"00005^^^^^^^^^^^^^"]));
-}
-
-/// The last free bytes of a block of format S.
-#[test]
-fn free_bytes_of_format_s(rt: HostRuntime) {
-    let alloc = rt.alloc();
-    let shape = spanned(18);
-    // Just the free bytes: the record is whole, and the next one begins a block.
-    assert!(rt;
-        packs(
-            alloc,
-            shape,
+    let s = shape(Format::Spanned, 18, 0, 0);
+    let long: &[&[u8]] = &[b"123456789012345678901234567890"];
+    let three: &[&[u8]] = &[
+        b"100181234567890123",
+        b"200184567890123456",
+        b"300097890^^^^^^^^^",
+    ];
+    let rows: [(&str, &[&[u8]], &[&[u8]]); 6] = [
+        ("long", long, three),
+        ("empty", &[b""], &[b"00005^^^^^^^^^^^^^"]),
+        // The record is whole, and the next one begins a block.
+        (
+            "just fits",
             &[b"1234567890123", b"A"],
-            &[b"000181234567890123", b"00006A^^^^^^^^^^^^"]
-        )
-    );
-    // Just the free bytes behind another record.
-    assert!(rt; packs(alloc, shape, &[b"A", b"1234567"], &[b"00006A000121234567"]));
-    // 5 bytes free: not even an empty record begins.
-    assert!(rt;
-        packs(
-            alloc,
-            shape,
+            &[b"000181234567890123", b"00006A^^^^^^^^^^^^"],
+        ),
+        (
+            "just fits behind another",
+            &[b"A", b"1234567"],
+            &[b"00006A000121234567"],
+        ),
+        // Not even an empty record begins there.
+        (
+            "5 free",
             &[b"12345678", b""],
-            &[b"0001312345678^^^^^", b"00005^^^^^^^^^^^^^"]
-        )
-    );
-    // 6 bytes free: a segment of one byte.
-    assert!(rt;
-        packs(
-            alloc,
-            shape,
+            &[b"0001312345678^^^^^", b"00005^^^^^^^^^^^^^"],
+        ),
+        // A segment of one byte stands there.
+        (
+            "6 free",
             &[b"1234567", b"AB"],
-            &[b"00012123456710006A", b"30006B^^^^^^^^^^^^"]
-        )
-    );
-}
-
-#[test]
-fn refused(rt: HostRuntime) -> Result<(), Fail> {
-    let alloc = rt.alloc();
-    let records = copies(alloc, &[b"1234567890", b"12345678901"])?;
-    assert!(rt;
-        pack_all(alloc, counted(18, 14), &records).is_err_and(|e| e == PackFault::RecordLength)
-    );
-    assert!(rt;
-        pack_all(alloc, counted(17, 14), &records).is_err_and(|e| e == PackFault::ShapeRange)
-    );
-    assert!(rt; pack_all(alloc, counted(18, 15), &records).is_ok());
-    let none = copies(alloc, &[])?;
-    assert!(rt; pack_all(alloc, counted(17, 14), &none).is_err_and(|e| e == PackFault::ShapeRange));
-    Ok(())
-}
-
-/// Shapes with an offset: at most 99 bytes, and in format S six bytes behind it.
-#[test]
-fn offsets(rt: HostRuntime) {
-    let alloc = rt.alloc();
-    let mut shape = spanned(20);
-    shape.offset = 2;
-    assert!(rt; packs(alloc, shape, &[b"ABCDE"], &[b"  00010ABCDE^^^^^^"]));
-    shape.offset = 14;
-    assert!(rt;
-        packs(
-            alloc,
-            shape,
-            &[b"AB"],
-            &[b"              10006A", b"              30006B"]
-        )
-    );
-    for (offset, block_len, written) in [(15, 20, false), (99, 105, true), (100, 106, false)] {
-        let mut shape = spanned(block_len);
-        shape.offset = offset;
-        assert!(rt; Packer::new(alloc, shape).is_ok() == written, "{offset}");
+            &[b"00012123456710006A", b"30006B^^^^^^^^^^^^"],
+        ),
+    ];
+    for (name, records, blocks) in rows {
+        assert!(rt; packs(rt.alloc(), s, records, blocks), "{name}");
     }
-    let mut full = spanned(20);
-    full.pad_full = true;
-    assert!(rt; Packer::new(alloc, full).is_err_and(|e| e == PackFault::ShapeRange));
 }
 
 #[test]
-fn read_again(rt: HostRuntime) -> Result<(), Fail> {
-    let alloc = rt.alloc();
-    let records = copies(
-        alloc,
-        &[
-            b"",
-            b"^^^^",
-            b"123456789012345678901234567890",
-            b"",
-            b"A",
-            b"BCDEFGH",
-        ],
-    )?;
-    let shapes = [counted(40, 40), counted(99, 40), spanned(18), spanned(40)];
-    for shape in shapes {
-        let back = laws::packed_again(alloc, shape, &records)?;
-        assert!(rt; back == records, "{shape:?}");
+fn behind_an_offset(rt: HostRuntime) {
+    let rows: [(u8, &[u8], &[&[u8]]); 2] = [
+        (2, b"ABCDE", &[b"  00010ABCDE^^^^^^"]),
+        (
+            14,
+            b"AB",
+            &[b"              10006A", b"              30006B"],
+        ),
+    ];
+    for (offset, record, blocks) in rows {
+        let s = shape(Format::Spanned, 20, 0, offset);
+        assert!(rt; packs(rt.alloc(), s, &[record], blocks), "{offset}");
     }
-    Ok(())
+}
+
+#[test]
+fn refused(rt: HostRuntime) {
+    let two: &[&[u8]] = &[b"1234567890", b"12345678901"];
+    let rows: [(u32, u32, &[&[u8]], Option<PackFault>); 4] = [
+        (18, 14, two, Some(PackFault::RecordLength)),
+        (17, 14, two, Some(PackFault::ShapeRange)),
+        (18, 15, two, None),
+        (17, 14, &[], Some(PackFault::ShapeRange)),
+    ];
+    for (block_len, rec_len, records, wanted) in rows {
+        let d = shape(Format::Counted, block_len, rec_len, 0);
+        assert!(rt;
+            pack_fault(rt.alloc(), d, records) == wanted,
+            "{block_len} {rec_len}"
+        );
+    }
+}
+
+/// Shapes that are written, and others: at most 99 bytes of offset, and in format S six bytes behind
+/// it.
+#[test]
+fn shapes_that_are_written(rt: HostRuntime) {
+    let rows = [
+        (Format::Fixed, 17, 17, 0, false),
+        (Format::Fixed, 80, 17, 0, false),
+        (Format::Fixed, 80, 81, 0, false),
+        (Format::Fixed, 100_000, 80, 0, false),
+        (Format::Fixed, 18, 18, 0, true),
+        (Format::Fixed, 99_999, 99_999, 0, true),
+        (Format::Counted, 17, 14, 0, false),
+        (Format::Counted, 18, 3, 0, false),
+        (Format::Counted, 18, 19, 0, false),
+        (Format::Counted, 99_999, 10_000, 0, false),
+        (Format::Counted, 18, 4, 0, true),
+        (Format::Counted, 99_999, 9_999, 0, true),
+        (Format::Spanned, 17, 0, 0, false),
+        (Format::Spanned, 10_000, 0, 0, false),
+        (Format::Spanned, 18, 0, 13, false),
+        (Format::Spanned, 20, 0, 15, false),
+        (Format::Spanned, 106, 0, 100, false),
+        (Format::Spanned, 18, 0, 0, true),
+        (Format::Spanned, 9_999, 0, 0, true),
+        (Format::Spanned, 18, 0, 12, true),
+        (Format::Spanned, 105, 0, 99, true),
+    ];
+    for (format, block_len, rec_len, offset, written) in rows {
+        let shape = shape(format, block_len, rec_len, offset);
+        assert!(rt; is_judged(rt.alloc(), shape, written), "{shape:?}");
+    }
+    for (format, block_len, rec_len) in [(Format::Fixed, 80, 80), (Format::Spanned, 20, 0)] {
+        let shape = padded(format, block_len, rec_len, 0);
+        assert!(rt; is_judged(rt.alloc(), shape, false), "{shape:?}");
+    }
+}
+
+// Whether records that are packed in blocks of this shape are read again from them.
+fn are_read_again(alloc: Global, shape: Shape) -> bool {
+    let texts: [&[u8]; 6] = [
+        b"",
+        b"^^^^",
+        b"123456789012345678901234567890",
+        b"",
+        b"A",
+        b"BCDEFGH",
+    ];
+    match copies(alloc, &texts) {
+        Ok(records) => match laws::packed_again(alloc, shape, &records) {
+            Ok(back) => back == records,
+            Err(_) => false,
+        },
+        Err(_) => false,
+    }
+}
+
+#[test]
+fn read_again(rt: HostRuntime) {
+    let rows = [
+        (Format::Counted, 40, 40),
+        (Format::Counted, 99, 40),
+        (Format::Spanned, 18, 0),
+        (Format::Spanned, 40, 0),
+    ];
+    for (format, block_len, rec_len) in rows {
+        let shape = shape(format, block_len, rec_len, 0);
+        assert!(rt; are_read_again(rt.alloc(), shape), "{shape:?}");
+    }
 }

@@ -1,139 +1,143 @@
 //! A packer, call by call.
 
-use crate::worked::{counted, fixed, reads, spanned};
+use crate::worked::{reads, shape};
+use std::alloc::{AllocError, Global};
 use std::test::*;
 use tape_blocks::{Offer, PackFault, Packer, Shape, Span};
+use tape_label::Format;
 
-#[test]
-fn answers_each_offer(rt: HostRuntime) -> Result<(), Fail> {
-    let mut packer = Packer::new(rt.alloc(), counted(18, 14))?;
-    assert_eq!(rt; packer.offer(b"12345678901"), Err(PackFault::RecordLength));
-    assert!(rt; !packer.rest());
-    assert!(rt; packer.take_block().is_none());
-    assert_eq!(rt; packer.offer(b"1234567890"), Ok(Offer::Taken));
-    assert!(rt; packer.rest());
-    assert_eq!(rt; packer.offer(b"1"), Ok(Offer::BlockReady(0)));
-    // The block is closed, and nothing is judged before it is taken.
-    assert_eq!(rt; packer.offer(b"12345678901"), Ok(Offer::BlockReady(0)));
-    assert!(rt; packer.rest());
-    assert!(rt; packer.take_block() == Some(b"00141234567890^^^^".as_slice()));
-    assert!(rt; !packer.rest());
-    assert_eq!(rt; packer.offer(b"12345678901"), Err(PackFault::RecordLength));
-    assert_eq!(rt; packer.offer(b"1"), Ok(Offer::Taken));
-    assert!(rt; packer.take_block() == Some(b"00051^^^^^^^^^^^^^".as_slice()));
-    Ok(())
+// A call of a packer, with its answer.
+#[derive(Clone, Copy)]
+enum Call<'a> {
+    Offer(&'a [u8], Result<Offer, PackFault>),
+    Rest(bool),
+    Take(Option<&'a [u8]>),
+}
+
+// Whether the packer answers so.
+fn answers(packer: &mut Packer, call: &Call<'_>) -> bool {
+    match call {
+        Call::Offer(rest, answer) => packer.offer(rest) == *answer,
+        Call::Rest(answer) => packer.rest() == *answer,
+        Call::Take(answer) => packer.take_block() == *answer,
+    }
+}
+
+// The first of these calls that a new packer answers otherwise, counted from 1. Call 0 makes it.
+fn first_wrong(alloc: Global, shape: Shape, calls: &[Call<'_>]) -> Option<usize> {
+    let Ok(mut packer) = Packer::new(alloc, shape) else {
+        return Some(0);
+    };
+    for (n, call) in calls.iter().enumerate() {
+        if !answers(&mut packer, call) {
+            return Some(n + 1);
+        }
+    }
+    None
 }
 
 #[test]
-fn keeps_a_full_block_until_the_next_offer(rt: HostRuntime) -> Result<(), Fail> {
-    let mut packer = Packer::new(rt.alloc(), fixed(18, 18))?;
-    assert_eq!(rt; packer.offer(&[b'A'; 18]), Ok(Offer::Taken));
-    assert!(rt; packer.rest());
-    assert_eq!(rt; packer.offer(&[b'B'; 18]), Ok(Offer::BlockReady(0)));
-    assert!(rt; packer.take_block() == Some([b'A'; 18].as_slice()));
-    assert_eq!(rt; packer.offer(&[b'B'; 18]), Ok(Offer::Taken));
-    Ok(())
-}
-
-#[test]
-fn goes_on_with_a_record_when_its_block_was_taken(rt: HostRuntime) -> Result<(), Fail> {
-    let mut packer = Packer::new(rt.alloc(), spanned(18))?;
+fn answers_each_offer(rt: HostRuntime) {
+    let calls = [
+        Call::Offer(b"12345678901", Err(PackFault::RecordLength)),
+        Call::Rest(false),
+        Call::Take(None),
+        Call::Offer(b"1234567890", Ok(Offer::Taken)),
+        Call::Rest(true),
+        Call::Offer(b"1", Ok(Offer::BlockReady(0))),
+        // The block is closed, and nothing is judged before it is taken.
+        Call::Offer(b"12345678901", Ok(Offer::BlockReady(0))),
+        Call::Rest(true),
+        Call::Take(Some(b"00141234567890^^^^")),
+        Call::Rest(false),
+        Call::Offer(b"12345678901", Err(PackFault::RecordLength)),
+        Call::Offer(b"1", Ok(Offer::Taken)),
+        Call::Take(Some(b"00051^^^^^^^^^^^^^")),
+    ];
     assert_eq!(rt;
-        packer.offer(b"12345678901234567890"),
-        Ok(Offer::BlockReady(13))
+        first_wrong(rt.alloc(), shape(Format::Counted, 18, 14, 0), &calls),
+        None
     );
-    assert!(rt; packer.take_block() == Some(b"100181234567890123".as_slice()));
-    assert!(rt; !packer.rest());
-    assert_eq!(rt; packer.offer(b"4567890"), Ok(Offer::Taken));
-    // A new record begins, though the last one has just ended in this block.
-    assert_eq!(rt; packer.offer(b"A"), Ok(Offer::Taken));
-    assert!(rt; packer.take_block() == Some(b"30012456789000006A".as_slice()));
-    Ok(())
 }
 
 #[test]
-fn writes_no_other_shapes(rt: HostRuntime) {
-    let alloc = rt.alloc();
-    let mut far = spanned(18);
-    far.offset = 13;
-    let mut near = spanned(18);
-    near.offset = 12;
-    let mut padded = fixed(80, 80);
-    padded.pad_full = true;
-    let refused = [
-        fixed(17, 17),
-        fixed(80, 17),
-        fixed(80, 81),
-        fixed(100_000, 80),
-        padded,
-        counted(17, 14),
-        counted(18, 3),
-        counted(18, 19),
-        counted(99_999, 10_000),
-        spanned(17),
-        spanned(10_000),
-        far,
+fn keeps_a_full_block_until_the_next_offer(rt: HostRuntime) {
+    let calls = [
+        Call::Offer(&[b'A'; 18], Ok(Offer::Taken)),
+        Call::Rest(true),
+        Call::Offer(&[b'B'; 18], Ok(Offer::BlockReady(0))),
+        Call::Take(Some(&[b'A'; 18])),
+        Call::Offer(&[b'B'; 18], Ok(Offer::Taken)),
     ];
-    for shape in refused {
-        assert!(rt; !shape.is_writable(), "{shape:?}");
-        assert!(rt;
-            Packer::new(alloc, shape).is_err_and(|e| e == PackFault::ShapeRange),
-            "{shape:?}"
-        );
-    }
-    let written = [
-        fixed(18, 18),
-        fixed(99_999, 99_999),
-        counted(18, 4),
-        counted(99_999, 9_999),
-        spanned(18),
-        spanned(9_999),
-        near,
-    ];
-    for shape in written {
-        assert!(rt; shape.is_writable(), "{shape:?}");
-        assert!(rt; Packer::new(alloc, shape).is_ok(), "{shape:?}");
-    }
+    assert_eq!(rt;
+        first_wrong(rt.alloc(), shape(Format::Fixed, 18, 18, 0), &calls),
+        None
+    );
 }
 
-// Whether the block has this length and holds this part alone.
-fn holds_one(
-    shape: &Shape,
-    begun: bool,
-    block: Option<&[u8]>,
-    len: usize,
-    span: Span,
-    bytes: &[u8],
-) -> bool {
-    match block {
+#[test]
+fn goes_on_with_a_record_when_its_block_was_taken(rt: HostRuntime) {
+    let calls = [
+        Call::Offer(b"12345678901234567890", Ok(Offer::BlockReady(13))),
+        Call::Take(Some(b"100181234567890123")),
+        Call::Rest(false),
+        Call::Offer(b"4567890", Ok(Offer::Taken)),
+        // A new record begins, though the last one has just ended in this block.
+        Call::Offer(b"A", Ok(Offer::Taken)),
+        Call::Take(Some(b"30012456789000006A")),
+    ];
+    assert_eq!(rt;
+        first_wrong(rt.alloc(), shape(Format::Spanned, 18, 0, 0), &calls),
+        None
+    );
+}
+
+// Whether the packer takes this front of what remains of a record, and its block then holds that
+// alone, as the segment with this number.
+fn cuts(packer: &mut Packer, shape: &Shape, n: usize, rest: &[u8], front: &[u8]) -> bool {
+    let span = match n {
+        0 => Span::First,
+        300 => Span::Last,
+        _ => Span::Middle,
+    };
+    let ends = span == Span::Last;
+    let answer = if ends {
+        Offer::Taken
+    } else {
+        Offer::BlockReady(front.len())
+    };
+    if packer.offer(rest) != Ok(answer) {
+        return false;
+    }
+    match packer.take_block() {
         None => false,
-        Some(block) => block.len() == len
-            && reads(shape, begun, block, span != Span::Last, &[(span, bytes)]),
+        Some(block) => block.len() == front.len() + 5
+            && reads(shape, n > 0, block, !ends, &[(span, front)]),
     }
 }
 
-// A record of 3,000,000 bytes, of which the packer is offered what remains: the blocks and their
-// parts.
-#[test]
-fn cuts_a_long_record(rt: HostRuntime) -> Result<(), Fail> {
-    let shape = spanned(9_999);
-    let mut record = Vec::with_capacity(rt.alloc(), 3_000_000)?;
-    for n in 0..3_000_000u32 {
+// So many bytes.
+fn long_record(alloc: Global, len: u32) -> Result<Vec<u8>, AllocError> {
+    let mut record = Vec::new(alloc);
+    for n in 0..len {
         record.push((n % 251) as u8)?;
     }
+    Ok(record)
+}
+
+// A record of 3,000,000 bytes, of which the packer is offered what remains: 300 segments of 9,994
+// bytes and one of 1,800.
+#[test]
+fn cuts_a_long_record(rt: HostRuntime) -> Result<(), Fail> {
+    let shape = shape(Format::Spanned, 9_999, 0, 0);
     let mut packer = Packer::new(rt.alloc(), shape)?;
+    let record = long_record(rt.alloc(), 3_000_000)?;
     let mut rest = record.as_slice();
-    for n in 0..300u32 {
-        assert_eq!(rt; packer.offer(rest), Ok(Offer::BlockReady(9_994)));
-        let Some((front, behind)) = rest.split_at_checked(9_994) else {
-            break;
-        };
-        let span = if n == 0 { Span::First } else { Span::Middle };
-        assert!(rt; holds_one(&shape, n > 0, packer.take_block(), 9_999, span, front));
+    for n in 0..301 {
+        let (front, behind) = rest.split_at(rest.len().min(9_994));
+        assert!(rt; cuts(&mut packer, &shape, n, rest, front), "{n}");
         rest = behind;
     }
-    assert_eq!(rt; rest.len(), 1_800);
-    assert_eq!(rt; packer.offer(rest), Ok(Offer::Taken));
-    assert!(rt; holds_one(&shape, true, packer.take_block(), 1_805, Span::Last, rest));
+    assert!(rt; rest.is_empty());
     Ok(())
 }

@@ -1,56 +1,101 @@
 //! Blocks that pass, and their parts.
 
-use crate::worked::{counted, fixed, reads, refuses, spanned};
+use crate::worked::{reads, refuses, shape};
 use std::test::*;
-use tape_blocks::{check_block, laws, BlockCause, Shape, Span};
+use tape_blocks::{BlockCause, Shape, Span, check_block, laws};
 use tape_label::{Format, Head2};
 
 #[test]
 fn records_of_format_d(rt: HostRuntime) {
-    let shape = counted(18, 18);
-    let two: [(Span, &[u8]); 2] = [(Span::Whole, b"AB"), (Span::Whole, b"")];
-    assert!(rt; reads(&shape, false, b"0006AB0004^^^^^^^^", false, &two));
-    let circumflexes: [(Span, &[u8]); 1] = [(Span::Whole, b"^^^^")];
-    assert!(rt; reads(&shape, false, b"0008^^^^^^^^^^^^^^", false, &circumflexes));
-    // Longer than the shape says, and without padding.
-    let long: [(Span, &[u8]); 1] = [(Span::Whole, b"ABCDEFGHIJKLMNOPQRSTU")];
-    assert!(rt; reads(&shape, false, b"0025ABCDEFGHIJKLMNOPQRSTU", false, &long));
+    let d = shape(Format::Counted, 18, 18, 0);
+    let two: &[(Span, &[u8])] = &[(Span::Whole, b"AB"), (Span::Whole, b"")];
+    let long: &[(Span, &[u8])] = &[(Span::Whole, b"ABCDEFGHIJKLMNOPQRSTU")];
+    let rows: [(&str, &[u8], &[(Span, &[u8])]); 3] = [
+        ("two", b"0006AB0004^^^^^^^^", two),
+        (
+            "circumflexes",
+            b"0008^^^^^^^^^^^^^^",
+            &[(Span::Whole, b"^^^^")],
+        ),
+        (
+            "longer than the shape says",
+            b"0025ABCDEFGHIJKLMNOPQRSTU",
+            long,
+        ),
+    ];
+    for (name, block, parts) in rows {
+        assert!(rt; reads(&d, false, block, false, parts), "{name}");
+    }
 }
 
 #[test]
 fn records_of_format_f(rt: HostRuntime) {
-    let shape = fixed(800, 80);
+    let f = shape(Format::Fixed, 800, 80, 0);
     let mut block = [b'^'; 81];
-    let one: [(Span, &[u8]); 1] = [(Span::Whole, &[b'^'; 80])];
-    assert!(rt; reads(&shape, false, &block, false, &one));
+    assert!(rt; reads(&f, false, &block, false, &[(Span::Whole, &[b'^'; 80])]));
     block[80] = b'X';
-    assert!(rt; refuses(&shape, false, &block, 80, BlockCause::NotMultiple));
+    assert!(rt; refuses(&f, false, &block, 80, BlockCause::NotMultiple));
 }
 
 #[test]
 fn segments_of_format_s(rt: HostRuntime) {
-    let shape = spanned(18);
-    let first: [(Span, &[u8]); 1] = [(Span::First, b"1234567890123")];
-    assert!(rt; reads(&shape, false, b"100181234567890123", true, &first));
-    let middle: [(Span, &[u8]); 1] = [(Span::Middle, b"4567890123456")];
-    assert!(rt; reads(&shape, true, b"200184567890123456", true, &middle));
-    let last: [(Span, &[u8]); 1] = [(Span::Last, b"7890")];
-    assert!(rt; reads(&shape, true, b"300097890^^^^^^^^^", false, &last));
-    let empty: [(Span, &[u8]); 1] = [(Span::Whole, b"")];
-    assert!(rt; reads(&shape, false, b"00005", false, &empty));
-    // A record ends, and the next one begins.
-    let both: [(Span, &[u8]); 2] = [(Span::Last, b"A"), (Span::First, b"BC")];
-    assert!(rt; reads(&shape, true, b"30006A10007BC", true, &both));
+    let s = shape(Format::Spanned, 18, 0, 0);
+    let rows: [(&str, bool, &[u8], bool, &[(Span, &[u8])]); 5] = [
+        (
+            "first",
+            false,
+            b"100181234567890123",
+            true,
+            &[(Span::First, b"1234567890123")],
+        ),
+        (
+            "middle",
+            true,
+            b"200184567890123456",
+            true,
+            &[(Span::Middle, b"4567890123456")],
+        ),
+        (
+            "last",
+            true,
+            b"300097890^^^^^^^^^",
+            false,
+            &[(Span::Last, b"7890")],
+        ),
+        ("empty", false, b"00005", false, &[(Span::Whole, b"")]),
+        // A record ends, and the next one begins.
+        (
+            "two",
+            true,
+            b"30006A10007BC",
+            true,
+            &[(Span::Last, b"A"), (Span::First, b"BC")],
+        ),
+    ];
+    for (name, begun, block, end, parts) in rows {
+        assert!(rt; reads(&s, begun, block, end, parts), "{name}");
+    }
 }
 
 #[test]
 fn blocks_without_records(rt: HostRuntime) {
-    let mut shape = counted(18, 18);
-    shape.offset = 2;
-    assert!(rt; reads(&shape, false, b"??", false, &[]));
-    assert!(rt; reads(&shape, true, b"??^^^^", true, &[]));
-    assert!(rt; reads(&fixed(800, 80), false, &[], false, &[]));
-    assert!(rt; reads(&spanned(18), true, b"^", true, &[]));
+    let rows: [(&str, Format, u32, u8, bool, &[u8]); 4] = [
+        ("offset alone", Format::Counted, 18, 2, false, b"??"),
+        (
+            "offset and padding",
+            Format::Counted,
+            18,
+            2,
+            true,
+            b"??^^^^",
+        ),
+        ("nothing", Format::Fixed, 80, 0, false, b""),
+        ("padding", Format::Spanned, 0, 0, true, b"^"),
+    ];
+    for (name, format, rec_len, offset, begun, block) in rows {
+        let shape = shape(format, 800, rec_len, offset);
+        assert!(rt; reads(&shape, begun, block, begun, &[]), "{name}");
+    }
 }
 
 #[test]
@@ -61,9 +106,7 @@ fn the_shape_of_a_label(rt: HostRuntime) {
         rec_len: 80,
         offset: 2,
     };
-    let mut shape = fixed(800, 80);
-    shape.offset = 2;
-    assert!(rt; Shape::of(&label) == shape);
+    assert!(rt; Shape::of(&label) == shape(Format::Fixed, 800, 80, 2));
 }
 
 #[test]
@@ -75,23 +118,24 @@ fn spans_go_on_and_leave_a_record_begun(rt: HostRuntime) {
         (Span::Last, true, false),
     ];
     for (span, continues, leaves) in spans {
-        assert_eq!(rt; span.continues(), continues);
-        assert_eq!(rt; span.leaves(), leaves);
+        assert!(rt;
+            span.continues() == continues && span.leaves() == leaves,
+            "{span:?}"
+        );
     }
 }
 
 #[test]
 fn spans_of_a_checked_block(rt: HostRuntime) {
     let block = b"30006A10007BC";
-    let shape = spanned(18);
-    // It goes on with a record, so it passes only where one is begun.
-    assert!(rt; refuses(&shape, false, block, 0, BlockCause::SpanBroken));
-    if check_block(&shape, true, block).is_ok() {
-        let spans = laws::spans_of(rt.alloc(), &shape, block);
-        assert!(rt;
-            spans.is_ok_and(|spans| spans.as_slice() == [Span::Last, Span::First].as_slice())
-        );
-    } else {
+    let s = shape(Format::Spanned, 18, 0, 0);
+    let Ok(_) = check_block(&s, true, block) else {
         assert!(rt; false, "the block passes");
-    }
+        return;
+    };
+    let told = match laws::spans_of(rt.alloc(), &s, block) {
+        Ok(spans) => spans.as_slice() == [Span::Last, Span::First].as_slice(),
+        Err(_) => false,
+    };
+    assert!(rt; told);
 }

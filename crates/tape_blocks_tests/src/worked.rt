@@ -1,46 +1,43 @@
-//! Worked blocks of the three formats, and shapes for them.
+//! Shapes for worked blocks, and what they are held against.
 
-ghost use Rattle.std.specs.Prelude.{◌≤◌};
-
-use std::alloc::Global;
+use std::alloc::{AllocError, Global};
 use std::test::*;
-use tape_blocks::{check_block, pack_all, BlockCause, BlockFault, PackFault, Part, Parts, Shape, Span};
+use tape_blocks::{
+    BlockCause, BlockFault, PackFault, Packer, Part, Parts, Shape, Span, check_block, pack_all,
+};
 use tape_label::Format;
 
-pub fn fixed(block_len: u32, rec_len: u32) -> Shape
-    requires { 1 ≤ rec_len }
-{
+/// A shape that pads no block in full. In format F its records have a byte at least, as the type
+/// wants.
+pub fn shape(format: Format, block_len: u32, rec_len: u32, offset: u8) -> Shape {
+    let rec_len = match format {
+        Format::Fixed => rec_len.max(1),
+        Format::Counted | Format::Spanned => rec_len,
+    };
     Shape {
-        format: Format::Fixed,
+        format,
         block_len,
         rec_len,
-        offset: 0,
+        offset,
         pad_full: false,
     }
 }
 
-pub fn counted(block_len: u32, rec_len: u32) -> Shape {
-    Shape {
-        format: Format::Counted,
-        block_len,
-        rec_len,
-        offset: 0,
-        pad_full: false,
-    }
+/// The same, and each block is padded in full.
+pub fn padded(format: Format, block_len: u32, rec_len: u32, offset: u8) -> Shape {
+    let mut shape = shape(format, block_len, rec_len, offset);
+    shape.pad_full = true;
+    shape
 }
 
-pub fn spanned(block_len: u32) -> Shape {
-    Shape {
-        format: Format::Spanned,
-        block_len,
-        rec_len: 0,
-        offset: 0,
-        pad_full: false,
-    }
-}
-
-// Whether the block passes, leaves a record begun or not, and has just these parts.
-pub fn reads(shape: &Shape, begun: bool, block: &[u8], end: bool, wanted: &[(Span, &[u8])]) -> bool {
+/// Whether the block passes, leaves a record begun or not, and has just these parts.
+pub fn reads(
+    shape: &Shape,
+    begun: bool,
+    block: &[u8],
+    end: bool,
+    wanted: &[(Span, &[u8])],
+) -> bool {
     if check_block(shape, begun, block) != Ok(end) {
         return false;
     }
@@ -54,33 +51,47 @@ pub fn reads(shape: &Shape, begun: bool, block: &[u8], end: bool, wanted: &[(Spa
     parts.next().is_none()
 }
 
-// Whether the block is refused at this place for this cause.
+/// Whether the block is refused at this place for this cause.
 pub fn refuses(shape: &Shape, begun: bool, block: &[u8], place: usize, cause: BlockCause) -> bool {
     check_block(shape, begun, block) == Err(BlockFault { place, cause })
 }
 
-pub fn copies(alloc: Global, texts: &[&[u8]]) -> Result<Vec<Vec<u8>>, PackFault> {
+/// Copies of these texts.
+pub fn copies(alloc: Global, texts: &[&[u8]]) -> Result<Vec<Vec<u8>>, AllocError> {
     let mut all = Vec::new(alloc);
     for text in texts {
         let mut copy = Vec::new(alloc);
-        if copy.extend_from_slice(text).is_err() || all.push(copy).is_err() {
-            return Err(PackFault::OutOfMemory);
-        }
+        copy.extend_from_slice(text)?;
+        all.push(copy)?;
     }
     Ok(all)
 }
 
-// Whether these records are packed into just these blocks.
+/// Whether these records are packed into just these blocks.
 pub fn packs(alloc: Global, shape: Shape, records: &[&[u8]], wanted: &[&[u8]]) -> bool {
-    let Ok(records) = copies(alloc, records) else {
-        return false;
-    };
-    match pack_all(alloc, shape, &records) {
-        Ok(blocks) => blocks.len() == wanted.len()
-            && blocks
-                .iter()
-                .zip(wanted)
-                .all(|(block, text)| block.as_slice() == *text),
-        Err(_) => false,
+    match (copies(alloc, records), copies(alloc, wanted)) {
+        (Ok(records), Ok(wanted)) => match pack_all(alloc, shape, &records) {
+            Ok(blocks) => blocks == wanted,
+            Err(_) => false,
+        },
+        _ => false,
     }
+}
+
+/// Why these records are not packed, if they are not.
+pub fn pack_fault(alloc: Global, shape: Shape, records: &[&[u8]]) -> Option<PackFault> {
+    match copies(alloc, records) {
+        Ok(records) => pack_all(alloc, shape, &records).err(),
+        Err(_) => Some(PackFault::OutOfMemory),
+    }
+}
+
+/// Whether blocks of this shape are written, or are not, by what the shape tells and by a packer.
+pub fn is_judged(alloc: Global, shape: Shape, written: bool) -> bool {
+    let refused = if written {
+        None
+    } else {
+        Some(PackFault::ShapeRange)
+    };
+    shape.is_writable() == written && Packer::new(alloc, shape).err() == refused
 }
