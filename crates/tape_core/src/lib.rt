@@ -27,6 +27,3 @@ pub use memory::MemorySink;
 pub use reader::ReaderCore;
 pub use refusing::Refusing;
 pub use sink::{PartSink, PartWalk, SinkFault};
-
-#[cfg(test)]
-mod tests;

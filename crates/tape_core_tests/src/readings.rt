@@ -1,7 +1,12 @@
 //! Every reading of small volumes, beside a plain program that says where it leads.
 
-use super::Event::{Bad, Block, Mark};
-use super::*;
+use crate::readers::{go_to, known, point_at, reader};
+use crate::reels::{EOF1, EOF2, EOV1, HDR1, HDR2, VOL1, counted, numbered};
+use std::process::Abort;
+use tape_core::Event::{Bad, Block, Mark};
+use tape_core::{Checkpoint, Event, ReaderCore};
+use tape_label::Format;
+use tape_set::Position;
 
 /// What stands at a place of a volume, as a section of it sees it.
 #[derive(Clone, Copy)]
@@ -55,30 +60,39 @@ fn far(
     Position::awaiting(sect.saturating_add(1), 0)
 }
 
-/// Reads the volume in every way, from this position on, and answers how many ways there are.
-fn each_reading(
+/// Reads the front of a volume in one way, from this position on.
+fn read_so(
     rt: &impl Abort,
     core: &mut ReaderCore,
     (point, at): (&Checkpoint, (u16, u32)),
+    front: &[(Event<'_>, Kind)],
+    good: u32,
+    ends: Option<bool>,
+) {
+    go_to(rt, core, point);
+    core.mount();
+    let mut left = good;
+    for (event, _) in front {
+        let _ = core.step(if left % 2 == 1 { *event } else { Bad });
+        left /= 2;
+    }
+    let led = far(front, good, at, ends);
+    assert!(rt; core.position() == led, "{good:b} of {}", front.len());
+}
+
+/// Reads the volume in every way, and answers how many ways there are.
+fn each_reading(
+    rt: &impl Abort,
+    core: &mut ReaderCore,
+    from: (&Checkpoint, (u16, u32)),
     volume: &[(Event<'_>, Kind)],
     ends: Option<bool>,
 ) -> u32 {
     let (mut ways, mut many) = (0u32, 1u32);
     for met in 0..=volume.len() {
+        let front = volume.get(..met).unwrap_or(&[]);
         for good in 0..many {
-            assert_eq!(rt; core.restart(point), Ok(()));
-            core.mount();
-            let mut left = good;
-            for (event, _) in volume.iter().take(met) {
-                let _ = core.step(if left % 2 == 1 { *event } else { Bad });
-                left /= 2;
-            }
-            let front = volume.get(..met).unwrap_or(&[]);
-            assert_eq!(rt;
-                core.position(),
-                far(front, good, at, ends),
-                "{good:b} of {met}"
-            );
+            read_so(rt, core, from, front, good, ends);
         }
         ways = ways.saturating_add(many);
         many = many.saturating_mul(2);
@@ -145,33 +159,40 @@ fn each_of_second(
     )
 }
 
-#[test]
-fn each_reading_leads_where_it_should(rt: HostRuntime) -> Result<(), Fail> {
-    let mut core = ReaderCore::new(set_id(), 1)?;
-    let known = known(Format::Fixed, 4)?;
-    for at in [(1, 0), (1, 1), (1, 2), (2, 0), (2, 1), (2, 2)] {
-        let (sect, block) = at;
-        let known = if sect == 1 && block == 0 {
-            None
-        } else {
-            Some(known)
-        };
-        let position = Position::awaiting(sect, block);
-        let point = Checkpoint::from_parts(set_id(), 1, position, false, known, 0);
-        let point = point.ok_or("no checkpoint")?;
-        let ends = if sect == 1 { Some(false) } else { None };
-        let ways = each_of_first(&rt, &mut core, &point, at, ends);
-        // Two to the number of items met, for 0 to 10 items.
-        assert_eq!(rt; ways, 2_047);
-        let ends = if sect == 2 { Some(true) } else { None };
-        let ways = each_of_second(&rt, &mut core, &point, at, ends);
-        assert_eq!(rt; ways, 4_095);
-    }
-    Ok(())
+/// The checkpoint of a position of this file of format F.
+fn point_of(rt: &impl Abort, file: u16, (sect, block): (u16, u32)) -> Checkpoint {
+    let position = Position::awaiting(sect, block);
+    let known = if position.is_start() {
+        None
+    } else {
+        Some(known(rt, Format::Fixed, 4))
+    };
+    point_at(rt, file, (position, false), known)
+}
+
+/// Reads both volumes from a position in every way.
+fn each_from(rt: &impl Abort, at: (u16, u32)) {
+    let mut core = reader(rt, 1);
+    let point = point_of(rt, 1, at);
+    let (sect, _) = at;
+    let ends = if sect == 1 { Some(false) } else { None };
+    let first = each_of_first(rt, &mut core, &point, at, ends);
+    let ends = if sect == 2 { Some(true) } else { None };
+    let second = each_of_second(rt, &mut core, &point, at, ends);
+    // Two to the number of items met, for 0 to 10 items, and for 0 to 11.
+    assert!(rt; first == 2_047 && second == 4_095, "{first}, {second}");
 }
 
 #[test]
-fn each_reading_behind_another_file_leads_where_it_should(rt: HostRuntime) -> Result<(), Fail> {
+fn each_reading_leads_where_it_should(rt: HostRuntime) {
+    for block in 0..3 {
+        each_from(&rt, (1, block));
+        each_from(&rt, (2, block));
+    }
+}
+
+/// Reads from this block on a volume on which another file stands before.
+fn each_behind(rt: &impl Abort, block: u32) {
     let head = numbered(HDR1, b"0001", b"0002");
     let end = counted(&numbered(EOF1, b"0001", b"0002"), b"000001");
     let volume = [
@@ -193,15 +214,14 @@ fn each_reading_behind_another_file_leads_where_it_should(rt: HostRuntime) -> Re
         (Mark, Kind::Behind),
         (Mark, Kind::Behind),
     ];
-    let mut core = ReaderCore::new(set_id(), 2)?;
-    let known = known(Format::Fixed, 4)?;
-    for block in [0, 1] {
-        let known = if block == 0 { None } else { Some(known) };
-        let position = Position::awaiting(1, block);
-        let point = Checkpoint::from_parts(set_id(), 2, position, false, known, 0);
-        let point = point.ok_or("no checkpoint")?;
-        let ways = each_reading(&rt, &mut core, (&point, (1, block)), &volume, Some(true));
-        assert_eq!(rt; ways, 131_071);
-    }
-    Ok(())
+    let point = point_of(rt, 2, (1, block));
+    let from = (&point, (1, block));
+    let ways = each_reading(rt, &mut reader(rt, 2), from, &volume, Some(true));
+    assert!(rt; ways == 131_071, "block {block}");
+}
+
+#[test]
+fn each_reading_behind_another_file_leads_where_it_should(rt: HostRuntime) {
+    each_behind(&rt, 0);
+    each_behind(&rt, 1);
 }

@@ -1,59 +1,76 @@
 //! The reading table, row by row.
 
-use super::Answer::{Complete, Deliver, Passed, SectionDone, Useless};
-use super::Event::{Bad, Block, Mark, ReelEnd};
-use super::Reason::*;
-use super::*;
+use crate::readers::{go_on, known, play, read_section, reader, reader_at, wanted, wants};
+use crate::reels::{EOF1, EOF2, EOV1, HDR1, HDR2, HDR2_S, HDR3, UVL1, VOL1, counted, numbered};
+use std::process::Abort;
+use tape_blocks::{BlockCause, BlockFault};
+use tape_core::Answer::{Complete, Deliver, Passed, SectionDone, Useless};
+use tape_core::Event::{Bad, Block, Mark, ReelEnd};
+use tape_core::Reason::{BadBlock, BadItem, BadLabel, NotLabelled, ReelEnded, SectionDiffers};
+use tape_core::{Answer, Event, ReaderCore};
+use tape_label::{Format, LabelFault};
+use tape_set::Position;
 
-/// One row: behind items that are all passed comes an event, and this is the answer. A refusal
-/// leaves the position, and ends the reading.
+/// Items that are all passed.
+fn passes(rt: &impl Abort, core: &mut ReaderCore, before: &[Event<'_>]) {
+    for (n, each) in before.iter().enumerate() {
+        assert!(rt; core.step(*each) == Passed, "item {n} before the row");
+    }
+}
+
+/// A refusal leaves the position, and ends the reading.
+fn is_over(rt: &impl Abort, core: &mut ReaderCore, number: usize, stood: Position) {
+    let is_over = core.position() == stood && core.step(Mark) == Useless(ReelEnded);
+    assert!(rt; is_over, "row {number}");
+}
+
+/// One row: behind items that are all passed comes an event, and this is the answer.
 fn row(
     rt: &impl Abort,
     core: &mut ReaderCore,
     before: &[Event<'_>],
-    event: Event<'_>,
-    answer: Answer,
+    number: usize,
+    (event, answer): (Event<'_>, Answer),
 ) {
     core.mount();
-    for each in before {
-        assert_eq!(rt; core.step(*each), Passed);
-    }
+    passes(rt, core, before);
     let stood = core.position();
-    assert_eq!(rt; core.step(event), answer);
+    assert_eq!(rt; core.step(event), answer, "row {number}");
     if let Useless(_) = answer {
-        assert_eq!(rt; core.position(), stood);
-        assert_eq!(rt; core.step(Mark), Useless(ReelEnded));
+        is_over(rt, core, number, stood);
     }
 }
 
 /// The same for each event, of a new reader of this file.
-pub(super) fn rows(
+pub(crate) fn rows(
     rt: &impl Abort,
     file: u16,
     before: &[Event<'_>],
     events: &[(Event<'_>, Answer)],
-) -> Result<(), Fail> {
-    for (event, answer) in events {
-        let mut core = ReaderCore::new(set_id(), file)?;
-        row(rt, &mut core, before, *event, *answer);
+) {
+    for (number, event) in events.iter().enumerate() {
+        row(rt, &mut reader(rt, file), before, number, *event);
     }
-    Ok(())
 }
 
 #[test]
-fn with_no_reading_under_way_nothing_is_read(rt: HostRuntime) -> Result<(), Fail> {
-    let mut core = ReaderCore::new(set_id(), 1)?;
-    for event in [Block(VOL1), Bad, Mark, ReelEnd] {
-        assert_eq!(rt; core.step(event), Useless(ReelEnded));
-    }
-    assert_eq!(rt; core.want(), wanted(1, 0, 0));
-    assert_eq!(rt; core.position(), Position::start());
-    assert_eq!(rt; core.shape(), None);
-    Ok(())
+fn with_no_reading_under_way_nothing_is_read(rt: HostRuntime) {
+    let mut core = reader(&rt, 1);
+    let ended = Useless(ReelEnded);
+    let row = [
+        (Block(VOL1), ended),
+        (Bad, ended),
+        (Mark, ended),
+        (ReelEnd, ended),
+    ];
+    go_on(&rt, &mut core, "no reading", &row);
+    wants(&rt, &core, "no reading", wanted(1, 0, 0));
+    assert!(rt; core.position() == Position::start());
+    assert!(rt; core.shape().is_none());
 }
 
 #[test]
-fn a_volume_label_is_expected(rt: HostRuntime) -> Result<(), Fail> {
+fn a_volume_label_is_expected(rt: HostRuntime) {
     rows(
         &rt,
         1,
@@ -67,11 +84,11 @@ fn a_volume_label_is_expected(rt: HostRuntime) -> Result<(), Fail> {
             (Bad, Useless(BadItem)),
             (ReelEnd, Useless(ReelEnded)),
         ],
-    )
+    );
 }
 
 #[test]
-fn volume_labels_or_a_header_are_expected(rt: HostRuntime) -> Result<(), Fail> {
+fn volume_labels_or_a_header_are_expected(rt: HostRuntime) {
     rows(
         &rt,
         1,
@@ -87,7 +104,7 @@ fn volume_labels_or_a_header_are_expected(rt: HostRuntime) -> Result<(), Fail> {
             (Bad, Useless(BadItem)),
             (ReelEnd, Useless(ReelEnded)),
         ],
-    )?;
+    );
     rows(
         &rt,
         1,
@@ -97,11 +114,11 @@ fn volume_labels_or_a_header_are_expected(rt: HostRuntime) -> Result<(), Fail> {
             (Block(HDR1), Passed),
             (Block(HDR3), Useless(NotLabelled)),
         ],
-    )
+    );
 }
 
 #[test]
-fn the_second_header_of_the_section_awaited_is_expected(rt: HostRuntime) -> Result<(), Fail> {
+fn the_second_header_of_the_section_awaited_is_expected(rt: HostRuntime) {
     rows(
         &rt,
         1,
@@ -116,11 +133,11 @@ fn the_second_header_of_the_section_awaited_is_expected(rt: HostRuntime) -> Resu
             (Bad, Useless(BadItem)),
             (ReelEnd, Useless(ReelEnded)),
         ],
-    )
+    );
 }
 
 #[test]
-fn further_headers_are_passed(rt: HostRuntime) -> Result<(), Fail> {
+fn further_headers_are_passed(rt: HostRuntime) {
     rows(
         &rt,
         1,
@@ -133,11 +150,11 @@ fn further_headers_are_passed(rt: HostRuntime) -> Result<(), Fail> {
             (Bad, Useless(BadItem)),
             (ReelEnd, Useless(ReelEnded)),
         ],
-    )
+    );
 }
 
 #[test]
-fn the_block_awaited_is_delivered(rt: HostRuntime) -> Result<(), Fail> {
+fn the_block_awaited_is_delivered(rt: HostRuntime) {
     let other = |place, cause| Useless(BadBlock(BlockFault { place, cause }));
     rows(
         &rt,
@@ -150,44 +167,54 @@ fn the_block_awaited_is_delivered(rt: HostRuntime) -> Result<(), Fail> {
             (Bad, Useless(BadItem)),
             (ReelEnd, Useless(ReelEnded)),
         ],
+    );
+}
+
+/// A reader of a file of format F that awaits block 2.
+fn behind_two_blocks(rt: &impl Abort) -> ReaderCore {
+    reader_at(
+        rt,
+        Position::awaiting(1, 2),
+        false,
+        known(rt, Format::Fixed, 4),
     )
 }
 
-#[test]
-fn blocks_that_were_delivered_are_passed(rt: HostRuntime) -> Result<(), Fail> {
+/// Where block 2 is awaited this comes in the place of the first block.
+fn instead_of_first(rt: &impl Abort, number: usize, event: Event<'_>, answer: Answer) {
     let before = [Block(VOL1), Block(HDR1), Block(HDR2), Mark];
-    for (event, answer) in [
-        (Block(b"no record of four".as_slice()), Passed),
-        (Bad, Passed),
-        (Mark, Useless(SectionDiffers)),
-        (ReelEnd, Useless(ReelEnded)),
-    ] {
-        let at = Position::awaiting(1, 2);
-        let mut core = reader_at(at, false, known(Format::Fixed, 4)?)?;
-        row(&rt, &mut core, &before, event, answer);
-    }
-    let at = Position::awaiting(1, 2);
-    let mut core = reader_at(at, false, known(Format::Fixed, 4)?)?;
-    play(
+    row(
+        rt,
+        &mut behind_two_blocks(rt),
+        &before,
+        number,
+        (event, answer),
+    );
+}
+
+#[test]
+fn blocks_that_were_delivered_are_passed(rt: HostRuntime) {
+    instead_of_first(&rt, 0, Block(b"no record of four"), Passed);
+    instead_of_first(&rt, 1, Bad, Passed);
+    instead_of_first(&rt, 2, Mark, Useless(SectionDiffers));
+    instead_of_first(&rt, 3, ReelEnd, Useless(ReelEnded));
+    read_section(
         &rt,
-        &mut core,
+        &mut behind_two_blocks(&rt),
+        "behind two blocks",
+        (HDR1, HDR2),
         &[
-            (Block(VOL1), Passed),
-            (Block(HDR1), Passed),
-            (Block(HDR2), Passed),
-            (Mark, Passed),
             (Bad, Passed),
             (Block(b"AAAA"), Passed),
             (Block(b"CCCC"), Deliver),
             (Bad, Useless(BadItem)),
         ],
+        wanted(1, 3, 0),
     );
-    assert_eq!(rt; core.want(), wanted(1, 3, 0));
-    Ok(())
 }
 
 #[test]
-fn the_trailer_of_the_section_awaited_is_expected(rt: HostRuntime) -> Result<(), Fail> {
+fn the_trailer_of_the_section_awaited_is_expected(rt: HostRuntime) {
     let front = [Block(VOL1), Block(HDR1), Block(HDR2), Mark, Mark];
     rows(
         &rt,
@@ -214,28 +241,30 @@ fn the_trailer_of_the_section_awaited_is_expected(rt: HostRuntime) -> Result<(),
             (Bad, Useless(BadItem)),
             (ReelEnd, Useless(ReelEnded)),
         ],
-    )
+    );
 }
 
 #[test]
-fn what_is_complete_stays_so(rt: HostRuntime) -> Result<(), Fail> {
-    let mut core = ReaderCore::new(set_id(), 1)?;
-    play(
+fn what_is_complete_stays_so(rt: HostRuntime) {
+    let mut core = reader(&rt, 1);
+    read_section(
         &rt,
         &mut core,
+        "completed",
+        (HDR1, HDR2),
         &[
-            (Block(VOL1), Passed),
-            (Block(HDR1), Passed),
-            (Block(HDR2), Passed),
-            (Mark, Passed),
             (Mark, Passed),
             (Block(EOF1), Complete),
             (Bad, Complete),
             (ReelEnd, Complete),
         ],
+        None,
     );
-    assert_eq!(rt; core.want(), None);
-    assert_eq!(rt; core.position(), Position::Finished);
-    play(&rt, &mut core, &[(Block(VOL1), Complete), (Mark, Complete)]);
-    Ok(())
+    assert!(rt; core.position() == Position::Finished);
+    play(
+        &rt,
+        &mut core,
+        "mounted again",
+        &[(Block(VOL1), Complete), (Mark, Complete)],
+    );
 }

@@ -1,0 +1,176 @@
+//! Reels with damage: bad blocks, a lost mark, wrong counts and reels that end early.
+
+use crate::readers::{go_on, go_to, play, read_section, reader, wanted, wants};
+use crate::reels::{EOF1, EOF2, HDR1, HDR2, HDR2_S, VOL1, counted, numbered};
+use std::process::Abort;
+use tape_core::Answer::{Complete, Deliver, Passed, Useless};
+use tape_core::Event::{Bad, Block, Mark, ReelEnd};
+use tape_core::Reason::{
+    BadItem, BadLabel, BlockCount, Broken, ReelEnded, SectionDiffers, SpanLeft,
+};
+use tape_core::{ReaderCore, Reason};
+use tape_label::LabelFault;
+use tape_set::Want;
+
+#[test]
+fn a_bad_block_stops_where_it_is_awaited_alone(rt: HostRuntime) {
+    let mut core = reader(&rt, 1);
+    read_section(
+        &rt,
+        &mut core,
+        "a bad block that is awaited",
+        (HDR1, HDR2),
+        &[
+            (Block(b"0000"), Deliver),
+            (Block(b"1111"), Deliver),
+            (Block(b"2222"), Deliver),
+            (Bad, Useless(BadItem)),
+        ],
+        wanted(1, 3, 0),
+    );
+    read_section(
+        &rt,
+        &mut core,
+        "a bad block that was delivered",
+        (HDR1, HDR2),
+        &[
+            (Block(b"0000"), Passed),
+            (Bad, Passed),
+            (Block(b"2222"), Passed),
+            (Block(b"3333"), Deliver),
+            (Block(b"4444"), Deliver),
+            (Mark, Passed),
+            (Block(&counted(EOF1, b"000005")), Complete),
+        ],
+        None,
+    );
+}
+
+#[test]
+fn a_lost_mark_gives_no_block_of_another_file(rt: HostRuntime) {
+    let mut core = reader(&rt, 2);
+    read_section(
+        &rt,
+        &mut core,
+        "a lost mark",
+        (HDR1, HDR2),
+        &[
+            (Block(b"AAAA"), Passed),
+            // The mark behind the data: the trailers pass for data now, and their mark for it.
+            (Bad, Passed),
+            (Block(&counted(EOF1, b"000001")), Passed),
+            (Block(EOF2), Passed),
+            (Mark, Passed),
+            (
+                Block(&numbered(HDR1, b"0001", b"0002")),
+                Useless(BadLabel(LabelFault::Identifier)),
+            ),
+        ],
+        Some(Want {
+            file: 2,
+            sect: 1,
+            block: 0,
+            part: 0,
+        }),
+    );
+}
+
+/// Reads five blocks that the trailer counts as four.
+fn read_with_wrong_count(rt: &impl Abort, core: &mut ReaderCore) {
+    let five = [(Block(b"AAAA".as_slice()), Deliver); 5];
+    read_section(
+        rt,
+        core,
+        "five blocks",
+        (HDR1, HDR2),
+        &five,
+        wanted(1, 5, 0),
+    );
+    let broken = Useless(BlockCount { label: 4, seen: 5 });
+    go_on(
+        rt,
+        core,
+        "a wrong count",
+        &[
+            (Mark, Passed),
+            (Block(&counted(EOF1, b"000004")), broken),
+            (Bad, Useless(Broken)),
+            (ReelEnd, Useless(Broken)),
+        ],
+    );
+    wants(rt, core, "a wrong count", wanted(1, 5, 0));
+}
+
+#[test]
+fn a_wrong_count_breaks_the_reader_until_a_restart(rt: HostRuntime) {
+    let mut core = reader(&rt, 1);
+    read_with_wrong_count(&rt, &mut core);
+    let row = [
+        (Block(VOL1.as_slice()), Useless(Broken)),
+        (Mark, Useless(Broken)),
+    ];
+    play(&rt, &mut core, "a broken reader", &row);
+    let point = core.save(45);
+    go_to(&rt, &mut core, &point);
+    go_on(&rt, &mut core, "a restart", &[(Mark, Useless(ReelEnded))]);
+    let row = [(Block(VOL1.as_slice()), Passed), (Block(HDR1), Passed)];
+    play(&rt, &mut core, "behind the restart", &row);
+    wants(&rt, &core, "behind the restart", wanted(1, 5, 0));
+}
+
+#[test]
+fn a_reel_that_ends_before_its_trailer_completes_nothing(rt: HostRuntime) {
+    let mut core = reader(&rt, 1);
+    read_section(
+        &rt,
+        &mut core,
+        "the reel ends",
+        (HDR1, HDR2),
+        &[
+            (Block(b"AAAA"), Deliver),
+            (Block(b"BBBB"), Deliver),
+            (Mark, Passed),
+            (ReelEnd, Useless(ReelEnded)),
+        ],
+        wanted(1, 2, 0),
+    );
+    read_section(
+        &rt,
+        &mut core,
+        "nothing is delivered twice",
+        (HDR1, HDR2),
+        &[
+            (Block(b"AAAA"), Passed),
+            (Block(b"BBBB"), Passed),
+            (Mark, Passed),
+            (Block(&counted(EOF1, b"000002")), Complete),
+        ],
+        None,
+    );
+}
+
+/// A section of one block, which leaves a record begun, is refused by its trailer.
+fn refused_trailer(rt: &impl Abort, name: &str, label: &[u8], answer: Reason) {
+    let row = [
+        (Block(b"10018abcdefghijklm".as_slice()), Deliver),
+        (Mark, Passed),
+        (Block(label), Useless(answer)),
+    ];
+    read_section(
+        rt,
+        &mut reader(rt, 1),
+        name,
+        (HDR1, HDR2_S),
+        &row,
+        wanted(1, 1, 0),
+    );
+}
+
+#[test]
+fn the_rules_of_a_trailer_have_an_order(rt: HostRuntime) {
+    let label = counted(&numbered(EOF1, b"0002", b"0001"), b"000009");
+    refused_trailer(&rt, "numbers", &label, SectionDiffers);
+    let count = BlockCount { label: 9, seen: 1 };
+    refused_trailer(&rt, "count", &counted(EOF1, b"000009"), count);
+    refused_trailer(&rt, "record begun", &counted(EOF1, b"000001"), SpanLeft);
+}

@@ -1,0 +1,30 @@
+//! Tests of `tape_core`: what the reader answers at labels and blocks that are written out,
+//! checkpoints, and the sinks.
+#![tactic(auto)]
+
+#[cfg(test)]
+mod checkpoints;
+#[cfg(test)]
+mod damaged;
+#[cfg(test)]
+mod labels;
+#[cfg(test)]
+mod parts;
+#[cfg(test)]
+mod passed_over;
+#[cfg(test)]
+mod plans;
+#[cfg(test)]
+mod readers;
+#[cfg(test)]
+mod readings;
+#[cfg(test)]
+mod reels;
+#[cfg(test)]
+mod sections;
+#[cfg(test)]
+mod sinks;
+#[cfg(test)]
+mod small_sets;
+#[cfg(test)]
+mod table;

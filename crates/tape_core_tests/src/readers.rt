@@ -1,0 +1,130 @@
+//! Readers, and how they are given what comes from a reel.
+
+use crate::reels::VOL1;
+use std::process::Abort;
+use tape_core::Answer::Passed;
+use tape_core::Event::{Block, Mark};
+use tape_core::{Answer, Checkpoint, Event, Known, ReaderCore};
+use tape_label::{Field, Format};
+use tape_set::{Position, Want};
+
+pub(crate) fn set_id() -> Field<6> {
+    Field::of_bytes(*b"ABC001")
+}
+
+/// What HDR1 and a second label of this format tell.
+pub(crate) fn known(rt: &impl Abort, format: Format, rec_len: u32) -> Known {
+    let file_id = Field::of_bytes(*b"PAYROLL          ");
+    Known::from_parts(format, rec_len, 0, file_id).expect(rt, "no form")
+}
+
+/// A checkpoint of this position of the file, with this known.
+pub(crate) fn point_at(
+    rt: &impl Abort,
+    file: u16,
+    (position, begun): (Position, bool),
+    known: Option<Known>,
+) -> Checkpoint {
+    let point = Checkpoint::from_parts(set_id(), file, position, begun, known, 0);
+    point.expect(rt, "no checkpoint")
+}
+
+/// A reader of this file, at its start.
+pub(crate) fn reader(rt: &impl Abort, file: u16) -> ReaderCore {
+    ReaderCore::new(set_id(), file).expect(rt, "no reader")
+}
+
+/// The reader goes to the checkpoint.
+pub(crate) fn go_to(rt: &impl Abort, core: &mut ReaderCore, point: &Checkpoint) {
+    let went = core.restart(point).is_ok();
+    assert!(rt; went, "another file");
+}
+
+/// A reader of file 1 that goes on at this position, where something is known.
+pub(crate) fn reader_at(
+    rt: &impl Abort,
+    position: Position,
+    begun: bool,
+    known: Known,
+) -> ReaderCore {
+    let mut core = reader(rt, 1);
+    go_to(
+        rt,
+        &mut core,
+        &point_at(rt, 1, (position, begun), Some(known)),
+    );
+    core
+}
+
+/// What is wanted of file 1.
+pub(crate) fn wanted(sect: u16, block: u32, part: u32) -> Option<Want> {
+    Some(Want {
+        file: 1,
+        sect,
+        block,
+        part,
+    })
+}
+
+/// The reader wants this.
+pub(crate) fn wants(rt: &impl Abort, core: &ReaderCore, name: &str, want: Option<Want>) {
+    assert_eq!(rt; core.want(), want, "{name}");
+}
+
+/// Takes what comes next from the reel that is mounted.
+pub(crate) fn go_on(
+    rt: &impl Abort,
+    core: &mut ReaderCore,
+    name: &str,
+    row: &[(Event<'_>, Answer)],
+) {
+    for (n, (event, answer)) in row.iter().enumerate() {
+        assert_eq!(rt; core.step(*event), *answer, "{name}: event {n}");
+    }
+}
+
+/// Mounts a reel, and takes what comes from it.
+pub(crate) fn play(
+    rt: &impl Abort,
+    core: &mut ReaderCore,
+    name: &str,
+    row: &[(Event<'_>, Answer)],
+) {
+    core.mount();
+    go_on(rt, core, name, row);
+}
+
+/// Mounts a reel, and reads a section's front, up to the mark behind its headers.
+pub(crate) fn front<'x>(
+    rt: &impl Abort,
+    core: &mut ReaderCore,
+    name: &str,
+    head: &'x [u8],
+    second: &'x [u8],
+) {
+    play(
+        rt,
+        core,
+        name,
+        &[
+            (Block(VOL1), Passed),
+            (Block(head), Passed),
+            (Block(second), Passed),
+            (Mark, Passed),
+        ],
+    );
+}
+
+/// The same, and takes what comes behind the mark; then this is wanted.
+pub(crate) fn read_section<'x>(
+    rt: &impl Abort,
+    core: &mut ReaderCore,
+    name: &str,
+    (head, second): (&'x [u8], &'x [u8]),
+    row: &[(Event<'_>, Answer)],
+    want: Option<Want>,
+) {
+    front(rt, core, name, head, second);
+    go_on(rt, core, name, row);
+    wants(rt, core, name, want);
+}
