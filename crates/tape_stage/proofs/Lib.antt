@@ -11,6 +11,10 @@ pub mod Giving
 pub mod Held
 pub mod Keeps
 pub mod Makes
+mod Mistakes
+mod MistakesInCrashes
+mod MistakesOfDisks
+mod MistakesOfPoints
 pub mod Once
 pub mod Passing
 pub mod PointFields

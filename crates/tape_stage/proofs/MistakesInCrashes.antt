@@ -1,0 +1,105 @@
+-- Files that a crash inside a call of a stage never leaves, by the call's contract: each is one that
+-- a wrong body would leave open. Each lemma is of a file that no crash before the call could leave.
+-- What is asked of a stage (`IsStage`, `Ready`) is what `create` and `save` say of theirs.
+use Rattle.std.proofs.Common.{◌≡◌, ◌⊎◌, inl, inr, ℕ, ◌+◌, ◌≤◌, ◌<◌, Bool, true, false, List, length}
+use Rattle.std.proofs.Common.{get_or, sym, ap, ◌∙◌, subst, arith}
+use Rattle.std.specs.Prelude.{not, Some, option_map, unwrap_or}
+use Rattle.tape_blocks.specs.Block.{Portion}
+use Rattle.tape_core.specs.Point.{Point}
+use Rattle.tape_stage.specs.Parts.{IsFront}
+use Rattle.tape_stage.specs.Staged.{body_at, gate_at, read_slot, slot_at, FrontOf, IsEither, Loses}
+use Rattle.tape_stage.specs.Staged.{Ready, StagedIn}
+use Rattle.tape_stage.specs.Stages.{IsStage}
+use Rattle.tape_stage.proofs.Torn.{alike_byte}
+use Rattle.tape_stage.proofs.putting.write_frame.Reads as write_frame
+use Rattle.tape_stage.proofs.slots.close_gate.Reads as close_gate
+use Rattle.tape_stage.proofs.stage.Stage.restart.Reads as restart
+use Rattle.tape_stage.proofs.stage.Stage.save.Reads as save
+
+-- where nothing was left before, what was left has P
+since_then : {A P : Type 0} → (A → ⊥) → A ⊎ P → P
+since_then none (inl a) = absurd (none a)
+since_then none (inr p) = p
+
+-- a slot with a later generation does not lose
+wins : (second : Bool) (n : ℕ) (point : Point) → Loses second n (Some (n + 5, point)) → ⊥
+wins true n point lt = absurd (omega arith)
+wins false n point le = absurd (omega arith)
+
+-- a slot with an open gate says what its body says
+body_read : (second : Bool) (n : ℕ) (point next other : Point) (parts more : List Portion)
+    (c : List ℕ) → slot_at (not second) c ≡ Some (n + 5, other)
+    → IsEither second n point next parts more c → ⊥
+body_read second n point next other parts more c says (inl old) =
+    wins second n other (subst (Loses second n) says old.other)
+body_read second n point next other parts more c says (inr new) =
+    let e : Some (n + 5, other) ≡ Some (n + 1, next)
+    = sym says ∙ ap (λ v. read_slot v (body_at (not second) c)) new.is_open ∙ new.body in
+    absurd (let m : n + 5 ≡ n + 1 = ap (λ v. unwrap_or (option_map (λ b. b.0) v) 0) e in
+    omega arith)
+
+-- gate_before_sync_in_a_crash: inside a save the gate of the next slot is open over a body that is
+-- not synced: it says a later generation and another checkpoint
+gate_before_sync_in_a_crash : (D : _) (L : _) (g : _) (d : _) (κs : _) (a : _) (z : _) (s : _)
+    (acked parts : List Portion) (c : List ℕ) (other : Point)
+    → save.Learnt-named D L g d κs a z s → g.is_honest a.0.now.disk → IsStage a.0.now acked parts
+    → g.left_since s.0.now.disk (g.moment a.0.now.disk) c
+    → (g.left_since a.0.now.disk (g.moment a.0.now.disk) c → ⊥)
+    → slot_at (not a.0.now.in_second) c ≡ Some (a.0.now.generation + 5, other) → ⊥
+gate_before_sync_in_a_crash D L g d κs a z s acked parts c other l honest stage left before says =
+    body_read a.0.now.in_second a.0.now.generation a.0.now.acknowledged a.1.0.now other acked parts
+    c says (since_then before
+    ((l.any_moment honest acked parts stage).before (g.moment a.0.now.disk) c (omega arith) left))
+
+-- closed_gate_closed_again: the second slot counts, and the closed gate of the first is torn open
+-- over a body that says a later generation
+closed_gate_closed_again : (D : _) (L : _) (g : _) (d : _) (κs : _) (a : _) (z : _) (s : _)
+    (n : ℕ) (point other : Point) (parts : List Portion) (c : List ℕ)
+    → close_gate.Learnt-named D L g d κs a z s → g.is_honest a.0.now
+    → Ready a.1.0 n point parts a.1.1.0 (g.seen a.0.now) (g.may_leave a.0.now) → a.1.0 ≡ true
+    → a.1.1.0 ≡ false → g.left_since s.0.now (g.moment a.0.now) c
+    → (g.left_since a.0.now (g.moment a.0.now) c → ⊥) → slot_at false c ≡ Some (n + 5, other) → ⊥
+closed_gate_closed_again D L g d κs a z s n point other parts c l honest ready second closed left
+    before says =
+    let staged : StagedIn a.1.0 n point parts c = since_then before
+    ((l.any_moment honest n point parts ready).before (g.moment a.0.now) c (omega arith) left) in
+    let e : StagedIn true n point parts c
+    = subst (λ b. StagedIn b n point parts c) second staged in
+    wins true n other (subst (Loses true n) says e.other)
+
+-- parts_taken_away_and_put_back: while a second part is put, the first byte of the first is 0
+parts_taken_away_and_put_back : (D : _) (L : _) (g : _) (d : _) (κs : _) (a : _) (z : _) (s : _)
+    (c : List ℕ) → write_frame.Learnt-named D L g d κs a z s → g.is_honest a.0.now → a.1.0 ≡ 341
+    → ((b : List ℕ) → g.may_leave a.0.now b → get_or b 256 0 ≡ 48)
+    → g.left_since s.0.now (g.moment a.0.now) c
+    → (g.left_since a.0.now (g.moment a.0.now) c → ⊥) → get_or c 256 0 ≡ 0 → ⊥
+parts_taken_away_and_put_back D L g d κs a z s c l honest place there left before gone =
+    let e : FrontOf a.1.0 (g.may_leave a.0.now) c = since_then before
+    ((l.any_moment honest).before (g.moment a.0.now) c (omega arith) left) in
+    let n : get_or c 256 0 ≡ get_or e.0 256 0
+    = alike_byte a.1.0 256 e.0 c (omega (arith, place)) e.2 in
+    absurd (let m : 0 ≡ 48 = sym gone ∙ n ∙ there e.0 e.1 in omega arith)
+
+-- a file that was cut to 85 bytes of parts, where 170 were acknowledged and no later slot counts
+cut_too_early : (second : Bool) (n : ℕ) (point next : Point) (parts more : List Portion)
+    (c : List ℕ) → point.staged ≡ 170 → length c ≡ 341 → gate_at (not second) c ≡ 67
+    → IsEither second n point next parts more c → ⊥
+cut_too_early second n point next parts more c told size closed (inl old) =
+    absurd (omega (arith, told, size, old.parts_are.long))
+cut_too_early second n point next parts more c told size closed (inr new) =
+    absurd (let m : 67 ≡ 79 = sym closed ∙ new.is_open in omega arith)
+
+-- restart_cuts_before_saving: on the way back from 170 to 85 the parts are cut, and the older
+-- checkpoint still counts
+restart_cuts_before_saving : (D : _) (L : _) (g : _) (d : _) (κs : _) (a : _) (z : _) (s : _)
+    (acked parts front : List Portion) (c : List ℕ)
+    → restart.Learnt-named D L g d κs a z s → g.is_honest a.0.now.disk → IsStage a.0.now acked parts
+    → IsFront a.1.0.now.staged front parts → a.0.now.acknowledged.staged ≡ 170
+    → g.left_since s.0.now.disk (g.moment a.0.now.disk) c
+    → (g.left_since a.0.now.disk (g.moment a.0.now.disk) c → ⊥)
+    → length c ≡ 341 → gate_at (not a.0.now.in_second) c ≡ 67 → ⊥
+restart_cuts_before_saving D L g d κs a z s acked parts front c l honest stage first told left before
+    size closed =
+    cut_too_early a.0.now.in_second a.0.now.generation a.0.now.acknowledged a.1.0.now acked front c
+    told size closed (since_then before ((l.any_moment honest acked parts front stage first).before
+    (g.moment a.0.now.disk) c (omega arith) left))

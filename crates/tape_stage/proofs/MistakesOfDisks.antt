@@ -1,0 +1,101 @@
+-- Answers that the contracts of disks exclude: each is what a wrong body would give.
+use Rattle.std.proofs.Common.{◌≡◌, ℕ, ◌+◌, ◌-◌, [], ◌∷◌, ◌++◌, length, take, drop, get_or}
+use Rattle.std.proofs.Common.{true, false, inl, inr, sym, ap, ◌∙◌, subst, arith}
+use Rattle.std.specs.Prelude.{max, replicate, Some, Ok, Err, IfSome}
+use Rattle.arrayvec.specs.ArrayVec.{array_vec_len}
+use Rattle.tape_core.specs.Weight.{Rose}
+use Rattle.tape_stage.specs.Calls.{worst_by}
+use Rattle.tape_stage.specs.Memory.{first_of, memory_bytes}
+use Rattle.tape_stage.specs.declared.content.Call.TheVariants.{Write}
+use Rattle.tape_stage.specs.declared.disk.DiskFault.TheVariants.{Device}
+use Rattle.tape_stage.proofs.file_disk.FileDisk.fail.Reads as fail
+use Rattle.tape_stage.proofs.file_disk.FileDisk.new.Reads as new
+use Rattle.tape_stage.proofs.file_disk.FileDisk.pass_on.Reads as pass_on
+use Rattle.tape_stage.proofs.file_disk.FileDiskDisk.write_at.Reads as write_at
+use Rattle.tape_stage.proofs.memory.MemoryDisk.crash.Reads as crash
+use Rattle.tape_stage.proofs.window.Window.give.Reads as give
+use Rattle.tape_stage.proofs.window.Window.takes.Reads as takes
+
+-- ---- a disk in memory
+
+-- crash_leaves_what_is_read: over the byte 1 the byte 2 was written and not synced, and the worst
+-- that a crash leaves is the 2
+crash_leaves_what_is_read : (κs : _) (a : _) (z : _) (s : _) (two : _)
+    → crash.Learnt-named κs a z s → first_of a.0.content ≡ 1 ∷ []
+    → a.0.content.calls.items ≡ Write 0 two ∷ [] → two.items ≡ 2 ∷ [] → memory_bytes z ≡ 2 ∷ [] → ⊥
+crash_leaves_what_is_read κs a z s two l first calls is w =
+    let e : memory_bytes z ≡ worst_by (1 ∷ []) (1 ∷ []) (Write 0 two ∷ [])
+    = l.worst ∙ ap (λ f. worst_by f f a.0.content.calls.items) first
+    ∙ ap (worst_by (1 ∷ []) (1 ∷ [])) calls in
+    let worst : worst_by (1 ∷ []) (1 ∷ []) (Write 0 two ∷ []) ≡ 255 ∷ []
+    = ap (λ t. take 0 (1 ∷ []) ++ replicate (length t) 255 ++ drop (0 + length t) (1 ∷ [])) is in
+    absurd (let n : 2 ≡ 255 = ap (λ t. get_or t 0 0) (sym w ∙ e ∙ worst) in omega arith)
+
+-- ---- bytes that are held
+
+-- window_read_from_its_start: of the bytes 1 2 3 from place 10 on, a read at 11 gives the 1
+window_read_from_its_start : (κs : _) (a : _) (s : _) → give.Learnt-named κs a true s
+    → a.0.now.start ≡ 10 → a.0.now.bytes.items ≡ 1 ∷ 2 ∷ 3 ∷ [] → a.1.0 ≡ 11
+    → length a.1.1.0.now ≡ 1 → s.1.1.0.now ≡ 1 ∷ [] → ⊥
+window_read_from_its_start κs a s l from held at size w =
+    let e : s.1.1.0.now ≡ take 1 (drop (11 - 10) (1 ∷ 2 ∷ 3 ∷ []))
+    = l.bytes ∙ ap (λ n. take n (drop (a.1.0 - a.0.now.start) a.0.now.bytes.items)) size
+    ∙ ap (λ n. take 1 (drop (n - a.0.now.start) a.0.now.bytes.items)) at
+    ∙ ap (λ n. take 1 (drop (11 - n) a.0.now.bytes.items)) from
+    ∙ ap (λ t. take 1 (drop (11 - 10) t)) held in
+    absurd (let n : 1 ≡ 2 = ap (λ t. get_or t 0 0) (sym w ∙ e) in omega arith)
+
+-- write_elsewhere_added: behind two bytes from place 10 on, a write at 11 is taken for the next
+write_elsewhere_added : (κs : _) (a : _) (s : _) → takes.Learnt-named κs a true s
+    → a.0.now.start ≡ 10 → array_vec_len a.0.now.bytes ≡ 2 → a.1.0 ≡ 11 → ⊥
+write_elsewhere_added κs a s l from size at =
+    let e : a.0.now.start + array_vec_len a.0.now.bytes ≡ a.1.0 = l.end in
+    absurd (omega arith)
+
+-- ---- a disk over a file
+
+-- file_asked_for_its_start: of a file of two bytes the length is 0, the place of its start
+file_asked_for_its_start : (F : _) (L : _) (g : _) (d : _) (e : _) (κs : _) (a : _) (disk : _) (s : _)
+    (at : _) → new.Learnt-named F L g d e κs a (Ok disk) s → g.stream_position a.0 ≡ Some at
+    → g.stream_bytes a.0 ≡ Some (1 ∷ 2 ∷ []) → disk.len ≡ 0 → ⊥
+file_asked_for_its_start F L g d e κs a disk s at l here bytes w =
+    let known : IfSome (g.stream_bytes a.0) (λ b. disk.len ≡ length b)
+    = subst (λ v. IfSome v (λ _. IfSome (g.stream_bytes a.0) (λ b. disk.len ≡ length b)))
+    here l.long in
+    let n : disk.len ≡ 2 = subst (λ v. IfSome v (λ b. disk.len ≡ length b)) bytes known in
+    absurd (omega arith)
+
+not_rose : Rose 3 2 → ⊥
+not_rose (inl e) = absurd (omega (arith, e))
+not_rose (inr e) = absurd (omega (arith, e))
+
+-- file_failures_not_counted: after a failure the count of failures is less by one
+file_failures_not_counted : (F : _) (L : _) (κs : _) (a : _) (z : _) (s : _)
+    → fail.Learnt-named F L κs a z s → a.0.now.failed ≡ 3 → s.0.now.failed ≡ 2 → ⊥
+file_failures_not_counted F L κs a z s l three two =
+    not_rose (subst (Rose 3) two (subst (λ n. Rose n s.0.now.failed) three l.counted))
+
+-- held_bytes_not_written: what is held is passed over, and still to be written
+held_bytes_not_written : (F : _) (L : _) (r : _) (dr : _) (w : _) (dw : _) (k : _) (dk : _)
+    (o : _) (dp : _) (κs : _) (a : _) (s : _)
+    → pass_on.Learnt-named F L r dr w dw k dk o dp κs a (Ok tt) s → s.0.now.held.is_unwritten ≡ true → ⊥
+held_bytes_not_written F L r dr w dw k dk o dp κs a s l is =
+    let e : true ≡ false = sym is ∙ l.written in
+    absurd (cc)
+
+-- lost_bytes_forgotten: the bytes that were held could not be written, and later calls go on
+lost_bytes_forgotten : (F : _) (L : _) (r : _) (dr : _) (w : _) (dw : _) (k : _) (dk : _)
+    (o : _) (dp : _) (κs : _) (a : _) (s : _)
+    → pass_on.Learnt-named F L r dr w dw k dk o dp κs a (Err Device) s → s.0.now.lost ≡ false → ⊥
+lost_bytes_forgotten F L r dr w dw k dk o dp κs a s l is =
+    let e : false ≡ true = sym is ∙ l.lost in
+    absurd (cc)
+
+-- file_length_at_the_last_write: after a write of two bytes at the start of ten, two are there
+file_length_at_the_last_write : (F : _) (L : _) (r : _) (dr : _) (w : _) (dw : _) (k : _) (dk : _)
+    (o : _) (dp : _) (κs : _) (a : _) (s : _)
+    → write_at.Learnt-named F L r dr w dw k dk o dp κs a (Ok tt) s → a.0.now.len ≡ 10 → a.1.0 ≡ 0
+    → length a.1.1.0.now ≡ 2 → s.0.now.len ≡ 2 → ⊥
+file_length_at_the_last_write F L r dr w dw k dk o dp κs a s l ten at two is =
+    let e : s.0.now.len ≡ max a.0.now.len (a.1.0 + length a.1.1.0.now) = l.long in
+    absurd (omega arith)
