@@ -30,24 +30,34 @@ enum Step {
     Sync,
 }
 
+/// Whether the disk took the call.
+fn takes(disk: &mut MemoryDisk, step: Step) -> bool {
+    match step {
+        Step::Write(place, bytes) => write(disk, place, bytes),
+        Step::Cut(len) => cut(disk, len),
+        Step::Sync => disk.sync().is_ok(),
+    }
+}
+
 /// Whether the disk took all of these calls.
-fn takes(disk: &mut MemoryDisk, steps: &[Step]) -> bool {
+fn takes_all(disk: &mut MemoryDisk, steps: &[Step]) -> bool {
     for step in steps {
-        let done = match step {
-            Step::Write(place, bytes) => write(disk, *place, bytes),
-            Step::Cut(len) => cut(disk, *len),
-            Step::Sync => disk.sync().is_ok(),
-        };
-        if !done {
+        if !takes(disk, *step) {
             return false;
         }
     }
     true
 }
 
+/// Whether the disk took the call, and has these bytes behind it.
+fn becomes(disk: &mut MemoryDisk, step: Step, seen: &[u8]) -> bool {
+    takes(disk, step) && disk.bytes() == seen && disk.len() == Ok(seen.len() as u64)
+}
+
 #[test]
 fn calls_change_the_bytes(rt: HostRuntime) {
     let mut disk = MemoryDisk::new(rt.alloc());
+    assert!(rt; disk.len() == Ok(0));
     let rows: [(Step, &[u8]); 5] = [
         (Step::Write(0, b"abcdef"), b"abcdef"),
         (Step::Write(4, b"XYZ"), b"abcdXYZ"),
@@ -55,13 +65,8 @@ fn calls_change_the_bytes(rt: HostRuntime) {
         (Step::Write(2, b""), b"ab"),
         (Step::Sync, b"ab"),
     ];
-    assert!(rt; disk.len() == Ok(0));
     for (step, seen) in rows {
-        assert!(rt;
-            takes(&mut disk, &[step]) && disk.bytes() == seen,
-            "{seen:?}"
-        );
-        assert!(rt; disk.len() == Ok(seen.len() as u64), "{seen:?}");
+        assert!(rt; becomes(&mut disk, step, seen), "{seen:?}");
     }
 }
 
@@ -76,7 +81,7 @@ fn a_read_fills_its_buffer(rt: HostRuntime) -> Result<(), AllocError> {
 /// What is read of a disk that held `abcdef` behind these calls, and what a crash leaves of it.
 fn behind(alloc: Global, steps: &[Step]) -> Result<Option<(Vec<u8>, MemoryDisk)>, AllocError> {
     let mut disk = disk_of(alloc, b"abcdef")?;
-    if !takes(&mut disk, steps) {
+    if !takes_all(&mut disk, steps) {
         return Ok(None);
     }
     Ok(Some((disk.bytes().to_vec(alloc)?, disk.crash())))
