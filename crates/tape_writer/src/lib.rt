@@ -16,8 +16,6 @@ mod refusing;
 mod section;
 mod set;
 mod tape;
-#[cfg(test)]
-mod tests;
 mod volume;
 
 pub use course::{Course, Opened};

@@ -1,0 +1,68 @@
+//! Calls of a writer in a row, and what each of them answers.
+
+use crate::sets::{FIXED, head, spanned};
+use std::process::Abort;
+use tape_blocks::Shape;
+use tape_writer::{SetWriter, TapeOut, WriteFault};
+
+/// Bytes of records.
+const SEVENS: [u8; 290] = [b'7'; 290];
+
+/// A call of a writer, or several of one kind.
+#[derive(Clone, Copy)]
+pub(crate) enum Call {
+    /// The next file begins, in records of 80 bytes and blocks of 800.
+    Begin,
+    /// The next file begins, of this shape.
+    BeginIn(Shape),
+    /// The next file begins, in records of any length and blocks of at most this one.
+    BeginSpanned(u32),
+    /// A record of so many bytes `7`, at most 290.
+    Put(usize),
+    /// So many records of 80 bytes, one after another.
+    Records(u32),
+    /// The file ends.
+    EndFile,
+    /// The set ends.
+    Finish,
+}
+
+/// A call, what it answers, and the length of the volume under way then.
+pub(crate) type Row = (Call, Result<(), WriteFault>, u32);
+
+/// Puts a record of so many bytes `7`.
+fn put<T: TapeOut + Drop>(writer: &mut SetWriter<T>, length: usize) -> Result<(), WriteFault> {
+    match SEVENS.get(..length) {
+        Some(record) => writer.put(record),
+        None => Ok(()),
+    }
+}
+
+/// Makes the call; of several it answers the first that is refused.
+pub(crate) fn perform<T: TapeOut + Drop>(
+    writer: &mut SetWriter<T>,
+    call: Call,
+) -> Result<(), WriteFault> {
+    match call {
+        Call::Begin => writer.begin_file(head(), FIXED),
+        Call::BeginIn(shape) => writer.begin_file(head(), shape),
+        Call::BeginSpanned(block_len) => writer.begin_file(head(), spanned(block_len)),
+        Call::Put(length) => put(writer, length),
+        Call::Records(count) => {
+            for _ in 0..count {
+                put(writer, 80)?;
+            }
+            Ok(())
+        }
+        Call::EndFile => writer.end_file(),
+        Call::Finish => writer.finish(),
+    }
+}
+
+/// Makes the call of each row, counted from 0, and compares what it answers.
+pub(crate) fn follow<T: TapeOut + Drop>(rt: &impl Abort, writer: &mut SetWriter<T>, rows: &[Row]) {
+    for (at, row) in rows.iter().enumerate() {
+        let answer = perform(writer, row.0);
+        assert_eq!(rt; (answer, writer.used()), (row.1, row.2), "row {at}");
+    }
+}

@@ -1,0 +1,90 @@
+//! What a set is written of: labels, shapes and volumes.
+
+use std::alloc::Global;
+use std::test::Fail;
+use tape_blocks::Shape;
+use tape_image::ImageWriter;
+use tape_label::{Field, Format, Head1, Vol1};
+use tape_writer::{ImageTapes, MemoryTapes, SetWriter};
+
+/// Records of 80 bytes in blocks of 800.
+pub(crate) const FIXED: Shape = Shape {
+    format: Format::Fixed,
+    block_len: 800,
+    rec_len: 80,
+    offset: 0,
+    pad_full: false,
+};
+
+/// Records of any length in blocks of at most this one.
+pub(crate) fn spanned(block_len: u32) -> Shape {
+    Shape {
+        format: Format::Spanned,
+        block_len,
+        rec_len: 0,
+        offset: 0,
+        pad_full: false,
+    }
+}
+
+/// The label of a volume.
+pub(crate) fn volume(id: [u8; 6]) -> Vol1 {
+    Vol1 {
+        volume: Field::of_bytes(id),
+        access: b' ',
+        implementation: Field::of_bytes([b' '; 13]),
+        owner: Field::of_bytes([b' '; 14]),
+        version: b'4',
+    }
+}
+
+/// A head whose set identifier and numbers are not those that are written.
+pub(crate) fn head() -> Head1 {
+    Head1 {
+        file_id: Field::of_bytes(*b"PAYROLL          "),
+        set_id: Field::of_bytes(*b"XXXXXX"),
+        sect: 7,
+        sequence: 7,
+        generation: Field::of_bytes(*b"0001"),
+        gen_version: Field::of_bytes(*b"00"),
+        created: Field::of_bytes(*b" 00000"),
+        expires: Field::of_bytes(*b" 00000"),
+        access: b' ',
+        implementation: Field::of_bytes([b' '; 13]),
+    }
+}
+
+/// The first volumes of a set, of these two.
+pub(crate) fn volumes(alloc: Global, count: usize) -> Result<Vec<Vol1>, Fail> {
+    let mut volumes = Vec::new(alloc);
+    for id in [*b"ABC001", *b"ABC002"].iter().take(count) {
+        volumes.push(volume(*id))?;
+    }
+    Ok(volumes)
+}
+
+/// A writer of items in memory, on so many of the two volumes.
+pub(crate) fn in_memory(
+    alloc: Global,
+    capacity: u32,
+    count: usize,
+) -> Result<SetWriter<MemoryTapes>, Fail> {
+    let set_id = Field::of_bytes(*b"ABC001");
+    let out = MemoryTapes::new(alloc);
+    Ok(SetWriter::new(alloc, set_id, volumes(alloc, count)?, capacity, out)?)
+}
+
+/// A writer of images in memory, on so many of the two volumes.
+pub(crate) fn on_images(
+    alloc: Global,
+    capacity: u32,
+    count: usize,
+) -> Result<SetWriter<ImageTapes<Vec<u8>>>, Fail> {
+    let mut images = Vec::new(alloc);
+    for _ in 0..count {
+        images.push(ImageWriter::new(Vec::new(alloc)))?;
+    }
+    let set_id = Field::of_bytes(*b"ABC001");
+    let out = ImageTapes::new(images);
+    Ok(SetWriter::new(alloc, set_id, volumes(alloc, count)?, capacity, out)?)
+}
