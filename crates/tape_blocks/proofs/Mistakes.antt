@@ -32,6 +32,12 @@ use Rattle.tape_blocks.proofs.check.check_block.Reads as check_block
 
 -- ---- shapes, and what worked blocks hold
 
+pub counted_or_fixed : Counted ≡ Fixed → ⊥
+counted_or_fixed e = absurd (cc)
+
+pub spanned_or_fixed : Spanned ≡ Fixed → ⊥
+spanned_or_fixed e = absurd (cc)
+
 -- format D, with this block length, record length and offset
 abbrev pub counted_shape : ℕ → ℕ → ℕ → Shape
 counted_shape block_len rec_len offset = record {
@@ -40,7 +46,7 @@ counted_shape block_len rec_len offset = record {
   rec_len = rec_len;
   offset = offset;
   pad_full = false;
-  some_record = λ e. absurd cc;
+  some_record = λ e. absurd (counted_or_fixed e);
 }
 
 -- format S, with this block length
@@ -51,7 +57,7 @@ spanned_shape block_len = record {
   rec_len = 0;
   offset = 0;
   pad_full = false;
-  some_record = λ e. absurd cc;
+  some_record = λ e. absurd (spanned_or_fixed e);
 }
 
 -- a whole record
@@ -76,7 +82,11 @@ holds_one = (
 holds_middle : Holds Spanned 0 0 (codes "20006A") (middle ∷ [])
 holds_middle = (
   [],
-  record { reaches = omega arith; units = ((let n : 6 < 10000 = omega arith in n), tt); body = refl },
+  record {
+    reaches = omega arith;
+    units = ((let n : 6 < 10000 = omega arith in n), tt);
+    body = refl;
+  },
   refl,
 )
 

@@ -12,10 +12,11 @@ use Rattle.tape_blocks.specs.Block.{Portion, Holds}
 use Rattle.tape_blocks.specs.Packing.{Packing, Fills, Offers, IsFull, the_packing, size_of}
 use Rattle.tape_blocks.specs.Records.{contents}
 use Rattle.tape_blocks.specs.Spans.{Joined, join}
-use Rattle.tape_blocks.specs.Tight.{Filled, IsWritten, IsTight, bytes_of_all, parts_of_all, first_len}
+use Rattle.tape_blocks.specs.Tight.{Filled, IsWritten, IsTight, bytes_of_all, parts_of_all}
+use Rattle.tape_blocks.specs.Tight.{first_len}
 use Rattle.tape_blocks.proofs.JoinLaws.{one_list}
 use Rattle.tape_blocks.proofs.Mistakes.{counted_shape, spanned_shape, whole, holds_one}
-use Rattle.tape_blocks.proofs.Mistakes.{none_or_some}
+use Rattle.tape_blocks.proofs.Mistakes.{counted_or_fixed, none_or_some}
 use Rattle.tape_blocks.proofs.writing.has_record_length.Reads as has_record_length
 use Rattle.tape_blocks.proofs.writing.has_room.Reads as has_room
 use Rattle.tape_blocks.proofs.writing.padded_len.Reads as padded_len
@@ -54,7 +55,7 @@ full_shape = record {
   rec_len = 24;
   offset = 0;
   pad_full = true;
-  some_record = λ e. absurd cc;
+  some_record = λ e. absurd (counted_or_fixed e);
 }
 
 -- pad_full_ignored: a block that is to be padded to 24 bytes is padded to 18

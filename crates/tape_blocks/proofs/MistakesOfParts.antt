@@ -26,7 +26,11 @@ use Rattle.tape_blocks.proofs.laws.records_in_blocks.Reads as records_in_blocks
 holds_empty : Holds Spanned 0 0 (codes "00005") (whole [] ∷ [])
 holds_empty = (
   [],
-  record { reaches = omega arith; units = ((let n : 5 < 10000 = omega arith in n), tt); body = refl },
+  record {
+    reaches = omega arith;
+    units = ((let n : 5 < 10000 = omega arith in n), tt);
+    body = refl;
+  },
   refl,
 )
 

@@ -1,6 +1,7 @@
 -- Answers of `ImageReader::next`, and what the reader then is, that its contract excludes: each is
 -- what a wrong body would give for the bytes that are written out.
-use Rattle.std.proofs.Common.{◌≡◌, ◌≢◌, ◌≤◌, ◌+◌, ℕ, List, [], ◌∷◌, ◌++◌, length, refl, sym, ap, ◌∙◌}
+use Rattle.std.proofs.Common.{◌≡◌, ◌≢◌, ◌≤◌, ◌+◌, ℕ, List, [], ◌∷◌, ◌++◌, length, refl, sym, ap}
+use Rattle.std.proofs.Common.{◌∙◌}
 use Rattle.std.proofs.Common.{subst, arith, length-append}
 use Rattle.std.specs.Prelude.{Option, Some, Result, Ok, Err}
 use Rattle.tape_image.specs.declared.item.Ending.TheVariants.{Marked, Physical}

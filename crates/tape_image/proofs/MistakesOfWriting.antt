@@ -1,14 +1,17 @@
 -- Answers of a writer, and what its device then holds, that its contracts exclude: each is what a
 -- wrong body would give.
 use Rattle.std.proofs.Common.{◌≡◌, ℕ, List, [], ◌∷◌, length, sum, sym, ap, ◌∙◌, subst, arith}
-use Rattle.std.specs.Prelude.{Bool, true, false, MatchBool, ◌==◌, ◌||◌, nat_lt, Result, Ok, Err, Some}
+use Rattle.std.specs.Prelude.{Bool, true, false, MatchBool, ◌==◌, ◌||◌, nat_lt, Result, Ok, Err}
+use Rattle.std.specs.Prelude.{Some}
 use Rattle.tape_image.specs.declared.fault.ImageWriteFault.{ImageWriteFault}
-use Rattle.tape_image.specs.declared.fault.ImageWriteFault.TheVariants.{BlockLength, Device, TooLong}
+use Rattle.tape_image.specs.declared.fault.ImageWriteFault.TheVariants.{BlockLength, Device}
+use Rattle.tape_image.specs.declared.fault.ImageWriteFault.TheVariants.{TooLong}
 use Rattle.tape_image.specs.Tape.{mark}
 use Rattle.byteorder.specs.Endian.{little_bytes}
 use Rattle.tape_image.specs.Word.{end_word}
 use Rattle.tape_image.specs.Written.{written, is_no_block}
-use Rattle.tape_image.specs.Writer.{Writer, Standing, writing, finished, broken, PutsFrom, BlockFrom}
+use Rattle.tape_image.specs.Writer.{Writer, Standing, writing, finished, broken, PutsFrom}
+use Rattle.tape_image.specs.Writer.{BlockFrom}
 use Rattle.tape_image.proofs.writer.ImageWriter.new.Reads as new
 use Rattle.tape_image.proofs.writer.ImageWriter.size.Reads as size
 use Rattle.tape_image.proofs.writer.ImageWriter.block.Reads as block

@@ -220,4 +220,5 @@ reads_on_after_final_answer S R LS LR g d h e κs a answer s set_id bytes end st
     (ap (λ v. v.position) p) b q in
     let r : ReadsReel (mounted set_id) bytes [] answer
     = subst (λ v. ReadsReel (mount_of v) bytes [] answer) p c in
-    second_stays set_id bytes r.items answer end stop (omega (arith, eight)) begins none r.on r.ended
+    second_stays set_id bytes r.items answer end stop (omega (arith, eight)) begins none r.on
+    r.ended

@@ -129,9 +129,9 @@ partial_file_given R LR h d κs a session s set bytes k lawful id file all one k
     ∙ ap (λ v. part_of v.at) c ∙ front a.1.1.0 in
     absurd (omega (arith, n))
 
--- stopped_run_told_as_done: the sink refused a part, and the run is told as done. What it holds lies
--- before no position that the readers' histories lead to: all of these are at the front of a block,
--- and it has some parts of one.
+-- stopped_run_told_as_done: the sink refused a part, and the run is told as done. What it holds
+-- lies before no position that the readers' histories lead to: all of these are at the front of a
+-- block, and it has some parts of one.
 stopped_run_told_as_done : (S : _) (R : _) (LS : _) (LR : _) (g : _) (d : _) (h : _) (e : _)
     (κs : _) (a : _) (session : _) (s : _) (set : FileSet) (held now : List Portion)
     (bytes : List (List ℕ))

@@ -59,7 +59,8 @@ section_of_the_head T L g d e κs a s o l p seven =
     let f : o.file ≡ begun = subst (IsInFile begun) p l.opened in
     absurd (let n : 7 ≡ 1 = sym seven ∙ ap (λ f. f.head.sect) f in omega arith)
 
--- shape_of_no_blocks: a file is begun in blocks of at most 17 bytes, which are too short for a shape
+-- shape_of_no_blocks: a file is begun in blocks of at most 17 bytes, which are too short for a
+-- shape
 shape_of_no_blocks : (T : _) (L : _) (g : _) (d : _) (e : _) (κs : _) (a : _) (s : _)
     → begin_file.Learnt-named T L g d e κs a (Ok tt) s → a.0.now.phase ≡ Between
     → IsTextHead a.1.0 → a.1.1.0.block_len ≡ 17 → ⊥
@@ -117,8 +118,9 @@ set_on_one_volume_not_ended : (T : _) (L : _) (g : _) (d : _) (e : _) (κs : _) 
 set_on_one_volume_not_ended T L g d e κs a s l between one =
     let due = l.due between in absurd (omega (arith, due, one))
 
--- last_volume_with_one_mark: behind the end of the set its volume has no mark more than before. What
--- the tapes hold is one thing alone, as of tapes in memory (`one_in_memory` in MistakesOfTapes).
+-- last_volume_with_one_mark: behind the end of the set its volume has no mark more than before.
+-- What the tapes hold is one thing alone, as of tapes in memory (`one_in_memory` in
+-- MistakesOfTapes).
 last_volume_with_one_mark : (T : _) (L : _) (g : _) (d : _) (e : _) (κs : _) (a : _) (s : _)
     (items : List TapeItem) → finish.Learnt-named T L g d e κs a (Ok tt) s
     → g.holds a.0.now.out (UnderWay [] items) → g.holds s.0.now.out (Ended (items ∷ []))

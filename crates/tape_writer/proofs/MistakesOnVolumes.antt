@@ -1,4 +1,5 @@
--- Answers that the contracts of the steps on a volume exclude: each is what a wrong body would give.
+-- Answers that the contracts of the steps on a volume exclude: each is what a wrong body would
+-- give.
 use Rattle.std.proofs.Common.{◌≡◌, ◌<◌, ◌≤◌, ℕ, ◌+◌, ◌%◌, List, [], ◌∷◌, ◌++◌, length, Bool, true}
 use Rattle.std.proofs.Common.{false}
 use Rattle.std.proofs.Common.{refl, sym, ap, ◌∙◌, subst, arith, append_assoc, length-append}
@@ -149,8 +150,9 @@ abbrev second_of_rest : List TapeItem → List ℕ
 second_of_rest (x ∷ block b ∷ xs) = b
 second_of_rest _ = []
 
--- eof_where_eov_is_due: the volume that is changed ends by EOF1 and EOF2, as if the file ended. What
--- the tapes hold is one thing alone, as of tapes in memory (`one_in_memory` in MistakesOfTapes).
+-- eof_where_eov_is_due: the volume that is changed ends by EOF1 and EOF2, as if the file ended.
+-- What the tapes hold is one thing alone, as of tapes in memory (`one_in_memory` in
+-- MistakesOfTapes).
 eof_where_eov_is_due : (T : _) (L : _) (g : _) (d : _) (κs : _) (a : _) (s : _)
     (items : List TapeItem) → change_to.Learnt-named T L g d κs a (Ok tt) s
     → g.holds a.0.now.out (UnderWay [] items)

@@ -73,9 +73,9 @@ first_parts_put_twice S LS g d κs a s held first second form l known awaits hol
       length-append held (second ∷ []),
     ))
 
--- parts_put_before_the_check: of a block that is passed over a part is put. The premises on the set,
--- the mount and the place are those under which `take` promises a place that is right; every session
--- of a lawful set that reads a copy of a volume meets them.
+-- parts_put_before_the_check: of a block that is passed over a part is put. The premises on the
+-- set, the mount and the place are those under which `take` promises a place that is right; every
+-- session of a lawful set that reads a copy of a volume meets them.
 parts_put_before_the_check : (S : _) (LS : _) (g : _) (d : _) (κs : _) (a : _) (s : _)
     (set : FileSet) (p : Position) (xs : List TapeItem) (i : ℕ) (m : Happening)
     (held : List Portion) (part : Portion)

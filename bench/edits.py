@@ -1,0 +1,204 @@
+#!/usr/bin/env python3
+"""Tries mistakes in groups: bench/edits.py [CRATE...]; or lists them: bench/edits.py --lemmas
+
+Each file of crates/CRATE/must-fail and by-hand puts one mistake into the code, and the prover has to
+refuse it. One check here holds an edit of each function: a function is judged by what those that it
+calls promise, and not by their bodies, so that no edit hides another. What the check says of the
+edited function decides:
+
+    refused       a goal of it is open: what it promises does not hold
+    in a proof    the proof that was written for it does not hold any more
+    by shape      only names that this proof uses are gone, which says little
+    NOT REFUSED   nothing; each of these is tried once more, alone
+
+It works on a copy, over what is kept in out/, and takes the copy away. Its status is 1 where an edit
+was not refused. With --lemmas nothing is tried: each edit is told with the file of the lemma of its
+name, or without one, and the status is 1 where an edit has neither a lemma nor a place in must-fail.
+"""
+import os
+import re
+import shutil
+import subprocess
+import sys
+import tempfile
+import time
+
+TOP = os.path.dirname(os.path.dirname(os.path.abspath(__file__)))
+FUNCTION = re.compile(r"\s*(?:pub(?:\([a-z]+\))? )?(?:const )?fn (\w+)")
+OPEN_GOAL = re.compile(r"note: (\S+?):(\d+):\d+: (it is not proved .*)")
+IN_PROOF = re.compile(r"(?:\./)?proofs/(\S+)/(\w+)/\w+\.antt:\d+:\d+: error: (.*)")
+SHAPE = re.compile(r"has no field|is not in scope|has no `|was not admitted")
+
+
+def read_edit(path):
+    """The changes of an edit: file, text, and the text in its place."""
+    pairs, now = [], {}
+    with open(path, encoding="utf-8") as lines:
+        for line in lines:
+            word, _, rest = line.rstrip("\n").partition(":")
+            now[word] = rest.strip() if word == "file" else rest[1:]
+            if word == "new":
+                pairs.append((now["file"], now["old"], now["new"]))
+    return pairs
+
+
+def text_of(path):
+    with open(path, encoding="utf-8") as text:
+        return text.read()
+
+
+def function_at(lines, line):
+    """The name, the first and the last line of the function that a line stands in."""
+    first = next((k for k in range(line, 0, -1) if FUNCTION.match(lines[k - 1])), line)
+    named = FUNCTION.match(lines[first - 1])
+    indent = re.match(r"\s*", lines[first - 1]).group()
+    ends = (k for k in range(first, len(lines) + 1) if lines[k - 1] == indent + "}")
+    return named and named.group(1), first, max(line, next(ends, first))
+
+
+class Edit:
+    """A mistake: its changes, and the functions that they stand in."""
+
+    def __init__(self, crate, path):
+        self.name, self.pairs, self.functions = os.path.basename(path)[:-5], read_edit(path), set()
+        texts = {file: text_of(f"{crate}/{file}") for file, _, _ in self.pairs}
+        for file, old, new in self.pairs:
+            found = texts[file].count(old)
+            if found != 1:
+                sys.exit(f"{path}: its text stands {found} times in {file}, and not once")
+            line = texts[file][: texts[file].find(old)].count("\n") + 1
+            self.functions.add((file, *function_at(texts[file].split("\n"), line)))
+            texts[file] = texts[file].replace(old, new)
+
+    def put_into(self, texts):
+        """Changes the texts; false where one of its own is not there any more."""
+        for file, old, new in self.pairs:
+            if texts[file].count(old) != 1:
+                return False
+            texts[file] = texts[file].replace(old, new)
+        return True
+
+    def judged(self, said):
+        """What the lines of a check say of its functions."""
+        found = [goal.group(3) for goal in filter(None, map(OPEN_GOAL.match, said)) if self.has(goal)]
+        if found:
+            return "refused", found[0]
+        names = {name for _, name, _, _ in self.functions}
+        broken = [it.group(3) for it in filter(None, map(IN_PROOF.match, said)) if it.group(2) in names]
+        whole = [it for it in broken if not SHAPE.search(it)]
+        if whole:
+            return "in a proof", whole[0]
+        return ("by shape", broken[0]) if broken else ("NOT REFUSED", "")
+
+    def has(self, goal):
+        """Whether an open goal stands in one of its functions."""
+        file, line = goal.group(1).removeprefix("./"), int(goal.group(2))
+        return any(file == at and first <= line <= last for at, _, first, last in self.functions)
+
+
+def edits_of(crate):
+    folders = [f"{crate}/{it}" for it in ("must-fail", "by-hand") if os.path.isdir(f"{crate}/{it}")]
+    paths = [f"{at}/{it}" for at in folders for it in sorted(os.listdir(at)) if it.endswith(".edit")]
+    return [Edit(crate, it) for it in paths]
+
+
+def groups_of(crate, edits):
+    """The edits in as few groups as it finds, none with two of one function."""
+    groups = []
+    for edit in edits:
+        free = (it for it in groups if not any(edit.functions & other.functions for other in it))
+        group = next((it for it in free if texts_with(crate, [*it, edit])), None)
+        group.append(edit) if group else groups.append([edit])
+    return groups
+
+
+def texts_with(crate, group):
+    """The files that a group changes, with its changes; nothing where they are in each other's way."""
+    files = {file for edit in group for file, _, _ in edit.pairs}
+    texts = {file: text_of(f"{crate}/{file}") for file in files}
+    return texts if all(edit.put_into(texts) for edit in group) else None
+
+
+def write(crate, texts):
+    for file, text in texts.items():
+        with open(f"{crate}/{file}", "w", encoding="utf-8") as to:
+            to.write(text)
+
+
+def checked(crate, group):
+    """The lines of a check with the group's changes, which are taken back behind it."""
+    texts = texts_with(crate, group)
+    kept = {file: text_of(f"{crate}/{file}") for file in texts}
+    write(crate, texts)
+    ran = subprocess.run(["rt", "check", "--jobs", "1"], cwd=crate, stdin=subprocess.DEVNULL,
+                         stdout=subprocess.PIPE, stderr=subprocess.STDOUT, text=True)
+    write(crate, kept)
+    lines = ran.stdout.rstrip("\n").split("\n")
+    return lines, ran.returncode == 1 and lines[-1].startswith("logic=not-proved")
+
+
+def alone(crate, edit):
+    """What a check says of an edit that nothing spoke of in its group."""
+    said, is_refused = checked(crate, [edit])
+    word, why = edit.judged(said)
+    goals = [goal.group(3) for goal in filter(None, map(OPEN_GOAL.match, said))]
+    if word == "NOT REFUSED" and is_refused and goals:
+        return "refused", f"{goals[0]} (in another function)"
+    return word, why
+
+
+def try_crate(crate):
+    """Tries all edits of a crate, and says of each what became of it."""
+    edits, began, words = edits_of(crate), time.time(), []
+    groups = groups_of(crate, edits)
+    for group in groups:
+        said, _ = checked(crate, group)
+        for edit in group:
+            word, why = edit.judged(said)
+            if word in ("NOT REFUSED", "by shape"):
+                word, why = alone(crate, edit)
+            words.append(word)
+            print(f"{os.path.basename(crate)}/{edit.name}: {word}: {why[:120]}", flush=True)
+    counts = ", ".join(f"{words.count(it)} {it}" for it in dict.fromkeys(words))
+    took = f"{len(groups)} groups, {time.time() - began:.0f} s"
+    print(f"{os.path.basename(crate)}: {len(edits)} edits in {took}: {counts}", flush=True)
+    return words.count("NOT REFUSED")
+
+
+def lemmas_of(crate):
+    """The files of the lemmas on mistakes, by their names."""
+    found = {}
+    for at, _, files in os.walk(f"{crate}/proofs"):
+        for file in sorted(it for it in files if it.startswith("Mistakes")):
+            for name in re.findall(r"(?m)^(?:pub )?(\w+) :", text_of(f"{at}/{file}")):
+                found[name] = os.path.relpath(f"{at}/{file}", crate)
+    return found
+
+
+def list_lemmas(names):
+    """Tells which lemma stands for each edit."""
+    lacking = 0
+    for crate in (f"{TOP}/crates/{it}" for it in names):
+        found = lemmas_of(crate)
+        for edit in edits_of(crate):
+            in_gate = os.path.exists(f"{crate}/must-fail/{edit.name}.edit")
+            lacking += edit.name not in found and not in_gate
+            told = [found.get(edit.name, "no lemma")] + ["must-fail"] * in_gate
+            print(f"{os.path.basename(crate)}/{edit.name}: {', '.join(told)}")
+    return 1 if lacking else 0
+
+
+def main(names):
+    lines = text_of(f"{TOP}/crates.txt").splitlines()
+    all_names = [it.partition(":")[0].strip() for it in lines if it and not it.startswith("#")]
+    if names == ["--lemmas"]:
+        return list_lemmas(all_names)
+    with tempfile.TemporaryDirectory() as room:
+        shutil.copytree(TOP, f"{room}/copy", ignore=shutil.ignore_patterns(".git"))
+        os.mkdir(f"{room}/copy/.git")
+        crates = [f"{room}/copy/crates/{it}" for it in names or all_names]
+        return 1 if sum(try_crate(it) for it in crates if edits_of(it)) else 0
+
+
+if __name__ == "__main__":
+    sys.exit(main(sys.argv[1:]))
