@@ -1,4 +1,5 @@
 //! Listings of images that are written out from their format, and command lines.
+mod calls;
 mod check;
 mod check_faults;
 mod devices;
@@ -10,7 +11,6 @@ mod init;
 mod labels;
 mod listing;
 mod program;
-mod reels;
 mod staged_program;
 mod staging;
 mod volumes;

@@ -1,82 +1,79 @@
 //! Reports of reels that are written out from their format.
 use super::devices::{Dribble, Tail};
 use super::image::{Image, MARK};
-use super::reels::{
-    HDR1, HDR2, VOL1, close, end, first_of_two, five_blocks, labels, reel, second_of_two,
-};
+use super::volumes::*;
 use crate::check::check_to;
 use std::alloc::{AllocError, Global};
-use std::io::ErrorKind;
+use std::io::{ErrorKind, Read};
 use std::process::Abort;
 use std::test::Fail;
 
-/// The report of these images, none of which fails.
-fn check<A: Abort>(
-    rt: &A,
-    alloc: Global,
-    mut images: Vec<Option<&[u8]>>,
+/// The report of these images.
+fn check<H: Abort + AllocGlobal, R: Read + Drop>(
+    rt: &H,
+    images: &mut [Option<R>],
     found: bool,
     lines: &str,
 ) -> Result<(), Fail> {
-    let mut report = Vec::new(alloc);
-    let answer = check_to(alloc, images.as_mut_slice(), &mut report)?;
+    let mut report = Vec::new(rt.alloc());
+    let answer = check_to(rt.alloc(), images, &mut report)?;
     assert_eq!(rt; report.as_slice(), lines.as_bytes(), "{lines}");
-    assert_eq!(rt; answer, found, "{lines}");
+    assert!(rt; answer == found, "{lines}");
     Ok(())
 }
 
 /// The report of one image.
-fn check_one<A: Abort>(
-    rt: &A,
-    alloc: Global,
-    image: &[u8],
+fn check_one<H: Abort + AllocGlobal>(
+    rt: &H,
+    image: Image,
     found: bool,
     lines: &str,
 ) -> Result<(), Fail> {
-    let mut images = Vec::new(alloc);
-    images.push(Some(image))?;
-    check(rt, alloc, images, found, lines)
+    check(rt, &mut [Some(image.bytes.as_slice())], found, lines)
 }
 
 /// The report of two images.
-fn check_two<'a, A: Abort>(
-    rt: &A,
-    alloc: Global,
-    first: &'a [u8],
-    second: &'a [u8],
+fn check_two<H: Abort + AllocGlobal>(
+    rt: &H,
+    first: Image,
+    second: Image,
     found: bool,
     lines: &str,
 ) -> Result<(), Fail> {
-    let mut images = Vec::new(alloc);
-    images.push(Some(first))?;
-    images.push(Some(second))?;
-    check(rt, alloc, images, found, lines)
+    let (first, second) = (first.bytes.as_slice(), second.bytes.as_slice());
+    check(rt, &mut [Some(first), Some(second)], found, lines)
+}
+
+/// Three images.
+fn three<'a>(first: &'a [u8], second: &'a [u8], third: &'a [u8]) -> [Option<&'a [u8]>; 3] {
+    [Some(first), Some(second), Some(third)]
+}
+
+/// The image has so many bytes.
+fn is_long<A: Abort>(rt: &A, image: &Image, length: usize) {
+    assert_eq!(rt; image.bytes.len(), length);
 }
 
 #[test]
 fn two_volumes_are_found(rt: HostRuntime) -> Result<(), Fail> {
-    let first = first_of_two(rt.alloc())?.bytes;
-    let second = second_of_two(rt.alloc())?.bytes;
-    assert_eq!(rt; first.len(), 2484);
-    assert_eq!(rt; second.len(), 460);
+    let first = first_of_two(rt.alloc())?;
+    let second = second_of_two(rt.alloc())?;
+    is_long(&rt, &first, 2484);
+    is_long(&rt, &second, 460);
     let lines = "IMAGE 1 12 MARKED
 IMAGE 2 9 MARKED
 SECTION ABC001 1 1 ABC001 3 GOOD
 SECTION ABC001 1 2 ABC002 0 GOOD
 ALL SECTIONS FOUND
 ";
-    let (one, two) = (first.as_slice(), second.as_slice());
-    check_two(&rt, rt.alloc(), one, two, true, lines)
+    check_two(&rt, first, second, true, lines)
 }
 
 #[test]
 fn any_order_with_repeats(rt: HostRuntime) -> Result<(), Fail> {
-    let first = first_of_two(rt.alloc())?.bytes;
-    let second = second_of_two(rt.alloc())?.bytes;
-    let mut images = Vec::new(rt.alloc());
-    images.push(Some(second.as_slice()))?;
-    images.push(Some(first.as_slice()))?;
-    images.push(Some(second.as_slice()))?;
+    let first = first_of_two(rt.alloc())?;
+    let second = second_of_two(rt.alloc())?;
+    let (one, two) = (first.bytes.as_slice(), second.bytes.as_slice());
     let lines = "IMAGE 1 9 MARKED
 IMAGE 2 12 MARKED
 IMAGE 3 9 MARKED
@@ -84,88 +81,103 @@ SECTION ABC001 1 2 ABC002 0 GOOD
 SECTION ABC001 1 1 ABC001 3 GOOD
 ALL SECTIONS FOUND
 ";
-    check(&rt, rt.alloc(), images, true, lines)
+    check(&rt, &mut three(two, one, two), true, lines)
 }
 
 #[test]
 fn the_first_volume_alone(rt: HostRuntime) -> Result<(), Fail> {
-    let first = first_of_two(rt.alloc())?.bytes;
     let lines = "IMAGE 1 12 MARKED
 SECTION ABC001 1 1 ABC001 3 GOOD
 LACKS ABC001 1 2
 ";
-    check_one(&rt, rt.alloc(), first.as_slice(), false, lines)
+    check_one(&rt, first_of_two(rt.alloc())?, false, lines)
 }
 
-/// The trailer of five blocks.
-const EOF_FIVE: &str = "EOF1PAYROLL          ABC00100010001000100 00000 00000 000005";
+/// Five blocks of which the fourth is bad.
+fn bad(alloc: Global) -> Result<Image, AllocError> {
+    five_blocks(alloc, &[0, 0, 0, 0x80, 0], EOF_FIVE)
+}
 
 #[test]
 fn a_bad_block_until_a_whole_copy(rt: HostRuntime) -> Result<(), Fail> {
-    let bad = five_blocks(rt.alloc(), &[0, 0, 0, 0x80, 0], EOF_FIVE)?.bytes;
-    let whole = five_blocks(rt.alloc(), &[0; 5], EOF_FIVE)?.bytes;
     let lines = "IMAGE 1 14 MARKED
 SECTION ABC001 1 1 ABC001 5 BAD
 LACKS ABC001 1 1
 ";
-    check_one(&rt, rt.alloc(), bad.as_slice(), false, lines)?;
+    check_one(&rt, bad(rt.alloc())?, false, lines)?;
     let lines = "IMAGE 1 14 MARKED
 IMAGE 2 14 MARKED
 SECTION ABC001 1 1 ABC001 5 GOOD
 ALL SECTIONS FOUND
 ";
-    let (one, two) = (bad.as_slice(), whole.as_slice());
-    check_two(&rt, rt.alloc(), one, two, true, lines)
+    let whole = five_blocks(rt.alloc(), &[0; 5], EOF_FIVE)?;
+    check_two(&rt, bad(rt.alloc())?, whole, true, lines)
 }
 
 #[test]
 fn cut_and_counted_wrong(rt: HostRuntime) -> Result<(), Fail> {
-    let mut cut = Image::worked(rt.alloc(), &[])?.bytes;
-    cut.truncate(2292);
     let lines = "IMAGE 1 7 PHYSICAL
 SECTION ABC001 1 1 ABC001 3 CUT
 LACKS ABC001 1 1
 ";
-    check_one(&rt, rt.alloc(), cut.as_slice(), false, lines)?;
-    let four = "EOF1PAYROLL          ABC00100010001000100 00000 00000 000004";
-    let counted = five_blocks(rt.alloc(), &[0; 5], four)?.bytes;
+    check_one(&rt, worked(rt.alloc())?.cut(2292), false, lines)?;
     let lines = "IMAGE 1 14 MARKED
 SECTION ABC001 1 1 ABC001 5 COUNT
 LACKS ABC001 1 1
 ";
-    check_one(&rt, rt.alloc(), counted.as_slice(), false, lines)
+    let counted = five_blocks(rt.alloc(), &[0; 5], EOF_FOUR)?;
+    check_one(&rt, counted, false, lines)
 }
 
 #[test]
 fn nothing_is_met(rt: HostRuntime) -> Result<(), Fail> {
-    let mut blank = Image::new(rt.alloc());
-    labels(&mut blank, &[VOL1])?;
-    end(&mut blank)?;
     let lines = "IMAGE 1 0 PHYSICAL
 IMAGE 2 3 MARKED
 ";
-    let blank = blank.bytes;
-    check_two(&rt, rt.alloc(), b"", blank.as_slice(), false, lines)?;
-    check(&rt, rt.alloc(), Vec::new(rt.alloc()), false, "")
+    check_two(
+        &rt,
+        Image::new(rt.alloc()),
+        blank(rt.alloc())?,
+        false,
+        lines,
+    )?;
+    let none: &mut [Option<&[u8]>] = &mut [];
+    check(&rt, none, false, "")
+}
+
+/// A volume with one section of one block, of which the first labels before and behind it are
+/// these.
+fn one_section(alloc: Global, header: &str, trailer: &str) -> Result<Image, AllocError> {
+    reel(alloc, &[VOL1, header, FIXED], &[0], &[trailer])
+}
+
+/// File 2 of the set XYZ001.
+fn other_set(alloc: Global) -> Result<Image, AllocError> {
+    let header = "HDR1STOCK            XYZ00100010002000100 00000 00000 000000";
+    let trailer = "EOF1STOCK            XYZ00100010002000100 00000 00000 000001";
+    one_section(alloc, header, trailer)
+}
+
+/// Section 1 of file 1 of the set ABC001, which goes on.
+fn first_section(alloc: Global) -> Result<Image, AllocError> {
+    let trailer = "EOV1PAYROLL          ABC00100010001000100 00000 00000 000001";
+    one_section(alloc, HDR1, trailer)
+}
+
+/// Section 3 of the same, and its end.
+fn third_section(alloc: Global) -> Result<Image, AllocError> {
+    let header = "HDR1PAYROLL          ABC00100030001000100 00000 00000 000000";
+    let trailer = "EOF1PAYROLL          ABC00100030001000100 00000 00000 000001";
+    one_section(alloc, header, trailer)
 }
 
 /// Of set XYZ001 file 2 is there, and file 1 was never met; of ABC001 the section in the middle of
 /// file 1 is not there.
 #[test]
 fn two_sets(rt: HostRuntime) -> Result<(), Fail> {
-    let alloc = rt.alloc();
-    let header = "HDR1STOCK            XYZ00100010002000100 00000 00000 000000";
-    let trailer = "EOF1STOCK            XYZ00100010002000100 00000 00000 000001";
-    let other = reel(alloc, &[VOL1, header, HDR2], &[0], &[trailer])?.bytes;
-    let trailer = "EOV1PAYROLL          ABC00100010001000100 00000 00000 000001";
-    let first = reel(alloc, &[VOL1, HDR1, HDR2], &[0], &[trailer])?.bytes;
-    let header = "HDR1PAYROLL          ABC00100030001000100 00000 00000 000000";
-    let trailer = "EOF1PAYROLL          ABC00100030001000100 00000 00000 000001";
-    let third = reel(alloc, &[VOL1, header, HDR2], &[0], &[trailer])?.bytes;
-    let mut images = Vec::new(alloc);
-    images.push(Some(other.as_slice()))?;
-    images.push(Some(third.as_slice()))?;
-    images.push(Some(first.as_slice()))?;
+    let other = other_set(rt.alloc())?;
+    let third = third_section(rt.alloc())?;
+    let first = first_section(rt.alloc())?;
     let lines = "IMAGE 1 9 MARKED
 IMAGE 2 9 MARKED
 IMAGE 3 9 MARKED
@@ -175,146 +187,170 @@ SECTION ABC001 1 1 ABC001 1 GOOD
 LACKS XYZ001 1 1
 LACKS ABC001 1 2
 ";
-    check(&rt, alloc, images, false, lines)
+    let mut images = three(
+        other.bytes.as_slice(),
+        third.bytes.as_slice(),
+        first.bytes.as_slice(),
+    );
+    check(&rt, &mut images, false, lines)
 }
 
-/// Sections 1 to 9,999 of a file stand on one reel, and its last one says that it goes on.
-#[test]
-fn the_last_section_number(rt: HostRuntime) -> Result<(), Fail> {
-    let mut image = Image::new(rt.alloc());
+/// The label with this section's number in it.
+fn numbered(label: &[u8; 60], number: u16) -> [u8; 60] {
+    let mut label = *label;
+    for (place, unit) in [(27usize, 1000u16), (28, 100), (29, 10), (30, 1)] {
+        label[place] = b'0' + (number / unit % 10) as u8;
+    }
+    label
+}
+
+/// An empty section of this number, which goes on.
+fn empty_section(image: &mut Image, number: u16) -> Result<(), AllocError> {
+    let header = b"HDR1PAYROLL          ABC00100000001000100 00000 00000 000000";
+    let trailer = b"EOV1PAYROLL          ABC00100000001000100 00000 00000 000000";
+    image.label_of(&numbered(header, number), b' ')?;
+    labels(image, &[FIXED])?;
+    image.word(&MARK)?;
+    image.label_of(&numbered(trailer, number), b' ')?;
+    image.word(&MARK)
+}
+
+/// Sections 1 to 9,999 of a file on one reel, of which the last one says that it goes on.
+fn all_sections(alloc: Global) -> Result<Image, AllocError> {
+    let mut image = Image::new(alloc);
     image.label(VOL1)?;
     for number in 1..10000u16 {
-        let mut header = *b"HDR1PAYROLL          ABC00100000001000100 00000 00000 000000";
-        let mut trailer = *b"EOV1PAYROLL          ABC00100000001000100 00000 00000 000000";
-        for (place, unit) in [(27usize, 1000u16), (28, 100), (29, 10), (30, 1)] {
-            let digit = b'0' + (number / unit % 10) as u8;
-            header[place] = digit;
-            trailer[place] = digit;
-        }
-        image.label_of(&header, b' ')?;
-        labels(&mut image, &[HDR2])?;
-        image.word(&MARK)?;
-        image.label_of(&trailer, b' ')?;
-        image.word(&MARK)?;
+        empty_section(&mut image, number)?;
     }
     end(&mut image)?;
-    let mut images = Vec::new(rt.alloc());
-    images.push(Some(image.bytes.as_slice()))?;
+    Ok(image)
+}
+
+#[test]
+fn the_last_section_number(rt: HostRuntime) -> Result<(), Fail> {
+    let image = all_sections(rt.alloc())?;
     let mut report = Tail::new(rt.alloc());
-    let found = check_to(rt.alloc(), images.as_mut_slice(), &mut report)?;
+    let images = &mut [Some(image.bytes.as_slice())];
+    let found = check_to(rt.alloc(), images, &mut report)?;
+    let line = b"SECTION ABC001 1 9999 ABC001 0 GOOD\n".as_slice();
     assert!(rt; !found);
-    let line = b"SECTION ABC001 1 9999 ABC001 0 GOOD\n";
-    assert_eq!(rt; report.line.as_slice(), line.as_slice());
-    assert_eq!(rt; report.end.as_slice(), b"LACKS ABC001 1 10000\n".as_slice());
+    assert!(rt; report.line.as_slice() == line);
+    assert!(rt; report.end.as_slice() == b"LACKS ABC001 1 10000\n".as_slice());
     Ok(())
+}
+
+/// A volume of so many blocks of one byte.
+fn many_blocks(alloc: Global, count: u32) -> Result<Image, AllocError> {
+    let mut image = Image::new(alloc);
+    labels(&mut image, &[VOL1, HDR1, FIXED])?;
+    for _ in 0..count {
+        image.block(b"x", 0)?;
+    }
+    close(&mut image, &[EOF_THREE])?;
+    Ok(image)
 }
 
 #[test]
 fn a_million_and_three_blocks(rt: HostRuntime) -> Result<(), Fail> {
-    let mut image = Image::new(rt.alloc());
-    labels(&mut image, &[VOL1, HDR1, HDR2])?;
-    for _ in 0..1_000_003u32 {
-        // A block of one byte between its words, and its pad byte.
-        image
-            .bytes
-            .extend_from_slice(&[1, 0, 0, 0, b'x', 0, 1, 0, 0, 0])?;
-    }
-    let trailer = "EOF1PAYROLL          ABC00100010001000100 00000 00000 000003";
-    close(&mut image, &[trailer])?;
     let lines = "IMAGE 1 1000011 MARKED
 SECTION ABC001 1 1 ABC001 1000003 GOOD
 ALL SECTIONS FOUND
 ";
-    check_one(&rt, rt.alloc(), image.bytes.as_slice(), true, lines)
+    check_one(&rt, many_blocks(rt.alloc(), 1_000_003)?, true, lines)
 }
 
-/// An image that breaks off, one that could not be opened, and a whole one.
+/// An image that breaks off, and one that could not be opened.
 #[test]
-fn faults_are_told_and_passed(rt: HostRuntime) -> Result<(), Fail> {
-    let mut cut = Image::worked(rt.alloc(), &[])?.bytes;
-    cut.truncate(1885);
-    let whole = Image::worked(rt.alloc(), &[])?.bytes;
-    let mut images = Vec::new(rt.alloc());
-    images.push(Some(cut.as_slice()))?;
-    images.push(None)?;
+fn faults_are_told(rt: HostRuntime) -> Result<(), Fail> {
+    let cut = worked(rt.alloc())?.cut(1885);
     let lines = "IMAGE 1 6 FAULT 1 1884
 IMAGE 2 0 NOT OPENED
 SECTION ABC001 1 1 ABC001 2 CUT
 LACKS ABC001 1 1
 ";
-    check(&rt, rt.alloc(), images, false, lines)?;
-    let mut images = Vec::new(rt.alloc());
-    images.push(None)?;
-    images.push(Some(cut.as_slice()))?;
-    images.push(Some(whole.as_slice()))?;
+    check(&rt, &mut [Some(cut.bytes.as_slice()), None], false, lines)
+}
+
+/// The first bytes, so many.
+fn front(bytes: &[u8], length: usize) -> &[u8] {
+    bytes.get(..length).unwrap_or(&[])
+}
+
+/// One that could not be opened, and these two.
+fn behind_unopened<'a>(first: &'a [u8], second: &'a [u8]) -> [Option<&'a [u8]>; 3] {
+    [None, Some(first), Some(second)]
+}
+
+/// Behind such images a whole one.
+#[test]
+fn faults_are_told_and_passed(rt: HostRuntime) -> Result<(), Fail> {
+    let image = worked(rt.alloc())?;
+    let whole = image.bytes.as_slice();
+    let cut = front(whole, 1885);
     let lines = "IMAGE 1 0 NOT OPENED
 IMAGE 2 6 FAULT 1 1884
 IMAGE 3 12 MARKED
 SECTION ABC001 1 1 ABC001 3 GOOD
 ALL SECTIONS FOUND
 ";
-    check(&rt, rt.alloc(), images, true, lines)
+    check(&rt, &mut behind_unopened(cut, whole), true, lines)
 }
 
-/// The identifiers of the set and of the volume hold bytes that can't be printed.
-#[test]
-fn bytes_that_are_not_printed(rt: HostRuntime) -> Result<(), Fail> {
-    let mut image = Image::new(rt.alloc());
+/// A volume of which the identifiers of the set and of the volume hold bytes that can't be printed.
+fn unprinted(alloc: Global) -> Result<Image, AllocError> {
     let mut volume = [b' '; 80];
     volume[..10].copy_from_slice(b"VOL1A\x07 ~\x7F\xE9");
     volume[79] = b'4';
+    let header = b"HDR1PAYROLL          \x1F C\x80\x0A100010001000100 00000 00000 000000";
+    let mut image = Image::new(alloc);
     image.block(&volume, 0)?;
-    image.label_of(
-        b"HDR1PAYROLL          \x1F C\x80\x0A100010001000100 00000 00000 000000",
-        b' ',
-    )?;
-    labels(&mut image, &[HDR2])?;
-    let trailer = "EOF1PAYROLL          ABC00100010001000100 00000 00000 000000";
-    close(&mut image, &[trailer])?;
+    image.label_of(header, b' ')?;
+    labels(&mut image, &[FIXED])?;
+    close(&mut image, &[EOF_NONE])?;
+    Ok(image)
+}
+
+#[test]
+fn bytes_that_are_not_printed(rt: HostRuntime) -> Result<(), Fail> {
     let lines = "IMAGE 1 8 MARKED
 SECTION ? C??1 1 1 A? ~?? 0 GOOD
 ALL SECTIONS FOUND
 ";
-    check_one(&rt, rt.alloc(), image.bytes.as_slice(), true, lines)
+    check_one(&rt, unprinted(rt.alloc())?, true, lines)
 }
 
 /// Items behind the second mark are counted, and their sections are not met.
 #[test]
 fn items_behind_the_second_mark(rt: HostRuntime) -> Result<(), Fail> {
-    let mut image = Image::worked(rt.alloc(), &[])?;
-    image.bytes.truncate(2480);
+    let mut image = worked(rt.alloc())?.cut(2480);
     image.block(HDR1.as_bytes(), 0)?;
     image.word(&MARK)?;
     let lines = "IMAGE 1 14 PHYSICAL
 SECTION ABC001 1 1 ABC001 3 GOOD
 ALL SECTIONS FOUND
 ";
-    check_one(&rt, rt.alloc(), image.bytes.as_slice(), true, lines)
+    check_one(&rt, image, true, lines)
+}
+
+/// A reader that gives so many bytes, one a call, and then fails.
+fn dribble(bytes: &[u8], left: usize) -> Dribble<'_> {
+    Dribble {
+        bytes,
+        left,
+        kind: ErrorKind::Other,
+    }
 }
 
 /// A reader that gives a byte a call, and fails in the first data block.
 #[test]
 fn a_reader_that_fails(rt: HostRuntime) -> Result<(), Fail> {
-    let worked = Image::worked(rt.alloc(), &[])?.bytes;
-    let mut images = Vec::new(rt.alloc());
-    images.push(Some(Dribble {
-        bytes: worked.as_slice(),
-        left: 1000,
-        kind: ErrorKind::Other,
-    }))?;
-    images.push(Some(Dribble {
-        bytes: worked.as_slice(),
-        left: 2484,
-        kind: ErrorKind::Other,
-    }))?;
-    let mut report = Vec::new(rt.alloc());
-    let found = check_to(rt.alloc(), images.as_mut_slice(), &mut report)?;
-    let lines = b"IMAGE 1 4 FAULT 5 268
+    let image = worked(rt.alloc())?;
+    let bytes = image.bytes.as_slice();
+    let images = &mut [Some(dribble(bytes, 1000)), Some(dribble(bytes, 2484))];
+    let lines = "IMAGE 1 4 FAULT 5 268
 IMAGE 2 12 MARKED
 SECTION ABC001 1 1 ABC001 3 GOOD
 ALL SECTIONS FOUND
 ";
-    assert_eq!(rt; report.as_slice(), lines.as_slice());
-    assert!(rt; found);
-    Ok(())
+    check(&rt, images, true, lines)
 }

@@ -1,15 +1,16 @@
 //! Reports that could not be written, and `check` as the program runs it.
+use super::calls::{each_ends, ends, put, with_images};
 use super::devices::{FailsOnce, Narrow};
-use super::image::Image;
-use super::reels::{first_of_two, second_of_two};
+use super::volumes::{first_of_two, second_of_two, worked};
 use super::words::words_of;
 use crate::check::check_to;
 use crate::end::{End, finish};
 use crate::fault::{Fault, FileFault, ToolFault};
-use crate::program::perform;
+use crate::telling::fault_line;
 use crate::words::{Order, order_of};
-use std::fs::File;
+use std::alloc::{AllocError, Global};
 use std::io::{ErrorKind, Write};
+use std::process::Abort;
 use std::test::Fail;
 use tape_run::RunFault;
 
@@ -19,25 +20,32 @@ SECTION ABC001 1 1 ABC001 3 GOOD
 ALL SECTIONS FOUND
 ";
 
-const WRITE_FAILED: ToolFault = ToolFault::File(FileFault::WriteFailed);
+const WRITE_FAILED: Result<bool, ToolFault> = Err(ToolFault::File(FileFault::WriteFailed));
+
+/// What a check of the worked image answers to this writer.
+fn check_worked<W: Write>(
+    alloc: Global,
+    writer: &mut W,
+) -> Result<Result<bool, ToolFault>, AllocError> {
+    let image = worked(alloc)?;
+    Ok(check_to(alloc, &mut [Some(image.bytes.as_slice())], writer))
+}
+
+/// Where the writer takes so many bytes and fails, these are a front of the report.
+fn stops_at<H: Abort + AllocGlobal>(rt: &H, left: usize) -> Result<(), Fail> {
+    let mut narrow = Narrow::failing(rt.alloc(), left, Some(ErrorKind::Other), true);
+    let answer = check_worked(rt.alloc(), &mut narrow)?;
+    assert!(rt; answer == WRITE_FAILED, "{left}");
+    assert!(rt; narrow.taken.len() == left, "{left}");
+    assert!(rt; REPORT.starts_with(narrow.taken.as_slice()), "{left}");
+    Ok(())
+}
 
 /// Whatever the byte at which the writer fails, what it took is a front of the report.
 #[test]
 fn a_writer_that_fails(rt: HostRuntime) -> Result<(), Fail> {
-    let worked = Image::worked(rt.alloc(), &[])?.bytes;
     for left in 0..REPORT.len() {
-        let mut images = Vec::new(rt.alloc());
-        images.push(Some(worked.as_slice()))?;
-        let mut narrow = Narrow {
-            taken: Vec::new(rt.alloc()),
-            left,
-            kind: Some(ErrorKind::Other),
-            flushes: true,
-        };
-        let answer = check_to(rt.alloc(), images.as_mut_slice(), &mut narrow);
-        assert_eq!(rt; answer, Err(WRITE_FAILED), "{left}");
-        assert_eq!(rt; narrow.taken.len(), left);
-        assert!(rt; REPORT.starts_with(narrow.taken.as_slice()), "{left}");
+        stops_at(&rt, left)?;
     }
     Ok(())
 }
@@ -45,20 +53,11 @@ fn a_writer_that_fails(rt: HostRuntime) -> Result<(), Fail> {
 /// A flush that fails is a write that failed, and the report stands.
 #[test]
 fn a_flush_that_fails(rt: HostRuntime) -> Result<(), Fail> {
-    let worked = Image::worked(rt.alloc(), &[])?.bytes;
-    for flushes in [true, false] {
-        let mut images = Vec::new(rt.alloc());
-        images.push(Some(worked.as_slice()))?;
-        let mut narrow = Narrow {
-            taken: Vec::new(rt.alloc()),
-            left: REPORT.len(),
-            kind: None,
-            flushes,
-        };
-        let answer = check_to(rt.alloc(), images.as_mut_slice(), &mut narrow);
-        let wanted = if flushes { Ok(true) } else { Err(WRITE_FAILED) };
-        assert_eq!(rt; answer, wanted);
-        assert_eq!(rt; narrow.taken.as_slice(), REPORT);
+    for (flushes, wanted) in [(true, Ok(true)), (false, WRITE_FAILED)] {
+        let mut narrow = Narrow::new(rt.alloc(), REPORT.len(), flushes);
+        let answer = check_worked(rt.alloc(), &mut narrow)?;
+        assert!(rt; answer == wanted, "{flushes}");
+        assert!(rt; narrow.taken.as_slice() == REPORT, "{flushes}");
     }
     Ok(())
 }
@@ -66,33 +65,25 @@ fn a_flush_that_fails(rt: HostRuntime) -> Result<(), Fail> {
 /// A write that failed is not made again, an interruption neither.
 #[test]
 fn no_second_try(rt: HostRuntime) -> Result<(), Fail> {
-    let worked = Image::worked(rt.alloc(), &[])?.bytes;
     for good in 0..3usize {
-        let mut images = Vec::new(rt.alloc());
-        images.push(Some(worked.as_slice()))?;
-        let mut writer = FailsOnce {
-            taken: Vec::new(rt.alloc()),
-            good,
-            calls: 0,
-            kind: Some(ErrorKind::Interrupted),
-        };
-        let answer = check_to(rt.alloc(), images.as_mut_slice(), &mut writer);
-        assert_eq!(rt; answer, Err(WRITE_FAILED));
-        assert_eq!(rt; writer.calls, good.saturating_add(1));
+        let mut writer = FailsOnce::new(rt.alloc(), good, Some(ErrorKind::Interrupted));
+        let answer = check_worked(rt.alloc(), &mut writer)?;
+        assert!(rt; answer == WRITE_FAILED, "{good}");
+        assert!(rt; writer.calls == good.saturating_add(1), "{good}");
     }
     Ok(())
 }
 
-fn perform_line(rt: &HostRuntime, line: &str) -> Result<End, Fail> {
-    let words = words_of(rt.alloc(), line)?;
-    Ok(perform(rt, words.as_slice()))
-}
-
-fn put(rt: &HostRuntime, path: &str, bytes: &[u8]) -> Result<(), Fail> {
-    let mut file = File::create(rt, path)?;
-    file.write_all(bytes)?;
-    Ok(())
-}
+const LINES: &[(&str, End)] = &[
+    ("check check1.tap check2.tap", End::Done),
+    ("check check2.tap lost.tap -- check1.tap", End::Done),
+    ("check check1.tap", End::Incomplete),
+    ("check lost.tap", End::Incomplete),
+    ("check .", End::Incomplete),
+    ("check", End::WrongWords),
+    ("check --all", End::WrongWords),
+    ("check --help", End::Done),
+];
 
 #[test]
 fn files(rt: HostRuntime) -> Result<(), Fail> {
@@ -106,50 +97,30 @@ fn files(rt: HostRuntime) -> Result<(), Fail> {
         "check2.tap",
         second_of_two(rt.alloc())?.bytes.as_slice(),
     )?;
-    for (line, wanted) in [
-        ("check check1.tap check2.tap", End::Done),
-        ("check check2.tap lost.tap -- check1.tap", End::Done),
-        ("check check1.tap", End::Incomplete),
-        ("check lost.tap", End::Incomplete),
-        ("check .", End::Incomplete),
-        ("check", End::WrongWords),
-        ("check --all", End::WrongWords),
-        ("check --help", End::Done),
-    ] {
-        assert_eq!(rt; perform_line(&rt, line)?, wanted, "{line}");
-    }
-    Ok(())
-}
-
-/// `check` and the names of so many images.
-fn check_words(rt: &HostRuntime, count: u16) -> Result<Vec<String>, Fail> {
-    let mut words = words_of(rt.alloc(), "check")?;
-    for _ in 0..count {
-        words.push("lost.tap".to_string(rt.alloc())?)?;
-    }
-    Ok(words)
+    each_ends(&rt, LINES)
 }
 
 #[test]
 fn at_most_256_images(rt: HostRuntime) -> Result<(), Fail> {
-    let most = check_words(&rt, 256)?;
-    let Order::Check { images } = order_of(rt.alloc(), most.as_slice())? else {
-        return Err(Fail::from("an order to check"));
-    };
-    assert_eq!(rt; images.len(), 256);
-    let more = check_words(&rt, 257)?;
-    assert_eq!(rt; perform(&rt, more.as_slice()), End::WrongWords);
+    let line = with_images(rt.alloc(), "check", 256)?;
+    let words = words_of(rt.alloc(), line.as_str())?;
+    match order_of(rt.alloc(), words.as_slice())? {
+        Order::Check { images } => assert_eq!(rt; images.len(), 256),
+        _ => return Err(Fail::from("an order to check")),
+    }
     Ok(())
 }
 
 #[test]
-fn statuses(rt: HostRuntime) -> Result<(), Fail> {
-    assert_eq!(rt; finish(&rt, End::Incomplete), 3);
+fn not_257_images(rt: HostRuntime) -> Result<(), Fail> {
+    let line = with_images(rt.alloc(), "check", 257)?;
+    ends(&rt, line.as_str(), End::WrongWords)
+}
+
+#[test]
+fn statuses(rt: HostRuntime) {
     let no_memory = Fault::Tool(ToolFault::Run(RunFault::OutOfMemory));
-    assert_eq!(rt; finish(&rt, End::Faulted(no_memory)), 1);
-    assert_eq!(rt;
-        crate::telling::fault_line(no_memory).as_str(),
-        "tape: run fault 4\n"
-    );
-    Ok(())
+    assert!(rt; finish(&rt, End::Incomplete) == 3);
+    assert!(rt; finish(&rt, End::Faulted(no_memory)) == 1);
+    assert_eq!(rt; fault_line(no_memory).as_str(), "tape: run fault 4\n");
 }

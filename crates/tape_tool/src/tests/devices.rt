@@ -53,6 +53,23 @@ pub struct Narrow {
     pub flushes: bool,
 }
 
+impl Narrow {
+    /// A writer that takes so many bytes, and then none.
+    pub fn new(alloc: Global, left: usize, flushes: bool) -> Narrow {
+        Narrow::failing(alloc, left, None, flushes)
+    }
+
+    /// A writer that takes so many bytes, and then fails, or takes none.
+    pub fn failing(alloc: Global, left: usize, kind: Option<ErrorKind>, flushes: bool) -> Narrow {
+        Narrow {
+            taken: Vec::new(alloc),
+            left,
+            kind,
+            flushes,
+        }
+    }
+}
+
 impl Write for Narrow {
     fn write(&mut self, buf: &[u8]) -> Result<usize> {
         if self.left == 0 {
@@ -86,6 +103,17 @@ pub struct FailsOnce {
     pub good: usize,
     pub calls: usize,
     pub kind: Option<ErrorKind>,
+}
+
+impl FailsOnce {
+    pub fn new(alloc: Global, good: usize, kind: Option<ErrorKind>) -> FailsOnce {
+        FailsOnce {
+            taken: Vec::new(alloc),
+            good,
+            calls: 0,
+            kind,
+        }
+    }
 }
 
 impl Write for FailsOnce {

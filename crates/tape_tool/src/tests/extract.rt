@@ -1,13 +1,13 @@
 //! Files got back from images: what is reported, and what is written.
 use super::devices::{Dribble, Narrow};
-use super::image::Image;
+use super::image::{Image, payroll};
 use super::volumes::*;
 use crate::extract::extract_to;
 use crate::extract::line::last_line;
 use crate::fault::{FileFault, ToolFault};
 use crate::form::Form;
 use std::alloc::Global;
-use std::io::{ErrorKind, Read};
+use std::io::{ErrorKind, Read, Write};
 use std::process::Abort;
 use std::test::Fail;
 use tape_core::MemorySink;
@@ -15,284 +15,306 @@ use tape_label::Field;
 use tape_run::Session;
 use tape_set::Want;
 
-/// What `extract` answered, reported and wrote.
-#[derive(Drop)]
-struct Told {
-    answer: Result<Option<Want>, ToolFault>,
-    report: Vec<u8>,
-    out: Vec<u8>,
-}
+/// What `extract` answers.
+type Answer = Result<Option<Want>, ToolFault>;
 
-fn run_over<R: Read>(
+/// File 1 or another one of the set ABC001, from these images.
+fn run<R: Read, W: Write, P: Write>(
     alloc: Global,
     file: u16,
     form: Form,
     images: &mut [Option<R>],
-) -> Result<Told, Fail> {
+    out: &mut W,
+    report: &mut P,
+) -> Result<Answer, Fail> {
     let set_id = Field::of_bytes(*b"ABC001");
     let session = Session::new(alloc, set_id, file, MemorySink::new(alloc))?;
-    let mut report = Vec::new(alloc);
-    let mut out = Vec::new(alloc);
-    let answer = extract_to(session, images, form, &mut out, &mut report);
-    Ok(Told {
-        answer,
-        report,
-        out,
-    })
+    Ok(extract_to(session, images, form, out, report))
 }
 
-/// File 1 from one image: the lines.
-fn reports<H: Abort + AllocGlobal>(rt: &H, image: &[u8], lines: &str) -> Result<(), Fail> {
-    let told = run_over(rt.alloc(), 1, Form::Lines, &mut [Some(image)])?;
-    assert_eq!(rt; told.report.as_slice(), lines.as_bytes());
-    assert!(rt; told.out.is_empty());
+/// The lines over these images, and what is written of the file.
+fn gives<H: Abort + AllocGlobal, R: Read>(
+    rt: &H,
+    form: Form,
+    images: &mut [Option<R>],
+    lines: &str,
+    written: &[u8],
+) -> Result<(), Fail> {
+    let mut report = Vec::new(rt.alloc());
+    let mut out = Vec::new(rt.alloc());
+    let answer = run(rt.alloc(), 1, form, images, &mut out, &mut report)?;
+    assert_eq!(rt; report.as_slice(), lines.as_bytes(), "{lines}");
+    assert!(rt; out.as_slice() == written, "{lines}");
+    assert!(rt; answer == Ok(None), "{lines}");
     Ok(())
 }
 
-/// File 1 from two images: the lines.
-fn reports_both<'a, H: Abort + AllocGlobal>(
+/// The lines over these images, from which something is still wanted.
+fn wants<H: Abort + AllocGlobal, R: Read>(
     rt: &H,
-    a: &'a Image,
-    b: &'a Image,
+    file: u16,
+    images: &mut [Option<R>],
     lines: &str,
 ) -> Result<(), Fail> {
-    let images = &mut [Some(a.bytes.as_slice()), Some(b.bytes.as_slice())];
-    let told = run_over(rt.alloc(), 1, Form::Lines, images)?;
-    assert_eq!(rt; told.report.as_slice(), lines.as_bytes());
+    let mut report = Vec::new(rt.alloc());
+    let mut out = Vec::new(rt.alloc());
+    let answer = run(rt.alloc(), file, Form::Lines, images, &mut out, &mut report)?;
+    assert_eq!(rt; report.as_slice(), lines.as_bytes(), "{lines}");
+    assert!(rt; out.is_empty(), "{lines}");
+    assert!(rt; matches!(answer, Ok(Some(_))), "{lines}");
     Ok(())
 }
 
-/// The 25 records of the worked file, with this behind each.
-fn records(alloc: Global, end: &[u8]) -> Result<Vec<u8>, Fail> {
-    let mut text = Vec::new(alloc);
-    for number in 1..26u8 {
-        text.extend_from_slice(&[b'0', b'0', b'0' + number / 10, b'0' + number % 10])?;
-        text.extend_from_slice(&[b' '; 76])?;
-        text.extend_from_slice(end)?;
-    }
-    Ok(text)
+/// What is told where images are taken of which none completes file 1.
+fn reports<H: Abort + AllocGlobal>(rt: &H, image: Image, lines: &str) -> Result<(), Fail> {
+    wants(rt, 1, &mut [Some(image.bytes.as_slice())], lines)
+}
+
+/// The same of two images.
+fn reports_both<H: Abort + AllocGlobal>(
+    rt: &H,
+    first: Image,
+    second: Image,
+    lines: &str,
+) -> Result<(), Fail> {
+    let (first, second) = (first.bytes.as_slice(), second.bytes.as_slice());
+    wants(rt, 1, &mut [Some(first), Some(second)], lines)
+}
+
+/// The worked file comes whole from this image and the worked one behind it.
+fn completes<H: Abort + AllocGlobal>(rt: &H, first: Image, lines: &str) -> Result<(), Fail> {
+    let second = worked(rt.alloc())?;
+    let records = payroll(rt.alloc(), b"\n")?;
+    let images = &mut [Some(first.bytes.as_slice()), Some(second.bytes.as_slice())];
+    gives(rt, Form::Lines, images, lines, records.as_slice())
 }
 
 #[test]
 fn a_whole_file_in_both_forms(rt: HostRuntime) -> Result<(), Fail> {
-    let image = Image::worked(rt.alloc(), &[])?;
+    let image = worked(rt.alloc())?;
+    let lines = "REEL 1 COMPLETE\nCOMPLETE 25\n";
     for (form, end) in [(Form::Lines, b"\n".as_slice()), (Form::Raw, b"".as_slice())] {
-        let told = run_over(rt.alloc(), 1, form, &mut [Some(image.bytes.as_slice())])?;
-        assert_eq!(rt; told.answer, Ok(None));
-        assert_eq!(rt;
-            told.report.as_slice(),
-            b"REEL 1 COMPLETE\nCOMPLETE 25\n".as_slice()
-        );
-        assert_eq!(rt; told.out.as_slice(), records(rt.alloc(), end)?.as_slice());
+        let records = payroll(rt.alloc(), end)?;
+        let images = &mut [Some(image.bytes.as_slice())];
+        gives(&rt, form, images, lines, records.as_slice())?;
     }
     Ok(())
 }
 
 #[test]
 fn an_empty_file(rt: HostRuntime) -> Result<(), Fail> {
-    let mut image = Image::new(rt.alloc());
-    image.front(HDR1, FIXED)?;
-    image.back(EOF_NONE)?;
-    reports(&rt, image.bytes.as_slice(), "REEL 1 COMPLETE\nCOMPLETE 0\n")
+    let image = reel(rt.alloc(), &[VOL1, HDR1, FIXED], &[], &[EOF_NONE])?;
+    let lines = "REEL 1 COMPLETE\nCOMPLETE 0\n";
+    gives(
+        &rt,
+        Form::Lines,
+        &mut [Some(image.bytes.as_slice())],
+        lines,
+        b"",
+    )
 }
 
+/// The spanned record comes whole from its first volume, between two copies of the second one.
 #[test]
 fn sections_in_any_order(rt: HostRuntime) -> Result<(), Fail> {
     let first = spanned_first(rt.alloc())?;
     let second = spanned_second(rt.alloc())?;
-    let one = first.bytes.as_slice();
-    let two = second.bytes.as_slice();
-    reports(&rt, two, "REEL 1 LATER SECTION\nAWAITS 1 1 0\n")?;
-    reports(&rt, one, "REEL 1 SECTION DONE\nAWAITS 1 2 0\n")?;
+    let mut record = [b'R'; 291];
+    record[290] = b'\n';
+    let (one, two) = (first.bytes.as_slice(), second.bytes.as_slice());
     let images = &mut [Some(two), Some(one), Some(two)];
-    let told = run_over(rt.alloc(), 1, Form::Lines, images)?;
-    assert_eq!(rt;
-        told.report.as_slice(),
-        b"REEL 1 LATER SECTION\nREEL 2 SECTION DONE\nREEL 3 COMPLETE\nCOMPLETE 1\n".as_slice()
-    );
-    let mut record = Vec::new(rt.alloc());
-    record.extend_from_slice(&[b'R'; 290])?;
-    record.push(b'\n')?;
-    assert_eq!(rt; told.out.as_slice(), record.as_slice());
+    let lines = "REEL 1 LATER SECTION\nREEL 2 SECTION DONE\nREEL 3 COMPLETE\nCOMPLETE 1\n";
+    gives(&rt, Form::Lines, images, lines, &record)
+}
+
+#[test]
+fn sections_that_lack_others(rt: HostRuntime) -> Result<(), Fail> {
+    let lines = "REEL 1 LATER SECTION\nAWAITS 1 1 0\n";
+    reports(&rt, spanned_second(rt.alloc())?, lines)?;
+    let lines = "REEL 1 SECTION DONE\nAWAITS 1 2 0\n";
+    reports(&rt, spanned_first(rt.alloc())?, lines)?;
+    let lines = "REEL 1 SECTION DONE\nREEL 2 EARLIER SECTION\nAWAITS 1 2 0\n";
     reports_both(
         &rt,
-        &first,
-        &first,
-        "REEL 1 SECTION DONE\nREEL 2 EARLIER SECTION\nAWAITS 1 2 0\n",
+        spanned_first(rt.alloc())?,
+        spanned_first(rt.alloc())?,
+        lines,
     )
 }
+
+/// How much of the worked image is there, and what is told of it.
+const CUTS: &[(usize, &str)] = &[
+    (2288, "REEL 1 REEL ENDED IMAGE 1 1884\nAWAITS 1 1 2\n"),
+    (1885, "REEL 1 REEL ENDED IMAGE 1 1884\nAWAITS 1 1 2\n"),
+    (2292, "REEL 1 REEL ENDED\nAWAITS 1 1 3\n"),
+    (0, "REEL 1 REEL ENDED\nAWAITS 1 1 0\n"),
+];
 
 #[test]
 fn reels_that_are_cut_off(rt: HostRuntime) -> Result<(), Fail> {
-    let whole = Image::worked(rt.alloc(), &[])?;
-    for (cut, lines) in [
-        (2288, "REEL 1 REEL ENDED IMAGE 1 1884\nAWAITS 1 1 2\n"),
-        (1885, "REEL 1 REEL ENDED IMAGE 1 1884\nAWAITS 1 1 2\n"),
-        (2292, "REEL 1 REEL ENDED\nAWAITS 1 1 3\n"),
-        (0, "REEL 1 REEL ENDED\nAWAITS 1 1 0\n"),
-    ] {
-        let image = whole.bytes.as_slice();
-        assert!(rt; cut <= image.len());
-        reports(&rt, &image[..cut], lines)?;
+    for (length, lines) in CUTS {
+        reports(&rt, worked(rt.alloc())?.cut(*length), lines)?;
     }
-    let mut cut = Image::worked(rt.alloc(), &[])?;
-    cut.bytes.truncate(2292);
-    reports_both(
-        &rt,
-        &cut,
-        &whole,
-        "REEL 1 REEL ENDED\nREEL 2 COMPLETE\nCOMPLETE 25\n",
-    )
+    let lines = "REEL 1 REEL ENDED\nREEL 2 COMPLETE\nCOMPLETE 25\n";
+    completes(&rt, worked(rt.alloc())?.cut(2292), lines)
 }
+
+/// Volumes of one block: the labels and the block, and what is told of it.
+const GIVE_NOTHING: &[(&str, &str, &[u8], &str)] = &[
+    (
+        "HDR1PAYROLL          XYZ00100010001000100 00000 00000 000000",
+        FIXED,
+        &[b'A'; 80],
+        "REEL 1 OTHER SET\nAWAITS 1 1 0\n",
+    ),
+    (
+        HDR1,
+        FIXED,
+        &[b'X'; 81],
+        "REEL 1 BAD BLOCK 2 80\nAWAITS 1 1 0\n",
+    ),
+    (
+        HDR1,
+        SPANNED,
+        b"10018RRRRRRRRRRRRR",
+        "REEL 1 SPAN LEFT\nAWAITS 1 1 1\n",
+    ),
+    (
+        HDR1,
+        SPANNED,
+        b"20018RRRRRRRRRRRRR",
+        "REEL 1 BAD BLOCK 6 0\nAWAITS 1 1 0\n",
+    ),
+    (
+        HDR1,
+        HDR1,
+        &[b'A'; 80],
+        "REEL 1 BAD LABEL 2\nAWAITS 1 1 0\n",
+    ),
+];
 
 #[test]
 fn reels_that_give_nothing(rt: HostRuntime) -> Result<(), Fail> {
-    let blank = blank(rt.alloc())?;
-    let head = "HDR1PAYROLL          XYZ00100010001000100 00000 00000 000000";
-    let other = one_block(rt.alloc(), head, FIXED, &[b'A'; 80], EOF_ONE)?;
-    let long = one_block(rt.alloc(), HDR1, FIXED, &[b'X'; 81], EOF_ONE)?;
-    let left = one_block(rt.alloc(), HDR1, SPANNED, b"10018RRRRRRRRRRRRR", EOF_ONE)?;
-    let late = one_block(rt.alloc(), HDR1, SPANNED, b"20018RRRRRRRRRRRRR", EOF_ONE)?;
-    let label = one_block(rt.alloc(), HDR1, HDR1, &[b'A'; 80], EOF_ONE)?;
-    for (image, lines) in [
-        (blank, "REEL 1 NOT LABELLED\nAWAITS 1 1 0\n"),
-        (other, "REEL 1 OTHER SET\nAWAITS 1 1 0\n"),
-        (long, "REEL 1 BAD BLOCK 2 80\nAWAITS 1 1 0\n"),
-        (left, "REEL 1 SPAN LEFT\nAWAITS 1 1 1\n"),
-        (late, "REEL 1 BAD BLOCK 6 0\nAWAITS 1 1 0\n"),
-        (label, "REEL 1 BAD LABEL 2\nAWAITS 1 1 0\n"),
-    ] {
-        reports(&rt, image.bytes.as_slice(), lines)?;
+    let lines = "REEL 1 NOT LABELLED\nAWAITS 1 1 0\n";
+    reports(&rt, blank(rt.alloc())?, lines)?;
+    for (head, format, block, lines) in GIVE_NOTHING {
+        let image = one_block(rt.alloc(), head, format, block, EOF_ONE)?;
+        reports(&rt, image, lines)?;
     }
     Ok(())
 }
 
 #[test]
 fn another_file_of_the_set(rt: HostRuntime) -> Result<(), Fail> {
-    let image = Image::worked(rt.alloc(), &[])?;
-    let told = run_over(
-        rt.alloc(),
-        2,
-        Form::Raw,
-        &mut [Some(image.bytes.as_slice())],
-    )?;
-    assert_eq!(rt;
-        told.report.as_slice(),
-        b"REEL 1 NOT ON REEL\nAWAITS 2 1 0\n".as_slice()
-    );
-    Ok(())
+    let image = worked(rt.alloc())?;
+    let lines = "REEL 1 NOT ON REEL\nAWAITS 2 1 0\n";
+    wants(&rt, 2, &mut [Some(image.bytes.as_slice())], lines)
 }
 
 #[test]
 fn damaged_copies(rt: HostRuntime) -> Result<(), Fail> {
-    let whole = Image::worked(rt.alloc(), &[])?;
-    let bad = worked_bad(rt.alloc())?;
-    reports(&rt, bad.bytes.as_slice(), "REEL 1 BAD ITEM\nAWAITS 1 1 1\n")?;
+    let lines = "REEL 1 BAD ITEM\nAWAITS 1 1 1\n";
+    reports(&rt, worked_bad(rt.alloc())?, lines)?;
+    let lines = "REEL 1 BAD ITEM\nREEL 2 COMPLETE\nCOMPLETE 25\n";
+    completes(&rt, worked_bad(rt.alloc())?, lines)?;
+    let lines = "REEL 1 BLOCK COUNT 4 3\nREEL 2 BROKEN\nAWAITS 1 1 3\n";
     reports_both(
         &rt,
-        &bad,
-        &whole,
-        "REEL 1 BAD ITEM\nREEL 2 COMPLETE\nCOMPLETE 25\n",
-    )?;
-    let four = worked_with(rt.alloc(), EOF_FOUR)?;
-    reports_both(
-        &rt,
-        &four,
-        &whole,
-        "REEL 1 BLOCK COUNT 4 3\nREEL 2 BROKEN\nAWAITS 1 1 3\n",
-    )?;
-    let mut cut = Image::worked(rt.alloc(), &[])?;
-    cut.bytes.truncate(1884);
+        worked_with(rt.alloc(), EOF_FOUR)?,
+        worked(rt.alloc())?,
+        lines,
+    )
+}
+
+/// A section that is another one than that which was begun.
+#[test]
+fn a_section_that_differs(rt: HostRuntime) -> Result<(), Fail> {
+    let cut = worked(rt.alloc())?.cut(1884);
     let head = "HDR1PAYMENTS         ABC00100010001000100 00000 00000 000000";
     let other = one_block(rt.alloc(), head, FIXED, &[b'A'; 80], EOF_ONE)?;
-    reports_both(
-        &rt,
-        &cut,
-        &other,
-        "REEL 1 REEL ENDED\nREEL 2 SECTION DIFFERS\nAWAITS 1 1 2\n",
-    )
+    let lines = "REEL 1 REEL ENDED\nREEL 2 SECTION DIFFERS\nAWAITS 1 1 2\n";
+    reports_both(&rt, cut, other, lines)
 }
 
 /// One that was not opened keeps its number, and none is read behind the completing one.
 #[test]
 fn images_that_are_not_read(rt: HostRuntime) -> Result<(), Fail> {
-    let image = Image::worked(rt.alloc(), &[])?;
+    let image = worked(rt.alloc())?;
+    let records = payroll(rt.alloc(), b"\n")?;
     let bytes = image.bytes.as_slice();
     let images = &mut [None, Some(bytes), Some(bytes), None];
-    let told = run_over(rt.alloc(), 1, Form::Lines, images)?;
-    assert_eq!(rt;
-        told.report.as_slice(),
-        b"REEL 1 NOT OPENED\nREEL 2 COMPLETE\nCOMPLETE 25\n".as_slice()
-    );
-    Ok(())
+    let lines = "REEL 1 NOT OPENED\nREEL 2 COMPLETE\nCOMPLETE 25\n";
+    gives(&rt, Form::Lines, images, lines, records.as_slice())
 }
 
 /// A reader that fails is told in its line, at the place of the item that it was in.
 #[test]
 fn a_reader_that_fails(rt: HostRuntime) -> Result<(), Fail> {
-    let image = Image::worked(rt.alloc(), &[])?;
+    let image = worked(rt.alloc())?;
     let dribble = Dribble {
         bytes: image.bytes.as_slice(),
         left: 300,
         kind: ErrorKind::Interrupted,
     };
-    let told = run_over(rt.alloc(), 1, Form::Lines, &mut [Some(dribble)])?;
-    assert_eq!(rt;
-        told.report.as_slice(),
-        b"REEL 1 REEL ENDED IMAGE 5 268\nAWAITS 1 1 0\n".as_slice()
-    );
-    Ok(())
+    let lines = "REEL 1 REEL ENDED IMAGE 5 268\nAWAITS 1 1 0\n";
+    wants(&rt, 1, &mut [Some(dribble)], lines)
 }
 
-fn narrow(alloc: Global, left: usize, flushes: bool) -> Narrow {
-    Narrow {
-        taken: Vec::new(alloc),
-        left,
-        kind: None,
-        flushes,
-    }
+/// What `extract` of the worked file answers to these writers.
+fn extract_worked(alloc: Global, out: &mut Narrow, report: &mut Narrow) -> Result<Answer, Fail> {
+    let image = worked(alloc)?;
+    let images = &mut [Some(image.bytes.as_slice())];
+    run(alloc, 1, Form::Lines, images, out, report)
 }
+
+/// The report where nothing fails.
+const SAID: &[u8] = b"REEL 1 COMPLETE\nCOMPLETE 25\n";
+
+/// How many bytes the writers of the file and of the report take, and whether they can be flushed;
+/// and how much is told and written then.
+const NARROW: &[(usize, bool, usize, bool, usize, usize)] = &[
+    (100, true, 100, true, 16, 100),
+    (2025, false, 100, true, 16, 2025),
+    (2025, true, 10, true, 10, 0),
+    (2025, true, 20, true, 20, 2025),
+    (2025, true, 100, false, 28, 2025),
+];
 
 /// Writers that fail: the fault, and what stands.
 #[test]
 fn writers_that_fail(rt: HostRuntime) -> Result<(), Fail> {
-    let image = Image::worked(rt.alloc(), &[])?;
-    let not_written = Err(ToolFault::File(FileFault::WriteFailed));
-    let said = b"REEL 1 COMPLETE\nCOMPLETE 25\n";
-    for (out_left, out_flushes, report_left, report_flushes, told, written) in [
-        (100, true, 100, true, 16, 100),
-        (2025, false, 100, true, 16, 2025),
-        (2025, true, 10, true, 10, 0),
-        (2025, true, 20, true, 20, 2025),
-        (2025, true, 100, false, 28, 2025),
-    ] {
-        let set_id = Field::of_bytes(*b"ABC001");
-        let session = Session::new(rt.alloc(), set_id, 1, MemorySink::new(rt.alloc()))?;
-        let mut out = narrow(rt.alloc(), out_left, out_flushes);
-        let mut report = narrow(rt.alloc(), report_left, report_flushes);
-        let images = &mut [Some(image.bytes.as_slice())];
-        let answer = extract_to(session, images, Form::Lines, &mut out, &mut report);
-        assert_eq!(rt; answer, not_written);
-        assert!(rt; told <= said.len());
-        assert_eq!(rt; report.taken.as_slice(), &said[..told]);
-        assert_eq!(rt; out.taken.len(), written);
+    for (row, (out_left, out_flushes, left, flushes, told, written)) in NARROW.iter().enumerate() {
+        let mut out = Narrow::new(rt.alloc(), *out_left, *out_flushes);
+        let mut report = Narrow::new(rt.alloc(), *left, *flushes);
+        let answer = extract_worked(rt.alloc(), &mut out, &mut report)?;
+        assert!(rt;
+            answer == Err(ToolFault::File(FileFault::WriteFailed)),
+            "row {row}"
+        );
+        assert!(rt; report.taken.len() == *told, "row {row}");
+        assert!(rt; SAID.starts_with(report.taken.as_slice()), "row {row}");
+        assert!(rt; out.taken.len() == *written, "row {row}");
     }
     Ok(())
 }
 
+/// The last block of the last file, from this part on.
+fn last_block(part: u32) -> Want {
+    Want {
+        file: 9999,
+        sect: 1,
+        block: 4_294_967_295,
+        part,
+    }
+}
+
 #[test]
 fn last_lines(rt: HostRuntime) {
-    for (part, line) in [
-        (0, "AWAITS 9999 1 4294967295\n"),
-        (7, "AWAITS 9999 1 4294967295 7\n"),
+    for (want, line) in [
+        (Some(last_block(0)), "AWAITS 9999 1 4294967295\n"),
+        (Some(last_block(7)), "AWAITS 9999 1 4294967295 7\n"),
+        (None, "COMPLETE 3\n"),
     ] {
-        let want = Want {
-            file: 9999,
-            sect: 1,
-            block: 4_294_967_295,
-            part,
-        };
-        assert_eq!(rt; last_line(Some(want), 3).as_str(), line);
+        assert_eq!(rt; last_line(want, 3).as_str(), line);
     }
-    assert_eq!(rt; last_line(None, 3).as_str(), "COMPLETE 3\n");
 }

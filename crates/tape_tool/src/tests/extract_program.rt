@@ -1,142 +1,135 @@
-//! `extract` as it is called: words, files, ends. The tests share a folder: each file has a name of
-//! its own.
-use super::image::Image;
+//! `extract` as it is called: words, files, ends.
+use super::calls::{Step, each_is_wrong, ends, take_all, with_images};
 use super::words::words_of;
 use crate::end::{End, extract_end, finish};
 use crate::fault::{Fault, FileFault, ToolFault};
 use crate::form::Form;
-use crate::program::perform;
 use crate::telling::fault_line;
-use crate::words::{Order, order_of};
-use std::fs;
-use std::fs::File;
-use std::io::Write;
+use crate::words::{Extract, Order, order_of};
+use std::process::Abort;
 use std::test::Fail;
 use tape_core::SinkFault;
 use tape_run::RunFault;
 use tape_set::Want;
 use tape_stage::StageFault;
 
-/// Puts the worked image, or a front of it, into a file.
-fn put_image(rt: &HostRuntime, name: &str, length: usize) -> Result<(), Fail> {
-    let mut image = Image::worked(rt.alloc(), &[])?;
-    image.bytes.truncate(length);
-    let mut file = File::create(rt, name)?;
-    file.write_all(image.bytes.as_slice())?;
-    Ok(())
-}
-
-fn perform_line(rt: &HostRuntime, line: &str) -> Result<End, Fail> {
-    let words = words_of(rt.alloc(), line)?;
-    Ok(perform(rt, words.as_slice()))
-}
+const WRITTEN: &[Step<'_>] = &[
+    Step::PutWorked("got.tap", 2484),
+    Step::Ends("extract ABC001 1 got.txt got.tap", End::Done),
+    Step::HasLength("got.txt", 2025),
+    Step::Ends(
+        "extract --form raw ABC001 1 got.txt lost.tap got.tap lost.tap",
+        End::Done,
+    ),
+    Step::HasLength("got.txt", 2000),
+];
 
 #[test]
 fn a_file_is_written(rt: HostRuntime) -> Result<(), Fail> {
-    put_image(&rt, "got.tap", 2484)?;
-    assert_eq!(rt;
-        perform_line(&rt, "extract ABC001 1 got.txt got.tap")?,
-        End::Done
-    );
-    assert_eq!(rt; fs::read(&rt, "got.txt")?.len(), 2025);
-    let line = "extract --form raw ABC001 1 got.txt lost.tap got.tap lost.tap";
-    assert_eq!(rt; perform_line(&rt, line)?, End::Done);
-    assert_eq!(rt; fs::read(&rt, "got.txt")?.len(), 2000);
-    Ok(())
+    take_all(&rt, WRITTEN)
 }
+
+const NOT_COMPLETE: &[Step<'_>] = &[
+    Step::PutWorked("part.tap", 2288),
+    Step::Put("stays.txt", b"kept"),
+    Step::Ends("extract ABC001 1 stays.txt part.tap", End::Incomplete),
+    Step::Holds("stays.txt", b"kept"),
+    Step::Ends("extract ABC001 1 no.txt lost.tap", End::Incomplete),
+    Step::IsMissing("no.txt"),
+    Step::Ends("extract ABC001 1 missing/no.txt part.tap", End::Incomplete),
+];
 
 /// While something is wanted what is there stays, and nothing is made.
 #[test]
 fn a_file_that_is_not_complete(rt: HostRuntime) -> Result<(), Fail> {
-    put_image(&rt, "part.tap", 2288)?;
-    let mut file = File::create(&rt, "stays.txt")?;
-    file.write_all(b"kept")?;
-    drop(file);
-    assert_eq!(rt;
-        perform_line(&rt, "extract ABC001 1 stays.txt part.tap")?,
-        End::Incomplete
-    );
-    assert_eq!(rt; fs::read(&rt, "stays.txt")?.as_slice(), b"kept".as_slice());
-    assert_eq!(rt;
-        perform_line(&rt, "extract ABC001 1 no.txt lost.tap")?,
-        End::Incomplete
-    );
-    assert!(rt; fs::read(&rt, "no.txt").is_err());
-    let line = "extract ABC001 1 missing/no.txt part.tap";
-    assert_eq!(rt; perform_line(&rt, line)?, End::Incomplete);
-    Ok(())
+    take_all(&rt, NOT_COMPLETE)
 }
+
+const NOT_MADE: &[Step<'_>] = &[
+    Step::PutWorked("made.tap", 2484),
+    Step::Fails(
+        "extract ABC001 1 missing/no.txt made.tap",
+        ToolFault::File(FileFault::NotOpened),
+    ),
+];
 
 #[test]
 fn a_file_that_cannot_be_made(rt: HostRuntime) -> Result<(), Fail> {
-    put_image(&rt, "made.tap", 2484)?;
-    let not_made = End::Faulted(Fault::Tool(ToolFault::File(FileFault::NotOpened)));
-    let line = "extract ABC001 1 missing/no.txt made.tap";
-    assert_eq!(rt; perform_line(&rt, line)?, not_made);
-    Ok(())
+    take_all(&rt, NOT_MADE)
+}
+
+/// Lines that are no call of `extract`.
+const WRONG: &[&str] = &[
+    "extract",
+    "extract ABC001 1 out.txt",
+    "extract ABC0011 1 out.txt a.tap",
+    "extract ABC001 0 out.txt a.tap",
+    "extract ABC001 10000 out.txt a.tap",
+    "extract ABC001 one out.txt a.tap",
+    "extract --form records ABC001 1 out.txt a.tap",
+];
+
+/// What `extract AB 9999 out.txt a.tap b.tap` asks for.
+fn is_order<A: Abort>(rt: &A, order: &Extract<'_>) {
+    assert!(rt; order.set_id.bytes() == b"AB    ".as_slice());
+    assert!(rt; order.file == 9999 && order.form == Form::Lines);
+    assert!(rt; order.out == "out.txt");
+    assert!(rt; matches!(order.images.as_slice(), ["a.tap", "b.tap"]));
 }
 
 #[test]
 fn words_of_extract(rt: HostRuntime) -> Result<(), Fail> {
-    for line in [
-        "extract",
-        "extract ABC001 1 out.txt",
-        "extract ABC0011 1 out.txt a.tap",
-        "extract ABC001 0 out.txt a.tap",
-        "extract ABC001 10000 out.txt a.tap",
-        "extract ABC001 one out.txt a.tap",
-        "extract --form records ABC001 1 out.txt a.tap",
-    ] {
-        assert_eq!(rt; perform_line(&rt, line)?, End::WrongWords, "{line}");
-    }
+    each_is_wrong(&rt, WRONG)?;
     let words = words_of(rt.alloc(), "extract AB 9999 out.txt a.tap b.tap")?;
-    let order = order_of(rt.alloc(), words.as_slice())?;
-    let Order::Extract(order) = order else {
-        return Err(Fail::from("an order to extract"));
-    };
-    assert_eq!(rt; order.set_id.bytes(), b"AB    ".as_slice());
-    assert_eq!(rt;
-        (order.file, order.out, order.form),
-        (9999, "out.txt", Form::Lines)
-    );
-    assert!(rt; matches!(order.images.as_slice(), ["a.tap", "b.tap"]));
+    match order_of(rt.alloc(), words.as_slice())? {
+        Order::Extract(order) => is_order(&rt, &order),
+        _ => return Err(Fail::from("an order to extract")),
+    }
     Ok(())
 }
 
 #[test]
 fn at_most_256_images(rt: HostRuntime) -> Result<(), Fail> {
-    let mut words = words_of(rt.alloc(), "extract ABC001 1 many.txt")?;
-    for _ in 0..256u16 {
-        words.push("lost.tap".to_string(rt.alloc())?)?;
+    for (count, wanted) in [(256, End::Incomplete), (257, End::WrongWords)] {
+        let line = with_images(rt.alloc(), "extract ABC001 1 many.txt", count)?;
+        ends(&rt, line.as_str(), wanted)?;
     }
-    assert_eq!(rt; perform(&rt, words.as_slice()), End::Incomplete);
-    words.push("lost.tap".to_string(rt.alloc())?)?;
-    assert_eq!(rt; perform(&rt, words.as_slice()), End::WrongWords);
     Ok(())
 }
 
+/// The wanted position at the start of file 1.
+const START: Want = Want {
+    file: 1,
+    sect: 1,
+    block: 0,
+    part: 0,
+};
+
+/// Faults and how each is told.
+const FAULTS: &[(ToolFault, &str)] = &[
+    (
+        ToolFault::Run(RunFault::Sink(SinkFault::OutOfMemory)),
+        "tape: run fault 1\n",
+    ),
+    (ToolFault::Run(RunFault::OutOfMemory), "tape: run fault 4\n"),
+    (
+        ToolFault::Stage(StageFault::Device),
+        "tape: stage fault 3\n",
+    ),
+];
+
 #[test]
 fn ends_and_fault_lines(rt: HostRuntime) {
-    let want = Want {
-        file: 1,
-        sect: 1,
-        block: 0,
-        part: 0,
-    };
-    assert_eq!(rt; finish(&rt, extract_end(Ok(Some(want)))), 3);
-    assert_eq!(rt; finish(&rt, extract_end(Ok(None))), 0);
-    for (fault, line) in [
-        (
-            ToolFault::Run(RunFault::Sink(SinkFault::OutOfMemory)),
-            "tape: run fault 1\n",
-        ),
-        (ToolFault::Run(RunFault::OutOfMemory), "tape: run fault 4\n"),
-        (
-            ToolFault::Stage(StageFault::Device),
-            "tape: stage fault 3\n",
-        ),
-    ] {
-        assert_eq!(rt; extract_end(Err(fault)), End::Faulted(Fault::Tool(fault)));
-        assert_eq!(rt; fault_line(Fault::Tool(fault)).as_str(), line);
+    assert!(rt; finish(&rt, extract_end(Ok(Some(START)))) == 3);
+    assert!(rt; finish(&rt, extract_end(Ok(None))) == 0);
+    for (fault, line) in FAULTS {
+        let fault = Fault::Tool(*fault);
+        assert_eq!(rt; fault_line(fault).as_str(), *line);
+    }
+    for (fault, line) in FAULTS {
+        assert!(rt;
+            extract_end(Err(*fault)) == End::Faulted(Fault::Tool(*fault)),
+            "{line}"
+        );
     }
 }

@@ -1,56 +1,54 @@
 //! Images that can't be read on, devices that fail, and how a fault is told.
 use super::devices::{Dribble, FailsOnce, Narrow};
 use super::image::{GAP, Image, MARK, WORKED};
+use super::volumes::worked;
 use crate::fault::{Fault, FileFault, ToolFault};
 use crate::list::list_to;
 use crate::telling::fault_line;
 use std::alloc::{AllocError, Global};
-use std::io::ErrorKind;
+use std::io::{ErrorKind, Read};
 use std::process::Abort;
 use std::test::Fail;
 use tape_image::{ImageCause, ImageFault};
+
+const NOT_WRITTEN: Result<(), ToolFault> = Err(ToolFault::File(FileFault::WriteFailed));
 
 fn fault_at(place: u64, cause: ImageCause) -> ToolFault {
     ToolFault::Image(ImageFault { place, cause })
 }
 
-/// These bytes end in the fault, behind so many lines of the worked listing.
-fn check<A: Abort>(
-    rt: &A,
-    alloc: Global,
-    bytes: &[u8],
+/// What this reader gives ends in the fault, behind so many lines of the worked listing. The case
+/// is told where it does not.
+fn check<H: Abort + AllocGlobal, R: Read>(
+    rt: &H,
+    reader: &mut R,
     fault: ToolFault,
     lines: usize,
-) -> Result<(), Fail> {
-    let mut reader = bytes;
-    let mut out = Vec::new(alloc);
-    assert_eq!(rt;
-        list_to(alloc, &mut reader, &mut out),
-        Err(fault),
-        "{fault:?}"
-    );
-    assert_eq!(rt;
-        out.as_slice(),
-        first_lines(alloc, lines)?.as_slice(),
-        "{fault:?}"
-    );
-    Ok(())
+    case: usize,
+) {
+    let mut out = Vec::new(rt.alloc());
+    let answer = list_to(rt.alloc(), reader, &mut out);
+    assert!(rt; answer == Err(fault), "{case}: {answer:?}");
+    assert!(rt; out.as_slice() == first_lines(lines), "{case}");
 }
 
 /// The first lines of the worked listing.
-fn first_lines(alloc: Global, count: usize) -> Result<Vec<u8>, AllocError> {
-    let mut text = Vec::new(alloc);
-    for line in WORKED.lines().take(count) {
-        text.extend_from_slice(line.as_bytes())?;
-        text.push(b'\n')?;
+fn first_lines(count: usize) -> &'static [u8] {
+    let mut left = count;
+    let mut length = 0;
+    for (place, byte) in WORKED.as_bytes().iter().enumerate() {
+        if left > 0 && *byte == b'\n' {
+            left -= 1;
+            length = place.saturating_add(1);
+        }
     }
-    Ok(text)
+    WORKED.as_bytes().get(..length).unwrap_or(&[])
 }
 
 /// The worked image, with these bytes in the place of those at a place.
-fn worked_with(alloc: Global, place: usize, bytes: &[u8]) -> Result<Vec<u8>, AllocError> {
-    let mut image = Image::worked(alloc, &[])?.bytes;
-    for (slot, byte) in image.iter_mut().skip(place).zip(bytes) {
+fn worked_with(alloc: Global, place: usize, bytes: &[u8]) -> Result<Image, AllocError> {
+    let mut image = worked(alloc)?;
+    for (slot, byte) in image.bytes.iter_mut().skip(place).zip(bytes) {
         *slot = *byte;
     }
     Ok(image)
@@ -59,45 +57,49 @@ fn worked_with(alloc: Global, place: usize, bytes: &[u8]) -> Result<Vec<u8>, All
 #[test]
 fn cut_images(rt: HostRuntime) -> Result<(), Fail> {
     for count in [2288, 1885] {
-        let mut cut = Image::worked(rt.alloc(), &[])?.bytes;
-        cut.truncate(count);
+        let image = worked(rt.alloc())?.cut(count);
         let fault = fault_at(1884, ImageCause::Truncated);
-        check(&rt, rt.alloc(), cut.as_slice(), fault, 6)?;
+        check(&rt, &mut image.bytes.as_slice(), fault, 6, count);
     }
     Ok(())
 }
 
-/// The first data block begins behind three labels and a mark.
+/// Places, bytes that stand there, and what is wrong then. The first data block begins behind
+/// three labels and a mark.
+const DAMAGED: &[(usize, &[u8], ImageCause)] = &[
+    (1072, &[0x21], ImageCause::LengthsDiffer),
+    (
+        268,
+        &[0xFF, 0xFF, 0xFE, 0xFF],
+        ImageCause::Reserved(0xFFFE_FFFF),
+    ),
+    (
+        268,
+        &[0x01, 0x00, 0x00, 0x10],
+        ImageCause::Reserved(0x1000_0001),
+    ),
+];
+
 #[test]
 fn damaged_words(rt: HostRuntime) -> Result<(), Fail> {
-    let cases: [(usize, &[u8], ImageCause); 3] = [
-        (1072, &[0x21], ImageCause::LengthsDiffer),
-        (
-            268,
-            &[0xFF, 0xFF, 0xFE, 0xFF],
-            ImageCause::Reserved(0xFFFE_FFFF),
-        ),
-        (
-            268,
-            &[0x01, 0x00, 0x00, 0x10],
-            ImageCause::Reserved(0x1000_0001),
-        ),
-    ];
-    for (place, bytes, cause) in cases {
-        let image = worked_with(rt.alloc(), place, bytes)?;
-        check(&rt, rt.alloc(), image.as_slice(), fault_at(268, cause), 4)?;
+    for (row, (place, bytes, cause)) in DAMAGED.iter().enumerate() {
+        let image = worked_with(rt.alloc(), *place, bytes)?;
+        let fault = fault_at(268, *cause);
+        check(&rt, &mut image.bytes.as_slice(), fault, 4, row);
     }
     Ok(())
 }
+
+/// Where the items of the worked image begin, and where it ends.
+const STARTS: [usize; 14] = [
+    0, 88, 176, 264, 268, 1076, 1884, 2292, 2296, 2384, 2472, 2476, 2480, 2484,
+];
 
 /// The place of the item under way when so many bytes were given, and the number of items before
 /// it.
 fn under_way(given: usize) -> (u64, usize) {
-    let starts = [
-        0usize, 88, 176, 264, 268, 1076, 1884, 2292, 2296, 2384, 2472, 2476, 2480,
-    ];
     let mut found = (0, 0);
-    for (items, start) in starts.iter().enumerate() {
+    for (items, start) in STARTS.iter().enumerate() {
         if *start <= given {
             found = (*start as u64, items);
         }
@@ -105,86 +107,71 @@ fn under_way(given: usize) -> (u64, usize) {
     found
 }
 
+/// A reader that gives so many bytes of the image and fails.
+fn fails_after<H: Abort + AllocGlobal>(rt: &H, image: &Image, given: usize, kind: ErrorKind) {
+    let mut reader = Dribble {
+        bytes: image.bytes.as_slice(),
+        left: given,
+        kind,
+    };
+    let (place, items) = under_way(given);
+    let fault = fault_at(place, ImageCause::Device);
+    check(rt, &mut reader, fault, items, given);
+}
+
 #[test]
 fn a_reader_fails(rt: HostRuntime) -> Result<(), Fail> {
-    let worked = Image::worked(rt.alloc(), &[])?;
-    for (given, kind) in (0..2484usize).zip(
-        [ErrorKind::Other, ErrorKind::Interrupted].iter().cycle(),
-    ) {
-        let mut reader = Dribble {
-            bytes: worked.bytes.as_slice(),
-            left: given,
-            kind: *kind,
+    let image = worked(rt.alloc())?;
+    for given in 0..2484usize {
+        let kind = match given % 2 {
+            0 => ErrorKind::Other,
+            _ => ErrorKind::Interrupted,
         };
-        let mut out = Vec::new(rt.alloc());
-        let (place, items) = under_way(given);
-        let fault = fault_at(place, ImageCause::Device);
-        assert_eq!(rt;
-            list_to(rt.alloc(), &mut reader, &mut out),
-            Err(fault),
-            "at {given}"
-        );
-        assert_eq!(rt;
-            out.as_slice(),
-            first_lines(rt.alloc(), items)?.as_slice(),
-            "at {given}"
-        );
+        fails_after(&rt, &image, given, kind);
     }
     Ok(())
 }
 
+/// Where the writer takes so many bytes and fails, these are a front of the listing.
+fn stops_at<H: Abort + AllocGlobal>(rt: &H, image: &Image, left: usize, kind: Option<ErrorKind>) {
+    let mut out = Narrow::failing(rt.alloc(), left, kind, true);
+    let answer = list_to(rt.alloc(), &mut image.bytes.as_slice(), &mut out);
+    assert!(rt; answer == NOT_WRITTEN, "at {left}");
+    assert!(rt; out.taken.len() == left, "at {left}");
+    assert!(rt;
+        WORKED.as_bytes().starts_with(out.taken.as_slice()),
+        "at {left}"
+    );
+}
+
 #[test]
 fn a_writer_fails(rt: HostRuntime) -> Result<(), Fail> {
-    let worked = Image::worked(rt.alloc(), &[])?;
-    let write_failed = ToolFault::File(FileFault::WriteFailed);
+    let image = worked(rt.alloc())?;
     for left in 0..WORKED.len() {
-        for kind in [
-            None,
-            Some(ErrorKind::Interrupted),
-            Some(ErrorKind::BrokenPipe),
-        ] {
-            let mut out = Narrow {
-                taken: Vec::new(rt.alloc()),
-                left,
-                kind,
-                flushes: true,
-            };
-            let mut image = worked.bytes.as_slice();
-            assert_eq!(rt;
-                list_to(rt.alloc(), &mut image, &mut out),
-                Err(write_failed),
-                "at {left}"
-            );
-            assert_eq!(rt; out.taken.as_slice(), &WORKED.as_bytes()[..left]);
-        }
+        stops_at(&rt, &image, left, None);
+        stops_at(&rt, &image, left, Some(ErrorKind::Interrupted));
+        stops_at(&rt, &image, left, Some(ErrorKind::BrokenPipe));
     }
     Ok(())
+}
+
+/// The writer fails at this line.
+fn fails_once<H: Abort + AllocGlobal>(rt: &H, image: &Image, good: usize, kind: Option<ErrorKind>) {
+    let mut out = FailsOnce::new(rt.alloc(), good, kind);
+    let answer = list_to(rt.alloc(), &mut image.bytes.as_slice(), &mut out);
+    assert!(rt; answer == NOT_WRITTEN, "line {good}");
+    assert!(rt; out.calls == good.saturating_add(1), "line {good}");
+    assert!(rt; out.taken.as_slice() == first_lines(good), "line {good}");
 }
 
 /// A write that failed is not tried again, nor is anything written behind it.
 #[test]
 fn a_writer_fails_once(rt: HostRuntime) -> Result<(), Fail> {
-    let worked = Image::worked(rt.alloc(), &[])?;
-    let write_failed = ToolFault::File(FileFault::WriteFailed);
+    let image = worked(rt.alloc())?;
     for good in 0..13 {
-        for kind in [None, Some(ErrorKind::Interrupted), Some(ErrorKind::Other)] {
-            let mut out = FailsOnce {
-                taken: Vec::new(rt.alloc()),
-                good,
-                calls: 0,
-                kind,
-            };
-            let mut image = worked.bytes.as_slice();
-            assert_eq!(rt;
-                list_to(rt.alloc(), &mut image, &mut out),
-                Err(write_failed)
-            );
-            assert_eq!(rt; out.calls, good + 1);
-            assert_eq!(rt;
-                out.taken.as_slice(),
-                first_lines(rt.alloc(), good)?.as_slice()
-            );
-        }
+        fails_once(&rt, &image, good, None);
+        fails_once(&rt, &image, good, Some(ErrorKind::Interrupted));
+        fails_once(&rt, &image, good, Some(ErrorKind::Other));
     }
     Ok(())
 }
@@ -192,53 +179,43 @@ fn a_writer_fails_once(rt: HostRuntime) -> Result<(), Fail> {
 /// Where a write failed nothing was read behind the item whose line it was.
 #[test]
 fn what_was_read_when_a_write_failed(rt: HostRuntime) -> Result<(), Fail> {
-    let worked = Image::worked(rt.alloc(), &[])?;
-    let ends = [
-        88usize, 176, 264, 268, 1076, 1884, 2292, 2296, 2384, 2472, 2476, 2480, 2484,
-    ];
-    for (good, end) in ends.iter().enumerate() {
-        let mut out = FailsOnce {
-            taken: Vec::new(rt.alloc()),
-            good,
-            calls: 0,
-            kind: None,
-        };
+    let worked = worked(rt.alloc())?;
+    for (good, end) in STARTS.iter().skip(1).enumerate() {
+        let mut out = FailsOnce::new(rt.alloc(), good, None);
         let mut image = worked.bytes.as_slice();
-        assert!(rt; list_to(rt.alloc(), &mut image, &mut out).is_err());
-        assert_eq!(rt; image.len(), 2484 - *end, "line {good}");
+        let answer = list_to(rt.alloc(), &mut image, &mut out);
+        assert!(rt; answer == NOT_WRITTEN, "line {good}");
+        assert!(rt; image.len().saturating_add(*end) == 2484, "line {good}");
     }
     Ok(())
 }
+
+const CUT_OFF: Result<(), ToolFault> = Err(ToolFault::Image(ImageFault {
+    place: 1884,
+    cause: ImageCause::Truncated,
+}));
+
+/// How much of the worked image is there, how many lines that has, whether the writer can be
+/// flushed, and whether it is told that it could not. Else the fault of the image is.
+const FLUSHES: &[(usize, usize, bool, Result<(), ToolFault>)] = &[
+    (2484, 13, true, Ok(())),
+    (2484, 13, false, NOT_WRITTEN),
+    (1885, 6, true, CUT_OFF),
+    (1885, 6, false, NOT_WRITTEN),
+];
 
 /// The last flush fails, at the end of medium and at a fault of the image, where it is told in that
 /// fault's place.
 #[test]
 fn the_last_flush(rt: HostRuntime) -> Result<(), Fail> {
-    let not_written = Err(ToolFault::File(FileFault::WriteFailed));
-    let cut_off = Err(fault_at(1884, ImageCause::Truncated));
-    for (count, lines, flushes, wanted) in [
-        (2484, 13, true, Ok(())),
-        (2484, 13, false, not_written),
-        (1885, 6, true, cut_off),
-        (1885, 6, false, not_written),
-    ] {
-        let mut image = Image::worked(rt.alloc(), &[])?.bytes;
-        image.truncate(count);
-        let mut out = Narrow {
-            taken: Vec::new(rt.alloc()),
-            left: WORKED.len(),
-            kind: None,
-            flushes,
-        };
-        let mut reader = image.as_slice();
-        assert_eq!(rt;
-            list_to(rt.alloc(), &mut reader, &mut out),
-            wanted,
-            "{count}"
-        );
-        assert_eq!(rt;
-            out.taken.as_slice(),
-            first_lines(rt.alloc(), lines)?.as_slice()
+    for (count, lines, flushes, wanted) in FLUSHES {
+        let image = worked(rt.alloc())?.cut(*count);
+        let mut out = Narrow::new(rt.alloc(), WORKED.len(), *flushes);
+        let answer = list_to(rt.alloc(), &mut image.bytes.as_slice(), &mut out);
+        assert!(rt; answer == *wanted, "{count} {flushes}");
+        assert!(rt;
+            out.taken.as_slice() == first_lines(*lines),
+            "{count} {flushes}"
         );
     }
     Ok(())
@@ -250,43 +227,54 @@ fn a_fault_behind_gaps(rt: HostRuntime) -> Result<(), Fail> {
     let mut image = Image::with(rt.alloc(), &GAP);
     image.word(&MARK)?;
     image.word(&[1, 0, 0, 0])?;
-    let mut reader = image.bytes.as_slice();
     let mut out = Vec::new(rt.alloc());
-    let fault = fault_at(12, ImageCause::Truncated);
-    assert_eq!(rt; list_to(rt.alloc(), &mut reader, &mut out), Err(fault));
-    assert_eq!(rt; out.as_slice(), b"000001 MARK\n".as_slice());
+    let answer = list_to(rt.alloc(), &mut image.bytes.as_slice(), &mut out);
+    assert!(rt; answer == Err(fault_at(12, ImageCause::Truncated)));
+    assert!(rt; out.as_slice() == b"000001 MARK\n".as_slice());
     Ok(())
 }
 
+/// Faults of an image, and how each is told.
+const IMAGE_FAULTS: &[(u64, ImageCause, &str)] = &[
+    (1884, ImageCause::Truncated, "tape: image fault 1 at 1884\n"),
+    (
+        268,
+        ImageCause::LengthsDiffer,
+        "tape: image fault 2 at 268\n",
+    ),
+    (
+        0,
+        ImageCause::Reserved(0xFFFE_FFFF),
+        "tape: image fault 3 at 0\n",
+    ),
+    (
+        4_278_192_120,
+        ImageCause::TooLong,
+        "tape: image fault 4 at 4278192120\n",
+    ),
+    (0, ImageCause::Device, "tape: image fault 5 at 0\n"),
+    (0, ImageCause::OutOfMemory, "tape: image fault 6 at 0\n"),
+];
+
+/// Faults of a file, and how each is told.
+const FILE_FAULTS: &[(FileFault, &str)] = &[
+    (FileFault::Exists, "tape: file fault 1\n"),
+    (FileFault::NotOpened, "tape: file fault 2\n"),
+    (FileFault::ReadFailed, "tape: file fault 3\n"),
+    (FileFault::WriteFailed, "tape: file fault 4\n"),
+];
+
+/// The fault is told by this line.
+fn is_told<A: Abort>(rt: &A, fault: ToolFault, line: &str) {
+    assert_eq!(rt; fault_line(Fault::Tool(fault)).as_str(), line);
+}
+
 #[test]
-fn the_fault_line_of_each(rt: HostRuntime) -> Result<(), Fail> {
-    let cases = [
-        (
-            fault_at(1884, ImageCause::Truncated),
-            "image fault 1 at 1884",
-        ),
-        (
-            fault_at(268, ImageCause::LengthsDiffer),
-            "image fault 2 at 268",
-        ),
-        (
-            fault_at(0, ImageCause::Reserved(0xFFFE_FFFF)),
-            "image fault 3 at 0",
-        ),
-        (
-            fault_at(4_278_192_120, ImageCause::TooLong),
-            "image fault 4 at 4278192120",
-        ),
-        (fault_at(0, ImageCause::Device), "image fault 5 at 0"),
-        (fault_at(0, ImageCause::OutOfMemory), "image fault 6 at 0"),
-        (ToolFault::File(FileFault::Exists), "file fault 1"),
-        (ToolFault::File(FileFault::NotOpened), "file fault 2"),
-        (ToolFault::File(FileFault::ReadFailed), "file fault 3"),
-        (ToolFault::File(FileFault::WriteFailed), "file fault 4"),
-    ];
-    for (fault, text) in cases {
-        let wanted = format!(in rt.alloc(); "tape: {text}\n")?;
-        assert_eq!(rt; fault_line(Fault::Tool(fault)).as_str(), wanted.as_str());
+fn the_fault_line_of_each(rt: HostRuntime) {
+    for (place, cause, line) in IMAGE_FAULTS {
+        is_told(&rt, fault_at(*place, *cause), line);
     }
-    Ok(())
+    for (fault, line) in FILE_FAULTS {
+        is_told(&rt, ToolFault::File(*fault), line);
+    }
 }

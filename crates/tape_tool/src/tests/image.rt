@@ -1,4 +1,5 @@
 //! Images, written word by word.
+use super::volumes::{FIXED, HDR1, VOL1, labels};
 use std::alloc::{AllocError, Global};
 
 /// A tape mark, an erase gap and the end of medium.
@@ -47,6 +48,12 @@ impl Image {
         }
     }
 
+    /// The first bytes of this image, so many.
+    pub fn cut(mut self, length: usize) -> Image {
+        self.bytes.truncate(length);
+        self
+    }
+
     pub fn word(&mut self, word: &[u8; 4]) -> Result<(), AllocError> {
         self.bytes.extend_from_slice(self.between)?;
         self.bytes.extend_from_slice(word)
@@ -87,47 +94,35 @@ impl Image {
     /// The worked volume's labels and mark, up to the first data block: 268 bytes where nothing
     /// stands between.
     pub fn headers(&mut self) -> Result<(), AllocError> {
-        self.label(
-            "VOL1ABC001                                                                     4",
-        )?;
-        self.label("HDR1PAYROLL          ABC00100010001000100 00000 00000 000000")?;
-        self.label("HDR2F0080000080                                   00")?;
-        self.word(&MARK)
+        labels(self, &[VOL1, HDR1, FIXED])
     }
 
-    /// The 25 records of the worked volume: 800, 800 and 400 bytes. Record i is i in four digits
-    /// and
-    /// 76 spaces.
+    /// The 25 records of the worked volume: 800, 800 and 400 bytes.
     pub fn records(&mut self, alloc: Global) -> Result<(), AllocError> {
-        let mut block = Vec::new(alloc);
-        for number in 1..26u8 {
-            block.extend_from_slice(&[b'0', b'0', b'0' + number / 10, b'0' + number % 10])?;
-            block.extend_from_slice(&[b' '; 76])?;
-            if number == 10 || number == 20 || number == 25 {
-                self.block(block.as_slice(), 0)?;
-                block.clear();
-            }
+        let records = payroll(alloc, b"")?;
+        for block in records.as_slice().chunks(800) {
+            self.block(block, 0)?;
         }
         Ok(())
     }
+}
 
-    /// The worked volume's end: the trailers, the second mark and the end word.
-    pub fn trailers(&mut self) -> Result<(), AllocError> {
-        self.word(&MARK)?;
-        self.label("EOF1PAYROLL          ABC00100010001000100 00000 00000 000003")?;
-        self.label("EOF2F0080000080                                   00")?;
-        self.word(&MARK)?;
-        self.word(&MARK)?;
-        self.word(&END)
+/// The 25 records of the worked volume, each with these bytes behind it. Record i is i in four
+/// digits and 76 spaces.
+pub fn payroll(alloc: Global, behind: &[u8]) -> Result<Vec<u8>, AllocError> {
+    let mut bytes = Vec::new(alloc);
+    for number in 1..26u8 {
+        bytes.extend_from_slice(&record(number))?;
+        bytes.extend_from_slice(behind)?;
     }
+    Ok(bytes)
+}
 
-    /// The worked volume: 25 records of 80 characters in blocks of 800, 2,484 bytes where nothing
-    /// stands between.
-    pub fn worked(alloc: Global, between: &'static [u8]) -> Result<Image, AllocError> {
-        let mut image = Image::with(alloc, between);
-        image.headers()?;
-        image.records(alloc)?;
-        image.trailers()?;
-        Ok(image)
-    }
+/// A record of the worked volume.
+fn record(number: u8) -> [u8; 80] {
+    let mut record = [b' '; 80];
+    record[..2].fill(b'0');
+    record[2] = b'0' + number / 10 % 10;
+    record[3] = b'0' + number % 10;
+    record
 }

@@ -1,20 +1,38 @@
 //! The program's exits, and what it tells on standard error. A test runs in an empty folder.
-use super::image::{Image, WORKED};
+use super::calls::{Step, each_ends, take_all};
 use super::words::words_of;
 use crate::end::{End, finish};
 use crate::fault::{Fault, FileFault, ToolFault};
-use crate::program::{perform, refuse, without_words};
+use crate::program::{refuse, without_words};
 use crate::words::order_of;
-use std::alloc::AllocError;
+use std::alloc::{AllocError, Global};
 use std::cell::RefCell;
 use std::fmt::Display;
-use std::fs::File;
 use std::io;
 use std::io::{ErrorKind, Write};
+use std::process::Abort;
 use std::test::Fail;
 use tape_image::{ImageCause, ImageFault};
 
 const NOT_WRITTEN: End = End::Faulted(Fault::Tool(ToolFault::File(FileFault::WriteFailed)));
+
+const NOT_OPENED: End = End::Faulted(Fault::Tool(ToolFault::File(FileFault::NotOpened)));
+
+const NOT_READ: End = End::Faulted(Fault::Tool(ToolFault::Image(ImageFault {
+    place: 0,
+    cause: ImageCause::Device,
+})));
+
+const CUT_OFF: End = End::Faulted(Fault::Tool(ToolFault::Image(ImageFault {
+    place: 1884,
+    cause: ImageCause::Truncated,
+})));
+
+/// A fault at the greatest place.
+const LAST: End = End::Faulted(Fault::Tool(ToolFault::Image(ImageFault {
+    place: 18_446_744_073_709_551_615,
+    cause: ImageCause::OutOfMemory,
+})));
 
 /// Keeps what is printed, or fails at it.
 #[derive(Drop)]
@@ -24,11 +42,16 @@ struct Streams {
 }
 
 impl Streams {
-    fn new(rt: &HostRuntime, open: bool) -> Streams {
+    fn new(alloc: Global, open: bool) -> Streams {
         Streams {
-            told: RefCell::new(String::new(rt.alloc())),
+            told: RefCell::new(String::new(alloc)),
             open,
         }
+    }
+
+    /// What was printed.
+    fn told<A: Abort>(self, rt: &A, text: &str) {
+        assert_eq!(rt; self.told.into_inner().as_str(), text);
     }
 }
 
@@ -63,112 +86,119 @@ impl Print for Streams {
     }
 }
 
-fn faulted(fault: ToolFault) -> End {
-    End::Faulted(Fault::Tool(fault))
-}
-
-fn image_fault(place: u64, cause: ImageCause) -> ToolFault {
-    ToolFault::Image(ImageFault { place, cause })
-}
+/// Lines and their ends.
+const ENDS: &[(&str, End)] = &[
+    ("list --help", End::Done),
+    ("--version", End::Done),
+    ("", End::WrongWords),
+    ("list a.tap b.tap", End::WrongWords),
+    ("list -", End::WrongWords),
+    ("lost", End::WrongWords),
+    ("list missing.tap", NOT_OPENED),
+    ("list ./-", NOT_OPENED),
+    ("list .", NOT_READ),
+];
 
 #[test]
 fn ends(rt: HostRuntime) -> Result<(), Fail> {
-    let not_opened = faulted(ToolFault::File(FileFault::NotOpened));
-    let not_read = faulted(image_fault(0, ImageCause::Device));
-    let cases = [
-        ("list --help", End::Done),
-        ("--version", End::Done),
-        ("", End::WrongWords),
-        ("list a.tap b.tap", End::WrongWords),
-        ("list -", End::WrongWords),
-        ("lost", End::WrongWords),
-        ("list missing.tap", not_opened),
-        ("list ./-", not_opened),
-        ("list .", not_read),
-    ];
-    for (line, wanted) in cases {
-        let words = words_of(rt.alloc(), line)?;
-        assert_eq!(rt; perform(&rt, words.as_slice()), wanted, "{line}");
-    }
-    Ok(())
+    each_ends(&rt, ENDS)
 }
+
+const LISTED: &[Step<'_>] = &[
+    Step::PutWorked("reel.tap", 2484),
+    Step::Ends("list reel.tap", End::Done),
+];
 
 #[test]
 fn a_file_is_listed(rt: HostRuntime) -> Result<(), Fail> {
-    let worked = Image::worked(rt.alloc(), &[])?.bytes;
-    let mut file = File::create(&rt, "reel.tap")?;
-    file.write_all(worked.as_slice())?;
-    drop(file);
-    let words = words_of(rt.alloc(), "list reel.tap")?;
-    assert_eq!(rt; perform(&rt, words.as_slice()), End::Done);
-    Ok(())
+    take_all(&rt, LISTED)
+}
+
+/// Each end, its status and what is told of it.
+const STATUSES: &[(End, u8, &str)] = &[
+    (End::Done, 0, ""),
+    (End::WrongWords, 2, ""),
+    (CUT_OFF, 1, "tape: image fault 1 at 1884\n"),
+    (LAST, 1, "tape: image fault 6 at 18446744073709551615\n"),
+    (NOT_WRITTEN, 1, "tape: file fault 4\n"),
+    (End::Faulted(Fault::OutOfMemory), 1, "tape: run fault 4\n"),
+];
+
+/// The end has this status, and is told so where standard error is open.
+fn is_told<H: Abort + AllocGlobal>(rt: &H, end: End, status: u8, text: &str) {
+    let open = Streams::new(rt.alloc(), true);
+    assert!(rt; finish(&open, end) == status, "{text}");
+    open.told(rt, text);
+    let closed = Streams::new(rt.alloc(), false);
+    assert!(rt; finish(&closed, end) == status, "{text}");
 }
 
 /// Status and standard error of each end.
 #[test]
-fn statuses_and_fault_lines(rt: HostRuntime) -> Result<(), Fail> {
-    let cut_off = faulted(image_fault(1884, ImageCause::Truncated));
-    let last = faulted(image_fault(u64::MAX, ImageCause::OutOfMemory));
-    let full = faulted(ToolFault::File(FileFault::WriteFailed));
-    let cases = [
-        (End::Done, 0, ""),
-        (End::WrongWords, 2, ""),
-        (cut_off, 1, "tape: image fault 1 at 1884\n"),
-        (last, 1, "tape: image fault 6 at 18446744073709551615\n"),
-        (full, 1, "tape: file fault 4\n"),
-        (End::Faulted(Fault::OutOfMemory), 1, "tape: run fault 4\n"),
-    ];
-    for (end, status, text) in cases {
-        let open = Streams::new(&rt, true);
-        assert_eq!(rt; finish(&open, end), status);
-        assert_eq!(rt; open.told.into_inner().as_str(), text);
-        let closed = Streams::new(&rt, false);
-        assert_eq!(rt; finish(&closed, end), status);
+fn statuses_and_fault_lines(rt: HostRuntime) {
+    for (end, status, text) in STATUSES {
+        is_told(&rt, *end, *status, text);
     }
-    Ok(())
+}
+
+/// Words that could not be had for this reason end so, and this is told of it.
+fn is_without_words<H: Abort + AllocGlobal>(rt: &H, kind: ErrorKind, wanted: End, text: &str) {
+    let streams = Streams::new(rt.alloc(), true);
+    assert!(rt; without_words(&streams, kind) == wanted, "{text}");
+    streams.told(rt, text);
 }
 
 #[test]
-fn words_that_are_no_text(rt: HostRuntime) -> Result<(), Fail> {
-    let streams = Streams::new(&rt, true);
-    let end = without_words(&streams, ErrorKind::InvalidData);
-    assert_eq!(rt; end, End::WrongWords);
+fn words_that_are_no_text(rt: HostRuntime) {
     let told = "error: the command line is not UTF-8 text\n";
-    assert_eq!(rt; streams.told.into_inner().as_str(), told);
-    let silent = Streams::new(&rt, true);
-    let end = without_words(&silent, ErrorKind::OutOfMemory);
-    assert_eq!(rt; end, End::Faulted(Fault::OutOfMemory));
-    assert_eq!(rt; silent.told.into_inner().as_str(), "");
+    is_without_words(&rt, ErrorKind::InvalidData, End::WrongWords, told);
+    let no_memory = End::Faulted(Fault::OutOfMemory);
+    is_without_words(&rt, ErrorKind::OutOfMemory, no_memory, "");
+}
+
+/// A line that asks for nothing ends so, where what is printed is told or is not.
+fn is_refused<H: Abort + AllocGlobal>(
+    rt: &H,
+    line: &str,
+    open: bool,
+    wanted: End,
+) -> Result<(), Fail> {
+    let words = words_of(rt.alloc(), line)?;
+    let Err(error) = order_of(rt.alloc(), words.as_slice()) else {
+        return Err(Fail::from("a line that asks for nothing"));
+    };
+    let streams = Streams::new(rt.alloc(), open);
+    assert!(rt; refuse(&streams, &error) == wanted, "{line} {open}");
+    assert!(rt;
+        streams.told.into_inner().is_empty() != open,
+        "{line} {open}"
+    );
     Ok(())
 }
+
+/// Lines, whether what is printed is told, and their ends.
+const REFUSED: &[(&str, bool, End)] = &[
+    ("list --help", true, End::Done),
+    ("list --help", false, NOT_WRITTEN),
+    ("--version", false, NOT_WRITTEN),
+    ("lost", true, End::WrongWords),
+    ("lost", false, End::WrongWords),
+];
 
 /// Help that could not be written is a fault, a mistake is none even where it could not be told.
 #[test]
 fn help_not_written(rt: HostRuntime) -> Result<(), Fail> {
-    for (line, open, wanted) in [
-        ("list --help", true, End::Done),
-        ("list --help", false, NOT_WRITTEN),
-        ("--version", false, NOT_WRITTEN),
-        ("lost", true, End::WrongWords),
-        ("lost", false, End::WrongWords),
-    ] {
-        let words = words_of(rt.alloc(), line)?;
-        let Err(error) = order_of(rt.alloc(), words.as_slice()) else {
-            return Err(Fail::from("a line that asks for nothing"));
-        };
-        let streams = Streams::new(&rt, open);
-        assert_eq!(rt; refuse(&streams, &error), wanted, "{line}");
-        assert_eq!(rt; streams.told.into_inner().is_empty(), !open);
+    for (line, open, wanted) in REFUSED {
+        is_refused(&rt, line, *open, *wanted)?;
     }
     Ok(())
 }
 
 /// Memory refused to the parser of words is told by the line of the fault alone.
 #[test]
-fn no_memory_for_words(rt: HostRuntime) -> Result<(), Fail> {
-    let streams = Streams::new(&rt, true);
+fn no_memory_for_words(rt: HostRuntime) {
+    let streams = Streams::new(rt.alloc(), true);
     let end = refuse(&streams, &clap::Error::from(AllocError));
-    assert_eq!(rt; end, End::Faulted(Fault::OutOfMemory));
-    assert_eq!(rt; streams.told.into_inner().as_str(), "");
-    Ok(())
+    assert!(rt; end == End::Faulted(Fault::OutOfMemory));
+    streams.told(&rt, "");
 }

@@ -1,13 +1,22 @@
-//! Volumes of the worked file set, whole and damaged, written word by word.
-use super::image::{END, Image, MARK};
+//! Volumes of the worked file set, whole and damaged, written label by label.
+use super::image::{END, Image, MARK, payroll};
 use std::alloc::{AllocError, Global};
 
 pub const VOL1: &str =
     "VOL1ABC001                                                                     4";
 
+const VOL2: &str =
+    "VOL1ABC002                                                                     4";
+
 pub const HDR1: &str = "HDR1PAYROLL          ABC00100010001000100 00000 00000 000000";
 
+/// The header of section 2.
+const HDR1_NEXT: &str = "HDR1PAYROLL          ABC00100020001000100 00000 00000 000000";
+
+/// Format F, records of 80 characters, in blocks of 800 and of 400.
 pub const FIXED: &str = "HDR2F0080000080                                   00";
+
+const FIXED_400: &str = "HDR2F0040000080                                   00";
 
 pub const SPANNED: &str = "HDR2S0001800000                                   00";
 
@@ -19,23 +28,61 @@ pub const EOF_THREE: &str = "EOF1PAYROLL          ABC00100010001000100 00000 000
 
 pub const EOF_FOUR: &str = "EOF1PAYROLL          ABC00100010001000100 00000 00000 000004";
 
-impl Image {
-    /// A volume's front: its label, the two labels of a file section, and a mark.
-    pub fn front(&mut self, head: &str, format: &str) -> Result<(), AllocError> {
-        self.label(VOL1)?;
-        self.label(head)?;
-        self.label(format)?;
-        self.word(&MARK)
-    }
+pub const EOF_FIVE: &str = "EOF1PAYROLL          ABC00100010001000100 00000 00000 000005";
 
-    /// A volume's end: a mark, a trailer label, two marks and the end word.
-    pub fn back(&mut self, trailer: &str) -> Result<(), AllocError> {
-        self.word(&MARK)?;
-        self.label(trailer)?;
-        self.word(&MARK)?;
-        self.word(&MARK)?;
-        self.word(&END)
+const EOF2: &str = "EOF2F0080000080                                   00";
+
+const EOF2_400: &str = "EOF2F0040000080                                   00";
+
+/// Labels, and a tape mark behind them.
+pub fn labels(image: &mut Image, texts: &[&str]) -> Result<(), AllocError> {
+    for text in texts {
+        image.label(text)?;
     }
+    image.word(&MARK)
+}
+
+/// The second mark of a volume, and the end word.
+pub fn end(image: &mut Image) -> Result<(), AllocError> {
+    image.word(&MARK)?;
+    image.word(&END)
+}
+
+/// The mark behind the data, trailer labels, and the volume's end.
+pub fn close(image: &mut Image, texts: &[&str]) -> Result<(), AllocError> {
+    image.word(&MARK)?;
+    labels(image, texts)?;
+    end(image)
+}
+
+/// The volume ABC001 without files.
+pub fn blank(alloc: Global) -> Result<Image, AllocError> {
+    let mut image = Image::new(alloc);
+    labels(&mut image, &[VOL1])?;
+    end(&mut image)?;
+    Ok(image)
+}
+
+/// A volume with one section: its header labels, data blocks of 400 characters with these high
+/// bytes in their words, so that 0x80 is a bad one, and its trailer labels.
+pub fn reel(
+    alloc: Global,
+    headers: &[&str],
+    blocks: &[u8],
+    trailers: &[&str],
+) -> Result<Image, AllocError> {
+    let mut image = Image::new(alloc);
+    labels(&mut image, headers)?;
+    for high in blocks {
+        image.block(&[b' '; 400], *high)?;
+    }
+    close(&mut image, trailers)?;
+    Ok(image)
+}
+
+/// Five blocks of 5 records, with these high bytes and this first trailer label.
+pub fn five_blocks(alloc: Global, blocks: &[u8; 5], trailer: &str) -> Result<Image, AllocError> {
+    reel(alloc, &[VOL1, HDR1, FIXED], blocks, &[trailer, EOF2_400])
 }
 
 /// A volume of one section with the first label given, one block, and the trailer given.
@@ -47,24 +94,56 @@ pub fn one_block(
     trailer: &str,
 ) -> Result<Image, AllocError> {
     let mut image = Image::new(alloc);
-    image.front(head, format)?;
+    labels(&mut image, &[VOL1, head, format])?;
     image.block(block, 0)?;
-    image.back(trailer)?;
+    close(&mut image, &[trailer])?;
     Ok(image)
+}
+
+/// The worked volume with these bytes before each of its words and blocks.
+pub fn worked_between(alloc: Global, between: &'static [u8]) -> Result<Image, AllocError> {
+    payroll_volume(alloc, between, &[EOF_THREE, EOF2])
+}
+
+/// The worked volume: 25 records of 80 characters in blocks of 800, 2,484 bytes.
+pub fn worked(alloc: Global) -> Result<Image, AllocError> {
+    worked_between(alloc, &[])
 }
 
 /// The worked volume with another trailer.
 pub fn worked_with(alloc: Global, trailer: &str) -> Result<Image, AllocError> {
-    let mut image = Image::new(alloc);
+    payroll_volume(alloc, &[], &[trailer])
+}
+
+/// The worked file on a volume that is too small for its end: three blocks, and an end of volume.
+pub fn first_of_two(alloc: Global) -> Result<Image, AllocError> {
+    let trailer = "EOV1PAYROLL          ABC00100010001000100 00000 00000 000003";
+    let second = "EOV2F0080000080                                   00";
+    payroll_volume(alloc, &[], &[trailer, second])
+}
+
+/// The labels and records of the worked volume, and these trailer labels.
+fn payroll_volume(
+    alloc: Global,
+    between: &'static [u8],
+    trailers: &[&str],
+) -> Result<Image, AllocError> {
+    let mut image = Image::with(alloc, between);
     image.headers()?;
     image.records(alloc)?;
-    image.back(trailer)?;
+    close(&mut image, trailers)?;
     Ok(image)
+}
+
+/// The second volume of the worked file: an empty section, and the end of the file.
+pub fn second_of_two(alloc: Global) -> Result<Image, AllocError> {
+    let trailer = "EOF1PAYROLL          ABC00100020001000100 00000 00000 000000";
+    reel(alloc, &[VOL2, HDR1_NEXT, FIXED], &[], &[trailer, EOF2])
 }
 
 /// The worked volume with its second block marked as recorded with an error.
 pub fn worked_bad(alloc: Global) -> Result<Image, AllocError> {
-    let mut image = Image::worked(alloc, &[])?;
+    let mut image = worked(alloc)?;
     for (place, byte) in image.bytes.as_mut_slice().iter_mut().enumerate() {
         // The last bytes of the words before and behind the block: 268 + 808 + 3, and 804 behind.
         if place == 1079 || place == 1883 {
@@ -74,38 +153,43 @@ pub fn worked_bad(alloc: Global) -> Result<Image, AllocError> {
     Ok(image)
 }
 
+/// A volume of the 25 worked records in blocks of 400, of which one cannot be read.
+pub fn damaged(alloc: Global, bad: usize) -> Result<Image, AllocError> {
+    let mut image = Image::new(alloc);
+    labels(&mut image, &[VOL1, HDR1, FIXED_400])?;
+    damaged_blocks(&mut image, payroll(alloc, b"")?.as_slice(), bad)?;
+    close(&mut image, &[EOF_FIVE, EOF2_400])?;
+    Ok(image)
+}
+
+/// These records in blocks of 400, of which one cannot be read.
+fn damaged_blocks(image: &mut Image, records: &[u8], bad: usize) -> Result<(), AllocError> {
+    for (number, block) in records.chunks(400).enumerate() {
+        let high = if number == bad { 0x80 } else { 0 };
+        image.block(block, high)?;
+    }
+    Ok(())
+}
+
 /// The first volume of a record of 290 bytes `R` in blocks of 18: 22 blocks of 13 bytes of it.
 pub fn spanned_first(alloc: Global) -> Result<Image, AllocError> {
     let mut image = Image::new(alloc);
-    image.front(HDR1, SPANNED)?;
+    labels(&mut image, &[VOL1, HDR1, SPANNED])?;
     image.block(b"10018RRRRRRRRRRRRR", 0)?;
     for _ in 0..21u8 {
         image.block(b"20018RRRRRRRRRRRRR", 0)?;
     }
-    image.back("EOV1PAYROLL          ABC00100010001000100 00000 00000 000022")?;
+    let trailer = "EOV1PAYROLL          ABC00100010001000100 00000 00000 000022";
+    close(&mut image, &[trailer])?;
     Ok(image)
 }
 
 /// The second volume of that record: the last 4 bytes.
 pub fn spanned_second(alloc: Global) -> Result<Image, AllocError> {
     let mut image = Image::new(alloc);
-    image.label(
-        "VOL1ABC002                                                                     4",
-    )?;
-    image.label("HDR1PAYROLL          ABC00100020001000100 00000 00000 000000")?;
-    image.label(SPANNED)?;
-    image.word(&MARK)?;
+    labels(&mut image, &[VOL2, HDR1_NEXT, SPANNED])?;
     image.block(b"30009RRRR^^^^^^^^^", 0)?;
-    image.back("EOF1PAYROLL          ABC00100020001000100 00000 00000 000001")?;
-    Ok(image)
-}
-
-/// The volume ABC001 without files.
-pub fn blank(alloc: Global) -> Result<Image, AllocError> {
-    let mut image = Image::new(alloc);
-    image.label(VOL1)?;
-    image.word(&MARK)?;
-    image.word(&MARK)?;
-    image.word(&END)?;
+    let trailer = "EOF1PAYROLL          ABC00100020001000100 00000 00000 000001";
+    close(&mut image, &[trailer])?;
     Ok(image)
 }

@@ -1,63 +1,84 @@
 //! Command lines.
 use crate::words::{Order, order_of};
 use std::alloc::{AllocError, Global};
+use std::process::Abort;
 use std::test::Fail;
 
 /// The words of a line, behind the program's name.
 pub fn words_of(alloc: Global, line: &str) -> Result<Vec<String>, AllocError> {
     let mut words = Vec::new(alloc);
-    words.push("out/tape_tool".to_string(alloc)?)?;
+    push_word(alloc, &mut words, "out/tape_tool")?;
     for word in line.split_whitespace() {
-        words.push(word.to_string(alloc)?)?;
+        push_word(alloc, &mut words, word)?;
     }
     Ok(words)
 }
 
+fn push_word(alloc: Global, words: &mut Vec<String>, word: &str) -> Result<(), AllocError> {
+    words.push(word.to_string(alloc)?)?;
+    Ok(())
+}
+
+const ORDERS: &[(&str, Option<&str>)] = &[
+    ("list", None),
+    ("list reel.tap", Some("reel.tap")),
+    ("list -- -odd.tap", Some("-odd.tap")),
+];
+
 #[test]
 fn orders(rt: HostRuntime) -> Result<(), Fail> {
-    for (line, image) in [
-        ("list", None),
-        ("list reel.tap", Some("reel.tap")),
-        ("list -- -odd.tap", Some("-odd.tap")),
-    ] {
+    for (line, image) in ORDERS {
         let words = words_of(rt.alloc(), line)?;
         let order = order_of(rt.alloc(), words.as_slice())?;
         assert!(rt;
-            matches!(order, Order::List { image: found } if found == image),
+            matches!(order, Order::List { image: found } if found == *image),
             "{line}"
         );
     }
     Ok(())
 }
 
+/// Lines that ask for nothing, with their exit status, and a text that is said.
+const SAID: &[(&str, i32, &str)] = &[
+    ("", 2, "requires a subcommand"),
+    ("lost", 2, "unrecognized subcommand 'lost'"),
+    (
+        "list a.tap b.tap",
+        2,
+        "do echo \"$f\"; tape list \"$f\"; done",
+    ),
+    ("list a.tap b.tap", 2, "Usage: tape list [IMAGE]"),
+    ("list -", 2, "leave IMAGE out to list standard input"),
+    ("list -- -", 2, "write './-' for a file of that name"),
+    ("list --all", 2, "unexpected argument '--all' found"),
+    ("--help", 0, "Usage: tape <COMMAND>"),
+    ("--version", 0, "tape 0.1.0"),
+    ("list --help", 0, "Usage: tape list [IMAGE]"),
+    ("list --all", 2, "Usage: tape list [IMAGE]"),
+    ("help list", 0, "zcat reel.tap.gz | tape list"),
+];
+
+/// The line is answered with this status and text.
+fn is_answered<H: Abort + AllocGlobal>(
+    rt: &H,
+    line: &str,
+    status: i32,
+    text: &str,
+) -> Result<(), Fail> {
+    let words = words_of(rt.alloc(), line)?;
+    let Err(error) = order_of(rt.alloc(), words.as_slice()) else {
+        return Err(Fail::from("a line that should be refused"));
+    };
+    assert!(rt; error.exit_code() == status, "{line}");
+    let said = error.to_string(rt.alloc())?;
+    assert!(rt; said.as_str().contains(text), "{text} in {said}");
+    Ok(())
+}
+
 #[test]
 fn help_and_mistakes(rt: HostRuntime) -> Result<(), Fail> {
-    let cases = [
-        ("", 2, "requires a subcommand"),
-        ("lost", 2, "unrecognized subcommand 'lost'"),
-        (
-            "list a.tap b.tap",
-            2,
-            "do echo \"$f\"; tape list \"$f\"; done",
-        ),
-        ("list a.tap b.tap", 2, "Usage: tape list [IMAGE]"),
-        ("list -", 2, "leave IMAGE out to list standard input"),
-        ("list -- -", 2, "write './-' for a file of that name"),
-        ("list --all", 2, "unexpected argument '--all' found"),
-        ("--help", 0, "Usage: tape <COMMAND>"),
-        ("--version", 0, "tape 0.1.0"),
-        ("list --help", 0, "Usage: tape list [IMAGE]"),
-        ("list --all", 2, "Usage: tape list [IMAGE]"),
-        ("help list", 0, "zcat reel.tap.gz | tape list"),
-    ];
-    for (line, status, text) in cases {
-        let words = words_of(rt.alloc(), line)?;
-        let Err(error) = order_of(rt.alloc(), words.as_slice()) else {
-            return Err(Fail::from("a line that should be refused"));
-        };
-        assert_eq!(rt; error.exit_code(), status, "{line}");
-        let said = error.to_string(rt.alloc())?;
-        assert!(rt; said.as_str().contains(text), "{said}");
+    for (line, status, text) in SAID {
+        is_answered(&rt, line, *status, text)?;
     }
     Ok(())
 }

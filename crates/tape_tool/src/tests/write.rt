@@ -1,16 +1,17 @@
 //! Sets written as images in memory, against images written out from their formats.
-use super::image::{END, Image, MARK};
+use super::image::payroll;
+use super::volumes::{first_of_two, second_of_two, worked};
 use crate::fault::ToolFault;
 use crate::form::Form;
 use crate::volume::{Prefix, blank_volume};
 use crate::write::report::{Ended, say};
 use crate::write::{Input, SetPlan, write_set};
 use std::alloc::{AllocError, Global};
+use std::process::Abort;
 use std::test::Fail;
 use tape_blocks::Shape;
 use tape_image::ImageWriter;
 use tape_label::{Field, Format, Head1};
-use tape_writer::WriteFault;
 
 const ABC: Prefix = Prefix {
     characters: *b"ABC",
@@ -76,15 +77,28 @@ pub fn plan(
     })
 }
 
-/// The 25 records of the worked volume, each with these bytes behind it.
-pub fn payroll(alloc: Global, behind: &[u8]) -> Result<Vec<u8>, AllocError> {
-    let mut bytes = Vec::new(alloc);
-    for number in 1..26u8 {
-        bytes.extend_from_slice(&[b'0', b'0', b'0' + number / 10, b'0' + number % 10])?;
-        bytes.extend_from_slice(&[b' '; 76])?;
-        bytes.extend_from_slice(behind)?;
+/// So many image writers that hold nothing.
+fn images(alloc: Global, count: usize) -> Result<Vec<ImageWriter<Vec<u8>>>, AllocError> {
+    let mut images = Vec::new(alloc);
+    for _ in 0..count {
+        images.push(ImageWriter::new(Vec::new(alloc)))?;
     }
-    Ok(bytes)
+    Ok(images)
+}
+
+/// The bytes of the first images, so many.
+fn bytes_of(
+    alloc: Global,
+    images: Vec<ImageWriter<Vec<u8>>>,
+    count: usize,
+) -> Result<Vec<Vec<u8>>, AllocError> {
+    let mut written = Vec::new(alloc);
+    for image in images {
+        if written.len() < count {
+            written.push(image.into_device())?;
+        }
+    }
+    Ok(written)
 }
 
 /// What a set of one file became: its images' bytes, or the fault.
@@ -93,25 +107,23 @@ pub fn one_file(
     plan: SetPlan,
     input: &[u8],
 ) -> Result<Result<Vec<Vec<u8>>, ToolFault>, AllocError> {
-    let mut images = Vec::new(alloc);
-    for _ in 0..plan.volumes.len() {
-        images.push(ImageWriter::new(Vec::new(alloc)))?;
-    }
+    let images = images(alloc, plan.volumes.len())?;
     let mut files = [Input {
         head: head(),
         reader: input,
     }];
-    let done = match write_set(alloc, plan, &mut files, images) {
-        Ok(done) => done,
-        Err(refused) => return Ok(Err(refused.fault)),
-    };
-    let mut written = Vec::new(alloc);
-    for image in done.images {
-        if written.len() < done.ended {
-            written.push(image.into_device())?;
-        }
+    match write_set(alloc, plan, &mut files, images) {
+        Ok(done) => Ok(Ok(bytes_of(alloc, done.images, done.ended)?)),
+        Err(refused) => Ok(Err(refused.fault)),
     }
-    Ok(Ok(written))
+}
+
+/// The images that a set of one file became, which should be written.
+fn written(alloc: Global, plan: SetPlan, input: &[u8]) -> Result<Vec<Vec<u8>>, Fail> {
+    match one_file(alloc, plan, input)? {
+        Ok(images) => Ok(images),
+        Err(_) => Err(Fail::from("a set that should be written")),
+    }
 }
 
 /// The image at this place of the list, or nothing.
@@ -122,147 +134,102 @@ fn at<'a>(images: &'a [Vec<u8>], place: usize) -> &'a [u8] {
     }
 }
 
-/// The worked image: records as lines, the last one with a line feed and without, and as raw bytes.
+/// The images are these two, or the first one alone where the second one is empty.
+fn are<A: Abort>(rt: &A, images: &[Vec<u8>], first: &[u8], second: &[u8]) {
+    let count = if second.is_empty() { 1 } else { 2 };
+    assert!(rt; images.len() == count);
+    assert_eq!(rt; at(images, 0), first);
+    assert_eq!(rt; at(images, 1), second);
+}
+
+/// The input becomes the worked image.
+fn is_worked<H: Abort + AllocGlobal>(rt: &H, form: Form, input: Vec<u8>) -> Result<(), Fail> {
+    let plan = plan(rt.alloc(), 2, 100_000, FIXED, form)?;
+    let images = written(rt.alloc(), plan, input.as_slice())?;
+    let wanted = worked(rt.alloc())?;
+    are(rt, images.as_slice(), wanted.bytes.as_slice(), &[]);
+    Ok(())
+}
+
+/// The worked image of records as lines, the last one with a line feed.
 #[test]
 fn the_worked_volume(rt: HostRuntime) -> Result<(), Fail> {
-    let alloc = rt.alloc();
-    let worked = Image::worked(alloc, &[])?.bytes;
-    assert_eq!(rt; worked.len(), 2484);
-    let lines = payroll(alloc, b"\n")?;
-    let raw = payroll(alloc, b"")?;
-    let Some(unended) = lines.as_slice().strip_suffix(b"\n") else {
-        return Err(Fail::from("a line feed"));
-    };
-    for (form, input) in [(Form::Lines, 0), (Form::Lines, 1), (Form::Raw, 2)] {
-        let input = match input {
-            0 => lines.as_slice(),
-            1 => unended,
-            _ => raw.as_slice(),
-        };
-        let images = one_file(alloc, plan(alloc, 2, 100_000, FIXED, form)?, input)?;
-        let Ok(images) = images else {
-            return Err(Fail::from("a set that should be written"));
-        };
-        assert_eq!(rt; images.len(), 1);
-        assert_eq!(rt; at(images.as_slice(), 0), worked.as_slice());
-    }
-    Ok(())
+    is_worked(&rt, Form::Lines, payroll(rt.alloc(), b"\n")?)
+}
+
+/// And without.
+#[test]
+fn the_worked_volume_of_a_line_without_its_end(rt: HostRuntime) -> Result<(), Fail> {
+    let mut lines = payroll(rt.alloc(), b"\n")?;
+    lines.truncate(2024);
+    is_worked(&rt, Form::Lines, lines)
+}
+
+#[test]
+fn the_worked_volume_of_raw_bytes(rt: HostRuntime) -> Result<(), Fail> {
+    is_worked(&rt, Form::Raw, payroll(rt.alloc(), b"")?)
+}
+
+/// What three volumes of 2,500 bytes take of the raw records.
+fn on_small_volumes(alloc: Global) -> Result<Vec<Vec<u8>>, Fail> {
+    let records = payroll(alloc, b"")?;
+    let plan = plan(alloc, 3, 2_500, FIXED, Form::Raw)?;
+    written(alloc, plan, records.as_slice())
 }
 
 /// The third block fits on the first volume, the file's end does not: section 2 is empty.
 #[test]
 fn two_volumes(rt: HostRuntime) -> Result<(), Fail> {
-    let alloc = rt.alloc();
-    let mut first = Image::new(alloc);
-    first.headers()?;
-    first.records(alloc)?;
-    first.word(&MARK)?;
-    first.label("EOV1PAYROLL          ABC00100010001000100 00000 00000 000003")?;
-    first.label("EOV2F0080000080                                   00")?;
-    first.word(&MARK)?;
-    first.word(&MARK)?;
-    first.word(&END)?;
-    let mut second = Image::new(alloc);
-    second.label(
-        "VOL1ABC002                                                                     4",
-    )?;
-    second.label("HDR1PAYROLL          ABC00100020001000100 00000 00000 000000")?;
-    second.label("HDR2F0080000080                                   00")?;
-    second.word(&MARK)?;
-    second.word(&MARK)?;
-    second.label("EOF1PAYROLL          ABC00100020001000100 00000 00000 000000")?;
-    second.label("EOF2F0080000080                                   00")?;
-    second.word(&MARK)?;
-    second.word(&MARK)?;
-    second.word(&END)?;
-    assert_eq!(rt; first.bytes.len(), 2484);
-    assert_eq!(rt; second.bytes.len(), 460);
-    let raw = payroll(alloc, b"")?;
-    let images = one_file(
-        alloc,
-        plan(alloc, 3, 2_500, FIXED, Form::Raw)?,
-        raw.as_slice(),
-    )?;
-    let Ok(images) = images else {
-        return Err(Fail::from("a set that should be written"));
-    };
-    assert_eq!(rt; images.len(), 2);
-    assert_eq!(rt; at(images.as_slice(), 0), first.bytes.as_slice());
-    assert_eq!(rt; at(images.as_slice(), 1), second.bytes.as_slice());
-    let one = one_file(
-        alloc,
-        plan(alloc, 1, 2_500, FIXED, Form::Raw)?,
-        raw.as_slice(),
-    )?;
-    assert!(rt; one.is_err());
-    assert!(rt; one == Err(ToolFault::Write(WriteFault::OutOfVolumes)));
+    let images = on_small_volumes(rt.alloc())?;
+    let first = first_of_two(rt.alloc())?;
+    let second = second_of_two(rt.alloc())?;
+    let (one, two) = (first.bytes.as_slice(), second.bytes.as_slice());
+    are(&rt, images.as_slice(), one, two);
     Ok(())
 }
+
+/// Shapes, forms and capacities, how long the one record is, or none, and the sizes of two images.
+const SIZES: [(Shape, Form, u32, usize, usize, usize); 6] = [
+    (FIXED, Form::Lines, 100_000, 0, 460, 0),
+    (FIXED, Form::Raw, 100_000, 0, 460, 0),
+    (COUNTED, Form::Lines, 100_000, 0, 460, 0),
+    (SPANNED, Form::Raw, 100_000, 0, 486, 0),
+    (SPANNED, Form::Raw, 1_042, 290, 1_032, 486),
+    (SPANNED, Form::Lines, 1_042, 290, 1_032, 486),
+];
 
 /// Sizes: no record at all, and a record over two volumes.
 #[test]
 fn sizes(rt: HostRuntime) -> Result<(), Fail> {
-    let alloc = rt.alloc();
-    let long = [b'7'; 290];
-    for (shape, form, capacity, length, first, second) in [
-        (FIXED, Form::Lines, 100_000, 0, 460, 0),
-        (FIXED, Form::Raw, 100_000, 0, 460, 0),
-        (COUNTED, Form::Lines, 100_000, 0, 460, 0),
-        (SPANNED, Form::Raw, 100_000, 0, 486, 0),
-        (SPANNED, Form::Raw, 1_042, 290, 1_032, 486),
-        (SPANNED, Form::Lines, 1_042, 290, 1_032, 486),
-    ] {
-        let input = match length {
-            0 => &[],
-            _ => long.as_slice(),
-        };
-        let images = one_file(alloc, plan(alloc, 2, capacity, shape, form)?, input)?;
-        let Ok(images) = images else {
-            return Err(Fail::from("a set that should be written"));
-        };
-        assert_eq!(rt; at(images.as_slice(), 0).len(), first);
-        assert_eq!(rt; at(images.as_slice(), 1).len(), second);
+    for (row, (shape, form, capacity, length, first, second)) in SIZES.into_iter().enumerate() {
+        let input = Vec::from_elem(rt.alloc(), b'7', length)?;
+        let plan = plan(rt.alloc(), 2, capacity, shape, form)?;
+        let images = written(rt.alloc(), plan, input.as_slice())?;
+        assert!(rt; at(images.as_slice(), 0).len() == first, "row {row}");
+        assert!(rt; at(images.as_slice(), 1).len() == second, "row {row}");
     }
     Ok(())
 }
 
-/// A block of these bytes is the first behind the headers.
-fn first_block<'a>(images: &'a [Vec<u8>], length: usize) -> &'a [u8] {
-    let image = at(images, 0);
-    match image.get(272..length.saturating_add(272)) {
-        Some(block) => block,
-        None => &[],
-    }
+/// The block of 18 bytes that is the first behind the headers.
+fn first_block<'a>(images: &'a [Vec<u8>]) -> &'a [u8] {
+    at(images, 0).get(272..290).unwrap_or(&[])
 }
+
+/// Lines, and the first block of them in format D.
+const LINES: &[(&[u8], &[u8])] = &[
+    (b"AB\n\n", b"0006AB0004^^^^^^^^"),
+    (b"A\r\n\nB", b"0006A\r00040005B^^^"),
+];
 
 /// Lines in format D: an empty line is a record, a carriage return stays.
 #[test]
 fn lines_and_what_they_keep(rt: HostRuntime) -> Result<(), Fail> {
-    let alloc = rt.alloc();
-    let images = one_file(
-        alloc,
-        plan(alloc, 1, 100_000, COUNTED, Form::Lines)?,
-        b"AB\n\n",
-    )?;
-    let Ok(images) = images else {
-        return Err(Fail::from("a set that should be written"));
-    };
-    assert_eq!(rt;
-        first_block(images.as_slice(), 18),
-        b"0006AB0004^^^^^^^^".as_slice()
-    );
-    let images = one_file(
-        alloc,
-        plan(alloc, 1, 100_000, COUNTED, Form::Lines)?,
-        b"A\r\n\nB",
-    )?;
-    let Ok(images) = images else {
-        return Err(Fail::from("a set that should be written"));
-    };
-    assert_eq!(rt;
-        first_block(images.as_slice(), 18),
-        b"0006A\r00040005B^^^".as_slice()
-    );
+    for (lines, block) in LINES {
+        let plan = plan(rt.alloc(), 1, 100_000, COUNTED, Form::Lines)?;
+        let images = written(rt.alloc(), plan, lines)?;
+        assert_eq!(rt; first_block(images.as_slice()), *block);
+    }
     Ok(())
 }
 
@@ -281,6 +248,6 @@ fn what_is_printed(rt: HostRuntime) -> Result<(), Fail> {
     ];
     say(&mut text, 1, &ended)?;
     let wanted = b"VOLUME ABC001 2484\nVOLUME ABC002 460\nFILES 1 VOLUMES 2\n";
-    assert_eq!(rt; text.as_slice(), wanted.as_slice());
+    assert!(rt; text.as_slice() == wanted.as_slice());
     Ok(())
 }

@@ -1,130 +1,168 @@
 //! Sets that are refused, and readers and writers that fail.
 use super::devices::{Dribble, Narrow};
-use super::write::{COUNTED, FIXED, head, one_file, payroll, plan};
+use super::image::payroll;
+use super::write::{COUNTED, FIXED, head, one_file, plan};
 use crate::fault::{FileFault, ToolFault};
 use crate::form::Form;
-use crate::write::{Input, write_set};
-use std::io::ErrorKind;
+use crate::write::{Input, RefusedSet, WrittenSet, write_set};
+use std::alloc::{AllocError, Global};
+use std::io::{ErrorKind, Read, Write};
+use std::process::Abort;
 use std::test::Fail;
 use tape_blocks::Shape;
 use tape_image::ImageWriter;
 use tape_label::Format;
 use tape_writer::WriteFault;
 
+const THIN: Shape = Shape {
+    format: Format::Fixed,
+    block_len: 17,
+    rec_len: 17,
+    offset: 0,
+    pad_full: false,
+};
+
+/// The worked records of 80 bytes in another shape or form, on so many volumes of this capacity.
+const REFUSED: [(Shape, Form, u16, u32, WriteFault); 8] = [
+    (COUNTED, Form::Raw, 1, 100_000, WriteFault::BadShape),
+    (COUNTED, Form::Raw, 0, 0, WriteFault::BadShape),
+    (THIN, Form::Raw, 1, 100_000, WriteFault::BadShape),
+    (FIXED, Form::Raw, 1, 1_823, WriteFault::CapacityTooSmall),
+    (FIXED, Form::Raw, 0, 100_000, WriteFault::OutOfVolumes),
+    (FIXED, Form::Lines, 1, 100_000, WriteFault::RecordLength),
+    (FIXED, Form::Raw, 1, 2_000, WriteFault::OutOfVolumes),
+    (FIXED, Form::Raw, 1, 2_500, WriteFault::OutOfVolumes),
+];
+
 #[test]
 fn refusals(rt: HostRuntime) -> Result<(), Fail> {
-    let alloc = rt.alloc();
-    let thin = Shape {
-        format: Format::Fixed,
-        block_len: 17,
-        rec_len: 17,
-        offset: 0,
-        pad_full: false,
-    };
-    let raw = payroll(alloc, b"")?;
-    let bytes = raw.as_slice();
-    for (shape, form, count, capacity, fault) in [
-        (COUNTED, Form::Raw, 1, 100_000, WriteFault::BadShape),
-        (COUNTED, Form::Raw, 0, 0, WriteFault::BadShape),
-        (thin, Form::Raw, 1, 100_000, WriteFault::BadShape),
-        (FIXED, Form::Raw, 1, 1_823, WriteFault::CapacityTooSmall),
-        (FIXED, Form::Raw, 0, 100_000, WriteFault::OutOfVolumes),
-        (FIXED, Form::Lines, 1, 100_000, WriteFault::RecordLength),
-        (FIXED, Form::Raw, 1, 2_000, WriteFault::OutOfVolumes),
-    ] {
-        let answer = one_file(alloc, plan(alloc, count, capacity, shape, form)?, bytes)?;
-        assert!(rt; answer == Err(ToolFault::Write(fault)), "{fault:?}");
+    for (row, (shape, form, count, capacity, fault)) in REFUSED.into_iter().enumerate() {
+        let records = payroll(rt.alloc(), b"")?;
+        let plan = plan(rt.alloc(), count, capacity, shape, form)?;
+        let answer = one_file(rt.alloc(), plan, records.as_slice())?;
+        assert!(rt;
+            answer == Err(ToolFault::Write(fault)),
+            "row {row}: {fault:?}"
+        );
     }
-    // The last piece is too short.
-    let Some(short) = bytes.strip_suffix(b" ") else {
-        return Err(Fail::from("a space"));
-    };
-    let answer = one_file(alloc, plan(alloc, 1, 100_000, FIXED, Form::Raw)?, short)?;
+    Ok(())
+}
+
+/// The last piece is too short.
+#[test]
+fn a_short_piece(rt: HostRuntime) -> Result<(), Fail> {
+    let mut records = payroll(rt.alloc(), b"")?;
+    records.truncate(1999);
+    let plan = plan(rt.alloc(), 1, 100_000, FIXED, Form::Raw)?;
+    let answer = one_file(rt.alloc(), plan, records.as_slice())?;
     assert!(rt; answer == Err(ToolFault::Write(WriteFault::RecordLength)));
     Ok(())
 }
 
+/// What the files become on one volume, whose image this device takes.
+fn on_one_volume<R: Read, W: Write + Drop>(
+    alloc: Global,
+    shape: Shape,
+    form: Form,
+    files: &mut [Input<R>],
+    device: W,
+) -> Result<Result<WrittenSet<W>, RefusedSet<W>>, AllocError> {
+    let mut images = Vec::new(alloc);
+    images.push(ImageWriter::new(device))?;
+    let plan = plan(alloc, 1, 100_000, shape, form)?;
+    Ok(write_set(alloc, plan, files, images))
+}
+
+/// The set was refused with this fault, and its image comes back.
+fn is_refused<A: Abort, W: Write + Drop>(
+    rt: &A,
+    refused: &RefusedSet<W>,
+    fault: ToolFault,
+    case: usize,
+) {
+    assert!(rt; refused.fault == fault, "{case}");
+    assert!(rt; refused.images.len() == 1, "{case}");
+}
+
 #[test]
 fn no_files(rt: HostRuntime) -> Result<(), Fail> {
-    let alloc = rt.alloc();
-    let mut images = Vec::new(alloc);
-    images.push(ImageWriter::new(Vec::new(alloc)))?;
     let mut files: [Input<&[u8]>; 0] = [];
-    match write_set(
-        alloc,
-        plan(alloc, 1, 100_000, FIXED, Form::Raw)?,
-        &mut files,
-        images,
-    ) {
-        Ok(_) => Err(Fail::from("a set without a file")),
-        Err(refused) => {
-            assert!(rt; refused.fault == ToolFault::Write(WriteFault::NoFile));
-            assert_eq!(rt; refused.images.len(), 1);
-            Ok(())
-        }
+    let device = Vec::new(rt.alloc());
+    match on_one_volume(rt.alloc(), FIXED, Form::Raw, &mut files, device)? {
+        Ok(_) => return Err(Fail::from("a set without a file")),
+        Err(refused) => is_refused(&rt, &refused, ToolFault::Write(WriteFault::NoFile), 0),
     }
+    Ok(())
+}
+
+/// What two lines become of which so many bytes can be read, one byte a call.
+fn of_dribble(
+    alloc: Global,
+    left: usize,
+) -> Result<Result<WrittenSet<Vec<u8>>, RefusedSet<Vec<u8>>>, AllocError> {
+    let mut files = [Input {
+        head: head(),
+        reader: Dribble {
+            bytes: b"AB\nCD\n",
+            left,
+            kind: ErrorKind::Interrupted,
+        },
+    }];
+    on_one_volume(alloc, COUNTED, Form::Lines, &mut files, Vec::new(alloc))
 }
 
 /// A reader that fails, at each byte of an input that is read one byte a call.
 #[test]
 fn an_input_that_fails(rt: HostRuntime) -> Result<(), Fail> {
-    let alloc = rt.alloc();
+    let read_failed = ToolFault::File(FileFault::ReadFailed);
     for left in 0..7 {
-        let mut images = Vec::new(alloc);
-        images.push(ImageWriter::new(Vec::new(alloc)))?;
-        let mut files = [Input {
-            head: head(),
-            reader: Dribble {
-                bytes: b"AB\nCD\n",
-                left,
-                kind: ErrorKind::Interrupted,
-            },
-        }];
-        let plan = plan(alloc, 1, 100_000, COUNTED, Form::Lines)?;
-        match write_set(alloc, plan, &mut files, images) {
+        match of_dribble(rt.alloc(), left)? {
             Ok(_) => return Err(Fail::from("an input that fails")),
-            Err(refused) => {
-                assert!(rt; refused.fault == ToolFault::File(FileFault::ReadFailed));
-                assert_eq!(rt; refused.images.len(), 1);
-            }
+            Err(refused) => is_refused(&rt, &refused, read_failed, left),
         }
     }
     Ok(())
 }
 
+/// What one line becomes on a device that takes so many bytes.
+fn on_narrow(
+    alloc: Global,
+    left: usize,
+) -> Result<Result<WrittenSet<Narrow>, RefusedSet<Narrow>>, AllocError> {
+    let mut files = [Input {
+        head: head(),
+        reader: b"AB\n".as_slice(),
+    }];
+    let device = Narrow::new(alloc, left, true);
+    on_one_volume(alloc, COUNTED, Form::Lines, &mut files, device)
+}
+
+/// The device failed, and the one that came back took so many bytes.
+fn stopped_at<A: Abort>(rt: &A, refused: RefusedSet<Narrow>, left: usize) {
+    is_refused(rt, &refused, ToolFault::Write(WriteFault::Device), left);
+    for image in refused.images {
+        assert!(rt; image.into_device().taken.len() == left, "{left}");
+    }
+}
+
 /// A device that fails, at each byte of an image. What was written comes back.
 #[test]
 fn a_device_that_fails(rt: HostRuntime) -> Result<(), Fail> {
-    let alloc = rt.alloc();
-    for left in 0..487 {
-        let mut images = Vec::new(alloc);
-        images.push(ImageWriter::new(Narrow {
-            taken: Vec::new(alloc),
-            left,
-            kind: None,
-            flushes: true,
-        }))?;
-        let mut files = [Input {
-            head: head(),
-            reader: b"AB\n".as_slice(),
-        }];
-        let plan = plan(alloc, 1, 100_000, COUNTED, Form::Lines)?;
-        match write_set(alloc, plan, &mut files, images) {
-            Ok(done) => {
-                assert_eq!(rt; left, 486);
-                assert_eq!(rt; done.ended, 1);
-                assert_eq!(rt; done.files, 1);
-            }
-            Err(refused) => {
-                assert!(rt;
-                    refused.fault == ToolFault::Write(WriteFault::Device),
-                    "{left}"
-                );
-                for image in refused.images {
-                    assert_eq!(rt; image.into_device().taken.len(), left);
-                }
-            }
+    for left in 0..486 {
+        match on_narrow(rt.alloc(), left)? {
+            Ok(_) => return Err(Fail::from("a device that fails")),
+            Err(refused) => stopped_at(&rt, refused, left),
         }
+    }
+    Ok(())
+}
+
+/// A device that takes just the image.
+#[test]
+fn a_device_that_is_wide_enough(rt: HostRuntime) -> Result<(), Fail> {
+    match on_narrow(rt.alloc(), 486)? {
+        Ok(done) => assert_eq!(rt; (done.ended, done.files), (1, 1)),
+        Err(_) => return Err(Fail::from("a set that should be written")),
     }
     Ok(())
 }

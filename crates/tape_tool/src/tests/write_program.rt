@@ -1,219 +1,211 @@
-//! `write` with files. The tests share a folder: each has a prefix of its own.
-use super::image::Image;
-use super::words::words_of;
+//! `write` with files. Each test has a prefix of its own.
+use super::calls::{Step, each_fails, each_is_wrong, end_of, ends, holds, put, take_all};
 use crate::end::End;
 use crate::fault::{Fault, FileFault, ToolFault};
-use crate::program::perform;
+use std::alloc::{AllocError, Global};
 use std::fs;
-use std::fs::File;
-use std::io::Write;
+use std::process::Abort;
+use std::rt::Runtime;
 use std::test::Fail;
 use tape_label::LabelFault;
 use tape_writer::WriteFault;
 
-fn perform_line(rt: &HostRuntime, line: &str) -> Result<End, Fail> {
-    let words = words_of(rt.alloc(), line)?;
-    Ok(perform(rt, words.as_slice()))
-}
+const EXISTS: ToolFault = ToolFault::File(FileFault::Exists);
 
-fn make(rt: &HostRuntime, path: &str, bytes: &[u8]) -> Result<(), Fail> {
-    let mut file = File::create(rt, path)?;
-    file.write_all(bytes)?;
-    Ok(())
-}
+/// The call that writes the worked volume.
+const WRITE: &str = "write worked ABC 100000 PAYROLL=payroll.bin \
+    --format F --block 800 --record 80 --form raw";
 
-fn faulted(fault: ToolFault) -> End {
-    End::Faulted(Fault::Tool(fault))
-}
-
-fn write_fault(fault: WriteFault) -> End {
-    faulted(ToolFault::Write(fault))
-}
-
-fn file_fault(fault: FileFault) -> End {
-    faulted(ToolFault::File(fault))
-}
-
-/// The 25 records of the worked volume.
-fn payroll(rt: &HostRuntime) -> Result<Vec<u8>, Fail> {
-    let mut bytes = Vec::new(rt.alloc());
-    for number in 1..26u8 {
-        bytes.extend_from_slice(&[b'0', b'0', b'0' + number / 10, b'0' + number % 10])?;
-        bytes.extend_from_slice(&[b' '; 76])?;
-    }
-    Ok(bytes)
-}
+const WORKED_VOLUME: &[Step<'_>] = &[
+    Step::PutRecords("payroll.bin"),
+    Step::Folder("worked"),
+    Step::Ends(WRITE, End::Done),
+    Step::IsWorked("worked/ABC001.tap"),
+    Step::IsMissing("worked/ABC002.tap"),
+    Step::Fails(WRITE, EXISTS),
+    Step::IsWorked("worked/ABC001.tap"),
+    Step::Remove("worked/ABC001.tap"),
+    Step::Ends("init worked ABC 1", End::Done),
+    Step::Ends(WRITE, End::Done),
+    Step::IsWorked("worked/ABC001.tap"),
+    Step::Ends("list worked/ABC001.tap", End::Done),
+];
 
 /// The worked image; over a blank volume; and not over what was written.
 #[test]
 fn the_worked_volume_as_a_file(rt: HostRuntime) -> Result<(), Fail> {
-    let worked = Image::worked(rt.alloc(), &[])?.bytes;
-    let records = payroll(&rt)?;
-    make(&rt, "payroll.bin", records.as_slice())?;
-    fs::create_dir(&rt, "worked")?;
-    let line = "write worked ABC 100000 PAYROLL=payroll.bin \
-        --format F --block 800 --record 80 --form raw";
-    assert_eq!(rt; perform_line(&rt, line)?, End::Done);
-    let image = fs::read(&rt, "worked/ABC001.tap")?;
-    assert_eq!(rt; image.as_slice(), worked.as_slice());
-    assert!(rt; fs::read(&rt, "worked/ABC002.tap").is_err());
-    assert_eq!(rt; perform_line(&rt, line)?, file_fault(FileFault::Exists));
-    let image = fs::read(&rt, "worked/ABC001.tap")?;
-    assert_eq!(rt; image.as_slice(), worked.as_slice());
-    fs::remove_file(&rt, "worked/ABC001.tap")?;
-    assert_eq!(rt; perform_line(&rt, "init worked ABC 1")?, End::Done);
-    assert_eq!(rt; perform_line(&rt, line)?, End::Done);
-    let image = fs::read(&rt, "worked/ABC001.tap")?;
-    assert_eq!(rt; image.as_slice(), worked.as_slice());
-    assert_eq!(rt; perform_line(&rt, "list worked/ABC001.tap")?, End::Done);
+    take_all(&rt, WORKED_VOLUME)
+}
+
+/// The image with so many of its bytes, and zeros behind them.
+fn changed(alloc: Global, image: &[u8], kept: usize, zeros: u8) -> Result<Vec<u8>, AllocError> {
+    let mut bytes = Vec::from_slice(alloc, image)?;
+    bytes.truncate(kept);
+    for _ in 0..zeros {
+        bytes.push(0)?;
+    }
+    Ok(bytes)
+}
+
+/// An image of these bytes is not written over.
+fn is_left_alone<H: Runtime + AllocGlobal + Abort>(rt: &H, image: &[u8]) -> Result<(), Fail> {
+    put(rt, "THR001.tap", image)?;
+    let end = end_of(rt, "write . THR 100000 A=there.txt")?;
+    assert!(rt;
+        end == End::Faulted(Fault::Tool(EXISTS)),
+        "{} bytes",
+        image.len()
+    );
+    assert!(rt; holds(rt, "THR001.tap", image)?, "{} bytes", image.len());
     Ok(())
 }
 
 /// A volume that is blank but for one byte, or for one byte more, or one less, is left alone.
 #[test]
 fn images_that_are_there(rt: HostRuntime) -> Result<(), Fail> {
-    make(&rt, "there.txt", b"AB\n")?;
-    assert_eq!(rt; perform_line(&rt, "init . THR 1")?, End::Done);
+    put(&rt, "there.txt", b"AB\n")?;
+    ends(&rt, "init . THR 1", End::Done)?;
     let blank = fs::read(&rt, "THR001.tap")?;
-    let line = "write . THR 100000 A=there.txt";
-    let mut other = Vec::new(rt.alloc());
-    other.extend_from_slice(blank.as_slice())?;
-    other.push(0)?;
-    make(&rt, "THR001.tap", other.as_slice())?;
-    assert_eq!(rt; perform_line(&rt, line)?, file_fault(FileFault::Exists));
-    assert_eq!(rt; fs::read(&rt, "THR001.tap")?.len(), 101);
-    other.clear();
-    for byte in blank.as_slice() {
-        if other.len() < 99 {
-            other.push(*byte)?;
-        }
+    for (kept, zeros) in [(100, 1), (99, 0), (99, 1)] {
+        let image = changed(rt.alloc(), blank.as_slice(), kept, zeros)?;
+        is_left_alone(&rt, image.as_slice())?;
     }
-    make(&rt, "THR001.tap", other.as_slice())?;
-    assert_eq!(rt; perform_line(&rt, line)?, file_fault(FileFault::Exists));
-    other.push(0)?;
-    make(&rt, "THR001.tap", other.as_slice())?;
-    assert_eq!(rt; perform_line(&rt, line)?, file_fault(FileFault::Exists));
-    assert_eq!(rt; fs::read(&rt, "THR001.tap")?.as_slice(), other.as_slice());
-    fs::create_dir(&rt, "TFF001.tap")?;
-    assert_eq!(rt;
-        perform_line(&rt, "write . TFF 100000 A=there.txt")?,
-        file_fault(FileFault::NotOpened)
-    );
     Ok(())
 }
+
+const FOLDER: &[Step<'_>] = &[
+    Step::Put("beside.txt", b"AB\n"),
+    Step::Folder("TFF001.tap"),
+    Step::Fails(
+        "write . TFF 100000 A=beside.txt",
+        ToolFault::File(FileFault::NotOpened),
+    ),
+];
+
+/// What cannot be read as a file is no image that could be written over.
+#[test]
+fn a_folder_that_is_there(rt: HostRuntime) -> Result<(), Fail> {
+    take_all(&rt, FOLDER)
+}
+
+const SECOND: &[Step<'_>] = &[
+    Step::PutRecords("second.bin"),
+    Step::Put("SND002.tap", b"kept"),
+    Step::Fails(
+        "write . SND 2500 PAYROLL=second.bin --format F --block 800 --record 80 --form raw",
+        EXISTS,
+    ),
+    Step::HasLength("SND001.tap", 2484),
+    Step::Holds("SND002.tap", b"kept"),
+];
 
 /// A second volume that is no blank one: the first one stands.
 #[test]
 fn a_second_image_that_is_there(rt: HostRuntime) -> Result<(), Fail> {
-    make(&rt, "second.bin", payroll(&rt)?.as_slice())?;
-    make(&rt, "SND002.tap", b"kept")?;
-    let line = "write . SND 2500 PAYROLL=second.bin --format F --block 800 --record 80 --form raw";
-    assert_eq!(rt; perform_line(&rt, line)?, file_fault(FileFault::Exists));
-    assert_eq!(rt; fs::read(&rt, "SND001.tap")?.len(), 2484);
-    assert_eq!(rt; fs::read(&rt, "SND002.tap")?.as_slice(), b"kept".as_slice());
-    Ok(())
+    take_all(&rt, SECOND)
 }
+
+/// Lines that are no call of `write`.
+const WRONG: &[&str] = &[
+    "write",
+    "write . WRD 100000",
+    "write . wrd 100000 A=B",
+    "write . WRD 4294967296 A=B",
+    "write . WRD many A=B",
+    "write . WRD 100000 A",
+    "write . WRD 100000 A=B C",
+    "write . WRD 100000 A=B --format F",
+    "write . WRD 100000 A=B --format S --record 80",
+    "write . WRD 100000 A=B --form raw",
+    "write . WRD 100000 A=B --format X",
+    "write . WRD 100000 A=B --form blocks",
+    "write . WRD 100000 A=B --block 4294967296",
+    "write . WRD 100000 A=B --offset 256",
+    "write . WRD 100000 A=B --record -1",
+];
 
 #[test]
 fn words_of_write(rt: HostRuntime) -> Result<(), Fail> {
-    for line in [
-        "write",
-        "write . WRD 100000",
-        "write . wrd 100000 A=B",
-        "write . WRD 4294967296 A=B",
-        "write . WRD many A=B",
-        "write . WRD 100000 A",
-        "write . WRD 100000 A=B C",
-        "write . WRD 100000 A=B --format F",
-        "write . WRD 100000 A=B --format S --record 80",
-        "write . WRD 100000 A=B --form raw",
-        "write . WRD 100000 A=B --format X",
-        "write . WRD 100000 A=B --form blocks",
-        "write . WRD 100000 A=B --block 4294967296",
-        "write . WRD 100000 A=B --offset 256",
-        "write . WRD 100000 A=B --record -1",
-    ] {
-        assert_eq!(rt; perform_line(&rt, line)?, End::WrongWords, "{line}");
-    }
-    assert_eq!(rt; perform_line(&rt, "write --help")?, End::Done);
-    Ok(())
+    each_is_wrong(&rt, WRONG)?;
+    ends(&rt, "write --help", End::Done)
 }
 
 /// Faults, in the order in which they are looked for.
+const FAULTS: &[(&str, ToolFault)] = &[
+    (
+        "write none FLT 0 a=none --pad-full --format S",
+        ToolFault::Write(WriteFault::BadShape),
+    ),
+    (
+        "write none FLT 0 a=none --record 0 --format F",
+        ToolFault::Write(WriteFault::BadShape),
+    ),
+    (
+        "write none FLT 0 A=none Ab=none",
+        ToolFault::Label(LabelFault::NotACharacter(1)),
+    ),
+    (
+        "write none FLT 0 ABCDEFGHIJKLMNOPQR=none",
+        ToolFault::Label(LabelFault::FieldLength),
+    ),
+    (
+        "write none FLT 0 A=none",
+        ToolFault::File(FileFault::NotOpened),
+    ),
+    (
+        "write none FLT 0 A=nine.txt --block 17",
+        ToolFault::Write(WriteFault::BadShape),
+    ),
+    (
+        "write none FLT 0 A=nine.txt --offset 100",
+        ToolFault::Write(WriteFault::BadShape),
+    ),
+    (
+        "write none FLT 3071 A=nine.txt",
+        ToolFault::Write(WriteFault::CapacityTooSmall),
+    ),
+    (
+        "write none FLT 100000 A=nine.txt",
+        ToolFault::File(FileFault::NotOpened),
+    ),
+    (
+        "write . FLT 100000 A=nine.txt --block 20000",
+        ToolFault::Write(WriteFault::RecordLength),
+    ),
+    (
+        "write . FLA 100000 A=rest.bin --format F --record 80 --form raw",
+        ToolFault::Write(WriteFault::RecordLength),
+    ),
+    (
+        "write . FLB 100000 A=.",
+        ToolFault::File(FileFault::ReadFailed),
+    ),
+];
+
 #[test]
 fn faults_of_write(rt: HostRuntime) -> Result<(), Fail> {
-    make(&rt, "nine.txt", &[b'9'; 9_996])?;
-    make(&rt, "rest.bin", &[b'9'; 81])?;
-    let label = |fault| faulted(ToolFault::Label(fault));
-    for (line, wanted) in [
-        (
-            "write none FLT 0 a=none --pad-full --format S",
-            write_fault(WriteFault::BadShape),
-        ),
-        (
-            "write none FLT 0 a=none --record 0 --format F",
-            write_fault(WriteFault::BadShape),
-        ),
-        (
-            "write none FLT 0 A=none Ab=none",
-            label(LabelFault::NotACharacter(1)),
-        ),
-        (
-            "write none FLT 0 ABCDEFGHIJKLMNOPQR=none",
-            label(LabelFault::FieldLength),
-        ),
-        ("write none FLT 0 A=none", file_fault(FileFault::NotOpened)),
-        (
-            "write none FLT 0 A=nine.txt --block 17",
-            write_fault(WriteFault::BadShape),
-        ),
-        (
-            "write none FLT 0 A=nine.txt --offset 100",
-            write_fault(WriteFault::BadShape),
-        ),
-        (
-            "write none FLT 3071 A=nine.txt",
-            write_fault(WriteFault::CapacityTooSmall),
-        ),
-        (
-            "write none FLT 100000 A=nine.txt",
-            file_fault(FileFault::NotOpened),
-        ),
-        (
-            "write . FLT 100000 A=nine.txt --block 20000",
-            write_fault(WriteFault::RecordLength),
-        ),
-        (
-            "write . FLA 100000 A=rest.bin --format F --record 80 --form raw",
-            write_fault(WriteFault::RecordLength),
-        ),
-        ("write . FLB 100000 A=.", file_fault(FileFault::ReadFailed)),
-        (
-            "write . FLC 1042 A=nine.txt --format S --block 18",
-            End::Done,
-        ),
-    ] {
-        assert_eq!(rt; perform_line(&rt, line)?, wanted, "{line}");
-    }
-    Ok(())
+    put(&rt, "nine.txt", &[b'9'; 9_996])?;
+    put(&rt, "rest.bin", &[b'9'; 81])?;
+    each_fails(&rt, FAULTS)?;
+    let line = "write . FLC 1042 A=nine.txt --format S --block 18";
+    ends(&rt, line, End::Done)
 }
+
+const FULL: &[Step<'_>] = &[
+    Step::Folder("full"),
+    Step::Fails(
+        "write full FUL 1042 A=full.bin --format S --block 18 --form raw",
+        ToolFault::Write(WriteFault::OutOfVolumes),
+    ),
+    Step::HasLength("full/FUL255.tap", 1032),
+    Step::IsMissing("full/FUL257.tap"),
+];
 
 /// Volumes 1 to 256 are there, and no more: each takes 22 blocks of 18 bytes, of which 13 are the
 /// record's.
 #[test]
 fn the_last_volume(rt: HostRuntime) -> Result<(), Fail> {
-    let mut bytes = Vec::new(rt.alloc());
-    for _ in 0..13 * 22 * 256 {
-        bytes.push(b'9')?;
-    }
-    fs::create_dir(&rt, "full")?;
-    make(&rt, "full.bin", bytes.as_slice())?;
-    let line = "write full FUL 1042 A=full.bin --format S --block 18 --form raw";
-    assert_eq!(rt;
-        perform_line(&rt, line)?,
-        write_fault(WriteFault::OutOfVolumes)
-    );
-    assert_eq!(rt; fs::read(&rt, "full/FUL255.tap")?.len(), 1032);
-    assert!(rt; fs::read(&rt, "full/FUL257.tap").is_err());
-    Ok(())
+    let bytes = Vec::from_elem(rt.alloc(), b'9', 13 * 22 * 256)?;
+    put(&rt, "full.bin", bytes.as_slice())?;
+    take_all(&rt, FULL)
 }

@@ -1,0 +1,202 @@
+//! The program as it is called: how a line ends, and the files around it. The tests share a folder:
+//! each file has a name of its own.
+use super::image::payroll;
+use super::volumes::{damaged, worked};
+use super::words::words_of;
+use crate::end::End;
+use crate::fault::{Fault, ToolFault};
+use crate::program::perform;
+use std::alloc::{AllocError, Global};
+use std::fs;
+use std::fs::File;
+use std::io::Write;
+use std::process::Abort;
+use std::rt::Runtime;
+use std::test::Fail;
+
+/// How the line ends.
+pub fn end_of<H: Runtime + AllocGlobal>(rt: &H, line: &str) -> Result<End, Fail> {
+    let words = words_of(rt.alloc(), line)?;
+    Ok(perform(rt, words.as_slice()))
+}
+
+/// The line ends so.
+pub fn ends<H: Runtime + AllocGlobal + Abort>(rt: &H, line: &str, wanted: End) -> Result<(), Fail> {
+    let end = end_of(rt, line)?;
+    assert!(rt; end == wanted, "{line}: {end:?}");
+    Ok(())
+}
+
+/// The line ends with this fault.
+fn fails<H: Runtime + AllocGlobal + Abort>(
+    rt: &H,
+    line: &str,
+    fault: ToolFault,
+) -> Result<(), Fail> {
+    ends(rt, line, End::Faulted(Fault::Tool(fault)))
+}
+
+/// Each line ends as stands beside it.
+pub fn each_ends<H: Runtime + AllocGlobal + Abort>(
+    rt: &H,
+    cases: &[(&str, End)],
+) -> Result<(), Fail> {
+    for (line, wanted) in cases {
+        ends(rt, line, *wanted)?;
+    }
+    Ok(())
+}
+
+/// Each line ends with the fault beside it.
+pub fn each_fails<H: Runtime + AllocGlobal + Abort>(
+    rt: &H,
+    cases: &[(&str, ToolFault)],
+) -> Result<(), Fail> {
+    for (line, fault) in cases {
+        fails(rt, line, *fault)?;
+    }
+    Ok(())
+}
+
+/// None of these lines asks for anything that there is.
+pub fn each_is_wrong<H: Runtime + AllocGlobal + Abort>(rt: &H, lines: &[&str]) -> Result<(), Fail> {
+    for line in lines {
+        ends(rt, line, End::WrongWords)?;
+    }
+    Ok(())
+}
+
+/// A step of a test: what is done, and what is to come of it.
+#[derive(Clone, Copy)]
+pub enum Step<'a> {
+    /// The program is called by this line, and ends so.
+    Ends(&'a str, End),
+    /// The program is called by this line, and ends with this fault.
+    Fails(&'a str, ToolFault),
+    /// A folder is made.
+    Folder(&'a str),
+    /// A file of these bytes is made.
+    Put(&'a str, &'a [u8]),
+    /// A file is made of the worked image, or of so many of its first bytes.
+    PutWorked(&'a str, usize),
+    /// A file is made of a volume of which this block cannot be read.
+    PutDamaged(&'a str, usize),
+    /// A file is made of the records of the worked volume.
+    PutRecords(&'a str),
+    /// The file is removed, if it is there.
+    Remove(&'a str),
+    /// The file has these bytes.
+    Holds(&'a str, &'a [u8]),
+    /// The file is the worked image.
+    IsWorked(&'a str),
+    /// The file has so many bytes.
+    HasLength(&'a str, usize),
+    /// The file has this text at this place.
+    HasText(&'a str, usize, &'a [u8]),
+    /// There is no such file.
+    IsMissing(&'a str),
+}
+
+/// Takes these steps, one behind the other: each comes to what it is to come to.
+pub fn take_all<H: Runtime + AllocGlobal + Abort>(rt: &H, steps: &[Step<'_>]) -> Result<(), Fail> {
+    for (number, step) in steps.iter().enumerate() {
+        assert!(rt; take(rt, step)?, "the step behind {number} others");
+    }
+    Ok(())
+}
+
+/// Takes a step, and tells whether it came to what it was to come to.
+fn take<H: Runtime + AllocGlobal>(rt: &H, step: &Step<'_>) -> Result<bool, Fail> {
+    match *step {
+        Step::Ends(line, wanted) => Ok(end_of(rt, line)? == wanted),
+        Step::Fails(line, fault) => Ok(end_of(rt, line)? == End::Faulted(Fault::Tool(fault))),
+        Step::Folder(path) => Ok(fs::create_dir(rt, path).is_ok()),
+        Step::Put(path, bytes) => put(rt, path, bytes),
+        Step::PutWorked(path, length) => put_worked(rt, path, length),
+        Step::PutDamaged(path, bad) => put_damaged(rt, path, bad),
+        Step::PutRecords(path) => put_records(rt, path),
+        Step::Remove(path) => Ok(remove(rt, path)),
+        Step::Holds(path, bytes) => holds(rt, path, bytes),
+        Step::IsWorked(path) => is_worked(rt, path),
+        Step::HasLength(path, length) => has_length(rt, path, length),
+        Step::HasText(path, place, text) => has_text(rt, path, place, text),
+        Step::IsMissing(path) => Ok(is_missing(rt, path)),
+    }
+}
+
+/// Makes a file of these bytes.
+pub fn put<H: Runtime>(rt: &H, path: &str, bytes: &[u8]) -> Result<bool, Fail> {
+    let mut file = File::create(rt, path)?;
+    file.write_all(bytes)?;
+    Ok(true)
+}
+
+fn put_worked<H: Runtime + AllocGlobal>(rt: &H, path: &str, length: usize) -> Result<bool, Fail> {
+    let image = worked(rt.alloc())?.cut(length);
+    put(rt, path, image.bytes.as_slice())
+}
+
+fn put_damaged<H: Runtime + AllocGlobal>(rt: &H, path: &str, bad: usize) -> Result<bool, Fail> {
+    let image = damaged(rt.alloc(), bad)?;
+    put(rt, path, image.bytes.as_slice())
+}
+
+fn put_records<H: Runtime + AllocGlobal>(rt: &H, path: &str) -> Result<bool, Fail> {
+    let records = payroll(rt.alloc(), b"")?;
+    put(rt, path, records.as_slice())
+}
+
+fn remove<H: Runtime>(rt: &H, path: &str) -> bool {
+    let _ = fs::remove_file(rt, path);
+    true
+}
+
+/// Whether the file has these bytes.
+pub fn holds<H: Runtime + AllocGlobal>(rt: &H, path: &str, bytes: &[u8]) -> Result<bool, Fail> {
+    let found = fs::read(rt, path)?;
+    Ok(found.as_slice() == bytes)
+}
+
+fn is_worked<H: Runtime + AllocGlobal>(rt: &H, path: &str) -> Result<bool, Fail> {
+    let image = worked(rt.alloc())?;
+    holds(rt, path, image.bytes.as_slice())
+}
+
+/// Whether the file has so many bytes.
+fn has_length<H: Runtime + AllocGlobal>(rt: &H, path: &str, length: usize) -> Result<bool, Fail> {
+    let found = fs::read(rt, path)?;
+    Ok(found.len() == length)
+}
+
+/// Whether the file has this text at this place.
+fn has_text<H: Runtime + AllocGlobal>(
+    rt: &H,
+    path: &str,
+    place: usize,
+    text: &[u8],
+) -> Result<bool, Fail> {
+    let found = fs::read(rt, path)?;
+    Ok(stands(found.as_slice(), place, text))
+}
+
+/// Whether the text stands at this place.
+pub fn stands(bytes: &[u8], place: usize, text: &[u8]) -> bool {
+    match bytes.get(place..) {
+        Some(rest) => rest.starts_with(text),
+        None => false,
+    }
+}
+
+/// Whether there is no such file.
+fn is_missing<H: Runtime + AllocGlobal>(rt: &H, path: &str) -> bool {
+    fs::read(rt, path).is_err()
+}
+
+/// The line with so many names of images behind it, none of which is there.
+pub fn with_images(alloc: Global, line: &str, count: u16) -> Result<String, AllocError> {
+    let mut line = line.to_string(alloc)?;
+    for _ in 0..count {
+        line.push_str(" lost.tap")?;
+    }
+    Ok(line)
+}
