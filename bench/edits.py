@@ -170,7 +170,7 @@ def lemmas_of(crate):
     found = {}
     for at, _, files in os.walk(f"{crate}/proofs"):
         for file in sorted(it for it in files if it.startswith("Mistakes")):
-            for name in re.findall(r"(?m)^(?:pub )?(\w+) :", text_of(f"{at}/{file}")):
+            for name in re.findall(r"(?m)^ *(?:pub )?(\w+) :", text_of(f"{at}/{file}")):
                 found[name] = os.path.relpath(f"{at}/{file}", crate)
     return found
 
