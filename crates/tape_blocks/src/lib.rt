@@ -3,6 +3,7 @@
 
 mod check;
 mod fault;
+mod form;
 pub mod laws;
 mod offer;
 mod packer;
@@ -16,6 +17,7 @@ mod writing;
 
 pub use check::check_block;
 pub use fault::{BlockCause, BlockFault, PackFault};
+pub use form::Form;
 pub use offer::Offer;
 pub use packer::Packer;
 pub use packing::pack_all;

@@ -114,8 +114,8 @@ fn refused(rt: HostRuntime) {
     }
 }
 
-/// Shapes that are written, and others: at most 99 bytes of offset, and in format S six bytes behind
-/// it.
+/// Shapes that are written, and others: at most 99 bytes of offset, and in format S six bytes
+/// behind it.
 #[test]
 fn shapes_that_are_written(rt: HostRuntime) {
     let rows = [

@@ -178,25 +178,56 @@ begin_told H H' w out vs files file course p told head shape is v same f filing 
     (λ n x. h refl n x) k)
     f filing
 
-pub stuck_told : {T : Type 0} (H H' : Tapes → Type 0) (w : SetState T) (vs : List Vol1)
+pub stuck_told : {T : Type 0} (H H' : Tapes → Type 0) (w : SetState T) (out : T) (vs : List Vol1)
     (course : Course) (o : OpenFile) (told : List Told)
     → w.phase ≡ Filing o → vs ≡ w.volumes
     → ((fs : List (List Section)) (records : List (List ℕ))
     → IsInside H vs w.capacity w.set_id o.file w.course o.packer fs records
-    → IsStuck H' vs w.capacity w.set_id o.file course fs)
-    → IsWriting H w told → IsOutOfVolumes H' w course
-stuck_told H H' w vs course o told is v stuck k =
+    → IsStuck H' vs w.capacity w.set_id o.file course fs records)
+    → IsWriting H w told
+    → IsOutOfVolumes H' (record w { out = out; course = course; phase = Failed }) told
+stuck_told H H' w out vs course o told is v stuck k =
     let last = last_told H w o told is k in
     let f = last.filing in
-    subst (λ z. IfFiling z
-    (λ o. (fs : List (List Section)) × IsStuck H' w.volumes w.capacity w.set_id o.file course fs))
-    (sym is) (
-      f.files,
-      subst (λ z. IsStuck H' z w.capacity w.set_id o.file course f.files) v
+    record {
+      past = last.past;
+      last = record { file = o.file; records = last.records };
+      is_told = last.is_told;
+      files = f.files;
+      filed = f.filed;
+      stuck = subst (λ z. IsStuck H' z w.capacity w.set_id o.file course f.files last.records) v
           (stuck f.files last.records
           (subst (λ z. IsInside H z w.capacity w.set_id o.file w.course o.packer f.files
-          last.records) (sym v) f.inside)),
-    )
+          last.records) (sym v) f.inside));
+    }
+
+-- the same of a record that was offered behind them
+pub stuck_put_told : {T : Type 0} (H H' : Tapes → Type 0) (w : SetState T) (out : T)
+    (vs : List Vol1)
+    (course : Course) (o : OpenFile) (told : List Told) (r : List ℕ)
+    → w.phase ≡ Filing o → vs ≡ w.volumes
+    → ((fs : List (List Section)) (records : List (List ℕ))
+    → IsInside H vs w.capacity w.set_id o.file w.course o.packer fs records
+    → IsStuck H' vs w.capacity w.set_id o.file course fs (records ++ r ∷ []))
+    → IsWriting H w told
+    → IsOutOfVolumes H' (record w { out = out; course = course; phase = Failed })
+    (with_record told r)
+stuck_put_told H H' w out vs course o told r is v stuck k =
+    let last = last_told H w o told is k in
+    let f = last.filing in
+    record {
+      past = last.past;
+      last = record { file = o.file; records = last.records ++ r ∷ [] };
+      is_told = ap (λ z. with_record z r) last.is_told
+          ∙ with_last last.past (record { file = o.file; records = last.records }) r;
+      files = f.files;
+      filed = f.filed;
+      stuck = subst (λ z. IsStuck H' z w.capacity w.set_id o.file course f.files
+          (last.records ++ r ∷ [])) v
+          (stuck f.files last.records
+          (subst (λ z. IsInside H z w.capacity w.set_id o.file w.course o.packer f.files
+          last.records) (sym v) f.inside));
+    }
 
 -- inside a file
 pub if_filing : (x : Phase) (o : OpenFile) (Q : OpenFile → Type 0) → x ≡ Filing o → Q o

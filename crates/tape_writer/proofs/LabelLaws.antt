@@ -49,7 +49,22 @@ head_wide kind h blocks w = (
     w.file_id,
     (
       w.set_id,
-      (length-digits 4 h.sect, (length-digits 4 h.sequence, (w.generation, (w.gen_version, (w.created, (w.expires, (refl, (length-digits 6 blocks, (w.implementation, (refl, tt)))))))))),
+      (
+        length-digits 4 h.sect,
+        (
+          length-digits 4 h.sequence,
+          (
+            w.generation,
+            (
+              w.gen_version,
+              (
+                w.created,
+                (w.expires, (refl, (length-digits 6 blocks, (w.implementation, (refl, tt))))),
+              ),
+            ),
+          ),
+        ),
+      ),
     ),
   ),
 )

@@ -5,7 +5,7 @@ use Rattle.std.proofs.lemmas.List.{append-nil}
 use Rattle.tape_image.specs.Tape.{TapeItem}
 use Rattle.tape_set.specs.Sizes.{item_size}
 use Rattle.tape_set.proofs.Measures.{items_size-append}
-use Rattle.tape_writer.specs.Tapes.{Tapes, UnderWay, Rose}
+use Rattle.tape_writer.specs.Tapes.{Tapes, UnderWay, Rose, Failures, Grows}
 use Rattle.tape_writer.specs.Lasting.{Lasting}
 
 pub rose_from : (a b c : ℕ) → a ≤ b → Rose b c → Rose a c
@@ -16,7 +16,8 @@ pub rose_to : (a b c : ℕ) → Rose a b → b ≤ c → Rose a c
 rose_to a b c (inl lt) le = inl (omega arith)
 rose_to a b c (inr top) le = inr (omega arith)
 
-pub lasting_same : (H : Tapes → Type 0) (n m u v : ℕ) → n ≤ m → v ≡ u → Lasting H n u H m v
+pub lasting_same : (H : Tapes → Type 0) (n m : Failures) (u v : ℕ) → Grows n m → v ≡ u → Lasting H n
+    u H m v
 lasting_same H n m u v le e = record {
   lasts = λ volumes items h s. record {
     more = [];
@@ -27,7 +28,7 @@ lasting_same H n m u v le e = record {
   count = le;
 }
 
-pub lasting_then : (H K L : Tapes → Type 0) (n m k u v w : ℕ) → Lasting H n u K m v
+pub lasting_then : (H K L : Tapes → Type 0) (n m k : Failures) (u v w : ℕ) → Lasting H n u K m v
     → Lasting K m v L k w → Lasting H n u L k w
 lasting_then H K L n m k u v w a b = record {
   lasts = λ volumes items h s.
@@ -39,13 +40,14 @@ lasting_then H K L n m k u v w a b = record {
         held = subst (λ z. L (UnderWay z y.items)) (append_assoc volumes x.more y.more) y.held;
         size = y.size;
       };
-  count = omega (arith, a.count, b.count);
+  count = (omega (arith, a.count.0, b.count.0), omega (arith, a.count.1, b.count.1));
 }
 
 -- an item was taken
-pub lasting_item : (H K : Tapes → Type 0) (n m u v : ℕ) (x : TapeItem)
+pub lasting_item : (H K : Tapes → Type 0) (n m : Failures) (u v : ℕ) (x : TapeItem)
     → ((volumes : List (List TapeItem)) (items : List TapeItem) → H (UnderWay volumes items)
-    → K (UnderWay volumes (items ++ x ∷ []))) → n ≤ m → v ≡ u + item_size x → Lasting H n u K m v
+    → K (UnderWay volumes (items ++ x ∷ []))) → Grows n m → v ≡ u + item_size x → Lasting H n u K m
+    v
 lasting_item H K n m u v x f le e = record {
   lasts = λ volumes items h s. record {
     more = [];
@@ -58,8 +60,9 @@ lasting_item H K n m u v x f le e = record {
 }
 
 -- nothing was
-pub lasting_err : (H K : Tapes → Type 0) (n m u v : ℕ) → ((tapes : Tapes) → H tapes → K tapes)
-    → n ≤ m → v ≡ u → Lasting H n u K m v
+pub lasting_err : (H K : Tapes → Type 0) (n m : Failures) (u v : ℕ) →
+    ((tapes : Tapes) → H tapes → K tapes)
+    → Grows n m → v ≡ u → Lasting H n u K m v
 lasting_err H K n m u v f le e = record {
   lasts = λ volumes items h s. record {
     more = [];
@@ -72,9 +75,9 @@ lasting_err H K n m u v f le e = record {
 }
 
 -- a volume has ended, and the next has begun
-pub lasting_next : (H K : Tapes → Type 0) (n m u v : ℕ)
+pub lasting_next : (H K : Tapes → Type 0) (n m : Failures) (u v : ℕ)
     → ((volumes : List (List TapeItem)) (items : List TapeItem) → H (UnderWay volumes
-    items) → K (UnderWay (volumes ++ items ∷ []) [])) → n ≤ m → v ≡ 0 → Lasting H n u K m v
+    items) → K (UnderWay (volumes ++ items ∷ []) [])) → Grows n m → v ≡ 0 → Lasting H n u K m v
 lasting_next H K n m u v f le e = record {
   lasts = λ volumes items h s. record {
     more = items ∷ [];
@@ -85,8 +88,8 @@ lasting_next H K n m u v f le e = record {
   count = le;
 }
 
-pub lasting_self : (H : Tapes → Type 0) (n u : ℕ) → Lasting H n u H n u
-lasting_self H n u = lasting_same H n n u u (omega arith) refl
+pub lasting_self : (H : Tapes → Type 0) (n : Failures) (u : ℕ) → Lasting H n u H n u
+lasting_self H n u = lasting_same H n n u u (omega arith, omega arith) refl
 
 -- what a row of calls needs of the calls
 pub ruleset kept = (lasting_then, lasting_self, rose_from)

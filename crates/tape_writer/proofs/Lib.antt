@@ -7,6 +7,7 @@ pub mod Changed
 pub mod Steps
 pub mod Held
 pub mod Packed
+pub mod Stuck
 pub mod Filed
 pub mod Finish
 pub mod Ends
@@ -17,3 +18,4 @@ mod Mistakes
 mod MistakesOfRecords
 mod MistakesOfTapes
 mod MistakesOnVolumes
+mod MistakesOfCauses

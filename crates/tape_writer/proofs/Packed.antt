@@ -19,10 +19,7 @@ use Rattle.tape_writer.specs.declared.course.Opened.{Opened}
 use Rattle.tape_writer.specs.declared.course.Course.{Course}
 use Rattle.tape_writer.specs.Tapes.{Tapes}
 use Rattle.tape_writer.specs.Draft.{Draft, IsOpen, Grew, open_blocks}
-use Rattle.tape_writer.specs.Inside.{IsInside, IsPacking, Flushed, IsFlat, IsStuck}
-use Rattle.tape_image.specs.Tape.{block}
-use Rattle.tape_set.specs.Sizes.{item_size}
-use Rattle.tape_writer.proofs.Steps.{block_due, end_refused}
+use Rattle.tape_writer.specs.Inside.{IsInside, IsPacking, Flushed, IsFlat}
 use Rattle.tape_writer.proofs.Lists.{all_push}
 
 -- ---- a block that is given has bytes
@@ -194,39 +191,7 @@ judged_more shape first p whole rest is opened ended Same (inl a) judged =
     (ap (λ (z : Packing). z.shape) a.1 ∙ is)
     (subst (λ (r : List ℕ). HasRecordLength p.shape.format p.shape.rec_len (length r)) a.2 fits)
 
--- ---- no volume left
-
-pub stuck_by : (H H' : Tapes → Type 0) (vs : List Vol1) (cap : ℕ) (set_id : List ℕ)
-    (file : Opened) (course course' : Course) (d : Draft) (b : Filled)
-    → (IsOpen H vs cap set_id file course d → IsOpen H' vs cap set_id file course' d)
-    → length vs ≤ course'.volume → cap < course'.used + item_size (block b.bytes) + 192
-    → IsOpen H vs cap set_id file course d
-    → IsStuck H' vs cap set_id file course' d.files
-stuck_by H H' vs cap set_id file course course' d b same none due o =
-    record {
-      draft = d;
-      is_open = same o;
-      files = refl;
-      none_left = none;
-      next = b ∷ [];
-      due = block_due cap course'.used (item_size (block b.bytes)) due;
-    }
-
-pub stuck_end : (H H' : Tapes → Type 0) (vs : List Vol1) (cap : ℕ) (set_id : List ℕ)
-    (file : Opened) (course course' : Course) (d : Draft)
-    → (IsOpen H vs cap set_id file course d → IsOpen H' vs cap set_id file course' d)
-    → length vs ≤ course'.volume → cap < course'.used + 184 + 372
-    → IsOpen H vs cap set_id file course d
-    → IsStuck H' vs cap set_id file course' d.files
-stuck_end H H' vs cap set_id file course course' d same none due o =
-    record {
-      draft = d;
-      is_open = same o;
-      files = refl;
-      none_left = none;
-      next = [];
-      due = end_refused cap course'.used due;
-    }
+-- ---- a fault's cause
 
 pub err_map : (r : Result (Unit {0}) WriteFault) (P Q : WriteFault → Type 0)
     → ((f : WriteFault) → P f → Q f) → IfErr r P → IfErr r Q

@@ -112,7 +112,8 @@ items_sized file sect bs eof r p q h =
         two,
         (
           tt,
-          every-append IsTapeItem (map data_item bs) (trailer_items file sect (length bs) eof) (data_sized bs h) (tt, (last, (second, (tt, tt)))),
+          every-append IsTapeItem (map data_item bs) (trailer_items file sect (length bs) eof)
+              (data_sized bs h) (tt, (last, (second, (tt, tt)))),
         ),
       ),
     )

@@ -3,11 +3,16 @@ use Rattle.std.specs.Prelude.{◌≡◌, ◌≢◌, ℕ, Result, IfErr}
 use Rattle.tape_writer.specs.declared.fault.WriteFault.{WriteFault}
 use Rattle.tape_writer.specs.declared.fault.WriteFault.TheVariants.{RecordLength, OutOfVolumes}
 use Rattle.tape_writer.specs.declared.fault.WriteFault.TheVariants.{Device, OutOfMemory}
-use Rattle.tape_writer.specs.Tapes.{Rose}
+use Rattle.tape_writer.specs.Tapes.{Failures, Rose}
 
--- `Device` is answered only where the tapes' count of failures rose in the call
-abbrev pub FailsWith : ℕ → Result (Unit {0}) WriteFault → ℕ → Type 0
-FailsWith old result new = IfErr result (λ fault. fault ≡ Device → Rose old new)
+-- `Device` is answered only where the device failed in the call
+abbrev pub FailsByDevice : Failures → Result (Unit {0}) WriteFault → Failures → Type 0
+FailsByDevice old result new = IfErr result (λ fault. fault ≡ Device → Rose old.device new.device)
+
+-- and `OutOfMemory` only where the tapes were refused a growth
+abbrev pub FailsWith : Failures → Result (Unit {0}) WriteFault → Failures → Type 0
+FailsWith old result new = IfErr result (λ fault. (fault ≡ Device → Rose old.device new.device)
+    × (fault ≡ OutOfMemory → Rose old.memory new.memory))
 
 -- the faults behind which every call answers `Failed`
 abbrev pub IsEnding : WriteFault → Type 0

@@ -6,7 +6,7 @@ use Rattle.tape_image.specs.Tape.{TapeItem}
 use Rattle.tape_image.specs.Spelling.{Leads, Spells}
 use Rattle.tape_image.specs.Writer.{Writer, writing, finished}
 use Rattle.tape_set.specs.Sizes.{items_size}
-use Rattle.tape_writer.specs.Tapes.{Tapes, Ended, UnderWay}
+use Rattle.tape_writer.specs.Tapes.{Tapes, Ended, UnderWay, Failures}
 
 -- Volumes as images: a writer for each, how many volumes have ended, whether one is under way, and
 -- how many calls failed.
@@ -66,3 +66,7 @@ AreImages ws ended under_way (UnderWay volumes items) =
 -- the same of image tapes
 abbrev pub Holds : Images → Tapes → Type 0
 Holds t tapes = AreImages t.images t.ended t.under_way tapes
+
+-- so many failures of a device, and no growth refused
+abbrev pub device_failures : ℕ → Failures
+device_failures n = record { device = n; memory = 0 }

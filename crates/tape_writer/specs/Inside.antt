@@ -1,11 +1,13 @@
 -- The writer inside a file and between two: what the tapes hold, with what was told.
-use Rattle.std.specs.Prelude.{◌≡◌, ◌⊎◌, ◌≢◌, ◌≤◌, ℕ, List, [], ◌∷◌, ◌++◌, false, length}
+use Rattle.std.specs.Prelude.{◌≡◌, ◌⊎◌, ◌≢◌, ◌≤◌, ℕ, List, [], ◌∷◌, ◌++◌, false, None, length}
 use Rattle.std.specs.List.{AllByRecursion}
 use Rattle.tape_label.specs.declared.values.Vol1.{Vol1}
 use Rattle.tape_blocks.specs.declared.shape.Shape.{Shape}
 use Rattle.tape_blocks.specs.Packing.{Packing, Given, HasRecordLength}
-use Rattle.tape_blocks.specs.Run.{RunOf, Going}
-use Rattle.tape_blocks.specs.Tight.{Filled}
+use Rattle.tape_blocks.specs.Block.{Portion}
+use Rattle.tape_blocks.specs.Spans.{InOrder, join}
+use Rattle.tape_blocks.specs.Run.{RunOf, Going, AreClosed}
+use Rattle.tape_blocks.specs.Tight.{Filled, first_len, parts_of_all}
 use Rattle.tape_blocks.specs.Tight as packing
 use Rattle.tape_set.specs.Layout.{Section}
 use Rattle.tape_set.specs.Tight.{takes_next}
@@ -84,13 +86,39 @@ IsWaiting H volumes capacity set_id course told =
     ((course.volume ≡ 0) × H (Ended []) × (told ≡ []))
     ⊎ (IsBetween H volumes capacity set_id course told × (told ≢ []))
 
--- A change is due and no volume is left: the volume under way holds an open section with its data
--- blocks and no trailer, and the rule of the change refuses what comes next.
+-- These blocks and then what comes next are a front of the records, packed in the shape: each is a
+-- block that is written, they are as full as the rules of packing ask, and with the parts behind
+-- them they join to just these records. What comes next is one block or, where all records stand in
+-- the blocks, nothing.
+pub record Continues (shape : Shape) (records : List (List ℕ)) (blocks next : List Filled)
+    : Type 0 where
+  pub each : AllByRecursion (packing.IsWritten shape) (blocks ++ next)
+  pub behind : List Portion
+  pub joins : join (parts_of_all (blocks ++ next) ++ behind)
+      ≡ record { records = records; rest = None }
+  pub order : InOrder false (parts_of_all (blocks ++ next) ++ behind) false
+  pub chain : packing.Chain (packing.IsDue shape) (blocks ++ next)
+  pub full : behind ≢ [] → AreClosed shape (blocks ++ next) (first_len behind 0)
+  pub most : length next ≤ 1
+  pub ends : next ≡ [] → behind ≡ []
+
+-- A change is due and no volume is left: behind the finished files fs the volume under way holds an
+-- open section with its data blocks and no trailer, and the rule of the change refuses what comes
+-- next of these records.
 pub record IsStuck (H : Tapes → Type 0) (volumes : List Vol1) (capacity : ℕ) (set_id : List ℕ)
-    (file : Opened) (course : Course) (fs : List (List Section)) : Type 0 where
+    (file : Opened) (course : Course) (fs : List (List Section)) (records : List (List ℕ))
+    : Type 0 where
   pub draft : Draft
   pub is_open : IsOpen H volumes capacity set_id file course draft
   pub files : draft.files ≡ fs
   pub none_left : length volumes ≤ course.volume
   pub next : List Filled
+  pub of_records : Continues file.shape records (open_blocks draft) next
   pub due : takes_next capacity course.used next ≡ false
+
+-- The volume has no room for the block under way, which this packer gives, and no volume is left.
+pub record IsLeftOut (volumes capacity : ℕ) (course : Course) (p : Packing) : Type 0 where
+  pub text : List ℕ
+  pub given : Given p text
+  pub none_left : volumes ≤ course.volume
+  pub due : takes_next capacity course.used (record { bytes = text; parts = p.parts } ∷ []) ≡ false

@@ -5,10 +5,12 @@ use Rattle.tape_writer.specs.Tapes.{Tapes, Ended, UnderWay}
 use Rattle.tape_writer.specs.declared.memory.Kept.{Kept}
 use Rattle.tape_writer.specs.declared.memory.Kept.TheVariants.{Block, Mark}
 
--- what is seen of tapes in memory: their volumes, and how often they were misused
+-- what is seen of tapes in memory: their volumes, how often they were misused, and how often a
+-- growth was refused
 pub record InMemory : Type 0 where
   pub tapes : Tapes
   pub misused : ℕ
+  pub refused : ℕ
 
 -- an item as it is kept
 abbrev pub item_of : Kept → TapeItem

@@ -9,6 +9,12 @@ pub mod State
 pub mod Lasting
 pub mod Faults
 pub mod Refusals
+-- sets written from inputs:
+pub mod Records
+pub mod RecordLaws
+pub mod ToldFiles
+pub mod WriteSet
+pub mod WriteFaults
 -- what is written so far, in the proofs' own words:
 pub mod Draft
 pub mod Inside

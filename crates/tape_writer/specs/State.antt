@@ -18,7 +18,7 @@ use Rattle.tape_writer.specs.Tapes.{Tapes}
 use Rattle.tape_label.specs.Widths.{IsWideVolume}
 use Rattle.tape_writer.specs.Labels.{IsReady}
 use Rattle.tape_writer.specs.Draft.{IsRoomy}
-use Rattle.tape_writer.specs.Told.{Told, IsWrittenSet}
+use Rattle.tape_writer.specs.Told.{Told, AreFiled, IsWrittenSet}
 use Rattle.tape_writer.specs.Inside.{IsFiling, IsWaiting, IsStuck}
 
 -- A writer: where it writes, the volumes and their capacity, the set's identifier, the files begun
@@ -82,11 +82,17 @@ IfFiling _ P = Unit {0}
 abbrev pub HasLength : OpenFile → List ℕ → Type 0
 HasLength o bytes = HasRecordLength o.file.shape.format o.file.shape.rec_len (length bytes)
 
--- in the file under way a change was due here and no volume was left; and what the tapes hold has
--- nothing of the closing labels
-abbrev pub IsOutOfVolumes : {T : Type 0} → (Tapes → Type 0) → SetState T → Course → Type 0
-IsOutOfVolumes H w course = IfFiling w.phase (λ o. (fs : List (List Section))
-    × IsStuck H w.volumes w.capacity w.set_id o.file course fs)
+-- The writer has no volume left for the last of these files: the others stand whole, and what comes
+-- next of its records, or its end, does not fit. What the tapes hold has nothing of the closing
+-- labels.
+pub record IsOutOfVolumes {T : Type 0} (H : Tapes → Type 0) (w : SetState T) (told : List Told)
+    : Type 0 where
+  pub past : List Told
+  pub last : Told
+  pub is_told : told ≡ past ++ last ∷ []
+  pub files : List (List Section)
+  pub filed : AreFiled w.capacity past files
+  pub stuck : IsStuck H w.volumes w.capacity w.set_id last.file w.course files last.records
 
 -- ---- what the type keeps, whatever the tapes tell
 

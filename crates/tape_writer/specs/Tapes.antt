@@ -3,7 +3,7 @@ use Rattle.std.specs.Prelude.{◌≡◌, ◌<◌, ◌≤◌, ◌⊎◌, ℕ, Lis
 use Rattle.std.specs.Prelude.{IfErr, slice_get, unwrap_or}
 use Rattle.tape_image.specs.Tape.{TapeItem}
 use Rattle.tape_writer.specs.declared.fault.OutFault.{OutFault}
-use Rattle.tape_writer.specs.declared.fault.OutFault.TheVariants.{Device}
+use Rattle.tape_writer.specs.declared.fault.OutFault.TheVariants.{Device, OutOfMemory}
 
 -- the volumes that ended, in order, and the items of the one under way, if there is one
 pub data Tapes : Type 0 where
@@ -45,6 +45,16 @@ Keeps H result H' = (tapes : Tapes) → H tapes → OnErr result (H' tapes)
 abbrev pub Rose : ℕ → ℕ → Type 0
 Rose old new = (old < new) ⊎ (18446744073709551615 ≤ new)
 
--- `Device` is answered only where the count rose in the call
-abbrev pub HasCause : ℕ → Result (Unit {0}) OutFault → ℕ → Type 0
-HasCause old result new = IfErr result (λ fault. fault ≡ Device → Rose old new)
+-- How many calls the device failed, and how many growths were refused.
+pub record Failures : Type 0 where
+  pub device : ℕ
+  pub memory : ℕ
+
+-- no count fell
+abbrev pub Grows : Failures → Failures → Type 0
+Grows old new = (old.device ≤ new.device) × (old.memory ≤ new.memory)
+
+-- each fault is answered only where its count rose in the call
+abbrev pub HasCause : Failures → Result (Unit {0}) OutFault → Failures → Type 0
+HasCause old result new = IfErr result (λ fault. (fault ≡ Device → Rose old.device new.device)
+    × (fault ≡ OutOfMemory → Rose old.memory new.memory))

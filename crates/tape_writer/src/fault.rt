@@ -45,9 +45,19 @@ pub enum WriteFault {
     Finished,
 }
 
+/// Why a set was not written from its inputs.
+#[derive(Clone, Copy, Debug, PartialEq, Eq)]
+pub enum SetFault {
+    /// The set writer refused a call; or the records could not be told to it, and this says why.
+    Write(WriteFault),
+    /// An input could not be read on.
+    ReadFailed,
+}
+
 /// The same fault, as the writer answers it.
 pub(crate) fn fault_of(fault: OutFault) -> WriteFault
     ensures device { result ≡ WriteFault.Device → fault ≡ OutFault.Device }
+    ensures memory { result ≡ WriteFault.OutOfMemory → fault ≡ OutFault.OutOfMemory }
     ensures out { IsOfOut result }
 {
     match fault {

@@ -7,7 +7,7 @@ ghost use Rattle.tape_image.specs.Tape.{TapeItem, mark as mark_item};
 ghost use Rattle.tape_blocks.specs.Packing.{Packing};
 ghost use Rattle.tape_set.specs.Layout.{Section};
 ghost use Rattle.tape_set.specs.Tight.{least_capacity};
-ghost use Rattle.tape_writer.specs.Tapes.{Ended, UnderWay};
+ghost use Rattle.tape_writer.specs.Tapes.{Ended, UnderWay, Grows};
 ghost use Rattle.tape_writer.specs.Lasting.{Lasting};
 ghost use Rattle.tape_writer.specs.Faults.{FailsWith, IsOfTape, IsOfOut};
 ghost use Rattle.tape_label.specs.Widths.{IsWideVolume};
@@ -53,7 +53,7 @@ pub(crate) fn close_file<T: TapeOut>(
         → IsInside (T.holds tape.old.out) volumes.now capacity set_id file.now
         tape.old.course packer.old fs records
         → IsStuck (T.holds tape.new.out) volumes.now capacity set_id file.now
-        tape.new.course fs) }
+        tape.new.course fs records) }
     ensures lasting { Lasting
         (T.holds tape.old.out) (T.failures tape.old.out) tape.old.course.used
         (T.holds tape.new.out) (T.failures tape.new.out) tape.new.course.used }
@@ -190,7 +190,7 @@ pub(crate) fn end_set<T: TapeOut>(
     ensures used { OnOk result (tape.new.course ≡ record tape.old.course {
       used = tape.old.course.used + 8;
     }) }
-    ensures count { T.failures tape.old.out ≤ T.failures tape.new.out }
+    ensures count { Grows (T.failures tape.old.out) (T.failures tape.new.out) }
     ensures out { IfErr result IsOfOut }
     ensures lasting { IfErr result (λ _. Lasting
         (T.holds tape.old.out) (T.failures tape.old.out) tape.old.course.used

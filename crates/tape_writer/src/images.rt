@@ -1,9 +1,9 @@
 //! Volumes as images, one writer for each.
 
-ghost use Rattle.std.specs.Prelude.{◌≡◌, ◌≤◌, ◌-◌, ◌<◌, [], length, true};
-ghost use Rattle.std.specs.Bool.{OnTrue};
+ghost use Rattle.std.specs.Prelude.{◌≡◌, ◌≤◌, ◌⊎◌, ◌+◌, ◌-◌, ◌<◌, [], length, true};
+ghost use Rattle.std.specs.Bool.{OnTrue, OnFalse};
 ghost use Rattle.tape_writer.specs.Tapes.{Ended, Rose, Closes, Keeps, HasCause};
-ghost use Rattle.tape_writer.specs.Images.{AreFresh, Holds};
+ghost use Rattle.tape_writer.specs.Images.{AreFresh, Holds, device_failures};
 
 use crate::fault::OutFault;
 use crate::out::TapeOut;
@@ -83,8 +83,11 @@ impl<W: Write + Drop> ImageTapes<W> {
 
     /// Whether there is a writer for one more volume.
     fn has_next(&self) -> bool
-        ensures { OnTrue result ((0 < length self.now.images - self.now.ended)
+        ensures yes { OnTrue result ((0 < length self.now.images - self.now.ended)
             × (self.now.under_way ≡ true → 1 < length self.now.images - self.now.ended)) }
+        ensures no { OnFalse result ((length self.now.images ≤ self.now.ended)
+            ⊎ ((self.now.under_way ≡ true)
+            × (length self.now.images ≤ self.now.ended + 1))) }
     {
         let left = self.images.len().saturating_sub(self.ended);
         if self.under_way {
@@ -98,7 +101,8 @@ impl<W: Write + Drop> ImageTapes<W> {
         ensures ok { Closes (Holds self.old) result (Holds self.new) }
         ensures err { Keeps (Holds self.old) result (Holds self.new) }
         ensures count { self.old.failed ≤ self.new.failed }
-        ensures cause { HasCause self.old.failed result self.new.failed }
+        ensures cause { HasCause
+            (device_failures self.old.failed) result (device_failures self.new.failed) }
         ensures as_many { length self.new.images ≡ length self.old.images }
     {
         if !self.under_way {
@@ -121,7 +125,7 @@ impl<W: Write + Drop> ImageTapes<W> {
 impl<W: Write + Drop> TapeOut for ImageTapes<W> {
     ghost holds = { λ t tapes. Holds t tapes };
 
-    ghost failures = { λ t. t.failed };
+    ghost failures = { λ t. device_failures t.failed };
 
     fn block(&mut self, bytes: &[u8]) -> Result<(), OutFault> {
         if !self.under_way {

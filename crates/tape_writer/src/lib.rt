@@ -7,6 +7,7 @@ mod fault;
 mod fields;
 mod files;
 mod images;
+mod inputs;
 mod labels;
 mod memory;
 mod out;
@@ -19,8 +20,12 @@ mod tape;
 mod volume;
 
 pub use course::{Course, Opened};
-pub use fault::{OutFault, WriteFault};
+pub use fault::{OutFault, SetFault, WriteFault};
 pub use images::ImageTapes;
+pub use inputs::{
+    Chunk, Cut, Input, InputFault, Piece, Records, RefusedSet, SetPlan, WrittenSet, cut_of,
+    lines_are_cut, pieces_are_cut, whole_is_one, write_files, write_set,
+};
 pub use memory::MemoryTapes;
 pub use out::TapeOut;
 pub use phase::{OpenFile, Phase};

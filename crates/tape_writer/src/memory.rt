@@ -38,6 +38,7 @@ pub struct MemoryTapes {
     ended: Vec<Vec<Kept>>,
     current: Option<Vec<Kept>>,
     misused: u64,
+    refused: u64,
 }
 
 impl Model for MemoryTapes {
@@ -50,6 +51,7 @@ impl Model for MemoryTapes {
     ghost view = { λ m. record {
       tapes = tapes_of (map (λ v. v.items) m.ended.items) (option_map (λ v. v.items) m.current);
       misused = m.misused;
+      refused = m.refused;
     } };
 }
 
@@ -58,13 +60,14 @@ impl MemoryTapes {
 
     /// No volumes.
     pub fn new(alloc: Global) -> Self
-        ensures { result ≡ record { tapes = Ended []; misused = 0 } }
+        ensures { result ≡ record { tapes = Ended []; misused = 0; refused = 0 } }
     {
         MemoryTapes {
             alloc,
             ended: Vec::new(alloc),
             current: None,
             misused: 0,
+            refused: 0,
         }
     }
 
@@ -129,27 +132,40 @@ impl MemoryTapes {
         ensures counted { Rose self.old.misused self.new.misused }
         ensures grew { self.old.misused ≤ self.new.misused }
         ensures tapes { self.new.tapes ≡ self.old.tapes }
+        ensures refused { self.new.refused ≡ self.old.refused }
     {
         self.misused = self.misused.saturating_add(1);
         OutFault::Device
+    }
+
+    /// Counts a growth that was refused.
+    fn refuse(&mut self) -> OutFault
+        ensures fault { result ≡ OutFault.OutOfMemory }
+        ensures counted { Rose self.old.refused self.new.refused }
+        ensures grew { self.old.refused ≤ self.new.refused }
+        ensures tapes { self.new.tapes ≡ self.old.tapes }
+        ensures misused { self.new.misused ≡ self.old.misused }
+    {
+        self.refused = self.refused.saturating_add(1);
+        OutFault::OutOfMemory
     }
 }
 
 impl TapeOut for MemoryTapes {
     ghost holds = { λ m tapes. m.tapes ≡ tapes };
 
-    ghost failures = { λ m. m.misused };
+    ghost failures = { λ m. record { device = m.misused; memory = m.refused } };
 
     fn block(&mut self, bytes: &[u8]) -> Result<(), OutFault> {
         let Some(items) = &mut self.current else {
             return Err(self.misuse());
         };
         let Ok(copy) = bytes.to_vec(self.alloc) else {
-            return Err(OutFault::OutOfMemory);
+            return Err(self.refuse());
         };
         match items.push(Kept::Block(copy)) {
             Ok(()) => Ok(()),
-            Err(_) => Err(OutFault::OutOfMemory),
+            Err(_) => Err(self.refuse()),
         }
     }
 
@@ -159,7 +175,7 @@ impl TapeOut for MemoryTapes {
         };
         match items.push(Kept::Mark) {
             Ok(()) => Ok(()),
-            Err(_) => Err(OutFault::OutOfMemory),
+            Err(_) => Err(self.refuse()),
         }
     }
 
@@ -177,7 +193,7 @@ impl TapeOut for MemoryTapes {
             Ok(()) => Ok(()),
             Err(failed) => {
                 self.current = Some(failed.value);
-                Err(OutFault::OutOfMemory)
+                Err(self.refuse())
             }
         }
     }

@@ -1,8 +1,9 @@
 //! Where volumes are written.
 
-ghost use Rattle.std.specs.Prelude.{◌<◌, ◌≤◌, ◌∷◌, [], ℕ, length};
+ghost use Rattle.std.specs.Prelude.{◌<◌, ◌≤◌, ◌∷◌, [], length};
 ghost use Rattle.tape_image.specs.Tape.{block, mark};
 ghost use Rattle.tape_writer.specs.Tapes.{Tapes, Takes, Changes, Closes, Keeps, HasCause};
+ghost use Rattle.tape_writer.specs.Tapes.{Failures, Grows};
 
 use crate::fault::OutFault;
 use tape_label::Vol1;
@@ -15,22 +16,22 @@ pub trait TapeOut {
     /// Whether it holds these volumes. One that cannot be believed holds none at all.
     ghost holds: { Self → Tapes → Type 0 };
 
-    /// How many calls the device failed, up to 2^64 - 1.
-    ghost failures: { Self → ℕ };
+    /// How many calls the device failed, and how many growths were refused, each up to 2^64 - 1.
+    ghost failures: { Self → Failures };
 
     /// Appends a block of 1 to 99,999 bytes to the volume under way.
     fn block(&mut self, bytes: &[u8]) -> Result<(), OutFault>
         requires sized { (0 < length bytes.now) × (length bytes.now ≤ 99999) }
         ensures ok { Takes (block bytes.now ∷ []) (holds self.old) result (holds self.new) }
         ensures err { Keeps (holds self.old) result (holds self.new) }
-        ensures count { failures self.old ≤ failures self.new }
+        ensures count { Grows (failures self.old) (failures self.new) }
         ensures cause { HasCause (failures self.old) result (failures self.new) };
 
     /// Appends a tape mark to the volume under way.
     fn mark(&mut self) -> Result<(), OutFault>
         ensures ok { Takes (mark ∷ []) (holds self.old) result (holds self.new) }
         ensures err { Keeps (holds self.old) result (holds self.new) }
-        ensures count { failures self.old ≤ failures self.new }
+        ensures count { Grows (failures self.old) (failures self.new) }
         ensures cause { HasCause (failures self.old) result (failures self.new) };
 
     /// Ends the volume under way, if there is one, and begins the next, which this label names. The
@@ -38,13 +39,13 @@ pub trait TapeOut {
     fn change_volume(&mut self, volume: &Vol1) -> Result<(), OutFault>
         ensures ok { Changes [] (holds self.old) result (holds self.new) }
         ensures err { Keeps (holds self.old) result (holds self.new) }
-        ensures count { failures self.old ≤ failures self.new }
+        ensures count { Grows (failures self.old) (failures self.new) }
         ensures cause { HasCause (failures self.old) result (failures self.new) };
 
     /// Ends the volume under way, if there is one.
     fn close(&mut self) -> Result<(), OutFault>
         ensures ok { Closes (holds self.old) result (holds self.new) }
         ensures err { Keeps (holds self.old) result (holds self.new) }
-        ensures count { failures self.old ≤ failures self.new }
+        ensures count { Grows (failures self.old) (failures self.new) }
         ensures cause { HasCause (failures self.old) result (failures self.new) };
 }

@@ -11,7 +11,7 @@ ghost use Rattle.tape_writer.specs.Faults.{FailsWith, IsOfTape, IsEnding};
 ghost use Rattle.tape_label.specs.Widths.{IsWideVolume};
 ghost use Rattle.tape_writer.specs.Labels.{IsReady};
 ghost use Rattle.tape_writer.specs.Draft.{Draft, IsOpen, IsRoomy};
-ghost use Rattle.tape_writer.specs.Inside.{IsInside, Flushed, IsFlat, IsStuck};
+ghost use Rattle.tape_writer.specs.Inside.{IsInside, Flushed, IsFlat, IsStuck, IsLeftOut};
 
 use crate::course::Opened;
 use crate::fault::WriteFault;
@@ -39,10 +39,8 @@ fn flush<T: TapeOut>(
     ensures emptied { OnOk result (packer.new ≡ emptied packer.old) }
     ensures none { packer.old.parts ≡ [] → (result ≡ Ok tt) × (tape.new ≡ tape.old) }
     ensures stuck { IfErr result (λ fault. fault ≡ WriteFault.OutOfVolumes
-        → (set_id : List ℕ) (d : Draft)
-        → IsOpen (T.holds tape.old.out) volumes.now capacity set_id file.now tape.old.course d
-        → IsStuck (T.holds tape.new.out) volumes.now capacity set_id file.now tape.new.course
-        d.files) }
+        → (tape.new ≡ tape.old)
+        × IsLeftOut (length volumes.now) capacity tape.old.course packer.old) }
     ensures flushed { packer.old.parts ≢ [] → (set_id : List ℕ) (d : Draft)
         → IsOpen (T.holds tape.old.out) volumes.now capacity set_id file.now tape.old.course d
         → OnOk result (Flushed (T.holds tape.new.out) volumes.now capacity set_id file.now
@@ -98,7 +96,7 @@ pub(crate) fn put_record<T: TapeOut>(
         → IsInside (T.holds tape.old.out) volumes.now capacity set_id file.now
         tape.old.course packer.old fs records
         → IsStuck (T.holds tape.new.out) volumes.now capacity set_id file.now
-        tape.new.course fs) }
+        tape.new.course fs (records ++ whole.now ∷ [])) }
     ensures ending { IfErr result (λ fault. fault ≢ WriteFault.RecordLength → IsEnding fault) }
     ensures lasting { Lasting
         (T.holds tape.old.out) (T.failures tape.old.out) tape.old.course.used
@@ -145,7 +143,7 @@ pub(crate) fn flush_last<T: TapeOut>(
         → IsInside (T.holds tape.old.out) volumes.now capacity set_id file.now
         tape.old.course packer.old fs records
         → IsStuck (T.holds tape.new.out) volumes.now capacity set_id file.now
-        tape.new.course fs) }
+        tape.new.course fs records) }
     ensures lasting { Lasting
         (T.holds tape.old.out) (T.failures tape.old.out) tape.old.course.used
         (T.holds tape.new.out) (T.failures tape.new.out) tape.new.course.used }

@@ -57,7 +57,10 @@ impl<T: TapeOut> Refusing<T> {
 impl<T: TapeOut> TapeOut for Refusing<T> {
     ghost holds = { λ w tapes. T.holds w.inner tapes };
 
-    ghost failures = { λ w. T.failures w.inner + w.refused };
+    ghost failures = { λ w. record {
+      device = (T.failures w.inner).device + w.refused;
+      memory = (T.failures w.inner).memory;
+    } };
 
     fn block(&mut self, bytes: &[u8]) -> Result<(), OutFault> {
         if self.is_refused() {

@@ -3,7 +3,7 @@
 ghost use Rattle.std.specs.Prelude.{◌≡◌, ◌<◌, ◌≤◌, ◌+◌, ◌∷◌, [], length, OnOk, IfErr};
 ghost use Rattle.tape_image.specs.Tape.{block as block_item, mark as mark_item};
 ghost use Rattle.tape_set.specs.Sizes.{item_size};
-ghost use Rattle.tape_writer.specs.Tapes.{Takes, Closes};
+ghost use Rattle.tape_writer.specs.Tapes.{Takes, Closes, Grows};
 ghost use Rattle.tape_writer.specs.Lasting.{Lasting};
 ghost use Rattle.tape_writer.specs.Draft.{added_course};
 ghost use Rattle.tape_writer.specs.Faults.{FailsWith, IsOfOut};
@@ -113,7 +113,7 @@ impl<T: TapeOut> Tape<T> {
         ensures lasting { IfErr result (λ _. Lasting
             (T.holds self.old.out) (T.failures self.old.out) self.old.course.used
             (T.holds self.new.out) (T.failures self.new.out) self.new.course.used) }
-        ensures count { T.failures self.old.out ≤ T.failures self.new.out }
+        ensures count { Grows (T.failures self.old.out) (T.failures self.new.out) }
         ensures cause { FailsWith (T.failures self.old.out) result (T.failures self.new.out) }
         ensures out { IfErr result IsOfOut }
     {

@@ -30,15 +30,21 @@ fn add_block(bytes: &mut Vec<u8>, content: &[u8]) -> Result<(), Fail> {
     Ok(())
 }
 
+/// What stands behind these bytes of an image.
+pub(crate) fn add(bytes: &mut Vec<u8>, piece: &Piece) -> Result<(), Fail> {
+    match piece {
+        Piece::Block(content) => add_block(bytes, content)?,
+        Piece::Mark => bytes.extend_from_slice(&[0, 0, 0, 0])?,
+        Piece::End => bytes.extend_from_slice(&[0xFF, 0xFF, 0xFF, 0xFF])?,
+    }
+    Ok(())
+}
+
 /// The bytes of an image.
 pub(crate) fn image_of(alloc: Global, pieces: &[Piece]) -> Result<Vec<u8>, Fail> {
     let mut bytes = Vec::new(alloc);
     for piece in pieces {
-        match piece {
-            Piece::Block(content) => add_block(&mut bytes, content)?,
-            Piece::Mark => bytes.extend_from_slice(&[0, 0, 0, 0])?,
-            Piece::End => bytes.extend_from_slice(&[0xFF, 0xFF, 0xFF, 0xFF])?,
-        }
+        add(&mut bytes, piece)?;
     }
     Ok(bytes)
 }

@@ -6,12 +6,20 @@ mod calls;
 #[cfg(test)]
 mod capacity;
 #[cfg(test)]
+mod devices;
+#[cfg(test)]
 mod images;
+#[cfg(test)]
+mod input_faults;
+#[cfg(test)]
+mod inputs;
 #[cfg(test)]
 mod refusals;
 #[cfg(test)]
 mod sets;
 #[cfg(test)]
 mod texts;
+#[cfg(test)]
+mod volumes;
 #[cfg(test)]
 mod whole;

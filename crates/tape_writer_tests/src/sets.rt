@@ -1,6 +1,6 @@
 //! What a set is written of: labels, shapes and volumes.
 
-use std::alloc::Global;
+use std::alloc::{AllocError, Global};
 use std::test::Fail;
 use tape_blocks::Shape;
 use tape_image::ImageWriter;
@@ -54,16 +54,16 @@ pub(crate) fn head() -> Head1 {
     }
 }
 
-/// The first volumes of a set, of these two.
+/// The first volumes of a set, of these three.
 pub(crate) fn volumes(alloc: Global, count: usize) -> Result<Vec<Vol1>, Fail> {
     let mut volumes = Vec::new(alloc);
-    for id in [*b"ABC001", *b"ABC002"].iter().take(count) {
+    for id in [*b"ABC001", *b"ABC002", *b"ABC003"].iter().take(count) {
         volumes.push(volume(*id))?;
     }
     Ok(volumes)
 }
 
-/// A writer of items in memory, on so many of the two volumes.
+/// A writer of items in memory, on so many of the three volumes.
 pub(crate) fn in_memory(
     alloc: Global,
     capacity: u32,
@@ -74,17 +74,22 @@ pub(crate) fn in_memory(
     Ok(SetWriter::new(alloc, set_id, volumes(alloc, count)?, capacity, out)?)
 }
 
-/// A writer of images in memory, on so many of the two volumes.
+/// So many image writers that hold nothing.
+pub(crate) fn images(alloc: Global, count: usize) -> Result<Vec<ImageWriter<Vec<u8>>>, AllocError> {
+    let mut images = Vec::new(alloc);
+    for _ in 0..count {
+        images.push(ImageWriter::new(Vec::new(alloc)))?;
+    }
+    Ok(images)
+}
+
+/// A writer of images in memory, on so many of the three volumes.
 pub(crate) fn on_images(
     alloc: Global,
     capacity: u32,
     count: usize,
 ) -> Result<SetWriter<ImageTapes<Vec<u8>>>, Fail> {
-    let mut images = Vec::new(alloc);
-    for _ in 0..count {
-        images.push(ImageWriter::new(Vec::new(alloc)))?;
-    }
     let set_id = Field::of_bytes(*b"ABC001");
-    let out = ImageTapes::new(images);
+    let out = ImageTapes::new(images(alloc, count)?);
     Ok(SetWriter::new(alloc, set_id, volumes(alloc, count)?, capacity, out)?)
 }

@@ -6,11 +6,15 @@ use crate::images::Piece::{Block, End, Mark};
 use crate::images::{ends_with, image_of, written};
 use crate::sets::{in_memory, on_images};
 use crate::texts::*;
+use crate::volumes::{first_of_two, one_volume, second_of_two};
 use std::alloc::Global;
 use std::process::Abort;
 use std::test::Fail;
 use tape_image::Item;
 use tape_writer::MemoryTapes;
+
+/// 25 records of 80 bytes.
+const SEVENS: [u8; 2_000] = [b'7'; 2_000];
 
 #[test]
 fn one_volume_byte_by_byte(rt: HostRuntime) -> Result<(), Fail> {
@@ -25,22 +29,7 @@ fn one_volume_byte_by_byte(rt: HostRuntime) -> Result<(), Fail> {
     follow(&rt, &mut writer, &rows);
     let tapes = writer.into_out();
     assert_eq!(rt; tapes.ended(), 1);
-    let pieces = [
-        Block(VOL1_FIRST),
-        Block(HDR1),
-        Block(HDR2),
-        Mark,
-        Block(&[b'7'; 800]),
-        Block(&[b'7'; 800]),
-        Block(&[b'7'; 400]),
-        Mark,
-        Block(EOF1),
-        Block(EOF2),
-        Mark,
-        Mark,
-        End,
-    ];
-    let want = image_of(rt.alloc(), &pieces)?;
+    let want = one_volume(rt.alloc(), &SEVENS)?;
     ends_with(&rt, &mut tapes.into_images(), 2_484, 0, want)
 }
 
@@ -58,44 +47,13 @@ fn file_end_on_the_second_volume(rt: HostRuntime) -> Result<(), Fail> {
     assert_eq!(rt; labels.len(), 2);
     let mut images = tapes.into_images();
     ends_with(&rt, &mut images, 460, 0, second_of_two(rt.alloc())?)?;
-    ends_with(&rt, &mut images, 2_484, 0, first_of_two(rt.alloc())?)
-}
-
-/// The volume that a file of 25 records fills, whose end stands on the next.
-fn first_of_two(alloc: Global) -> Result<Vec<u8>, Fail> {
-    let pieces = [
-        Block(VOL1_FIRST),
-        Block(HDR1),
-        Block(HDR2),
-        Mark,
-        Block(&[b'7'; 800]),
-        Block(&[b'7'; 800]),
-        Block(&[b'7'; 400]),
-        Mark,
-        Block(EOV1),
-        Block(EOV2),
-        Mark,
-        Mark,
-        End,
-    ];
-    image_of(alloc, &pieces)
-}
-
-/// The next one, with the file end alone.
-fn second_of_two(alloc: Global) -> Result<Vec<u8>, Fail> {
-    let pieces = [
-        Block(VOL1_SECOND),
-        Block(HDR1_SECOND_SECTION),
-        Block(HDR2),
-        Mark,
-        Mark,
-        Block(EOF1_SECOND_SECTION),
-        Block(EOF2),
-        Mark,
-        Mark,
-        End,
-    ];
-    image_of(alloc, &pieces)
+    ends_with(
+        &rt,
+        &mut images,
+        2_484,
+        0,
+        first_of_two(rt.alloc(), &SEVENS)?,
+    )
 }
 
 #[test]

@@ -6,7 +6,7 @@ ghost use Rattle.tape_blocks.specs.Packing.{IsWritable};
 ghost use Rattle.tape_set.specs.Tight.{least_capacity};
 ghost use Rattle.tape_writer.specs.Fields.{IsTextHead};
 ghost use Rattle.tape_writer.specs.Lasting.{Lasting};
-ghost use Rattle.tape_writer.specs.Faults.{FailsWith, IsOfOut};
+ghost use Rattle.tape_writer.specs.Faults.{FailsByDevice, IsOfOut};
 ghost use Rattle.tape_writer.specs.Told.{Told, opened_by};
 ghost use Rattle.tape_writer.specs.State.{IsWriting, Leaves, Refuses, IfFiling};
 ghost use Rattle.tape_writer.specs.Refusals.{IsBeginFault, IsInFile};
@@ -76,7 +76,7 @@ impl<T: TapeOut + Drop> SetWriter<T> {
             (T.holds self.old.out) (T.failures self.old.out) self.old.course.used
             (T.holds self.new.out) (T.failures self.new.out) self.new.course.used }
         ensures leaves { IfErr result (Leaves self.old self.new) }
-        ensures cause { FailsWith (T.failures self.old.out) result (T.failures self.new.out) }
+        ensures cause { FailsByDevice (T.failures self.old.out) result (T.failures self.new.out) }
     {
         if let Err(fault) = self.judge_file(&head, &shape) {
             return Err(fault);
@@ -172,7 +172,7 @@ impl<T: TapeOut + Drop> SetWriter<T> {
             (T.holds self.old.out) (T.failures self.old.out) self.old.course.used
             (T.holds self.new.out) (T.failures self.new.out) self.new.course.used }
         ensures leaves { IfErr result (Leaves self.old self.new) }
-        ensures cause { FailsWith (T.failures self.old.out) result (T.failures self.new.out) }
+        ensures cause { FailsByDevice (T.failures self.old.out) result (T.failures self.new.out) }
     {
         let file = self.next_file(head, shape);
         widths(&file.head);

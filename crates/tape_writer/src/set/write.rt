@@ -51,7 +51,7 @@ impl<T: TapeOut + Drop> SetWriter<T> {
             → OnOk result (IsWriting (T.holds self.new.out) self.new (with_record told bytes.now)) }
         ensures stuck { (told : List Told) → IsWriting (T.holds self.old.out) self.old told
             → IfErr result (λ fault. fault ≡ WriteFault.OutOfVolumes
-            → IsOutOfVolumes (T.holds self.new.out) self.old self.new.course) }
+            → IsOutOfVolumes (T.holds self.new.out) self.new (with_record told bytes.now)) }
         // Whatever the call answers.
         ensures lasting { Lasting
             (T.holds self.old.out) (T.failures self.old.out) self.old.course.used
@@ -109,7 +109,7 @@ impl<T: TapeOut + Drop> SetWriter<T> {
             → OnOk result (IsWriting (T.holds self.new.out) self.new told) }
         ensures stuck { (told : List Told) → IsWriting (T.holds self.old.out) self.old told
             → IfErr result (λ fault. fault ≡ WriteFault.OutOfVolumes
-            → IsOutOfVolumes (T.holds self.new.out) self.old self.new.course) }
+            → IsOutOfVolumes (T.holds self.new.out) self.new told) }
         ensures lasting { Lasting
             (T.holds self.old.out) (T.failures self.old.out) self.old.course.used
             (T.holds self.new.out) (T.failures self.new.out) self.new.course.used }

@@ -1,8 +1,8 @@
-use Rattle.std.proofs.Common.{sym, subst, length, ◌<◌, ◌≤◌, ◌+◌}
+use Rattle.std.proofs.Common.{sym, subst}
 use Rattle.std.proofs.lemmas.Result.{err_from_is_err_and}
-use Rattle.tape_writer.specs.Draft.{IsOpen}
 use Rattle.tape_writer.specs.Inside.{IsStuck}
-use Rattle.tape_writer.proofs.Packed.{stuck_end, err_map}
+use Rattle.tape_writer.proofs.Packed.{err_map}
+use Rattle.tape_writer.proofs.Stuck.{stuck_end}
 use Rattle.tape_writer.proofs.Ends.{between_closed}
 use Rattle.tape_writer.proofs.files.close_file.Goals as goal
 
@@ -25,13 +25,8 @@ returns-clause-stuck g c =
     err_map c.end_file.result _ _ (λ f p e set_id fs records k.
     let q = p e in
     let flat = c.in_ok-flush_last.ensures.flat set_id fs records k in
-    subst (λ z. IsStuck (g.T.TapeOut.holds c.end_file.new.self.out) c.args.volumes.now
-    c.args.capacity set_id c.args.file.now c.end_file.new.self.course z) flat.files
-    (stuck_end (g.T.TapeOut.holds c.flush_last.new.tape.out)
-    (g.T.TapeOut.holds c.end_file.new.self.out) c.args.volumes.now c.args.capacity set_id
-    c.args.file.now c.flush_last.new.tape.course c.end_file.new.self.course flat.draft
-    (λ x. subst (λ t. IsOpen (g.T.TapeOut.holds t.out) c.args.volumes.now c.args.capacity set_id
-    c.args.file.now t.course flat.draft) (sym q.0) x)
-    (subst (λ t. length c.args.volumes.now ≤ t.course.volume) (sym q.0) q.1)
-    (subst (λ t. c.args.capacity < t.course.used + 184 + 372) (sym q.0) q.2) flat.is_open))
+    subst (λ t. IsStuck (g.T.TapeOut.holds t.out) c.args.volumes.now c.args.capacity set_id
+    c.args.file.now t.course fs records) (sym q.0)
+    (stuck_end (g.T.TapeOut.holds c.flush_last.new.tape.out) c.args.volumes.now c.args.capacity
+    set_id c.args.file.now c.flush_last.new.tape.course fs records flat q.1 q.2))
     c.end_file.ensures.none

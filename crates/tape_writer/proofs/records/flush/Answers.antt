@@ -1,12 +1,9 @@
 -- The block under way is written.
-use Rattle.std.proofs.Common.{refl, sym, subst, length, ◌<◌, ◌≤◌, ◌+◌}
-use Rattle.tape_image.specs.Tape.{block}
-use Rattle.tape_blocks.specs.Tight.{Filled}
-use Rattle.tape_set.specs.Sizes.{item_size}
-use Rattle.tape_writer.specs.Draft.{IsOpen}
+use Rattle.std.proofs.Common.{refl, sym, subst, length}
 use Rattle.tape_blocks.specs.Packing.{IsWritable}
 use Rattle.tape_writer.proofs.Last.{lasting_self}
-use Rattle.tape_writer.proofs.Packed.{given_sized, flushed_by, stuck_by, err_map}
+use Rattle.tape_writer.proofs.Packed.{given_sized, flushed_by, err_map}
+use Rattle.tape_writer.proofs.Stuck.{left_out}
 use Rattle.tape_writer.proofs.records.flush.Goals as goal
 
 pub write_block-requires-clause-sized : goal.write_block-requires-clause-sized
@@ -25,14 +22,10 @@ returns-in-None-clause-lasting g c = lasting_self _ _ _
 
 pub returns-in-Some-clause-stuck : goal.returns-in-Some-clause-stuck
 returns-in-Some-clause-stuck g c =
-    err_map c.write_block.result _ _ (λ f p e set_id d o.
-    let q = p e in
-    let b : Filled = record { bytes = c.in-Some.block.now; parts = c.args.packer.now.parts } in
-    stuck_by (g.T.TapeOut.holds c.args.tape.now.out)
-    (g.T.TapeOut.holds c.write_block.new.self.out) c.args.volumes.now c.args.capacity set_id
-    c.args.file.now c.args.tape.now.course c.write_block.new.self.course d b
-    (λ x. subst (λ t. IsOpen (g.T.TapeOut.holds t.out) c.args.volumes.now c.args.capacity set_id
-    c.args.file.now t.course d) (sym q.0) x)
-    (subst (λ t. length c.args.volumes.now ≤ t.course.volume) (sym q.0) q.1)
-    (subst (λ t. c.args.capacity < t.course.used + item_size (block b.bytes) + 192) (sym q.0) q.2)
-    o) c.write_block.ensures.none
+    err_map c.write_block.result _ _ (λ f p e.
+    let q = p e in (
+      q.0,
+      left_out (length c.args.volumes.now) c.args.capacity c.args.tape.now.course
+          c.args.packer.now c.in-Some.block.now c.in-Some.ensures.found q.1 q.2,
+    ))
+    c.write_block.ensures.none

@@ -1,6 +1,7 @@
 use Rattle.std.proofs.Common.{refl, sym, subst}
 use Rattle.tape_writer.specs.Inside.{IsInside, IsStuck}
 use Rattle.tape_writer.proofs.Packed.{flat_by, err_map}
+use Rattle.tape_writer.proofs.Stuck.{stuck_last}
 use Rattle.tape_writer.proofs.records.flush_last.Goals as goal
 
 pub returns-clause-flat : goal.returns-clause-flat
@@ -16,6 +17,9 @@ returns-clause-flat g c = λ set_id fs records k.
 pub returns-clause-stuck : goal.returns-clause-stuck
 returns-clause-stuck g c =
     err_map c.flush.result _ _ (λ f p e set_id fs records k.
-    subst (λ z. IsStuck (g.T.TapeOut.holds c.flush.new.tape.out) c.args.volumes.now c.args.capacity
-    set_id c.args.file.now c.flush.new.tape.course z) k.files (p e set_id k.draft k.is_open))
+    let q = p e in
+    subst (λ t. IsStuck (g.T.TapeOut.holds t.out) c.args.volumes.now c.args.capacity
+    set_id c.args.file.now t.course fs records) (sym q.0)
+    (stuck_last (g.T.TapeOut.holds c.args.tape.now.out) c.args.volumes.now c.args.capacity set_id
+    c.args.file.now c.args.tape.now.course c.args.packer.now fs records k q.1))
     c.flush.ensures.stuck

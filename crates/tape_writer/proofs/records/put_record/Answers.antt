@@ -1,5 +1,5 @@
 -- The record's end, and one more block.
-use Rattle.std.proofs.Common.{rules, refl, ◌∙◌, subst, ap, inl, inr}
+use Rattle.std.proofs.Common.{rules, refl, ◌∙◌, ◌++◌, ◌∷◌, [], sym, subst, ap, inl, inr}
 use Rattle.std.proofs.lemmas.List.{take_rest}
 use Rattle.std.proofs.lemmas.Result.{err_from_is_err_and}
 use Rattle.tape_writer.specs.Inside.{IsStuck}
@@ -8,6 +8,7 @@ use Rattle.tape_blocks.specs.declared.offer.Offer.TheVariants.{Taken, BlockReady
 use Rattle.tape_blocks.proofs.RunLaws.{offers_shape}
 use Rattle.tape_writer.proofs.Packed.{packing_first, packing_last, packing_next, judged_next}
 use Rattle.tape_writer.proofs.Packed.{judged_more}
+use Rattle.tape_writer.proofs.Stuck.{stuck_put}
 use Rattle.tape_writer.proofs.Last.{lasting_then, lasting_self}
 use Rattle.tape_writer.proofs.records.put_record.Goals as goal
 
@@ -67,9 +68,14 @@ offers-preserved g c =
 pub returns-in_err-flush-in-Ok-BlockReady-clause-stuck :
     goal.returns-in_err-flush-in-Ok-BlockReady-clause-stuck
 returns-in_err-flush-in-Ok-BlockReady-clause-stuck g c =
+    let offers : Offers c.offers.packer c.offers.rest.now (BlockReady c.in-Ok-BlockReady.taken)
+    c.offer.new.self = rw c.in-Ok-BlockReady.field-0-is at c.in-Ok-BlockReady.ensures.ok in
     let p = err_from_is_err_and c.from_residual.result c.from_residual.ensures.1 in
     rw (p.1, p.2) (λ e set_id fs records k.
-    let q = c.offers.invariant.packing set_id fs records k in
-    subst (λ z. IsStuck (g.T.TapeOut.holds c.flush.new.tape.out) c.args.volumes.now c.args.capacity
-    set_id c.args.file.now c.flush.new.tape.course z) q.files
-    (c.in_err-flush-in-Ok-BlockReady.ensures.stuck e set_id q.draft q.is_open))
+    let q = c.in_err-flush-in-Ok-BlockReady.ensures.stuck e in
+    subst (λ t. IsStuck (g.T.TapeOut.holds t.out) c.args.volumes.now c.args.capacity
+    set_id c.args.file.now t.course fs (records ++ c.args.whole.now ∷ [])) (sym q.0)
+    (stuck_put (g.T.TapeOut.holds c.offers.tape.out) c.args.volumes.now c.args.capacity set_id
+    c.args.file.now c.offers.tape.course c.offers.packer c.offer.new.self fs records
+    c.args.whole.now c.offers.rest.now c.in-Ok-BlockReady.taken
+    c.in-Ok-BlockReady.ensures.judged offers (c.offers.invariant.packing set_id fs records k) q.1))

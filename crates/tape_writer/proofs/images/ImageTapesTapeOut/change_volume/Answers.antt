@@ -12,4 +12,5 @@ returns-clause-ok g c = λ tapes held.
     subst (λ (z : Images). AreImages z.images z.ended true (UnderWay (all_volumes tapes) []))
     (sym c.self.view_is)
     (begun_at old.images old.ended old.under_way new.images new.ended new.under_way tapes held ended
-    c.end_image.ensures.as_many c.if-not-has_next.ensures.0 c.if-not-has_next.ensures.1)
+    c.end_image.ensures.as_many c.if-not-has_next.ensures.yes.0
+    c.if-not-has_next.ensures.yes.1)

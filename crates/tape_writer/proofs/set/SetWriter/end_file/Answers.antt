@@ -45,6 +45,7 @@ returns-in-Err-clause-stuck g c =
     rw (← c.self.view_is) (λ told k e.
     stuck_told (g.T.TapeOut.holds c.self.inside.tape.out)
     (g.T.TapeOut.holds c.close_file.new.tape.out) old
-    c.deref.result.now c.close_file.new.tape.course c.in-Filing.file told c.in-Filing.is
+    c.close_file.new.tape.out c.deref.result.now c.close_file.new.tape.course c.in-Filing.file told
+    c.in-Filing.is
     (search rules)
     (λ fs records x. c.in-Err.ensures.stuck e c.self.inside.set_id fs records x) k)

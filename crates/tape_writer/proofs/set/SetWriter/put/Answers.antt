@@ -1,7 +1,7 @@
 use Rattle.std.proofs.Common.{rules}
 use Rattle.tape_writer.specs.State.{SetState}
 use Rattle.tape_writer.proofs.Last.{lasting_self}
-use Rattle.tape_writer.proofs.Calls.{put_told, stuck_told, if_filing}
+use Rattle.tape_writer.proofs.Calls.{put_told, stuck_put_told, if_filing}
 use Rattle.tape_writer.proofs.set.SetWriter.put.Goals as goal
 
 pub returns-in-Between-clause-lasting : goal.returns-in-Between-clause-lasting
@@ -43,9 +43,11 @@ returns-in-Err-2-clause-stuck g c =
       phase = c.self.inside.phase;
     } in
     rw (← c.self.view_is) (λ told k e.
-    stuck_told (g.T.TapeOut.holds c.self.inside.tape.out)
+    stuck_put_told (g.T.TapeOut.holds c.self.inside.tape.out)
     (g.T.TapeOut.holds c.put_record.new.tape.out) old
-    c.deref.result.now c.put_record.new.tape.course c.in-Filing.file told c.in-Filing.is
+    c.put_record.new.tape.out c.deref.result.now c.put_record.new.tape.course c.in-Filing.file told
+    c.args.bytes.now
+    c.in-Filing.is
     (search rules)
     (λ fs records x. c.in-Err.ensures.stuck e c.self.inside.set_id fs records x) k)
 

@@ -1,0 +1,221 @@
+-- What comes next of the records does not fit, and no volume is left.
+use Rattle.std.proofs.Common.{◌≡◌, ◌<◌, ◌≤◌, ℕ, ◌+◌, List, [], ◌∷◌, ◌++◌, length, false}
+use Rattle.std.proofs.Common.{None, refl, sym, ap, ◌∙◌, subst, arith, drop}
+use Rattle.std.specs.Prelude.{nat_le}
+use Rattle.std.specs.List.{AllByRecursion}
+use Rattle.std.proofs.lemmas.Bool.Decides.{nat_tests}
+use Rattle.std.proofs.lemmas.List.{append-nil}
+use Rattle.tape_label.specs.declared.values.Vol1.{Vol1}
+use Rattle.tape_blocks.specs.declared.shape.Shape.{Shape}
+use Rattle.tape_blocks.specs.declared.offer.Offer.TheVariants.{BlockReady}
+use Rattle.tape_blocks.specs.Block.{Portion}
+use Rattle.tape_blocks.specs.Spans.{InOrder, Joined, span_of, join}
+use Rattle.tape_blocks.specs.Packing.{Packing, Given, IsJudged, Offers}
+use Rattle.tape_blocks.specs.Run.{Run, Going}
+use Rattle.tape_blocks.specs.Tight.{Filled, parts_of_all}
+use Rattle.tape_blocks.specs.Tight as packing
+use Rattle.tape_blocks.proofs.JoinLaws.{join_ends, leaves_of}
+use Rattle.tape_blocks.proofs.LongerRuns.{order_part}
+use Rattle.tape_blocks.proofs.TightLaws.{chain_of}
+use Rattle.tape_blocks.proofs.RunLaws.{filled_of, offers_shape, going_block, run_last}
+use Rattle.tape_image.specs.Tape.{block}
+use Rattle.tape_set.specs.Layout.{Section}
+use Rattle.tape_set.specs.Sizes.{item_size}
+use Rattle.tape_set.specs.Tight.{takes_next}
+use Rattle.tape_writer.specs.declared.course.Opened.{Opened}
+use Rattle.tape_writer.specs.declared.course.Course.{Course}
+use Rattle.tape_writer.specs.Tapes.{Tapes}
+use Rattle.tape_writer.specs.Draft.{Draft, IsOpen, open_blocks}
+use Rattle.tape_writer.specs.Inside.{IsInside, IsPacking, IsFlat, IsStuck, IsLeftOut, Continues}
+use Rattle.tape_writer.proofs.Steps.{block_due, end_refused}
+use Rattle.tape_writer.proofs.Lists.{all_back}
+
+-- ---- what comes next
+
+abbrev the_joined : List (List ℕ) → Joined
+the_joined records = record { records = records; rest = None }
+
+-- the block that is closed, and behind it the rest of its record
+pub continues_put : (taken : List Filled) (p q : Packing) (records : List (List ℕ))
+    (whole rest text : List ℕ) (n : ℕ) → Going taken p records whole rest → IsJudged p rest
+    → Offers p rest (BlockReady n) q → Given q text
+    → Continues q.shape (records ++ whole ∷ []) taken (filled_of q text ∷ [])
+continues_put taken p q records whole rest text n going judged offers given =
+    let next = going_block taken p q records whole rest text n going judged offers given in
+    let all = taken ++ filled_of q text ∷ [] in
+    let last : Portion = record { span = span_of q.begun false; bytes = drop n rest } in
+    record {
+      each = next.run.each;
+      behind = last ∷ [];
+      joins = join_ends (parts_of_all all) last records next.front
+          (ap join (sym (append-nil (parts_of_all all))) ∙ next.run.joins) (leaves_of q.begun false)
+          ∙ ap (λ (c : List ℕ). the_joined (records ++ c ∷ [])) next.content;
+      order = order_part q.begun false (parts_of_all all) (drop n rest)
+          (subst (λ (ps : List Portion). InOrder false ps q.begun)
+          (append-nil (parts_of_all all)) next.run.order);
+      chain = chain_of q.shape all (length (drop n rest)) next.run.closed;
+      full = λ some. next.run.closed;
+      most = omega arith;
+      ends = λ e. absurd cc;
+    }
+
+-- the last block of the records
+pub continues_last : (taken : List Filled) (p : Packing) (records : List (List ℕ)) (text : List ℕ)
+    → Run taken p records None 0 → Given p text → p.begun ≡ false
+    → Continues p.shape records taken (filled_of p text ∷ [])
+continues_last taken p records text run given ended =
+    let tight = run_last taken p records text 0 run given ended in
+    let all = taken ++ filled_of p text ∷ [] in
+    record {
+      each = tight.each;
+      behind = [];
+      joins = ap join (append-nil (parts_of_all all)) ∙ tight.joins;
+      order = subst (λ (ps : List Portion). InOrder false ps false)
+          (sym (append-nil (parts_of_all all))) tight.order;
+      chain = tight.closed;
+      full = λ some. absurd (some refl);
+      most = omega arith;
+      ends = λ e. refl;
+    }
+
+-- nothing, where all records stand in blocks
+pub continues_end : (shape : Shape) (taken : List Filled) (records : List (List ℕ))
+    → packing.IsTight shape records taken → Continues shape records taken []
+continues_end shape taken records tight =
+    let same : taken ++ [] ≡ taken = append-nil taken in
+    record {
+      each = subst (λ (z : List Filled). AllByRecursion (packing.IsWritten shape) z) (sym same)
+          tight.each;
+      behind = [];
+      joins = ap join (append-nil (parts_of_all (taken ++ [])))
+          ∙ (ap (λ (z : List Filled). join (parts_of_all z)) same ∙ tight.joins);
+      order = subst (λ (ps : List Portion). InOrder false ps false)
+          (sym (append-nil (parts_of_all (taken ++ []))
+          ∙ ap (λ (z : List Filled). parts_of_all z) same)) tight.order;
+      chain = subst (λ (z : List Filled). packing.Chain (packing.IsDue shape) z) (sym same)
+          tight.closed;
+      full = λ some. absurd (some refl);
+      most = omega arith;
+      ends = λ e. refl;
+    }
+
+-- ---- the calls
+
+pub left_out : (n cap : ℕ) (course : Course) (p : Packing) (text : List ℕ) → Given p text
+    → n ≤ course.volume → cap < course.used + item_size (block text) + 192
+    → IsLeftOut n cap course p
+left_out n cap course p text given none due = record {
+  text = text;
+  given = given;
+  none_left = none;
+  due = block_due cap course.used (item_size (block text)) due;
+}
+
+-- a record that is put
+pub stuck_put : (H : Tapes → Type 0) (vs : List Vol1) (cap : ℕ) (set_id : List ℕ)
+    (file : Opened) (course : Course) (p q : Packing) (fs : List (List Section))
+    (records : List (List ℕ)) (whole rest : List ℕ) (n : ℕ)
+    → IsJudged p rest → Offers p rest (BlockReady n) q
+    → IsPacking H vs cap set_id file course p fs records whole rest
+    → IsLeftOut (length vs) cap course q
+    → IsStuck H vs cap set_id file course fs (records ++ whole ∷ [])
+stuck_put H vs cap set_id file course p q fs records whole rest n judged offers k l = record {
+  draft = k.draft;
+  is_open = k.is_open;
+  files = k.files;
+  none_left = l.none_left;
+  next = filled_of q l.text ∷ [];
+  of_records = subst (λ (s : Shape). Continues s (records ++ whole ∷ []) (open_blocks k.draft)
+      (filled_of q l.text ∷ [])) (offers_shape p q rest (BlockReady n) offers ∙ k.shape)
+      (continues_put (open_blocks k.draft) p q records whole rest l.text n k.going judged offers
+      l.given);
+  due = l.due;
+}
+
+-- the file's last block
+pub stuck_last : (H : Tapes → Type 0) (vs : List Vol1) (cap : ℕ) (set_id : List ℕ)
+    (file : Opened) (course : Course) (p : Packing) (fs : List (List Section))
+    (records : List (List ℕ)) → IsInside H vs cap set_id file course p fs records
+    → IsLeftOut (length vs) cap course p → IsStuck H vs cap set_id file course fs records
+stuck_last H vs cap set_id file course p fs records k l = record {
+  draft = k.draft;
+  is_open = k.is_open;
+  files = k.files;
+  none_left = l.none_left;
+  next = filled_of p l.text ∷ [];
+  of_records = subst (λ (s : Shape). Continues s records (open_blocks k.draft)
+      (filled_of p l.text ∷ [])) k.shape
+      (continues_last (open_blocks k.draft) p records l.text (k.run 0) l.given k.ended);
+  due = l.due;
+}
+
+-- the file's end
+pub stuck_end : (H : Tapes → Type 0) (vs : List Vol1) (cap : ℕ) (set_id : List ℕ)
+    (file : Opened) (course : Course) (fs : List (List Section)) (records : List (List ℕ))
+    → IsFlat H vs cap set_id file course fs records → length vs ≤ course.volume
+    → cap < course.used + 184 + 372 → IsStuck H vs cap set_id file course fs records
+stuck_end H vs cap set_id file course fs records k none due = record {
+  draft = k.draft;
+  is_open = k.is_open;
+  files = k.files;
+  none_left = none;
+  next = [];
+  of_records = continues_end file.shape (open_blocks k.draft) records k.tight;
+  due = end_refused cap course.used due;
+}
+
+-- ---- a writer gives up only near its last volume's end
+
+taken_block : (cap used size room : ℕ) → size ≤ room
+    → nat_le (used + size + 192) cap ≡ false → cap < used + room + 192
+taken_block cap used size room le e = grind (arith, nat_tests)
+
+taken_end : (cap used : ℕ) → nat_le (used + 184 + (180 + 192)) cap ≡ false → cap < used + 556
+taken_end cap used e = grind (arith, nat_tests)
+
+near_by : (shape : Shape) (records : List (List ℕ)) (cap used : ℕ) (blocks next : List Filled)
+    → Continues shape records blocks next → takes_next cap used next ≡ false
+    → cap < used + shape.block_len + 556
+near_by shape records cap used blocks [] k due =
+    let less = taken_end cap used due in
+    omega (arith, less)
+near_by shape records cap used blocks (b ∷ bs) k due =
+    let written = (all_back (packing.IsWritten shape) blocks (b ∷ bs) k.each).0 in
+    let size : item_size (block b.bytes) ≤ shape.block_len + 9 = omega (arith, written.within) in
+    let less = taken_block cap used (item_size (block b.bytes)) (shape.block_len + 9) size due in
+    omega (arith, less)
+
+pub stuck_near_end : (H : Tapes → Type 0) (vs : List Vol1) (cap : ℕ) (set_id : List ℕ)
+    (file : Opened) (course : Course) (fs : List (List Section)) (records : List (List ℕ))
+    → IsStuck H vs cap set_id file course fs records
+    → (length vs ≤ course.volume) × (cap < course.used + file.shape.block_len + 556)
+stuck_near_end H vs cap set_id file course fs records k = (
+  k.none_left,
+  near_by file.shape records cap course.used (open_blocks k.draft) k.next k.of_records k.due,
+)
+
+-- that a writer may give up anyhow on its last volume
+abbrev GivesUpAnyhow : Type 1
+GivesUpAnyhow = (H : Tapes → Type 0) (vs : List Vol1) (cap : ℕ) (set_id : List ℕ) (file : Opened)
+    (course : Course) (d : Draft) → IsOpen H vs cap set_id file course d
+    → length vs ≤ course.volume
+    → (records : List (List ℕ)) × IsStuck H vs cap set_id file course d.files records
+
+-- it does not follow where there is room
+pub not_anyhow : (H : Tapes → Type 0) (vs : List Vol1) (cap : ℕ) (set_id : List ℕ)
+    (file : Opened) (course : Course) (d : Draft) → IsOpen H vs cap set_id file course d
+    → length vs ≤ course.volume → course.used + file.shape.block_len + 556 ≤ cap
+    → GivesUpAnyhow → ⊥
+not_anyhow H vs cap set_id file course d o none room any =
+    let k = any H vs cap set_id file course d o none in
+    let near = (stuck_near_end H vs cap set_id file course d.files k.0 k.1).1 in
+    absurd (omega (arith, near, room))
+
+-- nor does a block that is left out
+pub left_near_end : (n cap : ℕ) (course : Course) (p : Packing) → IsLeftOut n cap course p
+    → cap < course.used + p.shape.block_len + 201
+left_near_end n cap course p l =
+    let size : item_size (block l.text) ≤ p.shape.block_len + 9 = omega (arith, l.given.within) in
+    let less = taken_block cap course.used (item_size (block l.text)) (p.shape.block_len + 9) size
+    l.due in
+    omega (arith, less)

@@ -1,0 +1,9 @@
+mod Ahead
+mod Splitting
+mod Pieces
+mod Cutting
+mod Putting
+mod Filing
+mod Refusing
+mod Finished
+mod Mistakes

@@ -1,0 +1,116 @@
+-- Records of what was read so far.
+use Rattle.std.proofs.Common.{◌≡◌, ℕ, List, [], ◌∷◌, ◌++◌, Bool, true, false, Option, Some, None}
+use Rattle.std.proofs.Common.{take, drop, sym, ap, subst, ◌∙◌, append_assoc}
+use Rattle.std.proofs.Common.{take-append-drop}
+use Rattle.std.specs.Io.KnownBytes.{Consumes, Keeps, IsAtEnd, prepend_known}
+use Rattle.std.proofs.KnownBytes.{Consumes-trans, Consumes-nil, Consumes-kept}
+use Rattle.std.specs.Prelude.{MatchBool}
+use Rattle.tape_image.specs.Reader.{IfKnown}
+use Rattle.tape_writer.specs.declared.inputs.cut.Cut.{Cut}
+use Rattle.tape_writer.specs.Records.{records_from, records_of, last_record, to_come, given, Adds}
+
+-- Of what was to come these bytes were read, and r is what they begin of a record.
+pub record SoFar (cut : Cut) (all left : Option (List ℕ)) (r : List ℕ) : Type 0 where
+  pub front : List ℕ
+  pub consumed : Consumes all left front
+  pub same : (ys : List ℕ) → records_from cut [] (front ++ ys) ≡ records_from cut r ys
+
+pub nothing_yet : (cut : Cut) (all : Option (List ℕ)) (r : List ℕ) → r ≡ [] → SoFar cut all all r
+nothing_yet cut all r none = record {
+  front = [];
+  consumed = Consumes-nil all;
+  same = λ ys. ap (λ x. records_from cut x ys) (sym none);
+}
+
+-- bytes were read ahead
+pub read_ahead : (cut : Cut) (all left next : Option (List ℕ)) (r : List ℕ) → SoFar cut all left r
+    → Keeps left next → SoFar cut all next r
+read_ahead cut all left next r s kept = record {
+  front = s.front;
+  consumed = Consumes-kept all left next s.front s.consumed kept;
+  same = s.same;
+}
+
+-- bytes read ahead were used
+pub used : (known : Option (List ℕ)) (old new piece : List ℕ) → old ≡ piece ++ new
+    → Consumes (prepend_known old known) (prepend_known new known) piece
+used None old new piece is = tt
+used (Some xs) old new piece is = ap (λ l. l ++ xs) is ∙ append_assoc piece new xs
+
+-- nothing is left
+pub none_left : (known : Option (List ℕ)) (ahead : List ℕ) → ahead ≡ [] → IsAtEnd known
+    → IsAtEnd (prepend_known ahead known)
+none_left None ahead none end = tt
+none_left (Some xs) ahead none end = ap (λ l. l ++ xs) none ∙ end
+
+-- one piece more
+pub one_piece : (cut : Cut) (all left next : Option (List ℕ)) (r new piece : List ℕ)
+    → SoFar cut all left r → Consumes left next piece → Adds cut r piece new false
+    → SoFar cut all next new
+one_piece cut all left next r new piece s c adds = record {
+  front = s.front ++ piece;
+  consumed = Consumes-trans all left next s.front piece s.consumed c;
+  same = λ ys. ap (records_from cut []) (append_assoc s.front piece ys)
+      ∙ s.same (piece ++ ys) ∙ adds ys;
+}
+
+known_whole : (cut : Cut) (new : List ℕ) (all next : Option (List ℕ)) (front : List ℕ)
+    → Consumes all next front
+    → ((ys : List ℕ) → records_of cut (front ++ ys) ≡ new ∷ records_of cut ys)
+    → IfKnown all next (λ xs ys. to_come cut false xs ≡ given true new (to_come cut false ys))
+known_whole cut new None next front c same = tt
+known_whole cut new (Some xs) None front c same = absurd c
+known_whole cut new (Some xs) (Some ys) front c same = ap (records_of cut) c ∙ same ys
+
+-- with one piece more a record is whole
+pub whole_record : (cut : Cut) (all left next : Option (List ℕ)) (r new piece : List ℕ)
+    → SoFar cut all left r → Consumes left next piece → Adds cut r piece new true
+    → IfKnown all next (λ xs ys. to_come cut false xs ≡ given true new (to_come cut false ys))
+whole_record cut all left next r new piece s c adds = known_whole cut new all next
+    (s.front ++ piece) (Consumes-trans all left next s.front piece s.consumed c)
+    (λ ys. ap (records_from cut []) (append_assoc s.front piece ys)
+    ∙ s.same (piece ++ ys) ∙ adds ys)
+
+last_given : (cut : Cut) (r : List ℕ) (more : Bool)
+    → MatchBool more (last_record cut r ≡ r ∷ []) (last_record cut r ≡ [])
+    → last_record cut r ≡ given more r []
+last_given cut r true e = e
+last_given cut r false e = e
+
+known_last : (cut : Cut) (r front : List ℕ) (more : Bool) (all next : Option (List ℕ))
+    → ((ys : List ℕ) → records_from cut [] (front ++ ys) ≡ records_from cut r ys)
+    → last_record cut r ≡ given more r []
+    → Consumes all next front → IsAtEnd next
+    → IfKnown all next (λ xs ys. to_come cut false xs ≡ given more r (to_come cut true ys))
+known_last cut r front more None next same last c e = tt
+known_last cut r front more (Some xs) None same last c e = absurd c
+known_last cut r front more (Some xs) (Some ys) same last c e =
+    ap (records_of cut) (c ∙ ap (λ l. front ++ l) e) ∙ same [] ∙ last
+
+-- the input is over, and what was read of a record is its last
+pub last_of : (cut : Cut) (all next : Option (List ℕ)) (r : List ℕ) (more : Bool)
+    → SoFar cut all next r → IsAtEnd next
+    → MatchBool more (last_record cut r ≡ r ∷ []) (last_record cut r ≡ [])
+    → IfKnown all next (λ xs ys. to_come cut false xs ≡ given more r (to_come cut true ys))
+last_of cut all next r more s end last =
+    known_last cut r s.front more all next s.same (last_given cut r more last) s.consumed end
+
+-- a piece was moved from the bytes read ahead
+pub piece_taken : (cut : Cut) (old new bytes ahead rest : List ℕ) (content taken : ℕ) (ended : Bool)
+    → bytes ≡ ahead → rest ≡ drop taken ahead → new ≡ old ++ take content bytes
+    → Adds cut old (take taken bytes) (old ++ take content bytes) ended
+    → (piece : List ℕ) × (ahead ≡ piece ++ rest) × Adds cut old piece new ended
+piece_taken cut old new bytes ahead rest content taken ended same is grown adds = (
+  take taken bytes,
+  sym same ∙ sym (take-append-drop taken bytes)
+      ∙ ap (λ l. take taken bytes ++ l) (ap (drop taken) same ∙ sym is),
+  subst (λ l. Adds cut old (take taken bytes) l ended) (sym grown) adds,
+)
+
+-- the same, by the cut that a reading has
+pub piece_more : (cut here : Cut) (all left next : Option (List ℕ)) (r new piece : List ℕ)
+    (ended : Bool) → SoFar cut all left r → Consumes left next piece → here ≡ cut → ended ≡ false
+    → Adds here r piece new ended → SoFar cut all next new
+piece_more cut here all left next r new piece ended s c is not adds =
+    one_piece cut all left next r new piece s c
+    (subst (λ x. Adds x r piece new false) is (subst (λ x. Adds here r piece new x) not adds))

@@ -1,0 +1,127 @@
+-- Files written one after another.
+use Rattle.std.proofs.Common.{◌≡◌, ℕ, suc, ◌+◌, ◌<◌, ◌≤◌, List, [], ◌∷◌, ◌++◌, Option, Some, None}
+use Rattle.std.proofs.Common.{length, map, drop, get_or, slice_set, refl, sym, ap, subst, ◌∙◌}
+use Rattle.std.proofs.Common.{arith, append_assoc, append-nil, length-append}
+use Rattle.std.specs.Prelude.{IfSome}
+use Rattle.std.proofs.lemmas.List.{drop_more, drop_all, drop-set-lt, map-append}
+use Rattle.tape_label.specs.declared.values.Head1.{Head1}
+use Rattle.tape_blocks.specs.declared.shape.Shape.{Shape}
+use Rattle.tape_writer.specs.Told.{Told, opened_by}
+use Rattle.tape_writer.specs.declared.inputs.cut.Cut.{Cut}
+use Rattle.tape_writer.specs.Records.{records_of}
+use Rattle.tape_writer.specs.ToldFiles.{told_files, IfAllKnown}
+
+-- the files up to this one are written, and the others are as they were
+pub record Wrote (X : Type 0) (view : X → Head1 × Option (List ℕ)) (set_id : List ℕ) (shape : Shape)
+    (cut : Cut) (first now : List X) (at : ℕ) (old new : List Told → Type 0) : Type 0 where
+  pub done : List X
+  pub split : first ≡ done ++ drop at now
+  pub many : length done ≡ at
+  pub told : (told : List Told) → old told → IfAllKnown (map view done)
+      (λ fs. new (told ++ told_files set_id shape cut (length told + 1) fs))
+
+pub wrote_none : (X : Type 0) (view : X → Head1 × Option (List ℕ)) (set_id : List ℕ)
+    (shape : Shape) (cut : Cut) (first : List X) (old : List Told → Type 0)
+    → Wrote X view set_id shape cut first first 0 old old
+wrote_none X view set_id shape cut first old = record {
+  done = [];
+  split = refl;
+  many = refl;
+  told = λ told h. subst old (sym (append-nil told)) h;
+}
+
+some_then : (known : Option (List ℕ)) (P Q : List ℕ → Type 0) → IfSome known P
+    → ((b : List ℕ) → P b → Q b) → IfSome known Q
+some_then None P Q h f = tt
+some_then (Some b) P Q h f = f b h
+
+-- one more input
+known_push : (xs : List (Head1 × Option (List ℕ))) (h : Head1) (known : Option (List ℕ))
+    (P Q : List (Head1 × List ℕ) → Type 0) → IfAllKnown xs P
+    → ((fs : List (Head1 × List ℕ)) → P fs → IfSome known (λ b. Q (fs ++ (h, b) ∷ [])))
+    → IfAllKnown (xs ++ (h, known) ∷ []) Q
+known_push [] h known P Q p f = f [] p
+known_push (x ∷ xs) h known P Q p f =
+    some_then x.1 _ _ p (λ b q. known_push xs h known
+    (λ fs. P ((x.0, b) ∷ fs)) (λ fs. Q ((x.0, b) ∷ fs)) q (λ fs r. f ((x.0, b) ∷ fs) r))
+
+told_files-length : (set_id : List ℕ) (shape : Shape) (cut : Cut) (n : ℕ) (fs : List (Head1
+    × List ℕ)) → length (told_files set_id shape cut n fs) ≡ length fs
+told_files-length set_id shape cut n [] = refl
+told_files-length set_id shape cut n (f ∷ fs) =
+    ap suc (told_files-length set_id shape cut (n + 1) fs)
+
+told_files-push : (set_id : List ℕ) (shape : Shape) (cut : Cut) (n m : ℕ) (fs : List (Head1
+    × List ℕ)) (h : Head1) (b : List ℕ) → m ≡ n + length fs
+    → told_files set_id shape cut n (fs ++ (h, b) ∷ []) ≡ told_files set_id shape cut n fs
+    ++ record { file = opened_by set_id m h shape; records = records_of cut b } ∷ []
+told_files-push set_id shape cut n m [] h b e =
+    let same : n ≡ m = omega (arith, e) in
+    ap (λ k. record { file = opened_by set_id k h shape; records = records_of cut b } ∷ []) same
+told_files-push set_id shape cut n m (f ∷ fs) h b e =
+    ap (λ l. record { file = opened_by set_id n f.0 shape; records = records_of cut f.1 } ∷ l)
+    (told_files-push set_id shape cut (n + 1) m fs h b (omega (arith, e)))
+
+one_told : (new : List Told → Type 0) (set_id : List ℕ) (shape : Shape) (cut : Cut)
+    (told : List Told) (fs : List (Head1 × List ℕ)) (h : Head1) (b : List ℕ)
+    → new ((told ++ told_files set_id shape cut (length told + 1) fs) ++ record {
+      file = opened_by set_id
+          (length (told ++ told_files set_id shape cut (length told + 1) fs) + 1) h shape;
+      records = records_of cut b;
+    } ∷ [])
+    → new (told ++ told_files set_id shape cut (length told + 1) (fs ++ (h, b) ∷ []))
+one_told new set_id shape cut told fs h b w =
+    let n = length told + 1 in
+    let m = length (told ++ told_files set_id shape cut n fs) + 1 in
+    let number : m ≡ n + length fs = omega (
+      arith,
+      length-append told (told_files set_id shape cut n fs),
+      told_files-length set_id shape cut n fs,
+    ) in
+    subst new
+    (append_assoc told (told_files set_id shape cut n fs)
+    (record { file = opened_by set_id m h shape; records = records_of cut b } ∷ [])
+    ∙ ap (λ l. told ++ l) (sym (told_files-push set_id shape cut n m fs h b number)))
+    w
+
+-- one more file was written
+pub wrote_one : (X : Type 0) (view : X → Head1 × Option (List ℕ)) (set_id : List ℕ) (shape : Shape)
+    (cut : Cut) (first now : List X) (at : ℕ) (old mid new : List Told → Type 0) (x y d : X)
+    → at < length now
+    → x ≡ get_or now at d → Wrote X view set_id shape cut first now at old mid
+    → ((t : List Told) → mid t → IfSome (view x).1 (λ b. new (t ++ record {
+      file = opened_by set_id (length t + 1) (view x).0 shape;
+      records = records_of cut b;
+    } ∷ [])))
+    → Wrote X view set_id shape cut first (slice_set now at y) (at + 1) old new
+wrote_one X view set_id shape cut first now at old mid new x y d within is w step =
+    let here : drop at now ≡ x ∷ drop (at + 1) now =
+    drop_more now at d within ∙ ap (λ z. z ∷ drop (at + 1) now) (sym is) in
+    let behind : drop (at + 1) (slice_set now at y) ≡ drop (at + 1) now =
+    drop-set-lt (at + 1) now at y (omega arith) in
+    record {
+      done = w.done ++ x ∷ [];
+      many = omega (arith, w.many, length-append w.done (x ∷ []));
+      split = w.split ∙ ap (λ l. w.done ++ l) (here ∙ ap (λ l. x ∷ l) (sym behind))
+          ∙ sym (append_assoc w.done (x ∷ []) (drop (at + 1) (slice_set now at y)));
+      told = λ told h.
+          subst (λ l. IfAllKnown l
+          (λ fs. new (told ++ told_files set_id shape cut (length told + 1) fs)))
+          (sym (map-append view w.done (x ∷ [])))
+          (known_push (map view w.done) (view x).0 (view x).1 _ _ (w.told told h)
+          (λ fs m. some_then (view x).1 _ _ (step _ m)
+          (λ b n. one_told new set_id shape cut told fs (view x).0 b n)));
+    }
+
+-- all files were written
+pub wrote_all : (X : Type 0) (view : X → Head1 × Option (List ℕ)) (set_id : List ℕ)
+    (shape : Shape) (cut : Cut) (first now : List X) (at : ℕ) (old new : List Told → Type 0)
+    → length now ≤ at
+    → Wrote X view set_id shape cut first now at old new → (told : List Told)
+    → old told → IfAllKnown (map view first)
+    (λ fs. new (told ++ told_files set_id shape cut (length told + 1) fs))
+wrote_all X view set_id shape cut first now at old new all w told h =
+    let same : w.done ≡ first =
+    sym (w.split ∙ ap (λ l. w.done ++ l) (drop_all at now all) ∙ append-nil w.done) in
+    subst (λ l. IfAllKnown (map view l)
+    (λ fs. new (told ++ told_files set_id shape cut (length told + 1) fs))) same (w.told told h)

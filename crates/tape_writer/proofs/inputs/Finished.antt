@@ -1,0 +1,74 @@
+-- A finished writer over images.
+use Rattle.std.proofs.Common.{◌≡◌, ℕ, List, [], ◌∷◌, Bool, Option, Some, None}
+use Rattle.std.proofs.Common.{refl, sym, subst, ◌∙◌}
+use Rattle.std.specs.Prelude.{IfSome}
+use Rattle.tape_label.specs.declared.values.Vol1.{Vol1}
+use Rattle.tape_label.specs.declared.values.Head1.{Head1}
+use Rattle.tape_image.specs.Writer.{Writer}
+use Rattle.tape_writer.specs.declared.phase.Phase.TheVariants.{Finished}
+use Rattle.tape_writer.specs.Tapes.{Tapes}
+use Rattle.tape_writer.specs.Images.{AreImages}
+use Rattle.tape_writer.specs.Told.{Told, IsWrittenSet}
+use Rattle.tape_writer.specs.State.{SetState, IsWriting, Stands}
+use Rattle.tape_writer.specs.declared.inputs.cut.Cut.{Cut}
+use Rattle.tape_writer.specs.ToldFiles.{IfAllKnown}
+use Rattle.tape_writer.specs.WriteSet.{IsSetOfImages}
+
+-- a finished writer has written its set
+finished_set : {T : Type 0} (H : Tapes → Type 0) (w : SetState T) (told : List Told)
+    → w.phase ≡ Finished → IsWriting H w told → IsWrittenSet H w.volumes w.capacity w.set_id told
+finished_set H w told e h =
+    subst (λ p. Stands H w.volumes w.capacity w.set_id w.course p told) e h.stands
+
+of_images : (ws : List Writer) (n : ℕ) (way : Bool) (volumes : List Vol1)
+    (capacity : ℕ) (set_id : List ℕ) (told : List Told)
+    → IsWrittenSet (λ t. AreImages ws n way t) volumes capacity set_id told
+    → IsSetOfImages volumes capacity set_id told ws n
+of_images ws n way volumes capacity set_id told w = record {
+  layout = w.layout;
+  lawful = w.lawful;
+  tight = w.tight;
+  held = (refl, w.held.1, w.held.2);
+  within = w.within;
+  of_set = w.of_set;
+  of_volumes = w.of_volumes;
+  files = w.files;
+}
+
+same_set : (us vs : List Vol1) (c d : ℕ) (s t : List ℕ) (told : List Told) (ws zs : List Writer)
+    (n m : ℕ) → us ≡ vs → c ≡ d → s ≡ t → ws ≡ zs → n ≡ m → IsSetOfImages us c s told ws n
+    → IsSetOfImages vs d t told zs m
+same_set us vs c d s t told ws zs n m a b e i k h =
+    subst (λ x. IsSetOfImages vs d t told zs x) k
+    (subst (λ x. IsSetOfImages vs d t told x n) i
+    (subst (λ x. IsSetOfImages vs d x told ws n) e (subst (λ x. IsSetOfImages vs x s told ws n) b
+    (subst (λ x. IsSetOfImages x c s told ws n) a h))))
+
+-- the images of a finished writer
+pub set_of_images : {T : Type 0} (ws zs : List Writer) (n m : ℕ) (way : Bool) (w : SetState T)
+    (vs : List Vol1) (d : ℕ) (t : List ℕ) (told : List Told) → w.phase ≡ Finished
+    → w.volumes ≡ vs → w.capacity ≡ d → w.set_id ≡ t → ws ≡ zs → n ≡ m
+    → IsWriting (λ t. AreImages ws n way t) w told → IsSetOfImages vs d t told zs m
+set_of_images ws zs n m way w vs d t told done a b e i k h =
+    same_set _ vs _ d _ t told ws zs n m a b e i k (of_images ws n way w.volumes w.capacity w.set_id
+    told (finished_set (λ t. AreImages ws n way t) w told done h))
+
+pub if_known : (known : Option (List ℕ)) (P Q : List ℕ → Type 0) → IfSome known P
+    → ((bytes : List ℕ) → P bytes → Q bytes) → IfSome known Q
+if_known None P Q h f = tt
+if_known (Some bytes) P Q h f = f bytes h
+
+some_cut : (P : Cut → Type 0) (cut : Option Cut) (c : Cut) → cut ≡ Some c → P c → IfSome cut P
+some_cut P None c e p = tt
+some_cut P (Some d) c e p = let same : c ≡ d = cc in subst P same p
+
+-- where the cut is known it is this one
+pub if_cut : (P : Cut → Type 0) (cut other : Option Cut) (c : Cut) → other ≡ Some c → other ≡ cut
+    → P c → IfSome cut P
+if_cut P cut other c e f p = some_cut P cut c (sym f ∙ e) p
+
+pub all_known : (xs : List (Head1 × Option (List ℕ))) (P Q : List (Head1 × List ℕ) → Type 0)
+    → IfAllKnown xs P → ((fs : List (Head1 × List ℕ)) → P fs → Q fs) → IfAllKnown xs Q
+all_known [] P Q h f = f [] h
+all_known (x ∷ xs) P Q h f = if_known x.1 _ _ h (λ b q. all_known xs
+    (λ fs. P ((x.0, b) ∷ fs)) (λ fs. Q ((x.0, b) ∷ fs)) q (λ fs. f ((x.0, b) ∷ fs)))

@@ -1,0 +1,200 @@
+-- Records put one after another.
+use Rattle.std.proofs.Common.{◌≡◌, ℕ, List, [], ◌∷◌, ◌++◌, Bool, true, false, Option, Some}
+use Rattle.std.proofs.Common.{None, ◌⊎◌, ◌≤◌, ◌+◌, length, length-append, arith, inl, refl, sym, ap}
+use Rattle.std.proofs.Common.{subst, ◌∙◌, append_assoc, append-nil}
+use Rattle.std.specs.Prelude.{IfSome}
+use Rattle.tape_image.specs.Reader.{IfKnown}
+use Rattle.tape_writer.specs.declared.course.Opened.{Opened}
+use Rattle.tape_writer.specs.Tapes.{Tapes}
+use Rattle.tape_writer.specs.Told.{Told, with_record}
+use Rattle.tape_writer.specs.State.{SetState, IsOutOfVolumes}
+use Rattle.tape_writer.specs.declared.inputs.cut.Cut.{Cut}
+use Rattle.tape_writer.specs.Records.{to_come, records_of, given}
+use Rattle.tape_writer.specs.ToldFiles.{with_records, GaveUp}
+
+-- these records were given, and the writer, who was at `old`, is at `new` with them
+pub record Put (cut : Cut) (over over' : Bool) (all left : Option (List ℕ))
+    (old new : List Told → Type 0) : Type 0 where
+  pub records : List (List ℕ)
+  pub known : IfKnown all left (λ xs ys. to_come cut over xs ≡ records ++ to_come cut over' ys)
+  pub told : (told : List Told) → old told → new (with_records told records)
+
+known_same : (all : Option (List ℕ)) (cut : Cut) (over : Bool)
+    → IfKnown all all (λ xs ys. to_come cut over xs ≡ [] ++ to_come cut over ys)
+known_same None cut over = tt
+known_same (Some xs) cut over = refl
+
+pub put_none : (cut : Cut) (over : Bool) (all : Option (List ℕ)) (old : List Told → Type 0)
+    → Put cut over over all all old old
+put_none cut over all old =
+    record { records = []; known = known_same all cut over; told = λ told h. h }
+
+pub known_then : (cut : Cut) (a b c : Bool) (more : Bool) (r : List ℕ)
+    (rs : List (List ℕ)) (all left next : Option (List ℕ))
+    → IfKnown all left (λ xs ys. to_come cut a xs ≡ rs ++ to_come cut b ys)
+    → IfKnown left next (λ xs ys. to_come cut b xs ≡ given more r (to_come cut c ys))
+    → IfKnown all next (λ xs ys. to_come cut a xs ≡ rs ++ given more r (to_come cut c ys))
+known_then cut a b c more r rs None left next h k = tt
+known_then cut a b c more r rs (Some xs) None next h k = absurd h
+known_then cut a b c more r rs (Some xs) (Some ys) None h k = absurd k
+known_then cut a b c more r rs (Some xs) (Some ys) (Some zs) h k = h ∙ ap (λ l. rs ++ l) k
+
+known_one : (cut : Cut) (a c : Bool) (r : List ℕ) (rs : List (List ℕ)) (all next : Option (List ℕ))
+    → IfKnown all next (λ xs ys. to_come cut a xs ≡ rs ++ given true r (to_come cut c ys))
+    → IfKnown all next (λ xs ys. to_come cut a xs ≡ (rs ++ r ∷ []) ++ to_come cut c ys)
+known_one cut a c r rs None next h = tt
+known_one cut a c r rs (Some xs) None h = absurd h
+known_one cut a c r rs (Some xs) (Some ys) h = h ∙ sym (append_assoc rs (r ∷ []) (to_come cut c ys))
+
+with_records-one : (told : List Told) (rs : List (List ℕ)) (r : List ℕ)
+    → with_records told (rs ++ r ∷ []) ≡ with_record (with_records told rs) r
+with_records-one told [] r = refl
+with_records-one told (s ∷ rs) r = with_records-one (with_record told s) rs r
+
+-- one more record was put
+pub put_one : (cut : Cut) (a b c : Bool) (all left next : Option (List ℕ))
+    (old mid new : List Told → Type 0) (r : List ℕ) → Put cut a b all left old mid
+    → IfKnown left next (λ xs ys. to_come cut b xs ≡ given true r (to_come cut c ys))
+    → ((told : List Told) → mid told → new (with_record told r)) → Put cut a c all next old new
+put_one cut a b c all left next old mid new r p k step = record {
+  records = p.records ++ r ∷ [];
+  known = known_one cut a c r p.records all next
+      (known_then cut a b c true r p.records all left next p.known k);
+  told = λ told h. subst new (sym (with_records-one told p.records r))
+      (step (with_records told p.records) (p.told told h));
+}
+
+known_all : (cut : Cut) (a : Bool) (r : List ℕ) (rs : List (List ℕ)) (all next : Option (List ℕ))
+    (new : List Told → Type 0) (told : List Told) → new (with_records told rs)
+    → IfKnown all next (λ xs ys. to_come cut a xs ≡ rs ++ given false r (to_come cut true ys))
+    → IfKnown all next (λ xs ys. new (with_records told (to_come cut a xs)))
+known_all cut a r rs None next new told h k = tt
+known_all cut a r rs (Some xs) None new told h k = absurd k
+known_all cut a r rs (Some xs) (Some ys) new told h k =
+    subst (λ l. new (with_records told l)) (sym (k ∙ append-nil rs)) h
+
+-- all records to come were put
+pub put_all : (cut : Cut) (a b c : Bool) (all left next : Option (List ℕ))
+    (old new : List Told → Type 0) (r : List ℕ) → Put cut a b all left old new
+    → IfKnown left next (λ xs ys. to_come cut b xs ≡ given false r (to_come cut c ys)) → c ≡ true
+    → (told : List Told) → old told
+    → IfKnown all next (λ xs ys. new (with_records told (to_come cut a xs)))
+put_all cut a b c all left next old new r p k end told h =
+    let last = subst (λ e. IfKnown all next
+    (λ xs ys. to_come cut a xs ≡ p.records ++ given false r (to_come cut e ys))) end
+    (known_then cut a b c false r p.records all left next p.known k) in
+    known_all cut a r p.records all next new told (p.told told h) last
+
+with_last : (told : List Told) (file : Opened) (before : List (List ℕ)) (r : List ℕ)
+    → with_record (told ++ record { file = file; records = before } ∷ []) r
+    ≡ told ++ record { file = file; records = before ++ r ∷ [] } ∷ []
+with_last [] file before r = refl
+with_last (t ∷ []) file before r = refl
+with_last (t ∷ u ∷ ts) file before r = ap (λ l. t ∷ l) (with_last (u ∷ ts) file before r)
+
+-- the records of a file just begun
+pub of_file : (told : List Told) (file : Opened) (before rs : List (List ℕ))
+    → with_records (told ++ record { file = file; records = before } ∷ []) rs
+    ≡ told ++ record { file = file; records = before ++ rs } ∷ []
+of_file told file before [] =
+    ap (λ l. told ++ record { file = file; records = l } ∷ []) (sym (append-nil before))
+of_file told file before (r ∷ rs) =
+    ap (λ l. with_records l rs) (with_last told file before r)
+    ∙ of_file told file (before ++ r ∷ []) rs
+    ∙ ap (λ l. told ++ record { file = file; records = l } ∷ []) (append_assoc before (r ∷ []) rs)
+
+-- what a reading gave, told with the cut that was there at first
+pub given_cut : (cut here then' : Cut) (b c : Bool) (more m : Bool) (r : List ℕ)
+    (left next : Option (List ℕ)) → here ≡ cut → then' ≡ here → more ≡ m
+    → IfKnown left next (λ xs ys. to_come here b xs ≡ given more r (to_come then' c ys))
+    → IfKnown left next (λ xs ys. to_come cut b xs ≡ given m r (to_come cut c ys))
+given_cut cut here then' b c more m r left next e f is h =
+    let one = subst (λ t. IfKnown left next
+    (λ xs ys. to_come here b xs ≡ given more r (to_come t c ys))) f h in
+    let two = subst (λ t. IfKnown left next
+    (λ xs ys. to_come t b xs ≡ given more r (to_come t c ys))) e one in
+    subst (λ t. IfKnown left next (λ xs ys. to_come cut b xs ≡ given t r (to_come cut c ys))) is two
+
+pub same_record : (s r : List ℕ) (mid new : List Told → Type 0) → s ≡ r
+    → ((told : List Told) → mid told → new (with_record told s)) → (told : List Told) → mid told
+    → new (with_record told r)
+same_record s r mid new e step told h = subst (λ x. new (with_record told x)) e (step told h)
+
+told_known : (told : List Told) (file : Opened) (cut : Cut) (all next : Option (List ℕ))
+    (mid last : List Told → Type 0)
+    → IfKnown all next (λ xs ys.
+    mid (with_records (told ++ record { file = file; records = [] } ∷ []) (to_come cut false xs)))
+    → ((t : List Told) → mid t → last t)
+    → IfSome all (λ bytes.
+    last (told ++ record { file = file; records = records_of cut bytes } ∷ []))
+told_known told file cut None next mid last h ends = tt
+told_known told file cut (Some xs) None mid last h ends = absurd h
+told_known told file cut (Some xs) (Some ys) mid last h ends =
+    ends _ (subst mid (of_file told file [] (records_of cut xs)) h)
+
+-- a file was begun, the records of its input were put, and it was ended
+pub file_told : (told : List Told) (file : Opened) (cut here : Cut) (over : Bool) (input all
+    next : Option (List ℕ)) (mid last : List Told → Type 0) → all ≡ input → here ≡ cut
+    → over ≡ false
+    → IfKnown all next (λ xs ys.
+    mid (with_records (told ++ record { file = file; records = [] } ∷ []) (to_come here over xs)))
+    → ((t : List Told) → mid t → last t)
+    → IfSome input (λ bytes.
+    last (told ++ record { file = file; records = records_of cut bytes } ∷ []))
+file_told told file cut here over input all next mid last a e f h ends =
+    let one = subst (λ t. IfKnown all next (λ xs ys. mid
+    (with_records (told ++ record { file = file; records = [] } ∷ []) (to_come t over xs)))) e h in
+    let two = subst (λ t. IfKnown all next (λ xs ys. mid
+    (with_records (told ++ record { file = file; records = [] } ∷ []) (to_come cut t xs)))) f one in
+    subst (λ t. IfSome t
+    (λ bytes. last (told ++ record { file = file; records = records_of cut bytes } ∷ []))) a
+    (told_known told file cut all next mid last two ends)
+
+-- ---- no volume left
+
+-- the same, where n more records may be counted
+abbrev pub Counted : Cut → Bool → Bool → Option (List ℕ) → Option (List ℕ) → (List Told → Type 0)
+    → (List Told → Type 0) → ℕ → Type 0
+Counted cut a b all left old new n =
+    (p : Put cut a b all left old new) × (length p.records + n ≡ 18446744073709551615)
+
+pub counted_none : (cut : Cut) (over : Bool) (all : Option (List ℕ)) (old : List Told → Type 0)
+    → Counted cut over over all all old old 18446744073709551615
+unfolding put_none
+counted_none cut over all old = (put_none cut over all old, refl)
+
+pub counted_one : (cut : Cut) (a b c : Bool) (all left next : Option (List ℕ))
+    (old mid new : List Told → Type 0) (r : List ℕ) (n m : ℕ) → m + 1 ≡ n
+    → Counted cut a b all left old mid n
+    → IfKnown left next (λ xs ys. to_come cut b xs ≡ given true r (to_come cut c ys))
+    → ((told : List Told) → mid told → new (with_record told r))
+    → Counted cut a c all next old new m
+unfolding put_one
+counted_one cut a b c all left next old mid new r n m less k known step = (
+  put_one cut a b c all left next old mid new r k.0 known step,
+  omega (arith, less, k.1, length-append k.0.records (r ∷ [])),
+)
+
+pub gave_up : {T : Type 0} (H : Tapes → Type 0) (w : SetState T) (told : List Told) (cut : Cut)
+    (a c : Bool) (rs : List (List ℕ)) (all next : Option (List ℕ))
+    → IfKnown all next (λ xs ys. to_come cut a xs ≡ rs ++ to_come cut c ys)
+    → IsOutOfVolumes H w (with_records told rs) ⊎ (18446744073709551615 ≤ length rs)
+    → IfSome all (λ xs. GaveUp H w told (to_come cut a xs))
+gave_up H w told cut a c rs None next k out = tt
+gave_up H w told cut a c rs (Some xs) None k out = absurd k
+gave_up H w told cut a c rs (Some xs) (Some ys) k out =
+    record { front = rs; back = to_come cut c ys; split = k; out = out }
+
+-- the next record was not put
+pub gave_up_at : {T : Type 0} (H : Tapes → Type 0) (w : SetState T) (cut : Cut) (a b c : Bool)
+    (all left next : Option (List ℕ)) (old mid : List Told → Type 0) (r : List ℕ)
+    → Put cut a b all left old mid
+    → IfKnown left next (λ xs ys. to_come cut b xs ≡ given true r (to_come cut c ys))
+    → ((told : List Told) → mid told → IsOutOfVolumes H w (with_record told r))
+    → (told : List Told) → old told → IfSome all (λ xs. GaveUp H w told (to_come cut a xs))
+gave_up_at H w cut a b c all left next old mid r p k stuck told h =
+    gave_up H w told cut a c (p.records ++ r ∷ []) all next
+    (known_one cut a c r p.records all next
+    (known_then cut a b c true r p.records all left next p.known k))
+    (inl (subst (λ z. IsOutOfVolumes H w z) (sym (with_records-one told p.records r))
+    (stuck (with_records told p.records) (p.told told h))))

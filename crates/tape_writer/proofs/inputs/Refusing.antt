@@ -1,0 +1,258 @@
+-- Faults of `write` where they are due.
+use Rattle.std.proofs.Common.{◌≡◌, ◌<◌, ◌≤◌, ℕ, ◌+◌, List, [], ◌∷◌, ◌++◌, Bool, true, false, Option}
+use Rattle.std.proofs.Common.{Some, None, length, map, take, drop, get_or, refl, sym, ap, subst}
+use Rattle.std.proofs.Common.{◌∙◌, arith, append_assoc, take-append-drop, length-append, inl, inr}
+use Rattle.std.specs.Prelude.{IfSome, if◌then◌else◌}
+use Rattle.std.specs.Io.KnownBytes.{Consumes, prepend_known}
+use Rattle.std.proofs.lemmas.List.{length-take-le, drop_more, map-append, length-map}
+use Rattle.tape_image.specs.Reader.{IfKnown}
+use Rattle.tape_label.specs.declared.values.Head1.{Head1}
+use Rattle.tape_blocks.specs.declared.shape.Shape.{Shape}
+use Rattle.tape_blocks.specs.Packing.{HasRecordLength}
+use Rattle.tape_writer.specs.declared.course.Opened.{Opened}
+use Rattle.tape_writer.specs.declared.phase.Phase.{Phase}
+use Rattle.tape_writer.specs.declared.phase.Phase.TheVariants.{Filing}
+use Rattle.tape_writer.specs.declared.phase.OpenFile.{OpenFile}
+use Rattle.tape_writer.specs.declared.fault.WriteFault.{WriteFault}
+use Rattle.tape_writer.specs.declared.fault.WriteFault.TheVariants as faults
+use Rattle.tape_writer.specs.Told.{Told}
+use Rattle.tape_writer.specs.Faults.{IsEnding}
+use Rattle.tape_writer.specs.State.{IfFiling, HasLength}
+use Rattle.tape_writer.specs.Refusals.{IsInFile, IsPutFault}
+use Rattle.tape_writer.specs.declared.fault.SetFault.{SetFault}
+use Rattle.tape_writer.specs.declared.fault.SetFault.TheVariants.{Write, ReadFailed}
+use Rattle.tape_writer.specs.declared.inputs.records.InputFault.{InputFault}
+use Rattle.tape_writer.specs.declared.inputs.records.InputFault.TheVariants as inputs
+use Rattle.tape_writer.specs.declared.inputs.cut.Cut.{Cut}
+use Rattle.tape_writer.specs.declared.inputs.cut.Cut.TheVariants.{Lines, Length, Whole}
+use Rattle.tape_writer.specs.Records.{records_from, records_of, to_come, given, longest}
+use Rattle.tape_writer.specs.Records.{ends_before, is_full, Adds, IsFirstLong, GrowsLong}
+use Rattle.tape_writer.specs.WriteFaults.{told_as, IsOther, OneIsOther, IsPuttingFault}
+use Rattle.tape_writer.specs.WriteFaults.{IsInputFault, IsFileFault, IsFilesFault}
+use Rattle.tape_writer.proofs.inputs.Cutting.{SoFar}
+use Rattle.tape_writer.proofs.inputs.Filing.{Wrote}
+use Rattle.tape_writer.proofs.inputs.Putting.{Put, known_then}
+
+-- ---- records that get too long
+
+first_by : (ends full : Bool) (r s : List ℕ) (xs ys zs : List (List ℕ)) → longest < length r
+    → longest < length s → IsFirstLong zs
+    → IsFirstLong (if ends then r ∷ xs else (if full then s ∷ ys else zs))
+first_by true full r s xs ys zs a b c = a
+first_by false true r s xs ys zs a b c = b
+first_by false false r s xs ys zs a b c = c
+
+-- a record that is too long already is the first one
+first_long : (cut : Cut) (r bytes : List ℕ) → longest < length r
+    → IsFirstLong (records_from cut r bytes)
+first_long Lines [] [] l = absurd (omega (arith, l))
+first_long Lines (b ∷ r) [] l = l
+first_long (Length n) [] [] l = absurd (omega (arith, l))
+first_long (Length n) (b ∷ r) [] l = l
+first_long Whole r [] l = l
+first_long cut r (b ∷ bytes) l =
+    let more : longest < length (r ++ b ∷ []) = omega (arith, l, length-append r (b ∷ [])) in
+    first_by (ends_before cut b) (is_full cut (length r + 1)) r (r ++ b ∷ []) _ _ _ l more
+    (first_long cut (r ++ b ∷ []) bytes more)
+
+first_added : (cut : Cut) (r front new rest : List ℕ) (ended : Bool) → Adds cut r front new ended
+    → longest < length new → IsFirstLong (records_from cut r (front ++ rest))
+first_added cut r front new rest true adds l = subst IsFirstLong (sym (adds rest)) l
+first_added cut r front new rest false adds l =
+    subst IsFirstLong (sym (adds rest)) (first_long cut new rest l)
+
+-- a piece that is refused makes it too long
+pub grows_long : (cut : Cut) (r bytes : List ℕ) (content taken : ℕ) (ended : Bool)
+    → content ≤ taken → taken ≤ length bytes → longest < length r + content
+    → Adds cut r (take taken bytes) (r ++ take content bytes) ended → GrowsLong cut r bytes
+grows_long cut r bytes content taken ended few all l adds = λ more.
+    let new : longest < length (r ++ take content bytes) =
+    omega (
+      arith,
+      l,
+      few,
+      all,
+      length-append r (take content bytes),
+      length-take-le content bytes (omega (arith, few, all)),
+    ) in
+    subst (λ z. IsFirstLong (records_from cut r z))
+    (sym (append_assoc (take taken bytes) (drop taken bytes) more)
+    ∙ ap (λ z. z ++ more) (take-append-drop taken bytes))
+    (first_added cut r (take taken bytes) (r ++ take content bytes) (drop taken bytes ++ more) ended
+    adds new)
+
+long_known : (cut : Cut) (r ahead front : List ℕ) (all device : Option (List ℕ))
+    → Consumes all (prepend_known ahead device) front
+    → ((ys : List ℕ) → records_from cut [] (front ++ ys) ≡ records_from cut r ys)
+    → GrowsLong cut r ahead → IfSome all (λ xs. IsFirstLong (to_come cut false xs))
+long_known cut r ahead front None device c same g = tt
+long_known cut r ahead front (Some xs) None c same g = absurd c
+long_known cut r ahead front (Some xs) (Some ys) c same g =
+    subst IsFirstLong (sym (ap (records_of cut) c ∙ same (ahead ++ ys))) (g ys)
+
+-- what was read of a record, and what is read ahead
+pub too_long : (cut here : Cut) (over : Bool) (r ahead : List ℕ) (all device : Option (List ℕ))
+    → SoFar cut all (prepend_known ahead device) r → here ≡ cut → over ≡ false
+    → GrowsLong here r ahead → IfSome all (λ xs. IsFirstLong (to_come cut over xs))
+too_long cut here over r ahead all device s is not g =
+    subst (λ z. IfSome all (λ xs. IsFirstLong (to_come cut z xs))) (sym not)
+    (long_known cut r ahead s.front all device s.consumed s.same
+    (subst (λ z. GrowsLong z r ahead) is g))
+
+-- ---- records of other lengths
+
+other_behind : (shape : Shape) (xs ys : List (List ℕ)) → OneIsOther shape ys
+    → OneIsOther shape (xs ++ ys)
+other_behind shape [] ys h = h
+other_behind shape (x ∷ xs) ys h = inr (other_behind shape xs ys h)
+
+other_first : (shape : Shape) (rs : List (List ℕ)) → IsFirstLong rs → OneIsOther shape rs
+other_first shape [] l = absurd l
+other_first shape (r ∷ rs) l = inl (inr l)
+
+known_long : (shape : Shape) (cut : Cut) (a b : Bool) (rs : List (List ℕ))
+    (all left : Option (List ℕ))
+    → IfKnown all left (λ xs ys. to_come cut a xs ≡ rs ++ to_come cut b ys)
+    → IfSome left (λ ys. IsFirstLong (to_come cut b ys))
+    → IfSome all (λ xs. OneIsOther shape (to_come cut a xs))
+known_long shape cut a b rs None left k l = tt
+known_long shape cut a b rs (Some xs) None k l = absurd k
+known_long shape cut a b rs (Some xs) (Some ys) k l =
+    subst (OneIsOther shape) (sym k)
+    (other_behind shape rs (to_come cut b ys) (other_first shape (to_come cut b ys) l))
+
+-- the next record is too long
+pub next_long : (shape : Shape) (cut here : Cut) (a b : Bool) (all left : Option (List ℕ))
+    (old mid : List Told → Type 0) → Put cut a b all left old mid → here ≡ cut
+    → IfSome left (λ ys. IsFirstLong (to_come here b ys))
+    → IfSome all (λ xs. OneIsOther shape (to_come cut a xs))
+next_long shape cut here a b all left old mid p is l =
+    known_long shape cut a b p.records all left p.known
+    (subst (λ z. IfSome left (λ ys. IsFirstLong (to_come z b ys))) is l)
+
+known_other : (shape : Shape) (cut : Cut) (a c : Bool) (r : List ℕ) (rs : List (List ℕ))
+    (all next : Option (List ℕ))
+    → IfKnown all next (λ xs ys. to_come cut a xs ≡ rs ++ given true r (to_come cut c ys))
+    → IsOther shape r → IfSome all (λ xs. OneIsOther shape (to_come cut a xs))
+known_other shape cut a c r rs None next k o = tt
+known_other shape cut a c r rs (Some xs) None k o = absurd k
+known_other shape cut a c r rs (Some xs) (Some ys) k o =
+    subst (OneIsOther shape) (sym k) (other_behind shape rs (r ∷ to_come cut c ys) (inl o))
+
+-- the record that was read last has another length
+pub put_other : (shape : Shape) (cut : Cut) (a b c : Bool) (all left next : Option (List ℕ))
+    (old mid : List Told → Type 0) (r : List ℕ) → Put cut a b all left old mid
+    → IfKnown left next (λ xs ys. to_come cut b xs ≡ given true r (to_come cut c ys))
+    → (HasRecordLength shape.format shape.rec_len (length r) → ⊥)
+    → IfSome all (λ xs. OneIsOther shape (to_come cut a xs))
+put_other shape cut a b c all left next old mid r p k wrong =
+    known_other shape cut a c r p.records all next
+    (known_then cut a b c true r p.records all left next p.known k) (inl wrong)
+
+-- ---- faults of the writer
+
+of_put : (o : OpenFile) (bytes : List ℕ) (other : Type 0) (fault : WriteFault)
+    → IsPutFault o bytes fault → ((HasLength o bytes → ⊥) → other) → IsPuttingFault other fault
+of_put o bytes other faults.RecordLength due f = f due
+of_put o bytes other faults.OutOfVolumes due f = tt
+of_put o bytes other faults.Device due f = tt
+of_put o bytes other faults.OutOfMemory due f = tt
+of_put o bytes other _ due f = absurd due
+
+-- a record was not put in this file
+pub put_fault : (file : Opened) (phase : Phase) (bytes r : List ℕ) (other : Type 0)
+    (fault : WriteFault) → IsInFile file phase → bytes ≡ r
+    → IfFiling phase (λ o. IsPutFault o bytes fault)
+    → ((HasRecordLength file.shape.format file.shape.rec_len (length r) → ⊥) → other)
+    → IsPuttingFault other fault
+put_fault file (Filing o) bytes r other fault is same due f =
+    of_put o bytes other fault due (λ wrong. f
+    (subst (λ z. HasRecordLength z.shape.format z.shape.rec_len (length r) → ⊥) is
+    (subst (λ z. HasLength o z → ⊥) same wrong)))
+put_fault file _ bytes r other fault is same due f = absurd is
+
+-- a fault that ends the writer may come of any records
+pub of_ending : (other : Type 0) (fault : WriteFault) → IsEnding fault → IsPuttingFault other fault
+of_ending other faults.OutOfVolumes e = tt
+of_ending other faults.Device e = tt
+of_ending other faults.OutOfMemory e = tt
+of_ending other _ e = absurd e
+
+-- the file was not ended
+pub end_fault : (file : Opened) (phase : Phase) (other : Type 0) (fault : WriteFault)
+    → IsInFile file phase → IfFiling phase (λ o. IsEnding fault) → IsPuttingFault other fault
+end_fault file (Filing o) other fault is e = of_ending other fault e
+end_fault file _ other fault is e = absurd is
+
+of_records : (other' other : Type 0) (fault : WriteFault) → (other' → other)
+    → IsPuttingFault other' fault → IsPuttingFault other fault
+of_records other' other faults.RecordLength f p = f p
+of_records other' other faults.OutOfVolumes f p = tt
+of_records other' other faults.Device f p = tt
+of_records other' other faults.OutOfMemory f p = tt
+of_records other' other _ f p = absurd p
+
+of_input : (other' other : Type 0) (fault : SetFault) → (other' → other)
+    → IsInputFault other' fault → IsInputFault other fault
+of_input other' other (Write fault) f p = of_records other' other fault f p
+of_input other' other ReadFailed f p = tt
+
+told_input : (other : Type 0) (fault : InputFault) → (fault ≡ inputs.TooLong → other)
+    → IsInputFault other (told_as fault)
+told_input other inputs.ReadFailed f = tt
+told_input other inputs.TooLong f = f refl
+told_input other inputs.OutOfMemory f = tt
+
+-- an input has no volumes to be out of
+pub not_told : (fault : InputFault) → told_as fault ≡ Write faults.OutOfVolumes → ⊥
+not_told inputs.ReadFailed e = cc
+not_told inputs.TooLong e = cc
+not_told inputs.OutOfMemory e = cc
+
+-- the next record was not read
+pub next_fault : (other : Type 0) (fault : InputFault) (told : SetFault) → told ≡ told_as fault
+    → (fault ≡ inputs.TooLong → other) → IsInputFault other told
+next_fault other fault told is f = subst (IsInputFault other) (sym is) (told_input other fault f)
+
+-- the records of an input were not put, told by the input
+pub input_fault : (shape : Shape) (cut here : Cut) (over : Bool) (input all : Option (List ℕ))
+    (fault : SetFault) → all ≡ input → here ≡ cut → over ≡ false
+    → IsInputFault (IfSome all (λ xs. OneIsOther shape (to_come here over xs))) fault
+    → IsInputFault (IfSome input (λ bytes. OneIsOther shape (records_of cut bytes))) fault
+input_fault shape cut here over input all fault a e f p =
+    of_input _ _ fault (λ h.
+    let one = subst (λ z. IfSome z (λ xs. OneIsOther shape (to_come here over xs))) a h in
+    let two = subst (λ z. IfSome input (λ xs. OneIsOther shape (to_come z over xs))) e one in
+    subst (λ z. IfSome input (λ xs. OneIsOther shape (to_come cut z xs))) f two) p
+
+-- ---- one of the files
+
+-- the fault is that of the file behind these
+fault_behind : (capacity : ℕ) (shape : Shape) (cut : Cut) (n m : ℕ)
+    (xs ys : List (Head1 × Option (List ℕ))) (x : Head1 × Option (List ℕ)) (fault : SetFault)
+    → m ≡ n + length xs → IsFileFault capacity shape cut m x fault
+    → IsFilesFault capacity shape cut n (xs ++ x ∷ ys) fault
+fault_behind capacity shape cut n m [] ys x fault e p =
+    let same : m ≡ n = omega (arith, e) in
+    inl (subst (λ z. IsFileFault capacity shape cut z x fault) same p)
+fault_behind capacity shape cut n m (y ∷ xs) ys x fault e p =
+    inr (fault_behind capacity shape cut (n + 1) m xs ys x fault (omega (arith, e)) p)
+
+-- the file that comes behind those that are written
+pub wrote_fault : (X : Type 0) (view : X → Head1 × Option (List ℕ)) (set_id : List ℕ)
+    (shape : Shape) (cut : Cut) (first now : List X) (at : ℕ) (old mid : List Told → Type 0)
+    (capacity here n m : ℕ) (x d : X) (fault : SetFault)
+    → at < length now → x ≡ get_or now at d → Wrote X view set_id shape cut first now at old mid
+    → m ≡ n + at → here ≡ capacity → IsFileFault here shape cut m (view x) fault
+    → IsFilesFault capacity shape cut n (map view first) fault
+wrote_fault X view set_id shape cut first now at old mid capacity here n m x d fault within is w e
+    c p =
+    let next : drop at now ≡ x ∷ drop (at + 1) now =
+    drop_more now at d within ∙ ap (λ z. z ∷ drop (at + 1) now) (sym is) in
+    let all : map view first ≡ map view w.done ++ view x ∷ map view (drop (at + 1) now) =
+    ap (map view) (w.split ∙ ap (λ l. w.done ++ l) next)
+    ∙ map-append view w.done (x ∷ drop (at + 1) now) in
+    subst (λ z. IsFilesFault capacity shape cut n z fault) (sym all)
+    (fault_behind capacity shape cut n m (map view w.done) (map view (drop (at + 1) now)) (view x)
+    fault (omega (arith, e, w.many, length-map w.done view))
+    (subst (λ z. IsFileFault z shape cut m (view x) fault) c p))

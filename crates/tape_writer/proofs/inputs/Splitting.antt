@@ -1,0 +1,73 @@
+-- Records in the subject's words: lines, and pieces of one length.
+use Rattle.std.proofs.Common.{◌≡◌, ◌<◌, ℕ, ◌+◌, ◌∙◌, List, [], ◌∷◌, ◌++◌, Bool, true}
+use Rattle.std.proofs.Common.{false, length, sym, ap, arith, append_assoc, append-nil}
+use Rattle.std.proofs.Common.{length-append}
+use Rattle.std.specs.Prelude.{◌==◌, if◌then◌else◌}
+use Rattle.std.specs.List.{flat_map}
+use Rattle.std.proofs.lemmas.Bool.Decides.{nat_tests}
+use Rattle.tape_writer.specs.declared.inputs.cut.Cut.TheVariants.{Lines, Length, Whole}
+use Rattle.tape_writer.specs.Records.{records_from, records_of}
+use Rattle.tape_writer.specs.RecordLaws.{IsLine, ended_line, LinesAreCut, PiecesAreCut, WholeIsOne}
+
+-- bytes of a line are bytes of its record
+pub line_goes_on : (l r ys : List ℕ) → IsLine l
+    → records_from Lines r (l ++ ys) ≡ records_from Lines (r ++ l) ys
+line_goes_on [] r ys is = ap (λ x. records_from Lines x ys) (sym (append-nil r))
+line_goes_on (b ∷ l) r ys (not, is) =
+    let no : (b == 10) ≡ false = grind (arith, nat_tests, not) in
+    ap (λ (t : Bool). if t then r ∷ records_from Lines [] (l ++ ys) else records_from Lines (r
+    ++ b ∷ []) (l ++ ys)) no
+    ∙ line_goes_on l (r ++ b ∷ []) ys is
+    ∙ ap (λ x. records_from Lines x ys) (append_assoc r (b ∷ []) l)
+
+pub lines_are_cut : LinesAreCut
+lines_are_cut [] rest is last = ap (λ x. records_from Lines [] x) (sym (append-nil rest))
+    ∙ line_goes_on rest [] [] last
+lines_are_cut (l ∷ ls) rest (one, is) last =
+    ap (records_of Lines) (append_assoc (l ++ 10 ∷ []) (flat_map ended_line ls) rest
+    ∙ append_assoc l (10 ∷ []) (flat_map ended_line ls ++ rest))
+    ∙ line_goes_on l [] (10 ∷ (flat_map ended_line ls ++ rest)) one
+    ∙ ap (λ x. l ∷ x) (lines_are_cut ls rest is last)
+
+-- fewer bytes than the length are bytes of one record
+pub piece_goes_on : (n : ℕ) (l r ys : List ℕ) → length r + length l < n
+    → records_from (Length n) r (l ++ ys) ≡ records_from (Length n) (r ++ l) ys
+piece_goes_on n [] r ys few = ap (λ x. records_from (Length n) x ys) (sym (append-nil r))
+piece_goes_on n (b ∷ l) r ys few =
+    let no : (length r + 1 == n) ≡ false = grind (arith, nat_tests, few) in
+    ap (λ (t : Bool). if t then (r ++ b ∷ []) ∷ records_from (Length n) [] (l
+    ++ ys) else records_from (Length n) (r ++ b ∷ []) (l ++ ys)) no
+    ∙ piece_goes_on n l (r ++ b ∷ []) ys (omega (arith, few, length-append r (b ∷ [])))
+    ∙ ap (λ x. records_from (Length n) x ys) (append_assoc r (b ∷ []) l)
+
+-- as many bytes as the length are a record
+pub piece_is_whole : (n : ℕ) (b : ℕ) (l r ys : List ℕ) → length r + length (b ∷ l) ≡ n
+    → records_from (Length n) r ((b ∷ l) ++ ys) ≡ (r ++ (b ∷ l)) ∷ records_from (Length n) [] ys
+piece_is_whole n b [] r ys is =
+    let yes : (length r + 1 == n) ≡ true = grind (arith, nat_tests, is) in
+    ap (λ (t : Bool). if t then (r
+    ++ b ∷ []) ∷ records_from (Length n) [] ys else records_from (Length n) (r ++ b ∷ []) ys) yes
+piece_is_whole n b (d ∷ l) r ys is =
+    let no : (length r + 1 == n) ≡ false = grind (arith, nat_tests, is) in
+    ap (λ (t : Bool). if t then (r ++ b ∷ []) ∷ records_from (Length n) [] ((d ∷ l)
+    ++ ys) else records_from (Length n) (r ++ b ∷ []) ((d ∷ l) ++ ys)) no
+    ∙ piece_is_whole n d l (r ++ b ∷ []) ys (omega (arith, is, length-append r (b ∷ [])))
+    ∙ ap (λ x. x ∷ records_from (Length n) [] ys) (append_assoc r (b ∷ []) (d ∷ l))
+
+pub pieces_are_cut : PiecesAreCut
+pieces_are_cut n [] rest some is few =
+    ap (λ x. records_from (Length n) [] x) (sym (append-nil rest))
+    ∙ piece_goes_on n rest [] [] (omega (arith, few))
+pieces_are_cut n ([] ∷ ps) rest some (long, is) few = absurd (omega (arith, long, some))
+pieces_are_cut n ((b ∷ p) ∷ ps) rest some (long, is) few =
+    ap (records_of (Length n)) (append_assoc (b ∷ p) (flat_map (λ p. p) ps) rest)
+    ∙ piece_is_whole n b p [] (flat_map (λ p. p) ps ++ rest) (omega (arith, long))
+    ∙ ap (λ x. (b ∷ p) ∷ x) (pieces_are_cut n ps rest some is few)
+
+whole_goes_on : (l r : List ℕ) → records_from Whole r l ≡ (r ++ l) ∷ []
+whole_goes_on [] r = ap (λ x. x ∷ []) (sym (append-nil r))
+whole_goes_on (b ∷ l) r = whole_goes_on l (r ++ b ∷ [])
+    ∙ ap (λ x. x ∷ []) (append_assoc r (b ∷ []) l)
+
+pub whole_is_one : WholeIsOne
+whole_is_one bytes = whole_goes_on bytes []

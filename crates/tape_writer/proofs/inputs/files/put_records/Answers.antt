@@ -1,0 +1,71 @@
+use Rattle.std.proofs.Common.{arith, ◌∙◌, ◌≡◌, refl, sym, subst, inr}
+use Rattle.tape_writer.specs.declared.fault.WriteFault.TheVariants.{OutOfVolumes}
+use Rattle.tape_writer.specs.Told.{with_record}
+use Rattle.tape_writer.specs.State.{IsWriting, IsOutOfVolumes}
+use Rattle.tape_writer.proofs.inputs.Putting.{counted_none, counted_one, given_cut}
+use Rattle.tape_writer.proofs.inputs.Putting.{same_record, gave_up, gave_up_at}
+use Rattle.tape_writer.proofs.inputs.Refusing.{not_told, put_fault, put_other, next_fault}
+use Rattle.tape_writer.proofs.inputs.Refusing.{next_long}
+use Rattle.tape_writer.proofs.inputs.files.put_records.Goals as goal
+
+pub records-preserved : goal.records-preserved
+records-preserved g c = record {
+  volumes = c.put.ensures.same.0 ∙ c.records.invariant.volumes;
+  capacity = c.put.ensures.same.1 ∙ c.records.invariant.capacity;
+  set_id = c.put.ensures.same.2 ∙ c.records.invariant.set_id;
+  cut = c.next.ensures.cut ∙ c.records.invariant.cut;
+  stays = λ file is. c.in-Ok.ensures.stays file (c.records.invariant.stays file is);
+  files = c.put.ensures.files ∙ c.records.invariant.files;
+  put = counted_one _ _ _ _ _ _ _ _ _ _ c.next.new.self.record.items c.records.left _
+      (omega arith) c.records.invariant.put
+      (given_cut _ _ _ _ _ c.in-Ok-true.field-0 _ _ _ _ c.records.invariant.cut
+      c.next.ensures.cut c.in-Ok-true.field-0-test c.in-Ok-true.ensures.given)
+      (same_record _ _ (IsWriting (g.T.TapeOut.holds c.records.writer.out) c.records.writer)
+      (IsWriting (g.T.TapeOut.holds c.put.new.self.out) c.put.new.self) c.record.ensures
+      c.in-Ok.ensures.told);
+}
+
+pub returns-in-Err-put-clause-due : goal.returns-in-Err-put-clause-due
+returns-in-Err-put-clause-due g c = λ file is.
+    let r = c.next.new.self.record.items in
+    put_fault file c.records.writer.phase c.record.result.now r _ c.in-Err-put.fault
+    (c.records.invariant.stays file is) c.record.ensures c.in-Err-put.ensures.due
+    (put_other file.shape _ _ _ _ _ _ _ _ _ r c.records.invariant.put.0
+    (given_cut _ _ _ _ _ c.in-Ok-true.field-0 _ _ _ _ c.records.invariant.cut c.next.ensures.cut
+    c.in-Ok-true.field-0-test c.in-Ok-true.ensures.given))
+
+pub returns-in-Err-clause-due : goal.returns-in-Err-clause-due
+returns-in-Err-clause-due g c = λ file is.
+    next_fault _ c.in-Err.fault c.fault_of.result c.fault_of.ensures (λ e.
+    next_long file.shape _ _ _ _ _ _ _ _ c.records.invariant.put.0 c.records.invariant.cut
+    (c.in-Err.ensures.long e))
+
+pub records-init : goal.records-init
+records-init g c = record {
+  volumes = refl;
+  capacity = refl;
+  set_id = refl;
+  cut = refl;
+  stays = λ file is. is;
+  files = refl;
+  put = counted_none _ _ _ _;
+}
+
+pub returns-in-Err-put-clause-stuck : goal.returns-in-Err-put-clause-stuck
+returns-in-Err-put-clause-stuck g c = λ e told held.
+    let f : c.in-Err-put.fault ≡ OutOfVolumes = cc in
+    let r = c.next.new.self.record.items in
+    gave_up_at (g.T.TapeOut.holds c.put.new.self.out) c.put.new.self _ _ _ _ _ _ _ _ _ r
+    c.records.invariant.put.0
+    (given_cut _ _ _ _ _ c.in-Ok-true.field-0 _ _ _ _ c.records.invariant.cut c.next.ensures.cut
+    c.in-Ok-true.field-0-test c.in-Ok-true.ensures.given)
+    (λ t h. subst (λ z. IsOutOfVolumes (g.T.TapeOut.holds c.put.new.self.out) c.put.new.self
+    (with_record t z)) c.record.ensures (c.in-Err-put.ensures.stuck t h f)) told held
+
+pub returns-in-Err-clause-stuck : goal.returns-in-Err-clause-stuck
+returns-in-Err-clause-stuck g c = λ e. absurd (not_told c.in-Err.fault (sym c.fault_of.ensures ∙ e))
+
+pub returns-clause-stuck : goal.returns-clause-stuck
+returns-clause-stuck g c = λ e told held.
+    gave_up (g.T.TapeOut.holds c.records.writer.out) c.records.writer told _ _ _ _ _ _
+    c.records.invariant.put.0.known (inr (omega (arith, c.records.invariant.put.1)))

@@ -1,0 +1,57 @@
+use Rattle.std.proofs.Common.{rules, arith, get_or, ◌+◌, ◌++◌, ◌∷◌, [], length, refl, subst}
+use Rattle.std.proofs.Common.{◌∙◌, IfSome}
+use Rattle.std.proofs.lemmas.Result.{err_from_is_err_and}
+use Rattle.tape_writer.specs.State.{IsWriting}
+use Rattle.tape_writer.specs.Told.{opened_by}
+use Rattle.tape_writer.specs.Records.{records_of}
+use Rattle.tape_writer.proofs.inputs.Filing.{wrote_none, wrote_one}
+use Rattle.tape_writer.proofs.inputs.Refusing.{wrote_fault}
+use Rattle.tape_writer.proofs.inputs.files.write_files.Goals as goal
+
+pub files-init : goal.files-init
+files-init g c = record {
+  volumes = refl;
+  capacity = refl;
+  set_id = refl;
+  stands = λ is. (is, search rules);
+  begun = λ l. absurd (omega (arith, l));
+  wrote = wrote_none _ _ _ _ _ c.args.files.now _;
+}
+
+pub files-preserved : goal.files-preserved
+files-preserved g c =
+    let x = get_or c.files.files c.files.at c.index-files-at.result in
+    let new = (IsWriting (g.T.TapeOut.holds c.write_file.new.writer.out) c.write_file.new.writer) in
+    let next = c.in_ok-write_file.ensures.stands in
+    record {
+      volumes = c.write_file.ensures.same.0 ∙ c.files.invariant.volumes;
+      capacity = c.write_file.ensures.same.1 ∙ c.files.invariant.capacity;
+      set_id = c.write_file.ensures.same.2 ∙ c.files.invariant.set_id;
+      stands = λ is.
+          let now = c.files.invariant.stands is in
+          (next.0, omega (arith, now.1, next.2));
+      begun = λ l. next.1;
+      wrote = wrote_one _ (λ f. (f.head, g.R.Read.remaining f.reader)) c.args.writer.now.set_id
+          c.args.shape c.args.cut c.args.files.now c.files.files c.files.at
+          (IsWriting (g.T.TapeOut.holds c.args.writer.now.out) c.args.writer.now)
+          (IsWriting (g.T.TapeOut.holds c.files.writer.out) c.files.writer) new x _
+          c.index-files-at.result (search rules) refl c.files.invariant.wrote
+          (λ t h. subst (λ s. IfSome (g.R.Read.remaining x.reader)
+          (λ b. new (t ++ record {
+            file = opened_by s (length t + 1) x.head c.args.shape;
+            records = records_of c.args.cut b;
+          } ∷ [])))
+          c.files.invariant.set_id (c.in_ok-write_file.ensures.told t h));
+    }
+
+pub returns-in_err-write_file-clause-due : goal.returns-in_err-write_file-clause-due
+returns-in_err-write_file-clause-due g c = λ between.
+    let p = err_from_is_err_and c.from_residual.result c.from_residual.ensures.1 in
+    let now = c.files.invariant.stands between in
+    let x = get_or c.files.files c.files.at c.index-files-at.result in
+    rw (p.1, p.2) (wrote_fault _ (λ f. (f.head, g.R.Read.remaining f.reader))
+    c.args.writer.now.set_id c.args.shape c.args.cut c.args.files.now c.files.files c.files.at _ _
+    c.args.writer.now.capacity
+    c.files.writer.capacity (length c.args.writer.now.files) (length c.files.writer.files) x
+    c.index-files-at.result _ (search rules) refl c.files.invariant.wrote now.1
+    c.files.invariant.capacity (c.in_err-write_file.ensures.due now.0))

@@ -1,0 +1,22 @@
+use Rattle.std.proofs.Common.{◌≡◌, ◌<◌, ◌+◌, ◌-◌, length}
+use Rattle.tape_writer.specs.declared.phase.Phase.TheVariants.{Between}
+use Rattle.tape_writer.specs.State.{IsWriting}
+use Rattle.tape_writer.proofs.inputs.Filing.{Wrote}
+use Rattle.tape_writer.proofs.inputs.files.write_files.Given as goal
+
+abbrev pub invariant-files : goal.invariant-files
+invariant-files g l = record {
+  volumes : l.writer.volumes ≡ l.fn.writer.volumes;
+  capacity : l.writer.capacity ≡ l.fn.writer.capacity;
+  set_id : l.writer.set_id ≡ l.fn.writer.set_id;
+  stands : l.fn.writer.phase ≡ Between
+      → (l.writer.phase ≡ Between) × (length l.writer.files ≡ length l.fn.writer.files + l.at);
+  begun : 0 < l.at → 0 < l.writer.course.volume;
+  wrote : Wrote _ (λ f. (f.head, g.R.Read.remaining f.reader)) l.fn.writer.set_id l.shape l.cut
+      l.fn.files l.files l.at
+      (IsWriting (g.T.TapeOut.holds l.fn.writer.out) l.fn.writer)
+      (IsWriting (g.T.TapeOut.holds l.writer.out) l.writer);
+}
+
+abbrev pub decreases-files : goal.decreases-files
+decreases-files g l = length l.files - l.at

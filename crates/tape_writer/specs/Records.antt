@@ -1,0 +1,72 @@
+-- The records of an input.
+use Rattle.std.specs.Prelude.{ℕ, ◌+◌, ◌≡◌, ◌<◌, ◌==◌, List, [], ◌∷◌, ◌++◌, Bool, true, false}
+use Rattle.std.specs.Prelude.{length, if◌then◌else◌, Option}
+use Rattle.std.specs.Io.KnownBytes.{prepend_known}
+use Rattle.tape_writer.specs.declared.inputs.cut.Cut.{Cut}
+use Rattle.tape_writer.specs.declared.inputs.cut.Cut.TheVariants.{Lines, Length, Whole}
+use Rattle.tape_writer.specs.declared.inputs.records.Records.{Records}
+
+-- no record has more bytes
+abbrev pub longest : ℕ
+longest = 4294967295
+
+-- this byte ends the record before it, and is none of it
+abbrev pub ends_before : Cut → ℕ → Bool
+ends_before Lines byte = byte == 10
+ends_before (Length n) byte = false
+ends_before Whole byte = false
+
+-- a record of this length is whole
+abbrev pub is_full : Cut → ℕ → Bool
+is_full Lines n = false
+is_full (Length m) n = n == m
+is_full Whole n = false
+
+-- Bytes at the end of an input are a record. None are no record where the input is cut.
+abbrev pub last_record : Cut → List ℕ → List (List ℕ)
+last_record Whole r = r ∷ []
+last_record Lines [] = []
+last_record Lines (b ∷ r) = (b ∷ r) ∷ []
+last_record (Length n) [] = []
+last_record (Length n) (b ∷ r) = (b ∷ r) ∷ []
+
+-- the records of these bytes behind those of a record that is begun
+abbrev pub records_from : Cut → List ℕ → List ℕ → List (List ℕ)
+records_from cut r [] = last_record cut r
+records_from cut r (b ∷ bs) =
+    if ends_before cut b then r ∷ records_from cut [] bs
+    else (if is_full cut (length r + 1) then (r ++ b ∷ []) ∷ records_from cut [] bs
+    else records_from cut (r ++ b ∷ []) bs)
+
+-- the records of an input
+abbrev pub records_of : Cut → List ℕ → List (List ℕ)
+records_of cut bytes = records_from cut [] bytes
+
+-- the records to come, if the input is not over
+abbrev pub to_come : Cut → Bool → List ℕ → List (List ℕ)
+to_come cut over bytes = if over then [] else records_of cut bytes
+
+-- a record and the rest, or the rest alone
+abbrev pub given : Bool → List ℕ → List (List ℕ) → List (List ℕ)
+given true r rs = r ∷ rs
+given false r rs = rs
+
+-- these bytes behind those of a record end it, or are more of it
+abbrev pub Adds : Cut → List ℕ → List ℕ → List ℕ → Bool → Type 0
+Adds cut old bytes new true = (more : List ℕ)
+    → records_from cut old (bytes ++ more) ≡ new ∷ records_from cut [] more
+Adds cut old bytes new false = (more : List ℕ)
+    → records_from cut old (bytes ++ more) ≡ records_from cut new more
+
+-- what is left of an input: the bytes read ahead, and then those of its reader
+abbrev pub left_of : {R : Type 0} → (R → Option (List ℕ)) → Records R → Option (List ℕ)
+left_of remaining records = prepend_known records.ahead (remaining records.device)
+
+-- the first of these records has more bytes than any that is held
+abbrev pub IsFirstLong : List (List ℕ) → Type 0
+IsFirstLong [] = ⊥
+IsFirstLong (r ∷ rs) = longest < length r
+
+-- whatever stands behind these bytes, the record that is begun with r gets too long
+abbrev pub GrowsLong : Cut → List ℕ → List ℕ → Type 0
+GrowsLong cut r bytes = (more : List ℕ) → IsFirstLong (records_from cut r (bytes ++ more))

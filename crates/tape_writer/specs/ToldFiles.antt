@@ -1,0 +1,36 @@
+-- Files told with the records of inputs.
+use Rattle.std.specs.Prelude.{◌≡◌, ◌⊎◌, ◌≤◌, ℕ, ◌+◌, List, [], ◌∷◌, ◌++◌, length, Option, IfSome}
+use Rattle.tape_label.specs.declared.values.Head1.{Head1}
+use Rattle.tape_blocks.specs.declared.shape.Shape.{Shape}
+use Rattle.tape_writer.specs.Tapes.{Tapes}
+use Rattle.tape_writer.specs.Told.{Told, with_record, opened_by}
+use Rattle.tape_writer.specs.State.{SetState, IsOutOfVolumes}
+use Rattle.tape_writer.specs.declared.inputs.cut.Cut.{Cut}
+use Rattle.tape_writer.specs.Records.{records_of}
+
+-- more records of the last file
+abbrev pub with_records : List Told → List (List ℕ) → List Told
+with_records told [] = told
+with_records told (r ∷ rs) = with_records (with_record told r) rs
+
+-- the files of these heads, the first of them with this number, with the records of these inputs
+abbrev pub told_files : List ℕ → Shape → Cut → ℕ → List (Head1 × List ℕ) → List Told
+told_files set_id shape cut n [] = []
+told_files set_id shape cut n (f ∷ fs) = record {
+  file = opened_by set_id n f.0 shape;
+  records = records_of cut f.1;
+} ∷ told_files set_id shape cut (n + 1) fs
+
+-- where the bytes of all these inputs are known
+abbrev pub IfAllKnown : List (Head1 × Option (List ℕ)) → (List (Head1 × List ℕ) → Type 0) → Type 0
+IfAllKnown [] P = P []
+IfAllKnown (x ∷ xs) P = IfSome x.1 (λ bytes. IfAllKnown xs (λ fs. P ((x.0, bytes) ∷ fs)))
+
+-- Where a front of these records was told behind those, the writer has no volume left; or the front
+-- is as long as no set is.
+pub record GaveUp {T : Type 0} (H : Tapes → Type 0) (w : SetState T) (told : List Told)
+    (records : List (List ℕ)) : Type 0 where
+  pub front : List (List ℕ)
+  pub back : List (List ℕ)
+  pub split : records ≡ front ++ back
+  pub out : IsOutOfVolumes H w (with_records told front) ⊎ (18446744073709551615 ≤ length front)

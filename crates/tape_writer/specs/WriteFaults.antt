@@ -1,0 +1,85 @@
+-- Why `write` does not write a set: a fault that these definitions rule out is not answered.
+use Rattle.std.specs.Prelude.{◌≡◌, ◌<◌, ◌+◌, ◌⊎◌, ℕ, List, [], ◌∷◌, length, Option, Some, None}
+use Rattle.std.specs.Prelude.{IfSome}
+use Rattle.tape_label.specs.declared.values.Head1.{Head1}
+use Rattle.tape_blocks.specs.declared.shape.Shape.{Shape}
+use Rattle.tape_blocks.specs.Packing.{HasRecordLength}
+use Rattle.tape_writer.specs.declared.fault.WriteFault.{WriteFault}
+use Rattle.tape_writer.specs.declared.fault.WriteFault.TheVariants.{BadShape, RecordLength}
+use Rattle.tape_writer.specs.declared.fault.WriteFault.TheVariants.{OutOfVolumes, Device}
+use Rattle.tape_writer.specs.declared.fault.WriteFault.TheVariants.{OutOfMemory}
+use Rattle.tape_writer.specs.Refusals.{IsNewFault, IsBeginFault, IsFinishFault}
+use Rattle.tape_writer.specs.declared.fault.SetFault.{SetFault}
+use Rattle.tape_writer.specs.declared.fault.SetFault.TheVariants.{Write, ReadFailed}
+use Rattle.tape_writer.specs.declared.inputs.cut.Cut.{Cut}
+use Rattle.tape_writer.specs.declared.inputs.records.InputFault.{InputFault}
+use Rattle.tape_writer.specs.declared.inputs.records.InputFault.TheVariants as inputs
+use Rattle.tape_writer.specs.declared.inputs.set.SetPlan.{SetPlan}
+use Rattle.tape_writer.specs.Records.{records_of, longest}
+use Rattle.tape_writer.specs.WriteSet.{cut_of}
+
+-- how the fault of an input is told
+abbrev pub told_as : InputFault → SetFault
+told_as inputs.ReadFailed = ReadFailed
+told_as inputs.TooLong = Write RecordLength
+told_as inputs.OutOfMemory = Write OutOfMemory
+
+-- a record of none of the shape's lengths, or one that is longer than any that is held
+abbrev pub IsOther : Shape → List ℕ → Type 0
+IsOther shape r =
+    (HasRecordLength shape.format shape.rec_len (length r) → ⊥) ⊎ (longest < length r)
+
+-- one of these records is such a one
+abbrev pub OneIsOther : Shape → List (List ℕ) → Type 0
+OneIsOther shape [] = ⊥
+OneIsOther shape (r ∷ rs) = IsOther shape r ⊎ OneIsOther shape rs
+
+-- a fault of the writer, of which this is true
+abbrev pub IsOfWriter : (WriteFault → Type 0) → SetFault → Type 0
+IsOfWriter P (Write fault) = P fault
+IsOfWriter P ReadFailed = ⊥
+
+-- why records are not put in a file; RecordLength only where this is so
+abbrev pub IsPuttingFault : Type 0 → WriteFault → Type 0
+IsPuttingFault other RecordLength = other
+IsPuttingFault other OutOfVolumes = Unit {0}
+IsPuttingFault other Device = Unit {0}
+IsPuttingFault other OutOfMemory = Unit {0}
+IsPuttingFault other _ = ⊥
+
+-- the same of the records of an input
+abbrev pub IsInputFault : Type 0 → SetFault → Type 0
+IsInputFault other (Write fault) = IsPuttingFault other fault
+IsInputFault other ReadFailed = Unit {0}
+
+-- Why the file of this head is not written behind n others, with the records of an input that has
+-- these bytes: it is not begun, or the records are not put. Of an input that tells no bytes it is
+-- not said which records it has.
+abbrev pub IsFileFault : ℕ → Shape → Cut → ℕ → Head1 × Option (List ℕ) → SetFault → Type 0
+IsFileFault capacity shape cut n input fault =
+    IsOfWriter (IsBeginFault capacity n input.0 shape) fault
+    ⊎ IsInputFault (IfSome input.1 (λ bytes. OneIsOther shape (records_of cut bytes))) fault
+
+-- the fault is that of one of these files, the first of them with n others before it
+abbrev pub IsFilesFault : ℕ → Shape → Cut → ℕ → List (Head1 × Option (List ℕ)) → SetFault
+    → Type 0
+IsFilesFault capacity shape cut n [] fault = ⊥
+IsFilesFault capacity shape cut n (x ∷ xs) fault =
+    IsFileFault capacity shape cut n x fault ⊎ IsFilesFault capacity shape cut (n + 1) xs fault
+
+-- why the files of these inputs are not written, or the set is not ended behind them
+abbrev pub IsWholeFault : ℕ → Shape → Cut → List (Head1 × Option (List ℕ)) → SetFault → Type 0
+IsWholeFault capacity shape cut inputs fault = IsFilesFault capacity shape cut 0 inputs fault
+    ⊎ IsOfWriter (IsFinishFault (length inputs)) fault
+
+-- why a set is not written, where inputs are cut so
+abbrev pub IsFaultOfCut : SetPlan → List (Head1 × Option (List ℕ)) → Option Cut → SetFault
+    → Type 0
+IsFaultOfCut plan inputs None fault = fault ≡ Write BadShape
+IsFaultOfCut plan inputs (Some cut) fault =
+    IsOfWriter (IsNewFault plan.set_id plan.volumes.items) fault
+    ⊎ IsWholeFault plan.capacity plan.shape cut inputs fault
+
+-- why a set is not written
+abbrev pub IsSetFault : SetPlan → List (Head1 × Option (List ℕ)) → SetFault → Type 0
+IsSetFault plan inputs fault = IsFaultOfCut plan inputs (cut_of plan.form plan.shape) fault

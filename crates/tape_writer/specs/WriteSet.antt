@@ -1,0 +1,31 @@
+-- What `write` has written.
+use Rattle.std.specs.Prelude.{ℕ, List, false, Option, Some, None}
+use Rattle.tape_image.specs.Writer.{Writer}
+use Rattle.tape_label.specs.declared.values.Format.{Format}
+use Rattle.tape_label.specs.declared.values.Format.TheVariants.{Fixed, Counted, Spanned}
+use Rattle.tape_label.specs.declared.values.Vol1.{Vol1}
+use Rattle.tape_blocks.specs.declared.shape.Shape.{Shape}
+use Rattle.tape_writer.specs.Images.{AreImages}
+use Rattle.tape_writer.specs.Told.{Told, IsWrittenSet}
+use Rattle.tape_blocks.specs.declared.form.Form.{Form}
+use Rattle.tape_blocks.specs.declared.form.Form.TheVariants as forms
+use Rattle.tape_writer.specs.declared.inputs.cut.Cut.{Cut}
+use Rattle.tape_writer.specs.declared.inputs.cut.Cut.TheVariants.{Lines, Length, Whole}
+
+-- The first so many images spell the volumes of a lawful set that is tight in the capacity and the
+-- shapes told; its files are those told, and its volumes the first of those given. Nothing is
+-- written of the other images.
+abbrev pub IsSetOfImages : List Vol1 → ℕ → List ℕ → List Told → List Writer → ℕ → Type 0
+IsSetOfImages volumes capacity set_id told images ended =
+    IsWrittenSet (λ tapes. AreImages images ended false tapes) volumes capacity set_id told
+
+-- raw inputs are cut into records of format F, and are one record of format S
+abbrev pub raw_cut : Format → ℕ → Option Cut
+raw_cut Fixed n = Some (Length n)
+raw_cut Counted n = None
+raw_cut Spanned n = Some Whole
+
+-- where inputs of a form are cut for files of a shape, if they can be
+abbrev pub cut_of : Form → Shape → Option Cut
+cut_of forms.Lines shape = Some Lines
+cut_of forms.Raw shape = raw_cut shape.format shape.rec_len

@@ -1,0 +1,107 @@
+//! Bytes read ahead of their use.
+ghost use Rattle.std.specs.Prelude.{◌≡◌, ◌≤◌, ◌<◌, [], ◌∷◌, drop, length, vec_len, take, IfOk};
+ghost use Rattle.std.specs.Prelude.{OnOk, OnErr, IsOkUnless, MatchBool};
+ghost use Rattle.std.specs.Io.KnownBytes.{Keeps, Consumes, IsAtEnd, prepend_known};
+
+use crate::inputs::records::InputFault;
+use std::alloc::{AllocError, Global};
+use std::io::Read;
+use std::marker::Model;
+
+/// How many bytes are read at once, at most.
+const ROOM: usize = 8_192;
+
+/// Bytes of a reader that were read and not yet used.
+#[derive(Drop)]
+pub struct Chunk {
+    bytes: Vec<u8>,
+    start: usize,
+    end: usize,
+}
+
+impl Model for Chunk {
+    ghost use Rattle.std.specs.Prelude.{◌≤◌, ◌<◌, ℕ, List, slice_range, vec_len};
+
+    ghost Value = { List ℕ };
+
+    ghost view = { λ c. slice_range c.bytes.items c.start c.end };
+
+    ghost invariant = { λ c. (c.start ≤ c.end) × (c.end ≤ vec_len c.bytes)
+        × (0 < vec_len c.bytes) };
+}
+
+impl Chunk {
+    /// No bytes, and room for 8,192.
+    pub fn new(alloc: Global) -> Result<Chunk, AllocError>
+        ensures { IfOk result (λ c. c ≡ []) }
+    {
+        let mut bytes = Vec::with_capacity(alloc, ROOM)?;
+        bytes.resize(ROOM, 0)?;
+        Ok(Chunk {
+            bytes,
+            start: 0,
+            end: 0,
+        })
+    }
+
+    /// The bytes.
+    pub fn as_slice(&self) -> &[u8]
+        ensures { result.now ≡ self.now }
+    {
+        &self.bytes[self.start..self.end]
+    }
+
+    /// Whether there are none.
+    pub fn is_empty(&self) -> bool
+        ensures { MatchBool result (self.now ≡ []) (0 < length self.now) }
+    {
+        self.start == self.end
+    }
+
+    /// Uses so many of them, or all where there are fewer.
+    pub fn skip(&mut self, count: usize)
+        ensures { self.new ≡ drop count self.old }
+    {
+        let left = self.end - self.start;
+        self.start += left.min(count);
+    }
+
+    /// Reads once where there are none.
+    pub fn fill<R: Read>(&mut self, reader: &mut R) -> Result<(), InputFault>
+        ensures bytes { Keeps (prepend_known self.old (R.remaining reader.old))
+            (prepend_known self.new (R.remaining reader.new)) }
+        ensures end { OnOk result (self.new ≡ [] → IsAtEnd (R.remaining reader.new)) }
+        ensures kind { IsOkUnless result InputFault.ReadFailed }
+    {
+        if self.start < self.end {
+            return Ok(());
+        }
+        self.start = 0;
+        self.end = 0;
+        match read_over(reader, &mut self.bytes) {
+            Ok(count) => {
+                self.end = count;
+                Ok(())
+            }
+            Err(fault) => Err(fault),
+        }
+    }
+}
+
+/// Reads once, over these bytes.
+fn read_over<R: Read>(reader: &mut R, bytes: &mut Vec<u8>) -> Result<usize, InputFault>
+    ensures len { vec_len bytes.new ≡ vec_len bytes.old }
+    ensures within { IfOk result (λ n. n ≤ vec_len bytes.new) }
+    ensures ok { IfOk result (λ n. Consumes (R.remaining reader.old) (R.remaining reader.new)
+        (take n bytes.new.items)) }
+    ensures end { IfOk result (λ n. n ≡ 0 → 0 < vec_len bytes.old
+        → IsAtEnd (R.remaining reader.new)) }
+    ensures err { OnErr result (Keeps (R.remaining reader.old) (R.remaining reader.new)) }
+    ensures kind { IsOkUnless result InputFault.ReadFailed }
+{
+    match reader.read(bytes.as_mut_slice()) {
+        Ok(count) => Ok(count),
+        // An interruption is a failure too.
+        Err(_) => Err(InputFault::ReadFailed),
+    }
+}

@@ -1,0 +1,113 @@
+//! Where an input is cut into records.
+ghost use Rattle.std.specs.Prelude.{◌≡◌, ◌<◌, ◌≤◌, ◌++◌, ◌∷◌, [], ℕ, List, take, false, MatchBool};
+ghost use Rattle.std.specs.Prelude.{length as count};
+ghost use Rattle.tape_writer.specs.Records.{Adds, last_record};
+
+use memchr::memchr;
+
+/// Where an input is cut into records.
+#[derive(Clone, Copy, Debug, PartialEq, Eq)]
+pub enum Cut {
+    /// Behind each line feed, which is in no record.
+    Lines,
+    /// Into records of this length.
+    Length(u32),
+    /// Nowhere: the whole input is one record.
+    Whole,
+}
+
+/// The front of some bytes that goes on a record.
+#[derive(Clone, Copy, Debug, PartialEq, Eq)]
+pub struct Piece {
+    /// How many of the bytes are in the record.
+    pub content: usize,
+    /// How many of them are taken: these, and a line feed behind them.
+    pub taken: usize,
+    /// Whether the record ends with it.
+    pub ended: bool,
+}
+
+impl Cut {
+    /// The front of these bytes that goes on a record of so many bytes.
+    pub fn piece(self, held: usize, bytes: &[u8]) -> Piece
+        ensures within { (result.content ≤ result.taken) × (result.taken ≤ count bytes.now) }
+        ensures some { 0 < count bytes.now → 0 < result.taken }
+        ensures all { result.ended ≡ false → result.content ≡ result.taken }
+        ensures adds { (r : List ℕ) → count r ≡ held → Adds self r (take result.taken bytes.now)
+            (r ++ take result.content bytes.now) result.ended }
+    {
+        match self {
+            Cut::Lines => line_piece(bytes),
+            Cut::Length(length) => length_piece(length, held, bytes),
+            Cut::Whole => Piece::inside(bytes.len()),
+        }
+    }
+
+    /// Whether so many bytes at the input's end are a record.
+    pub fn is_last(self, held: usize) -> bool
+        ensures { (r : List ℕ) → held ≡ count r
+            → MatchBool result (last_record self r ≡ r ∷ []) (last_record self r ≡ []) }
+    {
+        match self {
+            Cut::Lines | Cut::Length(_) => held > 0,
+            Cut::Whole => true,
+        }
+    }
+}
+
+impl Piece {
+    /// All of so many bytes, which are inside a record.
+    fn inside(length: usize) -> Piece
+        ensures { result ≡ record { content = length; taken = length; ended = false } }
+    {
+        Piece {
+            content: length,
+            taken: length,
+            ended: false,
+        }
+    }
+}
+
+/// Up to the line feed, or all where there is none.
+fn line_piece(bytes: &[u8]) -> Piece
+    ensures within { (result.content ≤ result.taken) × (result.taken ≤ count bytes.now) }
+    ensures some { 0 < count bytes.now → 0 < result.taken }
+    ensures all { result.ended ≡ false → result.content ≡ result.taken }
+    ensures adds { (r : List ℕ) → Adds Cut.Lines r (take result.taken bytes.now)
+        (r ++ take result.content bytes.now) result.ended }
+{
+    match memchr(b'\n', bytes) {
+        Some(place) => Piece {
+            content: place,
+            taken: place + 1,
+            ended: true,
+        },
+        None => Piece::inside(bytes.len()),
+    }
+}
+
+/// Up to this length of the record, or all where it is not reached.
+fn length_piece(length: u32, held: usize, bytes: &[u8]) -> Piece
+    ensures within { (result.content ≤ result.taken) × (result.taken ≤ count bytes.now) }
+    ensures some { 0 < count bytes.now → 0 < result.taken }
+    ensures all { result.ended ≡ false → result.content ≡ result.taken }
+    ensures adds { (r : List ℕ) → count r ≡ held
+        → Adds (Cut.Length length) r (take result.taken bytes.now)
+        (r ++ take result.content bytes.now) result.ended }
+{
+    let all = Piece::inside(bytes.len());
+    let length = length as usize;
+    if held >= length {
+        // What is that long already is never whole. It takes a length of 0 to come here.
+        return all;
+    }
+    let wanted = length - held;
+    if bytes.len() < wanted {
+        return all;
+    }
+    Piece {
+        content: wanted,
+        taken: wanted,
+        ended: true,
+    }
+}

@@ -1,0 +1,153 @@
+//! Files written from inputs.
+ghost use Rattle.std.specs.Prelude.{◌≡◌, ◌<◌, ◌++◌, ◌+◌, ◌∷◌, [], List, length, map, OnOk, IfErr};
+ghost use Rattle.std.specs.Prelude.{IfSome};
+ghost use Rattle.tape_image.specs.Reader.{IfKnown};
+ghost use Rattle.tape_writer.specs.Told.{Told, opened_by};
+ghost use Rattle.tape_writer.specs.State.{IsWriting};
+ghost use Rattle.tape_writer.specs.Refusals.{IsInFile};
+ghost use Rattle.tape_writer.specs.declared.course.Opened.{Opened};
+ghost use Rattle.tape_writer.specs.declared.phase.Phase.TheVariants.{Between};
+ghost use Rattle.tape_writer.specs.Records.{records_of, to_come, left_of};
+ghost use Rattle.tape_writer.specs.ToldFiles.{with_records, told_files, IfAllKnown, GaveUp};
+ghost use Rattle.tape_writer.specs.WriteFaults.{OneIsOther, IsInputFault, IsFileFault};
+ghost use Rattle.tape_writer.specs.WriteFaults.{IsFilesFault, told_as};
+
+use crate::fault::{SetFault, WriteFault};
+use crate::inputs::cut::Cut;
+use crate::inputs::records::{InputFault, Records};
+use crate::out::TapeOut;
+use crate::set::SetWriter;
+use std::alloc::Global;
+use std::io::Read;
+use tape_blocks::Shape;
+use tape_label::Head1;
+
+/// A file that is to be written: its head, and where its records come from.
+#[derive(Drop)]
+pub struct Input<R> {
+    /// Of this head the set identifier and the numbers of section and file are replaced.
+    pub head: Head1,
+    pub reader: R,
+}
+
+/// Writes files with the records of their inputs, one after another.
+///
+/// # Errors
+///
+/// `Write` with what the writer refuses, with `RecordLength` for a record of more than
+/// 4,294,967,295 bytes and with `OutOfMemory` for memory of the engine's own; `ReadFailed`
+/// where an input fails.
+pub fn write_files<T: TapeOut + Drop, R: Read>(
+    alloc: Global,
+    writer: &mut SetWriter<T>,
+    files: &mut [Input<R>],
+    shape: Shape,
+    cut: Cut,
+) -> Result<(), SetFault>
+    ensures same { (writer.new.volumes ≡ writer.old.volumes)
+        × (writer.new.capacity ≡ writer.old.capacity) × (writer.new.set_id ≡ writer.old.set_id) }
+    ensures told { (told : List Told) → IsWriting (T.holds writer.old.out) writer.old told
+        → OnOk result (IfAllKnown (map (λ f. (f.head, R.remaining f.reader)) files.old) (λ fs.
+        IsWriting (T.holds writer.new.out) writer.new
+        (told ++ told_files writer.old.set_id shape cut (length told + 1) fs))) }
+    // No fault is answered where it is not due.
+    ensures due { writer.old.phase ≡ Between
+        → IfErr result (IsFilesFault writer.old.capacity shape cut (length writer.old.files)
+        (map (λ f. (f.head, R.remaining f.reader)) files.old)) }
+    ensures stands { writer.old.phase ≡ Between → OnOk result ((writer.new.phase ≡ Between)
+        × (0 < length files.old → 0 < writer.new.course.volume)) }
+{
+    let mut at = 0;
+    'files: while at < files.len() {
+        let file = &mut files[at];
+        write_file(alloc, writer, file.head, shape, &mut file.reader, cut)?;
+        at += 1;
+    }
+    Ok(())
+}
+
+/// Writes a file with the records of an input.
+fn write_file<T: TapeOut + Drop, R: Read>(
+    alloc: Global,
+    writer: &mut SetWriter<T>,
+    head: Head1,
+    shape: Shape,
+    input: &mut R,
+    cut: Cut,
+) -> Result<(), SetFault>
+    ensures same { (writer.new.volumes ≡ writer.old.volumes)
+        × (writer.new.capacity ≡ writer.old.capacity) × (writer.new.set_id ≡ writer.old.set_id) }
+    ensures told { (told : List Told) → IsWriting (T.holds writer.old.out) writer.old told
+        → OnOk result (IfSome (R.remaining input.old) (λ bytes.
+        IsWriting (T.holds writer.new.out) writer.new (told ++ record {
+          file = opened_by writer.old.set_id (length told + 1) head shape;
+          records = records_of cut bytes;
+        } ∷ []))) }
+    ensures due { writer.old.phase ≡ Between
+        → IfErr result (IsFileFault writer.old.capacity shape cut (length writer.old.files)
+        (head, R.remaining input.old)) }
+    ensures stands { OnOk result ((writer.new.phase ≡ Between) × (0 < writer.new.course.volume)
+        × (length writer.new.files ≡ length writer.old.files + 1)) }
+{
+    if let Err(fault) = writer.begin_file(head, shape) {
+        return Err(SetFault::Write(fault));
+    }
+    let Ok(mut records) = Records::new(alloc, input, cut) else {
+        return Err(SetFault::Write(WriteFault::OutOfMemory));
+    };
+    put_records(writer, &mut records)?;
+    match writer.end_file() {
+        Ok(()) => Ok(()),
+        Err(fault) => Err(SetFault::Write(fault)),
+    }
+}
+
+/// Puts the records to come of an input in the file under way.
+fn put_records<T: TapeOut + Drop, R: Read + Drop>(
+    writer: &mut SetWriter<T>,
+    records: &mut Records<R>,
+) -> Result<(), SetFault>
+    ensures same { (writer.new.volumes ≡ writer.old.volumes)
+        × (writer.new.capacity ≡ writer.old.capacity) × (writer.new.set_id ≡ writer.old.set_id) }
+    ensures told { (told : List Told) → IsWriting (T.holds writer.old.out) writer.old told
+        → OnOk result (IfKnown (left_of R.remaining records.old) (left_of R.remaining records.new)
+        (λ xs ys. IsWriting (T.holds writer.new.out) writer.new
+        (with_records told (to_come records.old.cut records.old.over xs)))) }
+    ensures due { (file : Opened) → IsInFile file writer.old.phase
+        → IfErr result (IsInputFault (IfSome (left_of R.remaining records.old) (λ xs.
+        OneIsOther file.shape (to_come records.old.cut records.old.over xs)))) }
+    ensures stuck { IfErr result (λ fault. fault ≡ SetFault.Write WriteFault.OutOfVolumes
+        → (told : List Told) → IsWriting (T.holds writer.old.out) writer.old told
+        → IfSome (left_of R.remaining records.old) (λ xs.
+        GaveUp (T.holds writer.new.out) writer.new told
+        (to_come records.old.cut records.old.over xs))) }
+    ensures stays { (file : Opened) → IsInFile file writer.old.phase
+        → OnOk result (IsInFile file writer.new.phase) }
+    ensures files { writer.new.files ≡ writer.old.files }
+{
+    // An input need not end. But no set has so many records: each takes four bytes of a volume.
+    let mut left = u64::MAX;
+    'records: while left > 0 {
+        left -= 1;
+        match records.next() {
+            Ok(true) => match writer.put(records.record()) {
+                Ok(()) => {}
+                Err(fault) => return Err(SetFault::Write(fault)),
+            },
+            Ok(false) => return Ok(()),
+            Err(fault) => return Err(fault_of(fault)),
+        }
+    }
+    Err(SetFault::Write(WriteFault::OutOfVolumes))
+}
+
+/// How an input's fault is told.
+fn fault_of(fault: InputFault) -> SetFault
+    ensures { result ≡ told_as fault }
+{
+    match fault {
+        InputFault::ReadFailed => SetFault::ReadFailed,
+        InputFault::TooLong => SetFault::Write(WriteFault::RecordLength),
+        InputFault::OutOfMemory => SetFault::Write(WriteFault::OutOfMemory),
+    }
+}

@@ -1,0 +1,121 @@
+//! The records of an input, one after another.
+ghost use Rattle.std.specs.Prelude.{◌≡◌, ◌≤◌, ◌<◌, ◌++◌, [], ℕ, List, length, IfOk, IfErr, OnOk};
+ghost use Rattle.std.specs.Prelude.{IfSome, true, false};
+ghost use Rattle.tape_image.specs.Reader.{IfKnown};
+ghost use Rattle.tape_writer.specs.Records.{to_come, given, longest, Adds, left_of, IsFirstLong};
+ghost use Rattle.tape_writer.specs.Records.{GrowsLong};
+
+use crate::inputs::chunk::Chunk;
+use crate::inputs::cut::Cut;
+use std::alloc::{AllocError, Global};
+use std::io::Read;
+
+/// No record has more bytes.
+const LONGEST: usize = 4_294_967_295;
+
+/// Why there is no next record.
+#[derive(Clone, Copy, Debug, PartialEq, Eq)]
+pub enum InputFault {
+    /// The reader failed, or was interrupted.
+    ReadFailed,
+    /// The record has more than 4,294,967,295 bytes.
+    TooLong,
+    /// A growth was refused.
+    OutOfMemory,
+}
+
+/// Reads an input's records, each into the same buffer.
+#[derive(Drop)]
+pub struct Records<R> {
+    pub device: R,
+    pub cut: Cut,
+    /// Whether the input's end was met.
+    pub over: bool,
+    pub record: Vec<u8>,
+    pub ahead: Chunk,
+}
+
+impl<R: Read + Drop> Records<R> {
+    /// The records of this input, from where it stands. Nothing is read.
+    pub fn new(alloc: Global, device: R, cut: Cut) -> Result<Self, AllocError>
+        ensures { IfOk result (λ r. (r.device ≡ device) × (r.cut ≡ cut) × (r.over ≡ false)
+            × (r.ahead ≡ [])) }
+    {
+        let ahead = Chunk::new(alloc)?;
+        Ok(Records {
+            device,
+            cut,
+            over: false,
+            record: Vec::new(alloc),
+            ahead,
+        })
+    }
+
+    /// The record that was read last.
+    pub fn record(&self) -> &[u8]
+        ensures { result.now ≡ self.now.record.items }
+    {
+        self.record.as_slice()
+    }
+
+    /// Reads the next record, if there is one. Behind the end the reader is not asked again.
+    ///
+    /// # Errors
+    ///
+    /// `ReadFailed` where the reader answers an error; `TooLong` where the record has more than
+    /// 4,294,967,295 bytes; `OutOfMemory`. Then nothing more is to be read.
+    pub fn next(&mut self) -> Result<bool, InputFault>
+        ensures given { IfOk result (λ more.
+            IfKnown (left_of R.remaining self.old) (left_of R.remaining self.new) (λ xs ys.
+            to_come self.old.cut self.old.over xs
+            ≡ given more self.new.record.items (to_come self.new.cut self.new.over ys))) }
+        ensures end { IfOk result (λ more. more ≡ false → self.new.over ≡ true) }
+        ensures within { OnOk result (length self.new.record.items ≤ longest) }
+        ensures long { IfErr result (λ fault. fault ≡ InputFault.TooLong
+            → IfSome (left_of R.remaining self.old) (λ xs.
+            IsFirstLong (to_come self.old.cut self.old.over xs))) }
+        ensures cut { self.new.cut ≡ self.old.cut }
+    {
+        self.record.clear();
+        if self.over {
+            return Ok(false);
+        }
+        'pieces: loop {
+            self.ahead.fill(&mut self.device)?;
+            if self.ahead.is_empty() {
+                self.over = true;
+                return Ok(self.cut.is_last(self.record.len()));
+            }
+            let ended = take_piece(self.cut, &mut self.record, &mut self.ahead)?;
+            if ended {
+                return Ok(true);
+            }
+        }
+    }
+}
+
+/// Moves the next piece of a record from the bytes read ahead. Whether the record ends with it.
+fn take_piece(cut: Cut, held: &mut Vec<u8>, ahead: &mut Chunk) -> Result<bool, InputFault>
+    requires within { length held.old.items ≤ longest }
+    requires some { 0 < length ahead.old }
+    ensures taken { IfOk result (λ ended. (piece : List ℕ) × (ahead.old ≡ piece ++ ahead.new)
+        × Adds cut held.old.items piece held.new.items ended) }
+    ensures grew { IfOk result (λ ended. ended ≡ false
+        → length held.old.items < length held.new.items) }
+    ensures within { OnOk result (length held.new.items ≤ longest) }
+    ensures long { IfErr result (λ fault. fault ≡ InputFault.TooLong
+        → GrowsLong cut held.old.items ahead.old) }
+{
+    let bytes = ahead.as_slice();
+    let piece = cut.piece(held.len(), bytes);
+    if piece.content > LONGEST - held.len() {
+        return Err(InputFault::TooLong);
+    }
+    match held.extend_from_slice(&bytes[..piece.content]) {
+        Ok(()) => {
+            ahead.skip(piece.taken);
+            Ok(piece.ended)
+        }
+        Err(_) => Err(InputFault::OutOfMemory),
+    }
+}

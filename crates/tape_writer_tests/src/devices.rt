@@ -1,0 +1,62 @@
+//! A reader and a writer that fail.
+
+use std::alloc::Global;
+use std::io::{Error, ErrorKind, Read, Result, Write};
+
+/// Gives one byte a call, and is interrupted once it has given as many as `left` says.
+#[derive(Drop)]
+pub(crate) struct Dribble<'a> {
+    pub(crate) bytes: &'a [u8],
+    pub(crate) left: usize,
+}
+
+impl Read for Dribble<'_> {
+    fn read(&mut self, buf: &mut [u8]) -> Result<usize> {
+        if self.left == 0 {
+            return Err(Error::from(ErrorKind::Interrupted));
+        }
+        match (self.bytes, buf) {
+            ([first, others @ ..], [slot, ..]) => {
+                *slot = *first;
+                self.bytes = others;
+                self.left -= 1;
+                Ok(1)
+            }
+            _ => Ok(0),
+        }
+    }
+}
+
+/// Takes one byte a call, and none once it has taken as many as `left` says.
+#[derive(Drop)]
+pub(crate) struct Narrow {
+    pub(crate) taken: Vec<u8>,
+    left: usize,
+}
+
+impl Narrow {
+    /// A writer that takes so many bytes.
+    pub(crate) fn new(alloc: Global, left: usize) -> Narrow {
+        Narrow {
+            taken: Vec::new(alloc),
+            left,
+        }
+    }
+}
+
+impl Write for Narrow {
+    fn write(&mut self, buf: &[u8]) -> Result<usize> {
+        match buf {
+            [first, ..] if self.left > 0 => {
+                self.taken.push(*first)?;
+                self.left -= 1;
+                Ok(1)
+            }
+            _ => Ok(0),
+        }
+    }
+
+    fn flush(&mut self) -> Result<()> {
+        Ok(())
+    }
+}
