@@ -110,16 +110,6 @@ ahead_next place end size span header bytes low high read is short ahead =
     (read ∙ one.first.header) short one.first.short in
     subst (λ (k : ℕ). Ahead (place + (5 + k)) end bytes) (sym same) one.next
 
--- at the front all parts are ahead
-pub all_ahead : (end : ℕ) (parts : List Portion) (bytes : List ℕ) → Holding (end - 256) parts bytes
-    → Ahead 256 end bytes
-all_ahead end parts bytes holding = record {
-  parts = parts;
-  frames_are = holding.frames_are;
-  short =
-      holding.short;
-}
-
 -- ---- what refuses a frame
 
 pub too_short : (place end : ℕ) (bytes : List ℕ) → place < end → end ≤ length bytes

@@ -50,11 +50,6 @@ body_reads g point fit =
     (number_of-digits 15 g fit.generation)
     (ap result_ok (reads_only Two point (point_text point) fit.text))
 
--- the text that was written is the one of the body
-pub point_fit : (point : Point) (text : List ℕ) → IsPointText Two text point
-    → (text ≡ point_text point) × IsPointText Two (point_text point) point
-point_fit point text is = (is.text, subst (λ (t : List ℕ). IsPointText Two t point) is.text is)
-
 -- ---- a body that was read
 
 digits_none : (b : Bool) (n : ℕ) (s : Option Slot) → cond b (Some n) None ≡ None

@@ -54,14 +54,6 @@ since_else seen left (x ∷ calls) call zero c le (inr was) =
 since_else seen left (x ∷ calls) call (suc t) c le was =
     since_else (after seen x) (left_after seen left x) calls call t c (omega arith) was
 
--- a call that left this of what a read gives
-pub image_more : (first bytes : List ℕ) (calls : List Call) (call : Call) (c : List ℕ)
-    → seen_by first calls ≡ bytes
-    → left_after bytes (IsImage first calls) call c → IsImage first (calls ++ call ∷ []) c
-image_more first bytes calls call c is now =
-    left_more first (λ d. d ≡ first) calls call c
-    (subst (λ (b : List ℕ). left_after b (IsImage first calls) call c) (sym is) now)
-
 pub image_back : (first bytes : List ℕ) (calls : List Call) (call : Call) (c : List ℕ)
     → seen_by first calls ≡ bytes
     → IsImage first (calls ++ call ∷ []) c → left_after bytes (IsImage first calls) call c
@@ -76,16 +68,6 @@ elapses_more first calls call = record {
   later = omega (arith, length-append calls (call ∷ []));
   nothing_else = λ t c le was. since_else first (λ d. d ≡ first) calls call t c le was;
   keeps = λ t c le was. since_keeps first (λ d. d ≡ first) calls call t c was;
-}
-
-pub elapses_none : (first : List ℕ) (calls : List Call)
-    → Elapses (length calls) (length calls) (WasImage first calls) (WasImage first calls)
-    (IsImage first calls)
-elapses_none first calls = record {
-  later = omega arith;
-  nothing_else =
-      λ t c le was. inl was;
-  keeps = λ t c le was. was;
 }
 
 worst_more : (seen worst : List ℕ) (calls : List Call) (call : Call) → worst_by seen worst
@@ -137,15 +119,6 @@ right_looked first worst bytes calls calls' call same same_worst fits right c =
     (subst (λ (l : List ℕ). IsRight first worst l (calls ++ call ∷ [])) same
     (subst (λ (l : List ℕ). IsRight first l (after bytes call) (calls ++ call ∷ [])) same_worst
     (one_more first worst bytes calls call right fits)))
-
-pub right_kept : (changed : Bool) (first worst kept kept_worst bytes : List ℕ) (calls : List Call)
-    → changed ≡ false
-    → IsRight (kept_or changed first bytes) (kept_or changed worst bytes) bytes calls → kept ≡ bytes
-    → kept_worst ≡ bytes → IsRight kept kept_worst bytes calls
-right_kept true first worst kept kept_worst bytes calls is right k w = absurd (cc)
-right_kept false first worst kept kept_worst bytes calls is right k w =
-    subst (λ (l : List ℕ). IsRight l kept_worst bytes calls) (sym k)
-    (subst (λ (l : List ℕ). IsRight bytes l bytes calls) (sym w) right)
 
 pub over_same : (place : ℕ) (next old kept copy bytes : List ℕ) → next ≡ take place kept ++ bytes
     ++ drop (place + length bytes) kept → kept ≡ old → copy ≡ bytes

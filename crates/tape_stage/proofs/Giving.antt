@@ -179,12 +179,6 @@ pub refused : (place end : ℕ) (bytes : List ℕ) (parts : List Portion) → pl
 refused place end bytes parts low none ahead = let one =
     one_ahead place end bytes parts low ahead in none one.part.span one.part.bytes one.frame_is
 
--- what is held elsewhere alike
-pub ahead_same : (place end : ℕ) (old new : List ℕ) (parts : List Portion) → new ≡ old
-    → AheadIn place end old parts → AheadIn place end new parts
-ahead_same place end old new parts same ahead =
-    subst (λ (b : List ℕ). AheadIn place end b parts) (sym same) ahead
-
 pub ahead_none : (place end : ℕ) (bytes : List ℕ) (parts : List Portion) → end ≤ place
     → AheadIn place end bytes parts → AheadIn place end bytes []
 ahead_none place end bytes parts low ahead =

@@ -30,3 +30,4 @@ pub mod Tears
 pub mod TextLaws
 pub mod Torn
 pub mod Walks
+mod MistakesOfRefusals

@@ -1,7 +1,8 @@
--- Answers that the contracts of a stage exclude: each is what a wrong body would give. What is asked
--- of a stage or its bytes (`IsStage`, `Holds`, `Staged`) is what `create`, `put_part` and `save` say
--- of theirs, on a disk in memory too, which is honest.
-use Rattle.std.proofs.Common.{◌≡◌, ℕ, ◌+◌, ◌≤◌, ◌<◌, List, [], ◌∷◌, length, drop, get_or, true, false}
+-- Answers that the contracts of a stage exclude: each is what a wrong body would give. What is
+-- asked of a stage or its bytes (`IsStage`, `Holds`, `Staged`) is what `create`, `put_part` and
+-- `save` say of theirs, on a disk in memory too, which is honest.
+use Rattle.std.proofs.Common.{◌≡◌, ℕ, ◌+◌, ◌≤◌, ◌<◌, List, [], ◌∷◌, length, drop, get_or, true}
+use Rattle.std.proofs.Common.{false}
 use Rattle.std.proofs.Common.{◌-◌, inl, inr, sym, ap, ◌∙◌, subst, arith}
 use Rattle.std.specs.Prelude.{not, Some, None, Ok, Err, option_map, unwrap_or}
 use Rattle.std.specs.Prelude.{take}

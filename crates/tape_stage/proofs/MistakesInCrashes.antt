@@ -1,5 +1,5 @@
--- Files that a crash inside a call of a stage never leaves, by the call's contract: each is one that
--- a wrong body would leave open. Each lemma is of a file that no crash before the call could leave.
+-- Files that a crash inside a call of a stage never leaves, by the call's contract: each is one
+-- that a wrong body would leave open, and one that no crash before the call could leave.
 -- What is asked of a stage (`IsStage`, `Ready`) is what `create` and `save` say of theirs.
 use Rattle.std.proofs.Common.{◌≡◌, ◌⊎◌, inl, inr, ℕ, ◌+◌, ◌≤◌, ◌<◌, Bool, true, false, List, length}
 use Rattle.std.proofs.Common.{get_or, sym, ap, ◌∙◌, subst, arith}
@@ -98,7 +98,8 @@ restart_cuts_before_saving : (D : _) (L : _) (g : _) (d : _) (κs : _) (a : _) (
     → g.left_since s.0.now.disk (g.moment a.0.now.disk) c
     → (g.left_since a.0.now.disk (g.moment a.0.now.disk) c → ⊥)
     → length c ≡ 341 → gate_at (not a.0.now.in_second) c ≡ 67 → ⊥
-restart_cuts_before_saving D L g d κs a z s acked parts front c l honest stage first told left before
+restart_cuts_before_saving D L g d κs a z s acked parts front c l honest stage first told left
+    before
     size closed =
     cut_too_early a.0.now.in_second a.0.now.generation a.0.now.acknowledged a.1.0.now acked front c
     told size closed (since_then before ((l.any_moment honest acked parts front stage first).before

@@ -55,7 +55,8 @@ write_elsewhere_added κs a s l from size at =
 -- ---- a disk over a file
 
 -- file_asked_for_its_start: of a file of two bytes the length is 0, the place of its start
-file_asked_for_its_start : (F : _) (L : _) (g : _) (d : _) (e : _) (κs : _) (a : _) (disk : _) (s : _)
+file_asked_for_its_start : (F : _) (L : _) (g : _) (d : _) (e : _) (κs : _) (a : _) (disk : _)
+    (s : _)
     (at : _) → new.Learnt-named F L g d e κs a (Ok disk) s → g.stream_position a.0 ≡ Some at
     → g.stream_bytes a.0 ≡ Some (1 ∷ 2 ∷ []) → disk.len ≡ 0 → ⊥
 file_asked_for_its_start F L g d e κs a disk s at l here bytes w =
@@ -78,7 +79,8 @@ file_failures_not_counted F L κs a z s l three two =
 -- held_bytes_not_written: what is held is passed over, and still to be written
 held_bytes_not_written : (F : _) (L : _) (r : _) (dr : _) (w : _) (dw : _) (k : _) (dk : _)
     (o : _) (dp : _) (κs : _) (a : _) (s : _)
-    → pass_on.Learnt-named F L r dr w dw k dk o dp κs a (Ok tt) s → s.0.now.held.is_unwritten ≡ true → ⊥
+    → pass_on.Learnt-named F L r dr w dw k dk o dp κs a (Ok tt) s → s.0.now.held.is_unwritten ≡ true
+    → ⊥
 held_bytes_not_written F L r dr w dw k dk o dp κs a s l is =
     let e : true ≡ false = sym is ∙ l.written in
     absurd (cc)

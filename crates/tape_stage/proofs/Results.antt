@@ -20,10 +20,6 @@ pub if_err : {A B : Type 0} (r : Result A B) {P Q : B → Type 0} → ((e : B) �
 if_err (Ok x) also p = tt
 if_err (Err e) also p = also e p
 
-pub both_ok : {A B : Type 0} (r : Result A B) (P Q : Type 0) → OnOk r P → OnOk r Q → OnOk r (P × Q)
-both_ok (Ok x) P Q p q = (p, q)
-both_ok (Err e) P Q p q = tt
-
 err_is : {A : Type 0} (d e : StageFault) (r : Result A StageFault) → r ≡ Err d → r ≡ Err e → d ≡ e
 err_is d e r a b = cc
 

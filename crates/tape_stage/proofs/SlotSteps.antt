@@ -161,27 +161,6 @@ closed_done second g point parts old new may_leave ready holds =
       closed = λ open_now. absurd (omega (arith, gate, open_now));
     }
 
-pub closed_before : (second : Bool) (g : ℕ) (point : Point) (parts : List Portion) (seen : List ℕ)
-    (may_leave : List ℕ → Type 0)
-    → Ready second g point parts false seen may_leave → IsClosed second g point parts seen
-closed_before second g point parts seen may_leave ready = record {
-  staged = ready.staged;
-  closed = λ open_now. ⊎_elim (λ yes. absurd (cc (yes.0, ready.gate))) (λ no. no.1 open_now)
-      (eqb_tells (gate_at (not second) seen) 79);
-}
-
--- one byte of a slot leaves the frames
-pub frames_kept : (second : Bool) (b : ℕ) (old new : List ℕ) → 256 ≤ length old
-    → Holds old (slot_place second) (b ∷ []) new → drop 256 new ≡ drop 256 old
-frames_kept true b old new long holds =
-    torn_high 128 1 256 old new (omega arith) (holds_torn 128 (b ∷ []) old new (omega arith) holds)
-frames_kept false b old new long holds =
-    torn_high 0 1 256 old new (omega arith) (holds_torn 0 (b ∷ []) old new (omega arith) holds)
-
-not_not : (b : Bool) → not (not b) ≡ b
-not_not true = refl
-not_not false = refl
-
 -- the slot once it is filled
 pub filled_done : (second : Bool) (g : ℕ) (point : Point) (parts : List Portion)
     (body old new : List ℕ) → length body ≡ 127 → Holds old (slot_place (not second) + 1) body new
@@ -198,15 +177,6 @@ filled_body second body old new size long holds =
     let room = place_in second old long in
     subst (λ (n : ℕ). take n (drop (slot_place second + 1) new) ≡ body) size
     (holds_piece (slot_place second + 1) body old new (omega arith) holds)
-
-pub filled_frames : (second : Bool) (body old new : List ℕ) → length body ≡ 127 → 256 ≤ length old
-    → Holds old (slot_place second + 1) body new → drop 256 new ≡ drop 256 old
-filled_frames true body old new size long holds =
-    torn_high 129 (length body) 256 old new (omega (arith, size)) (holds_torn 129 body old new
-    (omega arith) holds)
-filled_frames false body old new size long holds =
-    torn_high 1 (length body) 256 old new (omega (arith, size))
-    (holds_torn 1 body old new (omega arith) holds)
 
 -- while it is filled
 pub filled_after : (second : Bool) (g : ℕ) (point : Point) (parts : List Portion)
@@ -247,13 +217,3 @@ opened_after second g point next parts more seen may_leave c fit is only (inl le
 opened_after second g point next parts more seen may_leave c fit is only (inr step) =
     opening second g point next parts more seen c fit is
     (subst (λ (d : List ℕ). Torn (slot_place (not second)) 1 d c) (only step.0 step.1) step.2)
-
--- frames that were there are there
-pub rest_holding : (weight : ℕ) (parts : List Portion) (old new : List ℕ)
-    → drop 256 new ≡ drop 256 old → length new ≡ length old → Holding weight parts old
-    → Holding weight parts new
-rest_holding weight parts old new rest long holding = record {
-  long = omega (arith, holding.long, long);
-  frames_are = ap (take weight) rest ∙ holding.frames_are;
-  short = holding.short;
-}

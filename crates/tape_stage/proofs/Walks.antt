@@ -81,17 +81,3 @@ four_fit l fits (suc zero) = fits 2
 four_fit l fits (suc (suc zero)) = fits 3
 four_fit l fits (suc (suc (suc zero))) = fits 4
 four_fit l fits (suc (suc (suc (suc i)))) = omega arith
-
-pub header_is : (header : List ℕ) (size : ℕ) → length header ≡ 5
-    → ((i : ℕ) → get_or header i 0 < 256) → 48 ≤ get_or header 0 0 → get_or header 0 0 ≤ 51
-    → size ≡ from_be_bytes w32 (get_or header 1 0 ∷ get_or header 2 0 ∷ get_or header 3 0 ∷ get_or
-    header 4 0 ∷ []) → (span : Span) × (header ≡ indicator span ∷ to_be_bytes w32 size)
-header_is header size long fits low high is =
-    let digit = digit_span (get_or header 0 0) low high in
-    let rest : List ℕ = get_or header 1 0 ∷ get_or header 2 0 ∷ get_or header 3 0 ∷ get_or header 4
-    0 ∷ [] in
-    let bytes = be_bytes_4 rest size refl (four_fit header fits) is in (
-      digit.0,
-      five header long ∙ ap (λ (l : List ℕ). get_or header 0 0 ∷ l) (sym bytes) ∙ ap
-          (λ (d : ℕ). d ∷ to_be_bytes w32 size) digit.1,
-    )

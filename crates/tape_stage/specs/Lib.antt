@@ -8,6 +8,7 @@ pub mod Frames
 pub mod Laws
 pub mod Memory
 pub mod Moments
+pub mod OnlyReading
 pub mod Parts
 pub mod PointFaults
 pub mod Range

@@ -31,6 +31,7 @@ impl<D: Disk> Stage<D> {
             × (self.new.failed ≡ true) × (self.new.weight ≡ self.old.weight)) }
         ensures refusals { self.new.refused ≡ self.old.refused }
         ensures acknowledged { self.new.acknowledged ≡ self.old.acknowledged }
+        ensures pending { self.new.pending ≡ self.old.pending }
         ensures cause { IsErrOf result StageFault.Device
             → Rose (D.faults self.old.disk) (D.faults self.new.disk) }
         ensures honest { SameFact (D.is_honest self.old.disk) (D.is_honest self.new.disk) }

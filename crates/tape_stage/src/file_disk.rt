@@ -173,11 +173,15 @@ impl<F: Read + Write + Seek + OpenFile> FileDisk<F> {
         ensures same_count { self.new.failed ≡ self.old.failed }
         ensures alive { OnOk result (self.old.lost ≡ false) }
         ensures written { OnOk result (self.new.held.is_unwritten ≡ false) }
+        ensures lost { OnErr result (self.new.lost ≡ true) }
     {
         self.pass_on()?;
         match self.file.sync_all() {
             Ok(()) => Ok(()),
-            Err(_) => Err(DiskFault::Device),
+            Err(_) => {
+                self.lost = true;
+                Err(DiskFault::Device)
+            }
         }
     }
 }

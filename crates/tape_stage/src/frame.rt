@@ -4,6 +4,7 @@ ghost use Rattle.std.specs.Prelude.{IfOk, OnOk, IsErrOf};
 ghost use Rattle.std.specs.Int.{to_be_bytes};
 ghost use Rattle.std.proofs.Common.{w32};
 ghost use Rattle.tape_stage.specs.Disk.{SameFact};
+ghost use Rattle.tape_stage.specs.OnlyReading.{OnlyReads};
 ghost use Rattle.tape_core.specs.Weight.{Rose};
 ghost use Rattle.tape_stage.specs.Moments.{Passes};
 ghost use Rattle.tape_blocks.specs.Block.{indicator};
@@ -35,12 +36,8 @@ pub(crate) fn read_frame<D: Disk>(
     ensures none { D.is_honest disk.old → IsErrOf result SinkFault.Failed
         → NoFrameAt place end (D.seen disk.old) }
     ensures kinds { IsErrOf result SinkFault.Device → Rose (D.faults disk.old) (D.faults disk.new) }
-    ensures same { D.is_honest disk.old → D.seen disk.new ≡ D.seen disk.old }
-    ensures same_length { D.length_of disk.new ≡ D.length_of disk.old }
-    ensures any_moment { D.is_honest disk.old
-        → Passes D.may_leave D.moment D.left_since disk.old disk.new (D.may_leave disk.old) }
     ensures calm { OnOk result (D.faults disk.new ≡ D.faults disk.old) }
-    ensures honest { SameFact (D.is_honest disk.old) (D.is_honest disk.new) }
+    ensures reads { OnlyReads D.Disk disk.old disk.new }
 {
     if end - place < 5 {
         return Err(SinkFault::Failed);

@@ -33,6 +33,8 @@ fn buffer_of(alloc: Global) -> Result<Vec<u8>, AllocError>
 
 /// Finds what is staged, reserves the buffer, and cuts what follows.
 fn recover<D: Disk>(alloc: Global, disk: &mut D) -> Result<(Found, Vec<u8>), StageFault>
+    ensures not_full { IsErrOf result StageFault.Full → ⊥ }
+    ensures not_failed { IsErrOf result StageFault.Failed → ⊥ }
     ensures found { D.is_honest disk.old → IfOk result
         (λ opened. IsOpened D.seen D.may_leave opened.0 disk.old disk.new) }
     ensures room { IfOk result (λ opened. 99999 ≤ length opened.1.items) }
@@ -92,6 +94,8 @@ fn make<D: Disk>(alloc: Global, disk: &mut D, point: Checkpoint) -> Result<(), S
     ensures cause { IsErrOf result StageFault.Device
         → Rose (D.faults disk.old) (D.faults disk.new) }
     ensures honest { SameFact (D.is_honest disk.old) (D.is_honest disk.new) }
+    ensures not_full { IsErrOf result StageFault.Full → ⊥ }
+    ensures not_failed { IsErrOf result StageFault.Failed → ⊥ }
 {
     // The gate is opened when both slots are kept.
     let header = header(alloc, point)?;
@@ -109,6 +113,8 @@ pub struct Refused<D> {
 impl<D: Disk> Stage<D> {
     /// Finds the stage that a disk holds, and cuts what follows it. It may crash too.
     pub fn open_disk(alloc: Global, disk: D) -> Result<(Stage<D>, Checkpoint), Refused<D>>
+        ensures not_full { IfErr result (λ refused. refused.fault ≡ StageFault.Full → ⊥) }
+        ensures not_failed { IfErr result (λ refused. refused.fault ≡ StageFault.Failed → ⊥) }
         ensures ok { D.is_honest disk → IfOk result (λ opened. (parts : List Portion)
             × Staged (D.seen disk) opened.0.generation opened.1 parts
             × (opened.0.acknowledged ≡ opened.1) × IsStage opened.0 parts parts) }
@@ -182,6 +188,8 @@ impl<D: Disk> Stage<D> {
         ensures returns { D.is_honest disk
             → IfOk result (λ stage. (back : Point) (there : List Portion) → Returns stage back there
             → (back ≡ point.now) × (there ≡ [])) }
+        ensures not_full { IfErr result (λ refused. refused.fault ≡ StageFault.Full → ⊥) }
+        ensures not_failed { IfErr result (λ refused. refused.fault ≡ StageFault.Failed → ⊥) }
     {
         let mut disk = disk;
         let Ok(buffer) = buffer_of(alloc) else {

@@ -8,6 +8,7 @@ ghost use Rattle.tape_stage.specs.Staged.{read_slot, slot_at, HoldsNone, Holding
 ghost use Rattle.tape_stage.specs.Found.{IsFound, IsBadPlace};
 ghost use Rattle.tape_stage.specs.Faults.{SaysNone, OnBadFrame};
 ghost use Rattle.tape_stage.specs.Disk.{CutShort, Only, SameFact};
+ghost use Rattle.tape_stage.specs.OnlyReading.{OnlyReads};
 ghost use Rattle.tape_core.specs.Weight.{Rose};
 
 use crate::body::read_body;
@@ -112,6 +113,8 @@ pub(crate) fn cut_kept<D: Disk>(disk: &mut D, end: u64) -> Result<(), DiskFault>
 
 /// Syncs, then reads both slots.
 pub(crate) fn find_on<D: Disk>(disk: &mut D) -> Result<Found, StageFault>
+    ensures not_full { IsErrOf result StageFault.Full → ⊥ }
+    ensures not_failed { IsErrOf result StageFault.Failed → ⊥ }
     ensures found { D.is_honest disk.old → IfOk result (λ found. IsFound found (D.seen disk.old)) }
     ensures long { IfOk result (λ found. 256 ≤ D.length_of disk.new) }
     ensures generation { IfOk result (λ found. found.generation ≤ 999999999999999) }
@@ -119,16 +122,12 @@ pub(crate) fn find_on<D: Disk>(disk: &mut D) -> Result<Found, StageFault>
     ensures none { D.is_honest disk.old → IfErr result
         (λ fault. SaysNone fault → HoldsNone (D.seen disk.old)) }
     ensures no_frame { IfErr result (λ fault. OnBadFrame fault (λ place. ⊥)) }
-    ensures same { D.is_honest disk.old → D.seen disk.new ≡ D.seen disk.old }
-    ensures same_length { D.length_of disk.new ≡ D.length_of disk.old }
     ensures durable { D.is_honest disk.old
         → OnOk result (Only (D.seen disk.new) (D.may_leave disk.new)) }
-    ensures any_moment { D.is_honest disk.old
-        → Passes D.may_leave D.moment D.left_since disk.old disk.new (D.may_leave disk.old) }
     ensures cause { IsErrOf result StageFault.Device
         → Rose (D.faults disk.old) (D.faults disk.new) }
     ensures calm { OnOk result (D.faults disk.new ≡ D.faults disk.old) }
-    ensures honest { SameFact (D.is_honest disk.old) (D.is_honest disk.new) }
+    ensures reads { OnlyReads D.Disk disk.old disk.new }
 {
     // Before anything is read: what reads give is then what a crash leaves, and the cut that
     // follows rests on slots that stay.
@@ -154,6 +153,8 @@ fn lesser(a: u64, b: u64) -> u64
 
 /// Finds what is staged. It only reads.
 pub(crate) fn look<D: Disk>(disk: &mut D) -> Result<Found, StageFault>
+    ensures not_full { IsErrOf result StageFault.Full → ⊥ }
+    ensures not_failed { IsErrOf result StageFault.Failed → ⊥ }
     ensures found { D.is_honest disk.old → IfOk result (λ found. IsFound found (D.seen disk.old)) }
     ensures parts { D.is_honest disk.old → IfOk result
         (λ found. (parts : List Portion) × Holding found.point.staged parts (D.seen disk.old)) }
@@ -164,16 +165,12 @@ pub(crate) fn look<D: Disk>(disk: &mut D) -> Result<Found, StageFault>
         (λ fault. SaysNone fault → HoldsNone (D.seen disk.old)) }
     ensures at { D.is_honest disk.old → IfErr result
         (λ fault. OnBadFrame fault (IsBadPlace (D.seen disk.old))) }
-    ensures same { D.is_honest disk.old → D.seen disk.new ≡ D.seen disk.old }
-    ensures same_length { D.length_of disk.new ≡ D.length_of disk.old }
     ensures durable { D.is_honest disk.old
         → OnOk result (Only (D.seen disk.new) (D.may_leave disk.new)) }
-    ensures any_moment { D.is_honest disk.old
-        → Passes D.may_leave D.moment D.left_since disk.old disk.new (D.may_leave disk.old) }
     ensures cause { IsErrOf result StageFault.Device
         → Rose (D.faults disk.old) (D.faults disk.new) }
     ensures calm { OnOk result (D.faults disk.new ≡ D.faults disk.old) }
-    ensures honest { SameFact (D.is_honest disk.old) (D.is_honest disk.new) }
+    ensures reads { OnlyReads D.Disk disk.old disk.new }
 {
     let found = find_on(disk)?;
     let len = disk.len()?;

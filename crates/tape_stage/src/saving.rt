@@ -1,6 +1,6 @@
 //! How a stage acknowledges.
 ghost use Rattle.std.specs.Prelude.{◌≡◌, ◌≤◌, ◌<◌, ◌+◌, ℕ, List, false, not, OnOk, IfOk, IfErr};
-ghost use Rattle.std.specs.Prelude.{IsErrOf};
+ghost use Rattle.std.specs.Prelude.{IsErrOf, Some, None};
 ghost use Rattle.tape_stage.specs.Moments.{Passes};
 ghost use Rattle.tape_blocks.specs.Block.{Portion};
 ghost use Rattle.tape_stage.specs.Parts.{IsFront};
@@ -23,6 +23,7 @@ impl<D: Disk> Stage<D> {
         ensures alive { OnOk result (self.now.failed ≡ false) }
         ensures refused { IfErr result (HasRefused self.now self.now) }
         ensures calm { IsErrOf result StageFault.Device → ⊥ }
+        ensures full { IsErrOf result StageFault.Full → 999999999999999 ≤ self.now.generation }
     {
         if self.failed {
             return Err(StageFault::Failed);
@@ -36,6 +37,9 @@ impl<D: Disk> Stage<D> {
     /// Makes a checkpoint the acknowledged one; the parts stay.
     pub(crate) fn acknowledge(&mut self, point: &Checkpoint) -> Result<(), StageFault>
         requires { point.now.staged ≤ self.old.weight }
+        ensures pending { IsErrOf result StageFault.Device → self.new.pending ≡ Some point.now }
+        ensures not_pending { OnOk result (self.new.pending ≡ None) }
+        ensures full { IsErrOf result StageFault.Full → 999999999999999 ≤ self.old.generation }
         ensures ok { D.is_honest self.old.disk → OnOk result ((acked parts front : List Portion)
             → IsStage self.old acked parts → Holding point.now.staged front (D.seen self.old.disk)
             → IsStage self.new front parts) }
@@ -108,6 +112,9 @@ impl<D: Disk> Stage<D> {
     /// Acknowledges all parts under a checkpoint.
     pub fn save(&mut self, point: &Checkpoint) -> Result<(), StageFault>
         requires { point.now.staged ≡ self.old.weight }
+        ensures pending { IsErrOf result StageFault.Device → self.new.pending ≡ Some point.now }
+        ensures not_pending { OnOk result (self.new.pending ≡ None) }
+        ensures full { IsErrOf result StageFault.Full → 999999999999999 ≤ self.old.generation }
         ensures ok { D.is_honest self.old.disk → OnOk result ((acked parts : List Portion)
             → IsStage self.old acked parts → IsStage self.new parts parts) }
         ensures any_moment { D.is_honest self.old.disk → (acked parts : List Portion)
@@ -132,6 +139,8 @@ impl<D: Disk> Stage<D> {
     /// Acknowledges the first parts under a checkpoint, and drops the others.
     pub fn restart(&mut self, point: &Checkpoint) -> Result<(), StageFault>
         requires { point.now.staged ≤ self.old.weight }
+        ensures not_pending { OnOk result (self.new.pending ≡ None) }
+        ensures full { IsErrOf result StageFault.Full → 999999999999999 ≤ self.old.generation }
         ensures ok { D.is_honest self.old.disk → OnOk result ((acked parts front : List Portion)
             → IsStage self.old acked parts → IsFront point.now.staged front parts
             → IsStage self.new front front) }

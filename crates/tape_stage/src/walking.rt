@@ -11,6 +11,7 @@ ghost use Rattle.tape_stage.specs.Frames.{NoFrameAt};
 ghost use Rattle.tape_stage.specs.Faults.{SaysNone, OnBadFrame};
 ghost use Rattle.tape_blocks.specs.declared.part.Span.{Span};
 ghost use Rattle.tape_stage.specs.Disk.{Only, SameFact};
+ghost use Rattle.tape_stage.specs.OnlyReading.{OnlyReads};
 ghost use Rattle.tape_core.specs.Weight.{Rose};
 
 use crate::disk::Disk;
@@ -62,6 +63,8 @@ pub(crate) fn walk<D: Disk>(disk: &mut D, end: u64, limit: u64) -> Result<(), St
     requires low { 256 ≤ limit }
     requires there { limit ≡ min end (D.length_of disk.old) }
     requires fits { end < 2 ^ 60 }
+    ensures not_full { IsErrOf result StageFault.Full → ⊥ }
+    ensures not_failed { IsErrOf result StageFault.Failed → ⊥ }
     ensures reached { OnOk result (end ≤ D.length_of disk.new) }
     ensures ok { D.is_honest disk.old → OnOk result
         ((parts : List Portion) × Holding (end - 256) parts (D.seen disk.old)) }
@@ -71,14 +74,10 @@ pub(crate) fn walk<D: Disk>(disk: &mut D, end: u64, limit: u64) -> Result<(), St
     ensures at { D.is_honest disk.old → IfErr result
         (λ fault. OnBadFrame fault (λ place. WalkedTo place (D.seen disk.old)
         × NoFrameAt place limit (D.seen disk.old))) }
-    ensures same { D.is_honest disk.old → D.seen disk.new ≡ D.seen disk.old }
-    ensures same_length { D.length_of disk.new ≡ D.length_of disk.old }
-    ensures any_moment { D.is_honest disk.old
-        → Passes D.may_leave D.moment D.left_since disk.old disk.new (D.may_leave disk.old) }
     ensures cause { IsErrOf result StageFault.Device
         → Rose (D.faults disk.old) (D.faults disk.new) }
     ensures calm { OnOk result (D.faults disk.new ≡ D.faults disk.old) }
-    ensures honest { SameFact (D.is_honest disk.old) (D.is_honest disk.new) }
+    ensures reads { OnlyReads D.Disk disk.old disk.new }
 {
     let mut place: u64 = 256;
     while place < end {

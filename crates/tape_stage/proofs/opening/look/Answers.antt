@@ -12,10 +12,10 @@ less n m e = omega (arith, e)
 
 pub returns-in_err-walk-clause-none : goal.returns-in_err-walk-clause-none
 returns-in_err-walk-clause-none g c h =
-    let honest1 = c.find_on.ensures.honest.onward h in
+    let honest1 = c.find_on.ensures.reads.honest.onward h in
     let honest2 = c.len.ensures.honest.onward honest1 in
     let same : g.D.Disk.seen c.len.new.self ≡ g.D.Disk.seen c.args.disk.now =
-    c.len.ensures.same honest1 ∙ c.find_on.ensures.same h in
+    c.len.ensures.same honest1 ∙ c.find_on.ensures.reads.same h in
     err_bad c.from_residual-in_err-walk.result c.in_err-walk.field-0.0 (search rules)
     (λ bad g' point parts staged. c.in_err-walk.ensures.bad honest2 bad parts
     (subst (λ (w : ℕ). Holding w parts (g.D.Disk.seen c.len.new.self))
@@ -26,11 +26,11 @@ returns-in_err-walk-clause-none g c h =
 
 pub returns-clause-parts : goal.returns-clause-parts
 returns-clause-parts g c h =
-    let honest1 = c.find_on.ensures.honest.onward h in
+    let honest1 = c.find_on.ensures.reads.honest.onward h in
     let honest2 = c.len.ensures.honest.onward honest1 in
     let staged = c.in_ok-found.found.point.staged in
     let same : g.D.Disk.seen c.len.new.self ≡ g.D.Disk.seen c.args.disk.now =
-    c.len.ensures.same honest1 ∙ c.find_on.ensures.same h in
+    c.len.ensures.same honest1 ∙ c.find_on.ensures.reads.same h in
     let walked = c.in_ok-walk.ensures.ok honest2 in (
       walked.0,
       subst (λ (b : List ℕ). Holding staged walked.0 b) same
@@ -52,20 +52,20 @@ returns-in_err-found-clause-at g c h =
 
 pub returns-in_err-walk-clause-at : goal.returns-in_err-walk-clause-at
 returns-in_err-walk-clause-at g c h =
-    let honest1 = c.find_on.ensures.honest.onward h in
+    let honest1 = c.find_on.ensures.reads.honest.onward h in
     let honest2 = c.len.ensures.honest.onward honest1 in
     let found = c.in_ok-found.found in
     let is = c.in_ok-found.ensures.found h in
     let bytes = g.D.Disk.seen c.args.disk.now in
     let same : g.D.Disk.seen c.len.new.self ≡ bytes =
-    c.len.ensures.same honest1 ∙ c.find_on.ensures.same h in
+    c.len.ensures.same honest1 ∙ c.find_on.ensures.reads.same h in
     let limit : c.lesser.result ≡ min (256 + found.point.staged) (length bytes) =
     omega (
       arith,
       c.lesser.ensures,
       c.staged-end.ensures.value,
       c.in_ok-len.ensures.value,
-      c.find_on.ensures.same_length,
+      c.find_on.ensures.reads.same_length,
       g.met.D.Disk.long_as_seen c.args.disk.now h,
     ) in
     err_at (IsBadPlace (g.D.Disk.seen c.args.disk.now)) c.from_residual-in_err-walk.result

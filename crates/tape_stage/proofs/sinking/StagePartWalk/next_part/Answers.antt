@@ -50,18 +50,23 @@ returns-in-Ok g c =
         λ _. tt,
         rw same record {
           kept = λ parts holds. read_held s.disk d s.in_second s.generation s.acknowledged
-              s.other_open s.weight s.failed parts e.honest.onward e.same
-              (λ honest. (e.any_moment honest).now) holds;
-          crash = λ parts holds back there r. (r.0, (e.any_moment holds.honest).now r.0 r.1, r.2);
+              s.other_open s.weight s.failed parts e.reads.honest.onward e.reads.same
+              (λ honest. (e.reads.any_moment honest).now) holds;
+          crash = λ parts holds back there r. (
+            r.0,
+            (e.reads.any_moment holds.honest).now r.0 r.1,
+            r.2,
+          );
           after =
-              λ parts holds before bytes left. before bytes ((e.any_moment holds.honest).now bytes
+              λ parts holds before bytes left. before bytes
+              ((e.reads.any_moment holds.honest).now bytes
               left);
           same_weight = refl;
           gives = λ parts is.
               let next = given s.walked (256 + s.weight) c.in-Ok.size old new c.in-Ok.span
               (take c.in-Ok.size c.read_frame.new.buffer) parts
-              (omega (arith, c.if-self-2.false)) (e.found is.0) long (e.same is.0) is.1 in
-              (next.0, next.1, (e.honest.onward is.0, next.2));
+              (omega (arith, c.if-self-2.false)) (e.found is.0) long (e.reads.same is.0) is.1 in
+              (next.0, next.1, (e.reads.honest.onward is.0, next.2));
           lends = (omega (arith, long, e.short), omega (arith, c.if-self-2.false, e.ends));
           counts = refl;
         },

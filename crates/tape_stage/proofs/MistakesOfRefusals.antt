@@ -1,0 +1,65 @@
+-- Refusals that the contracts of a stage exclude, and what it keeps of a call that the disk failed:
+-- each is what a wrong body would give.
+use Rattle.std.proofs.Common.{◌≡◌, ℕ, ◌≤◌, true, false, refl, sym, ap, ◌∙◌, arith}
+use Rattle.std.specs.Prelude.{Option, Some, None, Err, option_map, unwrap_or}
+use Rattle.tape_core.specs.Point.{Point}
+use Rattle.tape_stage.specs.declared.disk.DiskFault.TheVariants as disk_faults
+use Rattle.tape_stage.specs.declared.stage.StageFault.TheVariants.{Device, Full}
+use Rattle.tape_stage.proofs.file_disk.FileDisk.sync_file.Reads as sync_file
+use Rattle.tape_stage.proofs.stage.Stage.create.Reads as create
+use Rattle.tape_stage.proofs.stage.Stage.open_disk.Reads as open_disk
+use Rattle.tape_stage.proofs.stage.Stage.save.Reads as save
+
+-- ---- full
+
+-- full_at_generation_1000: a stage whose generation is 1,000 is told to be full
+full_at_generation_1000 : (D : _) (L : _) (g : _) (d : _) (κs : _) (a : _) (s : _)
+    → save.Learnt-named D L g d κs a (Err Full) s → a.0.now.generation ≡ 1000 → ⊥
+full_at_generation_1000 D L g d κs a s l w =
+    let e : 999999999999999 ≤ a.0.now.generation = l.full refl in
+    absurd (omega (arith, e, w))
+
+-- good_stage_refused_as_full: a stage that is opened is told to be full, where nothing is added
+good_stage_refused_as_full : (D : _) (L : _) (g : _) (d : _) (κs : _) (a : _) (refused : _) (s : _)
+    → open_disk.Learnt-named D L g d κs a (Err refused) s → refused.fault ≡ Full → ⊥
+good_stage_refused_as_full D L g d κs a refused s l w = l.not_full w
+
+-- create_told_as_full: a disk that holds nothing is told to be full
+create_told_as_full : (D : _) (L : _) (g : _) (d : _) (κs : _) (a : _) (refused : _) (s : _)
+    → create.Learnt-named D L g d κs a (Err refused) s → refused.fault ≡ Full → ⊥
+create_told_as_full D L g d κs a refused s l w = l.not_full w
+
+-- ---- the checkpoint that was being saved
+
+-- what a pending checkpoint weighs, and 1 where there is none
+abbrev weight_pending : Option Point → ℕ
+weight_pending point = unwrap_or (option_map (λ p. p.staged) point) 1
+
+-- pending_forgotten: the disk failed while a checkpoint was being saved, and none is told as such
+pending_forgotten : (D : _) (L : _) (g : _) (d : _) (κs : _) (a : _) (s : _)
+    → save.Learnt-named D L g d κs a (Err Device) s → s.0.now.pending ≡ None → ⊥
+pending_forgotten D L g d κs a s l none =
+    let e : None ≡ Some a.1.0.now = sym none ∙ l.pending refl in
+    absurd (cc)
+
+-- pending_is_the_acknowledged: a checkpoint of the weight 85 was being saved, and that of the
+-- weight 0 is told, which was acknowledged before
+pending_is_the_acknowledged : (D : _) (L : _) (g : _) (d : _) (κs : _) (a : _) (s : _)
+    → save.Learnt-named D L g d κs a (Err Device) s
+    → a.1.0.now.staged ≡ 85 → a.0.now.acknowledged.staged ≡ 0
+    → s.0.now.pending ≡ Some a.0.now.acknowledged → ⊥
+pending_is_the_acknowledged D L g d κs a s l heavy light older =
+    let e : Some a.0.now.acknowledged ≡ Some a.1.0.now = sym older ∙ l.pending refl in
+    let n : 0 ≡ 85 = sym light ∙ ap weight_pending e ∙ heavy in
+    absurd (omega (arith, n))
+
+-- ---- a disk over a file
+
+-- sync_failure_forgotten: the file could not be synced, and later calls go on
+sync_failure_forgotten : (F : _) (L : _) (r : _) (dr : _) (w : _) (dw : _) (k : _) (dk : _)
+    (o : _) (dp : _) (κs : _) (a : _) (s : _)
+    → sync_file.Learnt-named F L r dr w dw k dk o dp κs a (Err disk_faults.Device) s
+    → s.0.now.lost ≡ false → ⊥
+sync_failure_forgotten F L r dr w dw k dk o dp κs a s l is =
+    let e : false ≡ true = sym is ∙ l.lost in
+    absurd (cc)
