@@ -17,6 +17,7 @@ use Rattle.tape_run.specs.Seen.{Seen, IsSession, IsKept}
 use Rattle.tape_run.specs.History.{Course, course, course_of, IsHistory}
 use Rattle.tape_run.specs.Headline.{HasRun, begins, IsNew, IsStart, IsRead}
 use Rattle.tape_run.specs.Given.{counted_up}
+use Rattle.tape_run.specs.Lead.{at_start}
 
 pub is_new : (set : FileSet) (set_id : List ℕ)
     (file : ℕ) (core place : State) (failures refusals : ℕ) (notes : List Point)
@@ -67,6 +68,7 @@ pub is_start : (set_id : List ℕ)
 is_start set_id file core place failures refusals notes e f g h at = record {
   no_notes = g;
   no_failures = h;
+  place = f ∙ ap rest_of e;
   each = λ set l id has. is_new set set_id file core place failures refusals notes e f g
       (at set id (has_start set l file has));
 }
@@ -77,8 +79,9 @@ kept_new set_id file s e st = rw (st.no_notes) ((s.parts, refl))
 
 pub is_read : (set_id : List ℕ) (file : ℕ) (steps : List Step) (bytes : List (List ℕ))
     (old new : Seen)
-    → IsStart set_id file old → HasRun old steps bytes new → IsRead set_id file steps bytes new
-is_read set_id file steps bytes old new st h = record {
+    → old.parts ≡ [] → IsStart set_id file old → HasRun old steps bytes new → IsRead set_id file
+    steps bytes new
+is_read set_id file steps bytes old new none st h = record {
   given = h.given;
   failed = h.failed;
   are_given = h.are_given;
@@ -95,4 +98,9 @@ is_read set_id file steps bytes old new st h = record {
         r.session.at.all ∙ (ap (λ z. before set z new.place.position) (r.same_file ∙ n.its_file)
             ∙ ap (λ (z : Course). before set file z.at) (sym there)),
       );
+  led = λ reels a. h.led (at_start set_id file) reels a (record {
+    place = st.place;
+    parts = none;
+    notes = rw st.no_notes ((old.parts, refl));
+  });
 }

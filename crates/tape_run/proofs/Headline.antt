@@ -24,6 +24,7 @@ use Rattle.tape_run.specs.Steps.{Reeled, Saved, WentBack}
 use Rattle.tape_run.specs.Runs.{Runs}
 use Rattle.tape_run.specs.Headline.{Ran, HasRun}
 use Rattle.tape_core.proofs.Standing.{stood, noted}
+use Rattle.tape_run.proofs.Lead.{led_nothing, led_reel, led_save, led_restart}
 use Rattle.tape_run.proofs.Notes.{same_front, notes_grow, notes_push, note_at}
 
 -- ---- one step
@@ -139,6 +140,7 @@ reel_given old mid new steps b bs true r rest = record {
   are_given = inr ((rest.failed, omega arith, r.is_given, rest.are_given));
   count = rest.count ∙ ap (counted_up rest.failed) r.count;
   ran = reel_then old mid new steps b bs true r rest.given rest.ran;
+  led = led_reel old mid new steps b true r rest.given rest.led;
 }
 reel_given old mid new steps b bs false r rest = record {
   given = r.given ∷ rest.given;
@@ -146,6 +148,7 @@ reel_given old mid new steps b bs false r rest = record {
   are_given = inl ((r.is_given, rest.are_given));
   count = rest.count ∙ ap (counted_up rest.failed) r.count;
   ran = reel_then old mid new steps b bs false r rest.given rest.ran;
+  led = led_reel old mid new steps b false r rest.given rest.led;
 }
 
 save_then : (old mid new : Seen) (steps : List Step) (given : List (List ℕ)) → Saved old mid
@@ -194,6 +197,7 @@ headline old new [] bytes (e, same) = record {
   are_given = all_given bytes;
   count = ap (λ (s : Seen). s.failures) same;
   ran = λ set hs l h s. nothing_ran set old new bytes hs same h s;
+  led = led_nothing old new bytes same;
 }
 headline old new (Reel ∷ steps) [] (e, same) = absurd (cc e)
 headline old new (Reel ∷ steps) (b ∷ bs) (inl (failed, mid, r, runs)) =
@@ -207,6 +211,7 @@ headline old new (Save ∷ steps) bytes (inl (mid, v, runs)) =
       are_given = rest.are_given;
       count = rest.count ∙ ap (counted_up rest.failed) v.count;
       ran = save_then old mid new steps rest.given v rest.ran;
+      led = led_save old mid new steps rest.given v rest.led;
     }
 headline old new (Save ∷ steps) bytes (inr (fault, e, why)) = absurd (cc e)
 headline old new (Restart n ∷ steps) bytes (inl (mid, w, runs)) =
@@ -217,5 +222,6 @@ headline old new (Restart n ∷ steps) bytes (inl (mid, w, runs)) =
       are_given = rest.are_given;
       count = rest.count ∙ ap (counted_up rest.failed) w.count;
       ran = restart_then old mid new n steps rest.given w rest.ran;
+      led = led_restart old mid new n steps rest.given w rest.led;
     }
 headline old new (Restart n ∷ steps) bytes (inr (fault, e, why)) = absurd (cc e)

@@ -1,10 +1,13 @@
 pub mod Blocks
 pub mod Places
 pub mod Notes
+pub mod FinalAnswers
+pub mod ByTable
 pub mod Images
 pub mod Mounts
 pub mod Reels
 pub mod Stopped
+pub mod Lead
 pub mod Headline
 pub mod Sessions
 pub mod Answered
@@ -25,7 +28,21 @@ pub mod WholeSets
 pub mod WholeCopies
 pub mod Lacking
 pub mod Listing
+pub mod Fronts
+pub mod Completes
+pub mod WorkedHistory
+pub mod Fitting
+mod Reporting
+mod WholeReports
+mod Streams
+mod Turns
+mod Extracted
+mod OutSinks
+mod Now
 mod Mistakes
 mod MistakesOfCatalogues
+mod MistakesOfEngines
 mod MistakesOfReels
+mod MistakesOfReports
 mod MistakesOfRuns
+mod MistakesOfSaves

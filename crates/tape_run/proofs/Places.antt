@@ -19,6 +19,9 @@ use Rattle.tape_set.specs.Before.{before}
 use Rattle.tape_core.specs.declared.answer.Answer.{Answer}
 use Rattle.tape_core.specs.declared.answer.Answer.TheVariants.{Passed, Deliver, SectionDone}
 use Rattle.tape_core.specs.declared.answer.Answer.TheVariants.{Complete, Useless}
+use Rattle.tape_core.specs.Arrive.{arrival}
+use Rattle.tape_core.specs.declared.event.Event.{Event}
+use Rattle.tape_core.specs.declared.event.Event.TheVariants.{Block, Bad, Mark, ReelEnd}
 use Rattle.tape_core.specs.Point.{Point}
 use Rattle.tape_core.specs.State.{State}
 use Rattle.tape_core.specs.Table.{saved, Shows}
@@ -186,6 +189,14 @@ gives_none set x (Useless why) old new e g = g
 pub came_block : (arrived : Option TapeItem) (x : TapeItem) (bytes : List ℕ) → arrived ≡ Some x
     → arrived ≡ Some (block bytes) → x ≡ block bytes
 came_block arrived x bytes e f = cc
+
+-- an event that is no block brings none
+pub no_block : (e : Event) (bytes : List ℕ) → ((b : _) → e ≡ Block b → ⊥)
+    → arrival e ≡ Some (block bytes) → ⊥
+no_block (Block b) bytes not is = not b refl
+no_block Bad bytes not is = absurd (cc)
+no_block Mark bytes not is = absurd (cc)
+no_block ReelEnd bytes not is = absurd (cc)
 
 -- ---- results
 

@@ -15,17 +15,20 @@ use Rattle.tape_set.specs.declared.position.Position.TheVariants.{Awaits, Finish
 use Rattle.tape_core.specs.Point.{Point}
 use Rattle.tape_set.specs.Position.{at_part, want_at}
 use Rattle.tape_core.specs.State.{State}
-use Rattle.tape_core.specs.Place.{IsPlaced}
-use Rattle.tape_core.specs.Table.{saved}
+use Rattle.tape_core.specs.Place.{IsPlaced, rest_of}
+use Rattle.tape_core.specs.Table.{saved, mount_of}
 use Rattle.tape_run.specs.Mount.{Happening, reads, foreign_reel, saves, restarts, IsMount, cut}
 use Rattle.tape_run.specs.Mount.{after_mount}
 use Rattle.tape_core.specs.Stands.{weight_of}
 use Rattle.tape_core.specs.Weight.{IsFront, Rose}
-use Rattle.tape_run.specs.Taking.{Under, ReadsImage, RefusesImage}
+use Rattle.tape_run.specs.ByTable.{IsLed, IsCutAt}
+use Rattle.tape_run.proofs.ByTable.{led_nowhere}
+use Rattle.tape_run.specs.Taking.{Under, ReadsImage, RefusesImage, CutsTable}
 use Rattle.tape_run.specs.Given.{counted}
 use Rattle.tape_run.specs.Seen.{Seen, IsNote, KeepsNotes, IsKept}
 use Rattle.tape_run.specs.declared.script.Step.{Step}
 use Rattle.tape_run.specs.declared.script.Step.TheVariants.{Reel, Save, Restart}
+use Rattle.tape_run.specs.Headline.{HasRestart}
 use Rattle.tape_run.specs.declared.fault.RunFault.{RunFault}
 use Rattle.tape_run.specs.Steps.{Reeled, CutShort, Saved, WentBack, ReelFails, SaveFails}
 use Rattle.tape_run.specs.Steps.{RestartFails}
@@ -109,13 +112,15 @@ kept_save old new v k =
 
 -- ---- a reel
 
-pub reeled : {C : Type 0} (place : C → State) (under : Under C) (failed : Bool) (mounted new : C)
+pub reeled : {C : Type 0} (place full : C → State) (under : Under C) (failed : Bool)
+    (mounted new : C)
     (held now : List Portion) (bytes : List ℕ) (p : State) (notes : List Point) (f1 f2 r1 r2 : ℕ)
     → ((set : FileSet) (parts : List Portion) (xs : List TapeItem) (h : Happening) → IsLawful set
     → IsMount set xs h → IsPlaced set p parts → under mounted set p.position xs 0 h)
     → place mounted ≡ p → (place new).set_id ≡ p.set_id → (place new).file ≡ p.file → r2 ≡ r1
     → IsFront held now → f2 ≡ counted failed f1
-    → ReadsImage place under failed mounted new held now bytes
+    → full mounted ≡ mount_of p → rest_of (full new) ≡ place new
+    → ReadsImage place full under failed mounted new held now bytes
     → Reeled bytes failed (record {
       place = p;
       parts = held;
@@ -124,8 +129,9 @@ pub reeled : {C : Type 0} (place : C → State) (under : Under C) (failed : Bool
       refusals = r1;
     })
     (record { place = place new; parts = now; notes = notes; failures = f2; refusals = r2 })
-reeled place under failed mounted new held now bytes p notes f1 f2 r1 r2 begins same set_id file
-    calm grows count r = record {
+reeled place full under failed mounted new held now bytes p notes f1 f2 r1 r2 begins same set_id
+    file
+    calm grows count mount rest r = record {
       given = r.given;
       is_given = r.is_given;
       count = count;
@@ -141,6 +147,8 @@ reeled place under failed mounted new held now bytes p notes f1 f2 r1 r2 begins 
             at = there.at;
             position = there.position ∙ ap (λ (f : ℕ). after_mount set f p.position h) file;
           };
+      table = λ xs end stop b. subst (λ (z : State). IsLed xs z (place new) held now) mount
+          (subst (λ (z : State). IsLed xs (full mounted) z held now) rest (r.table xs end stop b));
     }
 
 pub cut_short : {C : Type 0} (place : C → State) (under : Under C) (mounted new : C)
@@ -149,6 +157,7 @@ pub cut_short : {C : Type 0} (place : C → State) (under : Under C) (mounted ne
     → IsMount set xs h → IsPlaced set p parts → under mounted set p.position xs 0 h)
     → place mounted ≡ p → (place new).set_id ≡ p.set_id → (place new).file ≡ p.file → Rose r1 r2
     → IsFront held now
+    → (m : State) → m ≡ mount_of p → CutsTable m (place new) held now bytes
     → RefusesImage place under mounted new held now bytes
     → CutShort bytes (record {
       place = p;
@@ -158,7 +167,7 @@ pub cut_short : {C : Type 0} (place : C → State) (under : Under C) (mounted ne
       refusals = r1;
     }) (record { place = place new; parts = now; notes = notes; failures = f1; refusals = r2 })
 cut_short place under mounted new held now bytes p notes f1 r1 r2 begins same set_id file rose grows
-    r = record {
+    m mount cuts r = record {
       count = refl;
       notes = refl;
       same_set = set_id;
@@ -177,6 +186,8 @@ cut_short place under mounted new held now bytes p notes f1 r1 r2 begins same se
             position = there.position ∙ ap
                 (λ (f : ℕ). at_part there.part (after_mount set f p.position (cut there.n h))) file;
           };
+      table = λ xs end stop b. subst (λ (z : State). IsCutAt xs z (place new) held now) mount
+          (cuts xs end stop b);
     }
 
 stays_finished : (set : FileSet) (file : ℕ) (h : Happening)
@@ -186,8 +197,9 @@ stays_finished set file foreign_reel = refl
 stays_finished set file saves = refl
 stays_finished set file (restarts n) = refl
 
-not_read_so : (bytes : List ℕ) (s : Seen) → s.place.position ≡ Finished → Reeled bytes false s s
-not_read_so bytes s e = record {
+not_read_so : (bytes : List ℕ) (s : Seen) (core : State) → s.place ≡ rest_of core
+    → s.place.position ≡ Finished → Reeled bytes false s s
+not_read_so bytes s core rest e = record {
   given = bytes;
   is_given = refl;
   count = refl;
@@ -201,16 +213,23 @@ not_read_so bytes s e = record {
     position = e ∙ sym (ap (λ (p : Position). after_mount set s.place.file p h) e
         ∙ stays_finished set s.place.file h);
   };
+  table = λ xs end stop b. subst (λ (z : State). IsLed xs (mount_of z) z s.parts s.parts) (sym rest)
+      (led_nowhere core s.parts xs (sym (ap (λ (z : State). z.position) rest) ∙ e));
 }
 
-pub not_read : (bytes : List ℕ) (s : Seen) (failed : Bool) → failed ≡ false
-    → s.place.position ≡ Finished → Reeled bytes failed s s
-not_read bytes s failed f e =
-    subst (λ (b : Bool). Reeled bytes b s s) (sym f) (not_read_so bytes s e)
+pub not_read : (bytes : List ℕ) (s : Seen) (core : State) (failed : Bool) → failed ≡ false
+    → s.place ≡ rest_of core → s.place.position ≡ Finished → Reeled bytes failed s s
+not_read bytes s core failed f rest e =
+    subst (λ (b : Bool). Reeled bytes b s s) (sym f) (not_read_so bytes s core rest e)
 
 pub some_at : (o q : Option (List ℕ)) (P Q : List ℕ → Type 0) → q ≡ o
     → ((xs : List ℕ) → P xs → Q xs) → IfSome q P → IfSome o Q
 some_at o q P Q e f h = subst (λ (z : Option (List ℕ)). IfSome z Q) e (some_map q P Q f h)
+
+pub some_both : (o : Option (List ℕ)) (P Q : List ℕ → Type 0) → IfSome o P → IfSome o Q
+    → IfSome o (λ xs. P xs × Q xs)
+some_both None P Q a b = tt
+some_both (Some xs) P Q a b = (a, b)
 
 pub some_all : (o : Option (List ℕ)) (Q : List ℕ → Type 0) → ((xs : List ℕ) → Q xs) → IfSome o Q
 some_all None Q f = tt
@@ -234,6 +253,17 @@ step_here (y ∷ xs) zero d x lt e = ap (λ (z : Step). z ∷ xs) e
 step_here (y ∷ xs) (suc i) d x lt e =
     let more : suc i + 1 ≡ suc (i + 1) = omega arith in
     rw more (step_here xs i d x (omega (arith, lt)) e)
+
+-- a step that goes back is one of the steps
+pub restart_here : (xs : List Step) (i n : ℕ) (rest : List Step) → drop i xs ≡ Restart n ∷ rest
+    → HasRestart xs
+restart_here [] zero n rest e = absurd (cc)
+restart_here [] (suc i) n rest e = absurd (cc)
+restart_here (Restart m ∷ xs) i n rest e = tt
+restart_here (Reel ∷ xs) zero n rest e = absurd (cc)
+restart_here (Save ∷ xs) zero n rest e = absurd (cc)
+restart_here (Reel ∷ xs) (suc i) n rest e = restart_here xs i n rest e
+restart_here (Save ∷ xs) (suc i) n rest e = restart_here xs i n rest e
 
 -- ---- one step before others
 

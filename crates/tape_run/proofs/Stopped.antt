@@ -21,6 +21,11 @@ use Rattle.tape_run.specs.History.{Course, course, course_of}
 use Rattle.tape_run.specs.Headline.{Ran, HasStopped, Stops, PutRefused, reels_in}
 use Rattle.tape_run.specs.Steps.{CutShort, Unmoved, ReelFails, SaveFails, RestartFails}
 use Rattle.tape_run.specs.Runs.{Runs}
+use Rattle.tape_blocks.specs.Block.{Portion}
+use Rattle.tape_core.specs.State.{State}
+use Rattle.tape_core.specs.Table.{mount_of}
+use Rattle.tape_run.specs.ByTable.{IsCutAt}
+use Rattle.tape_run.specs.Lead.{Lead, lead, StandsThere, StopsBy}
 use Rattle.tape_run.proofs.Notes.{notes_grow}
 use Rattle.tape_run.proofs.Headline.{headline}
 use Rattle.tape_run.proofs.Sessions.{kept_grow, kept_place}
@@ -122,6 +127,51 @@ restart_stops set old mid new hs n bs TooFewReels h r = absurd h
 restart_stops set old mid new hs n bs OutOfMemory h r = absurd h
 restart_stops set old mid new hs n bs OtherFile h r = absurd h
 
+-- ---- by the table
+
+still_there : (t : Lead) (old new : Seen) → new ≡ old → StandsThere t old → StandsThere t new
+still_there t old new e s = subst (StandsThere t) (sym e) s
+
+unmoved_there : (t : Lead) (old new : Seen) → Unmoved old new → StandsThere t old
+    → StandsThere t new
+unmoved_there t old new u s = record {
+  place = u.place ∙ s.place;
+  parts = u.parts ∙ s.parts;
+  notes = rw (u.notes, u.parts) s.notes;
+}
+
+cut_there : (t : Lead) (old new : Seen) (bytes : List ℕ) → CutShort bytes old new
+    → StandsThere t old → (xs : List TapeItem) (end : ℕ) (stop : Stop) → Begins 0 bytes xs end stop
+    → IsCutAt xs (mount_of t.place) new.place t.parts new.parts
+cut_there t old new bytes c s xs end stop b =
+    subst (λ (l : List Portion). IsCutAt xs (mount_of t.place) new.place l new.parts) s.parts
+    (subst (λ (z : State). IsCutAt xs (mount_of z) new.place old.parts new.parts) s.place
+    (c.table xs end stop b))
+
+reel_led : (t : Lead) (old new : Seen) (b : List ℕ) (bs : List (List ℕ)) (fault : RunFault)
+    → ReelFails b fault old new → StandsThere t old → StopsBy t Reel (b ∷ bs) fault new
+reel_led t old new b bs (Sink cause) h s = cut_there t old new b h s
+reel_led t old new b bs NoSuchPoint h s = absurd h
+reel_led t old new b bs TooFewReels h s = absurd h
+reel_led t old new b bs OutOfMemory h s = still_there t old new h s
+reel_led t old new b bs OtherFile h s = absurd h
+
+save_led : (t : Lead) (old new : Seen) (bs : List (List ℕ)) (fault : RunFault)
+    → SaveFails fault old new → StandsThere t old → StopsBy t Save bs fault new
+save_led t old new bs (Sink cause) h s = unmoved_there t old new h.0 s
+save_led t old new bs NoSuchPoint h s = absurd h
+save_led t old new bs TooFewReels h s = absurd h
+save_led t old new bs OutOfMemory h s = still_there t old new h s
+save_led t old new bs OtherFile h s = absurd h
+
+restart_led : (t : Lead) (old new : Seen) (n : ℕ) (bs : List (List ℕ)) (fault : RunFault)
+    → RestartFails n fault old new → StandsThere t old → StopsBy t (Restart n) bs fault new
+restart_led t old new n bs (Sink cause) h s = unmoved_there t old new h.0 s
+restart_led t old new n bs NoSuchPoint (le, e) s = still_there t old new e s
+restart_led t old new n bs TooFewReels h s = absurd h
+restart_led t old new n bs OutOfMemory h s = absurd h
+restart_led t old new n bs OtherFile h s = absurd h
+
 -- ---- the steps before it
 
 -- the steps before one were made, and this one was not
@@ -136,14 +186,16 @@ record Front (old : Seen) (steps : List Step) (bytes : List (List ℕ))
   count : new.failures ≡ mid.failures
   stops : (o : Seen) (set : FileSet) (hs : List Happening) → IsLawful set → Ran set o hs mid
       → Stops set o hs step (drop (reels_in made) bytes) fault new
+  led : (t : Lead) → StandsThere t mid → StopsBy t step (drop (reels_in made) bytes) fault new
 
 first_stops : (old new : Seen) (step : Step) (rest : List Step) (bytes : List (List ℕ))
     (fault : RunFault)
     → new.failures ≡ old.failures
     → ((o : Seen) (set : FileSet) (hs : List Happening) → IsLawful set → Ran set o hs old
     → Stops set o hs step bytes fault new)
+    → ((t : Lead) → StandsThere t old → StopsBy t step bytes fault new)
     → Front old (step ∷ rest) bytes fault new
-first_stops old new step rest bytes fault count stops = record {
+first_stops old new step rest bytes fault count stops led = record {
   made = [];
   step = step;
   rest = rest;
@@ -152,6 +204,7 @@ first_stops old new step rest bytes fault count stops = record {
   runs = (refl, refl);
   count = count;
   stops = stops;
+  led = led;
 }
 
 same_error : (fault other : RunFault) (r : Result (Unit {0}) RunFault) → r ≡ Err fault
@@ -190,6 +243,7 @@ front old new (Reel ∷ steps) [] fault (e, same) =
     first_stops old new Reel steps [] fault (ap (λ (s : Seen). s.failures) same)
     (λ o set hs l r. subst (λ (z : RunFault). Stops set o hs Reel [] z new) is
     (same_there set o old new hs same r))
+    (λ t s. subst (λ (z : RunFault). StopsBy t Reel [] z new) is (still_there t old new same s))
 front old new (Reel ∷ steps) (b ∷ bs) fault (inl (failed, mid, read, runs)) =
     let n = front mid new steps bs fault runs in
     record {
@@ -201,12 +255,15 @@ front old new (Reel ∷ steps) (b ∷ bs) fault (inl (failed, mid, read, runs)) 
       runs = inl ((failed, mid, read, n.runs));
       count = n.count;
       stops = n.stops;
+      led = n.led;
     }
 front old new (Reel ∷ steps) (b ∷ bs) fault (inr (other, e, why)) =
     let is = same_error fault other (Err fault) refl e in
     first_stops old new Reel steps (b ∷ bs) fault (reel_count b other old new why)
     (λ o set hs l r. subst (λ (z : RunFault). Stops set o hs Reel (b ∷ bs) z new) is
     (reel_stops set o old new hs b bs other why l r))
+    (λ t s. subst (λ (z : RunFault). StopsBy t Reel (b ∷ bs) z new) is
+    (reel_led t old new b bs other why s))
 front old new (Save ∷ steps) bytes fault (inl (mid, v, runs)) =
     let n = front mid new steps bytes fault runs in
     record {
@@ -218,12 +275,15 @@ front old new (Save ∷ steps) bytes fault (inl (mid, v, runs)) =
       runs = inl ((mid, v, n.runs));
       count = n.count;
       stops = n.stops;
+      led = n.led;
     }
 front old new (Save ∷ steps) bytes fault (inr (other, e, why)) =
     let is = same_error fault other (Err fault) refl e in
     first_stops old new Save steps bytes fault (save_count other old new why)
     (λ o set hs l r. subst (λ (z : RunFault). Stops set o hs Save bytes z new) is
     (save_stops set o old new hs bytes other why r))
+    (λ t s. subst (λ (z : RunFault). StopsBy t Save bytes z new) is
+    (save_led t old new bytes other why s))
 front old new (Restart k ∷ steps) bytes fault (inl (mid, w, runs)) =
     let n = front mid new steps bytes fault runs in
     record {
@@ -235,12 +295,15 @@ front old new (Restart k ∷ steps) bytes fault (inl (mid, w, runs)) =
       runs = inl ((mid, w, n.runs));
       count = n.count;
       stops = n.stops;
+      led = n.led;
     }
 front old new (Restart k ∷ steps) bytes fault (inr (other, e, why)) =
     let is = same_error fault other (Err fault) refl e in
     first_stops old new (Restart k) steps bytes fault (restart_count k other old new why)
     (λ o set hs l r. subst (λ (z : RunFault). Stops set o hs (Restart k) bytes z new) is
     (restart_stops set o old new hs k bytes other why r))
+    (λ t s. subst (λ (z : RunFault). StopsBy t (Restart k) bytes z new) is
+    (restart_led t old new k bytes other why s))
 
 -- The steps before the one that was not made, and why it was not.
 pub stopped : (old new : Seen) (steps : List Step) (bytes : List (List ℕ)) (fault : RunFault)
@@ -258,6 +321,7 @@ stopped old new steps bytes fault runs =
       are_given = run.are_given;
       count = f.count ∙ run.count;
       stops = λ set hs l h s. f.stops old set hs l (run.ran set hs l h s);
+      led = λ t reels a s. f.led (lead t f.made reels) (run.led t reels a s);
     }
 
 -- ---- what is true of each session stays so

@@ -13,6 +13,10 @@ use Rattle.tape_run.specs.Under.{is_under}
 abbrev pub place : Follower → State
 place c = rest_of c.core
 
+-- all that it keeps
+abbrev pub core_of : Follower → State
+core_of c = c.core
+
 -- a mount is under way
 abbrev pub is_mounted : Follower → FileSet → Position → List TapeItem → ℕ → Happening → Type 0
 is_mounted c set p xs i h = is_under c.core set p xs i h

@@ -6,7 +6,7 @@
 -- sink holds the parts of the session before (`IsSession`, `IsNew`); no call was refused (`HasRun`,
 -- `IsRead`), or the first one that was ended the run (`HasStopped`).
 use Rattle.std.specs.Prelude.{◌≡◌, ℕ, suc, ◌≤◌, List, [], ◌∷◌, ◌++◌, length, drop, IsSome, Some}
-use Rattle.std.specs.Prelude.{slice_get}
+use Rattle.std.specs.Prelude.{slice_get, ⊤}
 use Rattle.tape_image.specs.Tape.{TapeItem, block}
 use Rattle.tape_image.specs.Begins.{Stop, Begins}
 use Rattle.tape_set.specs.Position.{start, at_part}
@@ -22,6 +22,8 @@ use Rattle.tape_run.specs.Mount.{Happening, IsMount, cut, after_mount}
 use Rattle.tape_run.specs.History.{Course, course, course_of, IsHistory}
 use Rattle.tape_run.specs.Given.{AreGiven, counted_up}
 use Rattle.tape_run.specs.Seen.{Seen, IsSession}
+use Rattle.tape_run.specs.Lead.{Lead, lead, at_start, AreItems, StandsThere, LeadsBy, StopsBy}
+use Rattle.tape_core.specs.Table.{reader_of}
 
 -- ---- all steps were made
 
@@ -32,7 +34,7 @@ pub record Ran (set : FileSet) (old : Seen) (hs : List Happening) (new : Seen) :
   pub reached : course set old.place.file (course_of old) hs ≡ course_of new
 
 -- All steps were made: of every lawful set and every history that the bytes given are, the session
--- is where this leads.
+-- is where this leads; and whatever they are, it is where the table leads.
 pub record HasRun (old : Seen) (steps : List Step) (bytes : List (List ℕ))
     (new : Seen) : Type 0 where
   pub given : List (List ℕ)
@@ -42,6 +44,7 @@ pub record HasRun (old : Seen) (steps : List Step) (bytes : List (List ℕ))
   pub ran : (set : FileSet) (hs : List Happening) → IsLawful set
       → IsHistory set (length old.notes) steps given hs
       → IsSession set old → Ran set old hs new
+  pub led : LeadsBy old steps given new
 
 -- ---- a session that begins a file
 
@@ -60,12 +63,14 @@ pub record IsNew (set : FileSet) (file : ℕ) (s : Seen) : Type 0 where
 pub record IsStart (set_id : List ℕ) (file : ℕ) (s : Seen) : Type 0 where
   pub no_notes : s.notes ≡ []
   pub no_failures : s.failures ≡ 0
+  pub place : s.place ≡ reader_of set_id file
   pub each : (set : FileSet) → IsLawful set → set_id ≡ set.set_id → IsSome (file_of set file)
       → IsNew set file s
 
 -- What was read of a file from its start: of every lawful set of this identifier that has the file,
 -- and every history that the bytes given are, the sink holds the parts before the position that
--- this leads to, and the position and the notes are those of it.
+-- this leads to, and the position and the notes are those of it. Whatever the bytes are, all is as
+-- the table leads.
 pub record IsRead (set_id : List ℕ) (file : ℕ) (steps : List Step) (bytes : List (List ℕ))
     (s : Seen) : Type 0 where
   pub given : List (List ℕ)
@@ -77,6 +82,8 @@ pub record IsRead (set_id : List ℕ) (file : ℕ) (steps : List Step) (bytes : 
       → IsHistory set 0 steps given hs
       → (course_of s ≡ course set file begins hs)
       × (s.parts ≡ before set file (course set file begins hs).at)
+  pub led : (reels : List (List TapeItem)) → AreItems given reels
+      → StandsThere (lead (at_start set_id file) steps reels) s
 
 -- ---- a fault ended the run
 
@@ -86,6 +93,13 @@ reels_in [] = 0
 reels_in (Reel ∷ steps) = suc (reels_in steps)
 reels_in (Save ∷ steps) = reels_in steps
 reels_in (Restart n ∷ steps) = reels_in steps
+
+-- the steps go back to a note
+abbrev pub HasRestart : List Step → Type 0
+HasRestart [] = ⊥
+HasRestart (Reel ∷ steps) = HasRestart steps
+HasRestart (Save ∷ steps) = HasRestart steps
+HasRestart (Restart n ∷ steps) = ⊤
 
 -- Behind these happenings a part of the block that stands behind n items of the reel was refused:
 -- the session is where the n items lead, in the block at the refused part, with just the parts
@@ -134,3 +148,5 @@ pub record HasStopped (old : Seen) (steps : List Step) (bytes : List (List ℕ))
   pub stops : (set : FileSet) (hs : List Happening) → IsLawful set
       → IsHistory set (length old.notes) made given hs
       → IsSession set old → Stops set old hs step (drop (reels_in made) bytes) fault new
+  pub led : (t : Lead) (reels : List (List TapeItem)) → AreItems given reels → StandsThere t old
+      → StopsBy (lead t made reels) step (drop (reels_in made) bytes) fault new

@@ -4,11 +4,13 @@ pub mod Seen
 pub mod Mount
 pub mod History
 pub mod Given
+pub mod Lead
 pub mod Headline
 pub mod Back
 pub mod Fault
 -- Kept step by step, and believed where a single call's contract is read.
 pub mod Reels
+pub mod ByTable
 pub mod Steps
 pub mod Runs
 pub mod Crash
@@ -27,3 +29,22 @@ pub mod Lacks
 pub mod WholeSet
 -- Kept item by item, and by laws what those above say.
 pub mod Passing
+-- Of readings cut short, and of one history that meets every premise.
+pub mod Fronts
+pub mod WorkedHistory
+-- Writers, and identifiers as they are printed: of the reports below.
+pub mod Output
+pub mod Identifier
+-- Reports of what is on reels: to be believed, in this order.
+pub mod CheckLine
+pub mod Checked
+pub mod WholeReels
+pub mod CheckExamples
+-- Files got back, and reports of that: to be believed, in this order.
+pub mod ReelLine
+pub mod RecordText
+pub mod OutSinks
+pub mod Reeling
+pub mod Extracting
+pub mod ExtractingNow
+pub mod ExtractExamples

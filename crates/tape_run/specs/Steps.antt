@@ -8,7 +8,7 @@ use Rattle.tape_set.specs.Lawful.{IsLawful}
 use Rattle.tape_set.specs.Position.{at_part}
 use Rattle.tape_core.specs.Point.{Point}
 use Rattle.tape_core.specs.Place.{IsPlaced, place_of}
-use Rattle.tape_core.specs.Table.{saved}
+use Rattle.tape_core.specs.Table.{saved, mount_of}
 use Rattle.tape_core.specs.Stands.{weight_of}
 use Rattle.tape_core.specs.Weight.{IsFront, Rose}
 use Rattle.tape_run.specs.declared.fault.RunFault.{RunFault}
@@ -16,6 +16,7 @@ use Rattle.tape_run.specs.declared.fault.RunFault.TheVariants.{Sink, NoSuchPoint
 use Rattle.tape_run.specs.declared.fault.RunFault.TheVariants.{OutOfMemory, OtherFile}
 use Rattle.tape_run.specs.Mount.{Happening, IsMount, IsMountOf, cut, after_mount}
 use Rattle.tape_run.specs.Given.{IsGiven, counted}
+use Rattle.tape_run.specs.ByTable.{IsLed, IsCutAt}
 use Rattle.tape_run.specs.Seen.{Seen}
 
 -- ---- steps that were made
@@ -38,6 +39,8 @@ pub record Reeled (bytes : List ℕ) (failed : Bool) (old new : Seen) : Type 0 w
   pub reads : (set : FileSet) (h : Happening) → IsLawful set → IsMountOf set given h
       → IsPlaced set old.place old.parts
       → ReadBy set old h new
+  pub table : (xs : List TapeItem) (end : ℕ) (stop : Stop) → Begins 0 given xs end stop
+      → IsLed xs (mount_of old.place) new.place old.parts new.parts
 
 -- The point was noted.
 pub record Saved (old new : Seen) : Type 0 where
@@ -84,6 +87,8 @@ pub record CutShort (bytes : List ℕ) (old new : Seen) : Type 0 where
       → IsLawful set
       → Begins 0 bytes xs end stop → IsMount set xs h → IsPlaced set old.place old.parts
       → StoppedBy set old xs h new
+  pub table : (xs : List TapeItem) (end : ℕ) (stop : Stop) → Begins 0 bytes xs end stop
+      → IsCutAt xs (mount_of old.place) new.place old.parts new.parts
 
 -- the session as before, but for the count of refused calls
 pub record Unmoved (old new : Seen) : Type 0 where

@@ -9,10 +9,12 @@ use Rattle.tape_set.specs.declared.position.Position.{Position}
 use Rattle.tape_set.specs.Position.{at_part}
 use Rattle.tape_core.specs.declared.answer.Answer.{Answer}
 use Rattle.tape_core.specs.State.{State}
-use Rattle.tape_core.specs.Place.{IsPlaced}
+use Rattle.tape_core.specs.Place.{IsPlaced, rest_of}
 use Rattle.tape_core.specs.Follows.{IsFinal}
 use Rattle.tape_run.specs.Mount.{Happening, IsMount, cut, after_mount}
 use Rattle.tape_run.specs.Given.{IsGiven}
+use Rattle.tape_run.specs.Reels.{behind_items}
+use Rattle.tape_run.specs.ByTable.{IsLed, IsCutAt, delivered_parts}
 
 -- a core's second member, as a value: which mount is under way (the first is where it stands)
 abbrev pub Under : Type 0 → Type 1
@@ -76,13 +78,20 @@ ReadsItems place under given old new held now = (set : FileSet) (p : Position) (
     (stop : Stop) (h : Happening) → IsLawful set → Begins 0 given xs end stop → IsMount set xs h
     → IsPlaced set (place old) held → under old set p xs 0 h → Read place set p h new now
 
--- Of an image that a reader gave, all mounts were read to their end.
-pub record ReadsImage {C : Type 0} (place : C → State) (under : Under C) (failed : Bool)
+-- Of whatever items the bytes given begin with, the core took what the table gives.
+abbrev pub TakesTable : List ℕ → State → State → List Portion → List Portion → Type 0
+TakesTable given old new held now = (xs : List TapeItem) (end : ℕ) (stop : Stop)
+    → Begins 0 given xs end stop → IsLed xs old new held now
+
+-- Of an image that a reader gave, all mounts were read to their end, and whatever it is, what the
+-- table gives was taken.
+pub record ReadsImage {C : Type 0} (place full : C → State) (under : Under C) (failed : Bool)
     (old new : C)
     (held now : List Portion) (bytes : List ℕ) : Type 0 where
   pub given : List ℕ
   pub is_given : IsGiven failed bytes given
   pub reads : ReadsItems place under given old new held now
+  pub table : TakesTable given (full old) (rest_of (full new)) held now
 
 -- A part of a block of the image was refused.
 abbrev pub RefusesImage : {C : Type 0} → (C → State) → Under C → C → C → List Portion → List Portion
@@ -92,12 +101,19 @@ RefusesImage place under old new held now bytes = (set : FileSet) (p : Position)
     (stop : Stop) (h : Happening) → IsLawful set → Begins 0 bytes xs end stop → IsMount set xs h
     → IsPlaced set (place old) held → under old set p xs 0 h → Stopped place set p xs h new now
 
+-- Whatever the image is, a part of one of the blocks was refused that the table delivers.
+abbrev pub CutsTable : State → State → List Portion → List Portion → List ℕ → Type 0
+CutsTable old new held now bytes = (xs : List TapeItem) (end : ℕ) (stop : Stop)
+    → Begins 0 bytes xs end stop → IsCutAt xs old new held now
+
 -- So far: these items were taken, up to a place, of all that the reader has.
-pub record SoFar {C : Type 0} (place : C → State) (under : Under C) (old new : C)
+pub record SoFar {C : Type 0} (place full : C → State) (under : Under C) (old new : C)
     (held now : List Portion) (at : ℕ)
     (bytes left : List ℕ) : Type 0 where
   pub items : List TapeItem
   pub walks : Walks 0 bytes items at left
+  pub core : full new ≡ behind_items (full old) items
+  pub parts : now ≡ held ++ delivered_parts (full old) items
   pub so_far : (set : FileSet) (p : Position) (xs rest : List TapeItem) (h : Happening)
       → IsLawful set
       → IsMount set xs h → xs ≡ items ++ rest → IsPlaced set (place old) held

@@ -1,7 +1,8 @@
-//! Why a step of a run was not made.
+//! Why a step of a run was not made, and what ends an engine.
 
 ghost use Rattle.std.specs.Prelude.{◌≡◌};
 ghost use Rattle.tape_run.specs.Fault.{number_of};
+ghost use Rattle.tape_run.specs.declared.fault.EngineFault.TheVariants as engine;
 
 use tape_core::SinkFault;
 use thiserror::Error;
@@ -41,5 +42,37 @@ impl RunFault {
             RunFault::OutOfMemory => 4,
             RunFault::OtherFile => 5,
         }
+    }
+}
+
+/// A writer refused a write or a flush, or took nothing of what was written.
+#[derive(Clone, Copy, Debug, PartialEq, Eq, Error)]
+#[error("a write failed")]
+pub struct WriteFailed;
+
+/// What ends an engine that reports of reels.
+#[derive(Clone, Copy, Debug, PartialEq, Eq, Error)]
+pub enum EngineFault {
+    /// A session or a catalogue could not go on.
+    #[error("{0}")]
+    Run(RunFault),
+    /// The output or the report could not be written.
+    #[error("a write failed")]
+    WriteFailed,
+}
+
+impl From<RunFault> for EngineFault {
+    ghost from_gives = { λ fault e. e ≡ engine.Run fault };
+
+    fn from(fault: RunFault) -> EngineFault {
+        EngineFault::Run(fault)
+    }
+}
+
+impl From<WriteFailed> for EngineFault {
+    ghost from_gives = { λ _ e. e ≡ engine.WriteFailed };
+
+    fn from(_fault: WriteFailed) -> EngineFault {
+        EngineFault::WriteFailed
     }
 }

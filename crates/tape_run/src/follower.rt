@@ -49,6 +49,11 @@ impl Follower {
         ensures set_id { (place self.new).set_id ≡ (place self.old).set_id }
         ensures checked { result ≡ Answer.Deliver
             → IsChecked (arrival event.entry) (place self.new) }
+        // Whatever was read, Complete is answered exactly at the end of the file.
+        ensures complete { result ≡ Answer.Complete
+            → (place self.new).position ≡ Position.Finished }
+        ensures finished { (place self.new).position ≡ Position.Finished
+            → result ≡ Answer.Complete }
         ensures waits { result ≡ Answer.Deliver → is_finished (place self.old).position ≡ false }
         ensures end { arrival event.entry ≡ None → (place self.new ≡ place self.old)
             × IsFinal result }

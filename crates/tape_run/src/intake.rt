@@ -1,10 +1,11 @@
 //! A core and its sink: items taken, parts put.
 
-ghost use Rattle.std.specs.Prelude.{◌≡◌, is_some, true, false, ◌+◌, ◌<◌, ◌≤◌, List, Some, None};
+ghost use Rattle.std.specs.Prelude.{◌≡◌, is_some, true, false, ◌+◌, ◌++◌, ◌<◌, ◌≤◌, List, Some};
+ghost use Rattle.std.specs.Prelude.{None};
 ghost use Rattle.std.specs.Prelude.{OnOk, OnErr, IfOk, IfSome, length};
 ghost use Rattle.tape_blocks.specs.Block.{Portion};
 ghost use Rattle.tape_image.specs.Reader.{going, tape_item, IfKnown};
-ghost use Rattle.tape_image.specs.Tape.{block};
+ghost use Rattle.tape_image.specs.Tape.{block, TapeItem};
 ghost use Rattle.tape_set.specs.Position.{part_of};
 ghost use Rattle.tape_core.specs.Known.{is_finished};
 ghost use Rattle.tape_core.specs.Arrive.{arrival};
@@ -12,11 +13,13 @@ ghost use Rattle.tape_core.specs.Table.{step_of};
 ghost use Rattle.tape_run.specs.Followed.{IsChecked};
 ghost use Rattle.tape_core.specs.Crash.{AddsNothing};
 ghost use Rattle.tape_core.specs.Weight.{IsFront, Rose};
-ghost use Rattle.tape_run.specs.Following.{place, is_mounted};
+ghost use Rattle.tape_run.specs.ByTable.{parts_of_arrival, StopsInside};
+ghost use Rattle.tape_run.specs.Following.{place, core_of, is_mounted};
 ghost use Rattle.tape_run.specs.Given.{is_device};
 ghost use Rattle.tape_run.specs.Puts.{IsSized, refused_point, PutsBlock, PutsFront};
 ghost use Rattle.tape_run.specs.Reels.{ReadsReel, ReadsToBlock, IsDelivery};
 ghost use Rattle.tape_run.specs.Taking.{TakesItem, RefusesItem, ReadsImage, RefusesImage};
+ghost use Rattle.tape_run.specs.Taking.{CutsTable};
 
 use crate::answer::ReelAnswer;
 use crate::follower::Follower;
@@ -78,13 +81,20 @@ impl<S: PartSink> Intake<S> {
         ensures set_id { (place self.new.core).set_id ≡ (place self.old.core).set_id }
         ensures table { IfOk result (λ answer.
             (answer, self.new.core.core) ≡ step_of self.old.core.core (arrival event.entry)) }
+        ensures complete { IfOk result (λ answer. answer ≡ Answer.Complete
+            → (place self.new.core).position ≡ Position.Finished) }
+        ensures finished { IfOk result (λ answer.
+            (place self.new.core).position ≡ Position.Finished → answer ≡ Answer.Complete) }
         ensures delivery { OnErr result (IsDelivery self.old.core.core (arrival event.entry)) }
         ensures ok { IfOk result (λ answer. (held : List Portion) → S.holds self.old.sink held
             → (now : List Portion) × S.holds self.new.sink now × IsFront held now
+            × (now ≡ held ++ parts_of_arrival self.old.core.core (arrival event.entry))
             × TakesItem place is_mounted
             (arrival event.entry) answer self.old.core self.new.core held now) }
         ensures err { OnErr result ((held : List Portion) → S.holds self.old.sink held
             → (now : List Portion) × S.holds self.new.sink now × IsFront held now
+            × ((item : TapeItem) → arrival event.entry ≡ Some item
+            → StopsInside self.old.core.core (place self.new.core) item held now)
             × RefusesItem place is_mounted
             (arrival event.entry) self.old.core self.new.core held now) }
         ensures cause { OnErr result (Rose (S.refusals self.old.sink) (S.refusals self.new.sink)) }
@@ -149,17 +159,23 @@ impl<S: PartSink> Intake<S> {
         ensures set_id { (place self.new.core).set_id ≡ (place self.old.core).set_id }
         ensures answer { IfOk result (λ answer. IfKnown image.old.left image.new.left
             (λ bytes left. ReadsReel self.old.core.core bytes left answer)) }
+        ensures complete { IfOk result (λ answer. answer.answer ≡ Answer.Complete
+            → (place self.new.core).position ≡ Position.Finished) }
+        ensures finished { IfOk result (λ answer.
+            (place self.new.core).position ≡ Position.Finished → answer.answer ≡ Answer.Complete) }
         ensures taken { OnErr result (IfKnown image.old.left image.new.left
             (ReadsToBlock self.old.core.core)) }
         ensures ok { IfOk result (λ answer. (held : List Portion) → S.holds self.old.sink held
             → (now : List Portion) × S.holds self.new.sink now × IsFront held now
             × IfSome image.old.left
-            (ReadsImage place is_mounted
+            (ReadsImage place core_of is_mounted
             (is_device answer.fault) self.old.core self.new.core held now)) }
         ensures err { OnErr result ((held : List Portion) → S.holds self.old.sink held
             → (now : List Portion) × S.holds self.new.sink now × IsFront held now
             × IfSome image.old.left
-            (RefusesImage place is_mounted self.old.core self.new.core held now)) }
+            (RefusesImage place is_mounted self.old.core self.new.core held now)
+            × IfSome image.old.left
+            (CutsTable self.old.core.core (place self.new.core) held now)) }
         ensures cause { OnErr result (Rose (S.refusals self.old.sink) (S.refusals self.new.sink)) }
         ensures calm { OnOk result (S.refusals self.new.sink ≡ S.refusals self.old.sink) }
         ensures crash { (held : List Portion) → S.holds self.old.sink held

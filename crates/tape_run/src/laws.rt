@@ -1,7 +1,10 @@
 //! Laws of runs, each as the contract of a call that does nothing.
 
+ghost use Rattle.tape_run.specs.Fronts.{FrontsAreMounts, GivenIsHistory};
+ghost use Rattle.tape_run.specs.Lead.{ItemsAreThere};
 ghost use Rattle.tape_run.specs.Lives.{StoodComesBack, StandsAcrossCrashes};
 ghost use Rattle.tape_run.specs.Runs.{OnlyRefusalsStop};
+ghost use Rattle.tape_run.specs.WorkedHistory.{HistoryIsWorked};
 
 /// A run over a script that names notes that exist, with readers enough, is stopped by a refusal
 /// alone.
@@ -19,4 +22,24 @@ pub fn stood_comes_back()
 /// stands.
 pub fn stands_across_crashes()
     ensures { StandsAcrossCrashes }
+{}
+
+/// What a reader gave of a mount before it failed is a mount.
+pub fn fronts_are_mounts()
+    ensures { FrontsAreMounts }
+{}
+
+/// Whatever readers failed, what was given is a history where all that the readers have is one.
+pub fn given_is_history()
+    ensures { GivenIsHistory }
+{}
+
+/// A worked history meets the premises of the headline, and what this then says of it.
+pub fn worked_history()
+    ensures { HistoryIsWorked }
+{}
+
+/// Whatever bytes the readers have, they begin with items, and with these alone.
+pub fn items_are_there()
+    ensures { ItemsAreThere }
 {}

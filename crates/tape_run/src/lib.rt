@@ -1,17 +1,25 @@
 //! Reads a file of a labelled set from its reels, in any order, into a sink of parts: what the sink
 //! holds is exactly what lies before the position that the reels define. And tells of any reels
-//! which file sections are on them, which of these are whole, and which are missing.
+//! which file sections are on them, which of these are whole, and which are missing. Its engines
+//! write such a file, and reports of what reels gave, to any writer.
 #![tactic(auto)]
 
 mod answer;
 mod catalogue;
 pub mod catalogue_laws;
+mod check;
+pub mod check_laws;
+mod check_line;
+mod extract;
+pub mod extract_laws;
 mod fault;
 mod follower;
+mod identifier;
 mod intake;
 mod lacks;
 mod laws;
 mod met;
+mod output;
 mod parts;
 mod passing;
 mod report;
@@ -23,8 +31,12 @@ mod whole;
 
 pub use answer::ReelAnswer;
 pub use catalogue::Catalogue;
-pub use fault::RunFault;
+pub use check::check_to;
+pub use extract::{OutSink, Place, ReportLine, extract_now, extract_to, last_line, reel_line};
+pub use fault::{EngineFault, RunFault, WriteFailed};
+pub use identifier::printed;
 pub use laws::{only_refusals_stop, stands_across_crashes, stood_comes_back};
+pub use output::{flush, write_text};
 pub use report::{Report, check_set};
 pub use script::{Step, run};
 pub use section::{Entry, ImageLine, ImageStop, Lack, SectionKey, SectionLine, SectionState};

@@ -11,7 +11,7 @@ ghost use Rattle.tape_core.specs.Place.{rest_of};
 ghost use Rattle.tape_core.specs.Crash.{AddsOnly};
 ghost use Rattle.tape_run.specs.Back.{reels_of, AreVolumes};
 ghost use Rattle.tape_run.specs.Crash.{StoodAt};
-ghost use Rattle.tape_run.specs.Headline.{IsStart, IsRead, HasRun, HasStopped};
+ghost use Rattle.tape_run.specs.Headline.{IsStart, IsRead, HasRun, HasStopped, HasRestart};
 ghost use Rattle.tape_run.specs.Runs.{Runs};
 ghost use Rattle.tape_run.specs.Seen.{seen, IsKept};
 
@@ -74,7 +74,8 @@ pub fn run<S: PartSink, R: Read>(
     ensures stopped { IfErr result (λ fault. (held : List Portion) → S.holds session.old.sink held
         → IsKept (seen S.refusals session.old held)
         → (now : List Portion)
-        × (fault ≢ RunFault.Sink SinkFault.Device → S.holds session.new.sink now)
+        × ((HasRestart steps.now → fault ≢ RunFault.Sink SinkFault.Device)
+        → S.holds session.new.sink now)
         × IsKept (seen S.refusals session.new now)
         × ((bytes : List (List ℕ)) → map R.remaining reels.old ≡ map Some bytes
         → HasStopped (seen S.refusals session.old held) steps.now bytes fault
@@ -89,7 +90,8 @@ pub fn run<S: PartSink, R: Read>(
     ensures faults { IfErr result (λ fault. (held : List Portion) → S.holds session.old.sink held
         → IsKept (seen S.refusals session.old held)
         → (now : List Portion)
-        × (fault ≢ RunFault.Sink SinkFault.Device → S.holds session.new.sink now)
+        × ((HasRestart steps.now → fault ≢ RunFault.Sink SinkFault.Device)
+        → S.holds session.new.sink now)
         × IsKept (seen S.refusals session.new now)
         × Runs (seen S.refusals session.old held) steps.now (map R.remaining reels.old) (Err fault)
         (seen S.refusals session.new now)) }

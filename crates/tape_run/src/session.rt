@@ -10,7 +10,7 @@ ghost use Rattle.tape_core.specs.Known.{IsFileNumber};
 ghost use Rattle.tape_core.specs.Place.{rest_of};
 ghost use Rattle.tape_core.specs.Stands.{Stands, weight_of};
 ghost use Rattle.tape_core.specs.Table.{saved, reader_of};
-ghost use Rattle.tape_core.specs.Crash.{AddsNothing, AddsOnly};
+ghost use Rattle.tape_core.specs.Crash.{AddsNothing, AddsOnly, OnlyThis};
 ghost use Rattle.tape_run.specs.Crash.{IsOf};
 ghost use Rattle.tape_run.specs.Following.{place};
 ghost use Rattle.tape_run.specs.Given.{is_device};
@@ -30,7 +30,7 @@ use std::marker::Model;
 use tape_core::{Answer, Checkpoint, CoreFault, PartSink, ReaderCore, SinkFault};
 use tape_image::{ImageBuffer, ImageReader};
 use tape_label::Field;
-use tape_set::Want;
+use tape_set::{Position, Want};
 
 /// A session over one file: it reads reel after reel, and its sink holds exactly the parts of the
 /// file that lie before its position.
@@ -160,6 +160,11 @@ impl<S: PartSink> Session<S> {
         ensures answer { IfOk result (λ answer. IfKnown (R.remaining device.old)
             (R.remaining device.new)
             (λ bytes left. Reads self.old.core.position self.old.core bytes left answer)) }
+        // Whatever was read, Complete is answered exactly where nothing is wanted any more.
+        ensures complete { IfOk result (λ answer. answer.answer ≡ Answer.Complete
+            → self.new.core.position ≡ Position.Finished) }
+        ensures finished { IfOk result (λ answer.
+            self.new.core.position ≡ Position.Finished → answer.answer ≡ Answer.Complete) }
         ensures unread { IfErr result (λ fault.
             Leaves fault self.old.core (R.remaining device.old) (R.remaining device.new)) }
         // Whatever it answered: a crash behind it brings back nothing that none before it could.
@@ -204,6 +209,14 @@ impl<S: PartSink> Session<S> {
         ensures err { IfErr result (λ fault. (held : List Portion) → S.holds self.old.sink held
             → (now : List Portion) × S.holds self.new.sink now
             × SaveFails fault (seen S.refusals self.old held) (seen S.refusals self.new now)) }
+        // The checkpoint stands, with the parts delivered.
+        ensures stands { IfOk result (λ point. (set : FileSet) (held : List Portion)
+            → S.holds self.old.sink held → IsSession set (seen S.refusals self.old held)
+            → Stands set (rest_of self.old.core).file point held) }
+        ensures memory { result ≡ Err RunFault.OutOfMemory → self.new.sink ≡ self.old.sink }
+        // Behind an Ok a crash brings back the checkpoint that was saved, with its parts, alone.
+        ensures kept { IfOk result (λ point. (held : List Portion) → S.holds self.old.sink held
+            → OnlyThis point held (S.returns self.new.sink)) }
         ensures crash { (held : List Portion) → S.holds self.old.sink held
             → AddsOnly (IsOf (seen S.refusals self.old held)) (S.returns self.old.sink)
             (S.returns self.new.sink) (S.survives self.old.sink) (S.survives self.new.sink) }

@@ -7,7 +7,7 @@ ghost use Rattle.tape_core.specs.Place.{rest_of};
 ghost use Rattle.tape_core.specs.Point.{Point};
 ghost use Rattle.tape_core.specs.Crash.{OnlyThis};
 ghost use Rattle.tape_core.specs.Memory.{portions};
-ghost use Rattle.tape_run.specs.Headline.{IsRead, HasStopped};
+ghost use Rattle.tape_run.specs.Headline.{IsRead, HasStopped, HasRestart};
 ghost use Rattle.tape_run.specs.Lives.{Life, IsResumed, Outlives, GoesOn};
 ghost use Rattle.tape_run.specs.Seen.{Seen, seen};
 
@@ -63,7 +63,8 @@ pub fn go_on<S: PartSink, R: Read>(
     // A fault ended them: the same of the steps before it.
     ensures stopped { IfErr result.1 (λ fault. (held : List Portion) → S.holds sink held
         → (began : Seen) × IsResumed point.now held began × (now : List Portion)
-        × (fault ≢ RunFault.Sink SinkFault.Device → S.holds result.0.sink now)
+        × ((HasRestart steps.now → fault ≢ RunFault.Sink SinkFault.Device)
+        → S.holds result.0.sink now)
         × ((bytes : List (List ℕ)) → map R.remaining reels.old ≡ map Some bytes
         → HasStopped began steps.now bytes fault (seen S.refusals result.0 now))) }
     // Whatever it answered: what a crash behind it brings back is what was there, or outlives this

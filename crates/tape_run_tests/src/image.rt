@@ -130,15 +130,23 @@ pub const HDR2: &str = "HDR2F0080000080                                   00";
 /// The worked volume: 25 records in blocks of 10, 10 and 5, in 2,484 bytes. The first data block
 /// begins at 268, the others at 1,076 and 1,884; the closing mark at 2,292.
 pub fn payroll(alloc: Global) -> Result<Image, AllocError> {
+    payroll_with(
+        alloc,
+        &[
+            EOF_THREE,
+            "EOF2F0080000080                                   00",
+        ],
+    )
+}
+
+/// The worked volume with these trailer labels.
+pub fn payroll_with(alloc: Global, trailers: &[&str]) -> Result<Image, AllocError> {
     let mut image = Image::new(alloc);
     image.headers(&[VOL1, HDR1, HDR2])?;
     image.records(0, 10, true)?;
     image.records(10, 20, true)?;
     image.records(20, 25, true)?;
-    image.trailers(&[
-        "EOF1PAYROLL          ABC00100010001000100 00000 00000 000003",
-        "EOF2F0080000080                                   00",
-    ])?;
+    image.trailers(trailers)?;
     image.end()?;
     Ok(image)
 }
@@ -167,7 +175,9 @@ pub fn blank(alloc: Global) -> Result<Image, AllocError> {
     Ok(image)
 }
 
-/// The trailer of five blocks.
+/// The trailers of three and of five blocks.
+pub const EOF_THREE: &str = "EOF1PAYROLL          ABC00100010001000100 00000 00000 000003";
+
 pub const EOF_FIVE: &str = "EOF1PAYROLL          ABC00100010001000100 00000 00000 000005";
 
 /// The record of 290 bytes in blocks of 18: byte i is `a` and the rest of i by 26.

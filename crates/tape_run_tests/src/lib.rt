@@ -1,4 +1,5 @@
-//! Tests of `tape_run`: sessions and catalogues over images that are written out from their format.
+//! Tests of `tape_run`: sessions, catalogues and engines over images that are written out from
+//! their format.
 #![tactic(auto)]
 
 #[cfg(test)]
@@ -6,9 +7,17 @@ mod answers;
 #[cfg(test)]
 mod catalogue;
 #[cfg(test)]
+mod check;
+#[cfg(test)]
+mod check_faults;
+#[cfg(test)]
 mod copies;
 #[cfg(test)]
 mod cuts;
+#[cfg(test)]
+mod devices;
+#[cfg(test)]
+mod extract;
 #[cfg(test)]
 mod image;
 #[cfg(test)]
@@ -25,3 +34,5 @@ mod refusals;
 mod sections;
 #[cfg(test)]
 mod sessions;
+#[cfg(test)]
+mod volumes;

@@ -1,20 +1,16 @@
 //! Volumes with the sections that a catalogue is to find.
-use crate::image::{HDR1, HDR2, Image, VOL1};
+use crate::image::{HDR1, HDR2, Image, VOL1, payroll_with};
 use std::alloc::{AllocError, Global};
 
 /// The worked file on a volume that is too small for its end: three blocks, and an end of volume.
 pub fn first_of_two(alloc: Global) -> Result<Image, AllocError> {
-    let mut image = Image::new(alloc);
-    image.headers(&[VOL1, HDR1, HDR2])?;
-    image.records(0, 10, true)?;
-    image.records(10, 20, true)?;
-    image.records(20, 25, true)?;
-    image.trailers(&[
-        "EOV1PAYROLL          ABC00100010001000100 00000 00000 000003",
-        "EOV2F0080000080                                   00",
-    ])?;
-    image.end()?;
-    Ok(image)
+    payroll_with(
+        alloc,
+        &[
+            "EOV1PAYROLL          ABC00100010001000100 00000 00000 000003",
+            "EOV2F0080000080                                   00",
+        ],
+    )
 }
 
 /// Its second volume: an empty section, and the end of the file.
@@ -45,18 +41,28 @@ pub fn one_section(alloc: Global, header: &str, trailer: &str) -> Result<Image, 
 
 /// A volume with the section of this number alone, which goes on.
 pub fn numbered(alloc: Global, number: u16) -> Result<Image, AllocError> {
-    let mut header = *b"HDR1PAYROLL          ABC00100000001000100 00000 00000 000000";
-    let mut trailer = *b"EOV1PAYROLL          ABC00100000001000100 00000 00000 000001";
-    for (place, unit) in [(27usize, 1000u16), (28, 100), (29, 10), (30, 1)] {
-        let digit = b'0' + (number / unit % 10) as u8;
-        header[place] = digit;
-        trailer[place] = digit;
-    }
+    let header = with_number(
+        b"HDR1PAYROLL          ABC00100000001000100 00000 00000 000000",
+        number,
+    );
+    let trailer = with_number(
+        b"EOV1PAYROLL          ABC00100000001000100 00000 00000 000001",
+        number,
+    );
     one_section(alloc, text(&header), text(&trailer))
 }
 
+/// The label with this section's number in it.
+pub fn with_number(label: &[u8; 60], number: u16) -> [u8; 60] {
+    let mut label = *label;
+    for (place, unit) in [(27usize, 1000u16), (28, 100), (29, 10), (30, 1)] {
+        label[place] = b'0' + (number / unit % 10) as u8;
+    }
+    label
+}
+
 /// The characters as text.
-fn text(bytes: &[u8]) -> &str {
+pub fn text(bytes: &[u8]) -> &str {
     std::str::from_utf8(bytes).unwrap_or("")
 }
 

@@ -3,22 +3,17 @@ use Rattle.std.proofs.Common.{◌≡◌, ℕ, ◌+◌, ◌<◌, List, [], ◌∷
 use Rattle.std.proofs.Common.{false, sym, ap, ◌∙◌, subst, arith, length-append}
 use Rattle.std.specs.Prelude.{Some, Ok, slice_get, ◌==◌, ◌&&◌, if◌then◌else◌}
 use Rattle.tape_blocks.specs.Block.{Portion, Holds}
-use Rattle.tape_image.specs.Tape.{TapeItem}
-use Rattle.tape_set.specs.declared.position.Position.{Position}
 use Rattle.tape_set.specs.declared.position.Position.TheVariants.{Awaits}
 use Rattle.tape_set.specs.Position.{block_of, part_of}
-use Rattle.tape_set.specs.Before.{before}
-use Rattle.tape_set.specs.Layout.{FileSet}
-use Rattle.tape_set.specs.Lawful.{FileForm, IsLawful}
+use Rattle.tape_set.specs.Lawful.{FileForm}
 use Rattle.tape_core.specs.declared.answer.Answer.TheVariants.{Passed}
 use Rattle.tape_core.specs.Arrive.{arrival}
 use Rattle.tape_core.specs.Known.{may_span}
-use Rattle.tape_core.specs.Place.{IsPlaced}
 use Rattle.tape_core.specs.Point.{Point}
 use Rattle.tape_core.specs.Stands.{inside_block}
-use Rattle.tape_run.specs.Following.{place, is_mounted}
-use Rattle.tape_run.specs.Mount.{Happening, IsMount}
+use Rattle.tape_run.specs.Following.{place}
 use Rattle.tape_run.specs.Puts as puts
+use Rattle.tape_run.proofs.ByTable.{puts_none}
 use Rattle.tape_run.proofs.intake.refused_point.Reads as refused_point
 use Rattle.tape_run.proofs.intake.Intake.put_block.Reads as put_block
 use Rattle.tape_run.proofs.intake.Intake.take.Reads as take
@@ -73,27 +68,19 @@ first_parts_put_twice S LS g d κs a s held first second form l known awaits hol
       length-append held (second ∷ []),
     ))
 
--- parts_put_before_the_check: of a block that is passed over a part is put. The premises on the
--- set, the mount and the place are those under which `take` promises a place that is right; every
--- session of a lawful set that reads a copy of a volume meets them.
+-- parts_put_before_the_check: of a block that is passed over a part is put.
 parts_put_before_the_check : (S : _) (LS : _) (g : _) (d : _) (κs : _) (a : _) (s : _)
-    (set : FileSet) (p : Position) (xs : List TapeItem) (i : ℕ) (m : Happening)
     (held : List Portion) (part : Portion)
     → take.Learnt-named S LS g d κs a (Ok Passed) s
-    → IsLawful set → IsMount set xs m → IsPlaced set (place a.0.now.core) held
-    → is_mounted a.0.now.core set p xs i m → i < length xs → arrival a.1.0 ≡ slice_get xs i
-    → (place s.0.now.core).position ≡ (place a.0.now.core).position
     → g.holds a.0.now.sink held → HoldsOne (g.holds s.0.now.sink)
     → g.holds s.0.now.sink (held ++ part ∷ []) → ⊥
-parts_put_before_the_check S LS g d κs a s set p xs i m held part l lawful mount placed under less
-    came stays was one more =
+parts_put_before_the_check S LS g d κs a s held part l was one more =
     let r = l.ok held was in
-    let at = (r.3 set p xs i m lawful mount placed under less came).at in
-    let same : r.0 ≡ held = at.all ∙ ap (λ f. before set f (place s.0.now.core).position) l.file
-    ∙ ap (before set (place a.0.now.core).file) stays ∙ sym placed.all in
+    let none = puts_none a.0.now.core.core s.0.now.core.core Passed (arrival a.1.0) held l.table
+    (λ e. absurd (cc)) in
     absurd (omega (
       arith,
       ap length (one (held ++ part ∷ []) r.0 more r.1),
-      ap length same,
+      ap length (r.3 ∙ sym none),
       length-append held (part ∷ []),
     ))

@@ -9,7 +9,8 @@ use Rattle.tape_run.specs.Headline.{IsRead}
 use Rattle.tape_run.proofs.Headline.{headline}
 use Rattle.tape_run.proofs.Begin.{kept_new, is_read}
 use Rattle.tape_run.proofs.Back.{came_back, whole_records}
-use Rattle.tape_run.proofs.Sessions.{all_made, step_here, drop_past, reel_made, save_made}
+use Rattle.tape_run.proofs.Sessions.{restart_here, all_made, step_here, drop_past, reel_made}
+use Rattle.tape_run.proofs.Sessions.{save_made}
 use Rattle.tape_run.proofs.Sessions.{restart_made, kept_save, kept_restart, reader_here}
 use Rattle.tape_run.proofs.Sessions.{readers_left, reel_failed, save_failed, restart_failed}
 use Rattle.tape_run.proofs.Sessions.{none_left}
@@ -207,7 +208,7 @@ returns-clause-start g c = λ set_id file was st.
       now,
       has,
       λ bytes e. is_read set_id file c.args.steps.now bytes old
-          (seen g.S.PartSink.refusals c.loop-step.session now) st (run bytes e),
+          (seen g.S.PartSink.refusals c.loop-step.session now) refl st (run bytes e),
     )
 
 pub returns-clause-back : goal.returns-clause-back
@@ -308,7 +309,7 @@ returns-in_err-restart-in-Restart-clause-faults g c =
     let (now, has, k, all) = c.loop-step.invariant.1 held was kept in
     let (ok, fails) = c.in_err-restart-in-Restart.ensures.err now has k in (
       now,
-      ok,
+      (λ ne. ok (ne (restart_here steps i c.in-Restart.n _ here))),
       kept_restart_fails c.in-Restart.n fault _ _ fails k,
       all (Err fault) _
           (rw here (restart_failed (seen g.S.PartSink.refusals c.loop-step.session now)

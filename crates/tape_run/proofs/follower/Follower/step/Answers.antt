@@ -1,3 +1,5 @@
+use Rattle.std.proofs.Common.{subst, sym}
+use Rattle.tape_run.proofs.Completes.{Tells, step_tells}
 use Rattle.tape_core.specs.Arrive.{arrival}
 use Rattle.tape_run.proofs.Mounts.{took, under, reached, checked_of}
 use Rattle.tape_run.proofs.follower.Follower.step.Goals as goal
@@ -19,3 +21,7 @@ returns-clause-under c = under c.args.self.now.core
 
 pub returns-clause-reached : goal.returns-clause-reached
 returns-clause-reached c = reached c.args.self.now.core
+
+pub returns-clause-finished : goal.returns-clause-finished
+returns-clause-finished c = (subst Tells (sym c.step.ensures.table)
+    (step_tells c.args.self.now.core (arrival c.args.event))).told

@@ -1,15 +1,18 @@
-use Rattle.std.proofs.Common.{Option, Ok, ap, subst, ◌∙◌, refl, inl, inr, arith}
+use Rattle.std.proofs.Common.{◌++◌, sym, Option, Ok, ap, subst, ◌∙◌, refl, inl, inr, arith}
 use Rattle.tape_image.specs.Tape.{TapeItem}
 use Rattle.tape_image.specs.Reader.{tape_item}
 use Rattle.tape_image.proofs.Callers.{gave, met_end, met_fault}
 use Rattle.tape_core.specs.Table.{step_of}
-use Rattle.tape_run.specs.Following.{place, is_mounted}
+use Rattle.tape_run.specs.Following.{place, core_of, is_mounted}
 use Rattle.tape_run.specs.Taking.{SoFar, ReadsImage, RefusesImage, TakesItem, RefusesItem}
+use Rattle.tape_run.specs.Taking.{CutsTable}
 use Rattle.tape_run.specs.Given.{is_device}
+use Rattle.tape_run.specs.ByTable.{parts_of_arrival}
 use Rattle.tape_run.proofs.Places.{on_err}
 use Rattle.tape_run.proofs.Notes.{front_self, front_trans}
 use Rattle.tape_run.proofs.Images.{known_then, known_all, known_same, nothing_yet, one_more}
-use Rattle.tape_run.proofs.Images.{ends_early, refused_early, ends_there, faults_there, least_four}
+use Rattle.tape_run.proofs.Images.{ends_early, refused_early, refused_there, ends_there}
+use Rattle.tape_run.proofs.Images.{faults_there, least_four}
 use Rattle.tape_run.proofs.Images.{final_answer}
 use Rattle.tape_run.specs.Reels.{ReadsSoFar, ReadsReel, ReadsToBlock, IsDelivery}
 use Rattle.tape_run.proofs.Crashes.{adds_same, adds_then}
@@ -33,9 +36,10 @@ items-init g c = record {
     held,
     was,
     front_self held,
-    known_same c.args.image.now.left c.args.image.now.left (SoFar place is_mounted
+    known_same c.args.image.now.left c.args.image.now.left (SoFar place core_of is_mounted
         c.args.self.now.core c.args.self.now.core held held c.args.image.now.place) refl
-        (λ xs. rw c.requires.first (nothing_yet place is_mounted c.args.self.now.core held xs)),
+        (λ xs. rw c.requires.first (nothing_yet place core_of is_mounted c.args.self.now.core held
+        xs)),
   );
 }
 
@@ -67,7 +71,7 @@ items-preserved-in-Passed g c =
           adds_then _ _ _ _ _ _ (inv.crash held was) (took.crash now has);
       so_far = λ held was.
           let (now, has, front, known) = inv.so_far held was in
-          let (then, has_then, more, takes) = took.ok now has in
+          let (then, has_then, more, puts, takes) = took.ok now has in
           let takes_item = subst (λ (z : Option TapeItem). TakesItem place is_mounted z
           c.in_ok-answer-in-Ok-Some.answer c.items.self.core c.take.new.self.core now then)
           c.event_of.ensures takes in (
@@ -75,9 +79,13 @@ items-preserved-in-Passed g c =
             has_then,
             front_trans held now then front more,
             known_then c.args.image.now.left c.items.image.left next.left _ _ _
-                (λ xs ys zs s k. one_more place is_mounted c.args.self.now.core c.items.self.core
+                (λ xs ys zs s k. one_more place core_of is_mounted c.args.self.now.core
+                c.items.self.core
                 c.take.new.self.core held now then c.items.image.place next.place xs ys zs item
-                c.in_ok-answer-in-Ok-Some.answer takes_item s k)
+                c.in_ok-answer-in-Ok-Some.answer takes_item
+                (took.table ∙ ap (step_of c.items.self.core.core) c.event_of.ensures)
+                (puts ∙ ap (λ z. now ++ parts_of_arrival c.items.self.core.core z)
+                c.event_of.ensures) s k)
                 known step.takes,
           );
     }
@@ -110,7 +118,7 @@ items-preserved g c =
           adds_then _ _ _ _ _ _ (inv.crash held was) (took.crash now has);
       so_far = λ held was.
           let (now, has, front, known) = inv.so_far held was in
-          let (then, has_then, more, takes) = took.ok now has in
+          let (then, has_then, more, puts, takes) = took.ok now has in
           let takes_item = subst (λ (z : Option TapeItem). TakesItem place is_mounted z
           c.in_ok-answer-in-Ok-Some.answer c.items.self.core c.take.new.self.core now then)
           c.event_of.ensures takes in (
@@ -118,9 +126,13 @@ items-preserved g c =
             has_then,
             front_trans held now then front more,
             known_then c.args.image.now.left c.items.image.left next.left _ _ _
-                (λ xs ys zs s k. one_more place is_mounted c.args.self.now.core c.items.self.core
+                (λ xs ys zs s k. one_more place core_of is_mounted c.args.self.now.core
+                c.items.self.core
                 c.take.new.self.core held now then c.items.image.place next.place xs ys zs item
-                c.in_ok-answer-in-Ok-Some.answer takes_item s k)
+                c.in_ok-answer-in-Ok-Some.answer takes_item
+                (took.table ∙ ap (step_of c.items.self.core.core) c.event_of.ensures)
+                (puts ∙ ap (λ z. now ++ parts_of_arrival c.items.self.core.core z)
+                c.event_of.ensures) s k)
                 known step.takes,
           );
     }
@@ -133,7 +145,7 @@ returns-in_err-answer-in-Ok-Some-clause-err g c =
     c.items.invariant.on (c.in-Ok-Some.is ∙ ap Ok c.in-Ok-Some.field-0-is) in
     on_err c.from_residual.result _ (λ held was.
     let (now, has, front, known) = c.items.invariant.so_far held was in
-    let (then, has_then, more, refuses) = c.in_err-answer-in-Ok-Some.ensures.err now has in
+    let (then, has_then, more, stops, refuses) = c.in_err-answer-in-Ok-Some.ensures.err now has in
     let refuses_item = subst (λ (z : Option TapeItem). RefusesItem place is_mounted z
     c.items.self.core c.take.new.self.core now then) c.event_of.ensures refuses in (
       then,
@@ -142,9 +154,17 @@ returns-in_err-answer-in-Ok-Some-clause-err g c =
       known_all c.args.image.now.left next.left (λ xs zs. RefusesImage place is_mounted
           c.args.self.now.core c.take.new.self.core held then xs) _ (λ xs zs r. r)
           (known_then c.args.image.now.left c.items.image.left next.left _ _ _
-          (λ xs ys zs s k. refused_early place is_mounted c.args.self.now.core c.items.self.core
+          (λ xs ys zs s k. refused_early place core_of is_mounted c.args.self.now.core
+          c.items.self.core
           c.take.new.self.core held now then c.items.image.place next.place xs ys zs item
           step.within refuses_item s k)
+          known step.takes),
+      known_all c.args.image.now.left next.left (λ xs zs. CutsTable c.args.self.now.core.core
+          (place c.take.new.self.core) held then xs) _ (λ xs zs r. r)
+          (known_then c.args.image.now.left c.items.image.left next.left _ _ _
+          (λ xs ys zs s k. refused_there place core_of is_mounted c.args.self.now.core
+          c.items.self.core held now then c.items.image.place next.place xs ys zs item
+          (place c.take.new.self.core) step.within (stops item c.event_of.ensures) s k)
           known step.takes),
     ))
 
@@ -170,10 +190,12 @@ returns-in_default g c =
           (took.table ∙ ap (step_of c.items.self.core.core) c.event_of.ensures) final
           c.new.ensures.answer c.new.ensures.fault c.new.ensures.blocks s k)
           inv.answers step.takes;
+      complete = λ e. took.complete (sym c.new.ensures.answer ∙ e);
+      finished = λ e. c.new.ensures.answer ∙ took.finished e;
       taken = tt;
       ok = λ held was.
           let (now, has, front, known) = inv.so_far held was in
-          let (then, has_then, more, takes) = took.ok now has in
+          let (then, has_then, more, puts, takes) = took.ok now has in
           let takes_item = subst (λ (z : Option TapeItem). TakesItem place is_mounted z
           c.in_ok-answer-in-Ok-Some.answer c.items.self.core c.take.new.self.core now then)
           c.event_of.ensures takes in (
@@ -181,13 +203,16 @@ returns-in_default g c =
             has_then,
             front_trans held now then front more,
             known_all c.args.image.now.left next.left
-                (λ xs zs. ReadsImage place is_mounted (is_device c.new.result.fault)
+                (λ xs zs. ReadsImage place core_of is_mounted (is_device c.new.result.fault)
                 c.args.self.now.core c.take.new.self.core held then xs) _ (λ xs zs r. r)
                 (known_then c.args.image.now.left c.items.image.left next.left _ _ _
                 (λ xs ys zs s k. rw c.new.ensures.fault
-                (ends_early place is_mounted c.args.self.now.core c.items.self.core
+                (ends_early place core_of is_mounted c.args.self.now.core c.items.self.core
                 c.take.new.self.core held now then c.items.image.place next.place xs ys zs item
-                c.in_ok-answer-in-Ok-Some.answer final step.within takes_item s k))
+                c.in_ok-answer-in-Ok-Some.answer final step.within takes_item
+                (took.table ∙ ap (step_of c.items.self.core.core) c.event_of.ensures)
+                (puts ∙ ap (λ z. now ++ parts_of_arrival c.items.self.core.core z)
+                c.event_of.ensures) s k))
                 known step.takes),
           );
       err = tt;
@@ -210,13 +235,14 @@ returns-in-Ok-None-clause-ok g c =
       has,
       front,
       known_all c.args.image.now.left next.left
-          (λ xs zs. ReadsImage place is_mounted (is_device c.new-in-Ok-None.result.fault)
+          (λ xs zs. ReadsImage place core_of is_mounted (is_device c.new-in-Ok-None.result.fault)
           c.args.self.now.core c.step.new.self held now xs) _ (λ xs zs r. r)
           (known_then c.args.image.now.left c.items.image.left next.left _ _ _
           (λ xs ys zs s t. rw c.new-in-Ok-None.ensures.fault
-          (ends_there place is_mounted c.args.self.now.core c.items.self.core c.step.new.self
+          (ends_there place core_of is_mounted c.args.self.now.core c.items.self.core
+          c.step.new.self
           (record { reached = c.step.ensures.reached }) held now c.items.image.place next.place xs
-          ys zs met.ending same s t))
+          ys zs met.ending same same s t))
           known met.takes),
     )
 
@@ -232,13 +258,13 @@ returns-in-Err-clause-ok g c =
       has,
       front,
       known_all c.args.image.now.left next.left
-          (λ xs zs. ReadsImage place is_mounted (is_device c.new-in-Err.result.fault)
+          (λ xs zs. ReadsImage place core_of is_mounted (is_device c.new-in-Err.result.fault)
           c.args.self.now.core c.step-in-Err.new.self held now xs) _ (λ xs zs r. r)
           (known_then c.args.image.now.left c.items.image.left next.left _ _ _
           (λ xs ys zs s t. rw c.new-in-Err.ensures.fault
-          (faults_there place is_mounted c.args.self.now.core c.items.self.core
+          (faults_there place core_of is_mounted c.args.self.now.core c.items.self.core
           c.step-in-Err.new.self (record { reached = c.step-in-Err.ensures.reached }) held now
-          c.items.image.place xs ys zs c.in-Err.fault same s t))
+          c.items.image.place xs ys zs c.in-Err.fault same same s t))
           known met.takes),
     )
 

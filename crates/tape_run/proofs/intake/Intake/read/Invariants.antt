@@ -4,7 +4,7 @@ use Rattle.tape_image.specs.Begins.{image_limit}
 use Rattle.tape_image.specs.Reader.{going, IfKnown}
 use Rattle.tape_core.specs.Crash.{AddsNothing}
 use Rattle.tape_core.specs.Weight.{IsFront}
-use Rattle.tape_run.specs.Following.{place, is_mounted}
+use Rattle.tape_run.specs.Following.{place, core_of, is_mounted}
 use Rattle.tape_run.specs.Reels.{ReadsSoFar}
 use Rattle.tape_run.specs.Taking.{SoFar}
 use Rattle.tape_run.proofs.intake.Intake.read.Given as goal
@@ -25,7 +25,8 @@ invariant-items g l = record {
       (g.S.PartSink.survives l.fn.self.sink) (g.S.PartSink.survives l.self.sink);
   so_far : (held : List Portion) → g.S.PartSink.holds l.fn.self.sink held
       → (now : List Portion) × g.S.PartSink.holds l.self.sink now × IsFront held now
-      × IfKnown l.fn.image.left l.image.left (SoFar place is_mounted l.fn.self.core l.self.core held
+      × IfKnown l.fn.image.left l.image.left (SoFar place core_of is_mounted l.fn.self.core
+      l.self.core held
       now l.image.place);
 }
 

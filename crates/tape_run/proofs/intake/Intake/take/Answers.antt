@@ -12,7 +12,8 @@ use Rattle.tape_run.specs.Mount.{cut, after_mount}
 use Rattle.tape_run.specs.Following.{place}
 use Rattle.tape_run.specs.Puts.{refused_point}
 use Rattle.tape_run.proofs.Places.{delivered_at, refused_at, refused_position, gives_block}
-use Rattle.tape_run.proofs.Places.{gives_none, came_block, on_err}
+use Rattle.tape_run.proofs.Places.{gives_none, came_block, no_block, on_err}
+use Rattle.tape_run.proofs.ByTable.{puts_delivered, puts_none, puts_front}
 use Rattle.tape_run.proofs.Notes.{front_more, front_self}
 use Rattle.tape_run.proofs.Crashes.{adds_same}
 use Rattle.tape_run.proofs.intake.Intake.take.Goals as goal
@@ -37,6 +38,10 @@ returns-in_err-put_block-clause-err g c = on_err c.from_residual.result _ (λ he
       held ++ drop first (take up.n checked.parts),
       up.held_now,
       front_more held _,
+      (λ item came. puts_front c.args.self.now.core.core c.step-answer.new.self.core
+          c.step-answer.result (arrival c.args.event) item bytes checked.known checked.parts held
+          first up.n _ c.step-answer.ensures.table c.in-Deliver.is is checked.is_known holds part
+          up.from (ap (λ (z : State). z.position) back ∙ refused_position old mid up.n _) came),
       λ set p xs i h l m at under lt e.
           let took = c.step-answer.ensures.took set held p xs i h l m at under lt e in
           let (x, came, gives) = took.gives in
@@ -77,6 +82,9 @@ returns-in_ok-put_block-clause-ok g c = λ held was.
       now,
       c.in_ok-put_block.ensures.ok held checked.parts checked.known checked.is_known holds was,
       front_more held _,
+      ap (λ l. held ++ l) (puts_delivered c.args.self.now.core.core c.step-answer.new.self.core
+          c.step-answer.result (arrival c.args.event) bytes checked.known checked.parts first
+          c.step-answer.ensures.table c.in-Deliver.is is checked.is_known holds part),
       λ set p xs i h l m at under lt e.
           let took = c.step-answer.ensures.took set held p xs i h l m at under lt e in
           let (x, came, gives) = took.gives in
@@ -90,16 +98,26 @@ returns-in_ok-put_block-clause-ok g c = λ held was.
           },
     )
 
+-- what is delivered is a block
+pub returns-in_default-event : goal.returns-in_default-event
+returns-in_default-event g c =
+    let checked = c.step-answer.ensures.checked c.in-Deliver.is in
+    absurd (no_block c.args.event checked.bytes c.in_default-event.not-Block checked.is_block)
+
 pub returns-in_default : goal.returns-in_default
 returns-in_default g c = record {
   file = c.step-answer.ensures.file;
   set_id = c.step-answer.ensures.set_id;
   table = c.step-answer.ensures.table;
+  complete = c.step-answer.ensures.complete;
+  finished = c.step-answer.ensures.finished;
   delivery = tt;
   ok = λ held was. (
     held,
     was,
     front_self held,
+    puts_none c.args.self.now.core.core c.step-answer.new.self.core c.step-answer.result
+        (arrival c.args.event) held c.step-answer.ensures.table c.in_default.not-Deliver,
     λ set p xs i h l m at under lt e.
         let old = place c.args.self.now.core in
         let new = place c.step-answer.new.self in

@@ -1,15 +1,17 @@
-use Rattle.std.proofs.Common.{List, IfSome, [], sym, ap, subst, ◌∙◌}
+use Rattle.std.proofs.Common.{List, IfSome, [], sym, ap, subst, ◌∙◌, refl}
 use Rattle.std.specs.Prelude.{is_some}
 use Rattle.tape_blocks.specs.Block.{Portion}
 use Rattle.tape_core.specs.State.{State}
-use Rattle.tape_run.specs.Following.{place, is_mounted}
+use Rattle.tape_run.specs.Following.{place, core_of, is_mounted}
 use Rattle.tape_run.specs.Given.{is_device, counted}
 use Rattle.tape_run.specs.Story.{Story}
 use Rattle.tape_run.specs.Seen.{seen, IsKept}
 use Rattle.tape_run.specs.Steps.{Reeled, ReelFails}
 use Rattle.tape_run.specs.declared.fault.RunFault.TheVariants.{Sink}
-use Rattle.tape_run.proofs.Sessions.{some_at, some_all, want_none, not_read, reeled, cut_short}
+use Rattle.tape_run.proofs.Sessions.{some_at, some_both, some_all, want_none, not_read, reeled}
+use Rattle.tape_run.proofs.Sessions.{cut_short}
 use Rattle.tape_run.proofs.Sessions.{kept_grow, kept_place}
+use Rattle.tape_run.proofs.ByTable.{mount_rest}
 use Rattle.tape_run.proofs.session.Session.reel.Goals as goal
 
 pub returns-then-is_none-clause-ok : goal.returns-then-is_none-clause-ok
@@ -33,7 +35,8 @@ returns-then-is_none-clause-ok g c =
       was,
       (λ k. k),
       some_all _ _ (λ bytes. not_read bytes (seen refusals story held)
-          (is_device c.new.result.fault) (ap is_device c.new.ensures.fault) finished),
+          c.self.inside.intake.core.core (is_device c.new.result.fault)
+          (ap is_device c.new.ensures.fault) refl finished),
     ))
 
 pub returns-then-is_device-clause-ok : goal.returns-then-is_device-clause-ok
@@ -61,12 +64,14 @@ returns-then-is_device-clause-ok g c =
       (λ k. kept_place p (place c.read-read.new.self.core) [] c.self.inside.notes.items now set_id
           file (kept_grow p [] c.self.inside.notes.items held now front k)),
       some_at _ c.over-image.result.left _ _ c.over-image.ensures.unread
-          (λ bytes r. reeled place is_mounted (is_device c.in-Ok-read.answer.fault) c.mount.new.self
+          (λ bytes r. reeled place core_of is_mounted (is_device c.in-Ok-read.answer.fault)
+          c.mount.new.self
           c.read-read.new.self.core held now bytes p c.self.inside.notes.items
           c.self.inside.failures c.saturating_add-self-inside.result _ _
           c.mount.ensures.begins c.mount.ensures.place set_id file end.calm front
           (c.saturating_add-self-inside.ensures ∙ sym (ap (λ b. counted b
-          c.self.inside.failures) (sym c.is_device.ensures ∙ c.if-is_device.true))) r) reads,
+          c.self.inside.failures) (sym c.is_device.ensures ∙ c.if-is_device.true)))
+          (c.mount.ensures.table ∙ mount_rest c.self.inside.intake.core.core) refl r) reads,
     ))
 
 pub returns-else-is_device-clause-ok : goal.returns-else-is_device-clause-ok
@@ -94,12 +99,14 @@ returns-else-is_device-clause-ok g c =
       (λ k. kept_place p (place c.read-read.new.self.core) [] c.self.inside.notes.items now set_id
           file (kept_grow p [] c.self.inside.notes.items held now front k)),
       some_at _ c.over-image.result.left _ _ c.over-image.ensures.unread
-          (λ bytes r. reeled place is_mounted (is_device c.in-Ok-read.answer.fault) c.mount.new.self
+          (λ bytes r. reeled place core_of is_mounted (is_device c.in-Ok-read.answer.fault)
+          c.mount.new.self
           c.read-read.new.self.core held now bytes p c.self.inside.notes.items
           c.self.inside.failures c.self.inside.failures _ _
           c.mount.ensures.begins c.mount.ensures.place set_id file end.calm front
           (sym (ap (λ b. counted b c.self.inside.failures)
-          (sym c.is_device.ensures ∙ c.if-is_device.false))) r) reads,
+          (sym c.is_device.ensures ∙ c.if-is_device.false)))
+          (c.mount.ensures.table ∙ mount_rest c.self.inside.intake.core.core) refl r) reads,
     ))
 
 pub returns-in-Err-clause-err : goal.returns-in-Err-clause-err
@@ -121,13 +128,16 @@ returns-in-Err-clause-err g c =
     let end = c.in-Err.ensures in
     let set_id = end.set_id ∙ ap (λ (z : State). z.set_id) c.mount.ensures.place in
     let file = end.file ∙ ap (λ (z : State). z.file) c.mount.ensures.place in
-    let (now, has, front, refuses) = end.err held was in (
+    let (now, has, front, refuses, cuts) = end.err held was in (
       now,
       has,
       (λ k. kept_place p (place c.read-read.new.self.core) [] c.self.inside.notes.items now set_id
           file (kept_grow p [] c.self.inside.notes.items held now front k)),
       some_at _ c.over-image.result.left _ _ c.over-image.ensures.unread
-          (λ bytes r. cut_short place is_mounted c.mount.new.self c.read-read.new.self.core held now
+          (λ bytes (r, t). cut_short place is_mounted c.mount.new.self c.read-read.new.self.core
+          held now
           bytes p c.self.inside.notes.items c.self.inside.failures _ _
-          c.mount.ensures.begins c.mount.ensures.place set_id file end.cause front r) refuses,
+          c.mount.ensures.begins c.mount.ensures.place set_id file end.cause front
+          c.mount.new.self.core (c.mount.ensures.table ∙ mount_rest c.self.inside.intake.core.core)
+          t r) (some_both c.over-image.result.left _ _ refuses cuts),
     ))

@@ -1,0 +1,228 @@
+-- A step that ends at the file's end answers Complete.
+use Rattle.std.proofs.Common.{◌≡◌, ℕ, ◌+◌, Bool, true, false, List, Option, Some, None, Result, Ok}
+use Rattle.std.proofs.Common.{Err}
+use Rattle.std.proofs.Common.{refl, sym, ap, ◌∙◌}
+use Rattle.std.specs.Prelude.{if◌then◌else◌, not, nat_lt, ◌==◌}
+use Rattle.std.specs.Str.{bytes_eq}
+use Rattle.tape_label.specs.VolumeLabels.{is_volume_label}
+use Rattle.tape_core.specs.Labels.{other_file_id, other_shape, form_at}
+use Rattle.tape_image.specs.Tape.{TapeItem, block, bad, mark}
+use Rattle.tape_label.specs.declared.fault.LabelFault.{LabelFault}
+use Rattle.tape_label.specs.declared.values.Kind.{Kind}
+use Rattle.tape_label.specs.declared.values.Kind.TheVariants as kinds
+use Rattle.tape_label.specs.declared.values.Kind.TheVariants.{Vol1 as AVol1, Hdr1 as AHdr1}
+use Rattle.tape_label.specs.declared.values.Kind.TheVariants.{Hdr2 as AHdr2, Eof1 as AEof1}
+use Rattle.tape_label.specs.declared.values.Kind.TheVariants.{Eof2 as AEof2, Eov1 as AEov1}
+use Rattle.tape_label.specs.declared.values.Kind.TheVariants.{Eov2 as AEov2}
+use Rattle.tape_label.specs.declared.values.Head1.{Head1}
+use Rattle.tape_label.specs.declared.values.Head2.{Head2}
+use Rattle.tape_label.specs.declared.values.Trail1.{Trail1}
+use Rattle.tape_label.specs.Kinds.{kind_at}
+use Rattle.tape_label.specs.Reading.{head1_at, head2_at, trail1_at}
+use Rattle.tape_blocks.specs.declared.fault.BlockFault.{BlockFault}
+use Rattle.tape_blocks.specs.Judged.{judged}
+use Rattle.tape_set.specs.declared.position.Position.{Position}
+use Rattle.tape_set.specs.declared.position.Position.TheVariants.{Awaits, Finished}
+use Rattle.tape_set.specs.Position.{next_block, next_section, sect_of, block_of, part_of}
+use Rattle.tape_set.specs.Lawful.{FileForm, label_count, most_blocks}
+use Rattle.tape_core.specs.declared.answer.Answer.{Answer}
+use Rattle.tape_core.specs.declared.answer.Answer.TheVariants.{Complete}
+use Rattle.tape_core.specs.declared.phase.Heading.{Heading}
+use Rattle.tape_core.specs.declared.phase.Phase.{Phase}
+use Rattle.tape_core.specs.declared.phase.Phase.TheVariants.{Over, Broken, Volume, VolumeLabels}
+use Rattle.tape_core.specs.declared.phase.Phase.TheVariants.{Header2, Headers, DataPassed}
+use Rattle.tape_core.specs.declared.phase.Phase.TheVariants.{DataWanted, TrailerPassed}
+use Rattle.tape_core.specs.declared.phase.Phase.TheVariants.{TrailerWanted, Trailers, NextFile}
+use Rattle.tape_core.specs.State.{State}
+use Rattle.tape_core.specs.Parts.{begun_before, other_front}
+use Rattle.tape_core.specs.Table.{Outcome, first_label, at_head1, first_labels, at_head2}
+use Rattle.tape_core.specs.Table.{second_label, at_judged, at_awaited, at_data, at_bad_data}
+use Rattle.tape_core.specs.Table.{at_data_end, at_passed_trailer, at_end, at_wanted_trailer}
+use Rattle.tape_core.specs.Table.{at_block}
+use Rattle.tape_core.specs.Table.{at_mark, at_bad, at_reel_end, at_item, at_arrival}
+use Rattle.tape_core.specs.Table.{unless_complete, step_of, other_numbers}
+
+pub record Tells (out : Outcome) : Type 0 where
+  pub told : out.1.position ≡ Finished → out.0 ≡ Complete
+
+choose : (c : Bool) (x y : Outcome) → Tells x → Tells y → Tells (if c then x else y)
+choose true x y f g = f
+choose false x y f g = g
+
+module _ (core : State) (sect b part : ℕ) (waits : core.position ≡ Awaits sect b part) where
+  no : {out : Outcome} → out.1.position ≡ core.position → Tells out
+  no same = record {
+    told = λ e. absurd (let d : Awaits sect b part ≡ Finished = sym waits ∙ sym same ∙ e in cc);
+  }
+
+  no_block : {out : Outcome} → out.1.position ≡ next_block core.position → Tells out
+  no_block same = record {
+    told = λ e. absurd (let d : Awaits sect (b + 1) 0 ≡ Finished =
+        sym (ap next_block waits) ∙ sym same ∙ e in cc);
+  }
+
+  no_section : {out : Outcome} → out.1.position ≡ next_section core.position → Tells out
+  no_section same = record {
+    told = λ e. absurd (let d : Awaits (sect + 1) 0 0 ≡ Finished =
+        sym (ap next_section waits) ∙ sym same ∙ e in cc);
+  }
+
+  head1_tells : (h : Result Head1 LabelFault) → Tells (at_head1 core h)
+  head1_tells (Err fault) = (no refl)
+  head1_tells (Ok h) =
+      choose (not (bytes_eq h.set_id core.set_id)) _ _ (no refl)
+      (choose (nat_lt h.sequence core.file) _ _ (no refl)
+      (choose (nat_lt core.file h.sequence) _ _ (no refl)
+      (choose (nat_lt h.sect (sect_of core.position)) _ _ (no refl)
+      (choose (nat_lt (sect_of core.position) h.sect) _ _ (no refl)
+      (choose (other_file_id core.known h.file_id) _ _ (no refl) (no refl))))))
+
+  first_tells : (kind : Option Kind) → Tells (first_label core kind)
+  first_tells None = (no refl)
+  first_tells (Some AVol1) = (no refl)
+  first_tells (Some AHdr1) = (no refl)
+  first_tells (Some AHdr2) = (no refl)
+  first_tells (Some AEof1) = (no refl)
+  first_tells (Some AEof2) = (no refl)
+  first_tells (Some AEov1) = (no refl)
+  first_tells (Some AEov2) = (no refl)
+
+  labels_tell : (bytes : List ℕ) (kind : Option Kind) → Tells (first_labels core bytes kind)
+  labels_tell bytes None = (no refl)
+  labels_tell bytes (Some AVol1) = (no refl)
+  labels_tell bytes (Some AHdr1) = head1_tells (head1_at bytes)
+  labels_tell bytes (Some AHdr2) = (no refl)
+  labels_tell bytes (Some AEof1) = (no refl)
+  labels_tell bytes (Some AEof2) = (no refl)
+  labels_tell bytes (Some AEov1) = (no refl)
+  labels_tell bytes (Some AEov2) = (no refl)
+
+  head2_tells : (heading : Heading) (g : Result Head2 LabelFault) → Tells (at_head2 core heading g)
+  head2_tells heading (Err fault) = (no refl)
+  head2_tells heading (Ok g) = choose (other_shape core.known (form_at heading g)) _ _ (no refl)
+      (no refl)
+
+  second_tells : (heading : Heading) (wanted : Bool) (bytes : List ℕ) (kind : Option Kind)
+      → Tells (second_label core heading wanted bytes kind)
+  second_tells heading false bytes (Some AHdr2) = (no refl)
+  second_tells heading true bytes (Some AHdr2) = head2_tells heading (head2_at bytes)
+  second_tells heading true bytes None = (no refl)
+  second_tells heading true bytes (Some AVol1) = (no refl)
+  second_tells heading true bytes (Some AHdr1) = (no refl)
+  second_tells heading true bytes (Some AEof1) = (no refl)
+  second_tells heading true bytes (Some AEof2) = (no refl)
+  second_tells heading true bytes (Some AEov1) = (no refl)
+  second_tells heading true bytes (Some AEov2) = (no refl)
+  second_tells heading false bytes None = (no refl)
+  second_tells heading false bytes (Some AVol1) = (no refl)
+  second_tells heading false bytes (Some AHdr1) = (no refl)
+  second_tells heading false bytes (Some AEof1) = (no refl)
+  second_tells heading false bytes (Some AEof2) = (no refl)
+  second_tells heading false bytes (Some AEov1) = (no refl)
+  second_tells heading false bytes (Some AEov2) = (no refl)
+
+  judged_tells : (heading : Heading) (form : FileForm) (bytes : List ℕ) (r : Result Bool BlockFault)
+      → Tells (at_judged core heading form bytes r)
+  judged_tells heading form bytes (Err fault) = (no refl)
+  judged_tells heading form bytes (Ok end) =
+      choose (other_front form (part_of core.position) core.begun bytes) _ _ (no refl)
+      (no_block refl)
+
+  data_tells : (heading : Heading) (form : FileForm) (seen : ℕ) (bytes : List ℕ)
+      → Tells (at_data core heading form seen bytes)
+  data_tells heading form seen bytes =
+      choose (nat_lt seen (block_of core.position)) _ _ (no refl)
+      (choose (not (nat_lt (block_of core.position) most_blocks)) _ _ (no refl)
+      (judged_tells heading form bytes (judged form.format form.rec_len form.offset
+      (begun_before form (part_of core.position) core.begun bytes) bytes)))
+
+  passed_tells : (heading : Heading) (t : Result Trail1 LabelFault)
+      → Tells (at_passed_trailer core heading t)
+  passed_tells heading (Err fault) = (no refl)
+  passed_tells heading (Ok t) = choose (other_numbers heading t) _ _ (no refl) (no refl)
+
+  end_tells : (form : FileForm) (eof : Bool) → Tells (at_end core form eof)
+  end_tells form true = choose core.begun _ _ (no refl) (record { told = λ e. refl })
+  end_tells form false = choose (not (nat_lt (sect_of core.position) 9999)) _ _ (no refl)
+      (no_section refl)
+
+  wanted_tells : (heading : Heading) (form : FileForm) (t : Result Trail1 LabelFault)
+      → Tells (at_wanted_trailer core heading form t)
+  wanted_tells heading form (Err fault) = (no refl)
+  wanted_tells heading form (Ok t) = choose (other_numbers heading t) _ _ (no refl)
+      (choose (not (t.blocks == label_count (block_of core.position))) _ _ (no refl)
+      (end_tells form t.eof))
+
+  block_tells : (phase : Phase) (bytes : List ℕ) → Tells (at_block core phase bytes)
+  block_tells Over bytes = (no refl)
+  block_tells Broken bytes = (no refl)
+  block_tells Volume bytes = first_tells (kind_at bytes)
+  block_tells VolumeLabels bytes = choose (is_volume_label bytes) _ _ (no refl)
+      (labels_tell bytes (kind_at bytes))
+  block_tells (Header2 heading wanted) bytes = second_tells heading wanted bytes (kind_at bytes)
+  block_tells (Headers heading wanted) bytes = (no refl)
+  block_tells (DataPassed heading) bytes = (no refl)
+  block_tells (DataWanted heading form seen) bytes = data_tells heading form seen bytes
+  block_tells (TrailerPassed heading) bytes = passed_tells heading (trail1_at bytes)
+  block_tells (TrailerWanted heading form) bytes = wanted_tells heading form (trail1_at bytes)
+  block_tells Trailers bytes = (no refl)
+  block_tells NextFile bytes = head1_tells (head1_at bytes)
+
+  mark_tells : (phase : Phase) → Tells (at_mark core phase)
+  mark_tells Over = (no refl)
+  mark_tells Broken = (no refl)
+  mark_tells Volume = (no refl)
+  mark_tells VolumeLabels = (no refl)
+  mark_tells (Header2 heading wanted) = (no refl)
+  mark_tells (Headers heading wanted) = (no refl)
+  mark_tells (DataPassed heading) = (no refl)
+  mark_tells (DataWanted heading form seen) = choose (nat_lt seen (block_of core.position)) _ _
+      (no refl) (no refl)
+  mark_tells (TrailerPassed heading) = (no refl)
+  mark_tells (TrailerWanted heading form) = (no refl)
+  mark_tells Trailers = (no refl)
+  mark_tells NextFile = (no refl)
+
+  bad_tells : (phase : Phase) → Tells (at_bad core phase)
+  bad_tells Over = (no refl)
+  bad_tells Broken = (no refl)
+  bad_tells Volume = (no refl)
+  bad_tells VolumeLabels = (no refl)
+  bad_tells (Header2 heading wanted) = (no refl)
+  bad_tells (Headers heading wanted) = (no refl)
+  bad_tells (DataPassed heading) = (no refl)
+  bad_tells (DataWanted heading form seen) = choose (nat_lt seen (block_of core.position)) _ _
+      (no refl) (no refl)
+  bad_tells (TrailerPassed heading) = (no refl)
+  bad_tells (TrailerWanted heading form) = (no refl)
+  bad_tells Trailers = (no refl)
+  bad_tells NextFile = (no refl)
+
+  end_of_reel_tells : (phase : Phase) → Tells (at_reel_end core phase)
+  end_of_reel_tells Over = (no refl)
+  end_of_reel_tells Broken = (no refl)
+  end_of_reel_tells Volume = (no refl)
+  end_of_reel_tells VolumeLabels = (no refl)
+  end_of_reel_tells (Header2 heading wanted) = (no refl)
+  end_of_reel_tells (Headers heading wanted) = (no refl)
+  end_of_reel_tells (DataPassed heading) = (no refl)
+  end_of_reel_tells (DataWanted heading form seen) = (no refl)
+  end_of_reel_tells (TrailerPassed heading) = (no refl)
+  end_of_reel_tells (TrailerWanted heading form) = (no refl)
+  end_of_reel_tells Trailers = (no refl)
+  end_of_reel_tells NextFile = (no refl)
+
+  arrival_tells : (phase : Phase) (came : Option TapeItem) → Tells (at_arrival core phase came)
+  arrival_tells phase None = end_of_reel_tells phase
+  arrival_tells phase (Some (block bytes)) = block_tells phase bytes
+  arrival_tells phase (Some mark) = mark_tells phase
+  arrival_tells phase (Some bad) = bad_tells phase
+
+by_position : (core : State) (came : Option TapeItem) (p : Position) → core.position ≡ p
+    → Tells (unless_complete core p (at_arrival core core.phase came))
+by_position core came Finished e = record { told = λ f. refl }
+by_position core came (Awaits sect b part) e = arrival_tells core sect b part e core.phase came
+
+-- Where a step ends at the file's end it answers Complete.
+pub step_tells : (core : State) (came : Option TapeItem) → Tells (step_of core came)
+step_tells core came = by_position core came core.position refl

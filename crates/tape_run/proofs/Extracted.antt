@@ -1,0 +1,103 @@
+-- What is left where all images were read, or a fault ended that.
+use Rattle.std.proofs.Common.{◌≡◌, ℕ, ◌⊎◌, List, [], map, Option}
+use Rattle.std.proofs.Common.{None, refl, sym, ap, subst, ◌∙◌, inl}
+use Rattle.std.proofs.Common.{arith, append-nil}
+use Rattle.std.specs.Io.KnownBytes.{Appends}
+use Rattle.std.proofs.KnownBytes.{Appends-trans, Appends-nil}
+use Rattle.tape_blocks.specs.Block.{Portion}
+use Rattle.tape_set.specs.declared.position.Position.{Position}
+use Rattle.tape_set.specs.declared.position.Position.TheVariants.{Awaits, Finished}
+use Rattle.tape_set.specs.declared.position.Want.{Want}
+use Rattle.tape_set.specs.Position.{want_at}
+use Rattle.tape_run.specs.Seen.{seen}
+use Rattle.tape_run.specs.Story.{Story}
+use Rattle.tape_blocks.specs.declared.form.Form.{Form}
+use Rattle.tape_run.specs.Output.{AppendsFront}
+use Rattle.tape_run.specs.RecordText.{output_of}
+use Rattle.tape_run.specs.ReelLine.{reel_lines, last_line}
+use Rattle.tape_run.specs.Reeling.{answer_of, TakesAll, StopsReading}
+use Rattle.tape_run.specs.Extracting.{IsWritten, Extracts, Stops}
+use Rattle.tape_run.proofs.Fitting.{front_more, front_then}
+use Rattle.tape_run.proofs.Turns.{gathers}
+
+pub extracted : {S R : Type 0} (holds : S → List Portion → Type 0)
+    (refusals : S → ℕ) (remaining : R → Option (List ℕ)) (old mid : Story S)
+    (images lefts : List (Option R)) (form : Form)
+    (out written said between says : Option (List ℕ)) (want : Option Want) (records : ℕ)
+    → TakesAll holds refusals remaining old mid images lefts said between
+    → want ≡ want_at mid.core.file mid.core.position → Appends between says (last_line want records)
+    → ((held : List Portion) → holds mid.sink held → IsWritten want records form out written held)
+    → Extracts holds refusals remaining old images lefts form out written said says want
+extracted holds refusals remaining old mid images lefts form out written said between says want
+    records t is last wrote = record {
+      turns = t.turns;
+      are_turns = t.are_turns;
+      all = λ less. is ∙ ap (want_at mid.core.file) (t.all less);
+      records = records;
+      lines = Appends-trans said between says _ _ t.lines last;
+      ends = λ held was.
+          let (now, has, f) = t.follows held was in
+          record {
+            last = mid.core;
+            now = seen refusals mid now;
+            follows = f;
+            gathers =
+                gathers old.core (seen refusals old held) t.turns mid.core
+                (seen refusals mid now) f;
+            wanted = is;
+            is_written = wrote now has;
+          };
+    }
+
+pub stops_reading : {S W : Type 0} (holds : S → List Portion → Type 0)
+    (refusals : S → ℕ) (old : Story S) (form : Form) (contents : W → Option (List ℕ))
+    (out : W) (said says : Option (List ℕ))
+    → StopsReading holds refusals old said says
+    → Stops holds refusals old form contents out out said says
+stops_reading holds refusals old form contents out said says s = record {
+  turns = s.turns;
+  more = s.more;
+  few = s.few;
+  want = None;
+  records = 0;
+  lines = front_more said says _ (last_line None 0) s.lines;
+  follows = λ held was. let (core, now, f) = s.follows held was in (core, now, f, inl refl);
+}
+
+pub stops_at_end : {S R W : Type 0} (holds : S → List Portion → Type 0)
+    (refusals : S → ℕ) (remaining : R → Option (List ℕ)) (old mid : Story S)
+    (images lefts : List (Option R)) (form : Form)
+    (contents : W → Option (List ℕ)) (out written : W) (said between says : Option (List ℕ))
+    (want : Option Want) (records : ℕ)
+    → TakesAll holds refusals remaining old mid images lefts said between
+    → AppendsFront between says (last_line want records)
+    → ((held : List Portion) → holds mid.sink held → (written ≡ out) ⊎ ((mid.core.position
+    ≡ Finished) × AppendsFront (contents out) (contents written) (output_of form held)))
+    → Stops holds refusals old form contents out written said says
+stops_at_end holds refusals remaining old mid images lefts form contents out written said between
+    says want records t last wrote = record {
+      turns = t.turns;
+      more = [];
+      few = omega arith;
+      want = want;
+      records = records;
+      lines = front_then said between says _ (last_line want records)
+          (subst (λ l. Appends said between (reel_lines 1 l))
+          (sym (append-nil (map answer_of t.turns))) t.lines) last;
+      follows = λ held was.
+          let (now, has, f) = t.follows held was in
+          (mid.core, seen refusals mid now, f, wrote now has);
+    }
+
+-- no more was written
+pub nothing_more : (old : Option (List ℕ)) (text : List ℕ) → AppendsFront old old text
+nothing_more old text = ([], text, Appends-nil old, refl)
+
+-- all of the text was written
+pub all_of_it : (old new : Option (List ℕ)) (text : List ℕ) → Appends old new text
+    → AppendsFront old new text
+all_of_it old new text wrote = (text, [], wrote, sym (append-nil text))
+
+pub none_finished : (file : ℕ) (p : Position) → None ≡ want_at file p → p ≡ Finished
+none_finished file (Awaits sect block part) e = absurd (cc)
+none_finished file Finished e = refl

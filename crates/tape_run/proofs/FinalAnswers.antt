@@ -1,0 +1,243 @@
+-- Behind a final answer of a core nothing is delivered, and nothing that it keeps changes.
+use Rattle.std.proofs.Common.{◌≡◌, ℕ, ◌+◌, Bool, true, false, List, [], ◌∷◌, ◌++◌, Option, Some}
+use Rattle.std.proofs.Common.{None, Result, Ok, Err, refl, sym, ap, ◌∙◌, subst}
+use Rattle.std.specs.Prelude.{if◌then◌else◌, not, nat_lt, ◌==◌, ⊤}
+use Rattle.std.specs.Str.{bytes_eq}
+use Rattle.tape_label.specs.VolumeLabels.{is_volume_label}
+use Rattle.tape_core.specs.Labels.{other_file_id, other_shape, form_at}
+use Rattle.tape_blocks.specs.Block.{Portion}
+use Rattle.tape_image.specs.Tape.{TapeItem, block, bad, mark}
+use Rattle.tape_label.specs.declared.fault.LabelFault.{LabelFault}
+use Rattle.tape_label.specs.declared.values.Kind.{Kind}
+use Rattle.tape_label.specs.declared.values.Kind.TheVariants.{Vol1 as AVol1, Hdr1 as AHdr1}
+use Rattle.tape_label.specs.declared.values.Kind.TheVariants.{Hdr2 as AHdr2}
+use Rattle.tape_label.specs.declared.values.Head1.{Head1}
+use Rattle.tape_label.specs.declared.values.Head2.{Head2}
+use Rattle.tape_label.specs.declared.values.Trail1.{Trail1}
+use Rattle.tape_label.specs.Kinds.{kind_at}
+use Rattle.tape_label.specs.Reading.{head1_at, head2_at, trail1_at}
+use Rattle.tape_blocks.specs.declared.fault.BlockFault.{BlockFault}
+use Rattle.tape_blocks.specs.Judged.{judged}
+use Rattle.tape_set.specs.declared.position.Position.{Position}
+use Rattle.tape_set.specs.declared.position.Position.TheVariants.{Awaits, Finished}
+use Rattle.tape_set.specs.Position.{next_block, next_section, sect_of, block_of, part_of}
+use Rattle.tape_set.specs.Lawful.{FileForm, label_count, most_blocks}
+use Rattle.tape_core.specs.declared.answer.Answer.{Answer}
+use Rattle.tape_core.specs.declared.answer.Answer.TheVariants.{Passed, Deliver, Complete, Useless}
+use Rattle.tape_core.specs.declared.answer.Reason.{Reason}
+use Rattle.tape_core.specs.declared.phase.Heading.{Heading}
+use Rattle.tape_core.specs.declared.phase.Phase.{Phase}
+use Rattle.tape_core.specs.declared.phase.Phase.TheVariants.{Over, Broken, Volume, VolumeLabels}
+use Rattle.tape_core.specs.declared.phase.Phase.TheVariants.{Header2, Headers, DataPassed}
+use Rattle.tape_core.specs.declared.phase.Phase.TheVariants.{DataWanted, TrailerPassed}
+use Rattle.tape_core.specs.declared.phase.Phase.TheVariants.{TrailerWanted, Trailers, NextFile}
+use Rattle.tape_core.specs.State.{State}
+use Rattle.tape_core.specs.Parts.{begun_before, other_front}
+use Rattle.tape_core.specs.Follows.{IsFinal}
+use Rattle.tape_core.specs.Place.{rest_of}
+use Rattle.tape_core.specs.Table.{Outcome, passed, useless, broken, first_label, at_head1}
+use Rattle.tape_core.specs.Table.{first_labels}
+use Rattle.tape_core.specs.Table.{at_head2, second_label, at_judged, at_awaited, at_data}
+use Rattle.tape_core.specs.Table.{at_bad_data}
+use Rattle.tape_core.specs.Table.{at_data_end, at_passed_trailer, at_end, at_wanted_trailer}
+use Rattle.tape_core.specs.Table.{at_block}
+use Rattle.tape_core.specs.Table.{at_mark, at_bad, at_reel_end, at_item, at_arrival}
+use Rattle.tape_core.specs.Table.{unless_complete, step_of, other_numbers}
+use Rattle.tape_run.specs.Reels.{behind_items}
+use Rattle.tape_run.specs.ByTable.{parts_at, delivered_parts}
+
+-- no reading is under way
+abbrev pub IsIdle : Position → Phase → Type 0
+IsIdle Finished phase = ⊤
+IsIdle (Awaits sect b part) Over = ⊤
+IsIdle (Awaits sect b part) Broken = ⊤
+IsIdle (Awaits sect b part) _ = ⊥
+
+idle_over : (p : Position) → IsIdle p Over
+idle_over Finished = tt
+idle_over (Awaits sect b part) = tt
+
+idle_broken : (p : Position) → IsIdle p Broken
+idle_broken Finished = tt
+idle_broken (Awaits sect b part) = tt
+
+pub record Ends (out : Outcome) : Type 0 where
+  pub told : IsFinal out.0 → IsIdle out.1.position out.1.phase
+
+choose : (c : Bool) (x y : Outcome) → Ends x → Ends y → Ends (if c then x else y)
+choose true x y f g = f
+choose false x y f g = g
+
+module _ (core : State) where
+  ps : {phase : Phase} → Ends (passed core phase)
+  ps = record { told = λ f. absurd f }
+
+  us : {why : Reason} → Ends (useless core why)
+  us = record { told = λ f. idle_over core.position }
+
+  br : {why : Reason} → Ends (broken core why)
+  br = record { told = λ f. idle_broken core.position }
+
+  head1_ends : (h : Result Head1 LabelFault) → Ends (at_head1 core h)
+  head1_ends (Err fault) = us
+  head1_ends (Ok h) =
+      choose (not (bytes_eq h.set_id core.set_id)) _ _ us
+      (choose (nat_lt h.sequence core.file) _ _ ps
+      (choose (nat_lt core.file h.sequence) _ _ us
+      (choose (nat_lt h.sect (sect_of core.position)) _ _ us
+      (choose (nat_lt (sect_of core.position) h.sect) _ _ us
+      (choose (other_file_id core.known h.file_id) _ _ us ps)))))
+
+  first_ends : (kind : Option Kind) → Ends (first_label core kind)
+  first_ends (Some AVol1) = ps
+  first_ends _ = us
+
+  labels_end : (bytes : List ℕ) (kind : Option Kind) → Ends (first_labels core bytes kind)
+  labels_end bytes (Some AHdr1) = head1_ends (head1_at bytes)
+  labels_end bytes _ = us
+
+  head2_ends : (heading : Heading) (g : Result Head2 LabelFault) → Ends (at_head2 core heading g)
+  head2_ends heading (Err fault) = us
+  head2_ends heading (Ok g) = choose (other_shape core.known (form_at heading g)) _ _ us ps
+
+  second_ends : (heading : Heading) (wanted : Bool) (bytes : List ℕ) (kind : Option Kind)
+      → Ends (second_label core heading wanted bytes kind)
+  second_ends heading false bytes (Some AHdr2) = ps
+  second_ends heading true bytes (Some AHdr2) = head2_ends heading (head2_at bytes)
+  second_ends heading wanted bytes _ = us
+
+  judged_ends : (heading : Heading) (form : FileForm) (bytes : List ℕ) (r : Result Bool BlockFault)
+      → Ends (at_judged core heading form bytes r)
+  judged_ends heading form bytes (Err fault) = us
+  judged_ends heading form bytes (Ok end) =
+      choose (other_front form (part_of core.position) core.begun bytes) _ _ us
+      (record { told = λ f. absurd f })
+
+  data_ends : (heading : Heading) (form : FileForm) (seen : ℕ) (bytes : List ℕ)
+      → Ends (at_data core heading form seen bytes)
+  data_ends heading form seen bytes =
+      choose (nat_lt seen (block_of core.position)) _ _ ps
+      (choose (not (nat_lt (block_of core.position) most_blocks)) _ _ us
+      (judged_ends heading form bytes (judged form.format form.rec_len form.offset
+      (begun_before form (part_of core.position) core.begun bytes) bytes)))
+
+  passed_ends : (heading : Heading) (t : Result Trail1 LabelFault)
+      → Ends (at_passed_trailer core heading t)
+  passed_ends heading (Err fault) = us
+  passed_ends heading (Ok t) = choose (other_numbers heading t) _ _ us ps
+
+  end_ends : (form : FileForm) (eof : Bool) → Ends (at_end core form eof)
+  end_ends form true = choose core.begun _ _ us (record { told = λ f. tt })
+  end_ends form false = choose (not (nat_lt (sect_of core.position) 9999)) _ _ us
+      (record { told = λ f. idle_over (next_section core.position) })
+
+  wanted_ends : (heading : Heading) (form : FileForm) (t : Result Trail1 LabelFault)
+      → Ends (at_wanted_trailer core heading form t)
+  wanted_ends heading form (Err fault) = us
+  wanted_ends heading form (Ok t) = choose (other_numbers heading t) _ _ us
+      (choose (not (t.blocks == label_count (block_of core.position))) _ _ br (end_ends form t.eof))
+
+  block_ends : (phase : Phase) (bytes : List ℕ) → Ends (at_block core phase bytes)
+  block_ends Over bytes = us
+  block_ends Broken bytes = br
+  block_ends Volume bytes = first_ends (kind_at bytes)
+  block_ends VolumeLabels bytes = choose (is_volume_label bytes) _ _ ps
+      (labels_end bytes (kind_at bytes))
+  block_ends (Header2 heading wanted) bytes = second_ends heading wanted bytes (kind_at bytes)
+  block_ends (Headers heading wanted) bytes = ps
+  block_ends (DataPassed heading) bytes = ps
+  block_ends (DataWanted heading form seen) bytes = data_ends heading form seen bytes
+  block_ends (TrailerPassed heading) bytes = passed_ends heading (trail1_at bytes)
+  block_ends (TrailerWanted heading form) bytes = wanted_ends heading form (trail1_at bytes)
+  block_ends Trailers bytes = ps
+  block_ends NextFile bytes = head1_ends (head1_at bytes)
+
+  mark_ends : (phase : Phase) → Ends (at_mark core phase)
+  mark_ends Over = us
+  mark_ends Broken = br
+  mark_ends Volume = us
+  mark_ends VolumeLabels = us
+  mark_ends (Header2 heading wanted) = us
+  mark_ends (Headers heading wanted) = ps
+  mark_ends (DataPassed heading) = ps
+  mark_ends (DataWanted heading form seen) = choose (nat_lt seen (block_of core.position)) _ _ us ps
+  mark_ends (TrailerPassed heading) = us
+  mark_ends (TrailerWanted heading form) = us
+  mark_ends Trailers = ps
+  mark_ends NextFile = us
+
+  bad_ends : (phase : Phase) → Ends (at_bad core phase)
+  bad_ends Broken = br
+  bad_ends (DataPassed heading) = ps
+  bad_ends (DataWanted heading form seen) = choose (nat_lt seen (block_of core.position)) _ _ ps us
+  bad_ends _ = us
+
+  item_ends : (phase : Phase) (x : TapeItem) → Ends (at_item core phase x)
+  item_ends phase (block bytes) = block_ends phase bytes
+  item_ends phase mark = mark_ends phase
+  item_ends phase bad = bad_ends phase
+
+by_position : (core : State) (x : TapeItem) (p : Position) → core.position ≡ p
+    → Ends (unless_complete core p (at_item core core.phase x))
+by_position core x Finished e =
+    record { told = λ f. subst (λ (p : Position). IsIdle p core.phase) (sym e) tt }
+by_position core x (Awaits sect b part) e = item_ends core core.phase x
+
+-- behind a final answer no reading is under way
+pub step_ends : (core : State) (x : TapeItem) → Ends (step_of core (Some x))
+step_ends core x = by_position core x core.position refl
+
+-- ---- where no reading is under way
+
+pub record Stays (core : State) (x : TapeItem) : Type 0 where
+  pub rest : rest_of (step_of core (Some x)).1 ≡ rest_of core
+  pub idle : IsIdle (step_of core (Some x)).1.position (step_of core (Some x)).1.phase
+  pub none : parts_at core x ≡ []
+
+idle_at : (set_id : List ℕ) (file : ℕ) (p : Position) (begun : Bool) (known : Option FileForm)
+    (phase : Phase) (x : TapeItem) → IsIdle p phase
+    → Stays (record {
+      set_id = set_id;
+      file = file;
+      position = p;
+      begun = begun;
+      known = known;
+      phase = phase;
+    }) x
+idle_at set_id file Finished begun known phase x h =
+    record { rest = refl; idle = tt; none = refl }
+idle_at set_id file (Awaits sect b part) begun known Over (block bytes) h =
+    record { rest = refl; idle = tt; none = refl }
+idle_at set_id file (Awaits sect b part) begun known Over mark h =
+    record { rest = refl; idle = tt; none = refl }
+idle_at set_id file (Awaits sect b part) begun known Over bad h =
+    record { rest = refl; idle = tt; none = refl }
+idle_at set_id file (Awaits sect b part) begun known Broken (block bytes) h =
+    record { rest = refl; idle = tt; none = refl }
+idle_at set_id file (Awaits sect b part) begun known Broken mark h =
+    record { rest = refl; idle = tt; none = refl }
+idle_at set_id file (Awaits sect b part) begun known Broken bad h =
+    record { rest = refl; idle = tt; none = refl }
+idle_at set_id file (Awaits sect b part) begun known _ x h = absurd h
+
+idle_step : (core : State) (x : TapeItem) → IsIdle core.position core.phase → Stays core x
+idle_step core x h = idle_at core.set_id core.file core.position core.begun core.known core.phase x
+    h
+
+-- no items change what is kept, and none delivers
+pub idle_items : (xs : List TapeItem) (core : State) → IsIdle core.position core.phase
+    → (rest_of (behind_items core xs) ≡ rest_of core) × (delivered_parts core xs ≡ [])
+idle_items [] core h = (refl, refl)
+idle_items (x ∷ xs) core h =
+    let s = idle_step core x h in
+    let (rest, none) = idle_items xs (step_of core (Some x)).1 s.idle in (
+      rest ∙ s.rest,
+      ap (λ (l : List Portion). l ++ delivered_parts (step_of core (Some x)).1 xs) s.none ∙ none,
+    )
+
+-- the same behind a final answer
+pub behind_final : (mid new : State) (x : TapeItem) (answer : Answer) (more : List TapeItem)
+    → (answer, new) ≡ step_of mid (Some x) → IsFinal answer
+    → (rest_of (behind_items new more) ≡ rest_of new) × (delivered_parts new more ≡ [])
+behind_final mid new x answer more step final =
+    idle_items more new ((subst Ends (sym step) (step_ends mid x)).told final)

@@ -1,0 +1,54 @@
+-- Faults, and fronts of texts, in the forms in which answers meet them.
+use Rattle.std.proofs.Common.{◌≡◌, ℕ, Bool, true, false, List, [], ◌++◌, Option, Result, Ok, Err}
+use Rattle.std.proofs.Common.{OnErr, Some, None, refl, sym, ap, ◌∙◌, append_assoc, append-nil}
+use Rattle.std.specs.Prelude.{if◌then◌else◌}
+use Rattle.std.specs.Io.KnownBytes.{Appends, Keeps}
+use Rattle.std.proofs.KnownBytes.{Appends-trans, Appends-nil}
+use Rattle.tape_run.specs.Output.{AppendsFront}
+
+pub on_err : {T E : Type 0} (r : Result T E) (P : Type 0) → P → OnErr r P
+on_err (Ok x) P p = tt
+on_err (Err e) P p = p
+
+pub on_err_map : {T E : Type 0} (r : Result T E) (P Q : Type 0) → (P → Q) → OnErr r P → OnErr r Q
+on_err_map (Ok x) P Q f h = tt
+on_err_map (Err e) P Q f h = f h
+
+-- a front of a text is one of the text and more
+pub front_more : (old new : Option (List ℕ)) (text more : List ℕ) → AppendsFront old new text
+    → AppendsFront old new (text ++ more)
+front_more old new text more (front, rest, wrote, all) =
+    (front, rest ++ more, wrote, ap (λ t. t ++ more) all ∙ append_assoc front rest more)
+
+-- a text was written, and a front of more
+pub front_then : (old mid new : Option (List ℕ)) (text more : List ℕ) → Appends old mid text
+    → AppendsFront mid new more → AppendsFront old new (text ++ more)
+front_then old mid new text more first (front, rest, wrote, all) = (
+  text ++ front,
+  rest,
+  Appends-trans old mid new text front first wrote,
+  ap (λ t. text ++ t) all ∙ sym (append_assoc text front rest),
+)
+
+-- what stands behind a part that ends its record
+pub end_behind : (b : Bool) (end : List ℕ) → b ≡ false → (if b then [] else end) ≡ end
+end_behind true end e = absurd (cc)
+end_behind false end e = refl
+
+-- the writer holds the same bytes
+pub kept : (old mid new : Option (List ℕ)) (bytes : List ℕ) → Appends old mid bytes → Keeps mid new
+    → Appends old new bytes
+kept None mid new bytes a b = tt
+kept (Some xs) None new bytes a b = absurd a
+kept (Some xs) (Some ys) None bytes a b = absurd b
+kept (Some xs) (Some ys) (Some zs) bytes a b = b ∙ a
+
+-- all of the text was written, and no more
+pub whole_front : (old mid new : Option (List ℕ)) (text : List ℕ) → Appends old mid text
+    → Keeps mid new → AppendsFront old new text
+whole_front old mid new text wrote keeps =
+    (text, [], kept old mid new text wrote keeps, sym (append-nil text))
+
+-- no more was written
+pub no_front : (mid new : Option (List ℕ)) → Keeps mid new → AppendsFront mid new []
+no_front mid new keeps = ([], [], kept mid mid new [] (Appends-nil mid) keeps, refl)

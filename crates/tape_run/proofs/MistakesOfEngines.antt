@@ -1,0 +1,164 @@
+-- Answers that the contracts of the engines exclude: each is what a wrong body would give.
+use Rattle.std.proofs.Common.{◌≡◌, ℕ, List, [], ◌∷◌, ◌++◌, length, true, false, refl}
+use Rattle.std.proofs.Common.{ap, ◌∙◌, subst, arith, codes}
+use Rattle.std.specs.Prelude.{Option, Some, None, Ok, slice_index, map, option_map, ◌<◌}
+use Rattle.std.specs.Fmt.{digits}
+use Rattle.std.specs.Io.KnownBytes.{Appends}
+use Rattle.tape_core.specs.State.{State}
+use Rattle.tape_set.specs.declared.position.Position.TheVariants.{Finished}
+use Rattle.tape_set.specs.declared.position.Want.{Want}
+use Rattle.tape_run.specs.Seen.{Seen}
+use Rattle.tape_run.specs.declared.section.ImageLine.{ImageLine}
+use Rattle.tape_run.specs.Lacks.{found_all}
+use Rattle.tape_run.specs.Passing.{Told}
+use Rattle.tape_run.specs.CheckLine.{image_lines}
+use Rattle.tape_run.specs.Checked.{AreRead, Reports, IsReport, summary}
+use Rattle.tape_run.specs.ReelLine.{reel_lines, last_line}
+use Rattle.tape_run.specs.Reeling.{Turn, answer_of, AreTurns, Follows}
+use Rattle.tape_run.proofs.check.check_to.Reads as check_to
+use Rattle.tape_run.proofs.extract.extract_to.Reads as extract_to
+
+-- ---- getting a file back
+
+-- partial_output_written: something is wanted still, and the output is another than before
+partial_output_written : (S : _) (R : _) (W : _) (P : _) (LS : _) (LR : _) (LW : _) (LP : _) (g :
+    _) (d : _)
+    (g' : _) (d' : _) (h : _) (e : _) (w : _) (f : _) (p : _) (i : _) (j : _) (κs : _) (a : _)
+    (want : _) (s : _)
+    → extract_to.Learnt-named S R W P LS LR LW LP g d g' d' h e w f p i j κs a (Ok (Some want)) s
+    → (s.1.1.1.0.now ≡ a.1.1.1.0.now → ⊥) → ⊥
+partial_output_written S R W P LS LR LW LP g d g' d' h e w f p i j κs a want s l other =
+    other (l.untouched (λ n. absurd (cc)))
+
+-- output_flushed_while_something_is_wanted: the same of an output that is flushed, which makes
+-- another writer of it
+output_flushed_while_something_is_wanted : (S : _) (R : _) (W : _) (P : _) (LS : _) (LR : _) (LW :
+    _)
+    (LP : _) (g : _) (d : _) (g' : _) (d' : _) (h : _) (e : _) (w : _) (f : _) (p : _) (i : _)
+    (j : _) (κs : _) (a : _) (want : _) (s : _)
+    → extract_to.Learnt-named S R W P LS LR LW LP g d g' d' h e w f p i j κs a (Ok (Some want)) s
+    → (s.1.1.1.0.now ≡ a.1.1.1.0.now → ⊥) → ⊥
+output_flushed_while_something_is_wanted = partial_output_written
+
+-- of one image some was read, unless nothing is wanted
+one_turn : (turns : List Turn) {R : Type 0} (remaining : R → Option (List ℕ)) (lefts : List (Option
+    R))
+    (want : Want) → AreTurns remaining (None ∷ []) lefts turns → (length turns < 1 → Some want ≡
+    None)
+    → map answer_of turns ≡ None ∷ []
+one_turn [] remaining lefts want h all = absurd (let n : Some want ≡ None = all (omega arith) in cc)
+one_turn (None ∷ []) remaining lefts want h all = refl
+one_turn (None ∷ t ∷ turns) remaining [] want h all = absurd h
+one_turn (None ∷ t ∷ turns) remaining (l ∷ lefts) want h all = absurd h.1
+one_turn (Some o ∷ turns) remaining [] want h all = absurd h
+one_turn (Some o ∷ turns) remaining (None ∷ lefts) want h all = absurd h.0
+one_turn (Some o ∷ turns) remaining (Some l ∷ lefts) want h all = absurd h.0
+
+-- reels_counted_from_0: the one image, which was not opened, is told as reel 0
+reels_counted_from_0 : (S : _) (R : _) (W : _) (P : _) (LS : _) (LR : _) (LW : _) (LP : _) (g : _)
+    (d : _) (g' : _) (d' : _) (h : _) (e : _) (w : _) (f : _) (p : _) (i : _) (j : _) (κs : _)
+    (a : _) (want : _) (s : _) (text : List ℕ)
+    → extract_to.Learnt-named S R W P LS LR LW LP g d g' d' h e w f p i j κs a (Ok (Some want)) s
+    → a.1.0.now ≡ None ∷ [] → p.contents a.1.1.1.1.0.now ≡ Some []
+    → p.contents s.1.1.1.1.0.now ≡ Some (codes "REEL 0 NOT OPENED\n" ++ text) → ⊥
+unfolding digits
+reels_counted_from_0 S R W P LS LR LW LP g d g' d' h e w f p i j κs a want s text l one old new =
+    let answers : map answer_of l.ok.turns ≡ None ∷ [] = one_turn l.ok.turns h.remaining s.1.0.now
+    want
+    (subst (λ v. AreTurns h.remaining v s.1.0.now l.ok.turns) one l.ok.are_turns)
+    (subst (λ (v : List _). length l.ok.turns < length v → Some want ≡ None) one l.ok.all) in
+    let lines : List ℕ = reel_lines 1 (map answer_of l.ok.turns) ++ last_line (Some want)
+    l.ok.records in
+    let r : Appends (Some []) (Some (codes "REEL 0 NOT OPENED\n" ++ text)) lines
+    = subst (λ v. Appends (Some []) v lines) new
+    (subst (λ v. Appends v (p.contents s.1.1.1.1.0.now) lines) old l.ok.lines) in
+    absurd (let n : 48 ≡ 49 = ap (λ v. slice_index v 5)
+    (r ∙ ap (λ v. reel_lines 1 v ++ last_line (Some want) l.ok.records) answers) in omega arith)
+
+-- a session of a complete file reads nothing
+no_turn : (turns : List Turn) (core : State) (old : Seen) (last : State) (now : Seen)
+    → Follows core old turns last now → core.position ≡ Finished → turns ≡ []
+no_turn [] core old last now h over = refl
+no_turn (None ∷ turns) core old last now h over = absurd (h.0 over)
+no_turn (Some o ∷ turns) core old last now h over = absurd (h.2.waits over)
+
+-- image_read_behind_the_completing_one: the file is complete, and a reel is read and told
+image_read_behind_the_completing_one : (S : _) (R : _) (W : _) (P : _) (LS : _) (LR : _) (LW : _)
+    (LP : _) (g : _) (d : _) (g' : _) (d' : _) (h : _) (e : _) (w : _) (f : _) (p : _) (i : _)
+    (j : _) (κs : _) (a : _) (s : _) (held : _) (text : List ℕ)
+    → extract_to.Learnt-named S R W P LS LR LW LP g d g' d' h e w f p i j κs a (Ok None) s
+    → a.0.core.position ≡ Finished → g'.holds a.0.sink held
+    → p.contents a.1.1.1.1.0.now ≡ Some []
+    → p.contents s.1.1.1.1.0.now ≡ Some (codes "REEL 1 COMPLETE\n" ++ text) → ⊥
+image_read_behind_the_completing_one S R W P LS LR LW LP g d g' d' h e w f p i j κs a s held text
+    l over holds old new =
+    let ends = l.ok.ends held holds in
+    let none : l.ok.turns ≡ []
+    = no_turn l.ok.turns a.0.core _ ends.last ends.now ends.follows over in
+    let lines : List ℕ = reel_lines 1 (map answer_of l.ok.turns) ++ last_line None l.ok.records in
+    let r : Appends (Some []) (Some (codes "REEL 1 COMPLETE\n" ++ text)) lines
+    = subst (λ v. Appends (Some []) v lines) new
+    (subst (λ v. Appends v (p.contents s.1.1.1.1.0.now) lines) old l.ok.lines) in
+    absurd (let n : 82 ≡ 67 = ap (λ v. slice_index v 0)
+    (r ∙ ap (λ v. reel_lines 1 (map answer_of v) ++ last_line None l.ok.records) none) in omega
+    arith)
+
+-- ---- what is on reels
+
+-- the report of an image that was not opened
+report_of_none : (lines : List (Option ImageLine)) (sections : List Told)
+    → AreRead (None ∷ []) lines [] sections → (lines ≡ None ∷ []) × (sections ≡ [])
+report_of_none [] sections h = absurd h
+report_of_none (None ∷ []) sections h = (refl, h.2 ∙ h.1)
+report_of_none (None ∷ line ∷ lines) sections h = absurd h.2
+report_of_none (Some line ∷ lines) sections h = absurd h.1
+
+-- the text of that report
+text_of_none : {R : Type 0} (remaining : R → Option (List ℕ)) (images : List (Option R)) (old : _)
+    (new text : List ℕ) (contents : Option (List ℕ)) (found : _)
+    → Reports (map (option_map remaining) images) old contents found → images ≡ None ∷ []
+    → old ≡ Some [] → contents ≡ Some text
+    → (text ≡ codes "IMAGE 1 0 NOT OPENED\n") × (found ≡ false)
+unfolding digits
+text_of_none remaining images old new text contents found h one first last =
+    let rep : IsReport (None ∷ []) h.0 found
+    = subst (λ v. IsReport (map (option_map remaining) v) h.0 found) one h.1 in
+    let two = report_of_none rep.lines rep.sections rep.read in
+    let t : text ≡ h.0 = subst (λ v. Appends (Some []) v h.0) last
+    (subst (λ v. Appends v contents h.0) first h.2) in (
+      t ∙ rep.told ∙ ap (λ v. image_lines 1 v ++ summary rep.sections) two.0
+          ∙ ap (λ v. image_lines 1 (None ∷ []) ++ summary v) two.1,
+      rep.all ∙ ap found_all two.1,
+    )
+
+-- images_left_unread: an image is named, and the report has no line for it
+images_left_unread : (R : _) (P : _) (LR : _) (LP : _) (g : _) (d : _) (h : _) (i : _) (j : _) (κs
+    : _)
+    (a : _) (found : _) (s : _)
+    → check_to.Learnt-named R P LR LP g d h i j κs a (Ok found) s → a.1.0.now ≡ None ∷ []
+    → h.contents a.1.1.0.now ≡ Some [] → h.contents s.1.1.0.now ≡ Some [] → ⊥
+images_left_unread R P LR LP g d h i j κs a found s l one old new =
+    absurd (let n : 0 ≡ 21 = ap length
+    (text_of_none g.remaining a.1.0.now _ [] [] _ found l.ok one old new).0 in omega arith)
+
+-- images_numbered_from_0: the first image is told as image 0
+images_numbered_from_0 : (R : _) (P : _) (LR : _) (LP : _) (g : _) (d : _) (h : _) (i : _) (j : _)
+    (κs : _) (a : _) (found : _) (s : _)
+    → check_to.Learnt-named R P LR LP g d h i j κs a (Ok found) s → a.1.0.now ≡ None ∷ []
+    → h.contents a.1.1.0.now ≡ Some []
+    → h.contents s.1.1.0.now ≡ Some (codes "IMAGE 0 0 NOT OPENED\n") → ⊥
+images_numbered_from_0 R P LR LP g d h i j κs a found s l one old new =
+    absurd (let n : 48 ≡ 49 = ap (λ v. slice_index v 6)
+    (text_of_none g.remaining a.1.0.now _ [] (codes "IMAGE 0 0 NOT OPENED\n") _ found l.ok one old
+    new).0
+    in omega arith)
+
+-- nothing_met_is_all_found: no image was opened, and it is answered that nothing lacks
+nothing_met_is_all_found : (R : _) (P : _) (LR : _) (LP : _) (g : _) (d : _) (h : _) (i : _) (j : _)
+    (κs : _) (a : _) (s : _) (text : List ℕ)
+    → check_to.Learnt-named R P LR LP g d h i j κs a (Ok true) s → a.1.0.now ≡ None ∷ []
+    → h.contents a.1.1.0.now ≡ Some [] → h.contents s.1.1.0.now ≡ Some text → ⊥
+nothing_met_is_all_found R P LR LP g d h i j κs a s text l one old new =
+    let n : true ≡ false
+    = (text_of_none g.remaining a.1.0.now _ [] text _ true l.ok one old new).1 in
+    absurd (cc)

@@ -1,0 +1,216 @@
+-- Answers that the contracts of a session exclude where it saves, where it is complete and where a
+-- trailer counts other blocks: each is what a wrong body would give.
+use Rattle.std.proofs.Common.{◌≡◌, inl, inr, ℕ, List, [], ◌∷◌, ◌++◌, length, false, refl, sym, ap}
+use Rattle.std.proofs.Common.{◌∙◌, subst, arith}
+use Rattle.std.specs.Prelude.{Option, Some, None, Ok, Err, IfSome, map}
+use Rattle.tape_blocks.specs.Block.{Portion}
+use Rattle.tape_image.specs.declared.fault.ImageFault.{ImageFault}
+use Rattle.tape_image.specs.Begins.{Begins, Stop}
+use Rattle.tape_image.specs.Tape.{TapeItem}
+use Rattle.tape_set.specs.declared.position.Position.{Position}
+use Rattle.tape_set.specs.declared.position.Position.TheVariants.{Awaits, Finished}
+use Rattle.tape_set.specs.Before.{before}
+use Rattle.tape_set.specs.Layout.{FileSet}
+use Rattle.tape_set.specs.Position.{block_of}
+use Rattle.tape_core.specs.declared.answer.Answer.TheVariants.{Complete, SectionDone, Useless}
+use Rattle.tape_core.specs.declared.answer.Reason.{Reason}
+use Rattle.tape_core.specs.declared.answer.Reason.TheVariants.{BlockCount}
+use Rattle.tape_core.specs.declared.phase.Phase.TheVariants.{Broken, Over}
+use Rattle.tape_core.specs.declared.sink.SinkFault.TheVariants.{Device}
+use Rattle.tape_core.specs.Follows.{IsFinal}
+use Rattle.tape_core.specs.Place.{rest_of, resting}
+use Rattle.tape_core.specs.Point.{Point}
+use Rattle.tape_core.specs.State.{State}
+use Rattle.tape_core.specs.Table.{step_of, mount_of, mounted}
+use Rattle.tape_run.specs.declared.fault.RunFault.TheVariants as faults
+use Rattle.tape_run.specs.declared.script.Step.TheVariants.{Save}
+use Rattle.tape_run.specs.Given as given
+use Rattle.tape_run.specs.Given.{IsGiven}
+use Rattle.tape_run.specs.Headline.{HasRestart}
+use Rattle.tape_run.specs.Reels.{behind_items}
+use Rattle.tape_run.specs.Runs.{Runs}
+use Rattle.tape_run.specs.Seen.{Seen, seen, IsSession, KeepsNotes}
+use Rattle.tape_run.specs.Steps.{Reeled}
+use Rattle.tape_run.proofs.ByTable.{behind_app}
+use Rattle.tape_run.proofs.Completes.{step_tells}
+use Rattle.tape_run.proofs.FinalAnswers.{IsIdle, step_ends, idle_items}
+use Rattle.tape_run.proofs.script.run.Reads as run
+use Rattle.tape_run.proofs.session.Session.reel.Reads as reel
+use Rattle.tape_run.proofs.session.Session.save.Reads as save
+
+-- ---- a checkpoint is saved
+
+-- save_tells_no_sink: the sink was not told of block 5, and after a crash it comes back with the
+-- start of the file
+save_tells_no_sink : (S : _) (LS : _) (g : _) (d : _) (κs : _) (a : _) (point : _) (s : _)
+    (held there : List Portion) (older : Point) → save.Learnt-named S LS g d κs a (Ok point) s
+    → g.holds a.0.now.sink held → point.position ≡ Awaits 1 5 0
+    → g.returns s.0.now.sink older there → older.position ≡ Awaits 1 0 0 → ⊥
+save_tells_no_sink S LS g d κs a point s held there older l was five back start =
+    let e : older ≡ point = (l.kept held was older there back).0 in
+    let n : 0 ≡ 5 = ap block_of (sym start ∙ ap (λ c. c.position) e ∙ five) in
+    absurd (omega (arith, n))
+
+-- list_grows_behind_keep: there is no memory for the note, and the sink comes back with what it was
+-- told before
+list_grows_behind_keep : (S : _) (LS : _) (g : _) (d : _) (κs : _) (a : _) (s : _)
+    (held : List Portion) (told : Point)
+    → save.Learnt-named S LS g d κs a (Err faults.OutOfMemory) s
+    → g.returns s.0.now.sink told held → (g.returns a.0.now.sink told held → ⊥) → ⊥
+list_grows_behind_keep S LS g d κs a s held told l now none =
+    none (subst (λ sink. g.returns sink told held) (l.memory refl) now)
+
+-- checkpoint_that_does_not_stand: a part was delivered, and the checkpoint tells a position that
+-- has none before it
+checkpoint_that_does_not_stand : (S : _) (LS : _) (g : _) (d : _) (κs : _) (a : _) (point : _)
+    (s : _) (set : FileSet) (part : Portion) → save.Learnt-named S LS g d κs a (Ok point) s
+    → g.holds a.0.now.sink (part ∷ [])
+    → IsSession set (seen g.refusals a.0.now (part ∷ []))
+    → before set a.0.now.core.file point.position ≡ [] → ⊥
+checkpoint_that_does_not_stand S LS g d κs a point s set part l was session start =
+    let n : 1 ≡ 0 = ap length ((l.stands set (part ∷ []) was session).all ∙ start) in
+    absurd (omega (arith, n))
+
+-- a sink of which this is said holds one list of parts, as a sink in memory does
+abbrev HoldsOne : (List Portion → Type 0) → Type 0
+HoldsOne holds = (xs ys : List Portion) → holds xs → holds ys → xs ≡ ys
+
+-- where the one step is a save that the sink refused, the parts are as before
+as_before : (old new : Seen) (left : List (Option (List ℕ)))
+    → Runs old (Save ∷ []) left (Err (faults.Sink Device)) new → new.parts ≡ old.parts
+as_before old new left (inl (mid, saved, runs)) = absurd (cc (runs.0))
+as_before old new left (inr (faults.Sink cause, e, why)) = why.0.parts
+as_before old new left (inr (faults.NoSuchPoint, e, why)) = absurd why
+as_before old new left (inr (faults.TooFewReels, e, why)) = absurd why
+as_before old new left (inr (faults.OutOfMemory, e, why)) = ap (λ s. s.parts) why
+as_before old new left (inr (faults.OtherFile, e, why)) = absurd why
+
+-- refused_save_loses_the_parts: the disk of the sink failed in a save, and the part that it held is
+-- gone
+refused_save_loses_the_parts : (S : _) (R : _) (LS : _) (LR : _) (g : _) (d : _) (h : _) (e : _)
+    (κs : _) (a : _) (s : _) (part : Portion)
+    → run.Learnt-named S R LS LR g d h e κs a (Err (faults.Sink Device)) s
+    → g.holds a.0.now.sink (part ∷ []) → a.0.now.notes ≡ [] → a.1.0.now ≡ Save ∷ []
+    → HoldsOne (g.holds s.0.now.sink) → g.holds s.0.now.sink [] → ⊥
+refused_save_loses_the_parts S R LS LR g d h e κs a s part l was fresh one alone gone =
+    let held : List Portion = part ∷ [] in
+    let kept : KeepsNotes (rest_of a.0.now.core) [] a.0.now.notes held
+    = subst (λ v. KeepsNotes (rest_of a.0.now.core) [] v held) (sym fresh) (held, refl) in
+    let r = l.faults held was kept in
+    let old : Seen = seen g.refusals a.0.now held in
+    let new : Seen = seen g.refusals s.0.now r.0 in
+    let left : List (Option (List ℕ)) = map h.remaining a.1.1.0.now in
+    let same : r.0 ≡ held = as_before old new left
+    (subst (λ v. Runs old v left (Err (faults.Sink Device)) new) one r.3) in
+    let now : g.holds s.0.now.sink r.0 = r.1 (λ back. absurd (subst HasRestart one back)) in
+    let n : 0 ≡ 1 = ap length (alone [] r.0 gone now ∙ same) in
+    absurd (omega (arith, n))
+
+-- ---- what a reel answers
+
+-- complete_while_something_is_wanted: Complete is answered, and block 3 is awaited
+complete_while_something_is_wanted : (S : _) (R : _) (LS : _) (LR : _) (g : _) (d : _) (h : _)
+    (e : _) (κs : _) (a : _) (answer : _) (s : _)
+    → reel.Learnt-named S R LS LR g d h e κs a (Ok answer) s
+    → answer.answer ≡ Complete → s.0.now.core.position ≡ Awaits 1 3 0 → ⊥
+complete_while_something_is_wanted S R LS LR g d h e κs a answer s l told waits =
+    let f : Awaits 1 3 0 ≡ Finished = sym waits ∙ l.complete told in
+    absurd (cc f)
+
+-- finished_told_as_something_else: the file is complete behind the reel, and it is told that a
+-- section is
+finished_told_as_something_else : (S : _) (R : _) (LS : _) (LR : _) (g : _) (d : _) (h : _)
+    (e : _) (κs : _) (a : _) (answer : _) (s : _)
+    → reel.Learnt-named S R LS LR g d h e κs a (Ok answer) s
+    → s.0.now.core.position ≡ Finished → answer.answer ≡ SectionDone → ⊥
+finished_told_as_something_else S R LS LR g d h e κs a answer s l end told =
+    let f : SectionDone ≡ Complete = sym told ∙ l.finished end in
+    absurd (cc f)
+
+-- ---- a trailer that counts other blocks
+
+-- where a reel that was read without a fault leads: where the table does, over all its items
+led_to : (old new : Seen) (bytes : List ℕ) (xs : List TapeItem) (end : ℕ) (stop : Stop)
+    (fault : Option ImageFault) → Reeled bytes (given.is_device fault) old new → fault ≡ None
+    → Begins 0 bytes xs end stop → new.place ≡ rest_of (behind_items (mount_of old.place) xs)
+led_to old new bytes xs end stop fault r none b =
+    let all : IsGiven false bytes r.given
+    = subst (λ f. IsGiven (given.is_device f) bytes r.given) none r.is_given in
+    (r.table xs end stop (subst (λ v. Begins 0 v xs end stop) (sym all) b)).place
+
+-- the same of a session
+led_there : (old new : Seen) (known : Option (List ℕ)) (bytes : List ℕ) (xs : List TapeItem)
+    (end : ℕ) (stop : Stop) (fault : Option ImageFault)
+    → IfSome known (λ v. Reeled v (given.is_device fault) old new) → known ≡ Some bytes
+    → fault ≡ None → Begins 0 bytes xs end stop
+    → new.place ≡ rest_of (behind_items (mount_of old.place) xs)
+led_there old new known bytes xs end stop fault r is none b =
+    led_to old new bytes xs end stop fault
+    (subst (λ v. IfSome v (λ z. Reeled z (given.is_device fault) old new)) is r) none b
+
+-- behind an item that ended the reading with less than the file, the file is not complete
+not_finished : (core : State) (x : TapeItem) (more : List TapeItem) (why : Reason)
+    → (step_of core (Some x)).0 ≡ Useless why
+    → (behind_items (step_of core (Some x)).1 more).position ≡ Finished → ⊥
+not_finished core x more why told end =
+    let after : State = (step_of core (Some x)).1 in
+    let idle : IsIdle after.position after.phase
+    = (step_ends core x).told (subst IsFinal (sym told) tt) in
+    let stays : (behind_items after more).position ≡ after.position
+    = ap (λ c. c.position) (idle_items more after idle).0 in
+    let f : Useless why ≡ Complete
+    = sym told ∙ (step_tells core (Some x)).told (sym stays ∙ end) in
+    absurd (cc f)
+
+-- count_passed_over: a trailer counts 9 blocks where 6 were seen, on whatever tape, and the session
+-- stands at the end of the file
+count_passed_over : (S : _) (R : _) (LS : _) (LR : _) (g : _) (d : _) (h : _) (e : _) (κs : _)
+    (a : _) (answer : _) (s : _) (held : List Portion) (bytes : List ℕ) (end : ℕ) (stop : Stop)
+    (items more : List TapeItem) (trailer : TapeItem)
+    → reel.Learnt-named S R LS LR g d h e κs a (Ok answer) s
+    → g.holds a.0.now.sink held → h.remaining a.1.0.now ≡ Some bytes → answer.fault ≡ None
+    → Begins 0 bytes (items ++ trailer ∷ more) end stop
+    → (step_of (behind_items (mount_of (rest_of a.0.now.core)) items) (Some trailer)).0
+    ≡ Useless (BlockCount 9 6)
+    → s.0.now.core.position ≡ Finished → ⊥
+count_passed_over S R LS LR g d h e κs a answer s held bytes end stop items more trailer l was
+    known none image counts finished =
+    let r = l.ok held was in
+    let front : State = mount_of (rest_of a.0.now.core) in
+    let all : List TapeItem = items ++ trailer ∷ more in
+    let led : rest_of s.0.now.core ≡ rest_of (behind_items front all)
+    = led_there (seen g.refusals a.0.now held) (seen g.refusals s.0.now r.0)
+    (h.remaining a.1.0.now) bytes all end stop answer.fault r.3 known none image in
+    not_finished (behind_items front items) trailer more (BlockCount 9 6) counts
+    (sym (ap (λ c. c.position) (behind_app front items (trailer ∷ more)))
+    ∙ sym (ap (λ c. c.position) led) ∙ finished)
+
+idle_broken : (p : Position) → IsIdle p Broken
+idle_broken Finished = tt
+idle_broken (Awaits sect b part) = tt
+
+-- broken_reader_mended: a trailer counted other blocks, and behind one more reel the session goes
+-- on
+broken_reader_mended : (S : _) (R : _) (LS : _) (LR : _) (g : _) (d : _) (h : _) (e : _) (κs : _)
+    (a : _) (answer : _) (s : _) (held : List Portion) (bytes : List ℕ) (end : ℕ) (stop : Stop)
+    (items : List TapeItem)
+    → reel.Learnt-named S R LS LR g d h e κs a (Ok answer) s
+    → g.holds a.0.now.sink held → h.remaining a.1.0.now ≡ Some bytes → answer.fault ≡ None
+    → Begins 0 bytes items end stop
+    → a.0.now.core.phase ≡ Broken → s.0.now.core.phase ≡ Over → ⊥
+broken_reader_mended S R LS LR g d h e κs a answer s held bytes end stop items l was known none
+    image broken mended =
+    let r = l.ok held was in
+    let front : State = mount_of (rest_of a.0.now.core) in
+    let led : rest_of s.0.now.core ≡ rest_of (behind_items front items)
+    = led_there (seen g.refusals a.0.now held) (seen g.refusals s.0.now r.0)
+    (h.remaining a.1.0.now) bytes items end stop answer.fault r.3 known none image in
+    let still : front.phase ≡ Broken
+    = ap (λ f. mounted (resting f) a.0.now.core.position) broken in
+    let idle : IsIdle front.position front.phase
+    = subst (IsIdle front.position) (sym still) (idle_broken front.position) in
+    let stays : rest_of (behind_items front items) ≡ rest_of front
+    = (idle_items items front idle).0 in
+    let f : Over ≡ Broken = sym (ap resting mended) ∙ ap (λ c. c.phase) (led ∙ stays)
+    ∙ ap resting still in
+    absurd (cc f)

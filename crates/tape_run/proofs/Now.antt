@@ -1,0 +1,89 @@
+-- What is left where the records were written as the images were read.
+use Rattle.std.proofs.Common.{◌≡◌, ℕ, ◌⊎◌, List, [], map, Option, Some}
+use Rattle.std.proofs.Common.{None, refl, sym, ap, subst, ◌∙◌, inl, arith, append-nil}
+use Rattle.std.specs.Io.KnownBytes.{Appends}
+use Rattle.std.proofs.KnownBytes.{Appends-trans}
+use Rattle.tape_blocks.specs.Block.{Portion}
+use Rattle.tape_set.specs.declared.position.Position.TheVariants.{Finished}
+use Rattle.tape_set.specs.declared.position.Want.{Want}
+use Rattle.tape_set.specs.Position.{want_at}
+use Rattle.tape_run.specs.Seen.{seen}
+use Rattle.tape_run.specs.Story.{Story}
+use Rattle.tape_blocks.specs.declared.form.Form.{Form}
+use Rattle.tape_run.specs.Output.{AppendsFront}
+use Rattle.tape_run.specs.RecordText.{output_of}
+use Rattle.tape_run.specs.ReelLine.{reel_lines, last_line}
+use Rattle.tape_run.specs.Reeling.{answer_of, TakesAll, StopsReading}
+use Rattle.tape_run.specs.ExtractingNow.{IsPut, ExtractsNow, StopsNow}
+use Rattle.tape_run.proofs.Fitting.{front_more, front_then}
+use Rattle.tape_run.proofs.Turns.{gathers}
+
+pub extracted_now : {S R : Type 0} (holds : S → List Portion → Type 0)
+    (refusals : S → ℕ) (remaining : R → Option (List ℕ)) (old mid : Story S)
+    (images lefts : List (Option R)) (form : Form) (tells : Type 0)
+    (stands said between says : Option (List ℕ)) (want : Option Want) (records : ℕ)
+    → TakesAll holds refusals remaining old mid images lefts said between
+    → want ≡ want_at mid.core.file mid.core.position → Appends between says (last_line want records)
+    → ((held : List Portion) → holds mid.sink held → IsPut want tells records form stands held)
+    → ExtractsNow holds refusals remaining old images lefts form tells stands said says want
+extracted_now holds refusals remaining old mid images lefts form tells stands said between says want
+    records t is last wrote = record {
+      turns = t.turns;
+      are_turns = t.are_turns;
+      all = λ less. is ∙ ap (want_at mid.core.file) (t.all less);
+      records = records;
+      lines = Appends-trans said between says _ _ t.lines last;
+      ends = λ held was.
+          let (now, has, f) = t.follows held was in
+          record {
+            last = mid.core;
+            now = seen refusals mid now;
+            follows = f;
+            gathers =
+                gathers old.core (seen refusals old held) t.turns mid.core
+                (seen refusals mid now) f;
+            wanted = is;
+            is_put = wrote now has;
+          };
+    }
+
+pub stops_reading_now : {S O : Type 0} (holds : S → List Portion → Type 0)
+    (refusals : S → ℕ) (old : Story S) (form : Form) (tells : Type 0)
+    (stands : O → Option (List ℕ)) (out : O) (said says : Option (List ℕ))
+    → StopsReading holds refusals old said says
+    → StopsNow holds refusals old form tells stands out out said says
+stops_reading_now holds refusals old form tells stands out said says s = record {
+  turns = s.turns;
+  more = s.more;
+  few = s.few;
+  want = None;
+  records = 0;
+  lines = front_more said says _ (last_line None 0) s.lines;
+  follows = λ held was. let (core, now, f) = s.follows held was in (core, now, f, inl refl);
+}
+
+pub stops_at_end_now : {S R O : Type 0} (holds : S → List Portion → Type 0)
+    (refusals : S → ℕ) (remaining : R → Option (List ℕ)) (old mid : Story S)
+    (images lefts : List (Option R)) (form : Form) (tells : Type 0)
+    (stands : O → Option (List ℕ)) (out put : O) (said between says : Option (List ℕ))
+    (want : Option Want) (records : ℕ)
+    → TakesAll holds refusals remaining old mid images lefts said between
+    → AppendsFront between says (last_line want records)
+    → ((held : List Portion) → holds mid.sink held → (put ≡ out) ⊎ ((mid.core.position
+    ≡ Finished) × ((stands put ≡ stands out)
+    ⊎ (tells → stands put ≡ Some (output_of form held)))))
+    → StopsNow holds refusals old form tells stands out put said says
+stops_at_end_now holds refusals remaining old mid images lefts form tells stands out put said
+    between says want records t last wrote = record {
+      turns = t.turns;
+      more = [];
+      few = omega arith;
+      want = want;
+      records = records;
+      lines = front_then said between says _ (last_line want records)
+          (subst (λ l. Appends said between (reel_lines 1 l))
+          (sym (append-nil (map answer_of t.turns))) t.lines) last;
+      follows = λ held was.
+          let (now, has, f) = t.follows held was in
+          (mid.core, seen refusals mid now, f, wrote now has);
+    }

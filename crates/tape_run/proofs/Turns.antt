@@ -1,0 +1,265 @@
+-- Images that were read one after another.
+use Rattle.std.proofs.Common.{◌≡◌, Bool, ℕ, zero, suc, ◌+◌, ◌<◌, ◌≤◌, List, [], ◌∷◌, ◌++◌}
+use Rattle.std.proofs.Common.{length, map, get_or, Option, Some, None, IfSome, IsSome, refl, sym}
+use Rattle.std.proofs.Common.{ap, subst, ◌∙◌, arith, append_assoc, append-nil, true, false}
+use Rattle.std.proofs.Math.ListN.{set}
+use Rattle.std.specs.Io.KnownBytes.{Appends, Keeps}
+use Rattle.std.proofs.KnownBytes.{Appends-trans, Appends-nil, Appends-kept}
+use Rattle.tape_blocks.specs.Block.{Portion}
+use Rattle.tape_set.specs.Layout.{FileSet}
+use Rattle.tape_set.specs.Lawful.{IsLawful}
+use Rattle.tape_core.specs.State.{State}
+use Rattle.tape_core.specs.Place.{IsPlaced, rest_of}
+use Rattle.tape_run.specs.declared.answer.ReelAnswer.{ReelAnswer}
+use Rattle.tape_run.specs.Given.{is_device, IsGiven}
+use Rattle.tape_run.specs.Mount.{Happening, IsMountOf}
+use Rattle.tape_run.specs.Seen.{Seen}
+use Rattle.tape_run.specs.Steps.{Reeled}
+use Rattle.tape_run.specs.Output.{AppendsFront}
+use Rattle.tape_run.specs.ReelLine.{reel_line, reel_lines}
+use Rattle.tape_run.specs.Reeling.{is_doubtful, IsNoted}
+use Rattle.tape_run.specs.Reeling.{Turn, Opened, answer_of, AreTurns, Follows}
+use Rattle.tape_run.specs.Reeling.{AreMounts, reached, Arrives, Gathers, IsTurn, IsReported}
+use Rattle.tape_run.specs.Reeling.{IsThere, LedOver}
+use Rattle.tape_image.specs.Tape.{TapeItem}
+use Rattle.tape_image.specs.Begins.{Stop, Begins}
+use Rattle.tape_core.specs.Table.{mount_of}
+use Rattle.tape_run.specs.Reels.{behind_items}
+use Rattle.tape_run.specs.ByTable.{delivered_parts, IsLed}
+use Rattle.tape_run.specs.Lead.{Lead, over_reel}
+
+-- ---- lines
+
+pub lines_more : (n : ℕ) (turns : List Turn) (more : List (Option ReelAnswer))
+    → reel_lines n (map answer_of turns ++ more)
+    ≡ reel_lines n (map answer_of turns) ++ reel_lines (n + length turns) more
+lines_more n [] more = ap (λ m. reel_lines m more) (let same : n ≡ n + 0 = omega arith in same)
+lines_more n (t ∷ turns) more =
+    let same : n + 1 + length turns ≡ n + length (t ∷ turns) = omega arith in
+    ap (λ l. reel_line n (answer_of t) ++ l) (lines_more (n + 1) turns more
+    ∙ ap (λ m. reel_lines (n + 1) (map answer_of turns) ++ reel_lines m more) same)
+    ∙ sym (append_assoc (reel_line n (answer_of t)) (reel_lines (n + 1) (map answer_of turns))
+    (reel_lines (n + length (t ∷ turns)) more))
+
+map_push : (turns : List Turn) (t : Turn)
+    → map answer_of (turns ++ t ∷ []) ≡ map answer_of turns ++ answer_of t ∷ []
+map_push [] t = refl
+map_push (u ∷ turns) t = ap (λ l. answer_of u ∷ l) (map_push turns t)
+
+-- the line of one more image behind those before it
+pub line_behind : (old mid new : Option (List ℕ)) (turns : List Turn) (t : Turn) (number : ℕ)
+    → number ≡ 1 + length turns → Appends old mid (reel_lines 1 (map answer_of turns))
+    → Appends mid new (reel_line number (answer_of t))
+    → Appends old new (reel_lines 1 (map answer_of (turns ++ t ∷ [])))
+line_behind old mid new turns t number e first then =
+    let text : reel_lines 1 (map answer_of (turns ++ t ∷ []))
+    ≡ reel_lines 1 (map answer_of turns) ++ reel_line number (answer_of t) =
+    ap (reel_lines 1) (map_push turns t) ∙ lines_more 1 turns (answer_of t ∷ [])
+    ∙ ap (λ l. reel_lines 1 (map answer_of turns) ++ l) (append-nil (reel_line (1 + length turns)
+    (answer_of t)) ∙ ap (λ m. reel_line m (answer_of t)) (sym e)) in
+    subst (Appends old new) (sym text) (Appends-trans old mid new _ _ first then)
+
+-- a front of the line of one more image behind those before it
+pub front_behind : (old mid new : Option (List ℕ)) (turns : List Turn)
+    (more : List (Option ReelAnswer)) (number : ℕ) → number ≡ 1 + length turns
+    → Appends old mid (reel_lines 1 (map answer_of turns))
+    → AppendsFront mid new (reel_lines number more)
+    → AppendsFront old new (reel_lines 1 (map answer_of turns ++ more))
+front_behind old mid new turns more number e first (front, rest, wrote, all) = (
+  reel_lines 1 (map answer_of turns) ++ front,
+  rest,
+  Appends-trans old mid new _ front first wrote,
+  lines_more 1 turns more
+      ∙ ap (λ l. reel_lines 1 (map answer_of turns) ++ l) (ap (λ m. reel_lines m more) (sym e)
+      ∙ all) ∙ sym (append_assoc (reel_lines 1 (map answer_of turns)) front rest),
+)
+
+-- ---- images
+
+-- one more image was taken, the first of those that were not
+pub one_turn : {R : Type 0} (remaining : R → Option (List ℕ)) (olds news : List (Option R))
+    (turns : List Turn) (t : Turn) (old new d : Option R) (n : ℕ) → n ≡ length turns
+    → n < length news
+    → AreTurns remaining olds news turns → get_or news n d ≡ old → IsTurn remaining old new t
+    → AreTurns remaining olds (set news n new) (turns ++ t ∷ [])
+one_turn remaining olds [] [] t old new d n e lt are is turn = absurd (omega (arith, lt))
+one_turn remaining olds (x ∷ news) [] t old new d zero e lt are is turn =
+    subst (λ os. AreTurns remaining os (new ∷ news) (t ∷ [])) are
+    (subst (λ z. AreTurns remaining (z ∷ news) (new ∷ news) (t ∷ [])) (sym is) ((turn, refl)))
+one_turn remaining olds (x ∷ news) [] t old new d (suc n) e lt are is turn =
+    absurd (omega (arith, e))
+one_turn remaining [] news (u ∷ turns) t old new d n e lt are is turn = absurd are
+one_turn remaining (o ∷ olds) [] (u ∷ turns) t old new d n e lt are is turn = absurd are
+one_turn remaining (o ∷ olds) (x ∷ news) (u ∷ turns) t old new d zero e lt are is turn =
+    absurd (omega (arith, e))
+one_turn remaining (o ∷ olds) (x ∷ news) (u ∷ turns) t old new d (suc n) e lt (a, are) is turn = (
+  a,
+  one_turn remaining olds news turns t old new d n
+      (omega (arith, e)) (omega (arith, lt)) are is turn,
+)
+
+pub turns_few : {R : Type 0} (remaining : R → Option (List ℕ)) (olds news : List (Option R))
+    (turns : List Turn) → AreTurns remaining olds news turns → length turns ≤ length olds
+turns_few remaining olds news [] are = omega arith
+turns_few remaining [] news (u ∷ turns) are = absurd are
+turns_few remaining (o ∷ olds) [] (u ∷ turns) are = absurd are
+turns_few remaining (o ∷ olds) (x ∷ news) (u ∷ turns) (a, are) =
+    let few = turns_few remaining olds news turns are in
+    omega (arith, few)
+
+-- ---- the session
+
+pub follows_then : (a : State) (s : Seen) (ts : List Turn) (b : State) (t : Seen) (us : List Turn)
+    (c : State) (u : Seen) → Follows a s ts b t → Follows b t us c u → Follows a s (ts ++ us) c u
+follows_then a s [] b t us c u (core, same) g =
+    subst (λ z. Follows z s us c u) core (subst (λ z. Follows b z us c u) same g)
+follows_then a s (None ∷ ts) b t us c u (waits, f) g = (waits, follows_then a s ts b t us c u f g)
+follows_then a s (Some o ∷ ts) b t us c u (next, mid, r, f) g =
+    (next, mid, r, follows_then next mid ts b t us c u f g)
+
+pub noted : (bytes : Option (List ℕ)) (o : Opened) (old mid new : Seen)
+    → IfSome bytes (λ b. Reeled b (is_device o.answer.fault) old mid)
+    → IsNoted (is_doubtful o.answer.answer) mid new
+    → IfSome bytes (λ b. (m : Seen) × Reeled b (is_device o.answer.fault) old m
+    × IsNoted (is_doubtful o.answer.answer) m new)
+noted None o old mid new r s = tt
+noted (Some b) o old mid new r s = (mid, r, s)
+
+-- what one reel gave, and where its mount leads
+pub record GivesOne (failed : Bool) (had : Option (List ℕ)) (old new : Seen) : Type 0 where
+  pub given : List ℕ
+  pub is_given : IfSome had (λ bytes. IsGiven failed bytes given)
+  pub arrives : (set : FileSet) (h : Happening) → IsLawful set → IsSome had → IsMountOf set given h
+      → IsPlaced set old.place old.parts → Arrives set old (h ∷ []) new
+  pub table : IsSome had → (xs : List TapeItem) (end : ℕ) (stop : Stop) → Begins 0 given xs end stop
+      → IsLed xs (mount_of old.place) new.place old.parts new.parts
+
+-- what is noted changes neither the place nor the parts
+notes_alone : (doubtful : Bool) (old new : Seen) → IsNoted doubtful old new
+    → (new.place ≡ old.place) × (new.parts ≡ old.parts)
+notes_alone true old new s = (ap (λ x. x.place) s, ap (λ x. x.parts) s)
+notes_alone false old new s = (s.place, s.parts)
+
+gives_one : (doubtful failed : Bool) (had : Option (List ℕ)) (old new : Seen)
+    → IfSome had (λ b. (m : Seen) × Reeled b failed old m × IsNoted doubtful m new)
+    → GivesOne failed had old new
+gives_one doubtful failed None old new r =
+    record {
+      given = [];
+      is_given = tt;
+      arrives = λ set h lawful some mount placed. absurd (cc);
+      table = λ some xs end stop b. absurd (cc);
+    }
+gives_one doubtful failed (Some b) old new (m, r, s) = record {
+  given = r.given;
+  is_given = r.is_given;
+  arrives = λ set h lawful some mount placed.
+      let by = r.reads set h lawful mount placed in
+      let (place, parts) = notes_alone doubtful m new s in
+      record {
+        at = subst (λ p. IsPlaced set p new.parts) (sym place)
+            (subst (λ q. IsPlaced set m.place q) (sym parts) by.at);
+        same_file = ap (λ p. p.file) place ∙ r.same_file;
+        position = ap (λ p. p.position) place ∙ by.position;
+      };
+  table = λ some xs end stop b.
+      let led = r.table xs end stop b in
+      let (place, parts) = notes_alone doubtful m new s in
+      record { place = place ∙ led.place; parts = parts ∙ led.parts };
+}
+
+-- ---- where the table leads
+
+there_more : (t : Lead) (old new : Seen) (xs : List TapeItem)
+    → IsLed xs (mount_of old.place) new.place old.parts new.parts → IsThere t old
+    → IsThere (over_reel t xs) new
+there_more t old new xs led s = record {
+  place = led.place ∙ ap (λ (z : State). rest_of (behind_items (mount_of z) xs)) s.place;
+  parts = led.parts
+      ∙ (ap (λ (l : List Portion). l ++ delivered_parts (mount_of old.place) xs) s.parts
+      ∙ ap (λ (z : State). t.parts ++ delivered_parts (mount_of z) xs) s.place);
+}
+
+led_nowhere : (old new : Seen) → new ≡ old → LedOver [] [] old new
+led_nowhere old new e t [] a s = subst (λ z. IsThere t z) (sym e) s
+led_nowhere old new e t (xs ∷ tapes) a s = absurd a
+
+led_more : (o : Opened) (turns : List Turn) (old mid new : Seen)
+    (one : GivesOne (is_device o.answer.fault) o.had old mid) (given : List (List ℕ))
+    → LedOver turns given mid new → LedOver (Some o ∷ turns) (one.given ∷ given) old new
+led_more o turns old mid new one given rest t [] a s = absurd a
+led_more o turns old mid new one given rest t (xs ∷ tapes) (some, (end, stop, b), a) s =
+    rest (over_reel t xs) tapes a (there_more t old mid xs (one.table some xs end stop b) s)
+
+arrives_more : (set : FileSet) (old mid new : Seen) (h : Happening) (hs : List Happening)
+    → Arrives set old (h ∷ []) mid → Arrives set mid hs new → Arrives set old (h ∷ hs) new
+arrives_more set old mid new h hs a b = record {
+  at = b.at;
+  same_file = b.same_file ∙ a.same_file;
+  position = b.position ∙ ap (λ f. reached set f mid.place.position hs) a.same_file
+      ∙ ap (λ p. reached set old.place.file p hs) a.position;
+}
+
+nothing_given : (set : FileSet) (old new : Seen) (hs : List Happening) → new ≡ old
+    → AreMounts set [] [] hs → IsPlaced set old.place old.parts → Arrives set old hs new
+nothing_given set old new [] same mounts placed = subst (λ s. Arrives set old [] s) (sym same)
+    (record { at = placed; same_file = refl; position = refl })
+nothing_given set old new (h ∷ hs) same mounts placed = absurd mounts
+
+more_given : (set : FileSet) (o : Opened) (turns : List Turn)
+    (old mid new : Seen) (one : GivesOne (is_device o.answer.fault) o.had old mid)
+    (rest : Gathers turns mid new) (hs : List Happening)
+    → IsLawful set → AreMounts set (Some o ∷ turns) (one.given ∷ rest.given) hs
+    → IsPlaced set old.place old.parts → Arrives set old hs new
+more_given set o turns old mid new one rest [] lawful mounts placed = absurd mounts
+more_given set o turns old mid new one rest (h ∷ hs) lawful (some, mount, mounts) placed =
+    let first = one.arrives set h lawful some mount placed in
+    arrives_more set old mid new h hs first (rest.arrives set hs lawful mounts first.at)
+
+-- Step by step the session is where the mounts lead.
+pub gathers : (core : State) (old : Seen) (turns : List Turn) (last : State) (new : Seen)
+    → Follows core old turns last new → Gathers turns old new
+gathers core old [] last new (same_core, same) = record {
+  given = [];
+  are_given = tt;
+  arrives = λ set hs lawful mounts placed. nothing_given set old new hs same mounts placed;
+  led = led_nowhere old new same;
+}
+gathers core old (None ∷ turns) last new (waits, f) =
+    let rest = gathers core old turns last new f in
+    record {
+      given = rest.given;
+      are_given = rest.are_given;
+      arrives = rest.arrives;
+      led = rest.led;
+    }
+gathers core old (Some o ∷ turns) last new (next, mid, r, f) =
+    let rest = gathers next mid turns last new f in
+    let one = gives_one (is_doubtful o.answer.answer) (is_device o.answer.fault) o.had old mid
+    r.reeled in
+    record {
+      given = one.given ∷ rest.given;
+      are_given = (one.is_given, rest.are_given);
+      arrives = λ set hs lawful mounts placed.
+          more_given set o turns old mid new one rest hs lawful mounts placed;
+      led = led_more o turns old mid new one rest.given rest.led;
+    }
+
+-- ---- calls
+
+-- the lines of at most one image more
+kept_nil : (old new : Option (List ℕ)) → Keeps old new → Appends old new []
+kept_nil old new keeps = Appends-kept old old new [] (Appends-nil old) keeps
+
+pub no_line : (number : ℕ) (old new : Option (List ℕ)) → Keeps old new → IsReported number old new
+no_line number old new keeps = ([], omega arith, ([], [], kept_nil old new keeps, refl))
+
+pub part_line : (number : ℕ) (outcome : Option ReelAnswer) (old new : Option (List ℕ))
+    → AppendsFront old new (reel_line number outcome) → IsReported number old new
+part_line number outcome old new (front, rest, wrote, all) =
+    (outcome ∷ [], omega arith, (front, rest, wrote, append-nil (reel_line number outcome) ∙ all))
+
+pub whole_line : (number : ℕ) (outcome : Option ReelAnswer) (old new : Option (List ℕ))
+    → Appends old new (reel_line number outcome) → IsReported number old new
+whole_line number outcome old new wrote =
+    (outcome ∷ [], omega arith, (reel_line number outcome, [], wrote, refl))

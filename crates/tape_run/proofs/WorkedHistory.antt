@@ -1,0 +1,415 @@
+-- The worked history, by computation.
+use Rattle.std.proofs.Common.{◌≡◌, ◌≤◌, ◌<◌, ℕ, List, [], ◌∷◌, ◌++◌, true, false, refl, sym, ap}
+use Rattle.std.proofs.Common.{◌∙◌, subst, inl, codes, lit≤, lit<, Some, None, ◌+◌, ◌%◌, arith}
+use Rattle.std.specs.Prelude.{replicate, length, map}
+use Rattle.std.specs.List.{AllByRecursion, flat_map}
+use Rattle.tape_image.specs.Tape.{TapeItem, IsTapeItem, block, bad, mark}
+use Rattle.tape_image.specs.Word.{IsWord}
+use Rattle.tape_image.specs.Spelling as spelling
+use Rattle.tape_image.specs.Spelling.{Spelling}
+use Rattle.tape_image.specs.Begins.{Stop, Begins, ends, faults}
+use Rattle.tape_image.specs.Begins as begin
+use Rattle.tape_image.specs.declared.item.Ending.TheVariants.{Marked, Physical}
+use Rattle.tape_image.specs.declared.fault.ImageCause.TheVariants.{Truncated}
+use Rattle.tape_label.specs.declared.values.Format.TheVariants.{Spanned}
+use Rattle.tape_label.specs.Kinds.{kind_at}
+use Rattle.tape_label.specs.VolumeLabels.{is_volume_label}
+use Rattle.tape_label.specs.Reading.{head1_at, head_at}
+use Rattle.tape_blocks.specs.Block.{Holds}
+use Rattle.tape_set.proofs.Worked as w
+use Rattle.tape_set.proofs.Worked.{Fit, made_section, made_form}
+use Rattle.tape_set.proofs.WorkedSpan as sp
+use Rattle.tape_set.specs.declared.position.Position.TheVariants.{Finished}
+use Rattle.tape_set.specs.Layout.{FileSet, items}
+use Rattle.tape_set.specs.Lawful.{IsLawful, most_blocks}
+use Rattle.tape_set.specs.Position.{want_at}
+use Rattle.tape_set.specs.Before.{before}
+use Rattle.tape_core.specs.Foreign.{starts_set}
+use Rattle.tape_run.specs.Mount.{IsCopy, IsMountOf, reads, foreign_reel}
+use Rattle.tape_run.specs.History.{Course, course, IsHistory}
+use Rattle.tape_run.specs.Given.{AreGiven}
+use Rattle.tape_run.specs.Seen.{Seen}
+use Rattle.tape_run.specs.Headline.{begins, IsRead}
+use Rattle.tape_run.proofs.Back.{none_failed, all_given}
+use Rattle.tape_run.specs.WorkedHistory.{worked_set, vol1, hdr1, hdr1_of_2, hdr2, eov1, eov2, eof1}
+use Rattle.tape_run.specs.WorkedHistory.{eof2, block_0, block_1, block_2, a_mark, an_end, label}
+use Rattle.tape_run.specs.WorkedHistory.{data_block, bad_data, reel_1, reel_2, cut_reel, bad_0_reel}
+use Rattle.tape_run.specs.WorkedHistory.{bad_1_reel, short_reel, blank_reel, other_reel}
+use Rattle.tape_run.specs.WorkedHistory.{worked_steps, worked_reels, worked_history, reading}
+use Rattle.tape_run.specs.WorkedHistory.{HistoryIsWorked, first, middle, last}
+
+-- ---- the set is lawful
+
+abbrev made : FileSet
+made = record {
+  set_id = w.set_id;
+  volumes = w.plain_volume ∷ w.plain_volume ∷ [];
+  files =
+      (w.made sp.shape 1 1 1 false (sp.first_block ∷ sp.middle_block ∷ [])
+      ∷ w.made sp.shape 2 1 2 true (sp.last_block ∷ []) ∷ []) ∷ [];
+}
+
+is_made : made ≡ worked_set
+is_made = refl
+
+fit_of : (sect n : ℕ) → 1 ≤ sect → sect ≤ 9999 → n ≤ most_blocks → Fit 1 sect n
+fit_of sect n a b c = record {
+  file_least = lit≤ tt;
+  file_most = lit≤ tt;
+  sect_least = a;
+  sect_most = b;
+  count_most = c;
+}
+
+made_lawful : IsLawful made
+made_lawful = record {
+  volumes = (w.plain_volume_is, (w.plain_volume_is, tt));
+  each = (
+    made_section sp.shape 2 1 1 1 false (sp.first_block ∷ sp.middle_block ∷ []) sp.shape_fits
+        (fit_of 1 2 (lit≤ tt) (lit≤ tt) (lit≤ tt))
+        (lit≤ tt) (lit≤ tt) ((lit< tt, lit≤ tt), ((lit< tt, lit≤ tt), tt)),
+    (
+      made_section sp.shape 2 2 1 2 true (sp.last_block ∷ []) sp.shape_fits
+          (fit_of 2 1 (lit≤ tt) (lit≤ tt) (lit≤ tt)) (lit≤ tt) (lit≤ tt) ((lit< tt, lit≤ tt), tt),
+      tt,
+    ),
+  );
+  files = (
+    record {
+      ends = (refl, refl);
+      alike = (
+        w.form sp.shape,
+        (
+          made_form sp.shape 1 1 1 false (sp.first_block ∷ sp.middle_block ∷ []) sp.shape_fits
+              (fit_of 1 2 (lit≤ tt) (lit≤ tt) (lit≤ tt))
+              (sp.first_written.holds, (sp.middle_written.holds, tt)),
+          (
+            made_form sp.shape 2 1 2 true (sp.last_block ∷ []) sp.shape_fits
+                (fit_of 2 1 (lit≤ tt) (lit≤ tt) (lit≤ tt)) (sp.last_written.holds, tt),
+            tt,
+          ),
+        ),
+      );
+      order = (refl, (refl, (refl, refl)));
+    },
+    tt,
+  );
+  first = refl;
+  goes_on = (refl, tt);
+}
+
+pub is_lawful : IsLawful worked_set
+is_lawful = subst IsLawful is_made made_lawful
+
+-- ---- the bytes begin with these items
+
+abbrev mark_of : Spelling
+mark_of = record {
+  bytes = a_mark;
+  given = mark ∷ [];
+  spelled = spelling.a_mark (record { four = refl; value = refl }) refl;
+}
+
+abbrev label_of : (text : List ℕ) → length text ≡ 80 → Spelling
+label_of text e = record {
+  bytes = label text;
+  given = block text ∷ [];
+  spelled = spelling.a_block 80 text (ap Some (sym e))
+      (record {
+        lead = 80 ∷ 0 ∷ 0 ∷ 0 ∷ [];
+        pad = [];
+        trail = 80 ∷ 0 ∷ 0 ∷ 0 ∷ [];
+        whole = refl;
+        lead_is = record { four = refl; value = refl };
+        pad_is = sym (ap (λ n. n % 2) e);
+        trail_is = record { four = refl; value = refl };
+      })
+      refl;
+}
+
+abbrev data_of : (text : List ℕ) → length text ≡ 18 → Spelling
+data_of text e = record {
+  bytes = data_block text;
+  given = block text ∷ [];
+  spelled = spelling.a_block 18 text (ap Some (sym e))
+      (record {
+        lead = 18 ∷ 0 ∷ 0 ∷ 0 ∷ [];
+        pad = [];
+        trail = 18 ∷ 0 ∷ 0 ∷ 0 ∷ [];
+        whole = refl;
+        lead_is = record { four = refl; value = refl };
+        pad_is = sym (ap (λ n. n % 2) e);
+        trail_is = record { four = refl; value = refl };
+      })
+      refl;
+}
+
+abbrev bad_of : Spelling
+bad_of = record {
+  bytes = bad_data;
+  given = bad ∷ [];
+  spelled = spelling.a_block 2147483666 (codes "##################") refl
+      (record {
+        lead = 18 ∷ 0 ∷ 0 ∷ 128 ∷ [];
+        pad = [];
+        trail = 18 ∷ 0 ∷ 0 ∷ 128 ∷ [];
+        whole = refl;
+        lead_is = record { four = refl; value = refl };
+        pad_is = refl;
+        trail_is = record { four = refl; value = refl };
+      })
+      refl;
+}
+
+abbrev first_labels : List Spelling
+first_labels = label_of vol1 refl ∷ label_of hdr1 refl ∷ label_of hdr2 refl ∷ mark_of ∷ []
+
+abbrev second_labels : List Spelling
+second_labels = label_of vol1 refl ∷ label_of hdr1_of_2 refl ∷ label_of hdr2 refl ∷ mark_of ∷ []
+
+abbrev first_end : List Spelling
+first_end = mark_of ∷ label_of eov1 refl ∷ label_of eov2 refl ∷ mark_of ∷ mark_of ∷ []
+
+abbrev second_end : List Spelling
+second_end = mark_of ∷ label_of eof1 refl ∷ label_of eof2 refl ∷ mark_of ∷ mark_of ∷ []
+
+abbrev items_of : List Spelling → List TapeItem
+items_of ss = flat_map (λ s. s.given) ss
+
+-- spellings, and then an end word
+ended : (bytes : List ℕ) (ss : List Spelling) (n : ℕ)
+    → bytes ≡ flat_map (λ s. s.bytes) ss ++ an_end → length bytes ≡ n + 4 → n + 4 ≤
+    begin.image_limit
+    → Begins 0 bytes (items_of ss) n (ends Marked)
+ended bytes ss n e size within = record {
+  rest = an_end;
+  walks = record {
+    leads = record { spellings = ss; whole = e; items_are = refl };
+    moves = omega (arith, size);
+  };
+  within = omega (arith, within);
+  stops = begin.at_end_word (lit≤ tt) refl within refl;
+}
+
+-- spellings, and nothing more
+all_of : (bytes : List ℕ) (ss : List Spelling) (n : ℕ)
+    → bytes ≡ flat_map (λ s. s.bytes) ss ++ [] → length bytes ≡ n → n ≤ begin.image_limit
+    → Begins 0 bytes (items_of ss) n (ends Physical)
+all_of bytes ss n e size within = record {
+  rest = [];
+  walks = record {
+    leads = record { spellings = ss; whole = e; items_are = refl };
+    moves = omega (arith, size);
+  };
+  within = within;
+  stops = begin.nothing refl refl;
+}
+
+-- spellings, and then a front of a block of 18 characters
+cut_off : (bytes : List ℕ) (ss : List Spelling) (n : ℕ)
+    → bytes ≡ flat_map (λ s. s.bytes) ss ++ (18 ∷ 0 ∷ 0 ∷ 0 ∷ codes "20018AA")
+    → length bytes ≡ n + 11 → n + 26 ≤ begin.image_limit
+    → Begins 0 bytes (items_of ss) n (faults Truncated)
+cut_off bytes ss n e size within = record {
+  rest = 18 ∷ 0 ∷ 0 ∷ 0 ∷ codes "20018AA";
+  walks = record {
+    leads = record { spellings = ss; whole = e; items_are = refl };
+    moves = omega (arith, size);
+  };
+  within = omega (arith, within);
+  stops = begin.in_block (lit≤ tt) 26 refl within (lit< tt) refl;
+}
+
+-- ---- each mount is a copy, or foreign
+
+whole_1 : IsMountOf worked_set reel_1 (reads (reading 1 (replicate 11 true)))
+whole_1 = (
+  items worked_set 1,
+  508,
+  ends Marked,
+  ended reel_1 (first_labels ++ data_of block_0 refl ∷ data_of block_1 refl ∷ first_end) 508 refl
+      refl (lit≤ tt),
+  record {
+    is_reading = record { volume = refl; within = lit≤ tt };
+    more = [];
+    whole = refl;
+    behind = λ n. absurd (n refl);
+  },
+)
+
+whole_2 : IsMountOf worked_set reel_2 (reads (reading 2 (replicate 10 true)))
+whole_2 = (
+  items worked_set 2,
+  482,
+  ends Marked,
+  ended reel_2 (second_labels ++ data_of block_2 refl ∷ second_end) 482 refl refl (lit≤ tt),
+  record {
+    is_reading = record { volume = refl; within = lit≤ tt };
+    more = [];
+    whole = refl;
+    behind = λ n. absurd (n refl);
+  },
+)
+
+cut_1 : IsMountOf worked_set cut_reel (reads (reading 1 (replicate 5 true)))
+cut_1 = (
+  items_of (first_labels ++ data_of block_0 refl ∷ []),
+  294,
+  faults Truncated,
+  cut_off cut_reel (first_labels ++ data_of block_0 refl ∷ []) 294 refl refl (lit≤ tt),
+  record {
+    is_reading = record { volume = refl; within = lit≤ tt };
+    more = [];
+    whole = refl;
+    behind = λ n. absurd (n refl);
+  },
+)
+
+bad_0 : IsMountOf worked_set bad_0_reel (reads
+    (reading 1 (replicate 4 true ++ false ∷ replicate 6 true)))
+bad_0 = (
+  items_of (first_labels ++ bad_of ∷ data_of block_1 refl ∷ first_end),
+  508,
+  ends Marked,
+  ended bad_0_reel (first_labels ++ bad_of ∷ data_of block_1 refl ∷ first_end) 508 refl refl
+      (lit≤ tt),
+  record {
+    is_reading = record { volume = refl; within = lit≤ tt };
+    more = [];
+    whole = refl;
+    behind = λ n. absurd (n refl);
+  },
+)
+
+bad_1 : IsMountOf worked_set bad_1_reel (reads
+    (reading 1 (replicate 5 true ++ false ∷ replicate 5 true)))
+bad_1 = (
+  items_of (first_labels ++ data_of block_0 refl ∷ bad_of ∷ first_end),
+  508,
+  ends Marked,
+  ended bad_1_reel (first_labels ++ data_of block_0 refl ∷ bad_of ∷ first_end) 508 refl refl
+      (lit≤ tt),
+  record {
+    is_reading = record { volume = refl; within = lit≤ tt };
+    more = [];
+    whole = refl;
+    behind = λ n. absurd (n refl);
+  },
+)
+
+short_2 : IsMountOf worked_set short_reel (reads (reading 2 (replicate 6 true)))
+short_2 = (
+  items_of (second_labels ++ data_of block_2 refl ∷ mark_of ∷ []),
+  298,
+  ends Physical,
+  all_of short_reel (second_labels ++ data_of block_2 refl ∷ mark_of ∷ []) 298 refl refl (lit≤ tt),
+  record {
+    is_reading = record { volume = refl; within = lit≤ tt };
+    more = [];
+    whole = refl;
+    behind = λ n. absurd (n refl);
+  },
+)
+
+abbrev other_hdr1 : List ℕ
+other_hdr1 = codes
+    "HDR1PAYROLL          XYZ00100010001000100 00000 00000 000000                    "
+
+abbrev blank_items : List TapeItem
+blank_items = block vol1 ∷ mark ∷ mark ∷ []
+
+abbrev other_items : List TapeItem
+other_items = block vol1 ∷ block other_hdr1 ∷ []
+
+blank_is_none : starts_set (codes "ABC001") blank_items ≡ false
+unfolding kind_at
+blank_is_none = refl
+
+other_is_none : starts_set (codes "ABC001") other_items ≡ false
+unfolding kind_at is_volume_label head1_at head_at
+other_is_none = refl
+
+blank : IsMountOf worked_set blank_reel foreign_reel
+blank = (
+  blank_items,
+  96,
+  ends Marked,
+  ended blank_reel (label_of vol1 refl ∷ mark_of ∷ mark_of ∷ []) 96 refl refl (lit≤ tt),
+  blank_is_none,
+)
+
+other : IsMountOf worked_set other_reel foreign_reel
+other = (
+  other_items,
+  176,
+  ends Physical,
+  all_of other_reel (label_of vol1 refl ∷ label_of other_hdr1 refl ∷ []) 176 refl refl (lit≤ tt),
+  other_is_none,
+)
+
+-- ---- the history
+
+is_history : IsHistory worked_set 0 worked_steps worked_reels worked_history
+is_history = (
+  whole_2,
+  (
+    other,
+    (
+      blank,
+      (
+        cut_1,
+        (
+          refl,
+          (
+            bad_0,
+            (refl, lit< tt, (bad_1, (whole_1, (short_2, (whole_2, (whole_1, tt)))))),
+          ),
+        ),
+      ),
+    ),
+  ),
+)
+
+all : AreGiven 0 worked_reels worked_reels
+all = inl (
+  refl,
+  inl (
+    refl,
+    inl (
+      refl,
+      inl (
+        refl,
+        inl
+            (refl, inl (refl, inl (refl, inl (refl, inl (refl, inl (refl, refl)))))),
+      ),
+    ),
+  ),
+)
+
+-- a session over these readers, of which none failed
+has_read : (s : Seen) → IsRead (codes "ABC001") 1 worked_steps worked_reels s → s.failures ≡ 0
+    → (s.parts ≡ first ∷ middle ∷ last ∷ []) × (want_at 1 s.place.position ≡ None)
+has_read s r none =
+    let no_failure : r.failed ≡ 0 = none_failed r.failed (sym r.count ∙ none) in
+    let given : r.given ≡ worked_reels =
+    all_given worked_reels r.given
+    (subst (λ n. AreGiven n worked_reels r.given) no_failure r.are_given) in
+    let (there, parts) = r.reads worked_set worked_history is_lawful refl refl
+    (subst (λ z. IsHistory worked_set 0 worked_steps z worked_history) (sym given) is_history) in (
+      parts,
+      ap (λ (c : Course). want_at 1 c.at) there,
+    )
+
+pub is_worked : HistoryIsWorked
+is_worked = record {
+  lawful = is_lawful;
+  history = is_history;
+  given = all;
+  positions = refl;
+  notes = refl;
+  none_before = refl;
+  one_before = refl;
+  all_before = refl;
+  one_record = refl;
+  read = has_read;
+}

@@ -1,0 +1,50 @@
+-- Answers that the contracts of a walk over records exclude: each is what a wrong body would give.
+use Rattle.std.proofs.Common.{◌≡◌, List, [], ◌∷◌, length, ap, ◌∙◌, subst, arith, codes}
+use Rattle.std.specs.Prelude.{Some, Ok}
+use Rattle.std.specs.Io.KnownBytes.{Appends}
+use Rattle.tape_blocks.specs.declared.part.Span.TheVariants.{Whole, First}
+use Rattle.tape_blocks.specs.Block.{Portion}
+use Rattle.tape_blocks.specs.declared.form.Form.TheVariants.{Lines}
+use Rattle.tape_run.specs.RecordText.{output_of}
+use Rattle.tape_run.proofs.extract.records.count_records.Reads as count_records
+use Rattle.tape_run.proofs.extract.records.write_records.Reads as write_records
+
+-- the first part of a record that is not ended
+abbrev begun : List Portion
+begun = record { span = First; bytes = codes "AB" } ∷ []
+
+-- a whole record
+abbrev whole : List Portion
+whole = record { span = Whole; bytes = codes "AB" } ∷ []
+
+-- begun_rest_counted: a record that is begun and not ended is counted
+begun_rest_counted : (S : _) (L : _) (g : _) (d : _) (g' : _) (d' : _) (κs : _) (a : _) (s : _)
+    → count_records.Learnt-named S L g d g' d' κs a (Ok 1) s → g'.holds a.0.now begun → ⊥
+begun_rest_counted S L g d g' d' κs a s l holds =
+    absurd (let n : 1 ≡ 0 = l.count begun holds in omega arith)
+
+-- begun_rest_written: a record that is begun and not ended is written
+begun_rest_written : (S : _) (W : _) (LS : _) (LW : _) (g : _) (d : _) (g' : _) (d' : _) (h : _)
+    (e : _) (κs : _) (a : _) (s : _)
+    → write_records.Learnt-named S W LS LW g d g' d' h e κs a (Ok tt) s
+    → g'.holds a.0.now begun → a.1.0 ≡ 0 → a.1.1.0 ≡ Lines
+    → h.contents a.1.1.1.0.now ≡ Some [] → h.contents s.1.1.1.0.now ≡ Some (codes "AB") → ⊥
+begun_rest_written S W LS LW g d g' d' h e κs a s l holds none form old new =
+    let r : Appends (Some []) (Some (codes "AB")) (output_of a.1.1.0 begun)
+    = subst (λ v. Appends (Some []) v (output_of a.1.1.0 begun)) new
+    (subst (λ v. Appends v (h.contents s.1.1.1.0.now) (output_of a.1.1.0 begun)) old
+    (l.ok begun holds none)) in
+    absurd (let n : 2 ≡ 0 = ap length (r ∙ ap (λ v. output_of v begun) form) in omega arith)
+
+-- line_feed_left_out: the last record has no line feed behind it
+line_feed_left_out : (S : _) (W : _) (LS : _) (LW : _) (g : _) (d : _) (g' : _) (d' : _) (h : _)
+    (e : _) (κs : _) (a : _) (s : _)
+    → write_records.Learnt-named S W LS LW g d g' d' h e κs a (Ok tt) s
+    → g'.holds a.0.now whole → a.1.0 ≡ 1 → a.1.1.0 ≡ Lines
+    → h.contents a.1.1.1.0.now ≡ Some [] → h.contents s.1.1.1.0.now ≡ Some (codes "AB") → ⊥
+line_feed_left_out S W LS LW g d g' d' h e κs a s l holds one form old new =
+    let r : Appends (Some []) (Some (codes "AB")) (output_of a.1.1.0 whole)
+    = subst (λ v. Appends (Some []) v (output_of a.1.1.0 whole)) new
+    (subst (λ v. Appends v (h.contents s.1.1.1.0.now) (output_of a.1.1.0 whole)) old
+    (l.ok whole holds one)) in
+    absurd (let n : 2 ≡ 3 = ap length (r ∙ ap (λ v. output_of v whole) form) in omega arith)

@@ -1,0 +1,18 @@
+use Rattle.std.proofs.Common.{◌≡◌, List, map, length}
+use Rattle.std.specs.Io.KnownBytes.{Appends}
+use Rattle.tape_blocks.specs.Block.{Portion}
+use Rattle.tape_run.specs.Seen.{seen}
+use Rattle.tape_run.specs.ReelLine.{reel_lines}
+use Rattle.tape_run.specs.Reeling.{Turn, answer_of, AreTurns, Follows}
+use Rattle.tape_run.proofs.extract.images.read_images.Given as goal
+
+abbrev pub invariant-loop-number : goal.invariant-loop-number
+invariant-loop-number g l = (turns : List Turn) × (length turns ≡ l.number)
+    × AreTurns g.R.Read.remaining l.fn.images l.images turns
+    × (length l.images ≡ length l.fn.images)
+    × Appends (g.P.Write.contents l.fn.report) (g.P.Write.contents l.report) (reel_lines 1
+    (map answer_of turns))
+    × ((held : List Portion) → g.S.PartSink.holds l.fn.session.sink held → (now : List Portion)
+    × g.S.PartSink.holds l.session.sink now
+    × Follows l.fn.session.core (seen g.S.PartSink.refusals l.fn.session held) turns l.session.core
+    (seen g.S.PartSink.refusals l.session now))

@@ -1,0 +1,14 @@
+use Rattle.std.proofs.Common.{rules, ◌≡◌, None, subst}
+use Rattle.tape_run.specs.Output.{AppendsFront}
+use Rattle.tape_run.specs.ReelLine.{reel_line}
+use Rattle.tape_run.proofs.Fitting.{on_err}
+use Rattle.tape_run.proofs.Turns.{part_line}
+use Rattle.tape_run.proofs.extract.images.take_image.Goals as goal
+
+pub returns-in_err-write_text-in-None-clause-err :
+    goal.returns-in_err-write_text-in-None-clause-err
+returns-in_err-write_text-in-None-clause-err g c =
+    let text : c.as_bytes.result.now ≡ reel_line c.args.number None = search rules in
+    let part = subst (AppendsFront (g.P.Write.contents c.args.report.now)
+    (g.P.Write.contents c.write_text.new.writer)) text c.in_err-write_text-in-None.ensures.err in
+    on_err c.from_residual.result _ (part_line c.args.number None _ _ part)

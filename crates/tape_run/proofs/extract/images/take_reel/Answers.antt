@@ -1,0 +1,63 @@
+use Rattle.std.proofs.Common.{rules, ◌≡◌, Some, refl, subst}
+use Rattle.std.specs.Io.KnownBytes.{Appends}
+use Rattle.tape_run.specs.Seen.{seen}
+use Rattle.tape_run.specs.Output.{AppendsFront}
+use Rattle.tape_run.specs.ReelLine.{reel_line}
+use Rattle.tape_run.specs.Reeling.{Opened}
+use Rattle.tape_run.proofs.Fitting.{on_err}
+use Rattle.tape_run.proofs.Turns.{part_line, whole_line, noted}
+use Rattle.tape_run.proofs.extract.images.take_reel.Goals as goal
+
+pub returns-in_err-write_text-clause-err : goal.returns-in_err-write_text-clause-err
+returns-in_err-write_text-clause-err g c =
+    let text : c.as_bytes.result.now ≡ reel_line c.args.number (Some c.in_ok-answer.answer) =
+    search rules in
+    let part = subst (AppendsFront (g.P.Write.contents c.args.report.now)
+    (g.P.Write.contents c.write_text.new.writer)) text c.in_err-write_text.ensures.err in
+    on_err c.from_residual-in_err-write_text.result _
+    (part_line c.args.number (Some c.in_ok-answer.answer) _ _ part)
+
+pub returns-in_err-note-clause-err : goal.returns-in_err-note-clause-err
+returns-in_err-note-clause-err g c =
+    let text : c.as_bytes.result.now ≡ reel_line c.args.number (Some c.in_ok-answer.answer) =
+    search rules in
+    let line = subst (Appends (g.P.Write.contents c.args.report.now)
+    (g.P.Write.contents c.write_text.new.writer)) text c.in_ok-write_text.ensures.ok in
+    on_err c.from_residual-in_err-note.result _
+    (whole_line c.args.number (Some c.in_ok-answer.answer) _ _ line)
+
+pub returns-clause-ok : goal.returns-clause-ok
+returns-clause-ok g c =
+    let text : c.as_bytes.result.now ≡ reel_line c.args.number (Some c.in_ok-answer.answer) =
+    search rules in
+    let opened : Opened = record {
+      had = g.R.Read.remaining c.args.device.now;
+      left = g.R.Read.remaining c.reel.new.device;
+      answer = c.in_ok-answer.answer;
+    } in
+    let refusals = g.S.PartSink.refusals in
+    record {
+      turn = Some opened;
+      is_turn = (refl, refl);
+      line = subst (Appends (g.P.Write.contents c.args.report.now)
+          (g.P.Write.contents c.write_text.new.writer)) text c.in_ok-write_text.ensures.ok;
+      follows = λ held was.
+          let (now, has, keeps, reeled) = c.in_ok-answer.ensures.ok held was in
+          let (behind, has_behind, saved) = c.in_ok-note.ensures.ok now has in (
+            behind,
+            has_behind,
+            (
+              c.note.new.session.core,
+              seen refusals c.note.new.session behind,
+              record {
+                waits = c.requires.waits;
+                answers = c.in_ok-answer.ensures.answer;
+                reeled = noted opened.had opened (seen refusals c.args.session.now held)
+                    (seen refusals c.reel.new.self now) (seen refusals c.note.new.session behind)
+                    reeled saved;
+                place = refl;
+              },
+              (refl, refl),
+            ),
+          );
+    }

@@ -1,0 +1,64 @@
+-- What the reader's table makes of any items whatever, whether or not a lawful set fits them.
+use Rattle.std.specs.Prelude.{◌≡◌, ℕ, List, [], ◌∷◌, ◌++◌, ◌+◌, take, drop, Option, Some, None}
+use Rattle.tape_blocks.specs.Block.{Portion}
+use Rattle.tape_image.specs.Tape.{TapeItem, block}
+use Rattle.tape_set.specs.Lawful.{FileForm}
+use Rattle.tape_set.specs.declared.position.Position.{Position}
+use Rattle.tape_set.specs.Position.{part_of, at_part}
+use Rattle.tape_core.specs.declared.answer.Answer.{Answer}
+use Rattle.tape_core.specs.declared.answer.Answer.TheVariants.{Deliver}
+use Rattle.tape_core.specs.State.{State}
+use Rattle.tape_core.specs.Parts.{parts_in}
+use Rattle.tape_core.specs.Place.{rest_of}
+use Rattle.tape_core.specs.Table.{step_of}
+use Rattle.tape_run.specs.Reels.{behind_items}
+
+-- the parts of a block by what is known of its file, from the awaited one on
+abbrev pub parts_from : Position → Option FileForm → List ℕ → List Portion
+parts_from p None content = []
+parts_from p (Some form) content = drop (part_of p) (parts_in form content)
+
+-- the parts that an item delivers by its answer: those of a block that is the awaited one
+abbrev pub parts_by : Answer → TapeItem → Position → Option FileForm → List Portion
+parts_by Deliver (block content) p known = parts_from p known content
+parts_by answer item p known = []
+
+-- the parts that the item delivers to a core
+abbrev pub parts_at : State → TapeItem → List Portion
+parts_at core item =
+    parts_by (step_of core (Some item)).0 item core.position (step_of core (Some item)).1.known
+
+-- the same of what comes, an item or the end of the reel
+abbrev pub parts_of_arrival : State → Option TapeItem → List Portion
+parts_of_arrival core None = []
+parts_of_arrival core (Some item) = parts_at core item
+
+-- the parts that these items deliver, one after another
+abbrev pub delivered_parts : State → List TapeItem → List Portion
+delivered_parts core [] = []
+delivered_parts core (x ∷ xs) = parts_at core x ++ delivered_parts (step_of core (Some x)).1 xs
+
+-- The table leads the core over these items to where it stands now, and to the parts held came
+-- just those that they deliver.
+pub record IsLed (xs : List TapeItem) (core new : State) (held now : List Portion) : Type 0 where
+  pub place : new ≡ rest_of (behind_items core xs)
+  pub parts : now ≡ held ++ delivered_parts core xs
+
+-- A part of a block that came was refused: the parts before it, so many more, were delivered, and
+-- the core stands at it.
+pub record StopsInside (core new : State) (item : TapeItem) (held now : List Portion)
+    : Type 0 where
+  pub delivers : (step_of core (Some item)).0 ≡ Deliver
+  pub more : ℕ
+  pub parts : now ≡ held ++ take more (parts_at core item)
+  pub position : new.position ≡ at_part (part_of core.position + more) core.position
+
+-- Behind some of these items a part of the next one was refused.
+pub record IsCutAt (xs : List TapeItem) (core new : State) (held now : List Portion)
+    : Type 0 where
+  pub before : List TapeItem
+  pub item : TapeItem
+  pub behind : List TapeItem
+  pub all : xs ≡ before ++ item ∷ behind
+  pub stops : StopsInside (behind_items core before) new item
+      (held ++ delivered_parts core before) now

@@ -1,0 +1,99 @@
+-- What `check` reports of images.
+use Rattle.std.specs.Prelude.{◌≡◌, ◌⊎◌, ℕ, Bool, if◌then◌else◌, List, [], ◌∷◌, ◌++◌, map, Option}
+use Rattle.std.specs.Prelude.{Some, None}
+use Rattle.std.specs.List.{flat_map}
+use Rattle.std.specs.Io.KnownBytes.{Appends}
+use Rattle.tape_run.specs.declared.section.ImageLine.{ImageLine}
+use Rattle.tape_run.specs.declared.section.SectionLine.{SectionLine}
+use Rattle.tape_run.specs.declared.section.Lack.{Lack}
+use Rattle.tape_run.specs.declared.fault.RunFault.TheVariants as run
+use Rattle.tape_run.specs.Passing.{Told}
+use Rattle.tape_run.specs.Added.{Adds}
+use Rattle.tape_run.specs.Lacks.{line_of, lacks, found_all}
+use Rattle.tape_run.specs.declared.fault.EngineFault.{EngineFault}
+use Rattle.tape_run.specs.declared.fault.EngineFault.TheVariants.{Run, WriteFailed}
+use Rattle.tape_run.specs.CheckLine.{image_line, image_lines, section_line, lack_line, found_line}
+use Rattle.tape_run.specs.Output.{AppendsFront}
+
+-- an image: none where it was not opened, or else the bytes that its reader has, where it tells
+-- them
+abbrev pub Reel : Type 0
+Reel = Option (Option (List ℕ))
+
+-- An image was read to its end, or to a fault, and its sections were noted in a catalogue; or it
+-- was not opened.
+abbrev pub IsRead : Reel → Option ImageLine → List Told → List Told → Type 0
+IsRead None None c d = d ≡ c
+IsRead (Some before) (Some line) c d = (after : Option (List ℕ)) × Adds before after c line d
+IsRead _ _ c d = ⊥
+
+-- the same of images one after another
+abbrev pub AreRead : List Reel → List (Option ImageLine) → List Told → List Told → Type 0
+AreRead [] [] c d = d ≡ c
+AreRead (reel ∷ reels) (line ∷ lines) c d =
+    (mid : List Told) × IsRead reel line c mid × AreRead reels lines mid d
+AreRead _ _ c d = ⊥
+
+-- the last line, which there is where all was found
+abbrev pub last_line : Bool → List ℕ
+last_line found = if found then found_line else []
+
+-- a line for each section, for each lack, and the last line
+abbrev pub summary_of : List SectionLine → List Lack → Bool → List ℕ
+summary_of listed lacking found =
+    flat_map section_line listed ++ flat_map lack_line lacking ++ last_line found
+
+-- What stands behind the lines of images: the sections that were met, the first that each of their
+-- files lacks, and the last line where something was met and nothing lacks.
+abbrev pub summary : List Told → List ℕ
+summary d = summary_of (map line_of d) (lacks d) (found_all d)
+
+-- the image with this number was read, and its line was written
+abbrev pub Tells : Reel → ℕ → List Told → List Told → Option (List ℕ) → Option (List ℕ) → Type 0
+Tells reel n c d old new =
+    (line : Option ImageLine) × IsRead reel line c d × Appends old new (image_line n line)
+
+-- the images were read, and their lines were written
+abbrev pub TellsAll : List Reel → List Told → Option (List ℕ) → Option (List ℕ) → Type 0
+TellsAll reels d old new =
+    (lines : List (Option ImageLine)) × AreRead reels lines [] d
+    × Appends old new (image_lines 1 lines)
+
+-- At the image with this number a fault came: nothing more was written, or the image was read and a
+-- front of its line was written.
+abbrev pub StopsAt : Reel → ℕ → List Told → Option (List ℕ) → Option (List ℕ) → Type 0
+StopsAt reel n c old new = Appends old new [] ⊎ ((line : Option ImageLine) × (d : List Told)
+    × IsRead reel line c d × AppendsFront old new (image_line n line))
+
+-- The text is the report of these images, and tells so whether all was found. Behind the images the
+-- catalogue has these sections.
+pub record IsReport (reels : List Reel) (text : List ℕ) (found : Bool) : Type 0 where
+  pub lines : List (Option ImageLine)
+  pub sections : List Told
+  pub read : AreRead reels lines [] sections
+  pub told : text ≡ image_lines 1 lines ++ summary sections
+  pub all : found ≡ found_all sections
+
+-- the report was written
+abbrev pub Reports : List Reel → Option (List ℕ) → Option (List ℕ) → Bool → Type 0
+Reports reels old new found = (text : List ℕ) × IsReport reels text found × Appends old new text
+
+-- the summary follows where no image is left
+abbrev pub summary_behind : List Reel → List Told → List ℕ
+summary_behind [] d = summary d
+summary_behind (_ ∷ _) d = []
+
+-- The first images were read, and a front of their report was written; its summary follows the
+-- line of the last.
+pub record ReportsInPart (reels : List Reel) (old new : Option (List ℕ)) : Type 0 where
+  pub first : List Reel
+  pub left : List Reel
+  pub split : reels ≡ first ++ left
+  pub lines : List (Option ImageLine)
+  pub sections : List Told
+  pub read : AreRead first lines [] sections
+  pub wrote : AppendsFront old new (image_lines 1 lines ++ summary_behind left sections)
+
+-- a write failed, or there was no memory
+abbrev pub IsCheckFault : EngineFault → Type 0
+IsCheckFault fault = (fault ≡ WriteFailed) ⊎ (fault ≡ Run run.OutOfMemory)

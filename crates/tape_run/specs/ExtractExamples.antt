@@ -1,0 +1,54 @@
+-- Worked examples of what `extract` reports and writes: they hold the definitions.
+use Rattle.std.specs.Prelude.{◌≡◌, ℕ, List, [], ◌∷◌, ◌++◌, Option, Some, None, codes, decimal}
+use Rattle.tape_image.specs.declared.fault.ImageCause.TheVariants.{Truncated}
+use Rattle.tape_blocks.specs.declared.part.Span.TheVariants.{Whole, First, Middle, Last}
+use Rattle.tape_blocks.specs.Block.{Portion}
+use Rattle.tape_set.specs.declared.position.Want.{Want}
+use Rattle.tape_core.specs.declared.answer.Answer.TheVariants.{Useless}
+use Rattle.tape_core.specs.declared.answer.Reason.TheVariants.{ReelEnded}
+use Rattle.tape_run.specs.declared.answer.ReelAnswer.{ReelAnswer}
+use Rattle.tape_blocks.specs.declared.form.Form.TheVariants.{Lines, Raw}
+use Rattle.tape_run.specs.RecordText.{output_of}
+use Rattle.tape_run.specs.ReelLine.{reel_line, reel_lines, awaits_line}
+
+-- a record AB, a record CDE in three parts, and a record that is begun with F
+abbrev pub worked_parts : List Portion
+worked_parts =
+    record { span = Whole; bytes = codes "AB" }
+    ∷ record { span = First; bytes = codes "C" }
+    ∷ record { span = Middle; bytes = codes "D" }
+    ∷ record { span = Last; bytes = codes "E" }
+    ∷ record { span = First; bytes = codes "F" } ∷ []
+
+-- block 2 of the first section of file 9, of which so many parts are there
+abbrev pub worked_want : ℕ → Want
+worked_want part = record { file = 9; sect = 1; block = 2; part = part }
+
+-- a reel that is cut off in the item at byte 1,884
+abbrev pub worked_end : Option ReelAnswer
+worked_end = Some (record {
+  answer = Useless ReelEnded;
+  fault = Some (record { place = 1884; cause = Truncated });
+  blocks = 2;
+})
+
+-- what is written and reported, worked out
+pub record ExtractIsWorked : Type 0 where
+  pub lines : output_of Lines worked_parts ≡ codes "AB\nCDE\n"
+  pub raw : output_of Raw worked_parts ≡ codes "ABCDE"
+  pub nothing : output_of Lines [] ≡ []
+  pub empty_record : output_of Lines (record { span = Whole; bytes = [] } ∷ []) ≡ codes "\n"
+  pub not_opened : reel_line 1 None
+      ≡ codes "REEL " ++ decimal 1 ++ codes " " ++ codes "NOT OPENED" ++ codes "\n"
+  pub ended : reel_line 2 worked_end
+      ≡ codes "REEL " ++ decimal 2 ++ codes " "
+      ++ (codes "REEL ENDED" ++ (codes " IMAGE " ++ decimal 1 ++ codes " " ++ decimal 1884))
+      ++ codes "\n"
+  pub reels : reel_lines 1 (None ∷ worked_end ∷ [])
+      ≡ reel_line 1 None ++ (reel_line 2 worked_end ++ [])
+  pub awaits : awaits_line (worked_want 0)
+      ≡ codes "AWAITS " ++ decimal 9 ++ codes " " ++ decimal 1 ++ codes " " ++ decimal 2
+      ++ [] ++ codes "\n"
+  pub awaits_part : awaits_line (worked_want 7)
+      ≡ codes "AWAITS " ++ decimal 9 ++ codes " " ++ decimal 1 ++ codes " " ++ decimal 2
+      ++ (codes " " ++ decimal 7) ++ codes "\n"

@@ -1,0 +1,68 @@
+-- What `extract` leaves.
+use Rattle.std.specs.Prelude.{◌≡◌, ◌⊎◌, ℕ, ◌<◌, ◌≤◌, List, ◌++◌, length, map, Option, Some, None, ⊤}
+use Rattle.std.specs.Io.KnownBytes.{Appends}
+use Rattle.tape_blocks.specs.Block.{Portion}
+use Rattle.tape_blocks.specs.Spans.{join}
+use Rattle.tape_set.specs.declared.position.Position.TheVariants.{Finished}
+use Rattle.tape_set.specs.declared.position.Want.{Want}
+use Rattle.tape_set.specs.Position.{want_at}
+use Rattle.tape_core.specs.State.{State}
+use Rattle.tape_run.specs.declared.answer.ReelAnswer.{ReelAnswer}
+use Rattle.tape_run.specs.Seen.{Seen, seen}
+use Rattle.tape_run.specs.Story.{Story}
+use Rattle.tape_blocks.specs.declared.form.Form.{Form}
+use Rattle.tape_run.specs.Output.{AppendsFront}
+use Rattle.tape_run.specs.RecordText.{output_of}
+use Rattle.tape_run.specs.ReelLine.{reel_lines, last_line}
+use Rattle.tape_run.specs.Reeling.{Turn, answer_of, AreTurns, Follows, Gathers}
+
+-- what was written where something is wanted, and where nothing is: the records, which were counted
+abbrev pub IsWritten : Option Want → ℕ → Form → Option (List ℕ) → Option (List ℕ) → List Portion
+    → Type 0
+IsWritten (Some want) records form out written parts = ⊤
+IsWritten None records form out written parts = (records ≡ length (join parts).records)
+    × Appends out written (output_of form parts)
+
+-- What a session came to, over the images that were read: where it stands is what is wanted, it
+-- stands there by the history of its mounts, and where nothing is wanted the records of the parts
+-- that it gathered were written.
+pub record Ends (first : State) (old : Seen) (turns : List Turn) (want : Option Want) (records : ℕ)
+    (form : Form) (out written : Option (List ℕ)) : Type 0 where
+  pub last : State
+  pub now : Seen
+  pub follows : Follows first old turns last now
+  pub gathers : Gathers turns old now
+  pub wanted : want ≡ want_at now.place.file now.place.position
+  pub is_written : IsWritten want records form out written now.parts
+
+-- Images were read in their order, all of them or up to the one that completed the file; a line was
+-- reported for each, and a last one with what is wanted or how many records the file has; and the
+-- session that the sink's parts belong to ended so.
+pub record Extracts {S R : Type 0} (holds : S → List Portion → Type 0) (refusals : S → ℕ)
+    (remaining : R → Option (List ℕ)) (session : Story S) (images lefts : List (Option R))
+    (form : Form) (out written said says : Option (List ℕ)) (want : Option Want) : Type 0 where
+  pub turns : List Turn
+  pub are_turns : AreTurns remaining images lefts turns
+  pub all : length turns < length images → want ≡ None
+  pub records : ℕ
+  pub lines : Appends said says (reel_lines 1 (map answer_of turns) ++ last_line want records)
+  pub ends : (held : List Portion) → holds session.sink held
+      → Ends session.core (seen refusals session held) turns want records form out written
+
+-- A fault ended it: what was reported is a front of such a report, with the line of at most one
+-- image more than those that were read and noted; and nothing was done to the output, or the file
+-- is complete and a front of its records was written.
+pub record Stops {S W : Type 0} (holds : S → List Portion → Type 0) (refusals : S → ℕ)
+    (session : Story S) (form : Form) (contents : W → Option (List ℕ)) (out written : W)
+    (said says : Option (List ℕ)) : Type 0 where
+  pub turns : List Turn
+  pub more : List (Option ReelAnswer)
+  pub few : length more ≤ 1
+  pub want : Option Want
+  pub records : ℕ
+  pub lines : AppendsFront said says
+      (reel_lines 1 (map answer_of turns ++ more) ++ last_line want records)
+  pub follows : (held : List Portion) → holds session.sink held → (last : State) × (now : Seen)
+      × Follows session.core (seen refusals session held) turns last now
+      × ((written ≡ out) ⊎ ((now.place.position ≡ Finished)
+      × AppendsFront (contents out) (contents written) (output_of form now.parts)))

@@ -1,0 +1,78 @@
+-- What `extract` leaves where the records are written as the images are read.
+use Rattle.std.specs.Prelude.{◌≡◌, ◌⊎◌, ℕ, ◌<◌, ◌≤◌, List, ◌++◌, length, map, Option, Some, None, ⊤}
+use Rattle.std.specs.Io.KnownBytes.{Appends}
+use Rattle.tape_blocks.specs.Block.{Portion}
+use Rattle.tape_blocks.specs.Spans.{join}
+use Rattle.tape_set.specs.declared.position.Position.TheVariants.{Finished}
+use Rattle.tape_set.specs.declared.position.Want.{Want}
+use Rattle.tape_set.specs.Position.{want_at}
+use Rattle.tape_core.specs.State.{State}
+use Rattle.tape_run.specs.declared.answer.ReelAnswer.{ReelAnswer}
+use Rattle.tape_run.specs.Seen.{Seen, seen}
+use Rattle.tape_run.specs.Story.{Story}
+use Rattle.tape_blocks.specs.declared.form.Form.{Form}
+use Rattle.tape_run.specs.declared.extract.out_sink.OutSink.{OutSink}
+use Rattle.tape_run.specs.Output.{AppendsFront}
+use Rattle.tape_run.specs.RecordText.{output_of}
+use Rattle.tape_run.specs.OutSinks.{HasTaken}
+use Rattle.tape_run.specs.ReelLine.{reel_lines, last_line}
+use Rattle.tape_run.specs.Reeling.{Turn, answer_of, AreTurns, Follows, Gathers}
+
+-- what a sink that writes holds
+abbrev pub Takes : {W : Type 0} → (W → Option (List ℕ)) → OutSink W → List Portion → Type 0
+Takes contents s parts =
+    HasTaken contents s.form s.out s.weight s.records s.begun s.failed parts
+
+-- how many calls it refused
+abbrev pub refused_by : {W : Type 0} → OutSink W → ℕ
+refused_by s = s.refused
+
+-- what stands under the output's name where something is wanted, and where nothing is: just the
+-- records, which were counted; the bytes, of a writer that tells them
+abbrev pub IsPut : Option Want → Type 0 → ℕ → Form → Option (List ℕ) → List Portion → Type 0
+IsPut (Some want) tells records form stands parts = ⊤
+IsPut None tells records form stands parts = (records ≡ length (join parts).records)
+    × (tells → stands ≡ Some (output_of form parts))
+
+-- What a session came to, over the images that were read.
+pub record EndsNow (first : State) (old : Seen) (turns : List Turn) (want : Option Want)
+    (records : ℕ) (form : Form) (tells : Type 0) (stands : Option (List ℕ)) : Type 0 where
+  pub last : State
+  pub now : Seen
+  pub follows : Follows first old turns last now
+  pub gathers : Gathers turns old now
+  pub wanted : want ≡ want_at now.place.file now.place.position
+  pub is_put : IsPut want tells records form stands now.parts
+
+-- Images were read in their order, all of them or up to the one that completed the file; a line was
+-- reported for each, and a last one; and where nothing is wanted the records, and nothing else,
+-- stand under the output's name.
+pub record ExtractsNow {S R : Type 0} (holds : S → List Portion → Type 0) (refusals : S → ℕ)
+    (remaining : R → Option (List ℕ)) (session : Story S) (images lefts : List (Option R))
+    (form : Form) (tells : Type 0) (stands said says : Option (List ℕ)) (want : Option Want)
+    : Type 0 where
+  pub turns : List Turn
+  pub are_turns : AreTurns remaining images lefts turns
+  pub all : length turns < length images → want ≡ None
+  pub records : ℕ
+  pub lines : Appends said says (reel_lines 1 (map answer_of turns) ++ last_line want records)
+  pub ends : (held : List Portion) → holds session.sink held
+      → EndsNow session.core (seen refusals session held) turns want records form tells stands
+
+-- A fault ended it: what was reported is a front of such a report; and nothing was done to what
+-- stands under the output's name, or the file is complete and the same stands there, or just its
+-- records.
+pub record StopsNow {S O : Type 0} (holds : S → List Portion → Type 0) (refusals : S → ℕ)
+    (session : Story S) (form : Form) (tells : Type 0) (stands : O → Option (List ℕ)) (out put : O)
+    (said says : Option (List ℕ)) : Type 0 where
+  pub turns : List Turn
+  pub more : List (Option ReelAnswer)
+  pub few : length more ≤ 1
+  pub want : Option Want
+  pub records : ℕ
+  pub lines : AppendsFront said says
+      (reel_lines 1 (map answer_of turns ++ more) ++ last_line want records)
+  pub follows : (held : List Portion) → holds session.sink held → (last : State) × (now : Seen)
+      × Follows session.core (seen refusals session held) turns last now
+      × ((put ≡ out) ⊎ ((now.place.position ≡ Finished) × ((stands put ≡ stands out)
+      ⊎ (tells → stands put ≡ Some (output_of form now.parts)))))

@@ -1,0 +1,20 @@
+-- A front of a mount is a mount.
+use Rattle.std.specs.Prelude.{ℕ, List, ◌++◌}
+use Rattle.tape_set.specs.Layout.{FileSet}
+use Rattle.tape_run.specs.declared.script.Step.{Step}
+use Rattle.tape_run.specs.Mount.{Happening, IsMountOf, cut}
+use Rattle.tape_run.specs.History.{IsHistory}
+use Rattle.tape_run.specs.Given.{AreGiven}
+
+-- The front of a reel that a reader gave before it failed is a mount: of the same volume, up to
+-- some item, or foreign.
+abbrev pub FrontsAreMounts : Type 0
+FrontsAreMounts = (set : FileSet) (front rest : List ℕ) (h : Happening)
+    → IsMountOf set (front ++ rest) h → (n : ℕ) × IsMountOf set front (cut n h)
+
+-- So whatever readers failed, what was given is a history too.
+abbrev pub GivenIsHistory : Type 0
+GivenIsHistory = (set : FileSet) (notes failed : ℕ) (steps : List Step)
+    (bytes given : List (List ℕ)) (hs : List Happening)
+    → IsHistory set notes steps bytes hs → AreGiven failed bytes given
+    → (hs' : List Happening) × IsHistory set notes steps given hs'

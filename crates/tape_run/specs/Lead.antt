@@ -1,0 +1,108 @@
+-- Where the reader's table leads a run, whatever is on the reels: no set is named here.
+use Rattle.std.specs.Prelude.{◌≡◌, ℕ, ◌+◌, List, [], ◌∷◌, ◌++◌, take, Option, Some, None, slice_get}
+use Rattle.std.specs.Prelude.{⊤}
+use Rattle.tape_blocks.specs.Block.{Portion}
+use Rattle.tape_image.specs.Tape.{TapeItem}
+use Rattle.tape_image.specs.Begins.{Stop, Begins}
+use Rattle.tape_core.specs.declared.phase.Phase.TheVariants.{Over}
+use Rattle.tape_core.specs.Point.{Point}
+use Rattle.tape_core.specs.State.{State}
+use Rattle.tape_core.specs.Place.{rest_of}
+use Rattle.tape_core.specs.Table.{saved, mount_of, reader_of}
+use Rattle.tape_core.specs.Stands.{weight_of}
+use Rattle.tape_core.specs.Weight.{IsFront}
+use Rattle.tape_run.specs.declared.script.Step.{Step}
+use Rattle.tape_run.specs.declared.script.Step.TheVariants.{Reel, Save, Restart}
+use Rattle.tape_run.specs.Reels.{behind_items}
+use Rattle.tape_run.specs.ByTable.{delivered_parts, IsCutAt}
+use Rattle.tape_run.specs.declared.fault.RunFault.{RunFault}
+use Rattle.tape_run.specs.declared.fault.RunFault.TheVariants.{Sink}
+use Rattle.tape_run.specs.Seen.{Seen}
+
+-- what was noted: where the reader stood, and the parts that had been delivered
+pub record Noted : Type 0 where
+  pub place : State
+  pub parts : List Portion
+
+-- where the reader stands, the parts that were delivered, and the notes, the first of them first
+pub record Lead : Type 0 where
+  pub place : State
+  pub parts : List Portion
+  pub notes : List Noted
+
+-- a file of which nothing was read
+abbrev pub at_start : List ℕ → ℕ → Lead
+at_start set_id file = record { place = reader_of set_id file; parts = []; notes = [] }
+
+-- behind a reel of these items
+abbrev pub over_reel : Lead → List TapeItem → Lead
+over_reel t xs = record {
+  place = rest_of (behind_items (mount_of t.place) xs);
+  parts = t.parts ++ delivered_parts (mount_of t.place) xs;
+  notes = t.notes;
+}
+
+-- with one more note
+abbrev pub over_save : Lead → Lead
+over_save t = record {
+  place = t.place;
+  parts = t.parts;
+  notes = t.notes ++ record { place = t.place; parts = t.parts } ∷ [];
+}
+
+-- back at note n, if there is one, where no reading is under way: the later notes are forgotten
+abbrev pub back_to : Lead → ℕ → Option Noted → Lead
+back_to t n None = t
+back_to t n (Some note) = record {
+  place = record note.place { phase = Over };
+  parts = note.parts;
+  notes = take (n + 1) t.notes;
+}
+
+-- behind these steps, over reels of these items
+abbrev pub lead : Lead → List Step → List (List TapeItem) → Lead
+lead t [] reels = t
+lead t (Reel ∷ steps) [] = t
+lead t (Reel ∷ steps) (xs ∷ reels) = lead (over_reel t xs) steps reels
+lead t (Save ∷ steps) reels = lead (over_save t) steps reels
+lead t (Restart n ∷ steps) reels = lead (back_to t n (slice_get t.notes n)) steps reels
+
+-- the items that the bytes of each reel begin with
+abbrev pub AreItems : List (List ℕ) → List (List TapeItem) → Type 0
+AreItems [] [] = ⊤
+AreItems [] (xs ∷ reels) = ⊥
+AreItems (bytes ∷ given) [] = ⊥
+AreItems (bytes ∷ given) (xs ∷ reels) =
+    ((end : ℕ) × (stop : Stop) × Begins 0 bytes xs end stop) × AreItems given reels
+
+-- The points are those of the notes, whose parts are ever longer fronts of the parts, the first of
+-- them one that has this front.
+abbrev pub AreNoted : List Portion → List Noted → List Point → List Portion → Type 0
+AreNoted front [] [] parts = IsFront front parts
+AreNoted front [] (c ∷ cs) parts = ⊥
+AreNoted front (n ∷ ns) [] parts = ⊥
+AreNoted front (n ∷ ns) (c ∷ cs) parts = IsFront front n.parts
+    × (c ≡ saved n.place (weight_of n.parts)) × AreNoted n.parts ns cs parts
+
+-- The session is there: its core, the parts that its sink holds, and its notes.
+pub record StandsThere (t : Lead) (s : Seen) : Type 0 where
+  pub place : s.place ≡ t.place
+  pub parts : s.parts ≡ t.parts
+  pub notes : AreNoted [] t.notes s.notes s.parts
+
+-- The steps lead a session to where the table leads, whatever the items of its reels are.
+abbrev pub LeadsBy : Seen → List Step → List (List ℕ) → Seen → Type 0
+LeadsBy old steps given new = (t : Lead) (reels : List (List TapeItem)) → AreItems given reels
+    → StandsThere t old → StandsThere (lead t steps reels) new
+
+-- Whatever bytes there are, they begin with items, and with these alone.
+abbrev pub ItemsAreThere : Type 0
+ItemsAreThere = (given : List (List ℕ)) → (reels : List (List TapeItem)) × AreItems given reels
+    × ((others : List (List TapeItem)) → AreItems given others → others ≡ reels)
+
+-- A step was not made, for this reason, by a session that stood there: it stands there still, or
+-- inside the reel at a part that the sink refused.
+abbrev pub StopsBy : Lead → Step → List (List ℕ) → RunFault → Seen → Type 0
+StopsBy t Reel (bytes ∷ readers) (Sink cause) new = (xs : List TapeItem) (end : ℕ) (stop : Stop)
+    → Begins 0 bytes xs end stop → IsCutAt xs (mount_of t.place) new.place t.parts new.parts
+StopsBy t step readers fault new = StandsThere t new

@@ -1,0 +1,85 @@
+-- The lines that `extract` reports. Numbers are decimals without leading zeros.
+use Rattle.std.specs.Prelude.{ℕ, ◌+◌, List, [], ◌∷◌, ◌++◌, Option, Some, None, codes, decimal}
+use Rattle.std.specs.Prelude.{if◌then◌else◌, ◌==◌}
+use Rattle.tape_image.specs.declared.fault.ImageFault.{ImageFault}
+use Rattle.tape_image.specs.Fault as image_faults
+use Rattle.tape_label.specs.Faults as label_faults
+use Rattle.tape_blocks.specs.Numbers.{cause_number}
+use Rattle.tape_set.specs.declared.position.Want.{Want}
+use Rattle.tape_core.specs.declared.answer.Answer.{Answer}
+use Rattle.tape_core.specs.declared.answer.Answer.TheVariants.{Passed, Deliver, SectionDone}
+use Rattle.tape_core.specs.declared.answer.Answer.TheVariants.{Complete, Useless}
+use Rattle.tape_core.specs.declared.answer.Reason.{Reason}
+use Rattle.tape_core.specs.declared.answer.Reason.TheVariants.{NotLabelled, OtherSet, NotOnReel}
+use Rattle.tape_core.specs.declared.answer.Reason.TheVariants.{LaterSection, EarlierSection}
+use Rattle.tape_core.specs.declared.answer.Reason.TheVariants.{BadItem, ReelEnded, BadBlock}
+use Rattle.tape_core.specs.declared.answer.Reason.TheVariants.{BlockCount, SpanLeft, SectionDiffers}
+use Rattle.tape_core.specs.declared.answer.Reason.TheVariants.{BadLabel, Broken}
+use Rattle.tape_run.specs.declared.answer.ReelAnswer.{ReelAnswer}
+
+-- a word, and two numbers behind it
+abbrev pub two_numbers : List ℕ → ℕ → ℕ → List ℕ
+two_numbers word a b = word ++ decimal a ++ codes " " ++ decimal b
+
+-- why a reading gave nothing more
+abbrev pub reason_text : Reason → List ℕ
+reason_text NotLabelled = codes "NOT LABELLED"
+reason_text OtherSet = codes "OTHER SET"
+reason_text NotOnReel = codes "NOT ON REEL"
+reason_text LaterSection = codes "LATER SECTION"
+reason_text EarlierSection = codes "EARLIER SECTION"
+reason_text BadItem = codes "BAD ITEM"
+reason_text ReelEnded = codes "REEL ENDED"
+reason_text (BadBlock fault) =
+    two_numbers (codes "BAD BLOCK ") (cause_number fault.cause) fault.place
+reason_text (BlockCount label seen) = two_numbers (codes "BLOCK COUNT ") label seen
+reason_text SpanLeft = codes "SPAN LEFT"
+reason_text SectionDiffers = codes "SECTION DIFFERS"
+reason_text (BadLabel fault) = codes "BAD LABEL " ++ decimal (label_faults.number fault)
+reason_text Broken = codes "BROKEN"
+
+-- what ended a reading; the first two never do
+abbrev pub answer_text : Answer → List ℕ
+answer_text Passed = codes "PASSED"
+answer_text Deliver = codes "DELIVER"
+answer_text SectionDone = codes "SECTION DONE"
+answer_text Complete = codes "COMPLETE"
+answer_text (Useless reason) = reason_text reason
+
+-- the fault of the image that ended the reading, if one did
+abbrev pub end_text : Option ImageFault → List ℕ
+end_text None = []
+end_text (Some fault) =
+    two_numbers (codes " IMAGE ") (image_faults.number_of fault.cause) fault.place
+
+-- what became of an image: it was read, or it was not opened
+abbrev pub outcome_text : Option ReelAnswer → List ℕ
+outcome_text None = codes "NOT OPENED"
+outcome_text (Some answer) = answer_text answer.answer ++ end_text answer.fault
+
+-- the line of the image with this number
+abbrev pub reel_line : ℕ → Option ReelAnswer → List ℕ
+reel_line n outcome = codes "REEL " ++ decimal n ++ codes " " ++ outcome_text outcome ++ codes "\n"
+
+-- the last line of a file that is complete, which has so many records
+abbrev pub complete_line : ℕ → List ℕ
+complete_line records = codes "COMPLETE " ++ decimal records ++ codes "\n"
+
+-- how many parts of the block that is wanted are there, where some are
+abbrev pub part_text : ℕ → List ℕ
+part_text part = if part == 0 then [] else codes " " ++ decimal part
+
+-- the last line of one that is not: what is wanted
+abbrev pub awaits_line : Want → List ℕ
+awaits_line want = codes "AWAITS " ++ decimal want.file ++ codes " " ++ decimal want.sect
+    ++ codes " " ++ decimal want.block ++ part_text want.part ++ codes "\n"
+
+-- the last line: what is wanted, or how many records the file has
+abbrev pub last_line : Option Want → ℕ → List ℕ
+last_line None records = complete_line records
+last_line (Some want) records = awaits_line want
+
+-- the lines of images, of which the first has this number
+abbrev pub reel_lines : ℕ → List (Option ReelAnswer) → List ℕ
+reel_lines n [] = []
+reel_lines n (outcome ∷ outcomes) = reel_line n outcome ++ reel_lines (n + 1) outcomes

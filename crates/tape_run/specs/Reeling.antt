@@ -1,0 +1,196 @@
+-- What `extract` makes of images, one after another.
+use Rattle.std.specs.Prelude.{◌≡◌, ◌≢◌, ℕ, ◌<◌, ◌≤◌, List, [], ◌∷◌, ◌++◌, length, map, Option}
+use Rattle.std.specs.Prelude.{Some, None, IfSome, IsSome, ⊤, Bool, true, false}
+use Rattle.std.specs.Io.KnownBytes.{Appends}
+use Rattle.tape_blocks.specs.Block.{Portion}
+use Rattle.tape_image.specs.Reader.{IfKnown}
+use Rattle.tape_image.specs.Tape.{TapeItem}
+use Rattle.tape_image.specs.Begins.{Stop, Begins}
+use Rattle.tape_set.specs.declared.position.Position.{Position}
+use Rattle.tape_set.specs.declared.position.Position.TheVariants.{Finished}
+use Rattle.tape_set.specs.Layout.{FileSet}
+use Rattle.tape_set.specs.Lawful.{IsLawful}
+use Rattle.tape_core.specs.State.{State}
+use Rattle.tape_core.specs.declared.answer.Answer.{Answer}
+use Rattle.tape_core.specs.declared.answer.Answer.TheVariants.{Useless}
+use Rattle.tape_core.specs.declared.answer.Reason.TheVariants.{BlockCount, Broken}
+use Rattle.tape_core.specs.Place.{IsPlaced, rest_of}
+use Rattle.tape_run.specs.declared.answer.ReelAnswer.{ReelAnswer}
+use Rattle.tape_run.specs.Given.{is_device, IsGiven}
+use Rattle.tape_run.specs.Mount.{Happening, IsMountOf, after_mount}
+use Rattle.tape_run.specs.Lead.{Lead, over_reel}
+use Rattle.tape_run.specs.Reels.{Reads}
+use Rattle.tape_run.specs.Seen.{Seen, seen}
+use Rattle.tape_run.specs.Steps.{Reeled, Saved}
+use Rattle.tape_run.specs.Story.{Story}
+use Rattle.tape_run.specs.Output.{AppendsFront}
+use Rattle.tape_run.specs.ReelLine.{reel_line, reel_lines}
+
+-- An image that was opened: the bytes that its reader had and has left, where these are known, and
+-- what its reel answered.
+pub record Opened : Type 0 where
+  pub had : Option (List ℕ)
+  pub left : Option (List ℕ)
+  pub answer : ReelAnswer
+
+-- what became of an image: it was read, or it was not opened
+abbrev pub Turn : Type 0
+Turn = Option Opened
+
+-- what an image answered, if it was opened
+abbrev pub answer_of : Turn → Option ReelAnswer
+answer_of None = None
+answer_of (Some o) = Some o.answer
+
+-- An image is this turn, with what its reader had before and has now.
+abbrev pub IsTurn : {R : Type 0} → (R → Option (List ℕ)) → Option R → Option R → Turn → Type 0
+IsTurn remaining None None None = ⊤
+IsTurn remaining (Some old) (Some new) (Some o) =
+    (o.had ≡ remaining old) × (o.left ≡ remaining new)
+IsTurn remaining old new turn = ⊥
+
+-- The first of the images are these turns; the others are as they were.
+abbrev pub AreTurns : {R : Type 0} → (R → Option (List ℕ)) → List (Option R) → List (Option R)
+    → List Turn → Type 0
+AreTurns remaining olds news [] = news ≡ olds
+AreTurns remaining [] news (turn ∷ turns) = ⊥
+AreTurns remaining (old ∷ olds) [] (turn ∷ turns) = ⊥
+AreTurns remaining (old ∷ olds) (new ∷ news) (turn ∷ turns) =
+    IsTurn remaining old new turn × AreTurns remaining olds news turns
+
+-- whether the trailer label of a reel counted other blocks, or that of one before it did
+abbrev pub is_doubtful : Answer → Bool
+is_doubtful (Useless (BlockCount label seen)) = true
+is_doubtful (Useless Broken) = true
+is_doubtful answer = false
+
+-- It was noted where the session stands. Where what the reel gave is in doubt nothing was noted.
+abbrev pub IsNoted : Bool → Seen → Seen → Type 0
+IsNoted true old new = new ≡ old
+IsNoted false old new = Saved old new
+
+-- A reel was read from one state of a session to another, and it was noted where this stands: the
+-- file was not complete, the answer is the core's, and the session is where the reel leads.
+pub record ReadsReel (core : State) (old : Seen) (o : Opened) (next : State)
+    (new : Seen) : Type 0 where
+  pub waits : core.position ≢ Finished
+  pub answers : IfKnown o.had o.left
+      (λ bytes left. Reads core.position core bytes left o.answer)
+  pub reeled : IfSome o.had (λ bytes. (mid : Seen)
+      × Reeled bytes (is_device o.answer.fault) old mid
+      × IsNoted (is_doubtful o.answer.answer) mid new)
+  pub place : new.place ≡ rest_of next
+
+-- The images, one after another, took a session from one state to another. An image that was not
+-- opened changes nothing.
+abbrev pub Follows : State → Seen → List Turn → State → Seen → Type 0
+Follows core old [] last new = (last ≡ core) × (new ≡ old)
+Follows core old (None ∷ turns) last new =
+    (core.position ≢ Finished) × Follows core old turns last new
+Follows core old (Some o ∷ turns) last new = (next : State) × (behind : Seen)
+    × ReadsReel core old o next behind × Follows next behind turns last new
+
+-- The bytes that were given of each image that was opened: all that it has, or a front of that
+-- where the line of the image tells that reading it failed.
+abbrev pub AreGiven : List Turn → List (List ℕ) → Type 0
+AreGiven [] [] = ⊤
+AreGiven (None ∷ turns) given = AreGiven turns given
+AreGiven (Some o ∷ turns) (g ∷ given) =
+    IfSome o.had (λ bytes. IsGiven (is_device o.answer.fault) bytes g) × AreGiven turns given
+AreGiven turns given = ⊥
+
+-- The bytes given are those of these mounts: copies of the set's volumes, or reels of others. Each
+-- reader told its bytes.
+abbrev pub AreMounts : FileSet → List Turn → List (List ℕ) → List Happening → Type 0
+AreMounts set [] given [] = ⊤
+AreMounts set [] given (h ∷ hs) = ⊥
+AreMounts set (None ∷ turns) given hs = AreMounts set turns given hs
+AreMounts set (Some o ∷ turns) (g ∷ given) (h ∷ hs) =
+    IsSome o.had × IsMountOf set g h × AreMounts set turns given hs
+AreMounts set turns given hs = ⊥
+
+-- the position that mounts, one after another, make of p
+abbrev pub reached : FileSet → ℕ → Position → List Happening → Position
+reached set file p [] = p
+reached set file p (h ∷ hs) = reached set file (after_mount set file p h) hs
+
+-- The session stands where the mounts lead, with just the parts before that position.
+pub record Arrives (set : FileSet) (old : Seen) (hs : List Happening) (new : Seen) : Type 0 where
+  pub at : IsPlaced set new.place new.parts
+  pub same_file : new.place.file ≡ old.place.file
+  pub position : new.place.position ≡ reached set old.place.file old.place.position hs
+
+-- The items that the bytes given of each image begin with. Each reader told its bytes.
+abbrev pub AreTapes : List Turn → List (List ℕ) → List (List TapeItem) → Type 0
+AreTapes [] given [] = ⊤
+AreTapes [] given (xs ∷ tapes) = ⊥
+AreTapes (None ∷ turns) given tapes = AreTapes turns given tapes
+AreTapes (Some o ∷ turns) (g ∷ given) (xs ∷ tapes) = IsSome o.had
+    × ((end : ℕ) × (stop : Stop) × Begins 0 g xs end stop) × AreTapes turns given tapes
+AreTapes turns given tapes = ⊥
+
+-- where the reader's table leads over tapes, one after another
+abbrev pub over_tapes : Lead → List (List TapeItem) → Lead
+over_tapes t [] = t
+over_tapes t (xs ∷ tapes) = over_tapes (over_reel t xs) tapes
+
+-- The session stands there, and its sink holds the parts delivered up to there.
+pub record IsThere (t : Lead) (s : Seen) : Type 0 where
+  pub place : s.place ≡ t.place
+  pub parts : s.parts ≡ t.parts
+
+-- Whatever the tapes are, the session went where the table leads.
+abbrev pub LedOver : List Turn → List (List ℕ) → Seen → Seen → Type 0
+LedOver turns given old new = (t : Lead) (tapes : List (List TapeItem))
+    → AreTapes turns given tapes → IsThere t old → IsThere (over_tapes t tapes) new
+
+-- Of every lawful set and all mounts that the images are, the session is where these lead; and
+-- whatever the images are, it is where the table leads.
+pub record Gathers (turns : List Turn) (old new : Seen) : Type 0 where
+  pub given : List (List ℕ)
+  pub are_given : AreGiven turns given
+  pub arrives : (set : FileSet) (hs : List Happening) → IsLawful set → AreMounts set turns given hs
+      → IsPlaced set old.place old.parts → Arrives set old hs new
+  pub led : LedOver turns given old new
+
+-- ---- calls
+
+-- The image with this number was read, or passed, and its line was reported.
+pub record Takes {S R : Type 0} (holds : S → List Portion → Type 0) (refusals : S → ℕ)
+    (remaining : R → Option (List ℕ)) (old new : Story S) (image left : Option R) (number : ℕ)
+    (said says : Option (List ℕ)) : Type 0 where
+  pub turn : Turn
+  pub is_turn : IsTurn remaining image left turn
+  pub line : Appends said says (reel_line number (answer_of turn))
+  pub follows : (held : List Portion) → holds old.sink held → (now : List Portion)
+      × holds new.sink now
+      × Follows old.core (seen refusals old held) (turn ∷ []) new.core (seen refusals new now)
+
+-- Images were read in their order, all of them or up to the one that completed the file, and a line
+-- was reported for each.
+pub record TakesAll {S R : Type 0} (holds : S → List Portion → Type 0) (refusals : S → ℕ)
+    (remaining : R → Option (List ℕ)) (old new : Story S) (images lefts : List (Option R))
+    (said says : Option (List ℕ)) : Type 0 where
+  pub turns : List Turn
+  pub are_turns : AreTurns remaining images lefts turns
+  pub lines : Appends said says (reel_lines 1 (map answer_of turns))
+  pub all : length turns < length images → new.core.position ≡ Finished
+  pub follows : (held : List Portion) → holds old.sink held → (now : List Portion)
+      × holds new.sink now
+      × Follows old.core (seen refusals old held) turns new.core (seen refusals new now)
+
+-- Nothing was reported but a front of the lines of at most one image, which has this number.
+abbrev pub IsReported : ℕ → Option (List ℕ) → Option (List ℕ) → Type 0
+IsReported number said says = (more : List (Option ReelAnswer)) × (length more ≤ 1)
+    × AppendsFront said says (reel_lines number more)
+
+-- Images were read in their order, and a fault ended that: a line was reported for each of them,
+-- and a front of one for one more.
+pub record StopsReading {S : Type 0} (holds : S → List Portion → Type 0) (refusals : S → ℕ)
+    (old : Story S) (said says : Option (List ℕ)) : Type 0 where
+  pub turns : List Turn
+  pub more : List (Option ReelAnswer)
+  pub few : length more ≤ 1
+  pub lines : AppendsFront said says (reel_lines 1 (map answer_of turns ++ more))
+  pub follows : (held : List Portion) → holds old.sink held → (core : State) × (now : Seen)
+      × Follows old.core (seen refusals old held) turns core now

@@ -1,0 +1,74 @@
+-- Laws of what `check` reports, in the words of reels and sections.
+use Rattle.std.specs.Prelude.{◌≡◌, ⊤, ℕ, Bool, true, List, [], ◌∷◌, ◌++◌, Option, Some}
+use Rattle.std.specs.Prelude.{IsSome}
+use Rattle.std.specs.List.{AllByRecursion, flat_map}
+use Rattle.tape_image.specs.Tape.{TapeItem}
+use Rattle.tape_image.specs.Reader.{IfKnown}
+use Rattle.tape_set.specs.Layout.{FileSet, file_of, sections}
+use Rattle.tape_set.specs.Lawful.{IsLawful}
+use Rattle.tape_run.specs.declared.section.SectionKey.{SectionKey}
+use Rattle.tape_run.specs.declared.section.SectionState.TheVariants.{Good}
+use Rattle.tape_run.specs.declared.section.SectionLine.{SectionLine}
+use Rattle.tape_run.specs.declared.section.ImageStop.{ImageStop}
+use Rattle.tape_run.specs.declared.section.ImageLine.{ImageLine}
+use Rattle.tape_run.specs.Passing.{Told}
+use Rattle.tape_run.specs.Noted.{StandsIn}
+use Rattle.tape_run.specs.Shown.{Shown}
+use Rattle.tape_run.specs.Added.{StopsBehind}
+use Rattle.tape_run.specs.WholeSet.{key_in, HasEach, IsWholeCopy, IsNoDevice}
+use Rattle.tape_run.specs.CheckLine.{image_lines, section_line, found_line}
+use Rattle.tape_run.specs.Checked.{Reel, IsReport}
+
+-- Each image is a whole copy of the volume with this number, and its reader did not fail.
+abbrev pub AreWholeCopies : FileSet → List Reel → List (Option ImageLine) → List ℕ → Type 0
+AreWholeCopies set [] [] [] = ⊤
+AreWholeCopies set (Some (Some bytes) ∷ reels) (Some line ∷ lines) (k ∷ ks) =
+    IsWholeCopy set k bytes × IsNoDevice line.stop × AreWholeCopies set reels lines ks
+AreWholeCopies set _ _ _ = ⊥
+
+-- the section has a line, and this says GOOD
+pub record IsListedGood (listed : List SectionLine) (key : SectionKey) : Type 0 where
+  pub front : List SectionLine
+  pub line : SectionLine
+  pub rest : List SectionLine
+  pub stands : listed ≡ front ++ line ∷ rest
+  pub set_id : line.set_id ≡ key.set_id
+  pub file : line.file ≡ key.file
+  pub sect : line.sect ≡ key.sect
+  pub good : line.state ≡ Good
+
+-- Behind the lines of the images stand a line for each section of the set that says GOOD, no line
+-- that tells a lack, and the line that tells that all was found.
+pub record IsToldWhole (set : FileSet) (lines : List (Option ImageLine)) (text : List ℕ)
+    (found : Bool) : Type 0 where
+  pub all : found ≡ true
+  pub listed : List SectionLine
+  pub told : text ≡ image_lines 1 lines ++ (flat_map section_line listed ++ found_line)
+  pub good : AllByRecursion (λ x. IsListedGood listed (key_in set x)) (sections set)
+
+-- The report of whole copies of all volumes of a lawful set that has a file, in any order and with
+-- repeats, tells each section of the set as GOOD, and no lack.
+abbrev pub WholeSetIsTold : Type 0
+WholeSetIsTold =
+    (set : FileSet) (ks : List ℕ) (reels : List Reel) (text : List ℕ) (found : Bool)
+    → IsLawful set → HasEach set ks → IsSome (file_of set 1)
+    → (report : IsReport reels text found) → AreWholeCopies set reels report.lines ks
+    → IsToldWhole set report.lines text found
+
+-- one of the images shows the section whole, in the items that its bytes begin with
+pub record IsShownOn (reels : List Reel) (told : Told) : Type 0 where
+  pub front : List Reel
+  pub before : Option (List ℕ)
+  pub rest : List Reel
+  pub stands : reels ≡ front ++ Some before ∷ rest
+  pub items : List TapeItem
+  pub stop : ImageStop
+  pub after : Option (List ℕ)
+  pub read : IfKnown before after (StopsBehind items stop)
+  pub shown : Shown items told.0 told.1
+
+-- What a report tells as GOOD stands whole on one of the images.
+abbrev pub GoodWasSeen : Type 0
+GoodWasSeen = (reels : List Reel) (text : List ℕ) (found : Bool)
+    → (report : IsReport reels text found) (told : Told)
+    → StandsIn report.sections told → told.1.state ≡ Good → IsShownOn reels told

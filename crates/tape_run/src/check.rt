@@ -1,0 +1,211 @@
+//! `check`: which file sections are on any images, which are whole, and which are missing.
+ghost use Rattle.std.specs.Prelude.{◌≡◌, [], List, map, option_map, IfOk, IfErr, OnOk, OnErr};
+ghost use Rattle.std.specs.List.{flat_map};
+ghost use Rattle.std.specs.Io.KnownBytes.{Appends};
+ghost use Rattle.tape_run.specs.Passing.{Told};
+ghost use Rattle.tape_run.specs.Lacks.{line_of, lacks, found_all};
+ghost use Rattle.tape_run.specs.CheckLine.{section_line, lack_line};
+ghost use Rattle.tape_run.specs.Checked.{IsRead, Tells, TellsAll, StopsAt, last_line, summary_of};
+ghost use Rattle.tape_run.specs.Checked.{summary, Reports, ReportsInPart, IsCheckFault};
+ghost use Rattle.tape_run.specs.Output.{AppendsFront};
+
+use crate::catalogue::Catalogue;
+use crate::check_line::{image_line, lack_line, section_line};
+use crate::fault::{EngineFault, RunFault, WriteFailed};
+use crate::output::{flush, write_text};
+use crate::report::check_set;
+use crate::section::{ImageLine, Lack, SectionLine};
+use std::alloc::{AllocError, Global};
+use std::io::{BufReader, Read, Write};
+
+/// There was no memory.
+const NO_MEMORY: EngineFault = EngineFault::Run(RunFault::OutOfMemory);
+
+/// Reports what is on the images, each of which is a reader, or was not opened: a line for each
+/// image, a line for each section in the order in which they were met first, a line for each file
+/// that lacks a section, and a last line where something was met and nothing lacks. It answers
+/// whether that is so.
+///
+/// Each image is read to its end or to a fault, through a buffer, and then let go. It takes memory
+/// for the buffers of one image, and else for the sections alone. The report is passed on at the
+/// end; no contract can tell that of a writer: tests show it.
+///
+/// # Errors
+///
+/// `WriteFailed` where the report could not be written, and `Run(OutOfMemory)`.
+pub fn check_to<R: Read + Drop, P: Write>(
+    alloc: Global,
+    images: &mut [Option<R>],
+    report: &mut P,
+) -> Result<bool, EngineFault>
+    // Success is the whole report, and tells whether all was found.
+    ensures ok { IfOk result (Reports (map (option_map R.remaining) images.old)
+        (P.contents report.old) (P.contents report.new)) }
+    // Whatever the fault, a front of a report was written: of the images that were read.
+    ensures front { OnErr result (ReportsInPart (map (option_map R.remaining) images.old)
+        (P.contents report.old) (P.contents report.new)) }
+    ensures fault { IfErr result IsCheckFault }
+{
+    let mut catalogue = Catalogue::new(alloc);
+    check_images(alloc, &mut catalogue, images, report)?;
+    summarize(alloc, &catalogue, report)
+}
+
+/// Notes what is on the images, and writes a line for each.
+fn check_images<R: Read + Drop, P: Write>(
+    alloc: Global,
+    catalogue: &mut Catalogue,
+    images: &mut [Option<R>],
+    report: &mut P,
+) -> Result<(), EngineFault>
+    requires { catalogue.old ≡ [] }
+    ensures ok { OnOk result (TellsAll (map (option_map R.remaining) images.old) catalogue.new
+        (P.contents report.old) (P.contents report.new)) }
+    ensures front { OnErr result (ReportsInPart (map (option_map R.remaining) images.old)
+        (P.contents report.old) (P.contents report.new)) }
+    ensures fault { IfErr result IsCheckFault }
+{
+    let mut place = 0;
+    'images: while place < images.len() {
+        check_image(alloc, catalogue, &mut images[place], place + 1, report)?;
+        place += 1;
+    }
+    Ok(())
+}
+
+/// Notes what is on an image, and writes its line.
+fn check_image<R: Read + Drop, P: Write>(
+    alloc: Global,
+    catalogue: &mut Catalogue,
+    image: &mut Option<R>,
+    number: usize,
+    report: &mut P,
+) -> Result<(), EngineFault>
+    ensures ok { OnOk result (Tells (option_map R.remaining image.old) number
+        catalogue.old catalogue.new (P.contents report.old) (P.contents report.new)) }
+    ensures front { OnErr result (StopsAt (option_map R.remaining image.old) number
+        catalogue.old (P.contents report.old) (P.contents report.new)) }
+    ensures fault { IfErr result IsCheckFault }
+{
+    let Ok(met) = read_image(alloc, catalogue, image.take()) else {
+        return Err(NO_MEMORY);
+    };
+    write_text(report, &image_line(number, &met))?;
+    Ok(())
+}
+
+/// Notes what is on an image, if it was opened.
+fn read_image<R: Read + Drop>(
+    alloc: Global,
+    catalogue: &mut Catalogue,
+    image: Option<R>,
+) -> Result<Option<ImageLine>, AllocError>
+    ensures { IfOk result (λ met.
+        IsRead (option_map R.remaining image) met catalogue.old catalogue.new) }
+{
+    let Some(image) = image else {
+        return Ok(None);
+    };
+    let Ok(mut reader) = BufReader::new(alloc, image) else {
+        return Err(AllocError);
+    };
+    match catalogue.add(&mut reader) {
+        Ok(met) => Ok(Some(met)),
+        Err(_) => Err(AllocError),
+    }
+}
+
+/// Writes what stands behind the lines of the images, and answers whether all was found.
+fn summarize<P: Write>(
+    alloc: Global,
+    catalogue: &Catalogue,
+    report: &mut P,
+) -> Result<bool, EngineFault>
+    ensures ok { IfOk result (λ found. (found ≡ found_all catalogue.now)
+        × Appends (P.contents report.old) (P.contents report.new) (summary catalogue.now)) }
+    ensures front { OnErr result (AppendsFront (P.contents report.old) (P.contents report.new)
+        (summary catalogue.now)) }
+    ensures fault { IfErr result IsCheckFault }
+{
+    let Ok(met) = check_set(alloc, catalogue) else {
+        return Err(NO_MEMORY);
+    };
+    let (listed, lacking) = (met.lines.as_slice(), met.lacks.as_slice());
+    let found = is_found(listed, lacking);
+    write_summary(report, listed, lacking, found)?;
+    Ok(found)
+}
+
+/// Something was met, and nothing lacks.
+fn is_found(listed: &[SectionLine], lacking: &[Lack]) -> bool
+    ensures { (met : List Told) → listed.now ≡ map line_of met → lacking.now ≡ lacks met
+        → result ≡ found_all met }
+{
+    match listed {
+        [] => false,
+        [_, ..] => lacking.is_empty(),
+    }
+}
+
+/// Writes the lines of a report behind those of the images, and passes all of it on.
+fn write_summary<P: Write>(
+    report: &mut P,
+    listed: &[SectionLine],
+    lacking: &[Lack],
+    found: bool,
+) -> Result<(), WriteFailed>
+    ensures ok { OnOk result (Appends (P.contents report.old) (P.contents report.new)
+        (summary_of listed.now lacking.now found)) }
+    ensures front { OnErr result (AppendsFront (P.contents report.old) (P.contents report.new)
+        (summary_of listed.now lacking.now found)) }
+{
+    write_sections(report, listed)?;
+    write_lacks(report, lacking)?;
+    write_last(report, found)
+}
+
+/// Writes a line for each section.
+fn write_sections<P: Write>(report: &mut P, listed: &[SectionLine]) -> Result<(), WriteFailed>
+    ensures ok { OnOk result (Appends (P.contents report.old) (P.contents report.new)
+        (flat_map section_line listed.now)) }
+    ensures front { OnErr result (AppendsFront (P.contents report.old) (P.contents report.new)
+        (flat_map section_line listed.now)) }
+{
+    for section in listed {
+        let line = section_line(section);
+        write_text(report, &line)?;
+    }
+    Ok(())
+}
+
+/// Writes a line for each lack.
+fn write_lacks<P: Write>(report: &mut P, lacking: &[Lack]) -> Result<(), WriteFailed>
+    ensures ok { OnOk result (Appends (P.contents report.old) (P.contents report.new)
+        (flat_map lack_line lacking.now)) }
+    ensures front { OnErr result (AppendsFront (P.contents report.old) (P.contents report.new)
+        (flat_map lack_line lacking.now)) }
+{
+    for lack in lacking {
+        let line = lack_line(lack);
+        write_text(report, &line)?;
+    }
+    Ok(())
+}
+
+/// Writes the last line where all was found, and passes the report on.
+fn write_last<P: Write>(report: &mut P, found: bool) -> Result<(), WriteFailed>
+    ensures ok { OnOk result (Appends (P.contents report.old) (P.contents report.new)
+        (last_line found)) }
+    ensures front { OnErr result (AppendsFront (P.contents report.old) (P.contents report.new)
+        (last_line found)) }
+{
+    write_text(report, last_line(found))?;
+    flush(report)
+}
+
+/// The last line, which there is where all was found.
+fn last_line(found: bool) -> &'static [u8]
+    ensures { result.now ≡ last_line found }
+{
+    if found { b"ALL SECTIONS FOUND\n" } else { b"" }
+}

@@ -1,0 +1,164 @@
+//! The lines of `check`, built without taking memory.
+ghost use Rattle.std.specs.Prelude.{◌≡◌, ◌≤◌, ◌+◌, ◌++◌, length, decimal};
+ghost use Rattle.arrayvec.specs.ArrayVec.{array_vec_len};
+ghost use Rattle.tape_run.specs.Identifier.{identifier_text};
+ghost use Rattle.tape_run.specs.CheckLine.{stop_fault, stop_text, items_text, met_text};
+ghost use Rattle.tape_run.specs.CheckLine.{image_line, state_text, section_text, section_line};
+ghost use Rattle.tape_run.specs.CheckLine.{lack_line};
+
+use crate::identifier::printed;
+use crate::section::{ImageLine, ImageStop, Lack, SectionLine, SectionState};
+use arrayvec::ArrayVec;
+use tape_image::ImageFault;
+use tape_label::Field;
+
+/// Room for the longest line, which is that of an image with a fault.
+pub type CheckLine = ArrayVec<u8, 256>;
+
+/// The line of the image with this number, counted from 1: what was met of it, or that it was not
+/// opened.
+pub fn image_line(number: usize, met: &Option<ImageLine>) -> CheckLine
+    ensures { result.items ≡ image_line number met.now }
+{
+    let mut line = CheckLine::new();
+    put(&mut line, b"IMAGE ");
+    put_number(&mut line, number as u64);
+    put(&mut line, b" ");
+    put_met(&mut line, met);
+    put(&mut line, b"\n");
+    line
+}
+
+/// What was met of an image.
+fn put_met(line: &mut CheckLine, met: &Option<ImageLine>)
+    requires room { array_vec_len line.old ≤ 50 }
+    ensures items { line.new.items ≡ line.old.items ++ met_text met.now }
+    ensures len { array_vec_len line.new ≤ 190 }
+{
+    match met {
+        Some(met) => put_items(line, met),
+        None => put(line, b"0 NOT OPENED"),
+    }
+}
+
+/// The number of an image's items, and how it stopped.
+fn put_items(line: &mut CheckLine, met: &ImageLine)
+    requires room { array_vec_len line.old ≤ 50 }
+    ensures items { line.new.items ≡ line.old.items ++ items_text met.now }
+    ensures len { array_vec_len line.new ≤ 190 }
+{
+    put_number(line, u64::from(met.items));
+    put(line, b" ");
+    put_stop(line, &met.stop);
+}
+
+/// How an image stopped.
+fn put_stop(line: &mut CheckLine, stop: &ImageStop)
+    requires room { array_vec_len line.old ≤ 91 }
+    ensures items { line.new.items ≡ line.old.items ++ stop_text stop.now }
+    ensures len { array_vec_len line.new ≤ 190 }
+{
+    match stop {
+        ImageStop::Marked => put(line, b"MARKED"),
+        ImageStop::Physical => put(line, b"PHYSICAL"),
+        ImageStop::Fault(fault) => put_fault(line, fault),
+    }
+}
+
+/// The fault of an image: the number of its cause, and its place.
+fn put_fault(line: &mut CheckLine, fault: &ImageFault)
+    requires room { array_vec_len line.old ≤ 91 }
+    ensures items { line.new.items ≡ line.old.items ++ stop_fault fault.now }
+    ensures len { array_vec_len line.new ≤ 190 }
+{
+    put(line, b"FAULT ");
+    put_number(line, u64::from(fault.cause.number()));
+    put(line, b" ");
+    put_number(line, fault.place);
+}
+
+/// The line of a section: which one it is, the volume that it was met on, its blocks and its state.
+pub fn section_line(section: &SectionLine) -> CheckLine
+    ensures { result.items ≡ section_line section.now }
+{
+    let mut line = CheckLine::new();
+    put(&mut line, b"SECTION ");
+    put_section(&mut line, &section.set_id, section.file, section.sect);
+    put(&mut line, b" ");
+    put_identifier(&mut line, &section.volume);
+    put(&mut line, b" ");
+    put_number(&mut line, u64::from(section.blocks));
+    put(&mut line, b" ");
+    put(&mut line, state_text(section.state));
+    put(&mut line, b"\n");
+    line
+}
+
+/// The line of the first section that a file lacks.
+pub fn lack_line(lack: &Lack) -> CheckLine
+    ensures { result.items ≡ lack_line lack.now }
+{
+    let mut line = CheckLine::new();
+    put(&mut line, b"LACKS ");
+    put_section(&mut line, &lack.set_id, lack.file, lack.sect);
+    put(&mut line, b"\n");
+    line
+}
+
+/// A section's set, file and number.
+fn put_section(line: &mut CheckLine, set_id: &Field<6>, file: u16, sect: u16)
+    requires room { array_vec_len line.old ≤ 8 }
+    ensures items { line.new.items ≡ line.old.items ++ section_text set_id.now file sect }
+    ensures len { array_vec_len line.new ≤ 96 }
+{
+    put_identifier(line, set_id);
+    put(line, b" ");
+    put_number(line, u64::from(file));
+    put(line, b" ");
+    put_number(line, u64::from(sect));
+}
+
+/// How a section was met.
+fn state_text(state: SectionState) -> &'static [u8]
+    ensures text { result.now ≡ state_text state }
+    ensures short { length result.now ≤ 5 }
+{
+    match state {
+        SectionState::Good => b"GOOD",
+        SectionState::Bad => b"BAD",
+        SectionState::Count => b"COUNT",
+        SectionState::Cut => b"CUT",
+    }
+}
+
+/// An identifier in its full width, with a question mark for each byte that can't be printed.
+fn put_identifier(line: &mut CheckLine, field: &Field<6>)
+    requires { array_vec_len line.old ≤ 100 }
+    ensures items { line.new.items ≡ line.old.items ++ identifier_text field.now }
+    ensures len { array_vec_len line.new ≡ array_vec_len line.old + 6 }
+{
+    for byte in field.bytes() {
+        line.push(printed(*byte));
+    }
+}
+
+/// A number in decimals, without leading zeros.
+fn put_number(line: &mut CheckLine, number: u64)
+    requires room { array_vec_len line.old ≤ 150 }
+    ensures items { line.new.items ≡ line.old.items ++ decimal number }
+    ensures len { array_vec_len line.new ≤ array_vec_len line.old + 40 }
+{
+    put(line, itoa::Buffer::new().format(number).as_bytes());
+}
+
+/// Any text that fits.
+fn put(line: &mut CheckLine, text: &[u8])
+    requires { array_vec_len line.old + length text.now ≤ 256 }
+    ensures items { line.new.items ≡ line.old.items ++ text.now }
+    ensures len { array_vec_len line.new ≡ array_vec_len line.old + length text.now }
+{
+    match line.try_extend_from_slice(text) {
+        Ok(()) => {}
+        Err(_) => unreachable!(),
+    }
+}

@@ -1,0 +1,104 @@
+//! `extract`: a file of a set, from its reels in any order.
+ghost use Rattle.std.specs.Prelude.{◌≡◌, ◌≢◌, None, List, OnOk, IfOk, OnErr};
+ghost use Rattle.std.specs.Io.KnownBytes.{Appends};
+ghost use Rattle.tape_blocks.specs.Block.{Portion};
+ghost use Rattle.tape_run.specs.Output.{AppendsFront};
+ghost use Rattle.tape_run.specs.Extracting.{Extracts, Stops, IsWritten};
+ghost use Rattle.tape_run.specs.RecordText.{output_of};
+ghost use Rattle.tape_run.specs.ReelLine.{last_line};
+
+mod images;
+pub mod line;
+mod now;
+mod out_sink;
+mod records;
+
+use crate::fault::EngineFault;
+use crate::output::{flush, write_text};
+use crate::session::Session;
+use images::read_images;
+pub use line::{ReportLine, last_line, reel_line};
+pub use now::{Place, extract_now};
+pub use out_sink::OutSink;
+use records::{count_records, walk_fault, write_records};
+use std::io::{Read, Write};
+use tape_blocks::Form;
+use tape_core::PartWalk;
+use tape_set::Want;
+
+/// Reads a file from its images, in their order, until it is complete, reports what each of them
+/// gave, and writes the file's records where it is complete. The answer is what is wanted of a file
+/// that is not.
+///
+/// An image that is `None` was not opened: this is reported, and it is passed. Behind each reel the
+/// session is saved, but not behind one that counted wrong, nor behind those that are Broken for
+/// it. Images behind the one that completes the file are not read. `out` is written
+/// and flushed where the file is complete, and else not touched; the report's last line comes
+/// behind that, and then the report is flushed. The session is dropped, with its sink.
+///
+/// The only memory taken is that of the session: a buffer while a reel is read, and notes.
+///
+/// # Errors
+///
+/// `Run` with the fault of a reel, of a save, or of the walk over the sink's parts, as
+/// `Sink(Failed)` where this gives fewer records than before; `WriteFailed` where `out` or
+/// the report failed. What was reported is a front of such a report. `out` was not touched, or the
+/// file is complete, and a front of its records was written.
+pub fn extract_to<S: PartWalk + Drop, R: Read, W: Write, P: Write>(
+    session: Session<S>,
+    images: &mut [Option<R>],
+    form: Form,
+    out: &mut W,
+    report: &mut P,
+) -> Result<Option<Want>, EngineFault>
+    ensures ok { IfOk result (Extracts S.holds S.refusals R.remaining session
+        images.old images.new form (W.contents out.old) (W.contents out.new)
+        (P.contents report.old) (P.contents report.new)) }
+    // While something of the file is wanted `out` is not touched at all.
+    ensures untouched { IfOk result (λ want. want ≢ None → out.new ≡ out.old) }
+    ensures err { OnErr result (Stops S.holds S.refusals session form W.contents out.old out.new
+        (P.contents report.old) (P.contents report.new)) }
+{
+    let mut session = session;
+    read_images(&mut session, images, report)?;
+    if let Some(want) = session.want() {
+        end_report(report, Some(want), 0)?;
+        return Ok(Some(want));
+    }
+    let mut sink = session.into_sink();
+    let records = write_file(&mut sink, form, out)?;
+    end_report(report, None, records)?;
+    Ok(None)
+}
+
+/// Reports the last line, and has the writer pass on all that it holds.
+fn end_report<P: Write>(report: &mut P, want: Option<Want>, records: u64) -> Result<(), EngineFault>
+    ensures ok { OnOk result (Appends (P.contents report.old) (P.contents report.new)
+        (last_line want records)) }
+    ensures err { OnErr result (AppendsFront (P.contents report.old) (P.contents report.new)
+        (last_line want records)) }
+{
+    write_text(report, last_line(want, records).as_bytes())?;
+    Ok(flush(report)?)
+}
+
+/// Writes the records of a file that is complete, has the writer pass them on, and says how many
+/// there are.
+fn write_file<S: PartWalk, W: Write>(
+    sink: &mut S,
+    form: Form,
+    out: &mut W,
+) -> Result<u64, EngineFault>
+    ensures ok { IfOk result (λ records. (parts : List Portion) → S.holds sink.old parts
+        → IsWritten None records form (W.contents out.old) (W.contents out.new) parts) }
+    ensures err { OnErr result ((parts : List Portion) → S.holds sink.old parts
+        → AppendsFront (W.contents out.old) (W.contents out.new) (output_of form parts)) }
+{
+    let records = match count_records(sink) {
+        Ok(records) => records,
+        Err(cause) => return Err(walk_fault(cause)),
+    };
+    write_records(sink, records, form, out)?;
+    flush(out)?;
+    Ok(records)
+}

@@ -1,0 +1,153 @@
+//! A sink that writes the records of a file as its parts come, and keeps none of them.
+ghost use Rattle.std.specs.Prelude.{◌≡◌, ◌≤◌, ◌<◌, ◌+◌, [], List, Some, length, OnOk, OnErr};
+ghost use Rattle.std.specs.Prelude.{IfOk};
+ghost use Rattle.std.specs.Io.KnownBytes.{Appends};
+ghost use Rattle.tape_blocks.specs.Block.{Portion};
+ghost use Rattle.tape_blocks.specs.Parts.{view};
+ghost use Rattle.tape_blocks.specs.Spans.{leaves, join};
+ghost use Rattle.tape_run.specs.RecordText.{part_text, output_of};
+ghost use Rattle.tape_run.specs.OutSinks.{TellsAlways, with_end, HasTaken};
+
+use super::records::{walk_fault, write_part};
+use crate::fault::EngineFault;
+use crate::output::flush;
+use std::io::Write;
+use tape_blocks::{Form, Part, Span};
+use tape_core::{Checkpoint, PartSink, SinkFault};
+
+/// The greatest weight of parts.
+const MOST_STAGED: u64 = 999_999_999_999_999;
+
+/// Writes the records of a file as its parts come. It takes no memory, and after a crash nothing
+/// comes back of it.
+///
+/// Once a write failed every call is refused.
+#[derive(Drop)]
+pub struct OutSink<W> {
+    /// What the records are written to.
+    out: W,
+    /// How they stand in it.
+    form: Form,
+    /// What the parts weigh.
+    weight: u64,
+    /// How many records have ended.
+    records: u64,
+    /// Whether a record is begun.
+    begun: bool,
+    /// Whether a write failed.
+    failed: bool,
+    /// How many calls were refused.
+    refused: u64,
+    ghost light: { weight ≤ 999999999999999 },
+    ghost few: { records ≤ weight },
+}
+
+/// How many records have ended behind a part.
+#[inline(always)]
+fn with_end(span: Span, records: u64) -> u64
+    requires { records ≤ 999999999999999 }
+    ensures { result ≡ with_end (leaves span) records }
+{
+    if span.leaves() { records } else { records + 1 }
+}
+
+impl<W: Write> OutSink<W> {
+    /// A sink without parts, over a writer to which nothing was written.
+    pub fn new(out: W, form: Form) -> OutSink<W>
+        ensures empty { (TellsAlways W.contents → W.contents out ≡ Some [])
+            → HasTaken W.contents form result.out result.weight result.records result.begun
+            result.failed [] }
+        ensures form { result.form ≡ form }
+        ensures out { result.out ≡ out }
+    {
+        OutSink {
+            out,
+            form,
+            weight: 0,
+            records: 0,
+            begun: false,
+            failed: false,
+            refused: 0,
+        }
+    }
+}
+
+impl<W: Write + Drop> OutSink<W> {
+    /// Ends it: the writer passes on all that it holds, and comes back with how many records there
+    /// are.
+    ///
+    /// # Errors
+    ///
+    /// `Run(Sink(Failed))` where a write failed before, a record is begun and not ended, or the
+    /// records are not written in this form;
+    /// `WriteFailed`.
+    pub fn finish(self, form: Form) -> Result<(W, u64), EngineFault>
+        ensures ok { IfOk result (λ given. (parts : List Portion) → HasTaken W.contents self.form
+            self.out self.weight self.records self.begun self.failed parts
+            → (given.1 ≡ length (join parts).records)
+            × (TellsAlways W.contents → W.contents given.0 ≡ Some (output_of form parts))) }
+    {
+        let mut sink = self;
+        if sink.failed || sink.begun || sink.form != form {
+            return Err(walk_fault(SinkFault::Failed));
+        }
+        flush(&mut sink.out)?;
+        Ok((sink.out, sink.records))
+    }
+}
+
+impl<W: Write> PartSink for OutSink<W> {
+    ghost holds = { λ s parts. HasTaken W.contents s.form s.out s.weight s.records s.begun s.failed
+        parts };
+
+    ghost weighs = { λ s. s.weight };
+
+    ghost refusals = { λ s. s.refused };
+
+    ghost returns = { λ s back there. ⊥ };
+
+    ghost survives = { λ s. ⊥ };
+
+    #[inline(always)]
+    fn put(&mut self, part: Part<'_>) -> Result<(), SinkFault> {
+        if self.failed {
+            self.refused = self.refused.saturating_add(1);
+            return Err(SinkFault::Failed);
+        }
+        let heavy = 5 + part.bytes.len() as u64;
+        if heavy > MOST_STAGED - self.weight {
+            self.refused = self.refused.saturating_add(1);
+            return Err(SinkFault::Full);
+        }
+        match write_part(&mut self.out, part, self.form) {
+            Ok(()) => {
+                self.records = with_end(part.span, self.records);
+                self.begun = part.span.leaves();
+                self.weight += heavy;
+                Ok(())
+            }
+            Err(_) => {
+                self.failed = true;
+                self.refused = self.refused.saturating_add(1);
+                Err(SinkFault::Device)
+            }
+        }
+    }
+
+    /// What was written stays: a cut to all parts changes nothing, and any other is refused.
+    fn cut_to(&mut self, point: &Checkpoint) -> Result<(), SinkFault> {
+        if point.staged == self.weight {
+            return Ok(());
+        }
+        self.refused = self.refused.saturating_add(1);
+        Err(SinkFault::Failed)
+    }
+
+    fn keep(&mut self, _point: &Checkpoint) -> Result<(), SinkFault> {
+        Ok(())
+    }
+
+    fn weight(&self) -> u64 {
+        self.weight
+    }
+}

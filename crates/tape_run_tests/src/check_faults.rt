@@ -1,0 +1,68 @@
+//! Reports of `check` that could not be written.
+use crate::devices::{FailsOnce, Narrow};
+use crate::image::payroll;
+use std::alloc::{AllocError, Global};
+use std::io::{ErrorKind, Write};
+use std::process::Abort;
+use std::test::Fail;
+use tape_run::{EngineFault, check_to};
+
+/// The report of the worked image.
+const REPORT: &[u8] = b"IMAGE 1 12 MARKED
+SECTION ABC001 1 1 ABC001 3 GOOD
+ALL SECTIONS FOUND
+";
+
+const WRITE_FAILED: Result<bool, EngineFault> = Err(EngineFault::WriteFailed);
+
+/// What a check of the worked image answers to this writer.
+fn check_worked<W: Write>(
+    alloc: Global,
+    writer: &mut W,
+) -> Result<Result<bool, EngineFault>, AllocError> {
+    let image = payroll(alloc)?;
+    Ok(check_to(alloc, &mut [Some(image.bytes.as_slice())], writer))
+}
+
+/// Where the writer takes so many bytes and fails, these are a front of the report.
+fn stops_at<H: Abort + AllocGlobal>(rt: &H, left: usize) -> Result<(), Fail> {
+    let mut narrow = Narrow::failing(rt.alloc(), left, Some(ErrorKind::Other), true);
+    let answer = check_worked(rt.alloc(), &mut narrow)?;
+    assert!(rt; answer == WRITE_FAILED, "{left}");
+    assert!(rt; narrow.taken.len() == left, "{left}");
+    assert!(rt; REPORT.starts_with(narrow.taken.as_slice()), "{left}");
+    Ok(())
+}
+
+/// Whatever the byte at which the writer fails, what it took is a front of the report.
+#[test]
+fn a_writer_that_fails(rt: HostRuntime) -> Result<(), Fail> {
+    for left in 0..REPORT.len() {
+        stops_at(&rt, left)?;
+    }
+    Ok(())
+}
+
+/// A flush that fails is a write that failed, and the report stands.
+#[test]
+fn a_flush_that_fails(rt: HostRuntime) -> Result<(), Fail> {
+    for (flushes, wanted) in [(true, Ok(true)), (false, WRITE_FAILED)] {
+        let mut narrow = Narrow::new(rt.alloc(), REPORT.len(), flushes);
+        let answer = check_worked(rt.alloc(), &mut narrow)?;
+        assert!(rt; answer == wanted, "{flushes}");
+        assert!(rt; narrow.taken.as_slice() == REPORT, "{flushes}");
+    }
+    Ok(())
+}
+
+/// A write that failed is not made again, an interruption neither.
+#[test]
+fn no_second_try(rt: HostRuntime) -> Result<(), Fail> {
+    for good in 0..3usize {
+        let mut writer = FailsOnce::new(rt.alloc(), good, Some(ErrorKind::Interrupted));
+        let answer = check_worked(rt.alloc(), &mut writer)?;
+        assert!(rt; answer == WRITE_FAILED, "{good}");
+        assert!(rt; writer.calls == good.saturating_add(1), "{good}");
+    }
+    Ok(())
+}

@@ -1,0 +1,149 @@
+//! Readers and writers that give and take little, or fail.
+use std::alloc::Global;
+use std::io::{Error, ErrorKind, Read, Result, Write};
+use std::mem;
+
+/// Gives one byte a call, and fails once it has given as many as `left` says.
+#[derive(Drop)]
+pub struct Dribble<'a> {
+    pub bytes: &'a [u8],
+    pub left: usize,
+    pub kind: ErrorKind,
+}
+
+impl Read for Dribble<'_> {
+    fn read(&mut self, buf: &mut [u8]) -> Result<usize> {
+        if self.left == 0 {
+            return Err(Error::from(self.kind));
+        }
+        match (self.bytes, buf) {
+            ([first, others @ ..], [slot, ..]) => {
+                *slot = *first;
+                self.bytes = others;
+                self.left -= 1;
+                Ok(1)
+            }
+            _ => Ok(0),
+        }
+    }
+}
+
+/// Takes one byte a call, and after `left` of them takes none, or fails. A flush fails where it is
+/// told to.
+#[derive(Drop)]
+pub struct Narrow {
+    pub taken: Vec<u8>,
+    pub left: usize,
+    pub kind: Option<ErrorKind>,
+    pub flushes: bool,
+}
+
+impl Narrow {
+    /// A writer that takes so many bytes, and then none.
+    pub fn new(alloc: Global, left: usize, flushes: bool) -> Narrow {
+        Narrow::failing(alloc, left, None, flushes)
+    }
+
+    /// A writer that takes so many bytes, and then fails, or takes none.
+    pub fn failing(alloc: Global, left: usize, kind: Option<ErrorKind>, flushes: bool) -> Narrow {
+        Narrow {
+            taken: Vec::new(alloc),
+            left,
+            kind,
+            flushes,
+        }
+    }
+}
+
+impl Write for Narrow {
+    fn write(&mut self, buf: &[u8]) -> Result<usize> {
+        if self.left == 0 {
+            return match self.kind {
+                Some(kind) => Err(Error::from(kind)),
+                None => Ok(0),
+            };
+        }
+        match buf {
+            [first, ..] => {
+                self.taken.push(*first)?;
+                self.left -= 1;
+                Ok(1)
+            }
+            [] => Ok(0),
+        }
+    }
+
+    fn flush(&mut self) -> Result<()> {
+        if self.flushes {
+            return Ok(());
+        }
+        Err(Error::from(ErrorKind::Other))
+    }
+}
+
+/// Fails once, when it was called so often, and takes everything else. It counts the calls.
+#[derive(Drop)]
+pub struct FailsOnce {
+    pub taken: Vec<u8>,
+    pub good: usize,
+    pub calls: usize,
+    pub kind: Option<ErrorKind>,
+}
+
+impl FailsOnce {
+    pub fn new(alloc: Global, good: usize, kind: Option<ErrorKind>) -> FailsOnce {
+        FailsOnce {
+            taken: Vec::new(alloc),
+            good,
+            calls: 0,
+            kind,
+        }
+    }
+}
+
+impl Write for FailsOnce {
+    fn write(&mut self, buf: &[u8]) -> Result<usize> {
+        self.calls = self.calls.saturating_add(1);
+        if self.calls == self.good.saturating_add(1) {
+            return match self.kind {
+                Some(kind) => Err(Error::from(kind)),
+                None => Ok(0),
+            };
+        }
+        self.taken.extend_from_slice(buf)?;
+        Ok(buf.len())
+    }
+
+    fn flush(&mut self) -> Result<()> {
+        Ok(())
+    }
+}
+
+/// Keeps the last two texts that it is given.
+#[derive(Drop)]
+pub struct Tail {
+    pub line: Vec<u8>,
+    pub end: Vec<u8>,
+}
+
+impl Tail {
+    pub fn new(alloc: Global) -> Tail {
+        Tail {
+            line: Vec::new(alloc),
+            end: Vec::new(alloc),
+        }
+    }
+}
+
+impl Write for Tail {
+    fn write(&mut self, buf: &[u8]) -> Result<usize> {
+        mem::swap(&mut self.line, &mut self.end);
+        self.end.clear();
+        self.end.extend_from_slice(buf)?;
+        Ok(buf.len())
+    }
+
+    fn flush(&mut self) -> Result<()> {
+        Ok(())
+    }
+}
