@@ -8,7 +8,7 @@ use Rattle.tape_image.specs.declared.fault.ImageFault.{ImageFault}
 use Rattle.tape_image.specs.Tape.{TapeItem}
 use Rattle.tape_image.specs.Begins.{Walks}
 use Rattle.tape_image.specs.Step.{TakesEnd, TakesFault}
-use Rattle.tape_tool.specs.Output.{AppendsFront}
+use Rattle.tape_run.specs.Output.{AppendsFront}
 use Rattle.tape_tool.specs.Line.{line_of}
 use Rattle.tape_tool.specs.Listing.{lines_from, end_line}
 use Rattle.tape_tool.specs.Outcome.{StopsWriting, AppendsInto, at_item, at_end, at_fault}

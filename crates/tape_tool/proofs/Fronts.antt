@@ -14,23 +14,9 @@ use Rattle.tape_image.proofs.Walks.{Walks-begins, Walks-item, IfKnown-at}
 use Rattle.tape_tool.specs.Line.{line_of}
 use Rattle.tape_tool.specs.Listing.{lines_from, end_line, last_line, listing_of}
 use Rattle.tape_tool.specs.Outcome.{ListsInPart}
-use Rattle.tape_tool.specs.Output.{AppendsFront}
+use Rattle.tape_run.specs.Output.{AppendsFront}
 use Rattle.tape_tool.proofs.Lines.{lines_from-append}
-use Rattle.tape_tool.proofs.SoFar.{SoFar, kept}
-
-pub on_err : {T E : Type 0} (r : Result T E) (P : Type 0) → P → OnErr r P
-on_err (Ok x) P p = tt
-on_err (Err e) P p = p
-
--- all of the text was written, and no more
-pub whole_front : (old mid new : Option (List ℕ)) (text : List ℕ) → Appends old mid text
-    → Keeps mid new → AppendsFront old new text
-whole_front old mid new text wrote keeps =
-    (text, [], kept old mid new text wrote keeps, sym (append-nil text))
-
--- no more was written
-pub no_front : (mid new : Option (List ℕ)) → Keeps mid new → AppendsFront mid new []
-no_front mid new keeps = ([], [], kept mid mid new [] (Appends-nil mid) keeps, refl)
+use Rattle.tape_tool.proofs.SoFar.{SoFar}
 
 -- the bytes ys at a place begin so, and the listing of that, the numbers going on from count,
 -- begins with the text

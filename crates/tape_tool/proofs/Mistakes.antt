@@ -1,15 +1,18 @@
 -- Answers that the contracts of the program's functions exclude: each is what a wrong body would
--- give. Here are ends, faults, volumes and lines; those of engines stand in MistakesOfEngines.
-use Rattle.std.proofs.Common.{◌≡◌, true, false, refl, sym, ap, ◌∙◌}
+-- give. Here are ends, faults, volumes and stages.
+use Rattle.std.proofs.Common.{◌≡◌, ◌+◌, [], length, true, false, refl, sym, ap, ◌∙◌}
 use Rattle.std.proofs.Common.{subst, arith, codes, inl, inr}
-use Rattle.std.specs.Prelude.{Some, None, Ok, Err, slice_index}
+use Rattle.std.proofs.Math.Nat.{min-eq_left}
+use Rattle.std.specs.Prelude.{◌≤◌, Some, Ok, Err, slice_index}
 use Rattle.std.specs.Fmt.{digits}
 use Rattle.clap.specs.declared.error.kind.ErrorKind.TheVariants as kinds
 use Rattle.std.specs.declared.io.ErrorKind.TheVariants as io_kinds
 use Rattle.tape_image.specs.declared.fault.ImageCause.TheVariants as causes
-use Rattle.tape_run.specs.declared.section.SectionLine.{SectionLine}
-use Rattle.tape_run.specs.declared.section.SectionState.TheVariants as states
+use Rattle.tape_core.specs.State.{State}
+use Rattle.tape_set.specs.declared.position.Position.TheVariants.{Awaits}
 use Rattle.tape_set.specs.declared.position.Want.{Want}
+use Rattle.tape_set.specs.Position.{sect_of}
+use Rattle.tape_stage.specs.Staged.{Staged}
 use Rattle.tape_writer.specs.declared.fault.WriteFault.TheVariants as write_faults
 use Rattle.tape_tool.specs.declared.end.End.TheVariants as ends
 use Rattle.tape_tool.specs.declared.fault.FileFault.TheVariants as file_faults
@@ -18,7 +21,6 @@ use Rattle.tape_tool.specs.declared.fault.Fault.TheVariants as faults
 use Rattle.tape_tool.specs.Ends.{exit_status}
 use Rattle.tape_tool.specs.Fault.{file_number}
 use Rattle.tape_tool.specs.Blank.{IsPrefixByte, IsPrefix, blank_image, blank_volume}
-use Rattle.tape_tool.specs.CheckLine as check_lines
 use Rattle.tape_tool.specs.Staging.{IsOfFile}
 use Rattle.tape_tool.proofs.end.End.status.Reads as status
 use Rattle.tape_tool.proofs.end.end_of.Reads as end_of
@@ -32,12 +34,7 @@ use Rattle.tape_tool.proofs.telling.fault_line.Reads as fault_line
 use Rattle.tape_tool.proofs.volume.blank_volume.Reads as blank_volume_of
 use Rattle.tape_tool.proofs.volume.blank_image.Reads as blank_image_of
 use Rattle.tape_tool.proofs.volume.Prefix.new.Reads as prefix
-use Rattle.tape_tool.proofs.check_line.image_line.Reads as image_line
-use Rattle.tape_tool.proofs.check_line.section_line.Reads as section_line
-use Rattle.tape_tool.proofs.check_line.lack_line.Reads as lack_line
-use Rattle.tape_tool.proofs.extract.line.last_line.Reads as last_line
-use Rattle.tape_tool.proofs.extract.line.reel_line.Reads as reel_line
-use Rattle.tape_tool.proofs.line.printed.Reads as printed
+use Rattle.tape_tool.proofs.staging.open_session.Reads as open_session
 use Rattle.tape_tool.proofs.staging.same_file.Reads as same_file
 
 -- ---- how a run ends
@@ -168,63 +165,6 @@ small_letters_in_prefixes κs a p s l e =
     let w : IsPrefix (codes "abc") = subst IsPrefix e (l.some.0 refl) in
     no_capital w.1.0
 
--- ---- lines
-
--- unprintable_bytes_printed: a byte above 126 is printed as it is
-unprintable_bytes_printed : (κs : _) (s : _) → printed.Learnt κs (200, tt) 200 s → ⊥
-unprintable_bytes_printed κs s h = absurd (let e : 200 ≡ 63 = h in omega arith)
-
--- unopened_without_items: the line of an image that was not opened counts no items
-unopened_without_items : (κs : _) (a : _) (z : _) (s : _) → image_line.Learnt κs (1, (a, tt)) z s
-    → a.now ≡ None → z.items ≡ codes "IMAGE 1 NOT OPENED\n" → ⊥
-unfolding digits
-unopened_without_items κs a z s h e w =
-    absurd (let d : 78 ≡ 48 = ap (λ v. slice_index v 8)
-    (sym w ∙ h ∙ ap (check_lines.image_line 1) e) in omega arith)
-
--- a section of a set whose first volume is ABC001, met on the volume DEF002
-abbrev met : SectionLine
-met = record {
-  set_id = codes "ABC001";
-  file = 1;
-  sect = 2;
-  volume = codes "DEF002";
-  blocks = 3;
-  state = states.Good;
-}
-
--- volume_in_place_of_the_set: the line of a section names the volume twice
-volume_in_place_of_the_set : (κs : _) (a : _) (z : _) (s : _) → section_line.Learnt κs a z s
-    → a.0.now ≡ met → z.items ≡ codes "SECTION DEF002 1 2 DEF002 3 GOOD\n" → ⊥
-volume_in_place_of_the_set κs a z s h e w =
-    absurd (let d : 68 ≡ 65 = ap (λ v. slice_index v 8)
-    (sym w ∙ h ∙ ap check_lines.section_line e) in omega arith)
-
--- lack_told_by_its_file: section 2 of file 1 lacks, and section 1 is told
-lack_told_by_its_file : (κs : _) (a : _) (z : _) (s : _) → lack_line.Learnt κs a z s
-    → a.0.now ≡ record { set_id = codes "ABC001"; file = 1; sect = 2 }
-    → z.items ≡ codes "LACKS ABC001 1 1\n" → ⊥
-unfolding digits
-lack_told_by_its_file κs a z s h e w =
-    absurd (let d : 49 ≡ 50 = ap (λ v. slice_index v 15)
-    (sym w ∙ h ∙ ap check_lines.lack_line e) in omega arith)
-
--- not_opened_told_as_not_labelled: an image that was not opened is told as a reel without labels
-not_opened_told_as_not_labelled : (κs : _) (z : _) (s : _)
-    → reel_line.Learnt κs (1, (None, tt)) z s
-    → z.bytes ≡ codes "REEL 1 NOT LABELLED\n" → ⊥
-unfolding digits
-not_opened_told_as_not_labelled κs z s h w =
-    absurd (let d : 76 ≡ 79 = ap (λ v. slice_index v 11) (sym w ∙ h) in omega arith)
-
--- awaits_without_the_part: three parts of block 2 are there, and the last line does not say so
-awaits_without_the_part : (κs : _) (z : _) (s : _)
-    → last_line.Learnt κs (Some (record { file = 1; sect = 1; block = 2; part = 3 }), (0, tt)) z s
-    → z.bytes ≡ codes "AWAITS 1 1 2\n" → ⊥
-unfolding digits
-awaits_without_the_part κs z s h w =
-    absurd (let d : 10 ≡ 32 = ap (λ v. slice_index v 12) (sym w ∙ h) in omega arith)
-
 -- ---- stages
 
 -- another_file_gone_on_with: the checkpoint is of file 2, and it is gone on with as file 1
@@ -233,3 +173,24 @@ another_file_gone_on_with : (κs : _) (point : _) (set_id : _) (s : _)
 another_file_gone_on_with κs point set_id s h e =
     let w : IsOfFile set_id 1 point.now = h.0 refl in
     absurd (let d : 2 ≡ 1 = sym e ∙ w.1 in omega arith)
+
+-- empty_disk_opened: the session over a new stage stands at section 2
+empty_disk_opened : (D : _) (L : _) (g : _) (d : _) (e : _) (κs : _) (a : _) (session : _) (s : _)
+    → open_session.Learnt-named D L g d e κs a (Ok session) s → g.is_honest a.1.0
+    → g.length_of a.1.0 ≡ 0 → session.core.position ≡ Awaits 2 0 0 → ⊥
+empty_disk_opened D L g d e κs a session s l honest empty two =
+    absurd (let n : 2 ≡ 1 = ap sect_of
+    (sym two ∙ ap (λ (v : State). v.position) (l.begins honest empty).resumed.place) in omega arith)
+
+-- stage_of_another_file_emptied: what is staged of another file is gone from the disk
+stage_of_another_file_emptied : (D : _) (L : _) (g : _) (d : _) (e : _) (κs : _) (a : _)
+    (refused : _) (s : _) (generation : _) (point : _) (parts : _)
+    → open_session.Learnt-named D L g d e κs a (Err refused) s → g.is_honest a.1.0
+    → (g.length_of a.1.0 ≡ 0 → ⊥) → Staged (g.seen a.1.0) generation point parts
+    → 256 + point.staged ≤ length (g.seen a.1.0) → g.seen refused.disk ≡ [] → ⊥
+stage_of_another_file_emptied D L g d e κs a refused s generation point parts l honest some staged
+    long none =
+    let k = l.kept honest some generation point parts staged in
+    let m : 256 + point.staged ≤ length (g.seen refused.disk)
+    = subst (λ v. v ≤ length (g.seen refused.disk)) (min-eq_left long) k.no_shorter in
+    absurd (let n : length (g.seen refused.disk) ≡ 0 = ap length none in omega (arith, m))

@@ -1,4 +1,4 @@
--- Answers that the contracts of writing and of listing exclude: each is what a wrong body gives.
+-- Answers that the contract of listing excludes: each is what a wrong body gives.
 use Rattle.std.proofs.Common.{◌≡◌, ℕ, List, [], ◌∷◌, length, sym}
 use Rattle.std.proofs.Common.{ap, ◌∙◌, subst, arith, codes}
 use Rattle.std.specs.Prelude.{Some, Ok, Err, slice_index}
@@ -9,44 +9,10 @@ use Rattle.tape_image.specs.Tape.{TapeItem, mark}
 use Rattle.tape_image.specs.Begins.{Begins, ends, faults}
 use Rattle.tape_image.specs.Reader.{IfKnown}
 use Rattle.tape_image.proofs.Uniqueness.{Begins-one}
-use Rattle.tape_tool.specs.declared.fault.FileFault.TheVariants as file_faults
 use Rattle.tape_tool.specs.declared.fault.ToolFault.TheVariants as tool
 use Rattle.tape_tool.specs.Listing.{lines_from, listing_of}
 use Rattle.tape_tool.specs.Outcome.{ListsToEnd, ListsToFault}
-use Rattle.tape_tool.proofs.output.flush.Reads as flush
-use Rattle.tape_tool.proofs.output.write_text.Reads as write_text
 use Rattle.tape_tool.proofs.list.list_to.Reads as list_to
-
--- ---- writing
-
--- flush_failure_told_as_reading: a flush that failed is told as a read
-flush_failure_told_as_reading : (W : _) (L : _) (h : _) (e : _) (κs : _) (a : _) (s : _)
-    → flush.Learnt-named W L h e κs a (Err file_faults.ReadFailed) s → ⊥
-flush_failure_told_as_reading W L h e κs a s l =
-    let w : file_faults.ReadFailed ≡ file_faults.WriteFailed = l.kind in
-    absurd (cc)
-
--- taking_nothing_is_success: a device that took nothing of a text is told to have all of it
-taking_nothing_is_success : (W : _) (L : _) (h : _) (e : _) (κs : _) (a : _) (s : _)
-    → write_text.Learnt-named W L h e κs a (Ok tt) s → a.1.0.now ≡ codes "MARK"
-    → h.contents a.0.now ≡ Some [] → h.contents s.0.now ≡ Some [] → ⊥
-taking_nothing_is_success W L h e κs a s l text old new =
-    let r : Appends (Some []) (Some []) a.1.0.now
-    = subst (λ v. Appends (Some []) v a.1.0.now) new
-    (subst (λ v. Appends v (h.contents s.0.now) a.1.0.now) old l.ok) in
-    absurd (let d : 0 ≡ 4 = ap length r ∙ ap length text in omega arith)
-
--- rest_written_again: the device took one byte of `AB`, and this byte is written again
-rest_written_again : (W : _) (L : _) (h : _) (e : _) (κs : _) (a : _) (s : _)
-    → write_text.Learnt-named W L h e κs a (Ok tt) s → a.1.0.now ≡ codes "AB"
-    → h.contents a.0.now ≡ Some [] → h.contents s.0.now ≡ Some (codes "AAB") → ⊥
-rest_written_again W L h e κs a s l text old new =
-    let r : Appends (Some []) (Some (codes "AAB")) a.1.0.now
-    = subst (λ v. Appends (Some []) v a.1.0.now) new
-    (subst (λ v. Appends v (h.contents s.0.now) a.1.0.now) old l.ok) in
-    absurd (let d : 3 ≡ 2 = ap length r ∙ ap length text in omega arith)
-
--- ---- listing
 
 -- what `list` wrote of bytes that begin with these items and end so
 listed : (R : _) (W : _) (LR : _) (LW : _) (g : _) (d : _) (h : _) (e : _) (κs : _) (a : _) (s : _)

@@ -21,9 +21,10 @@ use Rattle.tape_tool.specs.Listing.{lines_from, end_line, listing_of, IsListing}
 use Rattle.tape_tool.specs.declared.fault.FileFault.TheVariants.{WriteFailed}
 use Rattle.tape_tool.specs.declared.fault.ToolFault.{ToolFault}
 use Rattle.tape_tool.specs.declared.fault.ToolFault.TheVariants.{File}
-use Rattle.tape_tool.specs.Output.{AppendsFront}
+use Rattle.tape_run.specs.Output.{AppendsFront}
 use Rattle.tape_tool.specs.Outcome.{ListsToEnd, ListsToFault, FitsCause, FitsFault, AppendsInto}
 use Rattle.tape_tool.specs.Outcome.{StopsWriting, at_item, at_end, at_fault}
+use Rattle.tape_run.proofs.Fitting.{kept}
 use Rattle.tape_tool.proofs.Lines.{lines_from-append}
 
 -- Of the bytes `all` the items up to a place were read, and `left` is left; their lines were
@@ -99,14 +100,6 @@ ends_at all left next p q count ending old mid new s takes line =
       wrote = Appends-trans old mid new (lines_from 1 s.items) (end_line ending) s.wrote line;
     })
     (known_end all left next 0 p q s.items ending s.known takes)
-
--- the writer holds the same bytes
-pub kept : (old mid new : Option (List ℕ)) (bytes : List ℕ) → Appends old mid bytes → Keeps mid new
-    → Appends old new bytes
-kept None mid new bytes a b = tt
-kept (Some xs) None new bytes a b = absurd a
-kept (Some xs) (Some ys) None bytes a b = absurd b
-kept (Some xs) (Some ys) (Some zs) bytes a b = b ∙ a
 
 pub fails_at : (all left next : Option (List ℕ))
     (p count : ℕ) (fault : ImageFault) (old mid new : Option (List ℕ))

@@ -5,12 +5,14 @@ use Rattle.clap.specs.declared.error.kind.ErrorKind.TheVariants as kinds
 use Rattle.std.specs.declared.io.ErrorKind as io_error
 use Rattle.std.specs.declared.io.ErrorKind.TheVariants as io_kinds
 use Rattle.tape_set.specs.declared.position.Want.{Want}
+use Rattle.tape_run.specs.declared.fault.EngineFault.{EngineFault}
 use Rattle.tape_tool.specs.declared.end.End.{End}
 use Rattle.tape_tool.specs.declared.end.End.TheVariants.{Done, Faulted, WrongWords, Incomplete}
 use Rattle.tape_tool.specs.declared.fault.FileFault.TheVariants.{WriteFailed}
 use Rattle.tape_tool.specs.declared.fault.ToolFault.{ToolFault}
 use Rattle.tape_tool.specs.declared.fault.ToolFault.TheVariants.{File}
 use Rattle.tape_tool.specs.declared.fault.Fault.TheVariants.{Tool, OutOfMemory}
+use Rattle.tape_tool.specs.Fault.{of_engine}
 
 -- the exit status of each end
 abbrev pub exit_status : End → ℕ
@@ -25,16 +27,16 @@ end_of (Ok _) = Done
 end_of (Err fault) = Faulted (Tool fault)
 
 -- how a check ends, which found all or did not
-abbrev pub check_end : Result Bool ToolFault → End
+abbrev pub check_end : Result Bool EngineFault → End
 check_end (Ok true) = Done
 check_end (Ok false) = Incomplete
-check_end (Err fault) = Faulted (Tool fault)
+check_end (Err fault) = Faulted (Tool (of_engine fault))
 
 -- how `extract` ends: what is still wanted of the file is no success
-abbrev pub extract_end : Result (Option Want) ToolFault → End
+abbrev pub extract_end : Result (Option Want) EngineFault → End
 extract_end (Ok None) = Done
 extract_end (Ok (Some want)) = Incomplete
-extract_end (Err fault) = Faulted (Tool fault)
+extract_end (Err fault) = Faulted (Tool (of_engine fault))
 
 -- help is a success where it was printed
 abbrev pub help_end : Bool → End

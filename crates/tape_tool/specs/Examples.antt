@@ -14,7 +14,7 @@ use Rattle.tape_tool.specs.declared.fault.FileFault.TheVariants.{WriteFailed}
 use Rattle.tape_tool.specs.declared.fault.ToolFault.TheVariants.{Image, File}
 use Rattle.tape_tool.specs.declared.fault.Fault.TheVariants as ended
 use Rattle.tape_tool.specs.Listing.{lines_from, listing_of, IsListing}
-use Rattle.tape_tool.specs.Output.{AppendsFront}
+use Rattle.tape_run.specs.Output.{AppendsFront}
 use Rattle.tape_tool.specs.Outcome.{ListsToEnd, ListsToFault, ListsInPart, StopsWriting, FitsFault}
 use Rattle.tape_tool.specs.Outcome.{FitsCause}
 use Rattle.tape_tool.specs.Telling.{fault_line}

@@ -1,10 +1,16 @@
--- The fixed numbers of faults.
+-- The fixed numbers of faults, and how those of the libraries are told.
 use Rattle.std.specs.Prelude.{ℕ}
 use Rattle.tape_writer.specs.declared.fault.WriteFault.{WriteFault}
 use Rattle.tape_writer.specs.declared.fault.WriteFault.TheVariants as writes
+use Rattle.tape_writer.specs.declared.fault.SetFault.{SetFault}
+use Rattle.tape_writer.specs.declared.fault.SetFault.TheVariants as sets
+use Rattle.tape_run.specs.declared.fault.EngineFault.{EngineFault}
+use Rattle.tape_run.specs.declared.fault.EngineFault.TheVariants as engine
 use Rattle.tape_tool.specs.declared.fault.FileFault.{FileFault}
 use Rattle.tape_tool.specs.declared.fault.FileFault.TheVariants.{Exists, NotOpened, ReadFailed}
 use Rattle.tape_tool.specs.declared.fault.FileFault.TheVariants.{WriteFailed}
+use Rattle.tape_tool.specs.declared.fault.ToolFault.{ToolFault}
+use Rattle.tape_tool.specs.declared.fault.ToolFault.TheVariants.{Write, File, Run}
 
 -- the number of a file's fault
 abbrev pub file_number : FileFault → ℕ
@@ -27,3 +33,13 @@ write_number writes.Device = 9
 write_number writes.OutOfMemory = 10
 write_number writes.Failed = 11
 write_number writes.Finished = 12
+
+-- what ends a command where a set was not written
+abbrev pub of_set : SetFault → ToolFault
+of_set (sets.Write fault) = Write fault
+of_set sets.ReadFailed = File ReadFailed
+
+-- the fault of an engine, as one of a command
+abbrev pub of_engine : EngineFault → ToolFault
+of_engine (engine.Run fault) = Run fault
+of_engine engine.WriteFailed = File WriteFailed

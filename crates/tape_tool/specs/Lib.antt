@@ -1,6 +1,5 @@
 pub mod Line
 pub mod Listing
-pub mod Output
 pub mod Fault
 pub mod Outcome
 pub mod Telling
@@ -8,18 +7,4 @@ pub mod Ends
 pub mod Examples
 pub mod Blank
 pub mod Staging
-pub mod CheckLine
-pub mod Checked
-pub mod WholeReels
-pub mod CheckExamples
-pub mod Records
-pub mod RecordLaws
-pub mod ToldFiles
-pub mod WriteSet
-pub mod WriteFaults
 pub mod Report
-pub mod ReelLine
-pub mod RecordText
-pub mod Reeling
-pub mod Extracting
-pub mod ExtractExamples

@@ -1,5 +1,5 @@
 -- What `list` prints for one item.
-use Rattle.std.specs.Prelude.{ℕ, ◌++◌, ◌&&◌, nat_le, nat_lt, if◌then◌else◌, List, ◌∷◌, length, map}
+use Rattle.std.specs.Prelude.{ℕ, ◌++◌, nat_lt, if◌then◌else◌, List, ◌∷◌, length}
 use Rattle.std.specs.Prelude.{codes, Bool, Result, Ok, Err}
 use Rattle.tape_image.specs.Tape.{TapeItem, block, bad, mark}
 use Rattle.tape_label.specs.declared.fault.LabelFault.{LabelFault}
@@ -14,14 +14,7 @@ use Rattle.tape_label.specs.declared.label.Label.{Label}
 use Rattle.tape_label.specs.declared.label.Label.TheVariants as labels
 use Rattle.tape_label.specs.Kinds.{identifier}
 use Rattle.tape_label.specs.Labels.{label_at}
-
--- a byte of an identifier: a question mark stands for one outside the printable range
-abbrev pub printed : ℕ → ℕ
-printed byte = if nat_le 32 byte && nat_le byte 126 then byte else 63
-
--- an identifier in its full width
-abbrev pub identifier_text : List ℕ → List ℕ
-identifier_text bytes = map printed bytes
+use Rattle.tape_run.specs.Identifier.{identifier_text}
 
 -- The number of an item in digits: six, and more where it needs them. An image has room for less
 -- than 2 ^ 30 items.

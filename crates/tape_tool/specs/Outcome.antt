@@ -14,7 +14,7 @@ use Rattle.tape_tool.specs.declared.fault.ToolFault.{ToolFault}
 use Rattle.tape_tool.specs.declared.fault.ToolFault.TheVariants.{Image, File, Run}
 use Rattle.tape_tool.specs.Line.{line_of}
 use Rattle.tape_tool.specs.Listing.{lines_from, end_line, listing_of, IsListing}
-use Rattle.tape_tool.specs.Output.{AppendsFront}
+use Rattle.tape_run.specs.Output.{AppendsFront}
 
 -- The items that the bytes begin with, up to the end of medium, were read, and the listing of the
 -- image was written. What is left of the bytes begins behind the end word, if there is one.

@@ -2,7 +2,6 @@
 ghost use Rattle.std.specs.Prelude.{◌≡◌};
 ghost use Rattle.tape_tool.specs.Ends.{check_end};
 
-use crate::check::check_to;
 use crate::end::End;
 use crate::fault::{Fault, ToolFault};
 use std::alloc::AllocError;
@@ -10,7 +9,7 @@ use std::fs::File;
 use std::io;
 use std::io::BufWriter;
 use std::rt::Runtime;
-use tape_run::RunFault;
+use tape_run::{EngineFault, RunFault, check_to};
 
 /// Reports what is on the images at these paths.
 pub fn check<R: Runtime + AllocGlobal>(rt: &R, paths: &[&str]) -> End {
@@ -18,19 +17,19 @@ pub fn check<R: Runtime + AllocGlobal>(rt: &R, paths: &[&str]) -> End {
 }
 
 /// How a check ends, which found all or did not.
-pub fn check_end(checked: Result<bool, ToolFault>) -> End
+pub fn check_end(checked: Result<bool, EngineFault>) -> End
     ensures { result ≡ check_end checked }
 {
     match checked {
         Ok(true) => End::Done,
         Ok(false) => End::Incomplete,
-        Err(fault) => End::Faulted(Fault::Tool(fault)),
+        Err(fault) => End::Faulted(Fault::Tool(ToolFault::from(fault))),
     }
 }
 
 /// The same, and whether all was found.
-fn check_files<R: Runtime + AllocGlobal>(rt: &R, paths: &[&str]) -> Result<bool, ToolFault> {
-    let no_memory = ToolFault::Run(RunFault::OutOfMemory);
+fn check_files<R: Runtime + AllocGlobal>(rt: &R, paths: &[&str]) -> Result<bool, EngineFault> {
+    let no_memory = EngineFault::Run(RunFault::OutOfMemory);
     let Ok(mut images) = open_all(rt, paths) else {
         return Err(no_memory);
     };

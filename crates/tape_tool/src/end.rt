@@ -7,6 +7,7 @@ use crate::fault::{Fault, FileFault, ToolFault};
 use crate::telling::fault_line;
 use clap::error::ErrorKind;
 use std::io;
+use tape_run::EngineFault;
 use tape_set::Want;
 
 /// How a run of the program ends.
@@ -47,13 +48,13 @@ pub fn end_of(done: Result<(), ToolFault>) -> End
 }
 
 /// How `extract` ends that answered this: what is wanted of the file, if something is.
-pub fn extract_end(answer: Result<Option<Want>, ToolFault>) -> End
+pub fn extract_end(answer: Result<Option<Want>, EngineFault>) -> End
     ensures { result ≡ extract_end answer }
 {
     match answer {
         Ok(None) => End::Done,
         Ok(Some(_)) => End::Incomplete,
-        Err(fault) => end_of(Err(fault)),
+        Err(fault) => end_of(Err(ToolFault::from(fault))),
     }
 }
 

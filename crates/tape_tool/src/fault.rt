@@ -1,13 +1,14 @@
 //! What can go wrong, and how it is told.
 ghost use Rattle.std.specs.Prelude.{◌≡◌};
-ghost use Rattle.tape_tool.specs.Fault.{file_number, write_number};
-ghost use Rattle.tape_tool.specs.declared.fault.ToolFault.TheVariants.{Image, File, Run};
+ghost use Rattle.tape_tool.specs.Fault.{file_number, write_number, of_set, of_engine};
+ghost use Rattle.tape_tool.specs.declared.fault.FileFault.TheVariants as files;
+ghost use Rattle.tape_tool.specs.declared.fault.ToolFault.TheVariants.{Image, File};
 
 use tape_image::ImageFault;
 use tape_label::LabelFault;
-use tape_run::RunFault;
+use tape_run::{EngineFault, RunFault, WriteFailed};
 use tape_stage::StageFault;
-use tape_writer::WriteFault;
+use tape_writer::{SetFault, WriteFault};
 use thiserror::Error;
 
 /// Why a file or a stream that the program was given is of no use.
@@ -78,6 +79,14 @@ pub enum ToolFault {
     Stage(StageFault),
 }
 
+impl From<WriteFailed> for FileFault {
+    ghost from_gives = { λ _ e. e ≡ files.WriteFailed };
+
+    fn from(_fault: WriteFailed) -> FileFault {
+        FileFault::WriteFailed
+    }
+}
+
 impl From<ImageFault> for ToolFault {
     ghost from_gives = { λ fault e. e ≡ Image fault };
 
@@ -94,11 +103,33 @@ impl From<FileFault> for ToolFault {
     }
 }
 
-impl From<RunFault> for ToolFault {
-    ghost from_gives = { λ fault e. e ≡ Run fault };
+impl From<WriteFailed> for ToolFault {
+    ghost from_gives = { λ _ e. e ≡ File files.WriteFailed };
 
-    fn from(fault: RunFault) -> ToolFault {
-        ToolFault::Run(fault)
+    fn from(_fault: WriteFailed) -> ToolFault {
+        ToolFault::File(FileFault::WriteFailed)
+    }
+}
+
+impl From<EngineFault> for ToolFault {
+    ghost from_gives = { λ fault e. e ≡ of_engine fault };
+
+    fn from(fault: EngineFault) -> ToolFault {
+        match fault {
+            EngineFault::Run(fault) => ToolFault::Run(fault),
+            EngineFault::WriteFailed => ToolFault::File(FileFault::WriteFailed),
+        }
+    }
+}
+
+impl From<SetFault> for ToolFault {
+    ghost from_gives = { λ fault e. e ≡ of_set fault };
+
+    fn from(fault: SetFault) -> ToolFault {
+        match fault {
+            SetFault::Write(fault) => ToolFault::Write(fault),
+            SetFault::ReadFailed => ToolFault::File(FileFault::ReadFailed),
+        }
     }
 }
 

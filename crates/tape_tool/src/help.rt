@@ -107,6 +107,10 @@ no label tells.
 Exit status: 0 all sections found, 1 a fault, 2 a wrong command line, 3 something lacks or nothing
 was met.";
 
+/// `check` was given too many images.
+pub const TOO_MANY_TO_CHECK: &str = "check takes up to 256 images: name those of a set together,
+set by set";
+
 /// `list` was given the word '-'.
 pub const DASH: &str = "'-' is no image: leave IMAGE out to list standard input,
 or write './-' for a file of that name";
@@ -126,6 +130,9 @@ pub const PREFIX: &str = "What the volume identifiers begin with: three of A to 
 
 /// What COUNT is.
 pub const COUNT: &str = "How many volumes, 1 to 999: PRE001, PRE002, ..";
+
+/// DIR is empty.
+pub const NO_FOLDER: &str = "DIR is empty: write '.' for the folder that you are in";
 
 /// PRE is none.
 pub const WRONG_PREFIX: &str = "PRE is three characters of A to Z and 0 to 9, as 'ABC'";
@@ -227,7 +234,25 @@ pub const STAGE: &str = "Keeps what was gathered in this file, and goes on there
 pub const WRONG_SET: &str = "SET has 1 to 6 bytes, as 'ABC001'";
 
 /// Too many images.
-pub const TOO_MANY_IMAGES: &str = "extract takes up to 256 images";
+pub const TOO_MANY_IMAGES: &str = "extract takes up to 256 images: name those of this set, or use
+--stage and name the others in a second run";
+
+/// The words are no text.
+pub const NO_TEXT: &str = "error: a name on the command line is not UTF-8 text: find it by
+  ls | grep -axv '.*'
+and rename it, or list it by 'tape list < NAME'\n";
+
+/// OUT is standard output.
+pub const OUT_IS_DASH: &str = "OUT is a file, since the lines of the reels go to standard output:
+write './-' for a file of that name, or /dev/stdout to have both";
+
+/// OUT is the stage.
+pub const OUT_IS_STAGE: &str = "OUT is the stage itself, and would be lost: give OUT a name of \
+its own, as 'payroll.txt'";
+
+/// OUT is one of the images.
+pub const OUT_IS_IMAGE: &str = "OUT is one of the images, and would be lost: it stands before them,
+as 'tape extract ABC001 1 payroll.txt *.tap'";
 
 /// Help behind the words of `extract`.
 pub const AFTER_EXTRACT: &str = "Example:
@@ -266,7 +291,9 @@ another day's run goes on there. It is made where there is none. A stop at any m
 middle of a write too, leaves what was saved last or what was just being saved:
   tape extract ABC001 1 payroll.txt reel1.tap --stage payroll.stage
 
-OUT is made, or written anew, only when the file is complete. Until then it is left as it is. Where
-a fault is told behind the last REEL line, OUT may have a front of the records.
+OUT is made, or replaced, only when the file is complete, and is on the disk then. Until then it is
+left as it is: the records go to a new file beside it, OUT.part, which takes its name at the end and
+is removed else. An OUT that is the stage or an image named here is refused, and one that begins as
+an image too ('tape: file fault 1'). A pipe, a link or a device as OUT is written to at the end.
 
 Exit status: 0 the file is complete, 1 a fault, 2 a wrong command line, 3 something is wanted.";

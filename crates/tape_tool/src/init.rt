@@ -1,7 +1,6 @@
 //! `init`: images of volumes without files.
 use crate::end::{End, end_of};
 use crate::fault::{Fault, FileFault, ToolFault};
-use crate::output::{flush, write_text};
 use crate::volume::{BlankImage, Prefix, blank_image, blank_volume};
 use crate::words::Init;
 use std::alloc::AllocError;
@@ -9,6 +8,7 @@ use std::fs::OpenOptions;
 use std::io;
 use std::io::{ErrorKind, Write};
 use std::rt::Runtime;
+use tape_run::{flush, write_text};
 
 /// Makes the images, and says how many.
 pub fn init<R: Runtime + AllocGlobal>(rt: &R, order: &Init<'_>) -> End {
@@ -75,5 +75,5 @@ fn say<W: Write>(writer: &mut W, text: &str) -> Result<(), FileFault> {
 /// Writes bytes, and has the writer pass them on.
 fn say_bytes<W: Write>(writer: &mut W, bytes: &[u8]) -> Result<(), FileFault> {
     write_text(writer, bytes)?;
-    flush(writer)
+    Ok(flush(writer)?)
 }

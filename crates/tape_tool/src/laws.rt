@@ -3,7 +3,6 @@
 
 ghost use Rattle.tape_tool.specs.Listing.{OneListing};
 ghost use Rattle.tape_tool.specs.Examples.{TextsAreWorked, OutcomesSay};
-ghost use Rattle.tape_tool.specs.ExtractExamples.{ExtractIsWorked};
 
 /// Whatever the bytes of an image are, it has a listing, and no other.
 pub fn each_image_has_one_listing()
@@ -18,9 +17,4 @@ pub fn texts_are_worked()
 /// What each outcome of `list` says, clause by clause.
 pub fn outcomes_say()
     ensures { OutcomesSay }
-{}
-
-/// What `extract` writes and reports, worked out.
-pub fn extract_is_worked()
-    ensures { ExtractIsWorked }
 {}

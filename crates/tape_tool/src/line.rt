@@ -10,13 +10,15 @@ ghost use Rattle.tape_label.specs.Head2.{Head2Fits};
 ghost use Rattle.tape_label.specs.Trail1.{TrailFits};
 ghost use Rattle.tape_label.specs.Kinds.{identifier};
 ghost use Rattle.tape_label.specs.Labels.{IsLabel};
-ghost use Rattle.tape_tool.specs.Line.{printed, identifier_text, item_number, vol1_text, head_text};
+ghost use Rattle.tape_run.specs.Identifier.{identifier_text};
+ghost use Rattle.tape_tool.specs.Line.{item_number, vol1_text, head_text};
 ghost use Rattle.tape_tool.specs.Line.{head1_text, trail1_text, head2_text, label_text, plain_text};
 ghost use Rattle.tape_tool.specs.Line.{block_text, item_text, line_of};
 
 use arrayvec::ArrayVec;
 use tape_image::Item;
 use tape_label::{Field, Head1, Head2, Kind, Label, Trail1, Vol1, digits_of};
+use tape_run::printed;
 
 /// Room for the longest line, which is that of a trailer.
 pub type Line = ArrayVec<u8, 64>;
@@ -195,17 +197,6 @@ fn put_identifier<const N: usize>(line: &mut Line, field: &Field<N>)
 {
     for byte in field.bytes() {
         line.push(printed(*byte));
-    }
-}
-
-/// The byte, or a question mark for one outside the printable range.
-pub fn printed(byte: u8) -> u8
-    ensures { result ≡ printed byte }
-{
-    if (b' '..=b'~').contains(&byte) {
-        byte
-    } else {
-        b'?'
     }
 }
 

@@ -2,16 +2,16 @@
 ghost use Rattle.std.specs.Prelude.{◌≡◌, IfErr, IfSome, OnOk, OnErr, IsOkUnless};
 ghost use Rattle.std.specs.Io.KnownBytes.{Appends};
 ghost use Rattle.tape_tool.specs.Listing.{end_line};
-ghost use Rattle.tape_tool.specs.Output.{AppendsFront};
+ghost use Rattle.tape_run.specs.Output.{AppendsFront};
 ghost use Rattle.tape_image.specs.Reader.{IfKnown, going};
 ghost use Rattle.tape_tool.specs.Outcome.{ListsToEnd, ListsInPart, FitsFault};
 
 use crate::fault::{FileFault, ToolFault};
 use crate::line::line_of;
-use crate::output::{flush, write_text};
 use std::alloc::Global;
 use std::io::{Read, Write};
 use tape_image::{Ending, ImageBuffer, ImageCause, ImageFault, ImageReader};
+use tape_run::{flush, write_text};
 
 /// Lists the image that the reader gives: a line for each item, and a last line for the end of
 /// medium.
@@ -109,7 +109,7 @@ fn write_end<W: Write>(writer: &mut W, ending: Ending) -> Result<(), FileFault>
     ensures kind { IsOkUnless result FileFault.WriteFailed }
 {
     write_text(writer, last_line(ending))?;
-    flush(writer)
+    Ok(flush(writer)?)
 }
 
 /// The line that tells the end of medium.

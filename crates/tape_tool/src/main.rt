@@ -1,20 +1,15 @@
 //! `tape`: reads labelled magnetic tape volumes in SIMH `.tap` images.
 #![tactic(auto)]
 
-mod check;
 mod check_files;
-mod check_laws;
-mod check_line;
 mod end;
 mod extract;
 mod fault;
-mod form;
 mod help;
 mod init;
 mod laws;
 mod line;
 mod list;
-mod output;
 mod program;
 mod staging;
 mod telling;

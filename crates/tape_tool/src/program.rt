@@ -3,6 +3,7 @@ use crate::check_files::check;
 use crate::end::{End, end_of, finish, no_words_end, words_end};
 use crate::extract::extract;
 use crate::fault::{Fault, FileFault, ToolFault};
+use crate::help;
 use crate::init::init;
 use crate::list::list_to;
 use crate::words::{Order, order_of};
@@ -30,7 +31,7 @@ pub fn run<R: Runtime + AllocGlobal>(rt: &R) -> u8 {
 pub fn without_words<R: Eprint>(rt: &R, kind: io::ErrorKind) -> End {
     let end = no_words_end(kind);
     if end == End::WrongWords {
-        let _ = rt.eprint("error: the command line is not UTF-8 text\n");
+        let _ = rt.eprint(help::NO_TEXT);
     }
     end
 }

@@ -1,9 +1,7 @@
 //! Listings of images that are written out from their format, and command lines.
 mod calls;
-mod check;
-mod check_faults;
+mod check_program;
 mod devices;
-mod extract;
 mod extract_program;
 mod faults;
 mod image;
@@ -16,5 +14,4 @@ mod staging;
 mod volumes;
 mod words;
 mod write;
-mod write_faults;
 mod write_program;

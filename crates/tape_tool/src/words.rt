@@ -1,5 +1,4 @@
 //! What the words of a command line ask for.
-use crate::form::Form;
 use crate::help;
 use crate::volume::Prefix;
 use crate::write::words::{WriteOrder, write_command, write_order};
@@ -8,6 +7,7 @@ use clap::builder::ValueParser;
 use clap::error::ErrorKind;
 use clap::{Arg, ArgMatches, Command, Error};
 use std::alloc::{AllocError, Global};
+use tape_blocks::Form;
 use tape_label::Field;
 
 /// What is to be done.
@@ -33,8 +33,11 @@ pub struct Init<'a> {
     pub count: u16,
 }
 
-/// The names of images, of which a run takes at most 256.
-pub type Names<'a> = ArrayVec<&'a str, 256>;
+/// How many images a run takes, at most.
+const MOST_IMAGES: usize = 256;
+
+/// The names of images.
+pub type Names<'a> = ArrayVec<&'a str, MOST_IMAGES>;
 
 /// What `extract` gets back, and from what: a file of a set, from images in their order.
 #[derive(Debug, Drop, PartialEq, Eq)]
@@ -93,13 +96,13 @@ pub fn required<'a>(alloc: Global, name: &'a str, help: &'a str) -> Arg<'a> {
     Arg::new(alloc, name).required(true).help(help)
 }
 
-/// `check`. An image is named at least, and 256 at most.
+/// `check`. An image is named at least.
 fn check_command<'a>(alloc: Global) -> Result<Command<'a>, AllocError> {
     Command::new(alloc, "check")
         .bin_name("tape check")?
         .about(help::ABOUT_CHECK)
         .after_help(help::AFTER_CHECK)
-        .arg(required(alloc, "IMAGE", help::IMAGES).num_args(1..=256))
+        .arg(required(alloc, "IMAGE", help::IMAGES).num_args(1..))
 }
 
 /// `extract`.
@@ -179,22 +182,38 @@ pub fn order_of<'a>(alloc: Global, words: &'a [String]) -> Result<Order<'a>, Err
 fn init_order<'a>(alloc: Global, matches: &ArgMatches<'a>) -> Result<Order<'a>, Error> {
     let folder = matches.get_str("DIR").unwrap_or("");
     let count = matches.get_one::<u16>("COUNT").unwrap_or(0);
+    if folder.is_empty() {
+        return Err(init_mistake(alloc, help::NO_FOLDER)?);
+    }
     match Prefix::new(matches.get_str("PRE").unwrap_or("")) {
         Some(prefix) => Ok(Order::Init(Init {
             folder,
             prefix,
             count,
         })),
-        None => Err(init_command(alloc)?.error(ErrorKind::ValueValidation, help::WRONG_PREFIX)?),
+        None => Err(init_mistake(alloc, help::WRONG_PREFIX)?),
     }
+}
+
+/// A mistake in the words of `init`, with its usage behind the text.
+fn init_mistake(alloc: Global, text: &str) -> Result<Error, AllocError> {
+    init_command(alloc)?.error(ErrorKind::ValueValidation, text)
 }
 
 /// What the words behind `check` ask for. The parser has seen to it that an image is named.
 fn check_order<'a>(alloc: Global, matches: &ArgMatches<'a>) -> Result<Order<'a>, Error> {
     let named = matches.get_strs("IMAGE").unwrap_or(&[]);
+    if named.len() > MOST_IMAGES {
+        return Err(check_mistake(alloc, help::TOO_MANY_TO_CHECK)?);
+    }
     Ok(Order::Check {
         images: Vec::from_slice(alloc, named)?,
     })
+}
+
+/// A mistake in the words of `check`, with its usage behind the text.
+fn check_mistake(alloc: Global, text: &str) -> Result<Error, AllocError> {
+    check_command(alloc)?.error(ErrorKind::TooManyValues, text)
 }
 
 /// What the words behind `extract` ask for. The parser has seen to it that all of them are there.
@@ -205,10 +224,14 @@ fn extract_order<'a>(alloc: Global, matches: &ArgMatches<'a>) -> Result<Order<'a
     let Some(images) = names_of(matches.get_strs("IMAGE").unwrap_or(&[])) else {
         return Err(extract_mistake(alloc, help::TOO_MANY_IMAGES)?);
     };
+    let out = matches.get_str("OUT").unwrap_or("");
+    if out == "-" {
+        return Err(extract_mistake(alloc, help::OUT_IS_DASH)?);
+    }
     Ok(Order::Extract(Extract {
         set_id,
         file: matches.get_one::<u16>("FILE").unwrap_or(0),
-        out: matches.get_str("OUT").unwrap_or(""),
+        out,
         images,
         form: form_of(matches),
         stage: matches.get_str("stage"),
@@ -216,7 +239,7 @@ fn extract_order<'a>(alloc: Global, matches: &ArgMatches<'a>) -> Result<Order<'a
 }
 
 /// A mistake in the words of `extract`, with its usage behind the text.
-fn extract_mistake(alloc: Global, text: &str) -> Result<Error, AllocError> {
+pub fn extract_mistake(alloc: Global, text: &str) -> Result<Error, AllocError> {
     extract_command(alloc)?.error(ErrorKind::ValueValidation, text)
 }
 

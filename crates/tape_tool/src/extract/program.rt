@@ -1,16 +1,18 @@
-//! The program around `extract_to`: images, memory, the file.
-use super::extract_to;
+//! The program around the engines of `extract`: images, memory, the file.
+use super::draft::{Draft, DraftFile, Drafted, OutName};
+use super::guard::{Unfit, Way, way_of};
 use super::out_file::OutFile;
 use super::stage_file::session_in;
 use crate::end::{End, end_of, extract_end};
 use crate::fault::{Fault, FileFault, ToolFault};
-use crate::words::{Extract, Names};
+use crate::program::refuse;
+use crate::words::{Extract, Names, extract_mistake};
 use std::fs::{File, Files};
 use std::io;
-use std::io::{BufReader, BufWriter};
+use std::io::{BufReader, BufWriter, Write};
 use std::rt::Runtime;
-use tape_core::{MemorySink, PartWalk};
-use tape_run::Session;
+use tape_core::{MemorySink, PartWalk, SinkFault};
+use tape_run::{EngineFault, OutSink, RunFault, Session, extract_now, extract_to};
 
 /// How many bytes of an image are read ahead, at most. All images of a run have such a buffer.
 const READ_AHEAD: usize = 32_768;
@@ -23,45 +25,156 @@ type Images<R> = Vec<Option<BufReader<<R as Files>::File>>>;
 
 /// Gets the file back that the words name.
 pub fn extract<R: Runtime + AllocGlobal>(rt: &R, order: &Extract<'_>) -> End {
+    let way = match way_of(rt, order) {
+        Ok(way) => way,
+        Err(Unfit::Faulted(fault)) => return End::Faulted(fault),
+        Err(Unfit::Words(text)) => return refuse_words(rt, text),
+    };
     let Ok(images) = open_images(rt, &order.images) else {
         return End::Faulted(Fault::OutOfMemory);
     };
-    if let Some(path) = order.stage {
-        return match session_in(rt, path, order.set_id, order.file) {
-            Ok(session) => gather(rt, order, images, session),
+    match order.stage {
+        Some(path) => match session_in(rt, path, order.set_id, order.file) {
+            Ok(session) => gather(rt, order, way, images, session),
             Err(fault) => end_of(Err(fault)),
-        };
+        },
+        None => at_once(rt, order, way, images),
     }
-    let sink = MemorySink::new(rt.alloc());
-    match Session::new(rt.alloc(), order.set_id, order.file, sink) {
-        Ok(session) => gather(rt, order, images, session),
-        Err(_) => End::WrongWords,
+}
+
+/// Tells a mistake in the words.
+fn refuse_words<R: Runtime + AllocGlobal>(rt: &R, text: &str) -> End {
+    match extract_mistake(rt.alloc(), text) {
+        Ok(error) => refuse(rt, &error),
+        Err(_) => End::Faulted(Fault::OutOfMemory),
+    }
+}
+
+/// A draft of the output, where it is written so and one can be made. Where none can, as in a
+/// folder that is not the user's, the output is written in place.
+fn draft_of<'a, R: Runtime + AllocGlobal>(
+    rt: &'a R,
+    order: &Extract<'a>,
+    way: Way,
+) -> Result<Drafted<'a, R>, End> {
+    match way {
+        Way::InPlace => Ok(None),
+        Way::Renamed => match OutName::make(rt.alloc(), rt, order.out) {
+            Ok(drafted) => Ok(drafted),
+            Err(_) => Err(End::Faulted(Fault::OutOfMemory)),
+        },
+    }
+}
+
+/// Gets the file back without a stage: its records are written as they come where there is a draft,
+/// and else gathered in memory.
+fn at_once<'a, R: Runtime + AllocGlobal>(
+    rt: &'a R,
+    order: &Extract<'a>,
+    way: Way,
+    images: Images<R>,
+) -> End {
+    match draft_of(rt, order, way) {
+        Ok(Some((name, file))) => into_draft(rt, order, images, name, file),
+        Ok(None) => {
+            let Ok(session) = Session::new(
+                rt.alloc(),
+                order.set_id,
+                order.file,
+                MemorySink::new(rt.alloc()),
+            ) else {
+                return End::WrongWords;
+            };
+            in_place(rt, order, images, session)
+        }
+        Err(end) => end,
+    }
+}
+
+/// Reads the images and writes the file's records to the draft as they come.
+fn into_draft<R: Runtime + AllocGlobal>(
+    rt: &R,
+    order: &Extract<'_>,
+    images: Images<R>,
+    name: OutName<'_, R>,
+    file: DraftFile<R::File>,
+) -> End {
+    let (mut images, mut name) = (images, name);
+    let Ok(out) = BufWriter::with_capacity(rt.alloc(), HELD, file) else {
+        name.clear();
+        return End::Faulted(Fault::OutOfMemory);
+    };
+    let sink = OutSink::new(out, order.form);
+    let Ok(session) = Session::new(rt.alloc(), order.set_id, order.file, sink) else {
+        return End::WrongWords;
+    };
+    let (form, mut report) = (order.form, io::writer(rt));
+    let answer = extract_now(session, images.as_mut_slice(), form, &mut name, &mut report);
+    name.clear();
+    match answer {
+        Err(fault) => extract_end(Err(as_written(fault))),
+        answer => extract_end(answer),
+    }
+}
+
+/// The fault as the program tells it: a part that could not be kept was a record that could not be
+/// written.
+fn as_written(fault: EngineFault) -> EngineFault {
+    match fault {
+        EngineFault::Run(RunFault::Sink(SinkFault::Device)) => EngineFault::WriteFailed,
+        other => other,
     }
 }
 
 /// Reads the images into the session, and writes the file where it is complete.
-fn gather<R: Runtime + AllocGlobal, S: PartWalk + Drop>(
+fn gather<'a, R: Runtime + AllocGlobal, S: PartWalk + Drop>(
+    rt: &'a R,
+    order: &Extract<'a>,
+    way: Way,
+    images: Images<R>,
+    session: Session<S>,
+) -> End {
+    let (name, file) = match draft_of(rt, order, way) {
+        Ok(Some(drafted)) => drafted,
+        Ok(None) => return in_place(rt, order, images, session),
+        Err(end) => return end,
+    };
+    let Ok(mut out) = BufWriter::with_capacity(rt.alloc(), HELD, Draft { name, file }) else {
+        return End::Faulted(Fault::OutOfMemory);
+    };
+    let end = written_to(rt, order, images, session, &mut out);
+    out.get_ref().name.clear();
+    end
+}
+
+/// Reads the images into the session, and writes the file in place where it is complete.
+fn in_place<R: Runtime + AllocGlobal, S: PartWalk + Drop>(
     rt: &R,
     order: &Extract<'_>,
     images: Images<R>,
     session: Session<S>,
 ) -> End {
-    let mut images = images;
     let Ok(mut out) = BufWriter::with_capacity(rt.alloc(), HELD, OutFile::new(rt, order.out)) else {
         return End::Faulted(Fault::OutOfMemory);
     };
-    let mut report = io::writer(rt);
-    let answer = extract_to(
-        session,
-        images.as_mut_slice(),
-        order.form,
-        &mut out,
-        &mut report,
-    );
+    let end = written_to(rt, order, images, session, &mut out);
     if out.get_ref().is_refused() {
         return End::Faulted(Fault::Tool(ToolFault::File(FileFault::NotOpened)));
     }
-    extract_end(answer)
+    end
+}
+
+/// Reads the images into the session, and writes the file to the writer where it is complete.
+fn written_to<R: Runtime + AllocGlobal, S: PartWalk + Drop, W: Write>(
+    rt: &R,
+    order: &Extract<'_>,
+    images: Images<R>,
+    session: Session<S>,
+    out: &mut W,
+) -> End {
+    let mut images = images;
+    let mut report = io::writer(rt);
+    extract_end(extract_to(session, images.as_mut_slice(), order.form, out, &mut report))
 }
 
 /// Opens the images, in their order.

@@ -1,4 +1,5 @@
 //! The file in which a session is kept from day to day.
+use super::folder::sync_folder_of;
 use crate::fault::{FileFault, ToolFault};
 use crate::staging::{StagingFault, open_session};
 use std::fs::{Files, OpenOptions};
@@ -26,6 +27,10 @@ pub fn session_in<R: Runtime + AllocGlobal>(
     let Ok(disk) = FileDisk::new(kept) else {
         return Err(ToolFault::Stage(StageFault::Device));
     };
+    // A stage that is made here is nothing without its name.
+    if sync_folder_of(rt, path).is_err() {
+        return Err(ToolFault::Stage(StageFault::Device));
+    }
     match open_session(rt.alloc(), disk, set_id, file) {
         Ok(session) => Ok(session),
         Err(refused) => Err(tool_fault(refused.fault)),

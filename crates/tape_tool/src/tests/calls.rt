@@ -10,6 +10,7 @@ use std::alloc::{AllocError, Global};
 use std::fs;
 use std::fs::File;
 use std::io::Write;
+use std::os::unix;
 use std::process::Abort;
 use std::rt::Runtime;
 use std::test::Fail;
@@ -83,6 +84,10 @@ pub enum Step<'a> {
     PutDamaged(&'a str, usize),
     /// A file is made of the records of the worked volume.
     PutRecords(&'a str),
+    /// A link of this name is made, which leads to that path.
+    Link(&'a str, &'a str),
+    /// A file gets this name, besides the one that it has.
+    Name(&'a str, &'a str),
     /// The file is removed, if it is there.
     Remove(&'a str),
     /// The file has these bytes.
@@ -115,6 +120,8 @@ fn take<H: Runtime + AllocGlobal>(rt: &H, step: &Step<'_>) -> Result<bool, Fail>
         Step::PutWorked(path, length) => put_worked(rt, path, length),
         Step::PutDamaged(path, bad) => put_damaged(rt, path, bad),
         Step::PutRecords(path) => put_records(rt, path),
+        Step::Link(name, path) => Ok(unix::fs::symlink(rt, path, name).is_ok()),
+        Step::Name(name, path) => Ok(fs::hard_link(rt, path, name).is_ok()),
         Step::Remove(path) => Ok(remove(rt, path)),
         Step::Holds(path, bytes) => holds(rt, path, bytes),
         Step::IsWorked(path) => is_worked(rt, path),

@@ -1,15 +1,15 @@
 //! `extract` as it is called: words, files, ends.
 use super::calls::{Step, each_is_wrong, ends, take_all, with_images};
 use super::words::words_of;
-use crate::end::{End, extract_end, finish};
+use crate::end::{End, end_of, extract_end, finish};
 use crate::fault::{Fault, FileFault, ToolFault};
-use crate::form::Form;
 use crate::telling::fault_line;
 use crate::words::{Extract, Order, order_of};
 use std::process::Abort;
 use std::test::Fail;
+use tape_blocks::Form;
 use tape_core::SinkFault;
-use tape_run::RunFault;
+use tape_run::{EngineFault, RunFault};
 use tape_set::Want;
 use tape_stage::StageFault;
 
@@ -58,10 +58,90 @@ fn a_file_that_cannot_be_made(rt: HostRuntime) -> Result<(), Fail> {
     take_all(&rt, NOT_MADE)
 }
 
+/// What would be lost by a slip, and stays: the stage, the images by whatever name, and an image
+/// that is not named as one.
+const NEVER_OUT: &[Step<'_>] = &[
+    Step::PutWorked("only.tap", 2484),
+    Step::PutWorked("other.tap", 2484),
+    Step::Remove("linked.tap"),
+    Step::Link("linked.tap", "only.tap"),
+    Step::Remove("named.tap"),
+    Step::Name("named.tap", "only.tap"),
+    Step::Ends("extract ABC001 1 only.tap only.tap", End::WrongWords),
+    Step::Ends(
+        "extract ABC001 1 ./only.tap other.tap only.tap",
+        End::WrongWords,
+    ),
+    Step::Ends("extract ABC001 1 linked.tap only.tap", End::WrongWords),
+    Step::Ends("extract ABC001 1 only.tap linked.tap", End::WrongWords),
+    Step::Ends("extract ABC001 1 named.tap only.tap", End::WrongWords),
+    // OUT forgotten.
+    Step::Fails(
+        "extract ABC001 1 only.tap other.tap",
+        ToolFault::File(FileFault::Exists),
+    ),
+    Step::Fails(
+        "extract ABC001 1 linked.tap other.tap",
+        ToolFault::File(FileFault::Exists),
+    ),
+    Step::IsWorked("only.tap"),
+    Step::IsWorked("other.tap"),
+    Step::Put("marks.tap", b"\0\0\0\0"),
+    Step::Put("ended.tap", b"\xff\xff\xff\xff"),
+    Step::Fails(
+        "extract ABC001 1 marks.tap only.tap",
+        ToolFault::File(FileFault::Exists),
+    ),
+    Step::Fails(
+        "extract ABC001 1 ended.tap only.tap",
+        ToolFault::File(FileFault::Exists),
+    ),
+    Step::Holds("ended.tap", b"\xff\xff\xff\xff"),
+];
+
+#[test]
+fn tapes_are_never_the_output(rt: HostRuntime) -> Result<(), Fail> {
+    take_all(&rt, NEVER_OUT)
+}
+
+/// The new file beside the output: it takes the output's name, or goes, and costs no other file.
+const DRAFTS: &[Step<'_>] = &[
+    Step::PutWorked("whole.tap", 2484),
+    Step::PutWorked("front.tap", 2288),
+    Step::Put("kept.txt.part", b"another"),
+    Step::Put("kept.txt", b"kept"),
+    Step::Ends("extract ABC001 1 kept.txt front.tap", End::Incomplete),
+    Step::Holds("kept.txt", b"kept"),
+    Step::IsMissing("kept.txt.part2"),
+    Step::Ends("extract ABC001 1 kept.txt front.tap whole.tap", End::Done),
+    Step::HasLength("kept.txt", 2025),
+    Step::IsMissing("kept.txt.part2"),
+    Step::Holds("kept.txt.part", b"another"),
+    // Through a link the file behind it is written.
+    Step::Put("behind.txt", b"kept"),
+    Step::Remove("before.txt"),
+    Step::Link("before.txt", "behind.txt"),
+    Step::Ends("extract ABC001 1 before.txt whole.tap", End::Done),
+    Step::HasLength("behind.txt", 2025),
+    Step::IsMissing("before.txt.part"),
+    // A device takes nothing.
+    Step::Fails(
+        "extract ABC001 1 /dev/full whole.tap",
+        ToolFault::File(FileFault::WriteFailed),
+    ),
+    Step::Ends("extract ABC001 1 /dev/null whole.tap", End::Done),
+];
+
+#[test]
+fn outputs_take_their_names_at_the_end(rt: HostRuntime) -> Result<(), Fail> {
+    take_all(&rt, DRAFTS)
+}
+
 /// Lines that are no call of `extract`.
 const WRONG: &[&str] = &[
     "extract",
     "extract ABC001 1 out.txt",
+    "extract ABC001 1 - a.tap",
     "extract ABC0011 1 out.txt a.tap",
     "extract ABC001 0 out.txt a.tap",
     "extract ABC001 10000 out.txt a.tap",
@@ -118,6 +198,18 @@ const FAULTS: &[(ToolFault, &str)] = &[
     ),
 ];
 
+/// Faults of the engine, and as what they are told.
+const ENGINE_FAULTS: &[(EngineFault, ToolFault)] = &[
+    (
+        EngineFault::WriteFailed,
+        ToolFault::File(FileFault::WriteFailed),
+    ),
+    (
+        EngineFault::Run(RunFault::Sink(SinkFault::Failed)),
+        ToolFault::Run(RunFault::Sink(SinkFault::Failed)),
+    ),
+];
+
 #[test]
 fn ends_and_fault_lines(rt: HostRuntime) {
     assert!(rt; finish(&rt, extract_end(Ok(Some(START)))) == 3);
@@ -128,8 +220,14 @@ fn ends_and_fault_lines(rt: HostRuntime) {
     }
     for (fault, line) in FAULTS {
         assert!(rt;
-            extract_end(Err(*fault)) == End::Faulted(Fault::Tool(*fault)),
+            end_of(Err(*fault)) == End::Faulted(Fault::Tool(*fault)),
             "{line}"
+        );
+    }
+    for (fault, told) in ENGINE_FAULTS {
+        assert!(rt;
+            extract_end(Err(*fault)) == End::Faulted(Fault::Tool(*told)),
+            "{fault}"
         );
     }
 }

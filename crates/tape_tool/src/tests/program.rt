@@ -150,7 +150,9 @@ fn is_without_words<H: Abort + AllocGlobal>(rt: &H, kind: ErrorKind, wanted: End
 
 #[test]
 fn words_that_are_no_text(rt: HostRuntime) {
-    let told = "error: the command line is not UTF-8 text\n";
+    let told = "error: a name on the command line is not UTF-8 text: find it by
+  ls | grep -axv '.*'
+and rename it, or list it by 'tape list < NAME'\n";
     is_without_words(&rt, ErrorKind::InvalidData, End::WrongWords, told);
     let no_memory = End::Faulted(Fault::OutOfMemory);
     is_without_words(&rt, ErrorKind::OutOfMemory, no_memory, "");

@@ -62,6 +62,17 @@ const REFUSED: &[Step<'_>] = &[
         ToolFault::File(FileFault::NotOpened),
     ),
     Step::IsMissing("refused.txt"),
+    // The stage is never OUT.
+    Step::HasLength("refused.stage", 1531),
+    Step::Ends(
+        "extract ABC001 1 refused.stage refused.tap --stage refused.stage",
+        End::WrongWords,
+    ),
+    Step::Ends(
+        "extract ABC001 1 refused.stage refused.tap --stage ./refused.stage",
+        End::WrongWords,
+    ),
+    Step::HasLength("refused.stage", 1531),
 ];
 
 #[test]

@@ -18,17 +18,9 @@ pub const FIXED: &str = "HDR2F0080000080                                   00";
 
 const FIXED_400: &str = "HDR2F0040000080                                   00";
 
-pub const SPANNED: &str = "HDR2S0001800000                                   00";
+const EOF_THREE: &str = "EOF1PAYROLL          ABC00100010001000100 00000 00000 000003";
 
-pub const EOF_NONE: &str = "EOF1PAYROLL          ABC00100010001000100 00000 00000 000000";
-
-pub const EOF_ONE: &str = "EOF1PAYROLL          ABC00100010001000100 00000 00000 000001";
-
-pub const EOF_THREE: &str = "EOF1PAYROLL          ABC00100010001000100 00000 00000 000003";
-
-pub const EOF_FOUR: &str = "EOF1PAYROLL          ABC00100010001000100 00000 00000 000004";
-
-pub const EOF_FIVE: &str = "EOF1PAYROLL          ABC00100010001000100 00000 00000 000005";
+const EOF_FIVE: &str = "EOF1PAYROLL          ABC00100010001000100 00000 00000 000005";
 
 const EOF2: &str = "EOF2F0080000080                                   00";
 
@@ -43,13 +35,13 @@ pub fn labels(image: &mut Image, texts: &[&str]) -> Result<(), AllocError> {
 }
 
 /// The second mark of a volume, and the end word.
-pub fn end(image: &mut Image) -> Result<(), AllocError> {
+fn end(image: &mut Image) -> Result<(), AllocError> {
     image.word(&MARK)?;
     image.word(&END)
 }
 
 /// The mark behind the data, trailer labels, and the volume's end.
-pub fn close(image: &mut Image, texts: &[&str]) -> Result<(), AllocError> {
+fn close(image: &mut Image, texts: &[&str]) -> Result<(), AllocError> {
     image.word(&MARK)?;
     labels(image, texts)?;
     end(image)
@@ -65,7 +57,7 @@ pub fn blank(alloc: Global) -> Result<Image, AllocError> {
 
 /// A volume with one section: its header labels, data blocks of 400 characters with these high
 /// bytes in their words, so that 0x80 is a bad one, and its trailer labels.
-pub fn reel(
+fn reel(
     alloc: Global,
     headers: &[&str],
     blocks: &[u8],
@@ -80,26 +72,6 @@ pub fn reel(
     Ok(image)
 }
 
-/// Five blocks of 5 records, with these high bytes and this first trailer label.
-pub fn five_blocks(alloc: Global, blocks: &[u8; 5], trailer: &str) -> Result<Image, AllocError> {
-    reel(alloc, &[VOL1, HDR1, FIXED], blocks, &[trailer, EOF2_400])
-}
-
-/// A volume of one section with the first label given, one block, and the trailer given.
-pub fn one_block(
-    alloc: Global,
-    head: &str,
-    format: &str,
-    block: &[u8],
-    trailer: &str,
-) -> Result<Image, AllocError> {
-    let mut image = Image::new(alloc);
-    labels(&mut image, &[VOL1, head, format])?;
-    image.block(block, 0)?;
-    close(&mut image, &[trailer])?;
-    Ok(image)
-}
-
 /// The worked volume with these bytes before each of its words and blocks.
 pub fn worked_between(alloc: Global, between: &'static [u8]) -> Result<Image, AllocError> {
     payroll_volume(alloc, between, &[EOF_THREE, EOF2])
@@ -108,11 +80,6 @@ pub fn worked_between(alloc: Global, between: &'static [u8]) -> Result<Image, Al
 /// The worked volume: 25 records of 80 characters in blocks of 800, 2,484 bytes.
 pub fn worked(alloc: Global) -> Result<Image, AllocError> {
     worked_between(alloc, &[])
-}
-
-/// The worked volume with another trailer.
-pub fn worked_with(alloc: Global, trailer: &str) -> Result<Image, AllocError> {
-    payroll_volume(alloc, &[], &[trailer])
 }
 
 /// The worked file on a volume that is too small for its end: three blocks, and an end of volume.
@@ -141,18 +108,6 @@ pub fn second_of_two(alloc: Global) -> Result<Image, AllocError> {
     reel(alloc, &[VOL2, HDR1_NEXT, FIXED], &[], &[trailer, EOF2])
 }
 
-/// The worked volume with its second block marked as recorded with an error.
-pub fn worked_bad(alloc: Global) -> Result<Image, AllocError> {
-    let mut image = worked(alloc)?;
-    for (place, byte) in image.bytes.as_mut_slice().iter_mut().enumerate() {
-        // The last bytes of the words before and behind the block: 268 + 808 + 3, and 804 behind.
-        if place == 1079 || place == 1883 {
-            *byte = 0x80;
-        }
-    }
-    Ok(image)
-}
-
 /// A volume of the 25 worked records in blocks of 400, of which one cannot be read.
 pub fn damaged(alloc: Global, bad: usize) -> Result<Image, AllocError> {
     let mut image = Image::new(alloc);
@@ -169,27 +124,4 @@ fn damaged_blocks(image: &mut Image, records: &[u8], bad: usize) -> Result<(), A
         image.block(block, high)?;
     }
     Ok(())
-}
-
-/// The first volume of a record of 290 bytes `R` in blocks of 18: 22 blocks of 13 bytes of it.
-pub fn spanned_first(alloc: Global) -> Result<Image, AllocError> {
-    let mut image = Image::new(alloc);
-    labels(&mut image, &[VOL1, HDR1, SPANNED])?;
-    image.block(b"10018RRRRRRRRRRRRR", 0)?;
-    for _ in 0..21u8 {
-        image.block(b"20018RRRRRRRRRRRRR", 0)?;
-    }
-    let trailer = "EOV1PAYROLL          ABC00100010001000100 00000 00000 000022";
-    close(&mut image, &[trailer])?;
-    Ok(image)
-}
-
-/// The second volume of that record: the last 4 bytes.
-pub fn spanned_second(alloc: Global) -> Result<Image, AllocError> {
-    let mut image = Image::new(alloc);
-    labels(&mut image, &[VOL2, HDR1_NEXT, SPANNED])?;
-    image.block(b"30009RRRR^^^^^^^^^", 0)?;
-    let trailer = "EOF1PAYROLL          ABC00100020001000100 00000 00000 000001";
-    close(&mut image, &[trailer])?;
-    Ok(image)
 }

@@ -4,12 +4,12 @@ use std::alloc::{AllocError, Global};
 use std::process::Abort;
 use std::test::Fail;
 
-/// The words of a line, behind the program's name.
+/// The words of a line, behind the program's name; two quotes are an empty word.
 pub fn words_of(alloc: Global, line: &str) -> Result<Vec<String>, AllocError> {
     let mut words = Vec::new(alloc);
     push_word(alloc, &mut words, "out/tape_tool")?;
     for word in line.split_whitespace() {
-        push_word(alloc, &mut words, word)?;
+        push_word(alloc, &mut words, if word == "''" { "" } else { word })?;
     }
     Ok(words)
 }
@@ -56,6 +56,13 @@ const SAID: &[(&str, i32, &str)] = &[
     ("list --help", 0, "Usage: tape list [IMAGE]"),
     ("list --all", 2, "Usage: tape list [IMAGE]"),
     ("help list", 0, "zcat reel.tap.gz | tape list"),
+    ("init '' ABC 2", 2, "DIR is empty: write '.'"),
+    ("write '' ABC 100000 A=B", 2, "DIR is empty: write '.'"),
+    (
+        "extract ABC001 1 - a.tap",
+        2,
+        "write './-' for a file of that name",
+    ),
 ];
 
 /// The line is answered with this status and text.

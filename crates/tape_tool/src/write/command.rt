@@ -1,18 +1,16 @@
 //! `tape write`.
 use crate::fault::{FileFault, ToolFault};
 use crate::volume::{Prefix, blank_volume};
-use crate::write::files::Input;
 use crate::write::image_file::ImageFile;
 use crate::write::report::{Ended, say};
-use crate::write::set::{RefusedSet, SetPlan, WrittenSet, write_set};
 use crate::write::words::WriteOrder;
 use std::fs::{File, Files};
 use std::io;
 use std::rt::Runtime;
 use tape_blocks::Shape;
 use tape_image::ImageWriter;
-use tape_label::{Field, Format, Head1};
-use tape_writer::WriteFault;
+use tape_label::{Field, Format, Head1, Vol1};
+use tape_writer::{Input, RefusedSet, SetPlan, WriteFault, WrittenSet, write_set};
 
 /// How many volumes a set has at most.
 const VOLUMES: u16 = 256;
@@ -160,6 +158,41 @@ fn set_id(prefix: Prefix) -> Field<6> {
     blank_volume(prefix, 1).volume
 }
 
+/// What is gathered while the images' files are written to their end.
+#[derive(Drop)]
+struct Ends {
+    volumes: Vec<Vol1>,
+    /// On how many of them something was written.
+    count: usize,
+    ended: Vec<Ended>,
+    /// The first fault.
+    fault: Option<ToolFault>,
+}
+
+impl Ends {
+    /// Has an image's file written to its end, and notes its volume and size.
+    fn take<R: Runtime + AllocGlobal>(&mut self, image: ImageWriter<ImageFile<'_, R>>) {
+        let size = image.size();
+        let fault = image.into_device().end();
+        let noted = self.note(size);
+        if self.fault.is_none() {
+            self.fault = fault.or(noted.err());
+        }
+    }
+
+    /// Notes the size of the next volume, where something was written on it.
+    fn note(&mut self, size: u64) -> Result<(), ToolFault> {
+        let place = self.ended.len();
+        if place >= self.count || place >= self.volumes.len() {
+            return Ok(());
+        }
+        let volume = self.volumes[place].volume;
+        self.ended
+            .push(Ended { volume, size })
+            .map_err(|_| no_memory())
+    }
+}
+
 /// Has the images' files written to their end, and says what was written.
 fn end<R: Runtime + AllocGlobal>(
     rt: &R,
@@ -171,31 +204,27 @@ fn end<R: Runtime + AllocGlobal>(
         volumes,
         images,
     } = done;
-    let mut ended = Vec::new(rt.alloc());
-    for (image, label) in images.into_iter().zip(volumes.as_slice()) {
-        let size = end_image(image)?;
-        if ended.len() < count {
-            let volume = label.volume;
-            ended.push(Ended { volume, size }).map_err(|_| no_memory())?;
-        }
+    let ended = Vec::new(rt.alloc());
+    let mut ends = Ends {
+        volumes,
+        count,
+        ended,
+        fault: None,
+    };
+    for image in images {
+        ends.take(image);
     }
-    say(&mut io::writer(rt), files as u64, ended.as_slice()).map_err(ToolFault::File)
-}
-
-/// Has an image's file written to its end, and gives its size.
-fn end_image<R: Runtime + AllocGlobal>(
-    image: ImageWriter<ImageFile<'_, R>>,
-) -> Result<u64, ToolFault> {
-    let size = image.size();
-    match image.into_device().end() {
+    match ends.fault {
         Some(fault) => Err(fault),
-        None => Ok(size),
+        None => say(&mut io::writer(rt), files as u64, ends.ended.as_slice()).map_err(
+            ToolFault::File,
+        ),
     }
 }
 
 /// What to tell of a refusal: in place of a device's fault, that of the file.
 fn told<R: Runtime + AllocGlobal>(refused: RefusedSet<ImageFile<'_, R>>) -> ToolFault {
-    let mut fault = refused.fault;
+    let mut fault = ToolFault::from(refused.fault);
     for image in refused.images {
         let of_file = image.into_device().end();
         if fault == ToolFault::Write(WriteFault::Device) {

@@ -1,11 +1,11 @@
 //! Files of images, made when they are first written to.
 use crate::fault::{FileFault, ToolFault};
 use crate::init::image_path;
-use crate::output::write_text;
 use crate::volume::{BLANK, Prefix, blank_image, blank_volume};
 use std::fs::{Files, OpenOptions};
 use std::io::{Error, ErrorKind, Read, Result, Write};
 use std::rt::Runtime;
+use tape_run::write_text;
 use tape_writer::WriteFault;
 
 /// How many bytes are held before they are written to the file, at most.
@@ -68,7 +68,7 @@ impl<'a, R: Runtime + AllocGlobal> ImageFile<'a, R> {
             return;
         };
         if let Err(fault) = write_text(file, self.held.as_slice()) {
-            self.fault = Some(ToolFault::File(fault));
+            self.fault = Some(ToolFault::from(fault));
         }
         self.held.clear();
     }
@@ -85,7 +85,7 @@ impl<'a, R: Runtime + AllocGlobal> ImageFile<'a, R> {
             return;
         };
         if let Err(fault) = write_text(file, bytes) {
-            self.fault = Some(ToolFault::File(fault));
+            self.fault = Some(ToolFault::from(fault));
         }
     }
 }

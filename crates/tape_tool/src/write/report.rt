@@ -6,9 +6,9 @@ ghost use Rattle.tape_tool.specs.Report.{volume_line, files_line, report};
 
 use crate::fault::FileFault;
 use crate::line::{Line, put};
-use crate::output::{flush, write_text};
 use std::io::Write;
 use tape_label::Field;
+use tape_run::{flush, write_text};
 
 /// A volume that was written.
 #[derive(Clone, Copy, Debug, PartialEq, Eq)]
@@ -31,7 +31,7 @@ pub fn say<W: Write>(writer: &mut W, files: u64, ended: &[Ended]) -> Result<(), 
         write_text(writer, &volume_line(volume))?;
     }
     write_text(writer, &files_line(files, ended.len() as u64))?;
-    flush(writer)
+    Ok(flush(writer)?)
 }
 
 /// The line of a volume.

@@ -1,5 +1,4 @@
 //! What the words behind `write` ask for.
-use crate::form::Form;
 use crate::help;
 use crate::volume::Prefix;
 use crate::words::{Order, required};
@@ -7,6 +6,7 @@ use clap::builder::ValueParser;
 use clap::error::ErrorKind;
 use clap::{Arg, ArgAction, ArgMatches, Command, Error};
 use std::alloc::{AllocError, Global};
+use tape_blocks::Form;
 use tape_label::Format;
 
 /// The names of record formats.
@@ -139,6 +139,9 @@ fn files_of<'a>(alloc: Global, matches: &ArgMatches<'a>) -> Result<Vec<&'a str>,
 
 /// What is wrong with words that don't go together.
 fn wrong(order: &WriteOrder<'_>) -> Option<&'static str> {
+    if order.folder.is_empty() {
+        return Some(help::NO_FOLDER);
+    }
     match (order.format, order.record, order.form) {
         (Format::Fixed, None, _) => Some(help::RECORD_WANTED),
         (Format::Spanned, Some(_), _) => Some(help::NO_RECORD),

@@ -1,6 +1,6 @@
 use Rattle.std.proofs.Common.{◌≡◌, ◌+◌, ◌++◌, map, take}
 use Rattle.arrayvec.specs.ArrayVec.{array_vec_len}
-use Rattle.tape_tool.specs.Line.{printed}
+use Rattle.tape_run.specs.Identifier.{printed}
 use Rattle.tape_tool.proofs.line.put_identifier.Given as goal
 
 abbrev pub invariant-loop-byte : goal.invariant-loop-byte

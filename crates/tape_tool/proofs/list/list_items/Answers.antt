@@ -4,12 +4,13 @@ use Rattle.tape_image.specs.Reader.{tape_item, ending_of}
 use Rattle.tape_image.proofs.Callers.{gave, met_end, met_fault}
 use Rattle.tape_tool.specs.Line.{line_of}
 use Rattle.tape_tool.specs.Listing.{end_line}
-use Rattle.tape_tool.specs.Output.{AppendsFront}
+use Rattle.tape_run.specs.Output.{AppendsFront}
 use Rattle.tape_tool.specs.declared.fault.FileFault.TheVariants.{WriteFailed}
 use Rattle.tape_tool.specs.declared.fault.ToolFault.TheVariants.{File}
 use Rattle.tape_tool.proofs.SoFar.{write_failed, one_more, ends_at, fails_at, stops_at_item}
 use Rattle.tape_tool.proofs.SoFar.{stops_at_end, stops_at_fault, fits_cause, same_some, least_four}
-use Rattle.tape_tool.proofs.Fronts.{on_err, no_front, in_part, after_none, after_item, after_end}
+use Rattle.tape_run.proofs.Fitting.{on_err, no_front}
+use Rattle.tape_tool.proofs.Fronts.{in_part, after_none, after_item, after_end}
 use Rattle.tape_tool.proofs.list.list_items.Goals as goal
 
 pub items-preserved : goal.items-preserved

@@ -1,7 +1,8 @@
 use Rattle.std.proofs.Common.{[], refl, arith}
 use Rattle.std.proofs.KnownBytes.{Keeps-refl}
 use Rattle.tape_tool.proofs.SoFar.{starts}
-use Rattle.tape_tool.proofs.Fronts.{on_err, no_front, in_part, after_none}
+use Rattle.tape_run.proofs.Fitting.{on_err, no_front}
+use Rattle.tape_tool.proofs.Fronts.{in_part, after_none}
 use Rattle.tape_tool.proofs.list.list_to.Goals as goal
 
 pub returns-in_err-buffer-clause-front : goal.returns-in_err-buffer-clause-front

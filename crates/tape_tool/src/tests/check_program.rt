@@ -1,0 +1,61 @@
+//! `check` as the program runs it.
+use super::calls::{each_ends, ends, put, with_images};
+use super::volumes::{first_of_two, second_of_two};
+use super::words::words_of;
+use crate::end::{End, finish};
+use crate::fault::{Fault, ToolFault};
+use crate::telling::fault_line;
+use crate::words::{Order, order_of};
+use std::test::Fail;
+use tape_run::RunFault;
+
+const LINES: &[(&str, End)] = &[
+    ("check check1.tap check2.tap", End::Done),
+    ("check check2.tap lost.tap -- check1.tap", End::Done),
+    ("check check1.tap", End::Incomplete),
+    ("check lost.tap", End::Incomplete),
+    ("check .", End::Incomplete),
+    ("check", End::WrongWords),
+    ("check --all", End::WrongWords),
+    ("check --help", End::Done),
+];
+
+#[test]
+fn files(rt: HostRuntime) -> Result<(), Fail> {
+    put(
+        &rt,
+        "check1.tap",
+        first_of_two(rt.alloc())?.bytes.as_slice(),
+    )?;
+    put(
+        &rt,
+        "check2.tap",
+        second_of_two(rt.alloc())?.bytes.as_slice(),
+    )?;
+    each_ends(&rt, LINES)
+}
+
+#[test]
+fn at_most_256_images(rt: HostRuntime) -> Result<(), Fail> {
+    let line = with_images(rt.alloc(), "check", 256)?;
+    let words = words_of(rt.alloc(), line.as_str())?;
+    match order_of(rt.alloc(), words.as_slice())? {
+        Order::Check { images } => assert_eq!(rt; images.len(), 256),
+        _ => return Err(Fail::from("an order to check")),
+    }
+    Ok(())
+}
+
+#[test]
+fn not_257_images(rt: HostRuntime) -> Result<(), Fail> {
+    let line = with_images(rt.alloc(), "check", 257)?;
+    ends(&rt, line.as_str(), End::WrongWords)
+}
+
+#[test]
+fn statuses(rt: HostRuntime) {
+    let no_memory = Fault::Tool(ToolFault::Run(RunFault::OutOfMemory));
+    assert!(rt; finish(&rt, End::Incomplete) == 3);
+    assert!(rt; finish(&rt, End::Faulted(no_memory)) == 1);
+    assert_eq!(rt; fault_line(no_memory).as_str(), "tape: run fault 4\n");
+}
