@@ -44,6 +44,21 @@ pub(crate) fn put_word<W: Write>(device: &mut W, word: u32) -> Result<(), ImageW
     put(device, &bytes)
 }
 
+/// Writes a word behind which nothing is written, and flushes the writer.
+pub(crate) fn put_last<W: Write>(device: &mut W, word: u32) -> Result<(), ImageWriteFault>
+    ensures ok { OnOk result
+        (Appends (W.contents device.old) (W.contents device.new) (little_bytes 4 word)) }
+    ensures err { OnErr result
+        (AppendsFront (W.contents device.old) (W.contents device.new) (little_bytes 4 word)) }
+    ensures fault { IsOkUnless result ImageWriteFault.Device }
+{
+    put_word(device, word)?;
+    match device.flush() {
+        Ok(()) => Ok(()),
+        Err(_) => Err(ImageWriteFault::Device),
+    }
+}
+
 /// Writes a block: its word, its bytes, a pad byte if they are odd, and its word again.
 pub(crate) fn put_block<W: Write>(device: &mut W, content: &[u8]) -> Result<(), ImageWriteFault>
     requires { length content.now ≤ 99999 }

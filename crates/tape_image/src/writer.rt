@@ -7,7 +7,7 @@ ghost use Rattle.tape_image.specs.Word.{end_word};
 ghost use Rattle.tape_image.specs.Written.{written};
 
 use crate::fault::ImageWriteFault;
-use crate::put::{put_block, put_word};
+use crate::put::{put_block, put_last, put_word};
 use crate::word::{END, IMAGE_LIMIT, LONGEST_BLOCK, MARK, WORD, extent_of_block};
 use std::io::Write;
 use std::marker::Model;
@@ -26,8 +26,8 @@ enum Phase {
 /// Writes an image to a device, one item after another, in the form of "SIMH Magtape Representation
 /// and Handling".
 ///
-/// Its calls take no memory. A block is written by three or four calls of the device, and the
-/// device is never flushed: put a `BufWriter` under it where a call is dear, and flush that one.
+/// Its calls take no memory. A block is written by three or four calls of the device: put a
+/// `BufWriter` under it where a call is dear. The device is flushed once, behind the end word.
 /// Bytes that the device holds already stay, and are not counted.
 #[derive(Drop)]
 pub struct ImageWriter<W: Write + Drop> {
@@ -109,19 +109,26 @@ impl<W: Write + Drop> ImageWriter<W> {
     pub fn mark(&mut self) -> Result<(), ImageWriteFault>
         ensures { PutsFrom self.old.standing (written mark) writing self.old result self.new }
     {
-        self.word(MARK, Phase::Open)
+        self.may_write()?;
+        self.has_room(WORD)?;
+        let put = put_word(&mut self.device, MARK);
+        self.note(put, WORD, Phase::Open)
     }
 
-    /// Writes the end word. Nothing is written after it.
+    /// Writes the end word and flushes the device: the image is passed on whole. Nothing is written
+    /// after it.
     ///
     /// # Errors
     ///
-    /// As `mark`, for the end word.
+    /// As `mark`, for the end word; `Device` also where the flush fails.
     pub fn finish(&mut self) -> Result<(), ImageWriteFault>
         ensures { PutsFrom self.old.standing (little_bytes 4 end_word) finished
             self.old result self.new }
     {
-        self.word(END, Phase::Done)
+        self.may_write()?;
+        self.has_room(WORD)?;
+        let put = put_last(&mut self.device, END);
+        self.note(put, WORD, Phase::Done)
     }
 
     /// Gives the device back, with what was written to it.
@@ -129,17 +136,6 @@ impl<W: Write + Drop> ImageWriter<W> {
         ensures { W.contents result ≡ self.contents }
     {
         self.device
-    }
-
-    /// Writes a word that stands alone, and stands so behind it.
-    fn word(&mut self, word: u32, after: Phase) -> Result<(), ImageWriteFault>
-        ensures { PutsFrom self.old.standing (little_bytes 4 word) (standing_of after)
-            self.old result self.new }
-    {
-        self.may_write()?;
-        self.has_room(WORD)?;
-        let put = put_word(&mut self.device, word);
-        self.note(put, WORD, after)
     }
 
     /// Whether something may be written: the device did not fail, and the end word was not written.
