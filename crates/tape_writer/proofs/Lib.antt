@@ -8,13 +8,17 @@ pub mod Steps
 pub mod Held
 pub mod Packed
 pub mod Stuck
+pub mod Room
 pub mod Filed
 pub mod Finish
 pub mod Ends
 pub mod Calls
 pub mod Closing
 pub mod Written
+pub mod Examples
+pub mod ExamplesOfInputs
 mod Mistakes
+mod MistakesOfBlanks
 mod MistakesOfRecords
 mod MistakesOfTapes
 mod MistakesOnVolumes

@@ -1,8 +1,8 @@
 -- Refusals of a set writer and of its images that their contracts exclude: each is answered without
 -- its cause, as a wrong body would.
-use Rattle.std.proofs.Common.{◌≡◌, ◌⊎◌, inl, inr, ℕ, ◌+◌, ◌%◌, ◌≤◌, List, [], ◌∷◌, ◌++◌, length}
+use Rattle.std.proofs.Common.{◌≡◌, inl, inr, ℕ, ◌+◌, ◌%◌, ◌≤◌, List, [], ◌∷◌, ◌++◌, length}
 use Rattle.std.proofs.Common.{true, false, refl, sym, ap, ◌∙◌, subst, arith, length-append}
-use Rattle.std.specs.Prelude.{Err, nat_le, slice_get, unwrap_or}
+use Rattle.std.specs.Prelude.{Ok, Err, ◌<◌, nat_le, slice_get, unwrap_or}
 use Rattle.std.specs.List.{AllByRecursion}
 use Rattle.std.proofs.lemmas.Bool.Decides.{nat_tests}
 use Rattle.tape_blocks.specs.declared.shape.Shape.{Shape}
@@ -12,6 +12,7 @@ use Rattle.tape_set.specs.Tight.{least_capacity, takes_next}
 use Rattle.tape_writer.specs.declared.fault.WriteFault.TheVariants as faults
 use Rattle.tape_writer.specs.Draft.{open_blocks}
 use Rattle.tape_writer.specs.State.{IsWriting}
+use Rattle.tape_writer.specs.Room.{room_left}
 use Rattle.tape_writer.specs.Tapes.{Failures, Rose}
 use Rattle.tape_writer.specs.Told.{Told}
 use Rattle.tape_writer.proofs.Lists.{all_back}
@@ -63,17 +64,12 @@ no_block_on_the_last_volume T L g d e κs a s t l writing room labels =
     (all_back (packing.IsWritten w.last.file.shape) (open_blocks w.stuck.draft) w.stuck.next
     w.stuck.of_records.each) labels least w.stuck.due
 
--- third_volume_refused: there are three images, the second volume is under way, and there is told
--- to be none for the third
-third_volume_refused : (W : _) (L : _) (g : _) (d : _) (e : _) (κs : _) (a : _) (s : _)
-    → has_next.Learnt-named W L g d e κs a false s
-    → length a.0.now.images ≡ 3 → a.0.now.ended ≡ 1 → ⊥
-third_volume_refused W L g d e κs a s l three one = none_left l.no
-  where
-    none_left : (length a.0.now.images ≤ a.0.now.ended) ⊎ ((a.0.now.under_way ≡ true)
-        × (length a.0.now.images ≤ a.0.now.ended + 1)) → ⊥
-    none_left (inl few) = absurd (omega (arith, few, three, one))
-    none_left (inr (way, few)) = absurd (omega (arith, few, three, one))
+-- third_volume_refused: there is a device for one more volume, and there is told to be none
+third_volume_refused : (S : _) (D : _) (L : _) (M : _) (g : _) (d : _) (h : _) (e : _) (f : _)
+    (k : _) (κs : _) (a : _) (s : _)
+    → has_next.Learnt-named S D L M g d h e f k κs a false s → g.left a.0.now.store ≡ 1 → ⊥
+third_volume_refused S D L M g d h e f k κs a s l one =
+    absurd (let n : 0 ≡ 1 = sym l.no ∙ one in omega arith)
 
 -- ---- memory and the device
 
@@ -101,3 +97,13 @@ failed_devices_told_as_memory : (T : _) (L : _) (g : _) (d : _) (e : _) (κs : _
 failed_devices_told_as_memory T L g d e κs a s l was is =
     not_rose (subst (λ f. Rose 3 f.memory) is
     (subst (λ f. Rose f.memory (g.failures s.0.now.out).memory) was (l.cause.1 refl)))
+
+-- ---- room
+
+-- empty_record_passed_over: an empty record is told as put, and the writer is as it was
+empty_record_passed_over : (T : _) (L : _) (g : _) (d : _) (e : _) (κs : _) (a : _) (s : _)
+    → put.Learnt-named T L g d e κs a (Ok tt) s → s.0.now ≡ a.0.now → ⊥
+empty_record_passed_over T L g d e κs a s l same =
+    let less : room_left a.0.now < room_left a.0.now
+    = subst (λ w. room_left w < room_left a.0.now) same l.room in
+    absurd (omega (arith, less))

@@ -1,17 +1,17 @@
 -- Answers that the contracts of the tapes exclude: each is what a wrong body would give.
-use Rattle.std.proofs.Common.{◌≡◌, ◌+◌, List, [], ◌∷◌, ◌++◌, length, sym, ap, ◌∙◌, subst, arith}
+use Rattle.std.proofs.Common.{◌≡◌, ℕ, List, [], ◌∷◌, ◌++◌, length, sym, ap, ◌∙◌, subst, arith}
 use Rattle.std.proofs.Common.{length-append}
-use Rattle.std.specs.Prelude.{Some, Ok, slice_get}
+use Rattle.std.specs.Prelude.{Some, Ok, true, false, slice_get}
 use Rattle.tape_image.specs.Tape.{TapeItem, block, bad, mark}
 use Rattle.tape_image.specs.declared.item.Item.TheVariants.{Bad}
 use Rattle.tape_writer.specs.Tapes.{Tapes, Ended, UnderWay, all_volumes, volume_at}
 use Rattle.tape_writer.specs.Kept.{InMemory}
-use Rattle.tape_writer.specs.Images.{AreFresh, Holds}
+use Rattle.tape_writer.specs.Images.{AreImagesOf, Holds}
 use Rattle.tape_writer.proofs.memory.MemoryTapes.count.Reads as count
 use Rattle.tape_writer.proofs.memory.MemoryTapes.length.Reads as length_of
 use Rattle.tape_writer.proofs.memory.MemoryTapes.item.Reads as item
-use Rattle.tape_writer.proofs.images.ImageTapes.new.Reads as new_images
 use Rattle.tape_writer.proofs.images.ImageTapes.end_image.Reads as end_image
+use Rattle.tape_writer.proofs.images.ImageTapesTapeOut.change_volume.Reads as change_volume
 use Rattle.tape_writer.proofs.refusing.RefusingTapeOut.block.Reads as refusing_block
 
 -- ---- tapes in memory
@@ -45,26 +45,37 @@ mark_told_as_bad κs a s h tapes first place =
 
 -- ---- images
 
--- first_image_left_out: images that hold nothing count one volume that ended
-first_image_left_out : (W : _) (L : _) (g : _) (d : _) (e : _) (κs : _) (a : _) (t : _) (s : _)
-    → new_images.Learnt-named W L g d e κs a t s → AreFresh a.0.items → t.ended ≡ 1 → ⊥
-first_image_left_out W L g d e κs a t s l fresh one =
-    absurd (let n : 1 ≡ 0 = sym one ∙ (l.held fresh).1 in omega arith)
+-- no image is that of a volume
+no_images_of : (items : List TapeItem) (bs : List (List ℕ)) → bs ≡ []
+    → AreImagesOf (items ∷ []) bs → ⊥
+no_images_of items [] e a = a
+no_images_of items (b ∷ bs) e a = absurd (cc)
 
--- ended_image_written_again: the image has ended, and no volume more is counted, so that the next
--- one is written behind its end word
-ended_image_written_again : (W : _) (L : _) (g : _) (d : _) (e : _) (κs : _) (a : _) (s : _)
-    (volumes : List (List TapeItem)) (items : List TapeItem)
-    → end_image.Learnt-named W L g d e κs a (Ok tt) s
-    → Holds a.0.now (UnderWay volumes items) → s.0.now.ended ≡ a.0.now.ended → ⊥
-ended_image_written_again W L g d e κs a s volumes items l held same =
-    absurd (omega (
-      arith,
-      same,
-      held.1,
-      (l.ok (UnderWay volumes items) held).1,
-      length-append volumes (items ∷ []),
-    ))
+-- ended_image_dropped: the image of the first volume has ended, and the store was handed none. What
+-- it was handed is one list alone, as of images in memory.
+ended_image_dropped : (S : _) (D : _) (L : _) (M : _) (g : _) (d : _) (h : _) (e : _) (f : _)
+    (k : _) (κs : _) (a : _) (s : _)
+    (items : List TapeItem)
+    → end_image.Learnt-named S D L M g d h e f k κs a (Ok tt) s
+    → Holds g.holds a.0.now (UnderWay [] items) → g.holds s.0.now.store false []
+    → ((x y : List (List ℕ)) → g.holds s.0.now.store false x → g.holds s.0.now.store false y
+    → x ≡ y)
+    → ⊥
+ended_image_dropped S D L M g d h e f k κs a s items l held none one =
+    let (_, on) = l.ok (UnderWay [] items) held in
+    no_images_of items on.images (one on.images [] on.held none) on.spelled
+
+-- image_not_handed_on: the next volume is under way, and the store was handed none of the first
+image_not_handed_on : (S : _) (D : _) (L : _) (M : _) (g : _) (d : _) (h : _) (e : _) (f : _)
+    (k : _) (κs : _) (a : _) (s : _)
+    (items : List TapeItem)
+    → change_volume.Learnt-named S D L M g d h e f k κs a (Ok tt) s
+    → Holds g.holds a.0.now (UnderWay [] items) → g.holds s.0.now.store true []
+    → ((x y : List (List ℕ)) → g.holds s.0.now.store true x → g.holds s.0.now.store true y → x ≡ y)
+    → ⊥
+image_not_handed_on S D L M g d h e f k κs a s items l held none one =
+    let (_, on) = l.ok (UnderWay [] items) held in
+    no_images_of items on.images (one on.images [] on.held none) on.spelled
 
 -- ---- a call that is refused
 

@@ -1,5 +1,5 @@
 -- A record's bytes, one block after another.
-use Rattle.std.proofs.Common.{◌≡◌, ◌≢◌, ◌<◌, ◌≤◌, ℕ, ◌+◌, List, [], ◌∷◌, ◌++◌, length, false, None}
+use Rattle.std.proofs.Common.{◌≡◌, ◌≢◌, ◌<◌, ◌≤◌, ℕ, List, [], ◌∷◌, ◌++◌, length, false, None}
 use Rattle.std.proofs.Common.{refl, sym, ap, ◌∙◌, subst, inl, inr, arith, drop}
 use Rattle.std.specs.Prelude.{OnOk, IfErr, Result, Ok, Err, ◌⊎◌}
 use Rattle.tape_label.specs.declared.values.Vol1.{Vol1}

@@ -1,6 +1,7 @@
 -- Images, one volume after another.
-use Rattle.std.proofs.Common.{◌≡◌, ◌≢◌, ◌<◌, ℕ, ◌+◌, List, [], ◌∷◌, ◌++◌, Bool, true, false, Some}
-use Rattle.std.proofs.Common.{Ok, Err, length, ◌-◌, ◌%◌, replicate, get_or, slice_set, refl, sym}
+use Rattle.std.proofs.Common.{◌≡◌, ◌≢◌, ℕ, ◌+◌, List, [], ◌∷◌, ◌++◌, Bool, true, false}
+use Rattle.std.proofs.Common.{Option, Some}
+use Rattle.std.proofs.Common.{None, Ok, Err, length, ◌%◌, replicate, refl, sym}
 use Rattle.std.proofs.Common.{ap, subst, ◌∙◌, arith, append-nil, length-append}
 use Rattle.byteorder.specs.Endian.{little_bytes}
 use Rattle.tape_image.specs.declared.fault.ImageWriteFault.{ImageWriteFault}
@@ -18,8 +19,7 @@ use Rattle.tape_set.specs.Sizes.{items_size, item_size}
 use Rattle.tape_set.proofs.Measures.{items_size-append}
 use Rattle.std.proofs.lemmas.List.{length-replicate}
 use Rattle.tape_writer.specs.Tapes.{Tapes, Ended, UnderWay, all_volumes}
-use Rattle.tape_writer.specs.Images.{IsFresh, AreFresh, IsImageSoFar, IsImageOf, Behind, IsUnderWay}
-use Rattle.tape_writer.specs.Images.{AreImages}
+use Rattle.tape_writer.specs.Images.{IsImageSoFar, IsImageOf, AreImagesOf, IsUnderWay, AreImages}
 
 -- an open writer has written the items and no more
 contents_open : (items : List TapeItem) (w : Writer) (s : IsImageSoFar items w)
@@ -76,24 +76,25 @@ one_more item items old new is put s =
     }
 
 -- the end word
-pub ended : (items : List TapeItem) (old new : Writer) → old.standing ≡ writing
+ended : (items : List TapeItem) (old new : Writer) → old.standing ≡ writing
     → PutsFrom old.standing (little_bytes 4 end_word) finished old (Ok tt) new
-    → IsImageSoFar items old → IsImageOf items new
+    → IsImageSoFar items old
+    → (bytes : List ℕ) × (new.contents ≡ Some bytes) × IsImageOf items bytes
 ended items old new is put s =
-    let all = put_all old.standing finished (little_bytes 4 end_word) old new put in
-    record {
-      bytes = s.bytes ++ little_bytes 4 end_word;
-      contents = known_after old.contents new.contents s.bytes (little_bytes 4 end_word)
-          (contents_open items old s is) all.wrote;
-      spells = record {
-        rest = little_bytes 4 end_word;
-        leads = Leads-before s.bytes [] (little_bytes 4 end_word) items s.leads;
-        ending = Marked;
-        ended = (omega arith, refl);
-      };
-      size = omega (arith, all.size, s.size, length-append s.bytes (little_bytes 4 end_word));
-      sized = omega (arith, s.sized, length-append s.bytes (little_bytes 4 end_word));
-    }
+    let all = put_all old.standing finished (little_bytes 4 end_word) old new put in (
+      s.bytes ++ little_bytes 4 end_word,
+      known_after old.contents new.contents s.bytes (little_bytes 4 end_word)
+          (contents_open items old s is) all.wrote,
+      record {
+        spells = record {
+          rest = little_bytes 4 end_word;
+          leads = Leads-before s.bytes [] (little_bytes 4 end_word) items s.leads;
+          ending = Marked;
+          ended = (omega arith, refl);
+        };
+        sized = omega (arith, s.sized, length-append s.bytes (little_bytes 4 end_word));
+      },
+    )
 
 -- an answer that is Ok comes from an open writer
 put_open : (s after : Standing) (bytes : List ℕ) (old new : Writer)
@@ -166,126 +167,125 @@ block_err writing fault items content old new is p s =
 block_err finished fault items content old new is (_, e) s = same_so_far items old new e s
 block_err broken fault items content old new is (_, e) s = same_so_far items old new e s
 
--- the image of the volume under way
-under_way_at : (items : List TapeItem) (vs : List (List TapeItem)) (ws : List Writer) (u : Writer)
-    → u ≡ get_or ws (length vs) u → Behind (IsUnderWay items) ws vs → IsImageSoFar items u
-under_way_at items [] [] u e b = absurd b
-under_way_at items [] (w ∷ ws) u e (s, _) = subst (IsImageSoFar items) (sym e) s
-under_way_at items (v ∷ vs) [] u e b = absurd b
-under_way_at items (v ∷ vs) (w ∷ ws) u e (_, b) = under_way_at items vs ws u e b
+-- the image that is here is the one under way
+under_way_is : (items : List TapeItem) (image : Option Writer) (u : Writer) → image ≡ Some u
+    → IsUnderWay items image → IsImageSoFar items u
+under_way_is items image u e s = subst (IsUnderWay items) e s
 
-under_way_set : (items more : List TapeItem) (vs : List (List TapeItem)) (ws : List Writer)
-    (w : Writer) → Behind (IsUnderWay items) ws vs → IsImageSoFar more w
-    → Behind (IsUnderWay more) (slice_set ws (length vs) w) vs
-under_way_set items more [] [] w b s = absurd b
-under_way_set items more [] (x ∷ ws) w (_, f) s = (s, f)
-under_way_set items more (v ∷ vs) [] w b s = absurd b
-under_way_set items more (v ∷ vs) (x ∷ ws) w (i, b) s = (i, under_way_set items more vs ws w b s)
+none_under_way : (items : List TapeItem) (image : Option Writer) → image ≡ None
+    → IsUnderWay items image → ⊥
+none_under_way items image e s = subst (IsUnderWay items) e s
 
-ended_set : (items : List TapeItem) (vs : List (List TapeItem)) (ws : List Writer) (w : Writer)
-    → Behind (IsUnderWay items) ws vs → IsImageOf items w
-    → Behind AreFresh (slice_set ws (length vs) w) (vs ++ items ∷ [])
-ended_set items [] [] w b s = absurd b
-ended_set items [] (x ∷ ws) w (_, f) s = (s, f)
-ended_set items (v ∷ vs) [] w b s = absurd b
-ended_set items (v ∷ vs) (x ∷ ws) w (i, b) s = (i, ended_set items vs ws w b s)
+no_image : (image : Option Writer) (u : Writer) → image ≡ Some u → image ≡ None → ⊥
+no_image image u a b = cc
+
+-- one image more
+one_image : (vs : List (List TapeItem)) (bs : List (List ℕ)) (items : List TapeItem)
+    (bytes : List ℕ) → AreImagesOf vs bs → IsImageOf items bytes
+    → AreImagesOf (vs ++ items ∷ []) (bs ++ bytes ∷ [])
+one_image [] [] items bytes a i = (i, tt)
+one_image [] (b ∷ bs) items bytes a i = absurd a
+one_image (v ∷ vs) [] items bytes a i = absurd a
+one_image (v ∷ vs) (b ∷ bs) items bytes (x, a) i = (x, one_image vs bs items bytes a i)
 
 -- an image with nothing in it
-started : (w : Writer) → IsFresh w → IsImageSoFar [] w
-started w f = record {
+started : (w : Writer) → w.standing ≡ writing → w.size ≡ 0 → w.contents ≡ Some []
+    → IsImageSoFar [] w
+started w stands size contents = record {
   bytes = [];
   more = [];
-  contents = f.contents;
+  contents = contents;
   leads = Leads-nil [];
-  size = f.size;
+  size = size;
   sized = refl;
-  open_at = not_writing w f.stands;
+  open_at = not_writing w stands;
   whole = λ _. refl;
 }
 
-fresh_next : (vs : List (List TapeItem)) (ws : List Writer) → Behind AreFresh ws vs
-    → length vs < length ws → Behind (IsUnderWay []) ws vs
-fresh_next [] [] b n = absurd (omega (arith, n))
-fresh_next [] (w ∷ ws) (f, fs) n = (started w f, fs)
-fresh_next (v ∷ vs) [] b n = absurd b
-fresh_next (v ∷ vs) (w ∷ ws) (i, b) n = (i, fresh_next vs ws b (omega (arith, n)))
+-- what a store holds of images that were handed on
+abbrev StoreHolds : Type 1
+StoreHolds = Bool → List (List ℕ) → Type 0
 
--- the image at the place, once an item was put
-pub put_at : (item : TapeItem) (ws : List Writer)
-    (n : ℕ) (way : Bool) (u w : Writer) (volumes : List (List TapeItem)) (items : List TapeItem)
-    → u ≡ get_or ws n u → u.standing ≡ writing → PutItem item u w
-    → AreImages ws n way (UnderWay volumes items)
-    → AreImages (slice_set ws n w) n way (UnderWay volumes (items ++ item ∷ []))
-put_at item ws n way u w volumes items there is put (e, k, b) =
-    let s = under_way_at items volumes ws u (there ∙ ap (λ m. get_or ws m u) k) b in
-    let Q : ℕ → Type 0 =
-    λ m. Behind (IsUnderWay (items ++ item ∷ [])) (slice_set ws m w) volumes in (
-      e,
-      k,
-      subst Q (sym k) (under_way_set items (items ++ item ∷ []) volumes ws w b
-          (one_more item items u w is put s)),
-    )
+-- the image here, once it is another one
+become : (H : StoreHolds) (image other : Option Writer) (u w : Writer)
+    (volumes : List (List TapeItem)) (items more : List TapeItem) → image ≡ Some u
+    → other ≡ Some w → (IsImageSoFar items u → IsImageSoFar more w)
+    → AreImages H image (UnderWay volumes items) → AreImages H other (UnderWay volumes more)
+become H image other u w volumes items more there here step (s, h) =
+    (subst (IsUnderWay more) (sym here) (step (under_way_is items image u there s)), h)
 
-pub block_at : (content : List ℕ) (ws : List Writer)
-    (n : ℕ) (way : Bool) (u w : Writer) (volumes : List (List TapeItem)) (items : List TapeItem)
-    → u ≡ get_or ws n u → BlockFrom u.standing content u (Ok tt) w
-    → AreImages ws n way (UnderWay volumes items)
-    → AreImages (slice_set ws n w) n way (UnderWay volumes (items ++ block content ∷ []))
-block_at content ws n way u w volumes items there put a = put_at (block content) ws n way u w
-    volumes items there (block_open u.standing content u w put) put a
+-- the image here, once an item was put
+put_at : (item : TapeItem) (H : StoreHolds) (image other : Option Writer) (u w : Writer)
+    (volumes : List (List TapeItem)) (items : List TapeItem) → image ≡ Some u → other ≡ Some w
+    → u.standing ≡ writing → PutItem item u w → AreImages H image (UnderWay volumes items)
+    → AreImages H other (UnderWay volumes (items ++ item ∷ []))
+put_at item H image other u w volumes items there here is put a =
+    become H image other u w volumes items (items ++ item ∷ []) there here
+    (one_more item items u w is put) a
 
-pub mark_at : (ws : List Writer)
-    (n : ℕ) (way : Bool) (u w : Writer) (volumes : List (List TapeItem)) (items : List TapeItem)
-    → u ≡ get_or ws n u → PutsFrom u.standing (written mark) writing u (Ok tt) w
-    → AreImages ws n way (UnderWay volumes items)
-    → AreImages (slice_set ws n w) n way (UnderWay volumes (items ++ mark ∷ []))
-mark_at ws n way u w volumes items there put a = put_at mark ws n way u w volumes items there
+pub block_at : (content : List ℕ) (H : StoreHolds) (image other : Option Writer) (u w : Writer)
+    (volumes : List (List TapeItem)) (items : List TapeItem) → image ≡ Some u → other ≡ Some w
+    → BlockFrom u.standing content u (Ok tt) w → AreImages H image (UnderWay volumes items)
+    → AreImages H other (UnderWay volumes (items ++ block content ∷ []))
+block_at content H image other u w volumes items there here put a =
+    put_at (block content) H image other u w volumes items there here
+    (block_open u.standing content u w put) put a
+
+pub mark_at : (H : StoreHolds) (image other : Option Writer) (u w : Writer)
+    (volumes : List (List TapeItem)) (items : List TapeItem) → image ≡ Some u → other ≡ Some w
+    → PutsFrom u.standing (written mark) writing u (Ok tt) w
+    → AreImages H image (UnderWay volumes items)
+    → AreImages H other (UnderWay volumes (items ++ mark ∷ []))
+mark_at H image other u w volumes items there here put a =
+    put_at mark H image other u w volumes items there here
     (put_open u.standing writing (written mark) u w put) put a
 
--- the image at the place, once its end word was put
-pub end_at : (ws : List Writer) (n : ℕ) (way : Bool) (u w : Writer) (tapes : Tapes) → way ≡ true
-    → u ≡ get_or ws n u → PutsFrom u.standing (little_bytes 4 end_word) finished u (Ok tt) w
-    → AreImages ws n way tapes
-    → AreImages (slice_set ws n w) (n + 1) false (Ended (all_volumes tapes))
-end_at ws n way u w (Ended volumes) is there put (e, _, _) = absurd (cc (is, e))
-end_at ws n way u w (UnderWay volumes items) is there put (e, k, b) =
-    let s = under_way_at items volumes ws u (there ∙ ap (λ m. get_or ws m u) k) b in
+-- the image here, once a call was refused
+pub kept_at : (H : StoreHolds) (image other : Option Writer) (u w : Writer) (tapes : Tapes)
+    → image ≡ Some u → other ≡ Some w
+    → ((items : List TapeItem) → IsImageSoFar items u → IsImageSoFar items w)
+    → AreImages H image tapes → AreImages H other tapes
+kept_at H image other u w (Ended volumes) there here keeps (e, _) =
+    absurd (no_image image u there e)
+kept_at H image other u w (UnderWay volumes items) there here keeps a =
+    become H image other u w volumes items items there here (keeps items) a
+
+-- the image here, once its end word was put and it was handed on
+pub end_at : (H H' : StoreHolds) (image other : Option Writer) (u w : Writer) (tapes : Tapes)
+    → image ≡ Some u → other ≡ None
+    → PutsFrom u.standing (little_bytes 4 end_word) finished u (Ok tt) w
+    → ((images : List (List ℕ)) (bytes : List ℕ) → H true images → w.contents ≡ Some bytes
+    → H' false (images ++ bytes ∷ []))
+    → AreImages H image tapes → AreImages H' other (Ended (all_volumes tapes))
+end_at H H' image other u w (Ended volumes) there gone put keep (e, _) =
+    absurd (no_image image u there e)
+end_at H H' image other u w (UnderWay volumes items) there gone put keep (s, h) =
     let at = put_open u.standing finished (little_bytes 4 end_word) u w put in
-    let Q : ℕ → Type 0 = λ m. Behind AreFresh (slice_set ws m w) (volumes ++ items ∷ []) in (
-      refl,
-      omega (arith, k, length-append volumes (items ∷ [])),
-      subst Q (sym k) (ended_set items volumes ws w b (ended items u w at put s)),
+    let (bytes, contents, is) = ended items u w at put (under_way_is items image u there s) in (
+      gone,
+      record {
+        images = h.images ++ bytes ∷ [];
+        held = keep h.images bytes h.held contents;
+        spelled = one_image volumes h.images items bytes h.spelled is;
+      },
     )
 
--- the image at the place, once a call was refused
-pub kept_at : (ws : List Writer) (n : ℕ) (way : Bool) (u w : Writer) (tapes : Tapes) → way ≡ true
-    → u ≡ get_or ws n u → ((items : List TapeItem) → IsImageSoFar items u → IsImageSoFar items w)
-    → AreImages ws n way tapes → AreImages (slice_set ws n w) n way tapes
-kept_at ws n way u w (Ended volumes) is there keeps (e, _, _) = absurd (cc (is, e))
-kept_at ws n way u w (UnderWay volumes items) is there keeps (e, k, b) =
-    let s = under_way_at items volumes ws u (there ∙ ap (λ m. get_or ws m u) k) b in
-    let Q : ℕ → Type 0 = λ m. Behind (IsUnderWay items) (slice_set ws m w) volumes in
-    (e, k, subst Q (sym k) (under_way_set items items volumes ws w b (keeps items s)))
+-- there is none to end
+pub none_to_end : (H : StoreHolds) (image other : Option Writer) (tapes : Tapes) → image ≡ None
+    → other ≡ None → AreImages H image tapes → AreImages H other (Ended (all_volumes tapes))
+none_to_end H image other (Ended volumes) none gone (_, h) = (gone, h)
+none_to_end H image other (UnderWay volumes items) none gone (s, _) =
+    absurd (none_under_way items image none s)
 
--- the next image is begun, where there is one
-pub begun_at : (old : List Writer) (n : ℕ) (way : Bool) (new : List Writer)
-    (m : ℕ) (off : Bool) (tapes : Tapes) → AreImages old n way tapes
-    → AreImages new m off (Ended (all_volumes tapes)) → length new ≡ length old
-    → 0 < length old - n → (way ≡ true → 1 < length old - n)
-    → AreImages new m true (UnderWay (all_volumes tapes) [])
-begun_at old n way new m off (Ended volumes) (_, k, _) (_, j, b) long one two =
-    (refl, j, fresh_next volumes new b (omega (arith, k, long, one)))
-begun_at old n way new m off (UnderWay volumes items) (e, k, _) (_, j, b) long one two =
-    let more : 1 < length old - n = two e in (
-      refl,
-      j,
-      fresh_next (volumes ++ items ∷ []) new b
-          (omega (arith, k, long, more, length-append volumes (items ∷ []))),
+-- the next image is begun
+pub begun_at : (H H' : StoreHolds) (image : Option Writer) (w : Writer) (k : Option (List ℕ))
+    (volumes : List (List TapeItem))
+    → w ≡ record { size = 0; standing = writing; contents = k }
+    → ((images : List (List ℕ)) → H false images → (k ≡ Some []) × H' true images)
+    → AreImages H image (Ended volumes) → AreImages H' (Some w) (UnderWay volumes [])
+begun_at H H' image w k volumes new lent (_, h) =
+    let (empty, held) = lent h.images h.held in (
+      started w (ap (λ x. x.standing) new) (ap (λ x. x.size) new)
+          (ap (λ x. x.contents) new ∙ empty),
+      record { images = h.images; held = held; spelled = h.spelled },
     )
-
--- the same images
-pub same_images : (ws us : List Writer) (n m : ℕ) (way road : Bool) (tapes : Tapes) → us ≡ ws
-    → m ≡ n → road ≡ way → AreImages ws n way tapes → AreImages us m road tapes
-same_images ws us n m way road tapes a b e held =
-    subst (λ x. AreImages x m road tapes) (sym a) (subst (λ x. AreImages ws x road tapes) (sym b)
-    (subst (λ x. AreImages ws n x tapes) (sym e) held))

@@ -6,4 +6,6 @@ mod Putting
 mod Filing
 mod Refusing
 mod Finished
+mod Stopping
 mod Mistakes
+mod MistakesOfVolumes

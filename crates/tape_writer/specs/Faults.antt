@@ -1,5 +1,5 @@
 -- Where the writer's faults come from, and what they leave.
-use Rattle.std.specs.Prelude.{◌≡◌, ◌≢◌, ℕ, Result, IfErr}
+use Rattle.std.specs.Prelude.{◌≡◌, ◌≢◌, Result, IfErr}
 use Rattle.tape_writer.specs.declared.fault.WriteFault.{WriteFault}
 use Rattle.tape_writer.specs.declared.fault.WriteFault.TheVariants.{RecordLength, OutOfVolumes}
 use Rattle.tape_writer.specs.declared.fault.WriteFault.TheVariants.{Device, OutOfMemory}

@@ -1,30 +1,19 @@
 -- What images hold of volumes.
-use Rattle.std.specs.Prelude.{◌≡◌, ◌≢◌, ℕ, ◌+◌, List, [], ◌∷◌, ◌++◌, Bool, true, false, Some}
-use Rattle.std.specs.Prelude.{length}
-use Rattle.std.specs.List.{AllByRecursion}
+use Rattle.std.specs.Prelude.{◌≡◌, ◌≢◌, ℕ, ◌+◌, List, [], ◌∷◌, ◌++◌, Bool, true, false}
+use Rattle.std.specs.Prelude.{Option, Some}
+use Rattle.std.specs.Prelude.{None, length}
 use Rattle.tape_image.specs.Tape.{TapeItem}
 use Rattle.tape_image.specs.Spelling.{Leads, Spells}
 use Rattle.tape_image.specs.Writer.{Writer, writing, finished}
 use Rattle.tape_set.specs.Sizes.{items_size}
 use Rattle.tape_writer.specs.Tapes.{Tapes, Ended, UnderWay, Failures}
 
--- Volumes as images: a writer for each, how many volumes have ended, whether one is under way, and
--- how many calls failed.
-pub record Images : Type 0 where
-  pub images : List Writer
-  pub ended : ℕ
-  pub under_way : Bool
+-- Volumes as images: the store of those that have ended, the writer of the one under way, if there
+-- is one, and how many calls failed.
+pub record Images (S : Type 0) : Type 0 where
+  pub store : S
+  pub image : Option Writer
   pub failed : ℕ
-
--- Nothing is written yet.
-pub record IsFresh (w : Writer) : Type 0 where
-  pub stands : w.standing ≡ writing
-  pub size : w.size ≡ 0
-  pub contents : w.contents ≡ Some []
-
--- nothing is written yet to any of them
-abbrev pub AreFresh : List Writer → Type 0
-AreFresh ws = AllByRecursion IsFresh ws
 
 -- These items are written, and where the device failed some bytes behind them.
 pub record IsImageSoFar (items : List TapeItem) (w : Writer) : Type 0 where
@@ -38,34 +27,35 @@ pub record IsImageSoFar (items : List TapeItem) (w : Writer) : Type 0 where
   pub whole : w.standing ≡ writing → more ≡ []
 
 -- The image spells these items, its end word last, and nothing stands behind it.
-pub record IsImageOf (items : List TapeItem) (w : Writer) : Type 0 where
-  pub bytes : List ℕ
-  pub contents : w.contents ≡ Some bytes
+pub record IsImageOf (items : List TapeItem) (bytes : List ℕ) : Type 0 where
   pub spells : Spells bytes items
-  pub size : w.size ≡ length bytes
   pub sized : length bytes ≡ items_size items + 4
 
--- the first images are those of these volumes, and of the rest this is true
-abbrev pub Behind : (List Writer → Type 0) → List Writer → List (List TapeItem) → Type 0
-Behind P ws [] = P ws
-Behind P [] (v ∷ vs) = ⊥
-Behind P (w ∷ ws) (v ∷ vs) = IsImageOf v w × Behind P ws vs
+-- each image is that of the volume at its place
+abbrev pub AreImagesOf : List (List TapeItem) → List (List ℕ) → Type 0
+AreImagesOf [] [] = Unit {0}
+AreImagesOf (v ∷ vs) (b ∷ bs) = IsImageOf v b × AreImagesOf vs bs
+AreImagesOf _ _ = ⊥
 
--- the first image is under way with these items, and nothing is written of the others
-abbrev pub IsUnderWay : List TapeItem → List Writer → Type 0
-IsUnderWay items [] = ⊥
-IsUnderWay items (w ∷ ws) = IsImageSoFar items w × AreFresh ws
+-- The store was handed the images of these volumes, and no others.
+pub record HandedOn (H : List (List ℕ) → Type 0) (volumes : List (List TapeItem)) : Type 0 where
+  pub images : List (List ℕ)
+  pub held : H images
+  pub spelled : AreImagesOf volumes images
 
--- the images hold these volumes, one behind the other
-abbrev pub AreImages : List Writer → ℕ → Bool → Tapes → Type 0
-AreImages ws ended under_way (Ended volumes) =
-    (under_way ≡ false) × (ended ≡ length volumes) × Behind AreFresh ws volumes
-AreImages ws ended under_way (UnderWay volumes items) =
-    (under_way ≡ true) × (ended ≡ length volumes) × Behind (IsUnderWay items) ws volumes
+-- there is an image under way, with these items
+abbrev pub IsUnderWay : List TapeItem → Option Writer → Type 0
+IsUnderWay items None = ⊥
+IsUnderWay items (Some w) = IsImageSoFar items w
 
--- the same of image tapes
-abbrev pub Holds : Images → Tapes → Type 0
-Holds t tapes = AreImages t.images t.ended t.under_way tapes
+-- the volumes that ended are handed on, and the image of the one under way is here
+abbrev pub AreImages : (Bool → List (List ℕ) → Type 0) → Option Writer → Tapes → Type 0
+AreImages H image (Ended volumes) = (image ≡ None) × HandedOn (H false) volumes
+AreImages H image (UnderWay volumes items) = IsUnderWay items image × HandedOn (H true) volumes
+
+-- the same of image tapes, where a store holds so
+abbrev pub Holds : {S : Type 0} → (S → Bool → List (List ℕ) → Type 0) → Images S → Tapes → Type 0
+Holds H t tapes = AreImages (H t.store) t.image tapes
 
 -- so many failures of a device, and no growth refused
 abbrev pub device_failures : ℕ → Failures

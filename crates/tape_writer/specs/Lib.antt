@@ -6,6 +6,7 @@ pub mod Fields
 pub mod Labels
 pub mod Told
 pub mod State
+pub mod Room
 pub mod Lasting
 pub mod Faults
 pub mod Refusals
@@ -14,7 +15,13 @@ pub mod Records
 pub mod RecordLaws
 pub mod ToldFiles
 pub mod WriteSet
+pub mod NoVolume
 pub mod WriteFaults
+-- volumes without files:
+pub mod Blank
+-- what these say of cases:
+pub mod Cases
+pub mod CasesOfInputs
 -- what is written so far, in the proofs' own words:
 pub mod Draft
 pub mod Inside

@@ -1,10 +1,8 @@
 -- Files told with the records of inputs.
-use Rattle.std.specs.Prelude.{◌≡◌, ◌⊎◌, ◌≤◌, ℕ, ◌+◌, List, [], ◌∷◌, ◌++◌, length, Option, IfSome}
+use Rattle.std.specs.Prelude.{ℕ, ◌+◌, List, [], ◌∷◌, ◌++◌, length, Option, IfSome}
 use Rattle.tape_label.specs.declared.values.Head1.{Head1}
 use Rattle.tape_blocks.specs.declared.shape.Shape.{Shape}
-use Rattle.tape_writer.specs.Tapes.{Tapes}
 use Rattle.tape_writer.specs.Told.{Told, with_record, opened_by}
-use Rattle.tape_writer.specs.State.{SetState, IsOutOfVolumes}
 use Rattle.tape_writer.specs.declared.inputs.cut.Cut.{Cut}
 use Rattle.tape_writer.specs.Records.{records_of}
 
@@ -26,11 +24,7 @@ abbrev pub IfAllKnown : List (Head1 × Option (List ℕ)) → (List (Head1 × Li
 IfAllKnown [] P = P []
 IfAllKnown (x ∷ xs) P = IfSome x.1 (λ bytes. IfAllKnown xs (λ fs. P ((x.0, bytes) ∷ fs)))
 
--- Where a front of these records was told behind those, the writer has no volume left; or the front
--- is as long as no set is.
-pub record GaveUp {T : Type 0} (H : Tapes → Type 0) (w : SetState T) (told : List Told)
-    (records : List (List ℕ)) : Type 0 where
-  pub front : List (List ℕ)
-  pub back : List (List ℕ)
-  pub split : records ≡ front ++ back
-  pub out : IsOutOfVolumes H w (with_records told front) ⊎ (18446744073709551615 ≤ length front)
+-- a file more was begun behind these
+abbrev pub with_file : List ℕ → List Told → Head1 → Shape → List Told
+with_file set_id told head shape =
+    told ++ record { file = opened_by set_id (length told + 1) head shape; records = [] } ∷ []

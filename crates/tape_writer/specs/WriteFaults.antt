@@ -1,6 +1,6 @@
 -- Why `write` does not write a set: a fault that these definitions rule out is not answered.
 use Rattle.std.specs.Prelude.{◌≡◌, ◌<◌, ◌+◌, ◌⊎◌, ℕ, List, [], ◌∷◌, length, Option, Some, None}
-use Rattle.std.specs.Prelude.{IfSome}
+use Rattle.std.specs.Prelude.{IfSome, IfErr, Result}
 use Rattle.tape_label.specs.declared.values.Head1.{Head1}
 use Rattle.tape_blocks.specs.declared.shape.Shape.{Shape}
 use Rattle.tape_blocks.specs.Packing.{HasRecordLength}
@@ -16,6 +16,7 @@ use Rattle.tape_writer.specs.declared.inputs.records.InputFault.{InputFault}
 use Rattle.tape_writer.specs.declared.inputs.records.InputFault.TheVariants as inputs
 use Rattle.tape_writer.specs.declared.inputs.set.SetPlan.{SetPlan}
 use Rattle.tape_writer.specs.Records.{records_of, longest}
+use Rattle.tape_writer.specs.Tapes.{Failures, Rose}
 use Rattle.tape_writer.specs.WriteSet.{cut_of}
 
 -- how the fault of an input is told
@@ -23,6 +24,11 @@ abbrev pub told_as : InputFault → SetFault
 told_as inputs.ReadFailed = ReadFailed
 told_as inputs.TooLong = Write RecordLength
 told_as inputs.OutOfMemory = Write OutOfMemory
+
+-- `Device` is answered only where the tapes' device failed in the call
+abbrev pub StopsByDevice : Failures → Result (Unit {0}) SetFault → Failures → Type 0
+StopsByDevice old result new =
+    IfErr result (λ fault. fault ≡ Write Device → Rose old.device new.device)
 
 -- a record of none of the shape's lengths, or one that is longer than any that is held
 abbrev pub IsOther : Shape → List ℕ → Type 0

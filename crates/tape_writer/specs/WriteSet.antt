@@ -1,6 +1,5 @@
 -- What `write` has written.
-use Rattle.std.specs.Prelude.{ℕ, List, false, Option, Some, None}
-use Rattle.tape_image.specs.Writer.{Writer}
+use Rattle.std.specs.Prelude.{ℕ, List, Bool, Option, Some, None}
 use Rattle.tape_label.specs.declared.values.Format.{Format}
 use Rattle.tape_label.specs.declared.values.Format.TheVariants.{Fixed, Counted, Spanned}
 use Rattle.tape_label.specs.declared.values.Vol1.{Vol1}
@@ -12,12 +11,13 @@ use Rattle.tape_blocks.specs.declared.form.Form.TheVariants as forms
 use Rattle.tape_writer.specs.declared.inputs.cut.Cut.{Cut}
 use Rattle.tape_writer.specs.declared.inputs.cut.Cut.TheVariants.{Lines, Length, Whole}
 
--- The first so many images spell the volumes of a lawful set that is tight in the capacity and the
--- shapes told; its files are those told, and its volumes the first of those given. Nothing is
--- written of the other images.
-abbrev pub IsSetOfImages : List Vol1 → ℕ → List ℕ → List Told → List Writer → ℕ → Type 0
-IsSetOfImages volumes capacity set_id told images ended =
-    IsWrittenSet (λ tapes. AreImages images ended false tapes) volumes capacity set_id told
+-- The images that were handed on spell the volumes of a lawful set that is tight in the capacity
+-- and the shapes told; its files are those told, and its volumes the first of those given. There
+-- are no others.
+abbrev pub IsSetOfImages :
+    (Bool → List (List ℕ) → Type 0) → List Vol1 → ℕ → List ℕ → List Told → Type 0
+IsSetOfImages H volumes capacity set_id told =
+    IsWrittenSet (λ tapes. AreImages H None tapes) volumes capacity set_id told
 
 -- raw inputs are cut into records of format F, and are one record of format S
 abbrev pub raw_cut : Format → ℕ → Option Cut

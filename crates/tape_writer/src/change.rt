@@ -11,6 +11,7 @@ ghost use Rattle.tape_writer.specs.Faults.{FailsWith, IsOfTape};
 ghost use Rattle.tape_label.specs.Widths.{IsWideVolume};
 ghost use Rattle.tape_writer.specs.Labels.{IsReady};
 ghost use Rattle.tape_writer.specs.Draft.{Draft, IsOpen, IsRoomy, Grew, Closed};
+ghost use Rattle.tape_writer.specs.Room.{Passed};
 
 use crate::course::Opened;
 use crate::fault::WriteFault;
@@ -83,6 +84,8 @@ impl<T: TapeOut> Tape<T> {
         ensures always { length volumes.now ≤ self.old.course.volume
             → capacity < self.old.course.used + item_size (block_item bytes.now) + 192
             → result ≡ Err WriteFault.OutOfVolumes }
+        ensures passed { OnOk result
+            (Passed self.old.course (item_size (block_item bytes.now)) self.new.course) }
         ensures of_tape { IfErr result IsOfTape }
         ensures lasting { Lasting
             (T.holds self.old.out) (T.failures self.old.out) self.old.course.used

@@ -1,71 +1,67 @@
-//! Volumes as images, one writer for each.
+//! Volumes as images, one after another.
 
-ghost use Rattle.std.specs.Prelude.{◌≡◌, ◌≤◌, ◌⊎◌, ◌+◌, ◌-◌, ◌<◌, [], length, true};
+ghost use Rattle.std.specs.Prelude.{◌≡◌, ◌≤◌, ◌<◌, [], None, Option, false, OnOk};
 ghost use Rattle.std.specs.Bool.{OnTrue, OnFalse};
+ghost use Rattle.tape_image.specs.Writer.{Writer};
 ghost use Rattle.tape_writer.specs.Tapes.{Ended, Rose, Closes, Keeps, HasCause};
-ghost use Rattle.tape_writer.specs.Images.{AreFresh, Holds, device_failures};
+ghost use Rattle.tape_writer.specs.Images.{Holds, device_failures};
 
 use crate::fault::OutFault;
 use crate::out::TapeOut;
-use std::io::Write;
+use crate::store::ImageStore;
 use std::marker::Model;
 use tape_image::ImageWriter;
 use tape_label::Vol1;
 
-/// Writes each volume as an image in the form of "SIMH Magtape Representation and Handling", by a
-/// writer of its own: its items and the end word.
+/// Writes each volume as an image in the form of "SIMH Magtape Representation and Handling": its
+/// items and the end word.
+///
+/// It holds the image of the volume under way and no other. One that has ended is flushed and
+/// handed to the store before the next volume begins, so no later failure can cost it.
 ///
 /// `Device` is answered where an image writer refuses, where no volume is under way, and where
-/// there is no writer for one more volume. It takes no memory.
+/// the store has no device for one more volume. It takes no memory.
 #[derive(Drop)]
-pub struct ImageTapes<W: Write + Drop> {
-    images: Vec<ImageWriter<W>>,
-    ended: usize,
-    under_way: bool,
+pub struct ImageTapes<S: ImageStore + Drop> {
+    store: S,
+    image: Option<ImageWriter<S::Device>>,
     failed: u64,
 }
 
-impl<W: Write + Drop> Model for ImageTapes<W> {
+impl<S: ImageStore + Drop> Model for ImageTapes<S> {
     ghost use Rattle.tape_writer.specs.Images.{Images};
 
-    ghost Value = { Images };
+    ghost Value = { Images S };
 
     ghost view = { λ t. record {
-      images = t.images.items;
-      ended = t.ended;
-      under_way = t.under_way;
+      store = t.store;
+      image = t.image;
       failed = t.failed;
     } };
 }
 
-impl<W: Write + Drop> ImageTapes<W> {
-    /// No volume yet; the first is written by the first of these writers, and so on. They have to
-    /// be new, over writers that hold nothing.
-    pub fn new(images: Vec<ImageWriter<W>>) -> Self
-        ensures images { result.images ≡ images.items }
-        ensures held { AreFresh images.items → Holds result (Ended []) }
+impl<S: ImageStore + Drop> ImageTapes<S> {
+    /// No volume yet. The store was handed no image so far.
+    pub fn new(store: S) -> Self
+        ensures store { result.store ≡ store }
+        ensures image { result.image ≡ None }
+        ensures held { S.holds store false [] → Holds S.holds result (Ended []) }
     {
         ImageTapes {
-            images,
-            ended: 0,
-            under_way: false,
+            store,
+            image: None,
             failed: 0,
         }
     }
 
-    /// How many volumes have ended.
-    pub fn ended(&self) -> usize
-        ensures { result ≡ self.now.ended }
+    /// Gives back the store, which was handed the images that ended, and the image of the volume
+    /// that is under way, if there is one.
+    pub fn into_parts(self) -> (S, Option<ImageWriter<S::Device>>)
+        ensures store { result.0 ≡ self.store }
+        ensures image { result.1 ≡ self.image }
     {
-        self.ended
-    }
-
-    /// Gives the image writers back: the first `ended` of them are finished.
-    pub fn into_images(self) -> Vec<ImageWriter<W>>
-        ensures { result.items ≡ self.images }
-    {
-        let ImageTapes { images, .. } = self;
-        images
+        let ImageTapes { store, image, .. } = self;
+        (store, image)
     }
 
     /// Counts a failure.
@@ -73,65 +69,54 @@ impl<W: Write + Drop> ImageTapes<W> {
         ensures fault { result ≡ OutFault.Device }
         ensures counted { Rose self.old.failed self.new.failed }
         ensures grew { self.old.failed ≤ self.new.failed }
-        ensures images { self.new.images ≡ self.old.images }
-        ensures ended { self.new.ended ≡ self.old.ended }
-        ensures under_way { self.new.under_way ≡ self.old.under_way }
+        ensures store { self.new.store ≡ self.old.store }
+        ensures image { self.new.image ≡ self.old.image }
     {
         self.failed = self.failed.saturating_add(1);
         OutFault::Device
     }
 
-    /// Whether there is a writer for one more volume.
+    /// Whether there is a device for one more volume.
     fn has_next(&self) -> bool
-        ensures yes { OnTrue result ((0 < length self.now.images - self.now.ended)
-            × (self.now.under_way ≡ true → 1 < length self.now.images - self.now.ended)) }
-        ensures no { OnFalse result ((length self.now.images ≤ self.now.ended)
-            ⊎ ((self.now.under_way ≡ true)
-            × (length self.now.images ≤ self.now.ended + 1))) }
+        ensures yes { OnTrue result (0 < S.left self.now.store) }
+        ensures no { OnFalse result (S.left self.now.store ≡ 0) }
     {
-        let left = self.images.len().saturating_sub(self.ended);
-        if self.under_way {
-            return left > 1;
-        }
-        left > 0
+        self.store.left() > 0
     }
 
-    /// Writes the end word of the volume under way, if there is one.
+    /// Ends the image of the volume under way, if there is one, and hands it on.
     fn end_image(&mut self) -> Result<(), OutFault>
-        ensures ok { Closes (Holds self.old) result (Holds self.new) }
-        ensures err { Keeps (Holds self.old) result (Holds self.new) }
+        ensures ok { Closes (Holds S.holds self.old) result (Holds S.holds self.new) }
+        ensures err { Keeps (Holds S.holds self.old) result (Holds S.holds self.new) }
         ensures count { self.old.failed ≤ self.new.failed }
         ensures cause { HasCause
             (device_failures self.old.failed) result (device_failures self.new.failed) }
-        ensures as_many { length self.new.images ≡ length self.old.images }
+        ensures none { OnOk result (self.new.image ≡ None) }
+        ensures left { S.left self.new.store ≡ S.left self.old.store }
     {
-        if !self.under_way {
+        let Some(mut image) = self.image.take() else {
             return Ok(());
-        }
-        let Some(image) = self.images.get_mut(self.ended) else {
-            return Err(self.fail());
         };
         match image.finish() {
             Ok(()) => {
-                self.ended += 1;
-                self.under_way = false;
+                self.store.keep(image.into_device());
                 Ok(())
             }
-            Err(_) => Err(self.fail()),
+            Err(_) => {
+                self.image = Some(image);
+                Err(self.fail())
+            }
         }
     }
 }
 
-impl<W: Write + Drop> TapeOut for ImageTapes<W> {
-    ghost holds = { λ t tapes. Holds t tapes };
+impl<S: ImageStore + Drop> TapeOut for ImageTapes<S> {
+    ghost holds = { λ t tapes. Holds S.holds t tapes };
 
     ghost failures = { λ t. device_failures t.failed };
 
     fn block(&mut self, bytes: &[u8]) -> Result<(), OutFault> {
-        if !self.under_way {
-            return Err(self.fail());
-        }
-        let Some(image) = self.images.get_mut(self.ended) else {
+        let Some(image) = &mut self.image else {
             return Err(self.fail());
         };
         match image.block(bytes) {
@@ -141,10 +126,7 @@ impl<W: Write + Drop> TapeOut for ImageTapes<W> {
     }
 
     fn mark(&mut self) -> Result<(), OutFault> {
-        if !self.under_way {
-            return Err(self.fail());
-        }
-        let Some(image) = self.images.get_mut(self.ended) else {
+        let Some(image) = &mut self.image else {
             return Err(self.fail());
         };
         match image.mark() {
@@ -153,14 +135,17 @@ impl<W: Write + Drop> TapeOut for ImageTapes<W> {
         }
     }
 
-    fn change_volume(&mut self, _volume: &Vol1) -> Result<(), OutFault> {
+    fn change_volume(&mut self, volume: &Vol1) -> Result<(), OutFault> {
         // Looked at first: a volume that ends for want of the next one would be changed by a
         // refusal.
         if !self.has_next() {
             return Err(self.fail());
         }
         self.end_image()?;
-        self.under_way = true;
+        let Some(device) = self.store.next(volume) else {
+            return Err(self.fail());
+        };
+        self.image = Some(ImageWriter::new(device));
         Ok(())
     }
 

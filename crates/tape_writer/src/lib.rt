@@ -1,6 +1,7 @@
 //! File sets written on labelled tape volumes: records in, volumes out.
 #![tactic(auto)]
 
+mod blank;
 mod change;
 mod course;
 mod fault;
@@ -9,16 +10,20 @@ mod files;
 mod images;
 mod inputs;
 mod labels;
+pub mod laws;
 mod memory;
+mod memory_images;
 mod out;
 mod phase;
 mod records;
 mod refusing;
 mod section;
 mod set;
+mod store;
 mod tape;
 mod volume;
 
+pub use blank::{BLANK, BlankImage, Prefix, blank_image, blank_volume};
 pub use course::{Course, Opened};
 pub use fault::{OutFault, SetFault, WriteFault};
 pub use images::ImageTapes;
@@ -27,7 +32,9 @@ pub use inputs::{
     lines_are_cut, pieces_are_cut, whole_is_one, write_files, write_set,
 };
 pub use memory::MemoryTapes;
+pub use memory_images::{MemoryImage, MemoryImages};
 pub use out::TapeOut;
 pub use phase::{OpenFile, Phase};
 pub use refusing::Refusing;
 pub use set::SetWriter;
+pub use store::ImageStore;

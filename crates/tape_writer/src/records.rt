@@ -1,6 +1,7 @@
 //! Records put in the blocks of a file.
 
-ghost use Rattle.std.specs.Prelude.{◌≡◌, ◌≢◌, ◌≤◌, ◌++◌, ◌∷◌, [], ℕ, List, length, OnOk, IfErr, Ok};
+ghost use Rattle.std.specs.Prelude.{◌≡◌, ◌≢◌, ◌<◌, ◌≤◌, ◌++◌, ◌∷◌, [], ℕ, List, length, OnOk};
+ghost use Rattle.std.specs.Prelude.{IfErr, Ok};
 ghost use Rattle.std.specs.Prelude.{Err, false};
 ghost use Rattle.std.specs.List.{AllByRecursion};
 ghost use Rattle.tape_blocks.specs.Packing.{emptied, HasRecordLength};
@@ -12,6 +13,7 @@ ghost use Rattle.tape_label.specs.Widths.{IsWideVolume};
 ghost use Rattle.tape_writer.specs.Labels.{IsReady};
 ghost use Rattle.tape_writer.specs.Draft.{Draft, IsOpen, IsRoomy};
 ghost use Rattle.tape_writer.specs.Inside.{IsInside, Flushed, IsFlat, IsStuck, IsLeftOut};
+ghost use Rattle.tape_writer.specs.Room.{room_of};
 
 use crate::course::Opened;
 use crate::fault::WriteFault;
@@ -38,6 +40,8 @@ fn flush<T: TapeOut>(
     ensures roomy { OnOk result (IsRoomy capacity (length volumes.now) tape.new.course) }
     ensures emptied { OnOk result (packer.new ≡ emptied packer.old) }
     ensures none { packer.old.parts ≡ [] → (result ≡ Ok tt) × (tape.new ≡ tape.old) }
+    ensures room { OnOk result (room_of (length volumes.now) capacity tape.new.course packer.new
+        ≤ room_of (length volumes.now) capacity tape.old.course packer.old) }
     ensures stuck { IfErr result (λ fault. fault ≡ WriteFault.OutOfVolumes
         → (tape.new ≡ tape.old)
         × IsLeftOut (length volumes.now) capacity tape.old.course packer.old) }
@@ -97,6 +101,9 @@ pub(crate) fn put_record<T: TapeOut>(
         tape.old.course packer.old fs records
         → IsStuck (T.holds tape.new.out) volumes.now capacity set_id file.now
         tape.new.course fs (records ++ whole.now ∷ [])) }
+    // So no input keeps a writer for ever.
+    ensures room { OnOk result (room_of (length volumes.now) capacity tape.new.course packer.new
+        < room_of (length volumes.now) capacity tape.old.course packer.old) }
     ensures ending { IfErr result (λ fault. fault ≢ WriteFault.RecordLength → IsEnding fault) }
     ensures lasting { Lasting
         (T.holds tape.old.out) (T.failures tape.old.out) tape.old.course.used

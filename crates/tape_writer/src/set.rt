@@ -106,8 +106,32 @@ impl<T: TapeOut + Drop> SetWriter<T> {
         if let Err(fault) = judge_set(&set_id, &volumes) {
             return Err(fault);
         }
+        Ok(SetWriter::judged(alloc, set_id, volumes, capacity, out))
+    }
+
+    /// A writer of the set with this identifier on these volumes, on which it can be written.
+    pub(crate) fn judged(
+        alloc: Global,
+        set_id: Field<6>,
+        volumes: Vec<Vol1>,
+        capacity: u32,
+        out: T,
+    ) -> Self
+        requires some { 0 < length volumes.items }
+        requires many { length volumes.items ≤ 9999 }
+        ensures made { result ≡ record {
+          out = out;
+          volumes = volumes.items;
+          capacity = capacity;
+          set_id = set_id;
+          files = [];
+          course = record { volume = 0; sect = 0; count = 0; used = 0 };
+          phase = Between;
+        } }
+        ensures told { T.holds out (Ended []) → IsWriting (T.holds result.out) result [] }
+    {
         tell_all_widths(&volumes);
-        Ok(SetWriter {
+        SetWriter {
             alloc,
             volumes,
             capacity,
@@ -118,7 +142,7 @@ impl<T: TapeOut + Drop> SetWriter<T> {
                 out,
                 course: Course::start(),
             },
-        })
+        }
     }
 
     /// How many bytes the volume begun last takes as an image so far: 0 before the first file, with
@@ -157,7 +181,7 @@ impl<T: TapeOut + Drop> SetWriter<T> {
 }
 
 /// Whether a set with this identifier can be written on these volumes.
-fn judge_set(set_id: &Field<6>, volumes: &[Vol1]) -> Result<(), WriteFault>
+pub(crate) fn judge_set(set_id: &Field<6>, volumes: &[Vol1]) -> Result<(), WriteFault>
     ensures field { (IsText set_id.now × AllByRecursion IsTextVolume volumes.now → ⊥)
         → result ≡ Err WriteFault.BadField }
     ensures none { IsText set_id.now → AllByRecursion IsTextVolume volumes.now

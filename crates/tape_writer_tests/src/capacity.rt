@@ -2,7 +2,7 @@
 
 use crate::calls::Call::{Begin, BeginIn, BeginSpanned, EndFile, Finish, Put, Records};
 use crate::calls::follow;
-use crate::images::{have_lengths, last_image, written};
+use crate::images::{have_lengths, written};
 use crate::sets::{in_memory, on_images};
 use std::test::Fail;
 use tape_blocks::Shape;
@@ -23,9 +23,12 @@ fn no_volume_left_for_the_file_end(rt: HostRuntime) -> Result<(), Fail> {
         (Finish, Err(Failed), 2_292),
     ];
     follow(&rt, &mut writer, &rows);
-    let tapes = writer.into_out();
-    assert_eq!(rt; tapes.ended(), 0);
-    assert_eq!(rt; last_image(&mut tapes.into_images())?.len(), 2_292);
+    let (store, under_way) = writer.into_out().into_parts();
+    assert_eq!(rt; store.into_images().len(), 0);
+    assert_eq!(rt;
+        under_way.ok_or("no image")?.into_device().bytes.len(),
+        2_292
+    );
     Ok(())
 }
 

@@ -2,6 +2,8 @@
 
 use std::alloc::Global;
 use std::io::{Error, ErrorKind, Read, Result, Write};
+use tape_label::Vol1;
+use tape_writer::ImageStore;
 
 /// Gives one byte a call, and is interrupted once it has given as many as `left` says.
 #[derive(Drop)]
@@ -59,4 +61,34 @@ impl Write for Narrow {
     fn flush(&mut self) -> Result<()> {
         Ok(())
     }
+}
+
+/// Has so many writers that take so many bytes each.
+#[derive(Drop)]
+pub(crate) struct Narrows {
+    pub(crate) alloc: Global,
+    pub(crate) room: usize,
+    pub(crate) count: usize,
+}
+
+impl ImageStore for Narrows {
+    type Device = Narrow;
+
+    ghost holds = { λ store lent images. ⊥ };
+
+    ghost left = { λ store. store.count };
+
+    fn left(&self) -> usize {
+        self.count
+    }
+
+    fn next(&mut self, _volume: &Vol1) -> Option<Narrow> {
+        if self.count == 0 {
+            return None;
+        }
+        self.count -= 1;
+        Some(Narrow::new(self.alloc, self.room))
+    }
+
+    fn keep(&mut self, _device: Narrow) {}
 }

@@ -5,7 +5,7 @@ use crate::sets::on_images;
 use std::alloc::Global;
 use std::process::Abort;
 use std::test::Fail;
-use tape_image::ImageWriter;
+use tape_writer::{ImageTapes, MemoryImages};
 
 /// What stands in an image.
 #[derive(Drop)]
@@ -56,22 +56,31 @@ pub(crate) fn written(
     capacity: u32,
     count: usize,
     rows: &[Row],
-) -> Result<Vec<ImageWriter<Vec<u8>>>, Fail> {
+) -> Result<Vec<Vec<u8>>, Fail> {
     let mut writer = on_images(alloc, capacity, count)?;
     follow(rt, &mut writer, rows);
-    let tapes = writer.into_out();
-    Ok(tapes.into_images())
+    images_of(writer.into_out())
+}
+
+/// The images that ended, and behind them that of the volume under way, if there is one.
+pub(crate) fn images_of(tapes: ImageTapes<MemoryImages>) -> Result<Vec<Vec<u8>>, Fail> {
+    let (store, under_way) = tapes.into_parts();
+    let mut images = store.into_images();
+    if let Some(image) = under_way {
+        images.push(image.into_device().bytes)?;
+    }
+    Ok(images)
 }
 
 /// The bytes of the last image, which is taken away.
-pub(crate) fn last_image(images: &mut Vec<ImageWriter<Vec<u8>>>) -> Result<Vec<u8>, Fail> {
-    Ok(images.pop().ok_or("no image")?.into_device())
+pub(crate) fn last_image(images: &mut Vec<Vec<u8>>) -> Result<Vec<u8>, Fail> {
+    Ok(images.pop().ok_or("no image")?)
 }
 
 /// The images have these lengths, the last one first, and there are no others.
 pub(crate) fn have_lengths(
     rt: &impl Abort,
-    mut images: Vec<ImageWriter<Vec<u8>>>,
+    mut images: Vec<Vec<u8>>,
     lengths: &[usize],
 ) -> Result<(), Fail> {
     assert_eq!(rt; images.len(), lengths.len());
@@ -88,7 +97,7 @@ pub(crate) fn have_lengths(
 /// The last image has this length and, behind so many bytes, these pieces alone.
 pub(crate) fn ends_with(
     rt: &impl Abort,
-    images: &mut Vec<ImageWriter<Vec<u8>>>,
+    images: &mut Vec<Vec<u8>>,
     length: usize,
     behind: usize,
     pieces: Vec<u8>,

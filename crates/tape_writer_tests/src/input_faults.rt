@@ -1,16 +1,17 @@
 //! Sets that are not written from their inputs, and readers and writers that fail.
 
-use crate::devices::{Dribble, Narrow};
+use crate::devices::{Dribble, Narrows};
 use crate::inputs::{COUNTED, one_file, payroll, plan};
 use crate::sets::{FIXED, head};
 use std::alloc::Global;
-use std::io::{Read, Write};
+use std::io::Read;
 use std::process::Abort;
 use std::test::Fail;
 use tape_blocks::{Form, Shape};
-use tape_image::ImageWriter;
 use tape_label::Format;
-use tape_writer::{Input, RefusedSet, SetFault, WriteFault, WrittenSet, write_set};
+use tape_writer::{
+    ImageStore, Input, MemoryImages, RefusedSet, SetFault, WriteFault, WrittenSet, write_set,
+};
 
 /// Blocks that are too short.
 const THIN: Shape = Shape {
@@ -58,38 +59,40 @@ fn a_short_piece(rt: HostRuntime) -> Result<(), Fail> {
     Ok(())
 }
 
-/// What the files become on one volume, whose image this device takes.
-fn on_one_volume<R: Read, W: Write + Drop>(
+/// What the files become on one volume.
+fn on_one_volume<R: Read, S: ImageStore + Drop>(
     alloc: Global,
     shape: Shape,
     form: Form,
     files: &mut [Input<R>],
-    device: W,
-) -> Result<Result<WrittenSet<W>, RefusedSet<W>>, Fail> {
-    let mut images = Vec::new(alloc);
-    images.push(ImageWriter::new(device))?;
+    images: S,
+) -> Result<Result<WrittenSet<S>, RefusedSet<S>>, Fail> {
     let plan = plan(alloc, 1, 100_000, shape, form)?;
     Ok(write_set(alloc, plan, files, images))
 }
 
-/// The set was refused with this fault, and its image comes back.
-fn is_refused<A: Abort, W: Write + Drop>(
+/// The set was refused with this fault, and the image under way comes back.
+fn is_refused<A: Abort, S: ImageStore + Drop>(
     rt: &A,
-    refused: &RefusedSet<W>,
+    refused: &RefusedSet<S>,
     fault: SetFault,
     case: usize,
 ) {
     assert!(rt; refused.fault == fault, "{case}");
-    assert!(rt; refused.images.len() == 1, "{case}");
+    assert!(rt; refused.under_way.is_some(), "{case}");
 }
 
 #[test]
 fn no_files(rt: HostRuntime) -> Result<(), Fail> {
     let mut files: [Input<&[u8]>; 0] = [];
-    let device = Vec::new(rt.alloc());
-    match on_one_volume(rt.alloc(), FIXED, Form::Raw, &mut files, device)? {
+    let images = MemoryImages::new(rt.alloc(), 1)?;
+    match on_one_volume(rt.alloc(), FIXED, Form::Raw, &mut files, images)? {
         Ok(_) => return Err(Fail::from("a set without a file")),
-        Err(refused) => is_refused(&rt, &refused, SetFault::Write(WriteFault::NoFile), 0),
+        Err(refused) => {
+            assert!(rt; refused.fault == SetFault::Write(WriteFault::NoFile));
+            assert!(rt; refused.under_way.is_none());
+            assert_eq!(rt; refused.images.left(), 1);
+        }
     }
     Ok(())
 }
@@ -98,7 +101,7 @@ fn no_files(rt: HostRuntime) -> Result<(), Fail> {
 fn of_dribble(
     alloc: Global,
     left: usize,
-) -> Result<Result<WrittenSet<Vec<u8>>, RefusedSet<Vec<u8>>>, Fail> {
+) -> Result<Result<WrittenSet<MemoryImages>, RefusedSet<MemoryImages>>, Fail> {
     let mut files = [Input {
         head: head(),
         reader: Dribble {
@@ -106,7 +109,8 @@ fn of_dribble(
             left,
         },
     }];
-    on_one_volume(alloc, COUNTED, Form::Lines, &mut files, Vec::new(alloc))
+    let images = MemoryImages::new(alloc, 1)?;
+    on_one_volume(alloc, COUNTED, Form::Lines, &mut files, images)
 }
 
 /// A reader that fails, at each byte of an input that is read one byte a call.
@@ -126,19 +130,23 @@ fn an_input_that_fails(rt: HostRuntime) -> Result<(), Fail> {
 fn on_narrow(
     alloc: Global,
     left: usize,
-) -> Result<Result<WrittenSet<Narrow>, RefusedSet<Narrow>>, Fail> {
+) -> Result<Result<WrittenSet<Narrows>, RefusedSet<Narrows>>, Fail> {
     let mut files = [Input {
         head: head(),
         reader: b"AB\n".as_slice(),
     }];
-    let device = Narrow::new(alloc, left);
-    on_one_volume(alloc, COUNTED, Form::Lines, &mut files, device)
+    let images = Narrows {
+        alloc,
+        room: left,
+        count: 1,
+    };
+    on_one_volume(alloc, COUNTED, Form::Lines, &mut files, images)
 }
 
 /// The device failed, and the one that came back took so many bytes.
-fn stopped_at<A: Abort>(rt: &A, refused: RefusedSet<Narrow>, left: usize) {
+fn stopped_at<A: Abort>(rt: &A, refused: RefusedSet<Narrows>, left: usize) {
     is_refused(rt, &refused, SetFault::Write(WriteFault::Device), left);
-    for image in refused.images {
+    if let Some(image) = refused.under_way {
         assert!(rt; image.into_device().taken.len() == left, "{left}");
     }
 }
@@ -159,7 +167,7 @@ fn a_device_that_fails(rt: HostRuntime) -> Result<(), Fail> {
 #[test]
 fn a_device_that_is_wide_enough(rt: HostRuntime) -> Result<(), Fail> {
     match on_narrow(rt.alloc(), 486)? {
-        Ok(done) => assert_eq!(rt; (done.ended, done.files), (1, 1)),
+        Ok(done) => assert_eq!(rt; (done.images.left(), done.files), (0, 1)),
         Err(_) => return Err(Fail::from("a set that should be written")),
     }
     Ok(())

@@ -1,14 +1,13 @@
 //! Sets written from inputs, against images written out from their formats.
 
-use crate::sets::{FIXED, head, images, volumes};
+use crate::sets::{FIXED, head, volumes};
 use crate::volumes::{first_of_two, one_volume, second_of_two};
 use std::alloc::{AllocError, Global};
 use std::process::Abort;
 use std::test::Fail;
 use tape_blocks::{Form, Shape};
-use tape_image::ImageWriter;
 use tape_label::{Field, Format};
-use tape_writer::{Input, SetFault, SetPlan, write_set};
+use tape_writer::{Input, MemoryImages, SetFault, SetPlan, write_set};
 
 /// Records of at most 14 bytes in blocks of 18.
 pub(crate) const COUNTED: Shape = Shape {
@@ -65,34 +64,19 @@ fn record(number: u8) -> [u8; 80] {
     record
 }
 
-/// The bytes of the first images, so many.
-fn bytes_of(
-    alloc: Global,
-    images: Vec<ImageWriter<Vec<u8>>>,
-    count: usize,
-) -> Result<Vec<Vec<u8>>, AllocError> {
-    let mut written = Vec::new(alloc);
-    for image in images {
-        if written.len() < count {
-            written.push(image.into_device())?;
-        }
-    }
-    Ok(written)
-}
-
 /// What a set of one file became: its images' bytes, or the fault.
 pub(crate) fn one_file(
     alloc: Global,
     plan: SetPlan,
     input: &[u8],
 ) -> Result<Result<Vec<Vec<u8>>, SetFault>, AllocError> {
-    let images = images(alloc, plan.volumes.len())?;
+    let images = MemoryImages::new(alloc, plan.volumes.len())?;
     let mut files = [Input {
         head: head(),
         reader: input,
     }];
     match write_set(alloc, plan, &mut files, images) {
-        Ok(done) => Ok(Ok(bytes_of(alloc, done.images, done.ended)?)),
+        Ok(done) => Ok(Ok(done.images.into_images())),
         Err(refused) => Ok(Err(refused.fault)),
     }
 }

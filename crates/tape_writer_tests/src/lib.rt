@@ -8,6 +8,8 @@ mod capacity;
 #[cfg(test)]
 mod devices;
 #[cfg(test)]
+mod handed_on;
+#[cfg(test)]
 mod images;
 #[cfg(test)]
 mod input_faults;

@@ -1,11 +1,10 @@
 //! What a set is written of: labels, shapes and volumes.
 
-use std::alloc::{AllocError, Global};
+use std::alloc::Global;
 use std::test::Fail;
 use tape_blocks::Shape;
-use tape_image::ImageWriter;
 use tape_label::{Field, Format, Head1, Vol1};
-use tape_writer::{ImageTapes, MemoryTapes, SetWriter};
+use tape_writer::{ImageTapes, MemoryImages, MemoryTapes, SetWriter};
 
 /// Records of 80 bytes in blocks of 800.
 pub(crate) const FIXED: Shape = Shape {
@@ -74,22 +73,13 @@ pub(crate) fn in_memory(
     Ok(SetWriter::new(alloc, set_id, volumes(alloc, count)?, capacity, out)?)
 }
 
-/// So many image writers that hold nothing.
-pub(crate) fn images(alloc: Global, count: usize) -> Result<Vec<ImageWriter<Vec<u8>>>, AllocError> {
-    let mut images = Vec::new(alloc);
-    for _ in 0..count {
-        images.push(ImageWriter::new(Vec::new(alloc)))?;
-    }
-    Ok(images)
-}
-
 /// A writer of images in memory, on so many of the three volumes.
 pub(crate) fn on_images(
     alloc: Global,
     capacity: u32,
     count: usize,
-) -> Result<SetWriter<ImageTapes<Vec<u8>>>, Fail> {
+) -> Result<SetWriter<ImageTapes<MemoryImages>>, Fail> {
     let set_id = Field::of_bytes(*b"ABC001");
-    let out = ImageTapes::new(images(alloc, count)?);
+    let out = ImageTapes::new(MemoryImages::new(alloc, count)?);
     Ok(SetWriter::new(alloc, set_id, volumes(alloc, count)?, capacity, out)?)
 }

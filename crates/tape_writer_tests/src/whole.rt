@@ -3,7 +3,7 @@
 use crate::calls::Call::{Begin, BeginSpanned, EndFile, Finish, Put, Records};
 use crate::calls::{follow, perform};
 use crate::images::Piece::{Block, End, Mark};
-use crate::images::{ends_with, image_of, written};
+use crate::images::{ends_with, image_of, images_of, written};
 use crate::sets::{in_memory, on_images};
 use crate::texts::*;
 use crate::volumes::{first_of_two, one_volume, second_of_two};
@@ -27,10 +27,10 @@ fn one_volume_byte_by_byte(rt: HostRuntime) -> Result<(), Fail> {
         (Finish, Ok(()), 2_484),
     ];
     follow(&rt, &mut writer, &rows);
-    let tapes = writer.into_out();
-    assert_eq!(rt; tapes.ended(), 1);
+    let (store, under_way) = writer.into_out().into_parts();
+    assert!(rt; under_way.is_none());
     let want = one_volume(rt.alloc(), &SEVENS)?;
-    ends_with(&rt, &mut tapes.into_images(), 2_484, 0, want)
+    ends_with(&rt, &mut store.into_images(), 2_484, 0, want)
 }
 
 #[test]
@@ -45,7 +45,7 @@ fn file_end_on_the_second_volume(rt: HostRuntime) -> Result<(), Fail> {
     follow(&rt, &mut writer, &rows);
     let (tapes, labels) = writer.into_parts();
     assert_eq!(rt; labels.len(), 2);
-    let mut images = tapes.into_images();
+    let mut images = images_of(tapes)?;
     ends_with(&rt, &mut images, 460, 0, second_of_two(rt.alloc())?)?;
     ends_with(
         &rt,

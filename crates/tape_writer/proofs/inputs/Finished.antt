@@ -7,7 +7,7 @@ use Rattle.tape_label.specs.declared.values.Head1.{Head1}
 use Rattle.tape_image.specs.Writer.{Writer}
 use Rattle.tape_writer.specs.declared.phase.Phase.TheVariants.{Finished}
 use Rattle.tape_writer.specs.Tapes.{Tapes}
-use Rattle.tape_writer.specs.Images.{AreImages}
+use Rattle.tape_writer.specs.Images.{Images, AreImages, Holds}
 use Rattle.tape_writer.specs.Told.{Told, IsWrittenSet}
 use Rattle.tape_writer.specs.State.{SetState, IsWriting, Stands}
 use Rattle.tape_writer.specs.declared.inputs.cut.Cut.{Cut}
@@ -20,38 +20,33 @@ finished_set : {T : Type 0} (H : Tapes → Type 0) (w : SetState T) (told : List
 finished_set H w told e h =
     subst (λ p. Stands H w.volumes w.capacity w.set_id w.course p told) e h.stands
 
-of_images : (ws : List Writer) (n : ℕ) (way : Bool) (volumes : List Vol1)
+of_images : (H : Bool → List (List ℕ) → Type 0) (image : Option Writer) (volumes : List Vol1)
     (capacity : ℕ) (set_id : List ℕ) (told : List Told)
-    → IsWrittenSet (λ t. AreImages ws n way t) volumes capacity set_id told
-    → IsSetOfImages volumes capacity set_id told ws n
-of_images ws n way volumes capacity set_id told w = record {
+    → IsWrittenSet (λ t. AreImages H image t) volumes capacity set_id told
+    → IsSetOfImages H volumes capacity set_id told
+of_images H image volumes capacity set_id told w = record {
   layout = w.layout;
   lawful = w.lawful;
   tight = w.tight;
-  held = (refl, w.held.1, w.held.2);
+  held = (refl, w.held.1);
   within = w.within;
   of_set = w.of_set;
   of_volumes = w.of_volumes;
   files = w.files;
 }
 
-same_set : (us vs : List Vol1) (c d : ℕ) (s t : List ℕ) (told : List Told) (ws zs : List Writer)
-    (n m : ℕ) → us ≡ vs → c ≡ d → s ≡ t → ws ≡ zs → n ≡ m → IsSetOfImages us c s told ws n
-    → IsSetOfImages vs d t told zs m
-same_set us vs c d s t told ws zs n m a b e i k h =
-    subst (λ x. IsSetOfImages vs d t told zs x) k
-    (subst (λ x. IsSetOfImages vs d t told x n) i
-    (subst (λ x. IsSetOfImages vs d x told ws n) e (subst (λ x. IsSetOfImages vs x s told ws n) b
-    (subst (λ x. IsSetOfImages x c s told ws n) a h))))
-
 -- the images of a finished writer
-pub set_of_images : {T : Type 0} (ws zs : List Writer) (n m : ℕ) (way : Bool) (w : SetState T)
-    (vs : List Vol1) (d : ℕ) (t : List ℕ) (told : List Told) → w.phase ≡ Finished
-    → w.volumes ≡ vs → w.capacity ≡ d → w.set_id ≡ t → ws ≡ zs → n ≡ m
-    → IsWriting (λ t. AreImages ws n way t) w told → IsSetOfImages vs d t told zs m
-set_of_images ws zs n m way w vs d t told done a b e i k h =
-    same_set _ vs _ d _ t told ws zs n m a b e i k (of_images ws n way w.volumes w.capacity w.set_id
-    told (finished_set (λ t. AreImages ws n way t) w told done h))
+pub set_of_images : {S : Type 0} (H : S → Bool → List (List ℕ) → Type 0)
+    (w : SetState (Images S)) (store : S) (vs : List Vol1) (d : ℕ) (t : List ℕ) (told : List Told)
+    → w.phase ≡ Finished → w.volumes ≡ vs → w.capacity ≡ d → w.set_id ≡ t → w.out.store ≡ store
+    → IsWriting (λ t. Holds H w.out t) w told → IsSetOfImages (H store) vs d t told
+set_of_images H w store vs d t told done a b e i h =
+    subst (λ x. IsSetOfImages (H x) vs d t told) i
+    (subst (λ x. IsSetOfImages (H w.out.store) vs d x told) e
+    (subst (λ x. IsSetOfImages (H w.out.store) vs x w.set_id told) b
+    (subst (λ x. IsSetOfImages (H w.out.store) x w.capacity w.set_id told) a
+    (of_images (H w.out.store) w.out.image w.volumes w.capacity w.set_id told
+    (finished_set (λ t. Holds H w.out t) w told done h)))))
 
 pub if_known : (known : Option (List ℕ)) (P Q : List ℕ → Type 0) → IfSome known P
     → ((bytes : List ℕ) → P bytes → Q bytes) → IfSome known Q

@@ -188,16 +188,26 @@ only_shape : (plan : _) (inputs : _) (fault : _) → IsSetFault plan inputs faul
 only_shape plan inputs fault h none = subst (λ v. IsFaultOfCut plan inputs v fault) none h
 
 -- raw_counted_told_as_no_file: a form that cannot cut the shape is told as a set without a file
-raw_counted_told_as_no_file : (R : _) (W : _) (LR : _) (LW : _) (g : _) (d : _) (h : _) (e : _)
-    (f : _) (κs : _) (a : _) (refused : _) (s : _)
-    → write_set.Learnt-named R W LR LW g d h e f κs a (Err refused) s
+raw_counted_told_as_no_file : (R : _) (S : _) (D : _) (LR : _) (LS : _) (LD : _) (g : _) (d : _)
+    (h : _) (e : _) (i : _) (f : _) (j : _) (k : _) (κs : _) (a : _) (refused : _) (s : _)
+    → write_set.Learnt-named R S D LR LS LD g d h e i f j k κs a (Err refused) s
     → cut_of a.1.0.form a.1.0.shape ≡ None
     → refused.fault ≡ sets.Write write_faults.NoFile → ⊥
-raw_counted_told_as_no_file R W LR LW g d h e f κs a refused s l none w =
+raw_counted_told_as_no_file R S D LR LS LD g d h e i f j k κs a refused s l none w =
     let r : refused.fault ≡ sets.Write write_faults.BadShape
     = only_shape a.1.0 _ refused.fault l.due none in
     let n : sets.Write write_faults.NoFile ≡ sets.Write write_faults.BadShape = sym w ∙ r in
     absurd (cc)
+
+-- device_lent_at_a_refusal: a form that cannot cut the shape is refused, and one device of the
+-- store is gone
+device_lent_at_a_refusal : (R : _) (S : _) (D : _) (LR : _) (LS : _) (LD : _) (g : _) (d : _)
+    (h : _) (e : _) (i : _) (f : _) (j : _) (k : _) (κs : _) (a : _) (refused : _) (s : _)
+    → write_set.Learnt-named R S D LR LS LD g d h e i f j k κs a (Err refused) s
+    → cut_of a.1.0.form a.1.0.shape ≡ None
+    → h.left a.1.1.1.0 ≡ 4 → h.left refused.images ≡ 3 → ⊥
+device_lent_at_a_refusal R S D LR LS LD g d h e i f j k κs a refused s l none four three =
+    absurd (let n : 3 ≡ 4 = sym three ∙ ap h.left (l.nothing (inl none)).0 ∙ four in omega arith)
 
 -- a set of one file has a file
 has_a_file : (plan : _) (input : Head1 × Option (List ℕ)) (cut : Option Cut)
@@ -210,13 +220,14 @@ has_a_file plan input (Some cut) (inr (inl (inr none))) = none
 has_a_file plan input (Some cut) (inr (inr end)) = absurd (omega (arith, end))
 
 -- one_file_told_as_none: a set of one file is told as a set without a file
-one_file_told_as_none : (R : _) (W : _) (LR : _) (LW : _) (g : _) (d : _) (h : _) (e : _)
-    (f : _) (κs : _) (a : _) (refused : _) (s : _) (input : Head1 × Option (List ℕ))
-    → write_set.Learnt-named R W LR LW g d h e f κs a (Err refused) s
+one_file_told_as_none : (R : _) (S : _) (D : _) (LR : _) (LS : _) (LD : _) (g : _) (d : _)
+    (h : _) (e : _) (i : _) (f : _) (j : _) (k : _) (κs : _) (a : _) (refused : _) (s : _)
+    (input : Head1 × Option (List ℕ))
+    → write_set.Learnt-named R S D LR LS LD g d h e i f j k κs a (Err refused) s
     → map {B = Head1 × Option (List ℕ)} (λ v. (v.head, g.remaining v.reader)) a.1.1.0.now ≡ input ∷
     []
     → refused.fault ≡ sets.Write write_faults.NoFile → ⊥
-one_file_told_as_none R W LR LW g d h e f κs a refused s input l one w =
+one_file_told_as_none R S D LR LS LD g d h e i f j k κs a refused s input l one w =
     has_a_file a.1.0 input (cut_of a.1.0.form a.1.0.shape)
     (subst (IsSetFault a.1.0 (input ∷ [])) w
     (subst (λ v. IsSetFault a.1.0 v refused.fault) one l.due))

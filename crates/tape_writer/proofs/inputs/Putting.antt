@@ -1,16 +1,14 @@
 -- Records put one after another.
 use Rattle.std.proofs.Common.{◌≡◌, ℕ, List, [], ◌∷◌, ◌++◌, Bool, true, false, Option, Some}
-use Rattle.std.proofs.Common.{None, ◌⊎◌, ◌≤◌, ◌+◌, length, length-append, arith, inl, refl, sym, ap}
+use Rattle.std.proofs.Common.{None, refl, sym, ap}
 use Rattle.std.proofs.Common.{subst, ◌∙◌, append_assoc, append-nil}
 use Rattle.std.specs.Prelude.{IfSome}
 use Rattle.tape_image.specs.Reader.{IfKnown}
 use Rattle.tape_writer.specs.declared.course.Opened.{Opened}
-use Rattle.tape_writer.specs.Tapes.{Tapes}
 use Rattle.tape_writer.specs.Told.{Told, with_record}
-use Rattle.tape_writer.specs.State.{SetState, IsOutOfVolumes}
 use Rattle.tape_writer.specs.declared.inputs.cut.Cut.{Cut}
 use Rattle.tape_writer.specs.Records.{to_come, records_of, given}
-use Rattle.tape_writer.specs.ToldFiles.{with_records, GaveUp}
+use Rattle.tape_writer.specs.ToldFiles.{with_records}
 
 -- these records were given, and the writer, who was at `old`, is at `new` with them
 pub record Put (cut : Cut) (over over' : Bool) (all left : Option (List ℕ))
@@ -39,14 +37,15 @@ known_then cut a b c more r rs (Some xs) None next h k = absurd h
 known_then cut a b c more r rs (Some xs) (Some ys) None h k = absurd k
 known_then cut a b c more r rs (Some xs) (Some ys) (Some zs) h k = h ∙ ap (λ l. rs ++ l) k
 
-known_one : (cut : Cut) (a c : Bool) (r : List ℕ) (rs : List (List ℕ)) (all next : Option (List ℕ))
+pub known_one : (cut : Cut) (a c : Bool) (r : List ℕ) (rs : List (List ℕ))
+    (all next : Option (List ℕ))
     → IfKnown all next (λ xs ys. to_come cut a xs ≡ rs ++ given true r (to_come cut c ys))
     → IfKnown all next (λ xs ys. to_come cut a xs ≡ (rs ++ r ∷ []) ++ to_come cut c ys)
 known_one cut a c r rs None next h = tt
 known_one cut a c r rs (Some xs) None h = absurd h
 known_one cut a c r rs (Some xs) (Some ys) h = h ∙ sym (append_assoc rs (r ∷ []) (to_come cut c ys))
 
-with_records-one : (told : List Told) (rs : List (List ℕ)) (r : List ℕ)
+pub with_records-one : (told : List Told) (rs : List (List ℕ)) (r : List ℕ)
     → with_records told (rs ++ r ∷ []) ≡ with_record (with_records told rs) r
 with_records-one told [] r = refl
 with_records-one told (s ∷ rs) r = with_records-one (with_record told s) rs r
@@ -149,52 +148,3 @@ file_told told file cut here over input all next mid last a e f h ends =
     subst (λ t. IfSome t
     (λ bytes. last (told ++ record { file = file; records = records_of cut bytes } ∷ []))) a
     (told_known told file cut all next mid last two ends)
-
--- ---- no volume left
-
--- the same, where n more records may be counted
-abbrev pub Counted : Cut → Bool → Bool → Option (List ℕ) → Option (List ℕ) → (List Told → Type 0)
-    → (List Told → Type 0) → ℕ → Type 0
-Counted cut a b all left old new n =
-    (p : Put cut a b all left old new) × (length p.records + n ≡ 18446744073709551615)
-
-pub counted_none : (cut : Cut) (over : Bool) (all : Option (List ℕ)) (old : List Told → Type 0)
-    → Counted cut over over all all old old 18446744073709551615
-unfolding put_none
-counted_none cut over all old = (put_none cut over all old, refl)
-
-pub counted_one : (cut : Cut) (a b c : Bool) (all left next : Option (List ℕ))
-    (old mid new : List Told → Type 0) (r : List ℕ) (n m : ℕ) → m + 1 ≡ n
-    → Counted cut a b all left old mid n
-    → IfKnown left next (λ xs ys. to_come cut b xs ≡ given true r (to_come cut c ys))
-    → ((told : List Told) → mid told → new (with_record told r))
-    → Counted cut a c all next old new m
-unfolding put_one
-counted_one cut a b c all left next old mid new r n m less k known step = (
-  put_one cut a b c all left next old mid new r k.0 known step,
-  omega (arith, less, k.1, length-append k.0.records (r ∷ [])),
-)
-
-pub gave_up : {T : Type 0} (H : Tapes → Type 0) (w : SetState T) (told : List Told) (cut : Cut)
-    (a c : Bool) (rs : List (List ℕ)) (all next : Option (List ℕ))
-    → IfKnown all next (λ xs ys. to_come cut a xs ≡ rs ++ to_come cut c ys)
-    → IsOutOfVolumes H w (with_records told rs) ⊎ (18446744073709551615 ≤ length rs)
-    → IfSome all (λ xs. GaveUp H w told (to_come cut a xs))
-gave_up H w told cut a c rs None next k out = tt
-gave_up H w told cut a c rs (Some xs) None k out = absurd k
-gave_up H w told cut a c rs (Some xs) (Some ys) k out =
-    record { front = rs; back = to_come cut c ys; split = k; out = out }
-
--- the next record was not put
-pub gave_up_at : {T : Type 0} (H : Tapes → Type 0) (w : SetState T) (cut : Cut) (a b c : Bool)
-    (all left next : Option (List ℕ)) (old mid : List Told → Type 0) (r : List ℕ)
-    → Put cut a b all left old mid
-    → IfKnown left next (λ xs ys. to_come cut b xs ≡ given true r (to_come cut c ys))
-    → ((told : List Told) → mid told → IsOutOfVolumes H w (with_record told r))
-    → (told : List Told) → old told → IfSome all (λ xs. GaveUp H w told (to_come cut a xs))
-gave_up_at H w cut a b c all left next old mid r p k stuck told h =
-    gave_up H w told cut a c (p.records ++ r ∷ []) all next
-    (known_one cut a c r p.records all next
-    (known_then cut a b c true r p.records all left next p.known k))
-    (inl (subst (λ z. IsOutOfVolumes H w z) (sym (with_records-one told p.records r))
-    (stuck (with_records told p.records) (p.told told h))))

@@ -2,15 +2,17 @@
 ghost use Rattle.std.specs.Prelude.{◌≡◌, ◌<◌, ◌++◌, ◌+◌, ◌∷◌, [], List, length, map, OnOk, IfErr};
 ghost use Rattle.std.specs.Prelude.{IfSome};
 ghost use Rattle.tape_image.specs.Reader.{IfKnown};
+ghost use Rattle.tape_writer.specs.Tapes.{Grows};
 ghost use Rattle.tape_writer.specs.Told.{Told, opened_by};
 ghost use Rattle.tape_writer.specs.State.{IsWriting};
 ghost use Rattle.tape_writer.specs.Refusals.{IsInFile};
 ghost use Rattle.tape_writer.specs.declared.course.Opened.{Opened};
 ghost use Rattle.tape_writer.specs.declared.phase.Phase.TheVariants.{Between};
 ghost use Rattle.tape_writer.specs.Records.{records_of, to_come, left_of};
-ghost use Rattle.tape_writer.specs.ToldFiles.{with_records, told_files, IfAllKnown, GaveUp};
+ghost use Rattle.tape_writer.specs.ToldFiles.{with_records, with_file, told_files, IfAllKnown};
+ghost use Rattle.tape_writer.specs.NoVolume.{GaveUp, GaveUpIn};
 ghost use Rattle.tape_writer.specs.WriteFaults.{OneIsOther, IsInputFault, IsFileFault};
-ghost use Rattle.tape_writer.specs.WriteFaults.{IsFilesFault, told_as};
+ghost use Rattle.tape_writer.specs.WriteFaults.{IsFilesFault, told_as, StopsByDevice};
 
 use crate::fault::{SetFault, WriteFault};
 use crate::inputs::cut::Cut;
@@ -54,6 +56,13 @@ pub fn write_files<T: TapeOut + Drop, R: Read>(
     ensures due { writer.old.phase ≡ Between
         → IfErr result (IsFilesFault writer.old.capacity shape cut (length writer.old.files)
         (map (λ f. (f.head, R.remaining f.reader)) files.old)) }
+    // Without a volume left, what comes next of the files told so far does not fit.
+    ensures stuck { IfErr result (λ fault. fault ≡ SetFault.Write WriteFault.OutOfVolumes
+        → (told : List Told) → IsWriting (T.holds writer.old.out) writer.old told
+        → GaveUpIn (T.holds writer.new.out) writer.new writer.old.set_id told shape cut
+        (map (λ f. (f.head, R.remaining f.reader)) files.old)) }
+    ensures count { Grows (T.failures writer.old.out) (T.failures writer.new.out) }
+    ensures cause { StopsByDevice (T.failures writer.old.out) result (T.failures writer.new.out) }
     ensures stands { writer.old.phase ≡ Between → OnOk result ((writer.new.phase ≡ Between)
         × (0 < length files.old → 0 < writer.new.course.volume)) }
 {
@@ -86,6 +95,12 @@ fn write_file<T: TapeOut + Drop, R: Read>(
     ensures due { writer.old.phase ≡ Between
         → IfErr result (IsFileFault writer.old.capacity shape cut (length writer.old.files)
         (head, R.remaining input.old)) }
+    ensures stuck { IfErr result (λ fault. fault ≡ SetFault.Write WriteFault.OutOfVolumes
+        → (told : List Told) → IsWriting (T.holds writer.old.out) writer.old told
+        → IfSome (R.remaining input.old) (λ bytes. GaveUp (T.holds writer.new.out) writer.new
+        (with_file writer.old.set_id told head shape) (records_of cut bytes))) }
+    ensures count { Grows (T.failures writer.old.out) (T.failures writer.new.out) }
+    ensures cause { StopsByDevice (T.failures writer.old.out) result (T.failures writer.new.out) }
     ensures stands { OnOk result ((writer.new.phase ≡ Between) × (0 < writer.new.course.volume)
         × (length writer.new.files ≡ length writer.old.files + 1)) }
 {
@@ -121,14 +136,14 @@ fn put_records<T: TapeOut + Drop, R: Read + Drop>(
         → IfSome (left_of R.remaining records.old) (λ xs.
         GaveUp (T.holds writer.new.out) writer.new told
         (to_come records.old.cut records.old.over xs))) }
+    ensures count { Grows (T.failures writer.old.out) (T.failures writer.new.out) }
+    ensures cause { StopsByDevice (T.failures writer.old.out) result (T.failures writer.new.out) }
     ensures stays { (file : Opened) → IsInFile file writer.old.phase
         → OnOk result (IsInFile file writer.new.phase) }
     ensures files { writer.new.files ≡ writer.old.files }
 {
-    // An input need not end. But no set has so many records: each takes four bytes of a volume.
-    let mut left = u64::MAX;
-    'records: while left > 0 {
-        left -= 1;
+    // An input need not end, but each record that is put takes room of the writer.
+    'records: loop {
         match records.next() {
             Ok(true) => match writer.put(records.record()) {
                 Ok(()) => {}
@@ -138,7 +153,6 @@ fn put_records<T: TapeOut + Drop, R: Read + Drop>(
             Err(fault) => return Err(fault_of(fault)),
         }
     }
-    Err(SetFault::Write(WriteFault::OutOfVolumes))
 }
 
 /// How an input's fault is told.

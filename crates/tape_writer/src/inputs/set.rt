@@ -1,13 +1,16 @@
 //! A set written as images.
 ghost use Rattle.std.specs.Prelude.{◌≡◌, ◌≢◌, ◌++◌, ◌+◌, [], List, length, map, None, IfOk, IfErr};
-ghost use Rattle.std.specs.Prelude.{IfSome, OnOk};
-ghost use Rattle.tape_writer.specs.Images.{AreFresh};
+ghost use Rattle.std.specs.Prelude.{◌⊎◌, IfSome, OnOk, false};
+ghost use Rattle.std.specs.List.{AllByRecursion};
+ghost use Rattle.tape_writer.specs.Fields.{IsText, IsTextVolume};
+ghost use Rattle.tape_writer.specs.Images.{Holds};
 ghost use Rattle.tape_writer.specs.Told.{Told};
 ghost use Rattle.tape_writer.specs.State.{IsWriting};
 ghost use Rattle.tape_writer.specs.declared.phase.Phase.TheVariants.{Between, Finished};
 ghost use Rattle.tape_writer.specs.ToldFiles.{IfAllKnown, told_files};
+ghost use Rattle.tape_writer.specs.NoVolume.{GaveUpIn, HasNoVolume};
 ghost use Rattle.tape_writer.specs.WriteSet.{IsSetOfImages, cut_of as cut_by};
-ghost use Rattle.tape_writer.specs.WriteFaults.{IsSetFault, IsWholeFault};
+ghost use Rattle.tape_writer.specs.WriteFaults.{IsSetFault, IsWholeFault, StopsByDevice};
 
 use crate::fault::{SetFault, WriteFault};
 use crate::images::ImageTapes;
@@ -15,9 +18,10 @@ use crate::inputs::cut::Cut;
 use crate::inputs::files::{Input, write_files};
 use crate::inputs::form::cut_of;
 use crate::out::TapeOut;
-use crate::set::SetWriter;
+use crate::set::{SetWriter, judge_set};
+use crate::store::ImageStore;
 use std::alloc::Global;
-use std::io::{Read, Write};
+use std::io::Read;
 use tape_blocks::{Form, Shape};
 use tape_image::ImageWriter;
 use tape_label::{Field, Vol1};
@@ -34,52 +38,64 @@ pub struct SetPlan {
     pub form: Form,
 }
 
-/// What was written: so many files, on the first `ended` volumes. The size of a volume's image is
-/// that of its writer.
+/// What was written: so many files, and the store that was handed the images of the first volumes.
 #[derive(Drop)]
-pub struct WrittenSet<W: Write + Drop> {
+pub struct WrittenSet<S> {
     pub files: usize,
-    pub ended: usize,
     pub volumes: Vec<Vol1>,
-    pub images: Vec<ImageWriter<W>>,
+    pub images: S,
 }
 
-/// Why a set was not written, and the image writers, of which the first ones may be finished. They
-/// are gone where the set's identifier or its volumes were refused; then nothing was written.
+/// Why a set was not written. The store was handed the images of the volumes that ended; that of
+/// the volume under way, if there is one, ends where the fault came.
 #[derive(Drop)]
-pub struct RefusedSet<W: Write + Drop> {
+pub struct RefusedSet<S: ImageStore + Drop> {
     pub fault: SetFault,
-    pub images: Vec<ImageWriter<W>>,
+    pub images: S,
+    pub under_way: Option<ImageWriter<S::Device>>,
 }
 
-/// Writes files as a set, each volume as an image, by a writer of its own: those that are new, over
-/// writers that hold nothing. Each input is read to its end, and a record of it is held.
+/// Writes files as a set, each volume as an image on a device of this store, which was handed none
+/// yet. An image is handed on before the next volume begins. Each input is read to its end, and a
+/// record of it is held.
 ///
 /// # Errors
 ///
 /// `Write` with what the set writer refuses (with `OutOfVolumes` where there is no volume, with
 /// `NoFile` where there is no file); with `BadShape` where raw inputs are no records of the format,
 /// before anything is written; with `RecordLength` for a record of more than 4,294,967,295 bytes,
-/// of which no more is read; with `Device` also where an image writer is missing.
-/// `ReadFailed` where an input fails. No other fault comes, and none but `OutOfVolumes`,
-/// `Device`, `OutOfMemory` and `ReadFailed` without its cause in the plan or the inputs.
-pub fn write_set<R: Read, W: Write + Drop>(
+/// of which no more is read; with `Device` also where the store has no device left.
+/// `ReadFailed` where an input fails. No other fault comes, and none but `Device`, `OutOfMemory`
+/// and `ReadFailed` without its cause in the plan or the inputs: `OutOfVolumes` only where what
+/// comes next of the inputs, or a file's end behind them, does not fit the last volume.
+pub fn write_set<R: Read, S: ImageStore + Drop>(
     alloc: Global,
     plan: SetPlan,
     files: &mut [Input<R>],
-    images: Vec<ImageWriter<W>>,
-) -> Result<WrittenSet<W>, RefusedSet<W>>
-    ensures written { AreFresh images.items → IfOk result (λ done.
+    images: S,
+) -> Result<WrittenSet<S>, RefusedSet<S>>
+    ensures written { S.holds images false [] → IfOk result (λ done.
         IfSome (cut_by plan.form plan.shape) (λ cut.
         IfAllKnown (map (λ f. (f.head, R.remaining f.reader)) files.old) (λ fs.
-        IsSetOfImages plan.volumes.items plan.capacity plan.set_id
-        (told_files plan.set_id plan.shape cut 1 fs) done.images.items done.ended))) }
+        IsSetOfImages (S.holds done.images) plan.volumes.items plan.capacity plan.set_id
+        (told_files plan.set_id plan.shape cut 1 fs)))) }
     ensures volumes { IfOk result (λ done. done.volumes.items ≡ plan.volumes.items) }
     ensures files { IfOk result (λ done. done.files ≡ length files.old) }
     // No fault is answered where it is not due.
     ensures due { IfErr result (λ refused.
         IsSetFault plan (map (λ f. (f.head, R.remaining f.reader)) files.old) refused.fault) }
+    // Without a volume left, what comes next of the inputs read so far does not fit.
+    ensures stuck { S.holds images false [] → IfErr result (λ refused.
+        refused.fault ≡ SetFault.Write WriteFault.OutOfVolumes
+        → HasNoVolume (Holds S.holds)
+        (λ tapes. (tapes.store ≡ refused.images) × (tapes.image ≡ refused.under_way)) plan
+        (map (λ f. (f.head, R.remaining f.reader)) files.old)) }
     ensures raw { OnOk result (cut_by plan.form plan.shape ≢ None) }
+    // Where raw inputs are no records of the format, or the set or its volumes can't be labelled,
+    // nothing was written.
+    ensures nothing { (cut_by plan.form plan.shape ≡ None)
+        ⊎ (IsText plan.set_id × AllByRecursion IsTextVolume plan.volumes.items → ⊥)
+        → IfErr result (λ refused. (refused.images ≡ images) × (refused.under_way ≡ None)) }
 {
     let SetPlan {
         set_id,
@@ -91,45 +107,56 @@ pub fn write_set<R: Read, W: Write + Drop>(
     let Some(cut) = cut_of(form, &shape) else {
         return Err(refused(WriteFault::BadShape, images));
     };
+    if let Err(fault) = judge_set(&set_id, &volumes) {
+        return Err(refused(fault, images));
+    }
     let count = files.len();
-    let tapes = ImageTapes::new(images);
-    let mut writer = match SetWriter::new(alloc, set_id, volumes, capacity, tapes) {
-        Ok(writer) => writer,
-        Err(fault) => return Err(refused(fault, Vec::new(alloc))),
-    };
+    let mut writer = SetWriter::judged(alloc, set_id, volumes, capacity, ImageTapes::new(images));
     match write_whole(alloc, &mut writer, files, shape, cut) {
         Ok(()) => Ok(written(count, writer)),
-        Err(fault) => Err(RefusedSet {
-            fault,
-            images: writer.into_out().into_images(),
-        }),
+        Err(fault) => Err(left(fault, writer)),
     }
 }
 
-/// A refusal by the writer.
-fn refused<W: Write + Drop>(fault: WriteFault, images: Vec<ImageWriter<W>>) -> RefusedSet<W>
-    ensures { result.fault ≡ SetFault.Write fault }
+/// A refusal before anything is written.
+fn refused<S: ImageStore + Drop>(fault: WriteFault, images: S) -> RefusedSet<S>
+    ensures fault { result.fault ≡ SetFault.Write fault }
+    ensures images { result.images ≡ images }
+    ensures under_way { result.under_way ≡ None }
 {
     RefusedSet {
         fault: SetFault::Write(fault),
         images,
+        under_way: None,
+    }
+}
+
+/// Takes apart what was written where the set is not.
+fn left<S: ImageStore + Drop>(fault: SetFault, writer: SetWriter<ImageTapes<S>>) -> RefusedSet<S>
+    ensures fault { result.fault ≡ fault }
+    ensures images { result.images ≡ writer.out.store }
+    ensures under_way { result.under_way ≡ writer.out.image }
+{
+    let (images, under_way) = writer.into_out().into_parts();
+    RefusedSet {
+        fault,
+        images,
+        under_way,
     }
 }
 
 /// Takes apart what was written.
-fn written<W: Write + Drop>(files: usize, writer: SetWriter<ImageTapes<W>>) -> WrittenSet<W>
+fn written<S: ImageStore + Drop>(files: usize, writer: SetWriter<ImageTapes<S>>) -> WrittenSet<S>
     ensures files { result.files ≡ files }
-    ensures ended { result.ended ≡ writer.out.ended }
     ensures volumes { result.volumes.items ≡ writer.volumes }
-    ensures images { result.images.items ≡ writer.out.images }
+    ensures images { result.images ≡ writer.out.store }
 {
     let (tapes, volumes) = writer.into_parts();
-    let ended = tapes.ended();
+    let (images, _) = tapes.into_parts();
     WrittenSet {
         files,
-        ended,
         volumes,
-        images: tapes.into_images(),
+        images,
     }
 }
 
@@ -151,6 +178,12 @@ fn write_whole<T: TapeOut + Drop, R: Read>(
     ensures due { writer.old.phase ≡ Between → writer.old.files ≡ []
         → IfErr result (IsWholeFault writer.old.capacity shape cut
         (map (λ f. (f.head, R.remaining f.reader)) files.old)) }
+    ensures stuck { writer.old.phase ≡ Between
+        → IfErr result (λ fault. fault ≡ SetFault.Write WriteFault.OutOfVolumes
+        → (told : List Told) → IsWriting (T.holds writer.old.out) writer.old told
+        → GaveUpIn (T.holds writer.new.out) writer.new writer.old.set_id told shape cut
+        (map (λ f. (f.head, R.remaining f.reader)) files.old)) }
+    ensures cause { StopsByDevice (T.failures writer.old.out) result (T.failures writer.new.out) }
 {
     write_files(alloc, writer, files, shape, cut)?;
     match writer.finish() {

@@ -8,6 +8,7 @@ ghost use Rattle.tape_writer.specs.Faults.{FailsWith, IsEnding};
 ghost use Rattle.tape_writer.specs.Told.{Told, with_record};
 ghost use Rattle.tape_writer.specs.State.{IsWriting, Leaves, Refuses, IfFiling, HasLength};
 ghost use Rattle.tape_writer.specs.State.{IsOutOfVolumes};
+ghost use Rattle.tape_writer.specs.Room.{room_left};
 ghost use Rattle.tape_writer.specs.Refusals.{IsPutFault, IsFinishFault, IsInFile};
 ghost use Rattle.tape_writer.specs.declared.course.Opened.{Opened};
 ghost use Rattle.tape_writer.specs.declared.phase.Phase.TheVariants.{Between, Failed, Finished};
@@ -45,6 +46,8 @@ impl<T: TapeOut + Drop> SetWriter<T> {
         ensures due { IfFiling self.old.phase (λ o. IfErr result (IsPutFault o bytes.now)) }
         ensures stays { (file : Opened) → IsInFile file self.old.phase
             → OnOk result (IsInFile file self.new.phase) }
+        // Each record takes room, so records without end are not taken.
+        ensures room { OnOk result (room_left self.new < room_left self.old) }
         ensures files { self.new.files ≡ self.old.files }
         // The last file told has one record more, and nothing else is changed of what was told.
         ensures told { (told : List Told) → IsWriting (T.holds self.old.out) self.old told

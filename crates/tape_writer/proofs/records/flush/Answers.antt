@@ -4,6 +4,7 @@ use Rattle.tape_blocks.specs.Packing.{IsWritable}
 use Rattle.tape_writer.proofs.Last.{lasting_self}
 use Rattle.tape_writer.proofs.Packed.{given_sized, flushed_by, err_map}
 use Rattle.tape_writer.proofs.Stuck.{left_out}
+use Rattle.tape_writer.proofs.Room.{flushed_room, none_room}
 use Rattle.tape_writer.proofs.records.flush.Goals as goal
 
 pub write_block-requires-clause-sized : goal.write_block-requires-clause-sized
@@ -29,3 +30,14 @@ returns-in-Some-clause-stuck g c =
           c.args.packer.now c.in-Some.block.now c.in-Some.ensures.found q.1 q.2,
     ))
     c.write_block.ensures.none
+
+pub returns-in-Some-clause-room : goal.returns-in-Some-clause-room
+returns-in-Some-clause-room g c = flushed_room (length c.args.volumes.now) c.args.capacity
+    c.args.tape.now.course c.write_block.new.self.course c.args.packer.now _ c.in-Some.block.now
+    c.write_block.result c.in-Some.ensures.found c.take_block.follows.holds-at-none
+    c.write_block.ensures.passed c.write_block.ensures.roomy
+
+pub returns-in-None-clause-room : goal.returns-in-None-clause-room
+returns-in-None-clause-room g c = none_room (length c.args.volumes.now) c.args.capacity
+    c.args.tape.now.course c.args.packer.now _ c.in-None.ensures.none
+    c.take_block.follows.holds-at-none

@@ -1,5 +1,6 @@
 -- The record's end, and one more block.
-use Rattle.std.proofs.Common.{rules, refl, ◌∙◌, ◌++◌, ◌∷◌, [], sym, subst, ap, inl, inr}
+use Rattle.std.proofs.Common.{rules, arith, length, ◌≡◌, refl, ◌∙◌, ◌++◌, ◌∷◌, [], sym, subst, ap}
+use Rattle.std.proofs.Common.{inl, inr}
 use Rattle.std.proofs.lemmas.List.{take_rest}
 use Rattle.std.proofs.lemmas.Result.{err_from_is_err_and}
 use Rattle.tape_writer.specs.Inside.{IsStuck}
@@ -9,6 +10,9 @@ use Rattle.tape_blocks.proofs.RunLaws.{offers_shape}
 use Rattle.tape_writer.proofs.Packed.{packing_first, packing_last, packing_next, judged_next}
 use Rattle.tape_writer.proofs.Packed.{judged_more}
 use Rattle.tape_writer.proofs.Stuck.{stuck_put}
+use Rattle.tape_writer.proofs.Room.{begun_spanned, offered_room, taken_room}
+use Rattle.tape_blocks.specs.Packing.{IsWritable}
+use Rattle.tape_label.specs.declared.values.Format.TheVariants.{Spanned}
 use Rattle.tape_writer.proofs.Last.{lasting_then, lasting_self}
 use Rattle.tape_writer.proofs.records.put_record.Goals as goal
 
@@ -17,6 +21,8 @@ offers-init g c = record {
   roomy = c.requires.roomy;
   shape = c.requires.shape;
   opened = c.requires.opened;
+  begun = λ e. absurd (let ended = c.requires.ended in cc);
+  room = omega arith;
   judged = inl (refl, refl, refl);
   lasting = lasting_self _ _ _;
   packing = λ set_id fs records k. packing_first (g.T.TapeOut.holds c.args.tape.now.out)
@@ -46,6 +52,17 @@ offers-preserved g c =
           ∙ (offers_shape c.offers.packer c.offer.new.self c.offers.rest.now
           (BlockReady c.in-Ok-BlockReady.taken) offers ∙ c.offers.invariant.shape);
       opened = ap (λ (z : Packing). z.closed) c.in_ok-flush-in-Ok-BlockReady.ensures.emptied;
+      begun = begun_spanned c.args.file.now.shape c.offers.packer c.offer.new.self
+          c.flush.new.packer c.offers.rest.now c.in-Ok-BlockReady.taken c.offers.invariant.shape
+          c.offers.invariant.opened c.offers.invariant.begun offers
+          c.in_ok-flush-in-Ok-BlockReady.ensures.emptied;
+      room = omega (
+        arith,
+        c.offers.invariant.room,
+        offered_room (length c.args.volumes.now) c.args.capacity c.offers.tape.course
+            c.offers.packer c.offer.new.self c.offers.rest.now c.in-Ok-BlockReady.taken offers,
+        c.in_ok-flush-in-Ok-BlockReady.ensures.room,
+      );
       judged = inr (
         judged_more c.args.file.now.shape c.args.packer.now c.offers.packer c.args.whole.now
             c.offers.rest.now c.requires.shape c.requires.opened c.requires.ended _
@@ -79,3 +96,17 @@ returns-in_err-flush-in-Ok-BlockReady-clause-stuck g c =
     c.args.file.now c.offers.tape.course c.offers.packer c.offer.new.self fs records
     c.args.whole.now c.offers.rest.now c.in-Ok-BlockReady.taken
     c.in-Ok-BlockReady.ensures.judged offers (c.offers.invariant.packing set_id fs records k) q.1))
+
+pub returns-in-Ok-Taken-clause-room : goal.returns-in-Ok-Taken-clause-room
+returns-in-Ok-Taken-clause-room g c =
+    let offers : Offers c.offers.packer c.offers.rest.now Taken c.offer.new.self =
+    rw c.in-Ok-Taken.field-0-is at c.in-Ok-Taken.ensures.ok in
+    let shape = sym c.offers.invariant.shape in
+    omega (
+      arith,
+      c.offers.invariant.room,
+      taken_room (length c.args.volumes.now) c.args.capacity c.offers.tape.course c.offers.packer
+          c.offer.new.self c.offers.rest.now (subst IsWritable shape c.requires.ready.writable)
+          (λ e. subst (λ s. s.format ≡ Spanned) shape (c.offers.invariant.begun e))
+          c.in-Ok-Taken.ensures.judged offers,
+    )

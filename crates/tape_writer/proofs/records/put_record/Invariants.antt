@@ -1,9 +1,11 @@
-use Rattle.std.proofs.Common.{◌≡◌, ◌⊎◌, ℕ, ◌+◌, List, length, false}
+use Rattle.std.proofs.Common.{◌≡◌, ◌⊎◌, ◌≤◌, ℕ, ◌+◌, List, length, false, true}
+use Rattle.tape_label.specs.declared.values.Format.TheVariants.{Spanned}
 use Rattle.tape_blocks.specs.Packing.{HasRecordLength, IsJudged}
 use Rattle.tape_set.specs.Layout.{Section}
 use Rattle.tape_writer.specs.Draft.{IsRoomy}
 use Rattle.tape_writer.specs.Inside.{IsInside, IsPacking}
 use Rattle.tape_writer.specs.Lasting.{Lasting}
+use Rattle.tape_writer.specs.Room.{room_of}
 use Rattle.tape_writer.proofs.records.put_record.Given as goal
 
 abbrev pub invariant-offers : goal.invariant-offers
@@ -11,6 +13,9 @@ invariant-offers g l = record {
   roomy : IsRoomy l.capacity (length l.volumes) l.tape.course;
   shape : l.packer.shape ≡ l.file.shape;
   opened : l.packer.closed ≡ false;
+  begun : l.packer.begun ≡ true → l.file.shape.format ≡ Spanned;
+  room : room_of (length l.volumes) l.capacity l.tape.course l.packer
+      ≤ room_of (length l.volumes) l.capacity l.fn.tape.course l.fn.packer;
   judged : ((l.tape ≡ l.fn.tape) × (l.packer ≡ l.fn.packer) × (l.rest ≡ l.whole))
       ⊎ (HasRecordLength l.file.shape.format l.file.shape.rec_len (length l.whole)
       × IsJudged l.packer l.rest);

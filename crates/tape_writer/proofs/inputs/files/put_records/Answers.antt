@@ -1,9 +1,9 @@
-use Rattle.std.proofs.Common.{arith, ◌∙◌, ◌≡◌, refl, sym, subst, inr}
+use Rattle.std.proofs.Common.{◌∙◌, ◌≡◌, refl, sym, subst}
 use Rattle.tape_writer.specs.declared.fault.WriteFault.TheVariants.{OutOfVolumes}
 use Rattle.tape_writer.specs.Told.{with_record}
 use Rattle.tape_writer.specs.State.{IsWriting, IsOutOfVolumes}
-use Rattle.tape_writer.proofs.inputs.Putting.{counted_none, counted_one, given_cut}
-use Rattle.tape_writer.proofs.inputs.Putting.{same_record, gave_up, gave_up_at}
+use Rattle.tape_writer.proofs.inputs.Putting.{put_none, put_one, given_cut, same_record}
+use Rattle.tape_writer.proofs.inputs.Stopping.{gave_up, grows_self, grows_then, stops}
 use Rattle.tape_writer.proofs.inputs.Refusing.{not_told, put_fault, put_other, next_fault}
 use Rattle.tape_writer.proofs.inputs.Refusing.{next_long}
 use Rattle.tape_writer.proofs.inputs.files.put_records.Goals as goal
@@ -16,8 +16,8 @@ records-preserved g c = record {
   cut = c.next.ensures.cut ∙ c.records.invariant.cut;
   stays = λ file is. c.in-Ok.ensures.stays file (c.records.invariant.stays file is);
   files = c.put.ensures.files ∙ c.records.invariant.files;
-  put = counted_one _ _ _ _ _ _ _ _ _ _ c.next.new.self.record.items c.records.left _
-      (omega arith) c.records.invariant.put
+  grew = grows_then _ _ _ c.records.invariant.grew c.put.ensures.lasting.count;
+  put = put_one _ _ _ _ _ _ _ _ _ _ c.next.new.self.record.items c.records.invariant.put
       (given_cut _ _ _ _ _ c.in-Ok-true.field-0 _ _ _ _ c.records.invariant.cut
       c.next.ensures.cut c.in-Ok-true.field-0-test c.in-Ok-true.ensures.given)
       (same_record _ _ (IsWriting (g.T.TapeOut.holds c.records.writer.out) c.records.writer)
@@ -30,14 +30,14 @@ returns-in-Err-put-clause-due g c = λ file is.
     let r = c.next.new.self.record.items in
     put_fault file c.records.writer.phase c.record.result.now r _ c.in-Err-put.fault
     (c.records.invariant.stays file is) c.record.ensures c.in-Err-put.ensures.due
-    (put_other file.shape _ _ _ _ _ _ _ _ _ r c.records.invariant.put.0
+    (put_other file.shape _ _ _ _ _ _ _ _ _ r c.records.invariant.put
     (given_cut _ _ _ _ _ c.in-Ok-true.field-0 _ _ _ _ c.records.invariant.cut c.next.ensures.cut
     c.in-Ok-true.field-0-test c.in-Ok-true.ensures.given))
 
 pub returns-in-Err-clause-due : goal.returns-in-Err-clause-due
 returns-in-Err-clause-due g c = λ file is.
     next_fault _ c.in-Err.fault c.fault_of.result c.fault_of.ensures (λ e.
-    next_long file.shape _ _ _ _ _ _ _ _ c.records.invariant.put.0 c.records.invariant.cut
+    next_long file.shape _ _ _ _ _ _ _ _ c.records.invariant.put c.records.invariant.cut
     (c.in-Err.ensures.long e))
 
 pub records-init : goal.records-init
@@ -48,15 +48,16 @@ records-init g c = record {
   cut = refl;
   stays = λ file is. is;
   files = refl;
-  put = counted_none _ _ _ _;
+  grew = grows_self _;
+  put = put_none _ _ _ _;
 }
 
 pub returns-in-Err-put-clause-stuck : goal.returns-in-Err-put-clause-stuck
 returns-in-Err-put-clause-stuck g c = λ e told held.
     let f : c.in-Err-put.fault ≡ OutOfVolumes = cc in
     let r = c.next.new.self.record.items in
-    gave_up_at (g.T.TapeOut.holds c.put.new.self.out) c.put.new.self _ _ _ _ _ _ _ _ _ r
-    c.records.invariant.put.0
+    gave_up (g.T.TapeOut.holds c.put.new.self.out) c.put.new.self _ _ _ _ _ _ _ _ _ r
+    c.records.invariant.put
     (given_cut _ _ _ _ _ c.in-Ok-true.field-0 _ _ _ _ c.records.invariant.cut c.next.ensures.cut
     c.in-Ok-true.field-0-test c.in-Ok-true.ensures.given)
     (λ t h. subst (λ z. IsOutOfVolumes (g.T.TapeOut.holds c.put.new.self.out) c.put.new.self
@@ -65,7 +66,12 @@ returns-in-Err-put-clause-stuck g c = λ e told held.
 pub returns-in-Err-clause-stuck : goal.returns-in-Err-clause-stuck
 returns-in-Err-clause-stuck g c = λ e. absurd (not_told c.in-Err.fault (sym c.fault_of.ensures ∙ e))
 
-pub returns-clause-stuck : goal.returns-clause-stuck
-returns-clause-stuck g c = λ e told held.
-    gave_up (g.T.TapeOut.holds c.records.writer.out) c.records.writer told _ _ _ _ _ _
-    c.records.invariant.put.0.known (inr (omega (arith, c.records.invariant.put.1)))
+pub returns-in-Err-put-clause-cause : goal.returns-in-Err-put-clause-cause
+returns-in-Err-put-clause-cause g c =
+    stops (g.T.TapeOut.failures c.args.writer.now.out) (g.T.TapeOut.failures c.records.writer.out)
+    (g.T.TapeOut.failures c.put.new.self.out) c.in-Err-put.fault _ c.records.invariant.grew
+    c.in-Err-put.ensures.cause.0 refl
+
+pub returns-in-Err-put-clause-count : goal.returns-in-Err-put-clause-count
+returns-in-Err-put-clause-count g c =
+    grows_then _ _ _ c.records.invariant.grew c.put.ensures.lasting.count

@@ -1,8 +1,10 @@
-use Rattle.std.proofs.Common.{◌≡◌, ◌+◌, length}
+use Rattle.std.proofs.Common.{◌≡◌}
 use Rattle.tape_writer.specs.declared.course.Opened.{Opened}
 use Rattle.tape_writer.specs.State.{IsWriting}
 use Rattle.tape_writer.specs.Refusals.{IsInFile}
 use Rattle.tape_writer.specs.Records.{left_of}
+use Rattle.tape_writer.specs.Room.{room_left}
+use Rattle.tape_writer.specs.Tapes.{Grows}
 use Rattle.tape_writer.proofs.inputs.Putting.{Put}
 use Rattle.tape_writer.proofs.inputs.files.put_records.Given as goal
 
@@ -14,12 +16,12 @@ invariant-records g l = record {
   cut : l.records.cut ≡ l.fn.records.cut;
   stays : (file : Opened) → IsInFile file l.fn.writer.phase → IsInFile file l.writer.phase;
   files : l.writer.files ≡ l.fn.writer.files;
-  put : (p : Put l.fn.records.cut l.fn.records.over l.records.over
+  grew : Grows (g.T.TapeOut.failures l.fn.writer.out) (g.T.TapeOut.failures l.writer.out);
+  put : Put l.fn.records.cut l.fn.records.over l.records.over
       (left_of g.R.Read.remaining l.fn.records) (left_of g.R.Read.remaining l.records)
       (IsWriting (g.T.TapeOut.holds l.fn.writer.out) l.fn.writer)
-      (IsWriting (g.T.TapeOut.holds l.writer.out) l.writer))
-      × (length p.records + l.left ≡ 18446744073709551615);
+      (IsWriting (g.T.TapeOut.holds l.writer.out) l.writer);
 }
 
 abbrev pub decreases-records : goal.decreases-records
-decreases-records g l = l.left
+decreases-records g l = room_left l.writer

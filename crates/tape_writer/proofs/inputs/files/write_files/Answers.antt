@@ -6,6 +6,7 @@ use Rattle.tape_writer.specs.Told.{opened_by}
 use Rattle.tape_writer.specs.Records.{records_of}
 use Rattle.tape_writer.proofs.inputs.Filing.{wrote_none, wrote_one}
 use Rattle.tape_writer.proofs.inputs.Refusing.{wrote_fault}
+use Rattle.tape_writer.proofs.inputs.Stopping.{wrote_out, grows_self, grows_then}
 use Rattle.tape_writer.proofs.inputs.files.write_files.Goals as goal
 
 pub files-init : goal.files-init
@@ -14,6 +15,7 @@ files-init g c = record {
   capacity = refl;
   set_id = refl;
   stands = λ is. (is, search rules);
+  grew = grows_self _;
   begun = λ l. absurd (omega (arith, l));
   wrote = wrote_none _ _ _ _ _ c.args.files.now _;
 }
@@ -30,6 +32,7 @@ files-preserved g c =
       stands = λ is.
           let now = c.files.invariant.stands is in
           (next.0, omega (arith, now.1, next.2));
+      grew = grows_then _ _ _ c.files.invariant.grew c.in_ok-write_file.ensures.count;
       begun = λ l. next.1;
       wrote = wrote_one _ (λ f. (f.head, g.R.Read.remaining f.reader)) c.args.writer.now.set_id
           c.args.shape c.args.cut c.args.files.now c.files.files c.files.at
@@ -55,3 +58,16 @@ returns-in_err-write_file-clause-due g c = λ between.
     c.files.writer.capacity (length c.args.writer.now.files) (length c.files.writer.files) x
     c.index-files-at.result _ (search rules) refl c.files.invariant.wrote now.1
     c.files.invariant.capacity (c.in_err-write_file.ensures.due now.0))
+
+pub returns-in_err-write_file-clause-stuck : goal.returns-in_err-write_file-clause-stuck
+returns-in_err-write_file-clause-stuck g c =
+    let p = err_from_is_err_and c.from_residual.result c.from_residual.ensures.1 in
+    let x = get_or c.files.files c.files.at c.index-files-at.result in
+    rw (p.1, p.2) (λ e told held.
+    wrote_out (g.T.TapeOut.holds c.write_file.new.writer.out) c.write_file.new.writer _
+    (λ f. (f.head, g.R.Read.remaining f.reader)) c.args.writer.now.set_id c.args.shape c.args.cut
+    c.args.files.now c.files.files c.files.at
+    (IsWriting (g.T.TapeOut.holds c.args.writer.now.out) c.args.writer.now)
+    (IsWriting (g.T.TapeOut.holds c.files.writer.out) c.files.writer) c.files.writer.set_id x
+    c.index-files-at.result (search rules) refl c.files.invariant.wrote c.files.invariant.set_id
+    (c.in_err-write_file.ensures.stuck e) told held)

@@ -1,6 +1,7 @@
 use Rattle.std.proofs.Common.{◌≡◌, ◌<◌, ◌+◌, ◌-◌, length}
 use Rattle.tape_writer.specs.declared.phase.Phase.TheVariants.{Between}
 use Rattle.tape_writer.specs.State.{IsWriting}
+use Rattle.tape_writer.specs.Tapes.{Grows}
 use Rattle.tape_writer.proofs.inputs.Filing.{Wrote}
 use Rattle.tape_writer.proofs.inputs.files.write_files.Given as goal
 
@@ -11,6 +12,7 @@ invariant-files g l = record {
   set_id : l.writer.set_id ≡ l.fn.writer.set_id;
   stands : l.fn.writer.phase ≡ Between
       → (l.writer.phase ≡ Between) × (length l.writer.files ≡ length l.fn.writer.files + l.at);
+  grew : Grows (g.T.TapeOut.failures l.fn.writer.out) (g.T.TapeOut.failures l.writer.out);
   begun : 0 < l.at → 0 < l.writer.course.volume;
   wrote : Wrote _ (λ f. (f.head, g.R.Read.remaining f.reader)) l.fn.writer.set_id l.shape l.cut
       l.fn.files l.files l.at

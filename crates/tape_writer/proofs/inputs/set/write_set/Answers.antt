@@ -1,28 +1,52 @@
-use Rattle.std.proofs.Common.{[], ap, sym, subst, ◌∙◌, map}
+use Rattle.std.proofs.Common.{◌≡◌, [], ap, sym, subst, ◌∙◌, map, inr}
+use Rattle.tape_writer.specs.Images.{Holds}
+use Rattle.tape_writer.specs.NoVolume.{GaveUpIn, GaveUpSet}
 use Rattle.tape_writer.specs.ToldFiles.{IfAllKnown, told_files}
 use Rattle.tape_writer.specs.WriteSet.{IsSetOfImages}
 use Rattle.tape_writer.proofs.inputs.Finished.{set_of_images, if_cut, all_known}
 use Rattle.tape_writer.proofs.inputs.set.write_set.Goals as goal
 
-pub returns-in-Ok-write_whole-clause-written : goal.returns-in-Ok-write_whole-clause-written
-returns-in-Ok-write_whole-clause-written g c fresh =
+pub returns-in-Ok-clause-written : goal.returns-in-Ok-clause-written
+returns-in-Ok-clause-written g c fresh =
     let plan = c.args.plan in
-    let begun = c.in-Ok.ensures.told (c.new-tapes.ensures.held fresh) in
-    let told = c.in-Ok-write_whole.ensures.told [] begun in
-    let made = c.in-Ok.ensures.made in
+    let begun = c.judged-writer.ensures.told (c.new.ensures.held fresh) in
+    let told = c.in-Ok.ensures.told [] begun in
+    let made = c.judged-writer.ensures.made in
     let whole = c.write_whole.new.writer in
     let done = c.written.result in
+    let H = g.S.ImageStore.holds in
     let volumes = c.write_whole.ensures.same.0 ∙ ap (λ w. w.volumes) made in
     let capacity = c.write_whole.ensures.same.1 ∙ ap (λ w. w.capacity) made in
     let set_id = c.write_whole.ensures.same.2 ∙ ap (λ w. w.set_id) made in
     if_cut (λ cut. IfAllKnown (map (λ f. (f.head, g.R.Read.remaining f.reader)) c.args.files.now)
     (λ fs.
-    IsSetOfImages plan.volumes.items plan.capacity plan.set_id (told_files plan.set_id plan.shape
-    cut 1 fs) done.images.items done.ended)) _ _ c.in-Some.cut c.in-Some.is c.cut_of.ensures
+    IsSetOfImages (H done.images) plan.volumes.items plan.capacity plan.set_id
+    (told_files plan.set_id plan.shape cut 1 fs))) _ _ c.in-Some.cut c.in-Some.is c.cut_of.ensures
     (all_known (map (λ f. (f.head, g.R.Read.remaining f.reader)) c.args.files.now) _ _ told (λ fs w.
-    subst (λ s. IsSetOfImages plan.volumes.items plan.capacity plan.set_id (told_files s plan.shape
-    c.in-Some.cut 1 fs) done.images.items done.ended) (ap (λ w. w.set_id) made)
-    (set_of_images whole.out.images done.images.items whole.out.ended done.ended whole.out.under_way
-    whole plan.volumes.items plan.capacity plan.set_id _
-    c.in-Ok-write_whole.ensures.end volumes capacity set_id (sym c.written.ensures.images)
-    (sym c.written.ensures.ended) w)))
+    subst (λ s. IsSetOfImages (H done.images) plan.volumes.items plan.capacity plan.set_id
+    (told_files s plan.shape c.in-Some.cut 1 fs)) (ap (λ w. w.set_id) made)
+    (set_of_images H whole done.images plan.volumes.items plan.capacity plan.set_id _
+    c.in-Ok.ensures.end volumes capacity set_id (sym c.written.ensures.images) w)))
+
+pub returns-in-Err-write_whole-clause-stuck : goal.returns-in-Err-write_whole-clause-stuck
+returns-in-Err-write_whole-clause-stuck g c fresh = λ e.
+    let plan = c.args.plan in
+    let inputs = map (λ f. (f.head, g.R.Read.remaining f.reader)) c.args.files.now in
+    let begun = c.judged-writer.ensures.told (c.new.ensures.held fresh) in
+    let made = c.judged-writer.ensures.made in
+    let whole = c.write_whole.new.writer in
+    let H = g.S.ImageStore.holds in
+    let fault = sym c.left.ensures.fault ∙ e in
+    let out = c.in-Err-write_whole.ensures.stuck (ap (λ w. w.phase) made) fault [] begun in
+    inr (if_cut (λ cut.
+    GaveUpSet (Holds H) (λ t. (t.store ≡ c.left.result.images)
+    × (t.image ≡ c.left.result.under_way)) plan cut inputs) _ _ c.in-Some.cut
+    c.in-Some.is c.cut_of.ensures record {
+      writer = whole;
+      on_tapes = (sym c.left.ensures.images, sym c.left.ensures.under_way);
+      on_volumes = c.write_whole.ensures.same.0 ∙ ap (λ w. w.volumes) made;
+      capacity = c.write_whole.ensures.same.1 ∙ ap (λ w. w.capacity) made;
+      set_id = c.write_whole.ensures.same.2 ∙ ap (λ w. w.set_id) made;
+      stuck = subst (λ s. GaveUpIn (Holds H whole.out) whole s [] plan.shape c.in-Some.cut inputs)
+          (ap (λ w. w.set_id) made) out;
+    })

@@ -1,0 +1,107 @@
+-- The cases of sets written from inputs.
+use Rattle.std.proofs.Common.{◌≡◌, ◌⊎◌, ◌≤◌, ℕ, List, [], ◌∷◌, ◌++◌, length, Option, Some, IfSome}
+use Rattle.std.proofs.Common.{refl, inl, inr, subst, arith}
+use Rattle.tape_label.specs.declared.values.Head1.{Head1}
+use Rattle.tape_blocks.specs.declared.shape.Shape.{Shape}
+use Rattle.tape_blocks.specs.Packing.{HasRecordLength}
+use Rattle.tape_writer.specs.declared.fault.SetFault.{SetFault}
+use Rattle.tape_writer.specs.declared.fault.SetFault.TheVariants.{Write}
+use Rattle.tape_writer.specs.declared.fault.WriteFault.TheVariants as faults
+use Rattle.tape_writer.specs.declared.inputs.cut.Cut.{Cut}
+use Rattle.tape_writer.specs.NoVolume.{GaveUp}
+use Rattle.tape_writer.specs.Records.{records_of, longest}
+use Rattle.tape_writer.specs.State.{SetState}
+use Rattle.tape_writer.specs.Tapes.{Tapes}
+use Rattle.tape_writer.specs.ToldFiles.{told_files, with_file, IfAllKnown}
+use Rattle.tape_writer.specs.WriteFaults.{OneIsOther, IsFileFault, IsFilesFault, IsWholeFault}
+use Rattle.tape_writer.specs.CasesOfInputs.{CasesOfInputs, CasesOfSetFaults}
+
+-- the one input of a set is the first of it
+first_of : (tapes : Tapes) (w : SetState ℕ) (id : List ℕ) (shape : Shape) (cut : Cut)
+    (x : Head1 × List ℕ) (before after : List (Head1 × Option (List ℕ)))
+    (input : Head1 × Option (List ℕ))
+    → (x.0, Some x.1) ∷ [] ≡ before ++ input ∷ after
+    → IfAllKnown before (λ fs. IfSome input.1 (λ bytes. GaveUp (λ t. t ≡ tapes) w
+    (with_file id ([] ++ told_files id shape cut 1 fs) input.0 shape) (records_of cut bytes)))
+    → GaveUp (λ t. t ≡ tapes) w (with_file id [] x.0 shape) (records_of cut x.1)
+first_of tapes w id shape cut x [] after input split stuck =
+    let head : input ≡ (x.0, Some x.1) = cc split in
+    subst (λ i. IfSome i.1 (λ bytes. GaveUp (λ t. t ≡ tapes) w (with_file id [] i.0 shape)
+    (records_of cut bytes))) head stuck
+first_of tapes w id shape cut x (b ∷ []) after input split stuck = absurd (cc split)
+first_of tapes w id shape cut x (b ∷ c ∷ before) after input split stuck = absurd (cc split)
+
+pub cases_of_inputs : CasesOfInputs
+cases_of_inputs = record {
+  lines = refl;
+  last_line_ends = refl;
+  no_lines = refl;
+  pieces = refl;
+  no_pieces = refl;
+  whole = refl;
+  empty_whole = refl;
+  raw = (refl, refl, refl);
+  lines_of_any = λ shape. refl;
+  raw_of_shape = λ shape. refl;
+  none_is_long = λ h. h;
+  short_is_not_long = λ h. absurd (omega (arith, h));
+  grows_long = λ cut r bytes g. g;
+  told_in_order = λ id shape cut h k a b. refl;
+  told_more = λ t r s. refl;
+  all_known = λ h k a b given p. p;
+  gave_up = λ H w told records g. (g.split, g.out);
+  gave_up_in = λ tapes w id shape cut x g.
+      first_of tapes w id shape cut x g.before g.after g.input g.split g.stuck;
+  gave_up_set = λ plan cut given g. (g.on_tapes, g.on_volumes, g.capacity, g.set_id);
+}
+
+one_is_other : (shape : Shape) (r : List ℕ) → OneIsOther shape (r ∷ []) → length r ≤ longest
+    → HasRecordLength shape.format shape.rec_len (length r) → ⊥
+one_is_other shape r (inl (inl not)) short has = not has
+one_is_other shape r (inl (inr long)) short has = absurd (omega (arith, long, short))
+one_is_other shape r (inr none) short has = none
+
+of_second : (capacity : ℕ) (shape : Shape) (cut : Cut) (x y : Head1 × Option (List ℕ))
+    (fault : SetFault) → IsFilesFault capacity shape cut 0 (x ∷ y ∷ []) fault
+    → IsFileFault capacity shape cut 0 x fault ⊎ IsFileFault capacity shape cut 1 y fault
+of_second capacity shape cut x y fault (inl first) = inl first
+of_second capacity shape cut x y fault (inr (inl second)) = inr second
+of_second capacity shape cut x y fault (inr (inr none)) = absurd none
+
+length_of_input : (capacity : ℕ) (shape : Shape) (cut : Cut) (n : ℕ) (head : Head1)
+    (bytes : List ℕ)
+    → IsFileFault capacity shape cut n (head, Some bytes) (Write faults.RecordLength)
+    → OneIsOther shape (records_of cut bytes)
+length_of_input capacity shape cut n head bytes (inl none) = absurd none
+length_of_input capacity shape cut n head bytes (inr other) = other
+
+of_nothing : (capacity : ℕ) (shape : Shape) (cut : Cut)
+    → IsWholeFault capacity shape cut [] (Write faults.RecordLength) → ⊥
+of_nothing capacity shape cut (inl none) = none
+of_nothing capacity shape cut (inr none) = none
+
+some_file : (capacity : ℕ) (shape : Shape) (cut : Cut) (x : Head1 × Option (List ℕ))
+    → IsWholeFault capacity shape cut (x ∷ []) (Write faults.NoFile) → ⊥
+some_file capacity shape cut x (inl (inl (inl none))) = none
+some_file capacity shape cut x (inl (inl (inr none))) = none
+some_file capacity shape cut x (inl (inr none)) = none
+some_file capacity shape cut x (inr few) = absurd (omega (arith, few))
+
+pub cases_of_set_faults : CasesOfSetFaults
+cases_of_set_faults = record {
+  as_told = (refl, refl, refl);
+  none_is_other = λ shape h. h;
+  one_is_other = one_is_other;
+  of_writer = λ one other h. h;
+  read_is_not = λ h. h;
+  length_only_so = λ h. h;
+  no_other_putting = (λ h. h, λ h. h, λ h. h, λ h. h);
+  input_length_so = λ h. h;
+  of_no_file = λ capacity shape cut fault h. h;
+  of_second = of_second;
+  length_of_input = length_of_input;
+  of_nothing = of_nothing;
+  some_file = some_file;
+  not_cut = λ plan given fault h. h;
+  cut_so = λ plan given cut fault h. h;
+}

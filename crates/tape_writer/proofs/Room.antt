@@ -1,0 +1,135 @@
+-- Each record takes room of the writer.
+use Rattle.std.proofs.Common.{◌≡◌, inl, inr, ℕ, ◌+◌, ◌-◌, ◌*◌, ◌<◌, ◌≤◌, List, [], ◌∷◌, ◌++◌}
+use Rattle.std.proofs.Common.{length, Bool, true, false, refl, sym, ap, subst, ◌∙◌, arith}
+use Rattle.std.proofs.Common.{length-append, replicate}
+use Rattle.std.specs.Prelude.{Result, Ok, Err, OnOk}
+use Rattle.std.proofs.Math.Nat.{add-mul}
+use Rattle.std.proofs.lemmas.List.{length-replicate}
+use Rattle.tape_image.specs.Tape.{block}
+use Rattle.tape_label.specs.declared.values.Format.{Format}
+use Rattle.tape_label.specs.declared.values.Format.TheVariants.{Fixed, Counted, Spanned}
+use Rattle.tape_blocks.specs.declared.shape.Shape.{Shape}
+use Rattle.tape_blocks.specs.declared.offer.Offer.TheVariants.{Taken, BlockReady}
+use Rattle.tape_blocks.specs.Block.{Portion, spellings, head_len}
+use Rattle.tape_blocks.specs.Spans.{span_of}
+use Rattle.tape_blocks.specs.Packing.{Packing, Given, IsJudged, IsWritable, HasRecordLength, Offers}
+use Rattle.tape_blocks.specs.Packing.{HasWritableRecords, emptied, size_of}
+use Rattle.tape_blocks.specs.Packing.{padded_len}
+use Rattle.tape_blocks.proofs.PackLaws.{size_push}
+use Rattle.tape_set.specs.Sizes.{item_size}
+use Rattle.tape_writer.specs.declared.course.Course.{Course}
+use Rattle.tape_writer.specs.declared.fault.WriteFault.{WriteFault}
+use Rattle.tape_writer.specs.Draft.{IsRoomy}
+use Rattle.tape_writer.specs.Room.{Passed, room_of}
+
+-- a block has no fewer bytes than its parts
+given_size : (p : Packing) (text : List ℕ) → Given p text → size_of p.shape p.parts ≤ length text
+given_size p text given =
+    let front : List ℕ = replicate p.shape.offset 32 in
+    let units : List ℕ = spellings p.shape.format p.parts in
+    let padding : List ℕ =
+    replicate (padded_len p.shape (size_of p.shape p.parts) - size_of p.shape p.parts) 94 in
+    let long = ap length given.text_is in
+    omega (
+      arith,
+      long,
+      length-append (front ++ units) padding,
+      length-append front units,
+      length-replicate {A = ℕ} p.shape.offset 32,
+    )
+
+-- one volume fewer
+volume_less : (vs v w m : ℕ) → w ≡ v + 1 → w ≤ vs → (vs - v) * m ≡ (vs - w) * m + m
+volume_less vs v w m e few =
+    let one : vs - v ≡ (vs - w) + 1 = omega (arith, e, few) in
+    let product : 1 * m ≡ m = omega arith in
+    ap (λ k. k * m) one ∙ add-mul (vs - w) 1 m ∙ ap (λ k. (vs - w) * m + k) product
+
+-- a block that was written is room taken
+block_room : (vs cap : ℕ) (old new : Course) (p : Packing) (text : List ℕ) → Given p text
+    → Passed old (item_size (block text)) new → IsRoomy cap vs new
+    → room_of vs cap new (emptied p) ≤ room_of vs cap old p
+block_room vs cap old new p text given (inl (same, further)) roomy =
+    let m = cap + p.shape.block_len in
+    let product : (vs - new.volume) * m ≡ (vs - old.volume) * m = ap (λ v. (vs - v) * m) same in
+    omega (arith, product, further, roomy.room, given_size p text given, given.within)
+block_room vs cap old new p text given (inr next) roomy =
+    let product =
+    volume_less vs old.volume new.volume (cap + p.shape.block_len) next roomy.volume in
+    omega (arith, product)
+
+-- the same of a call that writes it
+pub flushed_room : (vs cap : ℕ) (old new : Course) (p q : Packing) (text : List ℕ)
+    (r : Result (Unit {0}) WriteFault) → Given p text → q ≡ emptied p
+    → OnOk r (Passed old (item_size (block text)) new) → OnOk r (IsRoomy cap vs new)
+    → OnOk r (room_of vs cap new q ≤ room_of vs cap old p)
+flushed_room vs cap old new p q text (Err e) given is passed roomy = tt
+flushed_room vs cap old new p q text (Ok x) given is passed roomy =
+    subst (λ z. room_of vs cap new z ≤ room_of vs cap old p) (sym is)
+    (block_room vs cap old new p text given passed roomy)
+
+-- nothing was under way
+pub none_room : (vs cap : ℕ) (course : Course) (p q : Packing) → p.parts ≡ [] → q ≡ emptied p
+    → room_of vs cap course q ≤ room_of vs cap course p
+none_room vs cap course p q none is =
+    let size : size_of p.shape p.parts ≡ size_of p.shape [] = ap (size_of p.shape) none in
+    subst (λ z. room_of vs cap course z ≤ room_of vs cap course p) (sym is) (omega (arith, size))
+
+-- an offer that closes the block gives no room back
+pub offered_room : (vs cap : ℕ) (course : Course) (p q : Packing) (rest : List ℕ) (n : ℕ)
+    → Offers p rest (BlockReady n) q → room_of vs cap course q ≤ room_of vs cap course p
+offered_room vs cap course p q rest n (some, inl closed) =
+    let same : room_of vs cap course q ≡ room_of vs cap course p =
+    ap (room_of vs cap course) closed.same in
+    omega (arith, same)
+offered_room vs cap course p q rest n (some, inr (inl full)) =
+    let same : room_of vs cap course q ≡ room_of vs cap course p =
+    ap (room_of vs cap course) full.same in
+    omega (arith, same)
+offered_room vs cap course p q rest n (some, inr (inr fills)) =
+    let shape : q.shape ≡ p.shape = ap (λ z. z.shape) fills.part in
+    let length_is : q.shape.block_len ≡ p.shape.block_len = ap (λ s. s.block_len) shape in
+    let product : (vs - course.volume) * (cap + q.shape.block_len)
+    ≡ (vs - course.volume) * (cap + p.shape.block_len) =
+    ap (λ l. (vs - course.volume) * (cap + l)) length_is in
+    omega (arith, product, fills.filled)
+
+-- a unit has a byte
+unit_some : (format : Format) (rec_len block_len offset n : ℕ) (pad begun : Bool)
+    → HasWritableRecords format rec_len block_len offset pad
+    → (begun ≡ true → format ≡ Spanned)
+    → (begun ≡ false → HasRecordLength format rec_len n) → 0 < head_len format + n
+unit_some Fixed rec_len block_len offset n pad true w spanned judged =
+    absurd (let e = spanned refl in cc)
+unit_some Fixed rec_len block_len offset n pad false w spanned judged =
+    omega (arith, w.0, judged refl)
+unit_some Counted rec_len block_len offset n pad begun w spanned judged = omega arith
+unit_some Spanned rec_len block_len offset n pad begun w spanned judged = omega arith
+
+-- one that takes the rest of a record does
+pub taken_room : (vs cap : ℕ) (course : Course) (p q : Packing) (rest : List ℕ)
+    → IsWritable p.shape → (p.begun ≡ true → p.shape.format ≡ Spanned) → IsJudged p rest
+    → Offers p rest Taken q → room_of vs cap course q < room_of vs cap course p
+taken_room vs cap course p q rest w spanned judged ends =
+    let x : Portion = record { span = span_of p.begun false; bytes = rest } in
+    let some : 0 < head_len p.shape.format + length rest =
+    unit_some p.shape.format p.shape.rec_len p.shape.block_len p.shape.offset (length rest)
+    p.shape.pad_full p.begun w.units spanned (λ e. judged ends.opened e) in
+    let size : size_of q.shape q.parts ≡ size_of p.shape (p.parts ++ x ∷ []) =
+    ap (λ z. size_of z.shape z.parts) ends.part in
+    let length_is : q.shape.block_len ≡ p.shape.block_len = ap (λ z. z.shape.block_len) ends.part in
+    let product : (vs - course.volume) * (cap + q.shape.block_len)
+    ≡ (vs - course.volume) * (cap + p.shape.block_len) =
+    ap (λ l. (vs - course.volume) * (cap + l)) length_is in
+    omega (arith, product, size, size_push p.shape p.parts x, some, ends.within, length_is)
+
+-- a record that is begun stands in format S
+pub begun_spanned : (shape : Shape) (p q r : Packing) (rest : List ℕ) (n : ℕ) → p.shape ≡ shape
+    → p.closed ≡ false → (p.begun ≡ true → shape.format ≡ Spanned)
+    → Offers p rest (BlockReady n) q → r ≡ emptied q → r.begun ≡ true → shape.format ≡ Spanned
+begun_spanned shape p q r rest n same opened spanned (some, inl closed) is begun =
+    absurd (let e = closed.closed in cc)
+begun_spanned shape p q r rest n same opened spanned (some, inr (inl full)) is begun =
+    spanned (sym (ap (λ z. z.begun) full.same) ∙ sym (ap (λ z. z.begun) is) ∙ begun)
+begun_spanned shape p q r rest n same opened spanned (some, inr (inr fills)) is begun =
+    ap (λ s. s.format) (sym same) ∙ fills.spanned

@@ -1,0 +1,127 @@
+-- Where the writing of files stops: no volume is left, or the device failed.
+use Rattle.std.proofs.Common.{◌≡◌, ℕ, ◌+◌, ◌<◌, List, [], ◌∷◌, ◌++◌, Bool, true, false, Option}
+use Rattle.std.proofs.Common.{Some, None, length, map, drop, get_or, sym, ap, subst, ◌∙◌}
+use Rattle.std.proofs.Common.{append-nil}
+use Rattle.std.proofs.Common.{arith}
+use Rattle.std.specs.Prelude.{IfSome}
+use Rattle.std.proofs.lemmas.List.{drop_more, map-append}
+use Rattle.tape_image.specs.Reader.{IfKnown}
+use Rattle.tape_label.specs.declared.values.Head1.{Head1}
+use Rattle.tape_blocks.specs.declared.shape.Shape.{Shape}
+use Rattle.tape_writer.specs.declared.fault.WriteFault.{WriteFault}
+use Rattle.tape_writer.specs.declared.fault.WriteFault.TheVariants.{Device}
+use Rattle.tape_writer.specs.declared.fault.SetFault.{SetFault}
+use Rattle.tape_writer.specs.declared.fault.SetFault.TheVariants.{Write}
+use Rattle.tape_writer.specs.Tapes.{Tapes, Failures, Grows, Rose}
+use Rattle.tape_writer.specs.Told.{Told, with_record}
+use Rattle.tape_writer.specs.State.{SetState, IsOutOfVolumes}
+use Rattle.tape_writer.specs.declared.inputs.cut.Cut.{Cut}
+use Rattle.tape_writer.specs.Records.{to_come, records_of, given}
+use Rattle.tape_writer.specs.ToldFiles.{with_records, with_file, told_files}
+use Rattle.tape_writer.specs.NoVolume.{GaveUp, GaveUpIn}
+use Rattle.tape_writer.proofs.Last.{rose_from}
+use Rattle.tape_writer.proofs.inputs.Putting.{Put, known_one, known_then, with_records-one}
+use Rattle.tape_writer.proofs.inputs.Filing.{Wrote}
+use Rattle.tape_writer.proofs.inputs.Finished.{all_known}
+
+-- ---- no volume is left
+
+known_out : {T : Type 0} (H : Tapes → Type 0) (w : SetState T) (told : List Told) (cut : Cut)
+    (a c : Bool) (rs : List (List ℕ)) (all next : Option (List ℕ))
+    → IfKnown all next (λ xs ys. to_come cut a xs ≡ rs ++ to_come cut c ys)
+    → IsOutOfVolumes H w (with_records told rs)
+    → IfSome all (λ xs. GaveUp H w told (to_come cut a xs))
+known_out H w told cut a c rs None next k out = tt
+known_out H w told cut a c rs (Some xs) None k out = absurd k
+known_out H w told cut a c rs (Some xs) (Some ys) k out =
+    record { front = rs; back = to_come cut c ys; split = k; out = out }
+
+-- the next record was not put
+pub gave_up : {T : Type 0} (H : Tapes → Type 0) (w : SetState T) (cut : Cut) (a b c : Bool)
+    (all left next : Option (List ℕ)) (old mid : List Told → Type 0) (r : List ℕ)
+    → Put cut a b all left old mid
+    → IfKnown left next (λ xs ys. to_come cut b xs ≡ given true r (to_come cut c ys))
+    → ((told : List Told) → mid told → IsOutOfVolumes H w (with_record told r))
+    → (told : List Told) → old told → IfSome all (λ xs. GaveUp H w told (to_come cut a xs))
+gave_up H w cut a b c all left next old mid r p k stuck told h =
+    known_out H w told cut a c (p.records ++ r ∷ []) all next
+    (known_one cut a c r p.records all next
+    (known_then cut a b c true r p.records all left next p.known k))
+    (subst (λ z. IsOutOfVolumes H w z) (sym (with_records-one told p.records r))
+    (stuck (with_records told p.records) (p.told told h)))
+
+-- the same of the input
+pub file_out : {T : Type 0} (H : Tapes → Type 0) (w : SetState T) (told : List Told)
+    (cut here : Cut) (over : Bool) (input all : Option (List ℕ)) → all ≡ input → here ≡ cut
+    → over ≡ false → IfSome all (λ xs. GaveUp H w told (to_come here over xs))
+    → IfSome input (λ bytes. GaveUp H w told (records_of cut bytes))
+file_out H w told cut here over input all a e f p =
+    let one = subst (λ z. IfSome z (λ xs. GaveUp H w told (to_come here over xs))) a p in
+    let two = subst (λ z. IfSome input (λ xs. GaveUp H w told (to_come z over xs))) e one in
+    subst (λ z. IfSome input (λ xs. GaveUp H w told (to_come cut z xs))) f two
+
+known_end : {T : Type 0} (H : Tapes → Type 0) (w : SetState T) (told : List Told) (cut : Cut)
+    (over : Bool) (all next : Option (List ℕ)) (mid : List Told → Type 0)
+    → IfKnown all next (λ xs ys. mid (with_records told (to_come cut over xs)))
+    → ((t : List Told) → mid t → IsOutOfVolumes H w t)
+    → IfSome all (λ xs. GaveUp H w told (to_come cut over xs))
+known_end H w told cut over None next mid put stuck = tt
+known_end H w told cut over (Some xs) None mid put stuck = absurd put
+known_end H w told cut over (Some xs) (Some ys) mid put stuck = record {
+  front = to_come cut over xs;
+  back = [];
+  split = sym (append-nil (to_come cut over xs));
+  out = stuck _ put;
+}
+
+-- all its records were put, and the file was not ended
+pub end_out : {T : Type 0} (H : Tapes → Type 0) (w : SetState T) (told : List Told)
+    (cut here : Cut) (over : Bool) (input all next : Option (List ℕ)) (mid : List Told → Type 0)
+    → all ≡ input → here ≡ cut → over ≡ false
+    → IfKnown all next (λ xs ys. mid (with_records told (to_come here over xs)))
+    → ((t : List Told) → mid t → IsOutOfVolumes H w t)
+    → IfSome input (λ bytes. GaveUp H w told (records_of cut bytes))
+end_out H w told cut here over input all next mid a e f put stuck =
+    file_out H w told cut here over input all a e f
+    (known_end H w told here over all next mid put stuck)
+
+-- the file that comes behind those that are written
+pub wrote_out : {T : Type 0} (H : Tapes → Type 0) (w : SetState T) (X : Type 0)
+    (view : X → Head1 × Option (List ℕ)) (set_id : List ℕ) (shape : Shape) (cut : Cut)
+    (first now : List X) (at : ℕ) (old mid : List Told → Type 0) (here : List ℕ) (x d : X)
+    → at < length now → x ≡ get_or now at d → Wrote X view set_id shape cut first now at old mid
+    → here ≡ set_id
+    → ((told : List Told) → mid told → IfSome (view x).1
+    (λ bytes. GaveUp H w (with_file here told (view x).0 shape) (records_of cut bytes)))
+    → (told : List Told) → old told → GaveUpIn H w set_id told shape cut (map view first)
+wrote_out H w X view set_id shape cut first now at old mid here x d within is wrote same stuck
+    told held =
+    let next : drop at now ≡ x ∷ drop (at + 1) now =
+    drop_more now at d within ∙ ap (λ z. z ∷ drop (at + 1) now) (sym is) in
+    record {
+      before = map view wrote.done;
+      input = view x;
+      after = map view (drop (at + 1) now);
+      split = ap (map view) (wrote.split ∙ ap (λ l. wrote.done ++ l) next)
+          ∙ map-append view wrote.done (x ∷ drop (at + 1) now);
+      stuck = all_known (map view wrote.done) _ _ (wrote.told told held) (λ fs m.
+          subst (λ s. IfSome (view x).1 (λ bytes. GaveUp H w
+          (with_file s (told ++ told_files set_id shape cut (length told + 1) fs) (view x).0 shape)
+          (records_of cut bytes))) same (stuck _ m));
+    }
+
+-- ---- the device failed
+
+pub grows_then : (a b c : Failures) → Grows a b → Grows b c → Grows a c
+grows_then a b c k l = (omega (arith, k.0, l.0), omega (arith, k.1, l.1))
+
+pub grows_self : (a : Failures) → Grows a a
+grows_self a = (omega arith, omega arith)
+
+-- a call of the writer, behind others
+pub stops : (a b c : Failures) (fault : WriteFault) (told : SetFault)
+    → Grows a b → (fault ≡ Device → Rose b.device c.device) → told ≡ Write fault
+    → told ≡ Write Device → Rose a.device c.device
+stops a b c fault told grew rose is e =
+    let same : fault ≡ Device = cc in
+    rose_from a.device b.device c.device grew.0 (rose same)

@@ -1,0 +1,22 @@
+use Rattle.tape_writer.proofs.Examples.{cases_of_tapes, cases_of_images, cases_of_sets}
+use Rattle.tape_writer.proofs.Examples.{cases_of_refusals}
+use Rattle.tape_writer.proofs.ExamplesOfInputs.{cases_of_inputs, cases_of_set_faults}
+use Rattle.tape_writer.proofs.laws.cases.Goals as goal
+
+pub returns-clause-tapes : goal.returns-clause-tapes
+returns-clause-tapes c = cases_of_tapes
+
+pub returns-clause-images : goal.returns-clause-images
+returns-clause-images c = cases_of_images
+
+pub returns-clause-sets : goal.returns-clause-sets
+returns-clause-sets c = cases_of_sets
+
+pub returns-clause-refusals : goal.returns-clause-refusals
+returns-clause-refusals c = cases_of_refusals
+
+pub returns-clause-inputs : goal.returns-clause-inputs
+returns-clause-inputs c = cases_of_inputs
+
+pub returns-clause-set_faults : goal.returns-clause-set_faults
+returns-clause-set_faults c = cases_of_set_faults

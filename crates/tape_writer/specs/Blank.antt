@@ -1,0 +1,38 @@
+-- Volumes without files: their labels, by a prefix and a number, and their images.
+use Rattle.std.specs.Prelude.{◌≡◌, ◌⊎◌, ◌≤◌, ℕ, List, [], ◌∷◌, ◌++◌, length, replicate}
+use Rattle.std.specs.List.{AllByRecursion}
+use Rattle.tape_label.specs.declared.values.Vol1.{Vol1}
+use Rattle.tape_label.specs.Digits.{digits}
+use Rattle.tape_label.specs.Written.{text_of, vol1_pieces}
+
+-- a capital letter or a digit
+abbrev pub IsPrefixByte : ℕ → Type 0
+IsPrefixByte b = ((65 ≤ b) × (b ≤ 90)) ⊎ ((48 ≤ b) × (b ≤ 57))
+
+-- what the identifiers of a set's volumes begin with
+abbrev pub IsPrefix : List ℕ → Type 0
+IsPrefix text = (length text ≡ 3) × AllByRecursion IsPrefixByte text
+
+-- the prefix, and the number in three digits
+abbrev pub volume_id : List ℕ → ℕ → List ℕ
+volume_id prefix n = prefix ++ digits 3 n
+
+-- The volume with this number: its identifier, version 4, and spaces in all other fields. 32 is the
+-- space and 52 the digit 4.
+abbrev pub blank_volume : List ℕ → ℕ → Vol1
+blank_volume prefix n = record {
+  volume = volume_id prefix n;
+  access = 32;
+  implementation = replicate 13 32;
+  owner = replicate 14 32;
+  version = 52;
+}
+
+-- the word of a block of 80 bytes
+abbrev pub label_word : List ℕ
+label_word = 80 ∷ 0 ∷ 0 ∷ 0 ∷ []
+
+-- Its image: the label between its two words, two tape marks of four zeros each, the end word.
+abbrev pub blank_image : Vol1 → List ℕ
+blank_image volume = label_word ++ text_of (vol1_pieces volume) ++ label_word
+    ++ replicate 8 0 ++ replicate 4 255

@@ -1,0 +1,224 @@
+-- What the definitions of tapes, of what a writer was told and of its refusals say of cases, so
+-- that none of them says less than it should. The call `laws::cases` has them as its contract.
+use Rattle.std.specs.Prelude.{◌≡◌, ◌≢◌, ◌≤◌, ◌+◌, ℕ, List, [], ◌∷◌, ◌++◌, length, map, take, Ok}
+use Rattle.std.specs.Prelude.{Err, Some, None, true, false}
+use Rattle.std.specs.List.{AllByRecursion}
+use Rattle.tape_image.specs.Tape.{TapeItem, bad, mark}
+use Rattle.tape_image.specs.Spelling.{Leads, Spells}
+use Rattle.tape_image.specs.Writer.{Writer, writing, finished}
+use Rattle.tape_label.specs.declared.values.Head1.{Head1}
+use Rattle.tape_label.specs.declared.values.Kind.TheVariants as kinds
+use Rattle.tape_label.specs.declared.values.Vol1.{Vol1}
+use Rattle.tape_blocks.specs.declared.shape.Shape.{Shape}
+use Rattle.tape_blocks.specs.Packing.{IsWritable}
+use Rattle.tape_blocks.specs.Spans.{join}
+use Rattle.tape_blocks.specs.Run.{AreClosed}
+use Rattle.tape_blocks.specs.Tight.{Filled, Chain, IsDue, IsWritten, first_len, parts_of_all}
+use Rattle.tape_set.specs.Layout.{Section, Placed, all_items}
+use Rattle.tape_set.specs.Lawful.{IsLawful}
+use Rattle.tape_set.specs.Before.{section_parts}
+use Rattle.tape_set.specs.Sizes.{items_size}
+use Rattle.tape_set.specs.Tight.{IsTight, IsTightFile, least_capacity, takes_next}
+use Rattle.tape_writer.specs.declared.course.Course.{Course}
+use Rattle.tape_writer.specs.declared.course.Opened.{Opened}
+use Rattle.tape_writer.specs.declared.fault.OutFault.TheVariants as out
+use Rattle.tape_writer.specs.declared.fault.WriteFault.TheVariants as faults
+use Rattle.tape_writer.specs.declared.phase.OpenFile.{OpenFile}
+use Rattle.tape_writer.specs.declared.phase.Phase.TheVariants as phases
+use Rattle.tape_writer.specs.Draft.{open_blocks}
+use Rattle.tape_writer.specs.Faults.{FailsByDevice, FailsWith, IsEnding}
+use Rattle.tape_writer.specs.Fields.{IsText, IsTextVolume, IsTextHead}
+use Rattle.tape_writer.specs.Images.{IsImageOf, IsImageSoFar, AreImagesOf, HandedOn, AreImages}
+use Rattle.tape_writer.specs.Kept.{HoldsImages}
+use Rattle.tape_writer.specs.Inside.{Continues, IsStuck}
+use Rattle.tape_writer.specs.Labels.{first_label, second_label, trailer_label, second_kind}
+use Rattle.tape_writer.specs.Lasting.{Lasts, Lasting}
+use Rattle.tape_writer.specs.Refusals.{IsNewFault, IsBeginFault, IsPutFault, IsFinishFault}
+use Rattle.tape_writer.specs.Refusals.{IsInFile}
+use Rattle.tape_writer.specs.State.{SetState, IsWriting, IsOutOfVolumes, Leaves, HasLength}
+use Rattle.tape_writer.specs.Tapes.{Tapes, Ended, UnderWay, Takes, Changes, Closes, Keeps, Rose}
+use Rattle.tape_writer.specs.Tapes.{Failures, Grows, HasCause}
+use Rattle.tape_writer.specs.Told.{Told, opened_by, with_record, labelled, IsWithin, IsOfFile}
+use Rattle.tape_writer.specs.Told.{IsFiled, AreFiled, IsWrittenSet}
+
+-- of tapes, and of the counts of their failures
+pub record CasesOfTapes : Type 0 where
+  -- an item goes behind what is under way, a volume begins behind it, and an end ends it
+  pub takes : (after : Tapes) → Takes {E = ℕ} (bad ∷ []) (λ t. t ≡ UnderWay [] (mark ∷ []))
+      (Ok tt) (λ t. t ≡ after) → UnderWay [] (mark ∷ bad ∷ []) ≡ after
+  pub changes : (after : Tapes) → Changes {E = ℕ} [] (λ t. t ≡ UnderWay [] (mark ∷ [])) (Ok tt)
+      (λ t. t ≡ after) → UnderWay ((mark ∷ []) ∷ []) [] ≡ after
+  pub closes : (after : Tapes) → Closes {E = ℕ} (λ t. t ≡ UnderWay [] (mark ∷ [])) (Ok tt)
+      (λ t. t ≡ after) → Ended ((mark ∷ []) ∷ []) ≡ after
+  -- what refuses keeps what was there
+  pub keeps : (after : Tapes) → Keeps {E = ℕ} (λ t. t ≡ Ended []) (Err 0) (λ t. t ≡ after)
+      → Ended [] ≡ after
+  -- a count that stands did not rise, but at its greatest value
+  pub stands_still : Rose 3 3 → ⊥
+  pub rises : Rose 3 4 × Rose 18446744073709551615 18446744073709551615
+  -- each fault has its own count
+  pub device_failed : (old new : Failures) → HasCause old (Err out.Device) new
+      → Rose old.device new.device
+  pub growth_refused : (old new : Failures) → HasCause old (Err out.OutOfMemory) new
+      → Rose old.memory new.memory
+  pub writing_failed : (old new : Failures) → FailsWith old (Err faults.Device) new
+      → Rose old.device new.device
+  pub no_memory : (old new : Failures) → FailsWith old (Err faults.OutOfMemory) new
+      → Rose old.memory new.memory
+  pub begin_failed : (old new : Failures) → FailsByDevice old (Err faults.Device) new
+      → Rose old.device new.device
+  -- and no count falls
+  pub no_count_falls : (old new : Failures) → Grows old new
+      → (old.device ≤ new.device) × (old.memory ≤ new.memory)
+  -- volumes that ended are the first of those that are held, and what is counted is there
+  pub ended_stay : (tapes : Tapes) (used : ℕ) (volumes : List (List TapeItem))
+      (l : Lasts (λ t. t ≡ tapes) used volumes) → (UnderWay (volumes ++ l.more) l.items ≡ tapes)
+      × (used ≡ items_size l.items)
+  pub lasting : (after : Tapes) (f f' : Failures) (used' : ℕ)
+      → Lasting (λ t. t ≡ UnderWay [] []) f 0 (λ t. t ≡ after) f' used'
+      → Lasts (λ t. t ≡ after) used' [] × Grows f f'
+
+-- of volumes as images
+pub record CasesOfImages : Type 0 where
+  -- the bytes of an image spell its volume, its end word included, and are so many
+  pub its_spelling : (items : List TapeItem) (bytes : List ℕ) → IsImageOf items bytes
+      → Spells bytes items × (length bytes ≡ items_size items + 4)
+  -- of one under way they spell the items so far, with nothing behind them where nothing failed
+  pub spelled_so_far : (items : List TapeItem) (w : Writer) (i : IsImageSoFar items w)
+      → w.standing ≡ writing
+      → (w.contents ≡ Some (i.bytes ++ i.more)) × Leads i.bytes items [] × (i.more ≡ [])
+      × (w.size ≡ items_size items)
+  -- and its end word is not written yet
+  pub not_ended : (items : List TapeItem) (w : Writer) → IsImageSoFar items w
+      → w.standing ≡ finished → ⊥
+  -- each volume that ended has its image, in order, and there is no image besides
+  pub none_without_image : (v : List TapeItem) → AreImagesOf (v ∷ []) [] → ⊥
+  pub no_image_besides : (b : List ℕ) → AreImagesOf [] (b ∷ []) → ⊥
+  pub in_order : (v u : List TapeItem) (b c : List ℕ) → AreImagesOf (v ∷ u ∷ []) (b ∷ c ∷ [])
+      → IsImageOf v b × IsImageOf u c
+  -- the store was handed just these
+  pub handed : (given : List (List ℕ)) (volumes : List (List TapeItem))
+      (h : HandedOn (λ images. images ≡ given) volumes)
+      → (h.images ≡ given) × AreImagesOf volumes h.images
+  -- where all have ended no image is here, and no device is lent; else the one under way is
+  pub all_handed : (w : Writer) (v : List (List TapeItem))
+      → AreImages (λ lent images. Unit {0}) (Some w) (Ended v) → ⊥
+  pub none_lent : (v : List (List TapeItem))
+      → AreImages (λ lent images. lent ≡ true) None (Ended v) → ⊥
+  pub one_lent : (w : Writer) (v : List (List TapeItem)) (items : List TapeItem)
+      → AreImages (λ lent images. lent ≡ false) (Some w) (UnderWay v items) → ⊥
+  pub under_way_so_far : (w : Writer) (v : List (List TapeItem)) (items : List TapeItem)
+      → AreImages (λ lent images. Unit {0}) (Some w) (UnderWay v items) → IsImageSoFar items w
+  pub under_way_is_here : (v : List (List TapeItem)) (items : List TapeItem)
+      → AreImages (λ lent images. Unit {0}) None (UnderWay v items) → ⊥
+  -- in memory there is room for the one that is lent, too
+  pub room_for_the_lent : HoldsImages [] 2 2 true [] → ⊥
+  pub kept_as_handed : (kept images : List (List ℕ)) → HoldsImages kept 5 1 false images
+      → kept ≡ images
+
+-- of what was told, and of what is written
+pub record CasesOfSets : Type 0 where
+  -- a file has the identifier and the number of the writer, and its first section
+  pub opened : (id : List ℕ) (head : Head1) (shape : Shape)
+      → ((opened_by id 2 head shape).head.set_id ≡ id)
+      × ((opened_by id 2 head shape).head.sequence ≡ 2)
+      × ((opened_by id 2 head shape).head.sect ≡ 1) × ((opened_by id 2 head shape).shape ≡ shape)
+  -- a record goes behind the others of the last file
+  pub put_last : (t u : Told) (r : List ℕ) → with_record (t ∷ u ∷ []) r
+      ≡ t ∷ record { file = u.file; records = u.records ++ r ∷ [] } ∷ []
+  -- as many files stand on the volumes as were told, in their order
+  pub none_left_out : (capacity : ℕ) (t : Told) → AreFiled capacity (t ∷ []) [] → ⊥
+  pub none_besides : (capacity : ℕ) (f : List Section) → AreFiled capacity [] (f ∷ []) → ⊥
+  pub in_order : (capacity : ℕ) (t u : Told) (f g : List Section)
+      → AreFiled capacity (t ∷ u ∷ []) (f ∷ g ∷ []) → IsFiled capacity t f × IsFiled capacity u g
+  -- and join to just the records told, with none begun, tight in the shape told
+  pub its_records : (capacity : ℕ) (t : Told) (f : List Section) → IsFiled capacity t f
+      → ((join (section_parts f)).records ≡ t.records) × ((join (section_parts f)).rest ≡ None)
+      × IsTightFile capacity t.file.shape f
+  -- a section has the labels that are written of its file, and no others
+  pub its_labels : (file : Opened) (x : Placed) (o : IsOfFile file x)
+      → (x.section.hdr1 ≡ first_label file x.sect)
+      × (x.section.hdr2 ≡ second_label file kinds.Hdr2) × (x.section.headers ≡ [])
+      × (x.section.trailer ≡ trailer_label file x.sect (length x.section.blocks) o.eof)
+      × (x.section.trailers ≡ second_label file (second_kind o.eof) ∷ [])
+  -- a written set is lawful and tight, of this identifier, on the first of the volumes given, each
+  -- within the capacity, and the tapes hold its items
+  pub written_is : (tapes : Tapes) (volumes : List Vol1) (capacity : ℕ) (set_id : List ℕ)
+      (told : List Told) (w : IsWrittenSet (λ t. t ≡ tapes) volumes capacity set_id told)
+      → IsLawful w.layout × IsTight w.layout capacity (map (λ t. t.file.shape) told)
+      × (Ended (all_items w.layout) ≡ tapes)
+      × AllByRecursion (IsWithin capacity) (all_items w.layout) × (w.layout.set_id ≡ set_id)
+      × (w.layout.volumes ≡ take (length w.layout.volumes) (map labelled volumes))
+      × AreFiled capacity told w.layout.files
+  -- the end word counts in the capacity
+  pub end_word_counts : (capacity : ℕ) → IsWithin capacity [] → 4 ≤ capacity
+
+-- of a writer, its refusals and what they leave
+pub record CasesOfRefusals : Type 0 where
+  -- no set is made: each fault for its cause, and no other fault
+  pub new_field : (id : List ℕ) (volumes : List Vol1) → IsNewFault id volumes faults.BadField
+      → IsText id → AllByRecursion IsTextVolume volumes → ⊥
+  pub enough_volumes : (id : List ℕ) (v : Vol1) → IsNewFault id (v ∷ []) faults.OutOfVolumes → ⊥
+  pub few_volumes : (id : List ℕ) (v : Vol1) → IsNewFault id (v ∷ []) faults.TooMany → ⊥
+  pub no_other_new : (id : List ℕ) (volumes : List Vol1)
+      → (IsNewFault id volumes faults.RecordLength → ⊥)
+      × (IsNewFault id volumes faults.Device → ⊥)
+      × (IsNewFault id volumes faults.OutOfMemory → ⊥)
+      × (IsNewFault id volumes faults.Failed → ⊥)
+  -- no file is begun
+  pub begin_field : (capacity n : ℕ) (head : Head1) (shape : Shape)
+      → IsBeginFault capacity n head shape faults.BadField → IsTextHead head → ⊥
+  pub begin_shape : (capacity n : ℕ) (head : Head1) (shape : Shape)
+      → IsBeginFault capacity n head shape faults.BadShape → IsWritable shape → ⊥
+  pub begin_capacity : (n : ℕ) (head : Head1) (shape : Shape)
+      → IsBeginFault (least_capacity shape) n head shape faults.CapacityTooSmall → ⊥
+  pub begin_many : (capacity : ℕ) (head : Head1) (shape : Shape)
+      → IsBeginFault capacity 9998 head shape faults.TooMany → ⊥
+  pub no_other_begin : (capacity n : ℕ) (head : Head1) (shape : Shape)
+      → (IsBeginFault capacity n head shape faults.OutOfVolumes → ⊥)
+      × (IsBeginFault capacity n head shape faults.RecordLength → ⊥)
+      × (IsBeginFault capacity n head shape faults.NoFile → ⊥)
+  -- no record is put
+  pub put_length : (o : OpenFile) (bytes : List ℕ) → IsPutFault o bytes faults.RecordLength
+      → HasLength o bytes → ⊥
+  pub no_other_put : (o : OpenFile) (bytes : List ℕ) → (IsPutFault o bytes faults.NoFile → ⊥)
+      × (IsPutFault o bytes faults.TooMany → ⊥) × (IsPutFault o bytes faults.BadShape → ⊥)
+  -- no set is ended
+  pub some_file : IsFinishFault 1 faults.NoFile → ⊥
+  pub no_other_end : (IsFinishFault 0 faults.OutOfVolumes → ⊥)
+      × (IsFinishFault 0 faults.RecordLength → ⊥) × (IsFinishFault 0 faults.TooMany → ⊥)
+  -- what ends a writer leaves one that failed; else it is the same
+  pub ends_for_good : (old new : SetState ℕ) → (Leaves old new faults.Device
+      → new.phase ≡ phases.Failed) × (Leaves old new faults.OutOfMemory
+      → new.phase ≡ phases.Failed) × (Leaves old new faults.OutOfVolumes
+      → new.phase ≡ phases.Failed)
+  pub else_the_same : (old new : SetState ℕ)
+      → (Leaves old new faults.RecordLength → new ≡ old)
+      × (Leaves old new faults.NoFile → new ≡ old)
+      × (Leaves old new faults.BadField → new ≡ old)
+  pub does_not_end : (IsEnding faults.RecordLength → ⊥) × (IsEnding faults.NoFile → ⊥)
+  -- of a writer that failed nothing is told any more, and between files none is under way
+  pub failed_tells_nothing : (tapes : Tapes) (w : SetState ℕ) (told : List Told)
+      → w.phase ≡ phases.Failed → IsWriting (λ t. t ≡ tapes) w told → ⊥
+  pub none_under_way : (file : Opened) → (IsInFile file phases.Between → ⊥)
+      × (IsInFile file phases.Failed → ⊥) × (IsInFile file phases.Finished → ⊥)
+  -- no volume is left for the last file told, the others stand,
+  pub out_of_volumes : (tapes : Tapes) (w : SetState ℕ) (told : List Told)
+      (o : IsOutOfVolumes (λ t. t ≡ tapes) w told) → (told ≡ o.past ++ o.last ∷ [])
+      × AreFiled w.capacity o.past o.files
+      × IsStuck (λ t. t ≡ tapes) w.volumes w.capacity w.set_id o.last.file w.course o.files
+      o.last.records
+  -- and the rule of the change refuses what comes next of its records
+  pub stuck : (tapes : Tapes) (volumes : List Vol1) (capacity : ℕ) (set_id : List ℕ)
+      (file : Opened) (course : Course) (fs : List (List Section)) (records : List (List ℕ))
+      (s : IsStuck (λ t. t ≡ tapes) volumes capacity set_id file course fs records)
+      → (length volumes ≤ course.volume) × (takes_next capacity course.used s.next ≡ false)
+      × (s.draft.files ≡ fs) × Continues file.shape records (open_blocks s.draft) s.next
+  -- which are joined from the blocks written, the block that comes, if one does, and what is behind
+  pub comes_next : (shape : Shape) (records : List (List ℕ)) (blocks next : List Filled)
+      (c : Continues shape records blocks next)
+      → (join (parts_of_all (blocks ++ next) ++ c.behind)
+      ≡ record { records = records; rest = None })
+      × (length next ≤ 1) × (next ≡ [] → c.behind ≡ [])
+      × AllByRecursion (IsWritten shape) (blocks ++ next) × Chain (IsDue shape) (blocks ++ next)
+      × (c.behind ≢ [] → AreClosed shape (blocks ++ next) (first_len c.behind 0))

@@ -1,0 +1,119 @@
+-- What the definitions of sets written from inputs say of cases. The call `laws::cases` has them as
+-- its contract, too.
+use Rattle.std.specs.Prelude.{◌≡◌, ◌⊎◌, ◌≤◌, ℕ, List, [], ◌∷◌, ◌++◌, length, Option, Some, None}
+use Rattle.tape_label.specs.declared.values.Format.TheVariants.{Fixed, Counted, Spanned}
+use Rattle.tape_label.specs.declared.values.Head1.{Head1}
+use Rattle.tape_blocks.specs.declared.form.Form.TheVariants as forms
+use Rattle.tape_blocks.specs.declared.shape.Shape.{Shape}
+use Rattle.tape_blocks.specs.Packing.{HasRecordLength}
+use Rattle.tape_writer.specs.declared.fault.SetFault.{SetFault}
+use Rattle.tape_writer.specs.declared.fault.SetFault.TheVariants.{Write, ReadFailed}
+use Rattle.tape_writer.specs.declared.fault.WriteFault.{WriteFault}
+use Rattle.tape_writer.specs.declared.fault.WriteFault.TheVariants as faults
+use Rattle.tape_writer.specs.declared.inputs.cut.Cut.{Cut}
+use Rattle.tape_writer.specs.declared.inputs.cut.Cut.TheVariants.{Lines, Length, Whole}
+use Rattle.tape_writer.specs.declared.inputs.records.InputFault.TheVariants as inputs
+use Rattle.tape_writer.specs.declared.inputs.set.SetPlan.{SetPlan}
+use Rattle.tape_writer.specs.Records.{records_of, records_from, IsFirstLong, GrowsLong, longest}
+use Rattle.tape_writer.specs.Refusals.{IsNewFault}
+use Rattle.tape_writer.specs.State.{SetState, IsOutOfVolumes}
+use Rattle.tape_writer.specs.Tapes.{Tapes, Ended}
+use Rattle.tape_writer.specs.Told.{Told, opened_by}
+use Rattle.tape_writer.specs.NoVolume.{GaveUp, GaveUpIn, GaveUpSet}
+use Rattle.tape_writer.specs.ToldFiles.{told_files, with_records, with_file, IfAllKnown}
+use Rattle.tape_writer.specs.WriteFaults.{OneIsOther, IsOfWriter, IsPuttingFault}
+use Rattle.tape_writer.specs.WriteFaults.{IsInputFault, IsFileFault, IsFilesFault, IsWholeFault}
+use Rattle.tape_writer.specs.WriteFaults.{IsFaultOfCut, told_as}
+use Rattle.tape_writer.specs.WriteSet.{cut_of, raw_cut}
+
+-- of the records of inputs
+pub record CasesOfInputs : Type 0 where
+  -- 10 is the line feed: a line without one is a record, one that is empty too, and the end is none
+  pub lines : records_of Lines (65 ∷ 10 ∷ 10 ∷ 66 ∷ []) ≡ (65 ∷ []) ∷ [] ∷ (66 ∷ []) ∷ []
+  pub last_line_ends : records_of Lines (65 ∷ 10 ∷ []) ≡ (65 ∷ []) ∷ []
+  pub no_lines : records_of Lines [] ≡ []
+  -- pieces of two bytes, and the rest; a line feed is a byte like others
+  pub pieces : records_of (Length 2) (65 ∷ 10 ∷ 66 ∷ []) ≡ (65 ∷ 10 ∷ []) ∷ (66 ∷ []) ∷ []
+  pub no_pieces : records_of (Length 2) [] ≡ []
+  -- all in one record, which may be empty
+  pub whole : records_of Whole (65 ∷ 10 ∷ []) ≡ (65 ∷ 10 ∷ []) ∷ []
+  pub empty_whole : records_of Whole [] ≡ [] ∷ []
+  -- raw inputs by the format
+  pub raw : (raw_cut Fixed 80 ≡ Some (Length 80)) × (raw_cut Counted 80 ≡ None)
+      × (raw_cut Spanned 0 ≡ Some Whole)
+  pub lines_of_any : (shape : Shape) → cut_of forms.Lines shape ≡ Some Lines
+  pub raw_of_shape : (shape : Shape) → cut_of forms.Raw shape ≡ raw_cut shape.format shape.rec_len
+  -- which record gets too long: the first, whatever comes
+  pub none_is_long : IsFirstLong [] → ⊥
+  pub short_is_not_long : IsFirstLong ((65 ∷ []) ∷ []) → ⊥
+  pub grows_long : (cut : Cut) (r bytes : List ℕ) → GrowsLong cut r bytes → (more : List ℕ)
+      → IsFirstLong (records_from cut r (bytes ++ more))
+  -- the files told are those of the inputs, numbered in their order, each with its own records
+  pub told_in_order : (id : List ℕ) (shape : Shape) (cut : Cut) (h k : Head1) (a b : List ℕ)
+      → told_files id shape cut 1 ((h, a) ∷ (k, b) ∷ [])
+      ≡ record { file = opened_by id 1 h shape; records = records_of cut a }
+      ∷ record { file = opened_by id 2 k shape; records = records_of cut b } ∷ []
+  pub told_more : (t : Told) (r s : List ℕ) → with_records (t ∷ []) (r ∷ s ∷ [])
+      ≡ record { file = t.file; records = (t.records ++ r ∷ []) ++ s ∷ [] } ∷ []
+  -- of inputs whose bytes are all known something is said, of these bytes
+  pub all_known : (h k : Head1) (a b : List ℕ) (given : List (Head1 × List ℕ))
+      → IfAllKnown ((h, Some a) ∷ (k, Some b) ∷ []) (λ fs. fs ≡ given)
+      → (h, a) ∷ (k, b) ∷ [] ≡ given
+  -- a set was given up where a front of the records leaves no volume
+  pub gave_up : (tapes : Tapes) (w : SetState ℕ) (told : List Told)
+      (records : List (List ℕ)) (g : GaveUp (λ t. t ≡ tapes) w told records)
+      → (records ≡ g.front ++ g.back)
+      × IsOutOfVolumes (λ t. t ≡ tapes) w (with_records told g.front)
+  -- of the first of these files a front was told, behind none
+  pub gave_up_in : (tapes : Tapes) (w : SetState ℕ) (id : List ℕ) (shape : Shape) (cut : Cut)
+      (x : Head1 × List ℕ)
+      → GaveUpIn (λ t. t ≡ tapes) w id [] shape cut ((x.0, Some x.1) ∷ [])
+      → GaveUp (λ t. t ≡ tapes) w (with_file id [] x.0 shape) (records_of cut x.1)
+  -- a writer of the plan did, over the tapes that are handed back
+  pub gave_up_set : (plan : SetPlan) (cut : Cut) (given : List (Head1 × Option (List ℕ)))
+      (g : GaveUpSet {T = ℕ} (λ n t. t ≡ Ended []) (λ n. n ≡ 7) plan cut given)
+      → (g.writer.out ≡ 7) × (g.writer.volumes ≡ plan.volumes.items)
+      × (g.writer.capacity ≡ plan.capacity) × (g.writer.set_id ≡ plan.set_id)
+
+-- of why no set is written from inputs
+pub record CasesOfSetFaults : Type 0 where
+  pub as_told : (told_as inputs.ReadFailed ≡ ReadFailed)
+      × (told_as inputs.TooLong ≡ Write faults.RecordLength)
+      × (told_as inputs.OutOfMemory ≡ Write faults.OutOfMemory)
+  -- a record that the shape has, and that can be held, is no other, and none of no records is
+  pub none_is_other : (shape : Shape) → OneIsOther shape [] → ⊥
+  pub one_is_other : (shape : Shape) (r : List ℕ) → OneIsOther shape (r ∷ []) → length r ≤ longest
+      → HasRecordLength shape.format shape.rec_len (length r) → ⊥
+  -- each fault for its cause, and no other fault
+  pub of_writer : (one other : WriteFault) → IsOfWriter (λ f. f ≡ one) (Write other)
+      → other ≡ one
+  pub read_is_not : IsOfWriter (λ f. Unit {0}) ReadFailed → ⊥
+  pub length_only_so : IsPuttingFault ⊥ faults.RecordLength → ⊥
+  pub no_other_putting : (IsPuttingFault (Unit {0}) faults.NoFile → ⊥)
+      × (IsPuttingFault (Unit {0}) faults.BadField → ⊥)
+      × (IsPuttingFault (Unit {0}) faults.TooMany → ⊥)
+      × (IsPuttingFault (Unit {0}) faults.FileBegun → ⊥)
+  pub input_length_so : IsInputFault ⊥ (Write faults.RecordLength) → ⊥
+  pub of_no_file : (capacity : ℕ) (shape : Shape) (cut : Cut) (fault : SetFault)
+      → IsFilesFault capacity shape cut 0 [] fault → ⊥
+  -- the second file has one before it
+  pub of_second : (capacity : ℕ) (shape : Shape) (cut : Cut) (x y : Head1 × Option (List ℕ))
+      (fault : SetFault) → IsFilesFault capacity shape cut 0 (x ∷ y ∷ []) fault
+      → IsFileFault capacity shape cut 0 x fault ⊎ IsFileFault capacity shape cut 1 y fault
+  -- a length that is refused is one of the input's own
+  pub length_of_input : (capacity : ℕ) (shape : Shape) (cut : Cut) (n : ℕ) (head : Head1)
+      (bytes : List ℕ)
+      → IsFileFault capacity shape cut n (head, Some bytes) (Write faults.RecordLength)
+      → OneIsOther shape (records_of cut bytes)
+  -- a set without inputs has no file, and that is why
+  pub of_nothing : (capacity : ℕ) (shape : Shape) (cut : Cut)
+      → IsWholeFault capacity shape cut [] (Write faults.RecordLength) → ⊥
+  pub some_file : (capacity : ℕ) (shape : Shape) (cut : Cut) (x : Head1 × Option (List ℕ))
+      → IsWholeFault capacity shape cut (x ∷ []) (Write faults.NoFile) → ⊥
+  -- raw inputs that are no records of the format are refused as such
+  pub not_cut : (plan : SetPlan) (given : List (Head1 × Option (List ℕ))) (fault : SetFault)
+      → IsFaultOfCut plan given None fault → fault ≡ Write faults.BadShape
+  pub cut_so : (plan : SetPlan) (given : List (Head1 × Option (List ℕ))) (cut : Cut)
+      (fault : SetFault) → IsFaultOfCut plan given (Some cut) fault
+      → IsOfWriter (IsNewFault plan.set_id plan.volumes.items) fault
+      ⊎ IsWholeFault plan.capacity plan.shape cut given fault

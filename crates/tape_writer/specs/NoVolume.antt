@@ -1,0 +1,51 @@
+-- Where no volume is left for a set that is written from inputs.
+use Rattle.std.specs.Prelude.{◌≡◌, ◌⊎◌, ℕ, ◌+◌, List, [], ◌∷◌, ◌++◌, length, Option, IfSome}
+use Rattle.tape_label.specs.declared.values.Head1.{Head1}
+use Rattle.tape_blocks.specs.declared.shape.Shape.{Shape}
+use Rattle.tape_writer.specs.Tapes.{Tapes}
+use Rattle.tape_writer.specs.Told.{Told}
+use Rattle.tape_writer.specs.State.{SetState, IsOutOfVolumes}
+use Rattle.tape_writer.specs.declared.inputs.cut.Cut.{Cut}
+use Rattle.tape_writer.specs.declared.inputs.set.SetPlan.{SetPlan}
+use Rattle.tape_writer.specs.Records.{records_of}
+use Rattle.tape_writer.specs.ToldFiles.{with_records, with_file, told_files, IfAllKnown}
+use Rattle.tape_writer.specs.WriteSet.{cut_of}
+
+-- The writer has no volume left, where a front of these records was told behind those: its last one
+-- was offered, or the file was to end behind it.
+pub record GaveUp {T : Type 0} (H : Tapes → Type 0) (w : SetState T) (told : List Told)
+    (records : List (List ℕ)) : Type 0 where
+  pub front : List (List ℕ)
+  pub back : List (List ℕ)
+  pub split : records ≡ front ++ back
+  pub out : IsOutOfVolumes H w (with_records told front)
+
+-- The writer has no volume left for one of the files of these inputs: those before it were told
+-- whole, and of its records a front. Nothing is said where one of these inputs tells no bytes.
+pub record GaveUpIn {T : Type 0} (H : Tapes → Type 0) (w : SetState T) (set_id : List ℕ)
+    (told : List Told) (shape : Shape) (cut : Cut) (inputs : List (Head1 × Option (List ℕ)))
+    : Type 0 where
+  pub before : List (Head1 × Option (List ℕ))
+  pub input : Head1 × Option (List ℕ)
+  pub after : List (Head1 × Option (List ℕ))
+  pub split : inputs ≡ before ++ input ∷ after
+  pub stuck : IfAllKnown before (λ fs. IfSome input.1 (λ bytes.
+      GaveUp H w (with_file set_id (told ++ told_files set_id shape cut (length told + 1) fs)
+      input.0 shape) (records_of cut bytes)))
+
+-- The same of a set: a writer of the plan, who was told nothing before, wrote on these tapes, of
+-- which P is true.
+pub record GaveUpSet {T : Type 0} (H : T → Tapes → Type 0) (P : T → Type 0) (plan : SetPlan)
+    (cut : Cut) (inputs : List (Head1 × Option (List ℕ))) : Type 0 where
+  pub writer : SetState T
+  pub on_tapes : P writer.out
+  pub on_volumes : writer.volumes ≡ plan.volumes.items
+  pub capacity : writer.capacity ≡ plan.capacity
+  pub set_id : writer.set_id ≡ plan.set_id
+  pub stuck : GaveUpIn (H writer.out) writer plan.set_id [] plan.shape cut inputs
+
+-- the plan has no volume, or the last of its volumes does not take what comes next of the inputs
+abbrev pub HasNoVolume : {T : Type 0} → (T → Tapes → Type 0) → (T → Type 0) → SetPlan
+    → List (Head1 × Option (List ℕ)) → Type 0
+HasNoVolume H P plan inputs = (length plan.volumes.items ≡ 0)
+    ⊎ IfSome (cut_of plan.form plan.shape) (λ cut. GaveUpSet H P plan cut inputs)

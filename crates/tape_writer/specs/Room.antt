@@ -1,0 +1,28 @@
+-- How much a writer can still take.
+use Rattle.std.specs.Prelude.{◌≡◌, ◌⊎◌, ℕ, ◌+◌, ◌-◌, ◌*◌, length}
+use Rattle.tape_blocks.specs.Packing.{Packing, size_of}
+use Rattle.tape_writer.specs.declared.course.Course.{Course}
+use Rattle.tape_writer.specs.declared.phase.Phase.{Phase}
+use Rattle.tape_writer.specs.declared.phase.Phase.TheVariants.{Filing}
+use Rattle.tape_writer.specs.State.{SetState}
+
+-- behind so many bytes more: further on in the volume, or on the next one
+abbrev pub Passed : Course → ℕ → Course → Type 0
+Passed old size new =
+    ((new.volume ≡ old.volume) × (new.used ≡ old.used + size)) ⊎ (new.volume ≡ old.volume + 1)
+
+-- so many bytes at most are taken before no volume is left: what is free of the block under way and
+-- of the volume under way, and for each volume to come its capacity and a block
+abbrev pub room_of : ℕ → ℕ → Course → Packing → ℕ
+room_of volumes capacity course p =
+    (volumes - course.volume) * (capacity + p.shape.block_len)
+    + ((capacity - course.used) + (p.shape.block_len - size_of p.shape p.parts))
+
+-- the same in each phase; outside a file no record is taken
+abbrev pub room_in : ℕ → ℕ → Course → Phase → ℕ
+room_in volumes capacity course (Filing o) = room_of volumes capacity course o.packer
+room_in volumes capacity course _ = 0
+
+-- the same of a writer
+abbrev pub room_left : {T : Type 0} → SetState T → ℕ
+room_left w = room_in (length w.volumes) w.capacity w.course w.phase

@@ -1,0 +1,92 @@
+//! Volumes without files: their labels, by a prefix and a number, and their images.
+ghost use Rattle.std.specs.Prelude.{◌≡◌, ◌<◌, ◌≤◌, ◌+◌, ◌++◌, ◌↔◌, length, IsSome, IfSome, IsTrue};
+ghost use Rattle.arrayvec.specs.ArrayVec.{array_vec_len};
+ghost use Rattle.tape_writer.specs.Blank.{IsPrefixByte, IsPrefix, volume_id, blank_volume};
+ghost use Rattle.tape_writer.specs.Blank.{blank_image};
+
+use arrayvec::ArrayVec;
+use tape_label::{Field, Vol1, digits_of, write_vol1};
+
+/// How many bytes the image of a volume without files takes.
+pub const BLANK: usize = 100;
+
+/// The image of a volume without files.
+pub type BlankImage = ArrayVec<u8, BLANK>;
+
+/// The three characters that the identifiers of a set's volumes begin with: `A` to `Z`, `0` to `9`.
+#[derive(Clone, Copy, Debug, PartialEq, Eq)]
+pub struct Prefix {
+    pub characters: [u8; 3],
+}
+
+impl Prefix {
+    /// The prefix, if these are three such characters.
+    pub fn new(text: &str) -> Option<Prefix>
+        ensures some { IsSome result ↔ IsPrefix text.now }
+        ensures same { IfSome result (λ prefix. prefix.characters ≡ text.now) }
+    {
+        match text.as_bytes() {
+            [a, b, c] if is_prefix_byte(*a) && is_prefix_byte(*b) && is_prefix_byte(*c) => {
+                let characters = [*a, *b, *c];
+                Some(Prefix { characters })
+            }
+            _ => None,
+        }
+    }
+}
+
+/// Whether the byte is a capital letter or a digit.
+fn is_prefix_byte(byte: u8) -> bool
+    ensures { IsTrue result ↔ IsPrefixByte byte }
+{
+    byte.is_ascii_uppercase() || byte.is_ascii_digit()
+}
+
+/// The volume with this number: its identifier, version 4, and spaces in all other fields.
+pub fn blank_volume(prefix: Prefix, number: u16) -> Vol1
+    requires { number < 1000 }
+    ensures { result ≡ blank_volume prefix.characters number }
+{
+    Vol1 {
+        volume: volume_id(prefix, number),
+        access: b' ',
+        implementation: Field::of_bytes([b' '; 13]),
+        owner: Field::of_bytes([b' '; 14]),
+        version: b'4',
+    }
+}
+
+/// The prefix, and the number in three digits.
+fn volume_id(prefix: Prefix, number: u16) -> Field<6>
+    requires { number < 1000 }
+    ensures { result ≡ volume_id prefix.characters number }
+{
+    let [a, b, c] = prefix.characters;
+    let [d, e, f] = digits_of::<3>(u64::from(number));
+    Field::of_bytes([a, b, c, d, e, f])
+}
+
+/// The image of a volume without files: its label, two tape marks and the end word.
+pub fn blank_image(volume: &Vol1) -> BlankImage
+    ensures { result.items ≡ blank_image volume.now }
+{
+    let mut image = BlankImage::new();
+    put(&mut image, &[80, 0, 0, 0]);
+    put(&mut image, &write_vol1(volume));
+    put(&mut image, &[80, 0, 0, 0]);
+    put(&mut image, &[0; 8]);
+    put(&mut image, &[0xFF; 4]);
+    image
+}
+
+/// More bytes of an image.
+fn put(image: &mut BlankImage, bytes: &[u8])
+    requires { array_vec_len image.old + length bytes.now ≤ 100 }
+    ensures items { image.new.items ≡ image.old.items ++ bytes.now }
+    ensures len { array_vec_len image.new ≡ array_vec_len image.old + length bytes.now }
+{
+    match image.try_extend_from_slice(bytes) {
+        Ok(()) => {}
+        Err(_) => unreachable!(),
+    }
+}

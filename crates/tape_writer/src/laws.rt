@@ -1,0 +1,17 @@
+//! Laws of the definitions that the contracts cite, each as the contract of a call that does
+//! nothing.
+
+ghost use Rattle.tape_writer.specs.Cases.{CasesOfTapes, CasesOfImages, CasesOfSets};
+ghost use Rattle.tape_writer.specs.Cases.{CasesOfRefusals};
+ghost use Rattle.tape_writer.specs.CasesOfInputs.{CasesOfInputs, CasesOfSetFaults};
+
+/// What the definitions of tapes and images, of what was told and written, of refusals and of
+/// inputs say of cases: each says all that it should.
+pub fn cases()
+    ensures tapes { CasesOfTapes }
+    ensures images { CasesOfImages }
+    ensures sets { CasesOfSets }
+    ensures refusals { CasesOfRefusals }
+    ensures inputs { CasesOfInputs }
+    ensures set_faults { CasesOfSetFaults }
+{}

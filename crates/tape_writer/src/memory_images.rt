@@ -1,0 +1,92 @@
+//! Images in memory.
+
+ghost use Rattle.std.specs.Prelude.{◌≡◌, [], Some, false, IfOk, map, vec_capacity};
+ghost use Rattle.tape_writer.specs.Kept.{HoldsImages};
+
+use crate::store::ImageStore;
+use std::alloc::{AllocError, Global};
+use std::io::{Result as IoResult, Write};
+use tape_label::Vol1;
+
+/// An image in memory, as far as it is written.
+#[derive(Drop)]
+pub struct MemoryImage {
+    pub bytes: Vec<u8>,
+}
+
+impl Write for MemoryImage {
+    ghost contents = { λ image. Some image.bytes.items };
+
+    fn write(&mut self, buf: &[u8]) -> IoResult<usize> {
+        self.bytes.extend_from_slice(buf)?;
+        Ok(buf.len())
+    }
+
+    fn flush(&mut self) -> IoResult<()> {
+        Ok(())
+    }
+}
+
+/// Keeps images in memory.
+#[derive(Drop)]
+pub struct MemoryImages {
+    alloc: Global,
+    left: usize,
+    images: Vec<Vec<u8>>,
+}
+
+impl MemoryImages {
+    /// No image yet, and devices for so many.
+    ///
+    /// # Errors
+    ///
+    /// `AllocError` where there is no memory for a list of so many.
+    pub fn new(alloc: Global, count: usize) -> Result<Self, AllocError>
+        ensures left { IfOk result (λ images. images.left ≡ count) }
+        ensures held { IfOk result (λ images. HoldsImages (map (λ v. v.items) images.images.items)
+            (vec_capacity images.images) images.left false []) }
+    {
+        let images = Vec::with_capacity(alloc, count)?;
+        Ok(MemoryImages {
+            alloc,
+            left: count,
+            images,
+        })
+    }
+
+    /// The images that ended, in their order.
+    pub fn into_images(self) -> Vec<Vec<u8>>
+        ensures { result.items ≡ self.images.items }
+    {
+        let MemoryImages { images, .. } = self;
+        images
+    }
+}
+
+impl ImageStore for MemoryImages {
+    type Device = MemoryImage;
+
+    ghost holds = { λ store lent images. HoldsImages (map (λ v. v.items) store.images.items)
+        (vec_capacity store.images) store.left lent images };
+
+    ghost left = { λ store. store.left };
+
+    fn left(&self) -> usize {
+        self.left
+    }
+
+    fn next(&mut self, _volume: &Vol1) -> Option<MemoryImage> {
+        if self.left == 0 {
+            return None;
+        }
+        self.left -= 1;
+        Some(MemoryImage {
+            bytes: Vec::new(self.alloc),
+        })
+    }
+
+    fn keep(&mut self, device: MemoryImage) {
+        // There is room for the image of each device that was lent.
+        let _ = self.images.push(device.bytes);
+    }
+}
