@@ -23,6 +23,7 @@ pub mod Standing
 pub mod Weights
 pub mod Laid
 mod Cases
+mod Examples
 mod Mistakes
 mod MistakesOfPlaces
 mod MistakesOfSinks

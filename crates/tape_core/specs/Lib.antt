@@ -21,3 +21,5 @@ pub mod Labels
 pub mod Parts
 pub mod Table
 pub mod Faults
+-- Cases, which hold the definitions from below.
+pub mod Cases

@@ -10,6 +10,7 @@ mod event;
 mod fault;
 mod known;
 mod labels;
+pub mod laws;
 mod memory;
 mod parts;
 mod phase;

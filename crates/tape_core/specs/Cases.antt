@@ -1,0 +1,278 @@
+-- What the definitions of a reader and of sinks say of cases, so that none of them says less, or
+-- asks more, than it should. The call `laws::cases` has them as its contract.
+use Rattle.std.specs.Prelude.{◌≡◌, ◌≢◌, ◌<◌, ◌≤◌, ◌+◌, ◌⊎◌, ℕ, Bool, true, false, List, []}
+use Rattle.std.specs.Prelude.{◌∷◌, ◌++◌, length, drop, replicate, codes, slice_get, Option, Some}
+use Rattle.std.specs.Prelude.{None, Result, Ok, Err}
+use Rattle.tape_image.specs.Tape.{TapeItem, block, bad, mark}
+use Rattle.tape_blocks.specs.declared.shape.Shape.{Shape}
+use Rattle.tape_blocks.specs.declared.part.Part.{Part}
+use Rattle.tape_blocks.specs.declared.part.Span.TheVariants.{Whole, First}
+use Rattle.tape_blocks.specs.Block.{Portion, Holds}
+use Rattle.tape_blocks.specs.Parts.{view}
+use Rattle.tape_blocks.specs.Spans.{InOrder}
+use Rattle.tape_set.specs.declared.position.Position.{Position}
+use Rattle.tape_set.specs.declared.position.Position.TheVariants.{Awaits, Finished}
+use Rattle.tape_set.specs.Position.{start, awaiting, next_block, part_of}
+use Rattle.tape_set.specs.Layout.{FileSet, section_of}
+use Rattle.tape_set.specs.Lawful.{FileForm}
+use Rattle.tape_set.specs.Before.{before, IsIn}
+use Rattle.tape_set.specs.Reach.{far}
+use Rattle.tape_blocks.specs.Judged.{begun_behind}
+use Rattle.tape_core.specs.declared.answer.Answer.TheVariants.{Passed, Deliver, Complete}
+use Rattle.tape_core.specs.declared.phase.Phase.TheVariants.{Over, Broken, Volume, VolumeLabels}
+use Rattle.tape_core.specs.declared.phase.Phase.TheVariants.{NextFile}
+use Rattle.tape_core.specs.declared.sink.SinkFault.{SinkFault}
+use Rattle.tape_core.specs.declared.fault.CoreFault.{CoreFault}
+use Rattle.tape_core.specs.Crash.{Returns, NoMore, OrThis, OnlyThis, AddsNothing, AddsOnly}
+use Rattle.tape_core.specs.Foreign.{starts_set, labels_of_set, IsForeignAt, Unmoved}
+use Rattle.tape_core.specs.Follows.{IsAt, StandsAt, KnownAt, FileTells, IsFinal, Ended, Delivers}
+use Rattle.tape_core.specs.Follows.{Gives, Checked, Idle, Kept, IsReading, reading}
+use Rattle.tape_core.specs.Known.{is_finished}
+use Rattle.tape_core.specs.Place.{rest_of, place_of, IsPlaced}
+use Rattle.tape_core.specs.Point.{Point}
+use Rattle.tape_core.specs.Stands.{Stands, Went, weight_of, inside_block}
+use Rattle.tape_core.specs.State.{State, is_broken}
+use Rattle.tape_core.specs.Table.{Outcome, Shows}
+use Rattle.tape_core.specs.Walks.{GivesPart, Counts, Lends, HasGiven}
+use Rattle.tape_core.specs.Weight.{IsFront, Rose}
+
+-- ---- foreign reels
+
+abbrev pub vol1 : List ℕ
+vol1 = codes "VOL1ABC001                                                                     4"
+
+abbrev pub user_label : List ℕ
+user_label = codes "UVL1" ++ replicate 76 32
+
+abbrev pub hdr1 : List ℕ
+hdr1 = codes "HDR1PAYROLL          ABC00100010001000100 00000 00000 000000                    "
+
+-- of section 3 of file 2
+abbrev pub later_hdr1 : List ℕ
+later_hdr1 =
+    codes "HDR1PAYROLL          ABC00100030002000100 00000 00000 000000                    "
+
+abbrev pub other_hdr1 : List ℕ
+other_hdr1 =
+    codes "HDR1PAYROLL          XYZ00100010001000100 00000 00000 000000                    "
+
+abbrev pub hdr2 : List ℕ
+hdr2 = codes "HDR2S0001800000                                   00                            "
+
+-- whether these items begin as a volume of the set ABC001
+abbrev pub begins_set : List TapeItem → Bool
+begins_set items = starts_set (codes "ABC001") items
+
+-- which reels begin as a volume of a set, and which are foreign
+pub record CasesOfForeign : Type 0 where
+  pub own_volume : (more : List TapeItem) → begins_set (block vol1 ∷ block hdr1 ∷ more) ≡ true
+  -- with further volume labels, and from a later section of a later file on
+  pub own_labelled : begins_set (block vol1 ∷ block user_label ∷ block user_label
+      ∷ block later_hdr1 ∷ []) ≡ true
+  pub other_set : begins_set (block vol1 ∷ block user_label ∷ block other_hdr1 ∷ []) ≡ false
+  -- with nothing on it, or with a mark, a bad item or no volume label first
+  pub nothing : (id : List ℕ) → starts_set id [] ≡ false
+  pub mark_first : (id : List ℕ) (rest : List TapeItem) → starts_set id (mark ∷ rest) ≡ false
+  pub bad_first : (id : List ℕ) (rest : List TapeItem) → starts_set id (bad ∷ rest) ≡ false
+  pub plain_first : begins_set (block (65 ∷ []) ∷ block hdr1 ∷ []) ≡ false
+  pub header_first : begins_set (block hdr1 ∷ block hdr1 ∷ []) ≡ false
+  -- broken off behind its volume label, or with anything but an HDR1 there
+  pub label_alone : begins_set (block vol1 ∷ []) ≡ false
+  pub mark_behind : (rest : List TapeItem) → begins_set (block vol1 ∷ mark ∷ rest) ≡ false
+  pub bad_behind : (rest : List TapeItem) → begins_set (block vol1 ∷ bad ∷ rest) ≡ false
+  pub second_behind : begins_set (block vol1 ∷ block hdr2 ∷ block hdr1 ∷ []) ≡ false
+  -- what is left of one behind its volume label, and what is left of one that is not read
+  pub left_behind_label : (id : List ℕ) (rest : List TapeItem)
+      → IsForeignAt id rest (awaiting 2 1) VolumeLabels → labels_of_set id rest ≡ false
+  pub left_unread : (id : List ℕ) (rest : List TapeItem) → IsForeignAt id rest start Over
+  pub never_on_it : (id : List ℕ) (rest : List TapeItem) → IsForeignAt id rest start NextFile → ⊥
+
+-- ---- where a reader stands
+
+abbrev pub five_bytes : Portion
+five_bytes = record { span = First; bytes = codes "ABCDE" }
+
+abbrev pub no_bytes : Portion
+no_bytes = record { span = Whole; bytes = [] }
+
+-- of states, checkpoints and the parts beside them
+pub record CasesOfPlaces : Type 0 where
+  pub weight : weight_of (five_bytes ∷ no_bytes ∷ []) ≡ 15
+  -- nothing is known at the start of a file, and elsewhere something that all its sections tell
+  pub start_unknown : (set : FileSet) (file : ℕ) → KnownAt set file start None
+  pub start_known : (set : FileSet) (file : ℕ) (form : FileForm)
+      → KnownAt set file start (Some form) → ⊥
+  pub behind_unknown : (set : FileSet) (file : ℕ) → KnownAt set file (Awaits 1 0 1) None → ⊥
+  pub end_unknown : (set : FileSet) (file : ℕ) → KnownAt set file Finished None → ⊥
+  pub behind_known : (set : FileSet) (file : ℕ) (form : FileForm)
+      → KnownAt set file (awaiting 1 1) (Some form) → FileTells set file form
+  -- what is said of a reader that stands in a file, and that this is all
+  pub at : (set : FileSet) (core : State) → IsAt set core
+      → (core.set_id ≡ set.set_id) × (is_broken core.phase ≡ false)
+      × IsIn set core.file core.position
+      × (core.begun ≡ begun_behind false (before set core.file core.position))
+      × KnownAt set core.file core.position core.known
+  pub at_by : (set : FileSet) (core : State) → core.set_id ≡ set.set_id
+      → is_broken core.phase ≡ false → IsIn set core.file core.position
+      → core.begun ≡ begun_behind false (before set core.file core.position)
+      → KnownAt set core.file core.position core.known → IsAt set core
+  pub broken_is_nowhere : (set : FileSet) (core : State) → core.phase ≡ Broken → IsAt set core → ⊥
+  -- the same of a checkpoint with parts
+  pub stands : (set : FileSet) (file : ℕ) (point : Point) (parts : List Portion)
+      → Stands set file point parts
+      → (point.set_id ≡ set.set_id) × (point.file ≡ file)
+      × StandsAt set file point.position point.begun point.known
+      × (parts ≡ before set file point.position) × (point.staged ≡ weight_of parts)
+  pub stands_by : (set : FileSet) (file : ℕ) (point : Point) (parts : List Portion)
+      → point.set_id ≡ set.set_id → point.file ≡ file
+      → StandsAt set file point.position point.begun point.known
+      → parts ≡ before set file point.position → point.staged ≡ weight_of parts
+      → Stands set file point parts
+  -- and of a reader with parts
+  pub placed : (set : FileSet) (core : State) (parts : List Portion) → IsPlaced set core parts
+      → IsAt set core × (parts ≡ before set core.file core.position)
+  -- a checkpoint tells a reader with no reading under way, and of one that broke this is kept
+  pub read_is : (reading 2 (true ∷ false ∷ [])).volume ≡ 2
+  pub read_of : (reading 2 (true ∷ false ∷ [])).good ≡ true ∷ false ∷ []
+  -- the checkpoint inside a block awaits its part, with the weight that it is given
+  pub in_block : (point : Point) → point.known ≡ None
+      → ((inside_block point (awaiting 2 1) 3 true 20).position ≡ Awaits 2 1 3)
+      × ((inside_block point (awaiting 2 1) 3 true 20).begun ≡ false)
+      × ((inside_block point (awaiting 2 1) 3 true 20).staged ≡ 20)
+  pub told_rests : (point : Point) → rest_of (place_of point) ≡ place_of point
+  pub told_stands : (set : FileSet) (point : Point) → point.set_id ≡ set.set_id
+      → StandsAt set point.file point.position point.begun point.known
+      → IsAt set (place_of point)
+  pub broken_stays : (core : State) → core.phase ≡ Broken → (rest_of core).phase ≡ Broken
+  pub read_is_over : (core : State) → core.phase ≡ Volume → (rest_of core).phase ≡ Over
+  pub all_stays : (core : State) → ((rest_of core).set_id ≡ core.set_id)
+      × ((rest_of core).file ≡ core.file) × ((rest_of core).position ≡ core.position)
+      × ((rest_of core).begun ≡ core.begun) × ((rest_of core).known ≡ core.known)
+
+-- ---- what a step leaves
+
+-- of steps, restarts and shapes
+pub record CasesOfSteps : Type 0 where
+  -- the end of a reel leaves the position, and nothing is delivered
+  pub ended_stays : (set : FileSet) (core : State) (out : Outcome) → Ended set core out
+      → IsAt set out.1 × (out.1.file ≡ core.file) × (out.1.position ≡ core.position)
+      × (out.0 ≢ Deliver)
+  pub idle_stays : (set : FileSet) (p : Position) (k : ℕ) (good : List Bool) (core : State)
+      (out : Outcome) → Idle set p k good core out → IsReading set p k good out.1
+      × (out.1.file ≡ core.file) × (out.1.position ≡ core.position) × (out.0 ≢ Deliver)
+  pub foreign_stays : (set : FileSet) (rest : List TapeItem) (core : State) (out : Outcome)
+      → Unmoved set rest core out → IsAt set out.1 × (out.1.file ≡ core.file)
+      × (out.1.position ≡ core.position) × (out.0 ≢ Deliver)
+  pub kept_reading : (set : FileSet) (p : Position) (k : ℕ) (good : List Bool) (item : TapeItem)
+      (core : State) (out : Outcome) → Kept set p k good item core out
+      → IsReading set p k good out.1 × (out.1.file ≡ core.file) × Gives set item out.0 core out.1
+      × (IsFinal out.0 → (more : List Bool)
+      → far set out.1.file p (reading k (good ++ more)) ≡ out.1.position)
+  pub goes_on : (IsFinal Passed → ⊥) × (IsFinal Deliver → ⊥) × IsFinal Complete
+  -- a delivered block is the one of the section at the position awaited, and its parts from the
+  -- awaited one on are the next ones of the file
+  pub delivered_block : (set : FileSet) (item : TapeItem) (old new : State)
+      (d : Delivers set item old new)
+      → (old.position ≡ Awaits d.sect d.place d.part)
+      × (section_of set old.file d.sect ≡ Some d.section)
+      × (slice_get d.section.blocks d.place ≡ Some d.filled) × (item ≡ block d.filled.bytes)
+  pub delivered_parts : (set : FileSet) (item : TapeItem) (old new : State)
+      (d : Delivers set item old new)
+      → (new.position ≡ awaiting d.sect (d.place + 1))
+      × (before set new.file new.position
+      ≡ before set old.file old.position ++ drop d.part d.filled.parts)
+  pub delivered_form : (set : FileSet) (item : TapeItem) (old new : State)
+      (d : Delivers set item old new)
+      → (new.known ≡ Some d.form) × FileTells set old.file d.form
+      × Holds d.form.format d.form.rec_len d.form.offset d.filled.bytes d.filled.parts
+      × InOrder old.begun (drop d.part d.filled.parts) new.begun
+  pub passed_gives_none : (set : FileSet) (item : TapeItem) (old new : State)
+      → Gives set item Passed old new
+      → before set new.file new.position ≡ before set old.file old.position
+  -- lawful or not, a delivered block holds the awaited part
+  pub checked_block : (arrived : Option TapeItem) (old new : State) (c : Checked arrived old new)
+      → (arrived ≡ Some (block c.bytes)) × (new.known ≡ Some c.form)
+      × Holds c.form.format c.form.rec_len c.form.offset c.bytes c.parts
+      × InOrder c.begun c.parts c.end
+  pub checked_part : (arrived : Option TapeItem) (old new : State) (c : Checked arrived old new)
+      → ((part_of old.position ≡ 0) ⊎ (part_of old.position < length c.parts))
+      × (length c.parts ≤ length c.bytes) × (new.position ≡ next_block old.position)
+      × (is_finished old.position ≡ false)
+  -- the reader that went to a checkpoint is at its position, in the same file
+  pub went_there : (set : FileSet) (old : State) (point : Point)
+      (out : Result (Unit {0}) CoreFault × State) → Went set old point out
+      → (out.0 ≡ Ok tt) × IsAt set out.1 × (out.1.file ≡ old.file)
+      × (out.1.position ≡ point.position)
+  pub shown_where_known : (form : FileForm) → Shows (Some form) None → ⊥
+  pub none_shown_at_start : (shape : Shape) → Shows None (Some shape) → ⊥
+  pub shape_of_form : (form : FileForm) (shape : Shape) → Shows (Some form) (Some shape)
+      → (shape.format ≡ form.format) × (shape.rec_len ≡ form.rec_len)
+      × (shape.offset ≡ form.offset) × (shape.block_len ≡ 0) × (shape.pad_full ≡ false)
+
+-- ---- sinks
+
+-- a walk over a sink, told by what it has: the parts kept and those to come, a weight, a count of
+-- refused calls, what comes back after a crash and whether something does, and what is left
+pub record Walk : Type 0 where
+  pub kept : List Portion
+  pub ahead : List Portion
+  pub weight : ℕ
+  pub refused : ℕ
+  pub back : List Portion
+  pub survives : Bool
+  pub left : ℕ
+
+-- one call of such a walk
+abbrev pub Walks : Walk → Result (Option Part) SinkFault → Walk → Type 0
+Walks old result new = HasGiven (λ s ps. s.kept ≡ ps) (λ s. s.weight) (λ s. s.refused)
+    (λ s c ps. ps ≡ s.back) (λ s. s.survives ≡ true) (λ s ps. s.ahead ≡ ps) (λ s. s.left)
+    old result new
+
+-- what comes back is this alone
+abbrev pub OneComesBack : List Portion → Returns
+OneComesBack parts back there = there ≡ parts
+
+-- of parts, counts, walks and crashes
+pub record CasesOfSinks : Type 0 where
+  pub front : IsFront (five_bytes ∷ []) (five_bytes ∷ no_bytes ∷ [])
+  pub no_front : IsFront (no_bytes ∷ []) (five_bytes ∷ no_bytes ∷ []) → ⊥
+  pub longer : IsFront (five_bytes ∷ []) [] → ⊥
+  -- a count that stands did not rise, but at its greatest value; and none falls
+  pub stands_still : Rose 3 3 → ⊥
+  pub falls : Rose 3 2 → ⊥
+  pub rises : Rose 3 4
+  pub stays_greatest : Rose 18446744073709551615 18446744073709551615
+  -- what was given is the next part, what is refused is still to come, and none is given where
+  -- some are to come
+  pub given_is_next : (part : Part) (p : Portion) (parts : List Portion)
+      → GivesPart (Ok (Some part)) (p ∷ []) (λ ps. ps ≡ parts) → (p ≡ view part) × (parts ≡ [])
+  pub refused_is_ahead : (fault : SinkFault) (parts ahead : List Portion)
+      → GivesPart (Err fault) parts (λ ps. ps ≡ ahead) → parts ≡ ahead
+  pub none_at_the_end : (p : Portion) → GivesPart (Ok None) (p ∷ []) (λ ps. ps ≡ []) → ⊥
+  pub calm : (given : Option Part) (old new : ℕ) → Counts (Ok given) old new → new ≡ old
+  pub counted : (fault : SinkFault) → Counts (Err fault) 3 3 → ⊥
+  pub lent : (part : Part) (old new : ℕ) → Lends (Ok (Some part)) old new
+      → (length part.bytes.now ≤ 99999) × (new < old)
+  -- a walk keeps the parts and their weight, and brings nothing new back after a crash
+  pub walk_keeps : (old new : Walk) (result : Result (Option Part) SinkFault)
+      → Walks old result new → (new.kept ≡ old.kept) × (new.weight ≡ old.weight)
+      × (new.back ≡ old.back) × (old.survives ≡ true → new.survives ≡ true)
+  pub walk_gives : (old new : Walk) (result : Result (Option Part) SinkFault)
+      → Walks old result new → GivesPart result old.ahead (λ ps. new.ahead ≡ ps)
+      × Lends result old.left new.left × Counts result old.refused new.refused
+  -- what may come back after a crash: what could before, or this, or this alone
+  pub no_more : (point : Point) (parts more : List Portion)
+      → NoMore (OneComesBack parts) (OneComesBack more) → more ≡ parts
+  pub or_this : (point : Point) (parts more : List Portion)
+      → OrThis point [] (OneComesBack parts) (OneComesBack more) → (more ≡ parts) ⊎ (more ≡ [])
+  pub or_this_point : (point other : Point) (parts : List Portion)
+      → OrThis point parts (λ c ps. ⊥) (λ c ps. c ≡ other) → other ≡ point
+  pub only_this : (point other : Point) (parts more : List Portion)
+      → OnlyThis point parts (λ c ps. (c ≡ other) × (ps ≡ more))
+      → (other ≡ point) × (more ≡ parts)
+  pub adds_nothing : (point : Point) (parts more : List Portion) (m n : ℕ)
+      → AddsNothing (OneComesBack parts) (OneComesBack more) (m ≡ 0) (n ≡ 0)
+      → (more ≡ parts) × (m ≡ 0 → n ≡ 0)
+  pub adds_only : (point : Point) (parts these more : List Portion) (m n : ℕ)
+      → AddsOnly (OneComesBack these) (OneComesBack parts) (OneComesBack more) (m ≡ 0) (n ≡ 0)
+      → ((more ≡ parts) ⊎ (more ≡ these)) × (m ≡ 0 → n ≡ 0)
