@@ -4,6 +4,7 @@ pub mod Backs
 pub mod Bodies
 pub mod CallLaws
 pub mod Did
+pub mod Examples
 pub mod FieldLaws
 pub mod Finds
 pub mod FrameLaws

@@ -1,5 +1,6 @@
 pub mod Body
 pub mod Calls
+pub mod Cases
 pub mod Disk
 pub mod Faults
 pub mod Fields

@@ -1,9 +1,12 @@
 //! Laws about the texts of checkpoints and the bytes of stages, each as the contract of a call.
 
 ghost use Rattle.std.specs.Prelude.{◌≡◌, Ok, ℕ, List};
+ghost use Rattle.tape_stage.specs.Cases.{CasesOfCrashes, CasesOfMoments, CasesOfFiles};
+ghost use Rattle.tape_stage.specs.Cases.{CasesOfStages, CasesOfFaults};
 ghost use Rattle.tape_stage.specs.Laws.{HasBothTexts, IsTextOfOne, IsTextOnce};
 ghost use Rattle.tape_stage.specs.StageLaws.{EitherStands, NamedStands, ReadsOneOf, StandsOnce};
 
+use crate::disk::Disk;
 use crate::point::{read_point, write_point};
 use crate::point_fault::PointFault;
 use tape_core::Checkpoint;
@@ -49,4 +52,14 @@ pub fn either_stands()
 /// Bytes that stand for one of two checkpoints are read as one of them, with its parts.
 pub fn reads_one_of()
     ensures { (bytes : List ℕ) → ReadsOneOf bytes }
+{}
+
+/// What the definitions of disks and stages say of cases: what a crash may leave, at which moments,
+/// what bytes stand for, what comes back of a stage, and what faults say.
+pub fn cases<D: Disk>()
+    ensures crashes { CasesOfCrashes }
+    ensures moments { CasesOfMoments }
+    ensures files { CasesOfFiles }
+    ensures stages { CasesOfStages D.Disk }
+    ensures faults { CasesOfFaults }
 {}

@@ -1,0 +1,151 @@
+-- The cases of disks and stages.
+use Rattle.std.proofs.Common.{◌≡◌, ◌⊎◌, [], ◌∷◌, refl, inl}
+use Rattle.std.proofs.Common.{inr, arith, get_or, ap}
+use Rattle.tape_blocks.specs.declared.part.Span.TheVariants as spans
+use Rattle.tape_stage.specs.declared.disk.Disk.{Ghosts}
+use Rattle.tape_stage.specs.Body.{body_text}
+use Rattle.tape_stage.specs.Frames.{NoFrameAt}
+use Rattle.tape_stage.specs.Staged.{HoldsNone}
+use Rattle.tape_stage.specs.Cases.{CasesOfCrashes, CasesOfMoments, CasesOfFiles, CasesOfStages}
+use Rattle.tape_stage.specs.Cases.{CasesOfFaults}
+
+pub cases_of_crashes : CasesOfCrashes
+cases_of_crashes = record {
+  torn_nothing =
+      record { before = refl; after = refl; no_shorter = omega arith; no_longer = omega arith };
+  torn_all =
+      record { before = refl; after = refl; no_shorter = omega arith; no_longer = omega arith };
+  torn_short =
+      record { before = refl; after = refl; no_shorter = omega arith; no_longer = omega arith };
+  torn_inside =
+      record { before = refl; after = refl; no_shorter = omega arith; no_longer = omega arith };
+  front_stays = λ t. absurd (let e = t.before in cc e);
+  rest_stays = λ t. absurd (let e = t.after in cc e);
+  none_is_lost = λ t. omega (arith, t.no_shorter);
+  cut_nothing = record { no_shorter = omega arith; no_longer = omega arith; front = refl };
+  cut_some = record { no_shorter = omega arith; no_longer = omega arith; front = refl };
+  cut_all = record { no_shorter = omega arith; no_longer = omega arith; front = refl };
+  cut_front_stays = λ c. absurd (let e = c.front in cc e);
+  cut_no_more = λ c. omega (arith, c.no_shorter);
+  cut_no_longer = λ c. omega (arith, c.no_longer);
+  written = λ new h. h;
+  more_is_more = λ h. absurd (let e = h (1 ∷ []) tt in cc e);
+  other_is_other = λ h. absurd (let e = h (1 ∷ []) tt in cc e);
+  stepped = λ c e. ([], refl, (refl, e));
+  not_stepped = λ h. (h [] refl).2;
+  cut_in_memory = (
+    1 ∷ 2 ∷ [],
+    refl,
+    record { no_shorter = omega arith; no_longer = omega arith; front = refl },
+  );
+  synced_in_memory = λ c e. e;
+  before_it_was_synced = inl (
+    1 ∷ 2 ∷ [],
+    refl,
+    record { no_shorter = omega arith; no_longer = omega arith; front = refl },
+  );
+  since_it_was_synced = λ e. absurd (cc e);
+  worst_in_memory = refl;
+}
+
+not_invented : ⊥ ⊎ ⊥ → ⊥
+not_invented (inl h) = h
+not_invented (inr h) = h
+
+pub cases_of_moments : CasesOfMoments
+cases_of_moments = record {
+  not_in_between = λ p. elim (p.before 0 (7 ∷ []) (omega arith) (refl, refl)) [
+    | inl h ↦ let e : 0 ≡ 1 = h.0 in absurd (cc e)
+    | inr h ↦ absurd (cc h)
+  ];
+  not_behind = λ p. let e = p.now (7 ∷ []) (refl, refl) in absurd (cc e);
+  not_backwards = λ p. omega (arith, p.later);
+  left_before = record {
+    later = omega arith;
+    before = λ t c le was. inl was;
+    now = λ c none. none;
+  };
+  not_forgotten = λ e. e.keeps 0 [] (omega arith) tt;
+  not_invented = λ e. not_invented (e.nothing_else 0 [] (omega arith) tt);
+  not_again = λ e. omega (arith, e.later);
+}
+
+nothing_staged : HoldsNone []
+nothing_staged g point parts s = absurd (let e = s.slot in cc e)
+
+no_room : NoFrameAt 0 5 (48 ∷ 0 ∷ 0 ∷ 0 ∷ 1 ∷ 65 ∷ [])
+no_room span [] is = absurd (let e : 1 ≡ 0 = ap (λ l. get_or l 4 0) is.header in cc e)
+no_room span (b ∷ content) is = omega (arith, is.room)
+
+no_digit : NoFrameAt 0 6 (52 ∷ 0 ∷ 0 ∷ 0 ∷ 1 ∷ 65 ∷ [])
+no_digit spans.Whole content is =
+    absurd (let e : 52 ≡ 48 = ap (λ l. get_or l 0 0) is.header in omega (arith, e))
+no_digit spans.First content is =
+    absurd (let e : 52 ≡ 49 = ap (λ l. get_or l 0 0) is.header in omega (arith, e))
+no_digit spans.Middle content is =
+    absurd (let e : 52 ≡ 50 = ap (λ l. get_or l 0 0) is.header in omega (arith, e))
+no_digit spans.Last content is =
+    absurd (let e : 52 ≡ 51 = ap (λ l. get_or l 0 0) is.header in omega (arith, e))
+
+pub cases_of_files : CasesOfFiles
+unfolding body_text
+cases_of_files = record {
+  nothing_staged = nothing_staged;
+  first_gate = refl;
+  second_gate = refl;
+  closed_gate = λ body. refl;
+  greater_counts = λ a b. refl;
+  first_at_a_tie = λ a b. refl;
+  text = refl;
+  body = refl;
+  staged_is_there = λ bytes g point parts s. (s.slot, s.parts_are.long, s.parts_are.frames_are);
+  none_holds = λ bytes g point parts none s. none g point parts s;
+  stands_like = λ read c g point parts l s. l g point parts s;
+  staged_stays = λ old new g point parts k s.
+      let cut = k g point parts s in (cut.front, cut.no_longer);
+  frames_stay = λ old new k. (k.rest, k.long);
+  bad_place = λ bytes place b. (b.walked, b.none, b.slot);
+  walked = λ bytes place w. (w.low, w.frames_are);
+  a_frame = record {
+    room = omega arith;
+    header = refl;
+    content_is = refl;
+    short = omega arith;
+  };
+  no_room = no_room;
+  no_digit = no_digit;
+  no_frame = λ bytes place end span content none is. none span content is;
+  frame_of = refl;
+  front_of_two = λ a b size. record { rest = b ∷ []; whole = refl; weighs = omega (arith, size) };
+}
+
+pub cases_of_stages : {D : Type 0} (g : Ghosts D) → CasesOfStages g
+cases_of_stages g = record {
+  untouched_stays = λ old new u.
+      (u.read, u.crash.now, λ c h. u.crash.before (g.moment old) c (omega arith) h);
+  only_read_stays = λ old new o honest.
+      (o.same honest, o.honest.onward honest, (o.any_moment honest).now);
+  read_is_as_long = λ old new o. (o.same_length, o.honest.back);
+  is_stage = λ stage acked parts s. (s.alive, s.behind, s.holds, s.ready);
+  holds = λ stage parts h. (h.honest, h.framed, h.weighs, h.ready);
+  ahead = λ stage parts h. h;
+  ready = λ second n point parts other_open disk r. (r.staged, r.gate, r.alike);
+  what_is_left_returns = λ stage bytes n back there left is. (bytes, left, (n, is));
+  what_returns_is_left = λ stage back there r. r;
+  something_returns = λ stage bytes s left.
+      let x = s bytes left in (x.1, x.2, (bytes, left, (x.0, x.3)));
+  failed_stays = λ old new h. h;
+  full_stays = λ old new h. h;
+  device_ends = λ old new h. h;
+  no_other = λ old new. (λ h. h, λ h. h, λ h. h);
+}
+
+pub cases_of_faults : CasesOfFaults
+cases_of_faults = record {
+  none_said = (tt, tt);
+  not_said = (λ h. h, λ h. h);
+  is_no_device = (tt, tt, tt);
+  is_device = λ h. h;
+  of_its_place = λ place n h. h;
+  as_of_sinks = (refl, refl, refl, refl);
+}

@@ -1,0 +1,233 @@
+-- What the definitions of disks and stages say of cases, so that none of them says less than it
+-- should, and none that is asked for asks more. The call `laws::cases` has them as its contract.
+use Rattle.std.specs.Prelude.{◌≡◌, ◌⊎◌, ◌≤◌, ◌+◌, ◌-◌, ◌==◌, ℕ, List, [], ◌∷◌, ◌++◌, take, drop}
+use Rattle.std.specs.Prelude.{length, min, replicate, codes, Some, None, Bool, true, false, not}
+use Rattle.tape_blocks.specs.declared.part.Span.{Span}
+use Rattle.tape_blocks.specs.declared.part.Span.TheVariants.{Whole}
+use Rattle.tape_blocks.specs.Block.{Portion}
+use Rattle.tape_label.specs.declared.values.Format.TheVariants.{Spanned}
+use Rattle.tape_set.specs.declared.position.Position.TheVariants.{Awaits}
+use Rattle.tape_core.specs.Point.{Point}
+use Rattle.tape_core.specs.Stands.{weight_of}
+use Rattle.tape_core.specs.declared.sink.SinkFault.TheVariants as sink
+use Rattle.tape_stage.specs.declared.content.Call.TheVariants.{Cut, Sync}
+use Rattle.tape_stage.specs.Body.{body_text, point_text}
+use Rattle.tape_stage.specs.Calls.{IsImage, WasImage, worst_by}
+use Rattle.tape_stage.specs.declared.disk.Disk.{Ghosts}
+use Rattle.tape_stage.specs.declared.stage.Stage.{Stage}
+use Rattle.tape_stage.specs.declared.stage.StageFault.TheVariants.{NoPoint, BadFrame, Device}
+use Rattle.tape_stage.specs.declared.stage.StageFault.TheVariants.{OutOfMemory, Failed, Full}
+use Rattle.tape_stage.specs.Disk.{Torn, CutShort, Elapses, Follows, NoMore, Only}
+use Rattle.tape_stage.specs.Disk as disk
+use Rattle.tape_stage.specs.Faults.{SaysNone, IsNotDevice, OnBadFrame, sink_fault_of}
+use Rattle.tape_stage.specs.Found.{IsBadPlace}
+use Rattle.tape_stage.specs.Frames.{AheadIn, IsFrameAt, NoFrameAt}
+use Rattle.tape_stage.specs.Moments.{Passes, Untouched}
+use Rattle.tape_stage.specs.OnlyReading.{OnlyReads}
+use Rattle.tape_stage.specs.Parts.{IsFront, frames}
+use Rattle.tape_stage.specs.Staged.{Staged, Holding, HoldsNone, StandsLike}
+use Rattle.tape_stage.specs.Staged.{KeepsStaged, KeepsFrames}
+use Rattle.tape_stage.specs.Staged.{WalkedTo, Ready, StagedIn, slot_at, best, gate_at, read_slot}
+use Rattle.tape_stage.specs.Stages.{Holds, IsAhead, IsStage, Returns, Survives, HasRefused}
+
+-- what a crash may leave of a write and of a cut
+pub record CasesOfCrashes : Type 0 where
+  -- of a write of four bytes behind one: nothing of it,
+  pub torn_nothing : Torn 1 4 (7 ∷ []) (7 ∷ [])
+  -- all of it,
+  pub torn_all : Torn 1 4 (7 ∷ []) (7 ∷ 1 ∷ 2 ∷ 3 ∷ 4 ∷ [])
+  -- or two of the bytes, and others than were written
+  pub torn_short : Torn 1 4 (7 ∷ []) (7 ∷ 1 ∷ 255 ∷ [])
+  -- of a write over the first two of three any bytes stand there
+  pub torn_inside : Torn 0 2 (7 ∷ 8 ∷ 9 ∷ []) (0 ∷ 255 ∷ 9 ∷ [])
+  -- but nothing before it or behind it is another, and the file gets no shorter
+  pub front_stays : Torn 1 2 (7 ∷ 8 ∷ 9 ∷ []) (6 ∷ 1 ∷ 2 ∷ []) → ⊥
+  pub rest_stays : Torn 0 1 (7 ∷ 8 ∷ []) (7 ∷ 9 ∷ []) → ⊥
+  pub none_is_lost : Torn 0 1 (7 ∷ []) [] → ⊥
+  -- of a cut of four bytes to one: all of these, some, none, or others in their place
+  pub cut_nothing : CutShort 1 (1 ∷ 2 ∷ 3 ∷ 4 ∷ []) (1 ∷ 2 ∷ 3 ∷ 4 ∷ [])
+  pub cut_some : CutShort 1 (1 ∷ 2 ∷ 3 ∷ 4 ∷ []) (1 ∷ 255 ∷ [])
+  pub cut_all : CutShort 1 (1 ∷ 2 ∷ 3 ∷ 4 ∷ []) (1 ∷ [])
+  -- but not the first, and no more than there were
+  pub cut_front_stays : CutShort 1 (1 ∷ 2 ∷ []) (9 ∷ 2 ∷ []) → ⊥
+  pub cut_no_more : CutShort 1 (1 ∷ 2 ∷ []) [] → ⊥
+  pub cut_no_longer : CutShort 1 (1 ∷ []) (1 ∷ 2 ∷ []) → ⊥
+  -- what is written is there, and nothing else is another
+  pub written : (new : List ℕ) → disk.Holds (1 ∷ 2 ∷ 3 ∷ []) 1 (9 ∷ []) new → new ≡ 1 ∷ 9 ∷ 3 ∷ []
+  -- what a crash may leave besides is no more of the same, and not that file alone
+  pub more_is_more : NoMore (λ c. c ≡ []) (λ c. Unit {0}) → ⊥
+  pub other_is_other : Only [] (λ c. Unit {0}) → ⊥
+  -- what may be left behind a step is what the step makes of what might be left before
+  pub stepped : Follows (λ d c. (d ≡ []) × (c ≡ 7 ∷ [])) (λ c. c ≡ []) (λ c. c ≡ 7 ∷ [])
+  pub not_stepped : Follows (λ d c. ⊥) (λ c. c ≡ []) (λ c. c ≡ []) → ⊥
+  -- of a disk in memory that was cut from two bytes to one: both, until it is synced, and no more
+  -- once it is
+  pub cut_in_memory : IsImage (1 ∷ 2 ∷ []) (Cut 1 ∷ []) (1 ∷ 2 ∷ [])
+  pub synced_in_memory : (c : List ℕ) → IsImage (1 ∷ 2 ∷ []) (Cut 1 ∷ Sync ∷ []) c → c ≡ 1 ∷ []
+  pub before_it_was_synced : WasImage (1 ∷ 2 ∷ []) (Cut 1 ∷ Sync ∷ []) 1 (1 ∷ 2 ∷ [])
+  pub since_it_was_synced : WasImage (1 ∷ 2 ∷ []) (Cut 1 ∷ Sync ∷ []) 2 (1 ∷ 2 ∷ []) → ⊥
+  -- and the worst has 255 where a byte is open
+  pub worst_in_memory : worst_by (1 ∷ 2 ∷ []) (1 ∷ 2 ∷ []) (Cut 1 ∷ []) ≡ 1 ∷ 255 ∷ []
+
+-- what a crash may have left at some moment
+pub record CasesOfMoments : Type 0 where
+  -- a call during which a crash might have left the byte 7 does not pass as one behind which no
+  -- byte is left,
+  pub not_in_between : Passes {D = ℕ} (λ d c. ⊥) (λ d. d) (λ d t c. (d ≡ 1) × (c ≡ 7 ∷ [])) 0 1
+      (λ c. c ≡ []) → ⊥
+  -- nor one behind which a crash may leave it,
+  pub not_behind : Passes {D = ℕ} (λ d c. (d ≡ 1) × (c ≡ 7 ∷ [])) (λ d. d) (λ d t c. ⊥) 0 1
+      (λ c. c ≡ []) → ⊥
+  -- nor one that goes back in time
+  pub not_backwards : Passes {D = ℕ} (λ d c. ⊥) (λ d. d) (λ d t c. ⊥) 1 0 (λ c. ⊥) → ⊥
+  -- but what might have been left before the call, it may have left
+  pub left_before : Passes {D = ℕ} (λ d c. ⊥) (λ d. d) (λ d t c. c ≡ 7 ∷ []) 0 1 (λ c. ⊥)
+  -- as time goes on, nothing that might have been left is forgotten,
+  pub not_forgotten : Elapses 0 1 (λ t c. Unit {0}) (λ t c. ⊥) (λ c. ⊥) → ⊥
+  -- nothing else was there,
+  pub not_invented : Elapses 0 1 (λ t c. ⊥) (λ t c. Unit {0}) (λ c. ⊥) → ⊥
+  -- and no moment comes again
+  pub not_again : Elapses 1 0 (λ t c. ⊥) (λ t c. ⊥) (λ c. ⊥) → ⊥
+
+-- ---- a checkpoint
+
+-- inside a record that runs through block 7 of section 2, where a part of 80 bytes is staged
+abbrev pub worked_point : Point
+worked_point = record {
+  set_id = codes "ABC001";
+  file = 3;
+  position = Awaits 2 7 1;
+  begun = true;
+  known = Some record {
+    file_id = codes "PAYROLL          ";
+    format = Spanned;
+    rec_len = 0;
+    offset = 12;
+  };
+  staged = 85;
+}
+
+-- its text
+abbrev pub worked_text : List ℕ
+worked_text =
+    codes "TPCK2ABC00100030002000000000700001R11S0000012PAYROLL          000000000000085   "
+
+-- what bytes stand for
+pub record CasesOfFiles : Type 0 where
+  -- no bytes stand for nothing
+  pub nothing_staged : HoldsNone []
+  -- a slot counts where its gate, at 0 or at 128, is O
+  pub first_gate : gate_at false (79 ∷ []) ≡ 79
+  pub second_gate : gate_at true (replicate 128 32 ++ 79 ∷ []) ≡ 79
+  pub closed_gate : (body : List ℕ) → read_slot 67 body ≡ None
+  -- the greater generation counts, and the first slot at a tie
+  pub greater_counts : (a b : Point) → best (Some (3, a)) (Some (4, b)) ≡ Some (4, b)
+  pub first_at_a_tie : (a b : Point) → best (Some (3, a)) (Some (3, b)) ≡ Some (3, a)
+  -- a checkpoint's text, and what is written behind a gate
+  pub text : point_text worked_point ≡ worked_text
+  pub body : body_text 9 worked_point ≡ codes "000000000000009" ++ (worked_text ++ replicate 32 32)
+  -- what is staged is told by the slot that counts, and its frames are there, whole,
+  pub staged_is_there : (bytes : List ℕ) (g : ℕ) (point : Point) (parts : List Portion)
+      → Staged bytes g point parts
+      → (best (slot_at false bytes) (slot_at true bytes) ≡ Some (g, point))
+      × (256 + point.staged ≤ length bytes)
+      × (take point.staged (drop 256 bytes) ≡ frames parts)
+  -- and is none that stands nowhere
+  pub none_holds : (bytes : List ℕ) (g : ℕ) (point : Point) (parts : List Portion)
+      → HoldsNone bytes → Staged bytes g point parts → ⊥
+  -- bytes that stand like others stand for what these do
+  pub stands_like : (read c : List ℕ) (g : ℕ) (point : Point) (parts : List Portion)
+      → StandsLike read c → Staged read g point parts → Staged c g point parts
+  -- what is kept staged stands where it stood, and what follows may be cut
+  pub staged_stays : (old new : List ℕ) (g : ℕ) (point : Point) (parts : List Portion)
+      → KeepsStaged old new → Staged old g point parts
+      → (take (256 + point.staged) new ≡ take (256 + point.staged) old)
+      × (length new ≤ length old)
+  -- frames that are kept are all there
+  pub frames_stay : (old new : List ℕ) → KeepsFrames old new
+      → (drop 256 new ≡ drop 256 old) × (length old ≤ length new)
+  -- where a frame is bad, parts are framed before it by the slot that counts, and none there
+  pub bad_place : (bytes : List ℕ) (place : ℕ) (b : IsBadPlace bytes place)
+      → WalkedTo place bytes
+      × NoFrameAt place (min (256 + b.point.staged) (length bytes)) bytes
+      × (best (slot_at false bytes) (slot_at true bytes) ≡ Some (b.generation, b.point))
+  pub walked : (bytes : List ℕ) (place : ℕ) (w : WalkedTo place bytes) → (256 ≤ place)
+      × (take (place - 256) (drop 256 bytes) ≡ frames w.parts)
+  -- a frame of one byte, A, stands in its six; in five none does, and none behind another digit
+  pub a_frame : IsFrameAt 0 6 (48 ∷ 0 ∷ 0 ∷ 0 ∷ 1 ∷ 65 ∷ []) Whole (65 ∷ [])
+  pub no_room : NoFrameAt 0 5 (48 ∷ 0 ∷ 0 ∷ 0 ∷ 1 ∷ 65 ∷ [])
+  pub no_digit : NoFrameAt 0 6 (52 ∷ 0 ∷ 0 ∷ 0 ∷ 1 ∷ 65 ∷ [])
+  pub no_frame : (bytes : List ℕ) (place end : ℕ) (span : Span) (content : List ℕ)
+      → NoFrameAt place end bytes → IsFrameAt place end bytes span content → ⊥
+  -- the same frame is that of one part, of weight 6, at the front of two
+  pub frame_of : frames (record { span = Whole; bytes = 65 ∷ [] } ∷ [])
+      ≡ 48 ∷ 0 ∷ 0 ∷ 0 ∷ 1 ∷ 65 ∷ []
+  pub front_of_two : (a b : Portion) → length a.bytes ≡ 1 → IsFront 6 (a ∷ []) (a ∷ b ∷ [])
+
+-- what calls leave of any disk, and what comes back of a stage on it
+pub record CasesOfStages {D : Type 0} (g : Ghosts D) : Type 0 where
+  -- of what was left untouched reads give what they gave, and a crash leaves what it might have
+  pub untouched_stays : (old new : D) → Untouched g.seen g.may_leave g.moment g.left_since old new
+      → (g.seen new ≡ g.seen old) × ((c : List ℕ) → g.may_leave new c → g.may_leave old c)
+      × ((c : List ℕ) → g.left_since new (g.moment old) c
+      → g.left_since old (g.moment old) c ⊎ g.may_leave old c)
+  -- so it is of what was only read of an honest disk,
+  pub only_read_stays : (old new : D) → OnlyReads g old new → g.is_honest old
+      → (g.seen new ≡ g.seen old) × g.is_honest new
+      × ((c : List ℕ) → g.may_leave new c → g.may_leave old c)
+  -- and any disk stays as long, and becomes no honest one
+  pub read_is_as_long : (old new : D) → OnlyReads g old new
+      → (g.length_of new ≡ g.length_of old) × (g.is_honest new → g.is_honest old)
+  -- of a stage all parts are framed, the first of them are acknowledged, and it has not failed
+  pub is_stage : (stage : Stage D g) (acked parts : List Portion) → IsStage stage acked parts
+      → (stage.failed ≡ false) × (stage.acknowledged.staged ≤ stage.weight)
+      × Holding stage.weight parts (g.seen stage.disk)
+      × Ready stage.in_second stage.generation stage.acknowledged acked stage.other_open
+      (g.seen stage.disk) (g.may_leave stage.disk)
+  -- what it holds is what it would read, on an honest disk
+  pub holds : (stage : Stage D g) (parts : List Portion) → Holds stage parts
+      → g.is_honest stage.disk × Holding stage.weight parts (g.seen stage.disk)
+      × (stage.weight ≡ weight_of parts)
+      × (stage.failed ≡ false → (acked : List Portion) × IsStage stage acked parts)
+  pub ahead : (stage : Stage D g) (parts : List Portion) → IsAhead stage parts
+      → g.is_honest stage.disk
+      × AheadIn (256 + stage.walked) (256 + stage.weight) (g.seen stage.disk) parts
+  -- what is ready is acknowledged, and alike in all that a crash may leave
+  pub ready : (second : Bool) (n : ℕ) (point : Point) (parts : List Portion) (other_open : Bool)
+      (disk : D) → Ready second n point parts other_open (g.seen disk) (g.may_leave disk)
+      → StagedIn second n point parts (g.seen disk)
+      × (other_open ≡ (gate_at (not second) (g.seen disk) == 79)) × ((c : List ℕ)
+      → g.may_leave disk c → take (256 + point.staged) c ≡ take (256 + point.staged) (g.seen disk))
+  -- whatever a crash may leave now that stands for a checkpoint and parts comes back,
+  pub what_is_left_returns : (stage : Stage D g) (bytes : List ℕ) (n : ℕ) (back : Point)
+      (there : List Portion) → g.may_leave stage.disk bytes → Staged bytes n back there
+      → Returns stage back there
+  -- nothing else does,
+  pub what_returns_is_left : (stage : Stage D g) (back : Point) (there : List Portion)
+      → Returns stage back there → (bytes : List ℕ) × g.may_leave stage.disk bytes
+      × ((n : ℕ) × Staged bytes n back there)
+  -- and of a stage that survives something does, whatever a crash leaves
+  pub something_returns : (stage : Stage D g) (bytes : List ℕ) → Survives stage
+      → g.may_leave stage.disk bytes
+      → (back : Point) × (there : List Portion) × Returns stage back there
+  -- a stage that failed stands still, and so does one that is full
+  pub failed_stays : (old new : Stage D g) → HasRefused old new Failed
+      → (new ≡ old) × (old.failed ≡ true)
+  pub full_stays : (old new : Stage D g) → HasRefused old new Full → new ≡ old
+  -- one whose disk fails had not failed, and has as many parts
+  pub device_ends : (old new : Stage D g) → HasRefused old new Device
+      → (old.failed ≡ false) × (new.failed ≡ true) × (new.weight ≡ old.weight)
+  -- and no other fault is answered
+  pub no_other : (old new : Stage D g) → (HasRefused old new NoPoint → ⊥)
+      × (HasRefused old new OutOfMemory → ⊥) × (HasRefused old new (BadFrame 300) → ⊥)
+
+-- what faults say
+pub record CasesOfFaults : Type 0 where
+  pub none_said : SaysNone NoPoint × SaysNone (BadFrame 300)
+  pub not_said : (SaysNone Device → ⊥) × (SaysNone OutOfMemory → ⊥)
+  pub is_no_device : IsNotDevice OutOfMemory × IsNotDevice NoPoint × IsNotDevice (BadFrame 300)
+  pub is_device : IsNotDevice Device → ⊥
+  pub of_its_place : (place n : ℕ) → OnBadFrame (BadFrame place) (λ p. p ≡ n) → place ≡ n
+  -- as faults of a sink
+  pub as_of_sinks : (sink_fault_of Device ≡ sink.Device) × (sink_fault_of Full ≡ sink.Full)
+      × (sink_fault_of OutOfMemory ≡ sink.OutOfMemory) × (sink_fault_of Failed ≡ sink.Failed)
