@@ -1,5 +1,5 @@
 -- What is left where all images were read, or a fault ended that.
-use Rattle.std.proofs.Common.{◌≡◌, ℕ, ◌⊎◌, List, [], map, Option}
+use Rattle.std.proofs.Common.{◌≡◌, Bool, ℕ, ◌⊎◌, List, [], map, Option}
 use Rattle.std.proofs.Common.{None, refl, sym, ap, subst, ◌∙◌, inl}
 use Rattle.std.proofs.Common.{arith, append-nil}
 use Rattle.std.specs.Io.KnownBytes.{Appends}
@@ -9,41 +9,48 @@ use Rattle.tape_set.specs.declared.position.Position.{Position}
 use Rattle.tape_set.specs.declared.position.Position.TheVariants.{Awaits, Finished}
 use Rattle.tape_set.specs.declared.position.Want.{Want}
 use Rattle.tape_set.specs.Position.{want_at}
+use Rattle.tape_core.specs.Point.{Point}
 use Rattle.tape_run.specs.Seen.{seen}
 use Rattle.tape_run.specs.Story.{Story}
 use Rattle.tape_blocks.specs.declared.form.Form.{Form}
 use Rattle.tape_run.specs.Output.{AppendsFront}
 use Rattle.tape_run.specs.RecordText.{output_of}
 use Rattle.tape_run.specs.ReelLine.{reel_lines, last_line}
-use Rattle.tape_run.specs.Reeling.{answer_of, TakesAll, StopsReading}
+use Rattle.tape_run.specs.Reeling.{answer_of, TakesAll, StopsReading, Follows, goes_back}
 use Rattle.tape_run.specs.Extracting.{IsWritten, Extracts, Stops}
 use Rattle.tape_run.proofs.Fitting.{front_more, front_then}
-use Rattle.tape_run.proofs.Turns.{gathers}
+use Rattle.tape_run.proofs.Turns.{gathers, are_steps}
 
 pub extracted : {S R : Type 0} (holds : S → List Portion → Type 0)
     (refusals : S → ℕ) (remaining : R → Option (List ℕ)) (old mid : Story S)
     (images lefts : List (Option R)) (form : Form)
     (out written said between says : Option (List ℕ)) (want : Option Want) (records : ℕ)
-    → TakesAll holds refusals remaining old mid images lefts said between
+    (back : Bool) → back ≡ goes_back old.notes
+    → TakesAll holds refusals remaining back old mid images lefts said between
     → want ≡ want_at mid.core.file mid.core.position → Appends between says (last_line want records)
     → ((held : List Portion) → holds mid.sink held → IsWritten want records form out written held)
     → Extracts holds refusals remaining old images lefts form out written said says want
 extracted holds refusals remaining old mid images lefts form out written said between says want
-    records t is last wrote = record {
+    records back same took is last wrote =
+    let t = subst (λ b. TakesAll holds refusals remaining b old mid images lefts said between)
+    same took in
+    record {
       turns = t.turns;
       are_turns = t.are_turns;
       all = λ less. is ∙ ap (want_at mid.core.file) (t.all less);
       records = records;
       lines = Appends-trans said between says _ _ t.lines last;
-      ends = λ held was.
-          let (now, has, f) = t.follows held was in
+      ends = λ held was kept.
+          let (now, has, still, f) = t.follows held was kept in
           record {
             last = mid.core;
             now = seen refusals mid now;
             follows = f;
-            gathers =
-                gathers old.core (seen refusals old held) t.turns mid.core
-                (seen refusals mid now) f;
+            gathers = λ none. gathers old.core (seen refusals old held) t.turns mid.core
+                (seen refusals mid now) (subst (λ (notes : List Point). Follows (goes_back notes)
+                old.core (seen refusals old held) t.turns mid.core (seen refusals mid now)) none f);
+            are_steps = are_steps (goes_back old.notes) old.core (seen refusals old held) t.turns
+                mid.core (seen refusals mid now) f;
             wanted = is;
             is_written = wrote now has;
           };
@@ -51,31 +58,38 @@ extracted holds refusals remaining old mid images lefts form out written said be
 
 pub stops_reading : {S W : Type 0} (holds : S → List Portion → Type 0)
     (refusals : S → ℕ) (old : Story S) (form : Form) (contents : W → Option (List ℕ))
-    (out : W) (said says : Option (List ℕ))
-    → StopsReading holds refusals old said says
+    (out : W) (said says : Option (List ℕ)) (back : Bool) → back ≡ goes_back old.notes
+    → StopsReading holds refusals back old said says
     → Stops holds refusals old form contents out out said says
-stops_reading holds refusals old form contents out said says s = record {
-  turns = s.turns;
-  more = s.more;
-  few = s.few;
-  want = None;
-  records = 0;
-  lines = front_more said says _ (last_line None 0) s.lines;
-  follows = λ held was. let (core, now, f) = s.follows held was in (core, now, f, inl refl);
-}
+stops_reading holds refusals old form contents out said says back same stopped =
+    let s = subst (λ b. StopsReading holds refusals b old said says) same stopped in
+    record {
+      turns = s.turns;
+      more = s.more;
+      few = s.few;
+      want = None;
+      records = 0;
+      lines = front_more said says _ (last_line None 0) s.lines;
+      follows = λ held was kept.
+          let (core, now, f) = s.follows held was kept in
+          (core, now, f, inl refl);
+    }
 
 pub stops_at_end : {S R W : Type 0} (holds : S → List Portion → Type 0)
     (refusals : S → ℕ) (remaining : R → Option (List ℕ)) (old mid : Story S)
     (images lefts : List (Option R)) (form : Form)
     (contents : W → Option (List ℕ)) (out written : W) (said between says : Option (List ℕ))
-    (want : Option Want) (records : ℕ)
-    → TakesAll holds refusals remaining old mid images lefts said between
+    (want : Option Want) (records : ℕ) (back : Bool) → back ≡ goes_back old.notes
+    → TakesAll holds refusals remaining back old mid images lefts said between
     → AppendsFront between says (last_line want records)
     → ((held : List Portion) → holds mid.sink held → (written ≡ out) ⊎ ((mid.core.position
     ≡ Finished) × AppendsFront (contents out) (contents written) (output_of form held)))
     → Stops holds refusals old form contents out written said says
 stops_at_end holds refusals remaining old mid images lefts form contents out written said between
-    says want records t last wrote = record {
+    says want records back same took last wrote =
+    let t = subst (λ b. TakesAll holds refusals remaining b old mid images lefts said between)
+    same took in
+    record {
       turns = t.turns;
       more = [];
       few = omega arith;
@@ -84,8 +98,8 @@ stops_at_end holds refusals remaining old mid images lefts form contents out wri
       lines = front_then said between says _ (last_line want records)
           (subst (λ l. Appends said between (reel_lines 1 l))
           (sym (append-nil (map answer_of t.turns))) t.lines) last;
-      follows = λ held was.
-          let (now, has, f) = t.follows held was in
+      follows = λ held was kept.
+          let (now, has, still, f) = t.follows held was kept in
           (mid.core, seen refusals mid now, f, wrote now has);
     }
 

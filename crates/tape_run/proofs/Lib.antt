@@ -32,6 +32,10 @@ pub mod Fronts
 pub mod Completes
 pub mod WorkedHistory
 pub mod Fitting
+mod ListLines
+mod ListedSoFar
+mod ListFronts
+mod ListExamples
 mod Reporting
 mod WholeReports
 mod Streams
@@ -39,9 +43,16 @@ mod Turns
 mod Extracted
 mod OutSinks
 mod Now
+mod OneEntry
+mod Examples
+mod ExamplesOfReels
+mod ExamplesOfCatalogues
+mod ExamplesOfExtracts
+mod ExamplesOfLaws
 mod Mistakes
 mod MistakesOfCatalogues
 mod MistakesOfEngines
+mod MistakesOfListing
 mod MistakesOfReels
 mod MistakesOfReports
 mod MistakesOfRuns

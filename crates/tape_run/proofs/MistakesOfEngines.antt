@@ -1,20 +1,20 @@
 -- Answers that the contracts of the engines exclude: each is what a wrong body would give.
 use Rattle.std.proofs.Common.{◌≡◌, ℕ, List, [], ◌∷◌, ◌++◌, length, true, false, refl}
 use Rattle.std.proofs.Common.{ap, ◌∙◌, subst, arith, codes}
-use Rattle.std.specs.Prelude.{Option, Some, None, Ok, slice_index, map, option_map, ◌<◌}
+use Rattle.std.specs.Prelude.{Bool, Option, Some, None, Ok, slice_index, map, option_map, ◌<◌}
 use Rattle.std.specs.Fmt.{digits}
 use Rattle.std.specs.Io.KnownBytes.{Appends}
 use Rattle.tape_core.specs.State.{State}
 use Rattle.tape_set.specs.declared.position.Position.TheVariants.{Finished}
 use Rattle.tape_set.specs.declared.position.Want.{Want}
-use Rattle.tape_run.specs.Seen.{Seen}
+use Rattle.tape_run.specs.Seen.{Seen, seen}
 use Rattle.tape_run.specs.declared.section.ImageLine.{ImageLine}
 use Rattle.tape_run.specs.Lacks.{found_all}
 use Rattle.tape_run.specs.Passing.{Told}
 use Rattle.tape_run.specs.CheckLine.{image_lines}
 use Rattle.tape_run.specs.Checked.{AreRead, Reports, IsReport, summary}
 use Rattle.tape_run.specs.ReelLine.{reel_lines, last_line}
-use Rattle.tape_run.specs.Reeling.{Turn, answer_of, AreTurns, Follows}
+use Rattle.tape_run.specs.Reeling.{Turn, answer_of, AreTurns, Follows, IsKeptFor, goes_back}
 use Rattle.tape_run.proofs.check.check_to.Reads as check_to
 use Rattle.tape_run.proofs.extract.extract_to.Reads as extract_to
 
@@ -76,11 +76,11 @@ reels_counted_from_0 S R W P LS LR LW LP g d g' d' h e w f p i j κs a want s te
     (r ∙ ap (λ v. reel_lines 1 v ++ last_line (Some want) l.ok.records) answers) in omega arith)
 
 -- a session of a complete file reads nothing
-no_turn : (turns : List Turn) (core : State) (old : Seen) (last : State) (now : Seen)
-    → Follows core old turns last now → core.position ≡ Finished → turns ≡ []
-no_turn [] core old last now h over = refl
-no_turn (None ∷ turns) core old last now h over = absurd (h.0 over)
-no_turn (Some o ∷ turns) core old last now h over = absurd (h.2.waits over)
+no_turn : (back : Bool) (turns : List Turn) (core : State) (old : Seen) (last : State) (now : Seen)
+    → Follows back core old turns last now → core.position ≡ Finished → turns ≡ []
+no_turn back [] core old last now h over = refl
+no_turn back (None ∷ turns) core old last now h over = absurd (h.0 over)
+no_turn back (Some o ∷ turns) core old last now h over = absurd (h.2.waits over)
 
 -- image_read_behind_the_completing_one: the file is complete, and a reel is read and told
 image_read_behind_the_completing_one : (S : _) (R : _) (W : _) (P : _) (LS : _) (LR : _) (LW : _)
@@ -88,13 +88,14 @@ image_read_behind_the_completing_one : (S : _) (R : _) (W : _) (P : _) (LS : _) 
     (j : _) (κs : _) (a : _) (s : _) (held : _) (text : List ℕ)
     → extract_to.Learnt-named S R W P LS LR LW LP g d g' d' h e w f p i j κs a (Ok None) s
     → a.0.core.position ≡ Finished → g'.holds a.0.sink held
+    → IsKeptFor (goes_back a.0.notes) (seen g'.refusals a.0 held)
     → p.contents a.1.1.1.1.0.now ≡ Some []
     → p.contents s.1.1.1.1.0.now ≡ Some (codes "REEL 1 COMPLETE\n" ++ text) → ⊥
 image_read_behind_the_completing_one S R W P LS LR LW LP g d g' d' h e w f p i j κs a s held text
-    l over holds old new =
-    let ends = l.ok.ends held holds in
+    l over holds kept old new =
+    let ends = l.ok.ends held holds kept in
     let none : l.ok.turns ≡ []
-    = no_turn l.ok.turns a.0.core _ ends.last ends.now ends.follows over in
+    = no_turn (goes_back a.0.notes) l.ok.turns a.0.core _ ends.last ends.now ends.follows over in
     let lines : List ℕ = reel_lines 1 (map answer_of l.ok.turns) ++ last_line None l.ok.records in
     let r : Appends (Some []) (Some (codes "REEL 1 COMPLETE\n" ++ text)) lines
     = subst (λ v. Appends (Some []) v lines) new

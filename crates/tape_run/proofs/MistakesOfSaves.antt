@@ -21,7 +21,8 @@ use Rattle.tape_core.specs.Follows.{IsFinal}
 use Rattle.tape_core.specs.Place.{rest_of, resting}
 use Rattle.tape_core.specs.Point.{Point}
 use Rattle.tape_core.specs.State.{State}
-use Rattle.tape_core.specs.Table.{step_of, mount_of, mounted}
+use Rattle.tape_core.specs.Stands.{weight_of}
+use Rattle.tape_core.specs.Table.{step_of, mount_of, mounted, saved}
 use Rattle.tape_run.specs.declared.fault.RunFault.TheVariants as faults
 use Rattle.tape_run.specs.declared.script.Step.TheVariants.{Save}
 use Rattle.tape_run.specs.Given as given
@@ -34,11 +35,19 @@ use Rattle.tape_run.specs.Steps.{Reeled}
 use Rattle.tape_run.proofs.ByTable.{behind_app}
 use Rattle.tape_run.proofs.Completes.{step_tells}
 use Rattle.tape_run.proofs.FinalAnswers.{IsIdle, step_ends, idle_items}
+use Rattle.tape_run.proofs.Notes.{weight_more}
 use Rattle.tape_run.proofs.script.run.Reads as run
+use Rattle.tape_run.proofs.session.Session.note.Reads as note
+use Rattle.tape_run.proofs.session.Session.notes.Reads as notes
 use Rattle.tape_run.proofs.session.Session.reel.Reads as reel
 use Rattle.tape_run.proofs.session.Session.save.Reads as save
 
 -- ---- a checkpoint is saved
+
+-- the weight that the first note tells
+abbrev weight_noted : List Point → ℕ
+weight_noted [] = 0
+weight_noted (c ∷ cs) = c.staged
 
 -- save_tells_no_sink: the sink was not told of block 5, and after a crash it comes back with the
 -- start of the file
@@ -70,6 +79,34 @@ checkpoint_that_does_not_stand : (S : _) (LS : _) (g : _) (d : _) (κs : _) (a :
 checkpoint_that_does_not_stand S LS g d κs a point s set part l was session start =
     let n : 1 ≡ 0 = ap length ((l.stands set (part ∷ []) was session).all ∙ start) in
     absurd (omega (arith, n))
+
+-- note_without_its_weight: a part was delivered, and the note tells none
+note_without_its_weight : (S : _) (LS : _) (g : _) (d : _) (κs : _) (a : _) (s : _)
+    (part : Portion) (told : Point) → note.Learnt-named S LS g d κs a (Ok tt) s
+    → g.holds a.0.now.sink (part ∷ []) → a.0.now.notes ≡ [] → s.0.now.notes ≡ told ∷ []
+    → told.staged ≡ 0 → ⊥
+note_without_its_weight S LS g d κs a s part told l was none one empty =
+    let same : told ∷ [] ≡ saved (rest_of a.0.now.core) (weight_of (part ∷ [])) ∷ [] =
+    sym one ∙ ((l.ok (part ∷ []) was).notes
+    ∙ ap (λ n. n ++ saved (rest_of a.0.now.core) (weight_of (part ∷ [])) ∷ []) none) in
+    let n : weight_of (part ∷ []) ≡ 0 = sym (ap weight_noted same) ∙ empty in
+    absurd (omega (arith, n, weight_more part []))
+
+-- note_tells_the_sink: the sink is told of a note that is for the list alone
+note_tells_the_sink : (S : _) (LS : _) (g : _) (d : _) (κs : _) (a : _) (s : _)
+    → note.Learnt-named S LS g d κs a (Ok tt) s → (s.0.now.sink ≡ a.0.now.sink → ⊥) → ⊥
+note_tells_the_sink S LS g d κs a s l other = other l.sink
+
+-- no_memory_for_a_note_told_as_no_note: the list could not grow, and it is told that there is no
+-- such note
+no_memory_for_a_note_told_as_no_note : (S : _) (LS : _) (g : _) (d : _) (κs : _) (a : _) (s : _)
+    → note.Learnt-named S LS g d κs a (Err faults.NoSuchPoint) s → ⊥
+no_memory_for_a_note_told_as_no_note S LS g d κs a s l = absurd (let e = l.err.0 in cc)
+
+-- last_note_not_counted: of one note none is counted
+last_note_not_counted : (S : _) (LS : _) (g : _) (d : _) (κs : _) (a : _) (s : _) (told : Point)
+    → notes.Learnt S LS g d κs a 0 s → a.0.now.notes ≡ told ∷ [] → ⊥
+last_note_not_counted S LS g d κs a s told l one = absurd (omega (arith, l, ap length one))
 
 -- a sink of which this is said holds one list of parts, as a sink in memory does
 abbrev HoldsOne : (List Portion → Type 0) → Type 0

@@ -19,7 +19,7 @@ front_trans xs ys zs (a, e) (b, f) =
 pub front_more : (xs ys : List Portion) → IsFront xs (xs ++ ys)
 front_more xs ys = (ys, refl)
 
-weight_more : (x : Portion) (xs : List Portion)
+pub weight_more : (x : Portion) (xs : List Portion)
     → weight_of (x ∷ xs) ≡ (5 + length x.bytes) + weight_of xs
 weight_more x xs = refl
 

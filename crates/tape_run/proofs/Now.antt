@@ -1,6 +1,6 @@
 -- What is left where the records were written as the images were read.
 use Rattle.std.proofs.Common.{◌≡◌, ℕ, ◌⊎◌, List, [], map, Option, Some}
-use Rattle.std.proofs.Common.{None, refl, sym, ap, subst, ◌∙◌, inl, arith, append-nil}
+use Rattle.std.proofs.Common.{None, refl, sym, ap, subst, ◌∙◌, inl, arith, append-nil, false}
 use Rattle.std.specs.Io.KnownBytes.{Appends}
 use Rattle.std.proofs.KnownBytes.{Appends-trans}
 use Rattle.tape_blocks.specs.Block.{Portion}
@@ -22,7 +22,7 @@ pub extracted_now : {S R : Type 0} (holds : S → List Portion → Type 0)
     (refusals : S → ℕ) (remaining : R → Option (List ℕ)) (old mid : Story S)
     (images lefts : List (Option R)) (form : Form) (tells : Type 0)
     (stands said between says : Option (List ℕ)) (want : Option Want) (records : ℕ)
-    → TakesAll holds refusals remaining old mid images lefts said between
+    → TakesAll holds refusals remaining false old mid images lefts said between
     → want ≡ want_at mid.core.file mid.core.position → Appends between says (last_line want records)
     → ((held : List Portion) → holds mid.sink held → IsPut want tells records form stands held)
     → ExtractsNow holds refusals remaining old images lefts form tells stands said says want
@@ -34,7 +34,7 @@ extracted_now holds refusals remaining old mid images lefts form tells stands sa
       records = records;
       lines = Appends-trans said between says _ _ t.lines last;
       ends = λ held was.
-          let (now, has, f) = t.follows held was in
+          let (now, has, still, f) = t.follows held was tt in
           record {
             last = mid.core;
             now = seen refusals mid now;
@@ -50,7 +50,7 @@ extracted_now holds refusals remaining old mid images lefts form tells stands sa
 pub stops_reading_now : {S O : Type 0} (holds : S → List Portion → Type 0)
     (refusals : S → ℕ) (old : Story S) (form : Form) (tells : Type 0)
     (stands : O → Option (List ℕ)) (out : O) (said says : Option (List ℕ))
-    → StopsReading holds refusals old said says
+    → StopsReading holds refusals false old said says
     → StopsNow holds refusals old form tells stands out out said says
 stops_reading_now holds refusals old form tells stands out said says s = record {
   turns = s.turns;
@@ -59,7 +59,7 @@ stops_reading_now holds refusals old form tells stands out said says s = record 
   want = None;
   records = 0;
   lines = front_more said says _ (last_line None 0) s.lines;
-  follows = λ held was. let (core, now, f) = s.follows held was in (core, now, f, inl refl);
+  follows = λ held was. let (core, now, f) = s.follows held was tt in (core, now, f, inl refl);
 }
 
 pub stops_at_end_now : {S R O : Type 0} (holds : S → List Portion → Type 0)
@@ -67,7 +67,7 @@ pub stops_at_end_now : {S R O : Type 0} (holds : S → List Portion → Type 0)
     (images lefts : List (Option R)) (form : Form) (tells : Type 0)
     (stands : O → Option (List ℕ)) (out put : O) (said between says : Option (List ℕ))
     (want : Option Want) (records : ℕ)
-    → TakesAll holds refusals remaining old mid images lefts said between
+    → TakesAll holds refusals remaining false old mid images lefts said between
     → AppendsFront between says (last_line want records)
     → ((held : List Portion) → holds mid.sink held → (put ≡ out) ⊎ ((mid.core.position
     ≡ Finished) × ((stands put ≡ stands out)
@@ -84,6 +84,6 @@ stops_at_end_now holds refusals remaining old mid images lefts form tells stands
           (subst (λ l. Appends said between (reel_lines 1 l))
           (sym (append-nil (map answer_of t.turns))) t.lines) last;
       follows = λ held was.
-          let (now, has, f) = t.follows held was in
+          let (now, has, still, f) = t.follows held was tt in
           (mid.core, seen refusals mid now, f, wrote now has);
     }

@@ -1,7 +1,8 @@
 -- Images that were read one after another.
 use Rattle.std.proofs.Common.{◌≡◌, Bool, ℕ, zero, suc, ◌+◌, ◌<◌, ◌≤◌, List, [], ◌∷◌, ◌++◌}
 use Rattle.std.proofs.Common.{length, map, get_or, Option, Some, None, IfSome, IsSome, refl, sym}
-use Rattle.std.proofs.Common.{ap, subst, ◌∙◌, arith, append_assoc, append-nil, true, false}
+use Rattle.std.proofs.Common.{ap, subst, ◌∙◌, arith, append_assoc, append-nil, true, false, inl}
+use Rattle.std.proofs.Common.{◌&&◌, Ok, length-append}
 use Rattle.std.proofs.Math.ListN.{set}
 use Rattle.std.specs.Io.KnownBytes.{Appends, Keeps}
 use Rattle.std.proofs.KnownBytes.{Appends-trans, Appends-nil, Appends-kept}
@@ -13,11 +14,17 @@ use Rattle.tape_core.specs.Place.{IsPlaced, rest_of}
 use Rattle.tape_run.specs.declared.answer.ReelAnswer.{ReelAnswer}
 use Rattle.tape_run.specs.Given.{is_device, IsGiven}
 use Rattle.tape_run.specs.Mount.{Happening, IsMountOf}
-use Rattle.tape_run.specs.Seen.{Seen}
+use Rattle.tape_run.specs.Seen.{Seen, IsKept}
+use Rattle.tape_run.specs.Runs.{Runs}
+use Rattle.tape_run.specs.declared.script.Step.{Step}
+use Rattle.tape_run.specs.declared.script.Step.TheVariants.{Reel}
+use Rattle.tape_run.proofs.Headline.{headline, took_so_many}
+use Rattle.tape_run.proofs.Sessions.{kept_save, kept_restart}
 use Rattle.tape_run.specs.Steps.{Reeled}
 use Rattle.tape_run.specs.Output.{AppendsFront}
 use Rattle.tape_run.specs.ReelLine.{reel_line, reel_lines}
-use Rattle.tape_run.specs.Reeling.{is_doubtful, IsNoted}
+use Rattle.tape_run.specs.Reeling.{is_doubtful, IsNoted, IsKeptFor, step_behind, notes_behind}
+use Rattle.tape_run.specs.Reeling.{steps_of, AreTold, AreSteps}
 use Rattle.tape_run.specs.Reeling.{Turn, Opened, answer_of, AreTurns, Follows}
 use Rattle.tape_run.specs.Reeling.{AreMounts, reached, Arrives, Gathers, IsTurn, IsReported}
 use Rattle.tape_run.specs.Reeling.{IsThere, LedOver}
@@ -109,21 +116,42 @@ turns_few remaining (o ∷ olds) (x ∷ news) (u ∷ turns) (a, are) =
 
 -- ---- the session
 
-pub follows_then : (a : State) (s : Seen) (ts : List Turn) (b : State) (t : Seen) (us : List Turn)
-    (c : State) (u : Seen) → Follows a s ts b t → Follows b t us c u → Follows a s (ts ++ us) c u
-follows_then a s [] b t us c u (core, same) g =
-    subst (λ z. Follows z s us c u) core (subst (λ z. Follows b z us c u) same g)
-follows_then a s (None ∷ ts) b t us c u (waits, f) g = (waits, follows_then a s ts b t us c u f g)
-follows_then a s (Some o ∷ ts) b t us c u (next, mid, r, f) g =
-    (next, mid, r, follows_then next mid ts b t us c u f g)
+pub follows_then : (back : Bool) (a : State) (s : Seen) (ts : List Turn) (b : State) (t : Seen)
+    (us : List Turn) (c : State) (u : Seen) → Follows back a s ts b t → Follows back b t us c u
+    → Follows back a s (ts ++ us) c u
+follows_then back a s [] b t us c u (core, same) g =
+    subst (λ z. Follows back z s us c u) core (subst (λ z. Follows back b z us c u) same g)
+follows_then back a s (None ∷ ts) b t us c u (waits, f) g =
+    (waits, follows_then back a s ts b t us c u f g)
+follows_then back a s (Some o ∷ ts) b t us c u (next, mid, r, f) g =
+    (next, mid, r, follows_then back next mid ts b t us c u f g)
 
-pub noted : (bytes : Option (List ℕ)) (o : Opened) (old mid new : Seen)
+pub noted : (back : Bool) (bytes : Option (List ℕ)) (o : Opened) (old mid new : Seen)
     → IfSome bytes (λ b. Reeled b (is_device o.answer.fault) old mid)
-    → IsNoted (is_doubtful o.answer.answer) mid new
+    → IsNoted back (is_doubtful o.answer.answer) mid new
     → IfSome bytes (λ b. (m : Seen) × Reeled b (is_device o.answer.fault) old m
-    × IsNoted (is_doubtful o.answer.answer) m new)
-noted None o old mid new r s = tt
-noted (Some b) o old mid new r s = (mid, r, s)
+    × IsNoted back (is_doubtful o.answer.answer) m new)
+noted back None o old mid new r s = tt
+noted back (Some b) o old mid new r s = (mid, r, s)
+
+-- a session that does not go back, or has no cause to
+pub not_gone : (back doubtful : Bool) (old new : Seen) → (back && doubtful) ≡ false
+    → IsNoted false doubtful old new → IsNoted back doubtful old new
+not_gone back false old new e s = s
+not_gone false true old new e s = s
+not_gone true true old new e s = absurd (cc)
+
+-- what is kept of a session is kept behind a reel too
+pub kept_behind : (back doubtful : Bool) (old new : Seen) → IsNoted back doubtful old new
+    → IsKeptFor back old → IsKeptFor back new
+kept_behind false doubtful old new s k = tt
+kept_behind true false old new s k = kept_save old new s k
+kept_behind true true old new (n, count, w) k = kept_restart old new n w k
+
+pub kept_for : (back : Bool) (old new : Seen) → (IsKept old → IsKept new) → IsKeptFor back old
+    → IsKeptFor back new
+kept_for false old new f k = tt
+kept_for true old new f k = f k
 
 -- what one reel gave, and where its mount leads
 pub record GivesOne (failed : Bool) (had : Option (List ℕ)) (old new : Seen) : Type 0 where
@@ -135,13 +163,13 @@ pub record GivesOne (failed : Bool) (had : Option (List ℕ)) (old new : Seen) :
       → IsLed xs (mount_of old.place) new.place old.parts new.parts
 
 -- what is noted changes neither the place nor the parts
-notes_alone : (doubtful : Bool) (old new : Seen) → IsNoted doubtful old new
+notes_alone : (doubtful : Bool) (old new : Seen) → IsNoted false doubtful old new
     → (new.place ≡ old.place) × (new.parts ≡ old.parts)
 notes_alone true old new s = (ap (λ x. x.place) s, ap (λ x. x.parts) s)
 notes_alone false old new s = (s.place, s.parts)
 
 gives_one : (doubtful failed : Bool) (had : Option (List ℕ)) (old new : Seen)
-    → IfSome had (λ b. (m : Seen) × Reeled b failed old m × IsNoted doubtful m new)
+    → IfSome had (λ b. (m : Seen) × Reeled b failed old m × IsNoted false doubtful m new)
     → GivesOne failed had old new
 gives_one doubtful failed None old new r =
     record {
@@ -218,7 +246,7 @@ more_given set o turns old mid new one rest (h ∷ hs) lawful (some, mount, moun
 
 -- Step by step the session is where the mounts lead.
 pub gathers : (core : State) (old : Seen) (turns : List Turn) (last : State) (new : Seen)
-    → Follows core old turns last new → Gathers turns old new
+    → Follows false core old turns last new → Gathers turns old new
 gathers core old [] last new (same_core, same) = record {
   given = [];
   are_given = tt;
@@ -244,6 +272,54 @@ gathers core old (Some o ∷ turns) last new (next, mid, r, f) =
           more_given set o turns old mid new one rest hs lawful mounts placed;
       led = led_more o turns old mid new one rest.given rest.led;
     }
+
+-- ---- steps of a run
+
+-- one reel, and what was done behind it
+pub step_made : (back doubtful failed : Bool) (old mid behind new : Seen) (b : List ℕ)
+    (bs : List (List ℕ)) (steps : List Step) → Reeled b failed old mid
+    → IsNoted back doubtful mid behind
+    → (length behind.notes ≡ notes_behind doubtful (length old.notes)
+    → Runs behind steps (map Some bs) (Ok tt) new)
+    → Runs old (Reel ∷ step_behind back doubtful (length old.notes) ++ steps) (map Some (b ∷ bs))
+    (Ok tt) new
+step_made back false failed old mid behind new b bs steps r s rest =
+    let count : length behind.notes ≡ length old.notes + 1 =
+    ap length s.notes ∙ length-append mid.notes _ ∙ ap (λ n. length n + 1) r.notes in
+    inl ((failed, mid, r, inl ((behind, s, rest count))))
+step_made false true failed old mid behind new b bs steps r s rest =
+    let count : length behind.notes ≡ length old.notes =
+    ap (λ (z : Seen). length z.notes) s ∙ ap length r.notes in
+    inl ((failed, mid, r, subst (λ z. Runs z steps (map Some bs) (Ok tt) new) s (rest count)))
+step_made true true failed old mid behind new b bs steps r (n, one, w) rest =
+    let had : length old.notes ≡ suc n = omega (arith, one, ap length r.notes) in
+    let count : length behind.notes ≡ length old.notes =
+    ap length w.notes ∙ took_so_many n mid.notes (omega (arith, one)) ∙ omega (arith, had) in
+    subst (λ m. Runs old (Reel ∷ step_behind true true m ++ steps) (map Some (b ∷ bs)) (Ok tt) new)
+    (sym had) (inl ((failed, mid, r, inl ((behind, w, rest count)))))
+
+made : (back : Bool) (core : State) (old : Seen) (turns : List Turn) (last : State) (new : Seen)
+    (bytes : List (List ℕ)) → Follows back core old turns last new → AreTold turns bytes
+    → Runs old (steps_of back (length old.notes) turns) (map Some bytes) (Ok tt) new
+made back core old [] last new bytes (same_core, same) told = (refl, same)
+made back core old (None ∷ turns) last new bytes (waits, f) told =
+    made back core old turns last new bytes f told
+made back core old (Some o ∷ turns) last new [] f told = absurd told
+made back core old (Some o ∷ turns) last new (b ∷ bs) (next, behind, r, f) (had, told) =
+    let doubtful = is_doubtful o.answer.answer in
+    let (mid, reeled, noted) = subst (λ h. IfSome h (λ bytes. (mid : Seen)
+    × Reeled bytes (is_device o.answer.fault) old mid
+    × IsNoted back doubtful mid behind)) had r.reeled in
+    step_made back doubtful (is_device o.answer.fault) old mid behind new b bs _ reeled noted
+    (λ count. subst (λ n. Runs behind (steps_of back n turns) (map Some bs) (Ok tt) new) count
+    (made back next behind turns last new bs f told))
+
+-- What was done is a run.
+pub are_steps : (back : Bool) (core : State) (old : Seen) (turns : List Turn) (last : State)
+    (new : Seen) → Follows back core old turns last new → AreSteps back turns old new
+are_steps back core old turns last new f = λ bytes told.
+    headline old new (steps_of back (length old.notes) turns) bytes
+    (made back core old turns last new bytes f told)
 
 -- ---- calls
 

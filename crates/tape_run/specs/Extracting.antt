@@ -1,5 +1,6 @@
 -- What `extract` leaves.
-use Rattle.std.specs.Prelude.{◌≡◌, ◌⊎◌, ℕ, ◌<◌, ◌≤◌, List, ◌++◌, length, map, Option, Some, None, ⊤}
+use Rattle.std.specs.Prelude.{◌≡◌, ◌⊎◌, ℕ, ◌<◌, ◌≤◌, List, [], ◌++◌, length, map, Option, Some}
+use Rattle.std.specs.Prelude.{None, ⊤}
 use Rattle.std.specs.Io.KnownBytes.{Appends}
 use Rattle.tape_blocks.specs.Block.{Portion}
 use Rattle.tape_blocks.specs.Spans.{join}
@@ -14,7 +15,8 @@ use Rattle.tape_blocks.specs.declared.form.Form.{Form}
 use Rattle.tape_run.specs.Output.{AppendsFront}
 use Rattle.tape_run.specs.RecordText.{output_of}
 use Rattle.tape_run.specs.ReelLine.{reel_lines, last_line}
-use Rattle.tape_run.specs.Reeling.{Turn, answer_of, AreTurns, Follows, Gathers}
+use Rattle.tape_run.specs.Reeling.{Turn, answer_of, AreTurns, Follows, Gathers, AreSteps, goes_back}
+use Rattle.tape_run.specs.Reeling.{IsKeptFor}
 
 -- what was written where something is wanted, and where nothing is: the records, which were counted
 abbrev pub IsWritten : Option Want → ℕ → Form → Option (List ℕ) → Option (List ℕ) → List Portion
@@ -25,13 +27,15 @@ IsWritten None records form out written parts = (records ≡ length (join parts)
 
 -- What a session came to, over the images that were read: where it stands is what is wanted, it
 -- stands there by the history of its mounts, and where nothing is wanted the records of the parts
--- that it gathered were written.
+-- that it gathered were written. One that has a note went back to the note made last behind each
+-- reel that is in doubt; one that has none stays where such a reel left it.
 pub record Ends (first : State) (old : Seen) (turns : List Turn) (want : Option Want) (records : ℕ)
     (form : Form) (out written : Option (List ℕ)) : Type 0 where
   pub last : State
   pub now : Seen
-  pub follows : Follows first old turns last now
-  pub gathers : Gathers turns old now
+  pub follows : Follows (goes_back old.notes) first old turns last now
+  pub gathers : old.notes ≡ [] → Gathers turns old now
+  pub are_steps : AreSteps (goes_back old.notes) turns old now
   pub wanted : want ≡ want_at now.place.file now.place.position
   pub is_written : IsWritten want records form out written now.parts
 
@@ -47,6 +51,7 @@ pub record Extracts {S R : Type 0} (holds : S → List Portion → Type 0) (refu
   pub records : ℕ
   pub lines : Appends said says (reel_lines 1 (map answer_of turns) ++ last_line want records)
   pub ends : (held : List Portion) → holds session.sink held
+      → IsKeptFor (goes_back session.notes) (seen refusals session held)
       → Ends session.core (seen refusals session held) turns want records form out written
 
 -- A fault ended it: what was reported is a front of such a report, with the line of at most one
@@ -62,7 +67,9 @@ pub record Stops {S W : Type 0} (holds : S → List Portion → Type 0) (refusal
   pub records : ℕ
   pub lines : AppendsFront said says
       (reel_lines 1 (map answer_of turns ++ more) ++ last_line want records)
-  pub follows : (held : List Portion) → holds session.sink held → (last : State) × (now : Seen)
-      × Follows session.core (seen refusals session held) turns last now
+  pub follows : (held : List Portion) → holds session.sink held
+      → IsKeptFor (goes_back session.notes) (seen refusals session held)
+      → (last : State) × (now : Seen)
+      × Follows (goes_back session.notes) session.core (seen refusals session held) turns last now
       × ((written ≡ out) ⊎ ((now.place.position ≡ Finished)
       × AppendsFront (contents out) (contents written) (output_of form now.parts)))

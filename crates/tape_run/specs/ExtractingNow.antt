@@ -1,5 +1,6 @@
 -- What `extract` leaves where the records are written as the images are read.
 use Rattle.std.specs.Prelude.{◌≡◌, ◌⊎◌, ℕ, ◌<◌, ◌≤◌, List, ◌++◌, length, map, Option, Some, None, ⊤}
+use Rattle.std.specs.Prelude.{false}
 use Rattle.std.specs.Io.KnownBytes.{Appends}
 use Rattle.tape_blocks.specs.Block.{Portion}
 use Rattle.tape_blocks.specs.Spans.{join}
@@ -34,12 +35,13 @@ IsPut (Some want) tells records form stands parts = ⊤
 IsPut None tells records form stands parts = (records ≡ length (join parts).records)
     × (tells → stands ≡ Some (output_of form parts))
 
--- What a session came to, over the images that were read.
+-- What a session came to, over the images that were read. It never goes back: what was written
+-- cannot be taken back.
 pub record EndsNow (first : State) (old : Seen) (turns : List Turn) (want : Option Want)
     (records : ℕ) (form : Form) (tells : Type 0) (stands : Option (List ℕ)) : Type 0 where
   pub last : State
   pub now : Seen
-  pub follows : Follows first old turns last now
+  pub follows : Follows false first old turns last now
   pub gathers : Gathers turns old now
   pub wanted : want ≡ want_at now.place.file now.place.position
   pub is_put : IsPut want tells records form stands now.parts
@@ -73,6 +75,6 @@ pub record StopsNow {S O : Type 0} (holds : S → List Portion → Type 0) (refu
   pub lines : AppendsFront said says
       (reel_lines 1 (map answer_of turns ++ more) ++ last_line want records)
   pub follows : (held : List Portion) → holds session.sink held → (last : State) × (now : Seen)
-      × Follows session.core (seen refusals session held) turns last now
+      × Follows false session.core (seen refusals session held) turns last now
       × ((put ≡ out) ⊎ ((now.place.position ≡ Finished) × ((stands put ≡ stands out)
       ⊎ (tells → stands put ≡ Some (output_of form now.parts)))))

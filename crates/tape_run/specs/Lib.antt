@@ -35,10 +35,16 @@ pub mod WorkedHistory
 -- Writers, and identifiers as they are printed: of the reports below.
 pub mod Output
 pub mod Identifier
+-- Listings of images: to be believed, in this order.
+pub mod ListLine
+pub mod Listing
+pub mod Listed
+pub mod ListExamples
 -- Reports of what is on reels: to be believed, in this order.
 pub mod CheckLine
 pub mod Checked
 pub mod WholeReels
+pub mod OneEntry
 pub mod CheckExamples
 -- Files got back, and reports of that: to be believed, in this order.
 pub mod ReelLine
@@ -48,3 +54,9 @@ pub mod Reeling
 pub mod Extracting
 pub mod ExtractingNow
 pub mod ExtractExamples
+-- Cases, which hold the definitions from below.
+pub mod Cases
+pub mod CasesOfReels
+pub mod CasesOfCatalogues
+pub mod CasesOfExtracts
+pub mod CasesOfLaws

@@ -1,5 +1,6 @@
 -- What `extract` makes of images, one after another.
-use Rattle.std.specs.Prelude.{◌≡◌, ◌≢◌, ℕ, ◌<◌, ◌≤◌, List, [], ◌∷◌, ◌++◌, length, map, Option}
+use Rattle.std.specs.Prelude.{◌≡◌, ◌≢◌, ℕ, zero, suc, ◌+◌, ◌<◌, ◌≤◌, List, [], ◌∷◌, ◌++◌, length}
+use Rattle.std.specs.Prelude.{map, Option}
 use Rattle.std.specs.Prelude.{Some, None, IfSome, IsSome, ⊤, Bool, true, false}
 use Rattle.std.specs.Io.KnownBytes.{Appends}
 use Rattle.tape_blocks.specs.Block.{Portion}
@@ -15,13 +16,17 @@ use Rattle.tape_core.specs.declared.answer.Answer.{Answer}
 use Rattle.tape_core.specs.declared.answer.Answer.TheVariants.{Useless}
 use Rattle.tape_core.specs.declared.answer.Reason.TheVariants.{BlockCount, Broken}
 use Rattle.tape_core.specs.Place.{IsPlaced, rest_of}
+use Rattle.tape_core.specs.Point.{Point}
 use Rattle.tape_run.specs.declared.answer.ReelAnswer.{ReelAnswer}
 use Rattle.tape_run.specs.Given.{is_device, IsGiven}
 use Rattle.tape_run.specs.Mount.{Happening, IsMountOf, after_mount}
 use Rattle.tape_run.specs.Lead.{Lead, over_reel}
 use Rattle.tape_run.specs.Reels.{Reads}
-use Rattle.tape_run.specs.Seen.{Seen, seen}
-use Rattle.tape_run.specs.Steps.{Reeled, Saved}
+use Rattle.tape_run.specs.Seen.{Seen, seen, IsKept}
+use Rattle.tape_run.specs.Steps.{Reeled, Saved, WentBack}
+use Rattle.tape_run.specs.Headline.{HasRun}
+use Rattle.tape_run.specs.declared.script.Step.{Step}
+use Rattle.tape_run.specs.declared.script.Step.TheVariants.{Reel, Save, Restart}
 use Rattle.tape_run.specs.Story.{Story}
 use Rattle.tape_run.specs.Output.{AppendsFront}
 use Rattle.tape_run.specs.ReelLine.{reel_line, reel_lines}
@@ -64,31 +69,48 @@ is_doubtful (Useless (BlockCount label seen)) = true
 is_doubtful (Useless Broken) = true
 is_doubtful answer = false
 
--- It was noted where the session stands. Where what the reel gave is in doubt nothing was noted.
-abbrev pub IsNoted : Bool → Seen → Seen → Type 0
-IsNoted true old new = new ≡ old
-IsNoted false old new = Saved old new
+-- The session went back to the note made last.
+abbrev pub WentToLast : Seen → Seen → Type 0
+WentToLast old new = (n : ℕ) × (length old.notes ≡ n + 1) × WentBack n old new
 
--- A reel was read from one state of a session to another, and it was noted where this stands: the
--- file was not complete, the answer is the core's, and the session is where the reel leads.
-pub record ReadsReel (core : State) (old : Seen) (o : Opened) (next : State)
+-- Behind a reel: it was noted where the session stands. Where what the reel gave is in doubt
+-- nothing was noted; a session that goes back is at the note made last, and another is as it was.
+abbrev pub IsNoted : Bool → Bool → Seen → Seen → Type 0
+IsNoted back false old new = Saved old new
+IsNoted false true old new = new ≡ old
+IsNoted true true old new = WentToLast old new
+
+-- a session goes back, behind a reel that is in doubt, where it has a note
+abbrev pub goes_back : List Point → Bool
+goes_back [] = false
+goes_back (c ∷ cs) = true
+
+-- The notes of a session that goes back are its own, as those of every session are.
+abbrev pub IsKeptFor : Bool → Seen → Type 0
+IsKeptFor false s = ⊤
+IsKeptFor true s = IsKept s
+
+-- A reel was read from one state of a session to another, and then it was noted where this stands,
+-- or it went back: the file was not complete, the answer is the core's, and the session is where
+-- the reel and the note lead.
+pub record ReadsReel (back : Bool) (core : State) (old : Seen) (o : Opened) (next : State)
     (new : Seen) : Type 0 where
   pub waits : core.position ≢ Finished
   pub answers : IfKnown o.had o.left
       (λ bytes left. Reads core.position core bytes left o.answer)
   pub reeled : IfSome o.had (λ bytes. (mid : Seen)
       × Reeled bytes (is_device o.answer.fault) old mid
-      × IsNoted (is_doubtful o.answer.answer) mid new)
+      × IsNoted back (is_doubtful o.answer.answer) mid new)
   pub place : new.place ≡ rest_of next
 
 -- The images, one after another, took a session from one state to another. An image that was not
 -- opened changes nothing.
-abbrev pub Follows : State → Seen → List Turn → State → Seen → Type 0
-Follows core old [] last new = (last ≡ core) × (new ≡ old)
-Follows core old (None ∷ turns) last new =
-    (core.position ≢ Finished) × Follows core old turns last new
-Follows core old (Some o ∷ turns) last new = (next : State) × (behind : Seen)
-    × ReadsReel core old o next behind × Follows next behind turns last new
+abbrev pub Follows : Bool → State → Seen → List Turn → State → Seen → Type 0
+Follows back core old [] last new = (last ≡ core) × (new ≡ old)
+Follows back core old (None ∷ turns) last new =
+    (core.position ≢ Finished) × Follows back core old turns last new
+Follows back core old (Some o ∷ turns) last new = (next : State) × (behind : Seen)
+    × ReadsReel back core old o next behind × Follows back next behind turns last new
 
 -- The bytes that were given of each image that was opened: all that it has, or a front of that
 -- where the line of the image tells that reading it failed.
@@ -153,31 +175,67 @@ pub record Gathers (turns : List Turn) (old new : Seen) : Type 0 where
       → IsPlaced set old.place old.parts → Arrives set old hs new
   pub led : LedOver turns given old new
 
+-- The step that is made behind a reel, of a session that has so many notes, if one is.
+abbrev pub step_behind : Bool → Bool → ℕ → List Step
+step_behind back false notes = Save ∷ []
+step_behind false true notes = []
+step_behind true true zero = []
+step_behind true true (suc n) = Restart n ∷ []
+
+-- how many notes there are then
+abbrev pub notes_behind : Bool → ℕ → ℕ
+notes_behind false notes = notes + 1
+notes_behind true notes = notes
+
+-- The steps of a session over images, which has so many notes before: of each that was opened its
+-- reel, and behind it a save; behind one that is in doubt it goes back to the note made last.
+abbrev pub steps_of : Bool → ℕ → List Turn → List Step
+steps_of back notes [] = []
+steps_of back notes (None ∷ turns) = steps_of back notes turns
+steps_of back notes (Some o ∷ turns) =
+    Reel ∷ step_behind back (is_doubtful o.answer.answer) notes
+    ++ steps_of back (notes_behind (is_doubtful o.answer.answer) notes) turns
+
+-- Each reader of an image that was opened told its bytes, and they are these.
+abbrev pub AreTold : List Turn → List (List ℕ) → Type 0
+AreTold [] bytes = bytes ≡ []
+AreTold (None ∷ turns) bytes = AreTold turns bytes
+AreTold (Some o ∷ turns) [] = ⊥
+AreTold (Some o ∷ turns) (b ∷ bytes) = (o.had ≡ Some b) × AreTold turns bytes
+
+-- What was done with the images are steps of a run, one that goes back where a reel is in doubt: so
+-- the headline holds of them, over all histories that the images are.
+abbrev pub AreSteps : Bool → List Turn → Seen → Seen → Type 0
+AreSteps back turns old new = (bytes : List (List ℕ)) → AreTold turns bytes
+    → HasRun old (steps_of back (length old.notes) turns) bytes new
+
 -- ---- calls
 
 -- The image with this number was read, or passed, and its line was reported.
 pub record Takes {S R : Type 0} (holds : S → List Portion → Type 0) (refusals : S → ℕ)
-    (remaining : R → Option (List ℕ)) (old new : Story S) (image left : Option R) (number : ℕ)
-    (said says : Option (List ℕ)) : Type 0 where
+    (remaining : R → Option (List ℕ)) (back : Bool) (old new : Story S) (image left : Option R)
+    (number : ℕ) (said says : Option (List ℕ)) : Type 0 where
   pub turn : Turn
   pub is_turn : IsTurn remaining image left turn
   pub line : Appends said says (reel_line number (answer_of turn))
-  pub follows : (held : List Portion) → holds old.sink held → (now : List Portion)
-      × holds new.sink now
-      × Follows old.core (seen refusals old held) (turn ∷ []) new.core (seen refusals new now)
+  pub follows : (held : List Portion) → holds old.sink held
+      → IsKeptFor back (seen refusals old held) → (now : List Portion)
+      × holds new.sink now × IsKeptFor back (seen refusals new now)
+      × Follows back old.core (seen refusals old held) (turn ∷ []) new.core (seen refusals new now)
 
 -- Images were read in their order, all of them or up to the one that completed the file, and a line
 -- was reported for each.
 pub record TakesAll {S R : Type 0} (holds : S → List Portion → Type 0) (refusals : S → ℕ)
-    (remaining : R → Option (List ℕ)) (old new : Story S) (images lefts : List (Option R))
-    (said says : Option (List ℕ)) : Type 0 where
+    (remaining : R → Option (List ℕ)) (back : Bool) (old new : Story S)
+    (images lefts : List (Option R)) (said says : Option (List ℕ)) : Type 0 where
   pub turns : List Turn
   pub are_turns : AreTurns remaining images lefts turns
   pub lines : Appends said says (reel_lines 1 (map answer_of turns))
   pub all : length turns < length images → new.core.position ≡ Finished
-  pub follows : (held : List Portion) → holds old.sink held → (now : List Portion)
-      × holds new.sink now
-      × Follows old.core (seen refusals old held) turns new.core (seen refusals new now)
+  pub follows : (held : List Portion) → holds old.sink held
+      → IsKeptFor back (seen refusals old held) → (now : List Portion)
+      × holds new.sink now × IsKeptFor back (seen refusals new now)
+      × Follows back old.core (seen refusals old held) turns new.core (seen refusals new now)
 
 -- Nothing was reported but a front of the lines of at most one image, which has this number.
 abbrev pub IsReported : ℕ → Option (List ℕ) → Option (List ℕ) → Type 0
@@ -187,10 +245,11 @@ IsReported number said says = (more : List (Option ReelAnswer)) × (length more 
 -- Images were read in their order, and a fault ended that: a line was reported for each of them,
 -- and a front of one for one more.
 pub record StopsReading {S : Type 0} (holds : S → List Portion → Type 0) (refusals : S → ℕ)
-    (old : Story S) (said says : Option (List ℕ)) : Type 0 where
+    (back : Bool) (old : Story S) (said says : Option (List ℕ)) : Type 0 where
   pub turns : List Turn
   pub more : List (Option ReelAnswer)
   pub few : length more ≤ 1
   pub lines : AppendsFront said says (reel_lines 1 (map answer_of turns ++ more))
-  pub follows : (held : List Portion) → holds old.sink held → (core : State) × (now : Seen)
-      × Follows old.core (seen refusals old held) turns core now
+  pub follows : (held : List Portion) → holds old.sink held
+      → IsKeptFor back (seen refusals old held) → (core : State) × (now : Seen)
+      × Follows back old.core (seen refusals old held) turns core now

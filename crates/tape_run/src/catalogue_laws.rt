@@ -2,6 +2,7 @@
 //! contract is the law.
 
 ghost use Rattle.tape_run.specs.Lacks.{LackIsFirst};
+ghost use Rattle.tape_run.specs.OneEntry.{OneEntryASection};
 ghost use Rattle.tape_run.specs.Shown.{GoodAreShown};
 ghost use Rattle.tape_run.specs.WholeSet.{WholeVolumeIsGood, WholeSetIsGood, WholeCopiesAreAdded};
 ghost use Rattle.tape_run.specs.WholeSet.{WholeSetLacksNothing, WholeSetIsFound};
@@ -43,4 +44,9 @@ pub fn whole_sets_are_found()
 /// is what the volume's items tell.
 pub fn whole_copies_are_added()
     ensures { WholeCopiesAreAdded }
+{}
+
+/// Whatever images are added to a catalogue, it has one entry a section, and a report one line.
+pub fn one_entry_a_section()
+    ensures { OneEntryASection }
 {}

@@ -27,8 +27,9 @@ const NO_MEMORY: EngineFault = EngineFault::Run(RunFault::OutOfMemory);
 /// whether that is so.
 ///
 /// Each image is read to its end or to a fault, through a buffer, and then let go. It takes memory
-/// for the buffers of one image, and else for the sections alone. The report is passed on at the
-/// end; no contract can tell that of a writer: tests show it.
+/// for the buffers of one image, and else for the sections alone. The line of an image is passed on
+/// before the next one is read, and the rest of the report at the end; no contract can tell that of
+/// a writer: tests show it.
 ///
 /// # Errors
 ///
@@ -73,7 +74,7 @@ fn check_images<R: Read + Drop, P: Write>(
     Ok(())
 }
 
-/// Notes what is on an image, and writes its line.
+/// Notes what is on an image, writes its line, and has it passed on.
 fn check_image<R: Read + Drop, P: Write>(
     alloc: Global,
     catalogue: &mut Catalogue,
@@ -90,7 +91,7 @@ fn check_image<R: Read + Drop, P: Write>(
     let Ok(met) = read_image(alloc, catalogue, image.take()) else {
         return Err(NO_MEMORY);
     };
-    write_text(report, &image_line(number, &met))?;
+    pass_on(report, &image_line(number, &met))?;
     Ok(())
 }
 
@@ -199,7 +200,17 @@ fn write_last<P: Write>(report: &mut P, found: bool) -> Result<(), WriteFailed>
     ensures front { OnErr result (AppendsFront (P.contents report.old) (P.contents report.new)
         (last_line found)) }
 {
-    write_text(report, last_line(found))?;
+    pass_on(report, last_line(found))
+}
+
+/// Writes a text, and has the writer pass it on at once.
+fn pass_on<P: Write>(report: &mut P, text: &[u8]) -> Result<(), WriteFailed>
+    ensures ok { OnOk result
+        (Appends (P.contents report.old) (P.contents report.new) text.now) }
+    ensures err { OnErr result
+        (AppendsFront (P.contents report.old) (P.contents report.new) text.now) }
+{
+    write_text(report, text)?;
     flush(report)
 }
 

@@ -5,6 +5,7 @@ ghost use Rattle.tape_blocks.specs.Block.{Portion};
 ghost use Rattle.tape_run.specs.Output.{AppendsFront};
 ghost use Rattle.tape_run.specs.Extracting.{Extracts, Stops, IsWritten};
 ghost use Rattle.tape_run.specs.RecordText.{output_of};
+ghost use Rattle.tape_run.specs.Reeling.{goes_back};
 ghost use Rattle.tape_run.specs.ReelLine.{last_line};
 
 mod images;
@@ -23,7 +24,7 @@ pub use out_sink::OutSink;
 use records::{count_records, walk_fault, write_records};
 use std::io::{Read, Write};
 use tape_blocks::Form;
-use tape_core::PartWalk;
+use tape_core::{PartSink, PartWalk};
 use tape_set::Want;
 
 /// Reads a file from its images, in their order, until it is complete, reports what each of them
@@ -31,8 +32,10 @@ use tape_set::Want;
 /// that is not.
 ///
 /// An image that is `None` was not opened: this is reported, and it is passed. Behind each reel the
-/// session is saved, but not behind one that counted wrong, nor behind those that are Broken for
-/// it. Images behind the one that completes the file are not read. `out` is written
+/// session is saved, but not behind one that counted wrong. Where the session came with a note it
+/// goes back then, to the note made last, and the next reel goes on from there; else it stays
+/// broken, nothing is saved behind the reels that are Broken for it, and nothing is gathered of
+/// them. Images behind the one that completes the file are not read. `out` is written
 /// and flushed where the file is complete, and else not touched; the report's last line comes
 /// behind that, and then the report is flushed. The session is dropped, with its sink.
 ///
@@ -40,8 +43,8 @@ use tape_set::Want;
 ///
 /// # Errors
 ///
-/// `Run` with the fault of a reel, of a save, or of the walk over the sink's parts, as
-/// `Sink(Failed)` where this gives fewer records than before; `WriteFailed` where `out` or
+/// `Run` with the fault of a reel, of a save, of going back, or of the walk over the sink's parts,
+/// as `Sink(Failed)` where this gives fewer records than before; `WriteFailed` where `out` or
 /// the report failed. What was reported is a front of such a report. `out` was not touched, or the
 /// file is complete, and a front of its records was written.
 pub fn extract_to<S: PartWalk + Drop, R: Read, W: Write, P: Write>(
@@ -60,7 +63,8 @@ pub fn extract_to<S: PartWalk + Drop, R: Read, W: Write, P: Write>(
         (P.contents report.old) (P.contents report.new)) }
 {
     let mut session = session;
-    read_images(&mut session, images, report)?;
+    let back = has_note(&session);
+    read_images(&mut session, images, back, report)?;
     if let Some(want) = session.want() {
         end_report(report, Some(want), 0)?;
         return Ok(Some(want));
@@ -69,6 +73,13 @@ pub fn extract_to<S: PartWalk + Drop, R: Read, W: Write, P: Write>(
     let records = write_file(&mut sink, form, out)?;
     end_report(report, None, records)?;
     Ok(None)
+}
+
+/// Whether the session has a note, to which it can go back.
+fn has_note<S: PartSink>(session: &Session<S>) -> bool
+    ensures { result ≡ goes_back session.now.notes }
+{
+    session.notes() > 0
 }
 
 /// Reports the last line, and has the writer pass on all that it holds.

@@ -3,8 +3,10 @@
 ghost use Rattle.std.specs.Prelude.{◌≡◌};
 ghost use Rattle.tape_run.specs.Fault.{number_of};
 ghost use Rattle.tape_run.specs.declared.fault.EngineFault.TheVariants as engine;
+ghost use Rattle.tape_run.specs.declared.fault.ListFault.TheVariants as list;
 
 use tape_core::SinkFault;
+use tape_image::ImageFault;
 use thiserror::Error;
 
 /// Why a step of a run was not made. The steps before it stand.
@@ -74,5 +76,32 @@ impl From<WriteFailed> for EngineFault {
 
     fn from(_fault: WriteFailed) -> EngineFault {
         EngineFault::WriteFailed
+    }
+}
+
+/// What ends the listing of an image.
+#[derive(Clone, Copy, Debug, PartialEq, Eq, Error)]
+pub enum ListFault {
+    /// The image could not be read on.
+    #[error("{0}")]
+    Image(ImageFault),
+    /// The listing could not be written.
+    #[error("a write failed")]
+    WriteFailed,
+}
+
+impl From<ImageFault> for ListFault {
+    ghost from_gives = { λ fault e. e ≡ list.Image fault };
+
+    fn from(fault: ImageFault) -> ListFault {
+        ListFault::Image(fault)
+    }
+}
+
+impl From<WriteFailed> for ListFault {
+    ghost from_gives = { λ _ e. e ≡ list.WriteFailed };
+
+    fn from(_fault: WriteFailed) -> ListFault {
+        ListFault::WriteFailed
     }
 }

@@ -1,5 +1,13 @@
 //! Laws of runs, each as the contract of a call that does nothing.
 
+ghost use Rattle.tape_run.specs.Cases.{CasesOfMounts, CasesOfHistories, CasesOfGiven};
+ghost use Rattle.tape_run.specs.Cases.{CasesOfVolumes, CasesOfSessions, CasesOfMade, CasesOfStops};
+ghost use Rattle.tape_run.specs.Cases.{CasesOfCrashes};
+ghost use Rattle.tape_run.specs.CasesOfReels.{CasesOfAnswers, CasesOfTable, CasesOfLeads};
+ghost use Rattle.tape_run.specs.CasesOfCatalogues.{CasesOfCatalogues, CasesOfImages};
+ghost use Rattle.tape_run.specs.CasesOfCatalogues.{CasesOfCopies, CasesOfReports};
+ghost use Rattle.tape_run.specs.CasesOfExtracts.{CasesOfTurns, CasesOfOutputs};
+ghost use Rattle.tape_run.specs.CasesOfLaws.{CasesOfRunLaws, CasesOfCatalogueLaws};
 ghost use Rattle.tape_run.specs.Fronts.{FrontsAreMounts, GivenIsHistory};
 ghost use Rattle.tape_run.specs.Lead.{ItemsAreThere};
 ghost use Rattle.tape_run.specs.Lives.{StoodComesBack, StandsAcrossCrashes};
@@ -42,4 +50,28 @@ pub fn worked_history()
 /// Whatever bytes the readers have, they begin with items, and with these alone.
 pub fn items_are_there()
     ensures { ItemsAreThere }
+{}
+
+/// What the definitions say of cases: of histories and runs, of a reel's answer and the table, of
+/// catalogues and reports, of files got back, and of the laws.
+pub fn cases()
+    ensures mounts { CasesOfMounts }
+    ensures histories { CasesOfHistories }
+    ensures given { CasesOfGiven }
+    ensures volumes { CasesOfVolumes }
+    ensures sessions { CasesOfSessions }
+    ensures made { CasesOfMade }
+    ensures stops { CasesOfStops }
+    ensures crashes { CasesOfCrashes }
+    ensures answers { CasesOfAnswers }
+    ensures table { CasesOfTable }
+    ensures leads { CasesOfLeads }
+    ensures catalogues { CasesOfCatalogues }
+    ensures images { CasesOfImages }
+    ensures copies { CasesOfCopies }
+    ensures reports { CasesOfReports }
+    ensures turns { CasesOfTurns }
+    ensures outputs { CasesOfOutputs }
+    ensures run_laws { CasesOfRunLaws }
+    ensures catalogue_laws { CasesOfCatalogueLaws }
 {}

@@ -1,7 +1,7 @@
 //! Sessions: one file read from its reels, in any order, into one sink.
 
 ghost use Rattle.std.specs.Prelude.{◌≡◌, [], ◌≢◌, List, Option, None, Ok, Err, IsOk, OnOk, IfOk};
-ghost use Rattle.std.specs.Prelude.{IfErr, IfSome};
+ghost use Rattle.std.specs.Prelude.{IfErr, IfSome, length};
 ghost use Rattle.tape_blocks.specs.Block.{Portion};
 ghost use Rattle.tape_image.specs.Reader.{IfKnown};
 ghost use Rattle.tape_set.specs.Layout.{FileSet};
@@ -232,6 +232,33 @@ impl<S: PartSink> Session<S> {
                 Err(RunFault::Sink(cause))
             }
         }
+    }
+
+    /// Notes where the session stands in its list alone, and has the sink keep nothing: for a sink
+    /// that comes back from a crash as it stands, such as one that was opened just now.
+    ///
+    /// # Errors
+    ///
+    /// `OutOfMemory`, where the list could not grow. It leaves the session as it was.
+    pub fn note(&mut self) -> Result<(), RunFault>
+        ensures sink { self.new.sink ≡ self.old.sink }
+        ensures ok { OnOk result ((held : List Portion) → S.holds self.old.sink held
+            → Saved (seen S.refusals self.old held) (seen S.refusals self.new held)) }
+        ensures err { IfErr result (λ fault. (fault ≡ RunFault.OutOfMemory)
+            × (self.new ≡ self.old)) }
+    {
+        let here = self.intake.core.save(self.intake.sink.weight());
+        if self.notes.push(here).is_err() {
+            return Err(RunFault::OutOfMemory);
+        }
+        Ok(())
+    }
+
+    /// How many notes there are.
+    pub fn notes(&self) -> usize
+        ensures { result ≡ length self.now.notes }
+    {
+        self.notes.len()
     }
 
     /// Goes back to the note of this number, counted from 0: the sink is cut to what it held then,

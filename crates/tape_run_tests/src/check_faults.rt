@@ -2,6 +2,7 @@
 use crate::devices::{FailsOnce, Narrow};
 use crate::image::payroll;
 use std::alloc::{AllocError, Global};
+use std::io;
 use std::io::{ErrorKind, Write};
 use std::process::Abort;
 use std::test::Fail;
@@ -43,15 +44,50 @@ fn a_writer_that_fails(rt: HostRuntime) -> Result<(), Fail> {
     Ok(())
 }
 
-/// A flush that fails is a write that failed, and the report stands.
+/// A flush that fails is a write that failed, and what was written stands: the line of the image.
 #[test]
 fn a_flush_that_fails(rt: HostRuntime) -> Result<(), Fail> {
-    for (flushes, wanted) in [(true, Ok(true)), (false, WRITE_FAILED)] {
+    for (flushes, wanted, length) in [(true, Ok(true), REPORT.len()), (false, WRITE_FAILED, 18)] {
         let mut narrow = Narrow::new(rt.alloc(), REPORT.len(), flushes);
         let answer = check_worked(rt.alloc(), &mut narrow)?;
         assert!(rt; answer == wanted, "{flushes}");
-        assert!(rt; narrow.taken.as_slice() == REPORT, "{flushes}");
+        assert!(rt; narrow.taken.as_slice() == &REPORT[..length], "{flushes}");
     }
+    Ok(())
+}
+
+/// Counts what it takes, and keeps how much that was at each flush.
+#[derive(Drop)]
+struct Flushed {
+    taken: usize,
+    at: Vec<usize>,
+}
+
+impl Write for Flushed {
+    fn write(&mut self, buf: &[u8]) -> io::Result<usize> {
+        self.taken = self.taken.saturating_add(buf.len());
+        Ok(buf.len())
+    }
+
+    fn flush(&mut self) -> io::Result<()> {
+        self.at.push(self.taken)?;
+        Ok(())
+    }
+}
+
+/// The line of each image is passed on, and then the rest: 18 and 18 bytes, and 52 for the section
+/// and the last line.
+#[test]
+fn lines_are_passed_on_one_by_one(rt: HostRuntime) -> Result<(), Fail> {
+    let image = payroll(rt.alloc())?;
+    let images = &mut [Some(image.bytes.as_slice()), Some(image.bytes.as_slice())];
+    let mut report = Flushed {
+        taken: 0,
+        at: Vec::new(rt.alloc()),
+    };
+    let answer = check_to(rt.alloc(), images, &mut report);
+    assert!(rt; answer == Ok(true));
+    assert_eq!(rt; report.at.as_slice(), [18, 36, 88].as_slice());
     Ok(())
 }
 

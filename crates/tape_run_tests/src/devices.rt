@@ -28,6 +28,21 @@ impl Read for Dribble<'_> {
     }
 }
 
+/// Gives this many zero bytes: tape marks.
+#[derive(Drop)]
+pub struct Zeros {
+    pub left: usize,
+}
+
+impl Read for Zeros {
+    fn read(&mut self, buf: &mut [u8]) -> Result<usize> {
+        let count = buf.len().min(self.left);
+        buf[..count].fill(0);
+        self.left -= count;
+        Ok(count)
+    }
+}
+
 /// Takes one byte a call, and after `left` of them takes none, or fails. A flush fails where it is
 /// told to.
 #[derive(Drop)]

@@ -8,6 +8,8 @@ use tape_label::Field;
 pub struct Image {
     pub alloc: Global,
     pub bytes: Vec<u8>,
+    /// What stands before each word.
+    between: &'static [u8],
 }
 
 /// So many of the bytes in front, or all of them where there are no more.
@@ -26,14 +28,21 @@ pub fn set_id() -> Field<6> {
 
 impl Image {
     pub fn new(alloc: Global) -> Image {
+        Image::with(alloc, &[])
+    }
+
+    /// An image with these bytes before each of its words.
+    pub fn with(alloc: Global, between: &'static [u8]) -> Image {
         Image {
             alloc,
             bytes: Vec::new(alloc),
+            between,
         }
     }
 
     /// A word, least byte first.
     pub fn word(&mut self, word: [u8; 4]) -> Result<(), AllocError> {
+        self.bytes.extend_from_slice(self.between)?;
         self.bytes.extend_from_slice(&word)
     }
 
@@ -61,7 +70,7 @@ impl Image {
         if count % 2 == 1 {
             self.bytes.push(0)?;
         }
-        self.word(word)
+        self.bytes.extend_from_slice(&word)
     }
 
     pub fn block(&mut self, content: &[u8]) -> Result<(), AllocError> {
@@ -75,8 +84,13 @@ impl Image {
 
     /// A block of 80 characters: the text, and spaces behind it.
     pub fn label(&mut self, text: &str) -> Result<(), AllocError> {
-        let mut label = [b' '; 80];
-        for (slot, byte) in label.iter_mut().zip(text.as_bytes()) {
+        self.label_of(text.as_bytes(), b' ')
+    }
+
+    /// A block of 80 bytes: the front, and copies of another byte behind it.
+    pub fn label_of(&mut self, front: &[u8], filler: u8) -> Result<(), AllocError> {
+        let mut label = [filler; 80];
+        for (slot, byte) in label.iter_mut().zip(front) {
             *slot = *byte;
         }
         self.block(&label)
@@ -130,18 +144,22 @@ pub const HDR2: &str = "HDR2F0080000080                                   00";
 /// The worked volume: 25 records in blocks of 10, 10 and 5, in 2,484 bytes. The first data block
 /// begins at 268, the others at 1,076 and 1,884; the closing mark at 2,292.
 pub fn payroll(alloc: Global) -> Result<Image, AllocError> {
-    payroll_with(
-        alloc,
-        &[
-            EOF_THREE,
-            "EOF2F0080000080                                   00",
-        ],
-    )
+    payroll_between(alloc, &[])
+}
+
+/// The worked volume with these bytes before each of its words.
+pub fn payroll_between(alloc: Global, between: &'static [u8]) -> Result<Image, AllocError> {
+    let second = "EOF2F0080000080                                   00";
+    payroll_on(Image::with(alloc, between), &[EOF_THREE, second])
 }
 
 /// The worked volume with these trailer labels.
 pub fn payroll_with(alloc: Global, trailers: &[&str]) -> Result<Image, AllocError> {
-    let mut image = Image::new(alloc);
+    payroll_on(Image::new(alloc), trailers)
+}
+
+/// The worked volume with these trailer labels, on an image of which nothing was written.
+fn payroll_on(mut image: Image, trailers: &[&str]) -> Result<Image, AllocError> {
     image.headers(&[VOL1, HDR1, HDR2])?;
     image.records(0, 10, true)?;
     image.records(10, 20, true)?;

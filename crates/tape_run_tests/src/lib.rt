@@ -21,6 +21,12 @@ mod extract;
 #[cfg(test)]
 mod image;
 #[cfg(test)]
+mod list_faults;
+#[cfg(test)]
+mod listed_labels;
+#[cfg(test)]
+mod listing;
+#[cfg(test)]
 mod long;
 #[cfg(test)]
 mod order;
@@ -34,5 +40,7 @@ mod refusals;
 mod sections;
 #[cfg(test)]
 mod sessions;
+#[cfg(test)]
+mod taken_back;
 #[cfg(test)]
 mod volumes;

@@ -1,11 +1,15 @@
--- Answers that the contracts of a walk over records exclude: each is what a wrong body would give.
-use Rattle.std.proofs.Common.{◌≡◌, List, [], ◌∷◌, length, ap, ◌∙◌, subst, arith, codes}
+-- Answers that the contracts of a walk over records, and of what is asked of a session before it is
+-- read, exclude: each is what a wrong body would give.
+use Rattle.std.proofs.Common.{◌≡◌, true, false, List, [], ◌∷◌, length, ap, ◌∙◌, subst, arith}
+use Rattle.std.proofs.Common.{codes}
 use Rattle.std.specs.Prelude.{Some, Ok}
 use Rattle.std.specs.Io.KnownBytes.{Appends}
 use Rattle.tape_blocks.specs.declared.part.Span.TheVariants.{Whole, First}
 use Rattle.tape_blocks.specs.Block.{Portion}
 use Rattle.tape_blocks.specs.declared.form.Form.TheVariants.{Lines}
 use Rattle.tape_run.specs.RecordText.{output_of}
+use Rattle.tape_run.specs.Reeling.{goes_back}
+use Rattle.tape_run.proofs.extract.has_note.Reads as has_note
 use Rattle.tape_run.proofs.extract.records.count_records.Reads as count_records
 use Rattle.tape_run.proofs.extract.records.write_records.Reads as write_records
 
@@ -48,3 +52,9 @@ line_feed_left_out S W LS LW g d g' d' h e κs a s l holds one form old new =
     (subst (λ v. Appends v (h.contents s.1.1.1.0.now) (output_of a.1.1.0 whole)) old
     (l.ok whole holds one)) in
     absurd (let n : 2 ≡ 3 = ap length (r ∙ ap (λ v. output_of v whole) form) in omega arith)
+
+-- one_note_is_none: a session with one note does not go back to it
+one_note_is_none : (S : _) (L : _) (g : _) (d : _) (κs : _) (a : _) (s : _) (note : _)
+    → has_note.Learnt S L g d κs a false s → a.0.now.notes ≡ note ∷ [] → ⊥
+one_note_is_none S L g d κs a s note l one =
+    absurd (let e : false ≡ true = l ∙ ap goes_back one in cc)

@@ -1,10 +1,10 @@
 //! Images read one after another, and a line reported for each.
-ghost use Rattle.std.specs.Prelude.{◌≡◌, ◌≢◌, Some, List, OnOk, OnErr, true};
+ghost use Rattle.std.specs.Prelude.{◌≡◌, ◌≢◌, Some, List, OnOk, OnErr, true, false};
 ghost use Rattle.tape_set.specs.declared.position.Position.TheVariants.{Finished};
 ghost use Rattle.tape_blocks.specs.Block.{Portion};
-ghost use Rattle.tape_run.specs.Seen.{seen};
+ghost use Rattle.tape_run.specs.Seen.{seen, IsKept};
 ghost use Rattle.tape_run.specs.Reeling.{Takes, TakesAll, StopsReading, IsReported};
-ghost use Rattle.tape_run.specs.Reeling.{is_doubtful, IsNoted};
+ghost use Rattle.tape_run.specs.Reeling.{is_doubtful, IsNoted, WentToLast, IsKeptFor};
 
 use super::line::reel_line;
 use crate::answer::ReelAnswer;
@@ -14,22 +14,30 @@ use crate::session::Session;
 use std::io::{Read, Write};
 use tape_core::{Answer, PartSink, Reason};
 
-/// Reads the images in their order, until the file is complete.
+/// Reads the images in their order, until the file is complete. `back` says whether the session
+/// goes back behind a reel that is in doubt.
 pub fn read_images<S: PartSink, R: Read, P: Write>(
     session: &mut Session<S>,
     images: &mut [Option<R>],
+    back: bool,
     report: &mut P,
 ) -> Result<(), EngineFault>
-    ensures ok { OnOk result (TakesAll S.holds S.refusals R.remaining session.old session.new
+    ensures ok { OnOk result (TakesAll S.holds S.refusals R.remaining back session.old session.new
         images.old images.new (P.contents report.old) (P.contents report.new)) }
-    ensures err { OnErr result (StopsReading S.holds S.refusals session.old
+    ensures err { OnErr result (StopsReading S.holds S.refusals back session.old
         (P.contents report.old) (P.contents report.new)) }
 {
     for number in 0..images.len() {
         if session.want().is_none() {
             return Ok(());
         }
-        take_image(session, &mut images[number], number as u64 + 1, report)?;
+        take_image(
+            session,
+            &mut images[number],
+            number as u64 + 1,
+            back,
+            report,
+        )?;
     }
     Ok(())
 }
@@ -39,36 +47,71 @@ fn take_image<S: PartSink, R: Read, P: Write>(
     session: &mut Session<S>,
     image: &mut Option<R>,
     number: u64,
+    back: bool,
     report: &mut P,
 ) -> Result<(), EngineFault>
     requires waits { session.old.core.position ≢ Finished }
-    ensures ok { OnOk result (Takes S.holds S.refusals R.remaining session.old session.new
-        image.old image.new number (P.contents report.old) (P.contents report.new)) }
+    ensures ok { OnOk result (Takes S.holds S.refusals R.remaining back session.old
+        session.new image.old image.new number (P.contents report.old) (P.contents report.new)) }
     ensures err { OnErr result (IsReported number (P.contents report.old) (P.contents report.new)) }
 {
     match image {
-        Some(device) => take_reel(session, device, number, report),
+        Some(device) => take_reel(session, device, number, back, report),
         None => Ok(write_text(report, reel_line(number, None).as_bytes())?),
     }
 }
 
-/// Reads a reel, reports its line, and notes where the session stands.
+/// Reads a reel, reports its line, and notes where the session stands, or has it go back.
 fn take_reel<S: PartSink, R: Read, P: Write>(
     session: &mut Session<S>,
     device: &mut R,
     number: u64,
+    back: bool,
     report: &mut P,
 ) -> Result<(), EngineFault>
     requires waits { session.old.core.position ≢ Finished }
-    ensures ok { OnOk result (Takes S.holds S.refusals R.remaining session.old session.new
-        (Some device.old) (Some device.new) number
+    ensures ok { OnOk result (Takes S.holds S.refusals R.remaining back session.old
+        session.new (Some device.old) (Some device.new) number
         (P.contents report.old) (P.contents report.new)) }
     ensures err { OnErr result (IsReported number (P.contents report.old) (P.contents report.new)) }
 {
     let answer = session.reel(device)?;
     write_text(report, reel_line(number, Some(answer)).as_bytes())?;
-    note(session, &answer)?;
+    settle(session, &answer, back)?;
     Ok(())
+}
+
+/// Notes where the session stands behind a reel; behind one that is in doubt a session that goes
+/// back does so.
+fn settle<S: PartSink>(
+    session: &mut Session<S>,
+    answer: &ReelAnswer,
+    back: bool,
+) -> Result<(), RunFault>
+    ensures ok { OnOk result ((held : List Portion) → S.holds session.old.sink held
+        → IsKeptFor back (seen S.refusals session.old held)
+        → (now : List Portion) × S.holds session.new.sink now
+        × IsNoted back (is_doubtful answer.now.answer) (seen S.refusals session.old held)
+        (seen S.refusals session.new now)) }
+{
+    if back && is_doubtful(answer) {
+        return go_back(session);
+    }
+    note(session, answer)
+}
+
+/// Goes back to the note made last.
+fn go_back<S: PartSink>(session: &mut Session<S>) -> Result<(), RunFault>
+    ensures ok { OnOk result ((held : List Portion) → S.holds session.old.sink held
+        → IsKept (seen S.refusals session.old held)
+        → (now : List Portion) × S.holds session.new.sink now
+        × WentToLast (seen S.refusals session.old held) (seen S.refusals session.new now)) }
+{
+    let notes = session.notes();
+    if notes == 0 {
+        return Err(RunFault::NoSuchPoint);
+    }
+    session.restart(notes - 1)
 }
 
 /// Notes where the session stands. Where what the reel gave is in doubt nothing is noted, so that a
@@ -77,7 +120,7 @@ fn note<S: PartSink>(session: &mut Session<S>, answer: &ReelAnswer) -> Result<()
     ensures doubtful { is_doubtful answer.now.answer ≡ true → session.new ≡ session.old }
     ensures ok { OnOk result ((held : List Portion) → S.holds session.old.sink held
         → (now : List Portion) × S.holds session.new.sink now
-        × IsNoted (is_doubtful answer.now.answer) (seen S.refusals session.old held)
+        × IsNoted false (is_doubtful answer.now.answer) (seen S.refusals session.old held)
         (seen S.refusals session.new now)) }
 {
     if is_doubtful(answer) {

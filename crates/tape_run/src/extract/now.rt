@@ -57,7 +57,8 @@ pub fn extract_now<W: Write + Drop, R: Read, O: Place<W>, P: Write>(
         (P.contents report.old) (P.contents report.new)) }
 {
     let mut session = session;
-    read_images(&mut session, images, report)?;
+    // What was written stays: this session does not go back.
+    read_images(&mut session, images, false, report)?;
     if let Some(want) = session.want() {
         end_report(report, Some(want), 0)?;
         return Ok(Some(want));

@@ -1,6 +1,7 @@
 use Rattle.std.proofs.Common.{◌≡◌, ◌+◌, ◌<◌, [], ◌∷◌, ◌++◌, length, get_or, refl, sym, ap, ◌∙◌}
 use Rattle.std.proofs.Common.{arith, length-append}
 use Rattle.std.proofs.lemmas.List.{length-set}
+use Rattle.std.proofs.KnownBytes.{Appends-nil}
 use Rattle.tape_run.specs.Seen.{seen}
 use Rattle.tape_run.proofs.Fitting.{on_err}
 use Rattle.tape_run.proofs.Turns.{front_behind, line_behind, one_turn, follows_then}
@@ -16,13 +17,17 @@ returns-in_err-take_image-clause-err g c =
       more = more;
       few = few;
       lines = front_behind _ _ _ turns more (c.loop-number.number + 1) number lines part;
-      follows = λ held was.
-          let (now, has, follows) = f held was in (
+      follows = λ held was kept.
+          let (now, has, still, follows) = f held was kept in (
             c.loop-number.session.core,
             seen g.S.PartSink.refusals c.loop-number.session now,
             follows,
           );
     })
+
+pub loop-number-init : goal.loop-number-init
+loop-number-init g c =
+    ([], refl, refl, refl, Appends-nil _, λ held was kept. (held, was, kept, (refl, refl)))
 
 pub loop-number-preserved : goal.loop-number-preserved
 loop-number-preserved g c =
@@ -39,8 +44,12 @@ loop-number-preserved g c =
           (sym e) within are refl taken.is_turn,
       length-set c.loop-number.images n c.take_image.new.image ∙ long,
       line_behind _ _ _ turns taken.turn (n + 1) number lines taken.line,
-      λ held was.
-          let (now, has, follows) = f held was in
-          let (next, has_next, one) = taken.follows now has in
-          (next, has_next, follows_then _ _ turns _ _ (taken.turn ∷ []) _ _ follows one),
+      λ held was kept.
+          let (now, has, still, follows) = f held was kept in
+          let (next, has_next, then, one) = taken.follows now has still in (
+            next,
+            has_next,
+            then,
+            follows_then c.args.back _ _ turns _ _ (taken.turn ∷ []) _ _ follows one,
+          ),
     )

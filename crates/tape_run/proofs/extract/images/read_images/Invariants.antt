@@ -3,7 +3,7 @@ use Rattle.std.specs.Io.KnownBytes.{Appends}
 use Rattle.tape_blocks.specs.Block.{Portion}
 use Rattle.tape_run.specs.Seen.{seen}
 use Rattle.tape_run.specs.ReelLine.{reel_lines}
-use Rattle.tape_run.specs.Reeling.{Turn, answer_of, AreTurns, Follows}
+use Rattle.tape_run.specs.Reeling.{Turn, answer_of, AreTurns, Follows, IsKeptFor}
 use Rattle.tape_run.proofs.extract.images.read_images.Given as goal
 
 abbrev pub invariant-loop-number : goal.invariant-loop-number
@@ -12,7 +12,9 @@ invariant-loop-number g l = (turns : List Turn) × (length turns ≡ l.number)
     × (length l.images ≡ length l.fn.images)
     × Appends (g.P.Write.contents l.fn.report) (g.P.Write.contents l.report) (reel_lines 1
     (map answer_of turns))
-    × ((held : List Portion) → g.S.PartSink.holds l.fn.session.sink held → (now : List Portion)
+    × ((held : List Portion) → g.S.PartSink.holds l.fn.session.sink held
+    → IsKeptFor l.fn.back (seen g.S.PartSink.refusals l.fn.session held) → (now : List Portion)
     × g.S.PartSink.holds l.session.sink now
-    × Follows l.fn.session.core (seen g.S.PartSink.refusals l.fn.session held) turns l.session.core
-    (seen g.S.PartSink.refusals l.session now))
+    × IsKeptFor l.fn.back (seen g.S.PartSink.refusals l.session now)
+    × Follows l.fn.back l.fn.session.core (seen g.S.PartSink.refusals l.fn.session held) turns
+    l.session.core (seen g.S.PartSink.refusals l.session now))

@@ -3,9 +3,9 @@ use Rattle.std.specs.Io.KnownBytes.{Appends}
 use Rattle.tape_run.specs.Seen.{seen}
 use Rattle.tape_run.specs.Output.{AppendsFront}
 use Rattle.tape_run.specs.ReelLine.{reel_line}
-use Rattle.tape_run.specs.Reeling.{Opened}
+use Rattle.tape_run.specs.Reeling.{Opened, is_doubtful}
 use Rattle.tape_run.proofs.Fitting.{on_err}
-use Rattle.tape_run.proofs.Turns.{part_line, whole_line, noted}
+use Rattle.tape_run.proofs.Turns.{part_line, whole_line, noted, kept_for, kept_behind}
 use Rattle.tape_run.proofs.extract.images.take_reel.Goals as goal
 
 pub returns-in_err-write_text-clause-err : goal.returns-in_err-write_text-clause-err
@@ -17,13 +17,13 @@ returns-in_err-write_text-clause-err g c =
     on_err c.from_residual-in_err-write_text.result _
     (part_line c.args.number (Some c.in_ok-answer.answer) _ _ part)
 
-pub returns-in_err-note-clause-err : goal.returns-in_err-note-clause-err
-returns-in_err-note-clause-err g c =
+pub returns-in_err-settle-clause-err : goal.returns-in_err-settle-clause-err
+returns-in_err-settle-clause-err g c =
     let text : c.as_bytes.result.now ≡ reel_line c.args.number (Some c.in_ok-answer.answer) =
     search rules in
     let line = subst (Appends (g.P.Write.contents c.args.report.now)
     (g.P.Write.contents c.write_text.new.writer)) text c.in_ok-write_text.ensures.ok in
-    on_err c.from_residual-in_err-note.result _
+    on_err c.from_residual-in_err-settle.result _
     (whole_line c.args.number (Some c.in_ok-answer.answer) _ _ line)
 
 pub returns-clause-ok : goal.returns-clause-ok
@@ -41,19 +41,24 @@ returns-clause-ok g c =
       is_turn = (refl, refl);
       line = subst (Appends (g.P.Write.contents c.args.report.now)
           (g.P.Write.contents c.write_text.new.writer)) text c.in_ok-write_text.ensures.ok;
-      follows = λ held was.
+      follows = λ held was kept.
           let (now, has, keeps, reeled) = c.in_ok-answer.ensures.ok held was in
-          let (behind, has_behind, saved) = c.in_ok-note.ensures.ok now has in (
+          let back = c.args.back in
+          let doubtful = is_doubtful c.in_ok-answer.answer.answer in
+          let mid = seen refusals c.reel.new.self now in
+          let still = kept_for back (seen refusals c.args.session.now held) mid keeps kept in
+          let (behind, has_behind, saved) = c.in_ok-settle.ensures.ok now has still in (
             behind,
             has_behind,
+            kept_behind back doubtful mid (seen refusals c.settle.new.session behind) saved still,
             (
-              c.note.new.session.core,
-              seen refusals c.note.new.session behind,
+              c.settle.new.session.core,
+              seen refusals c.settle.new.session behind,
               record {
                 waits = c.requires.waits;
                 answers = c.in_ok-answer.ensures.answer;
-                reeled = noted opened.had opened (seen refusals c.args.session.now held)
-                    (seen refusals c.reel.new.self now) (seen refusals c.note.new.session behind)
+                reeled = noted back opened.had opened (seen refusals c.args.session.now held)
+                    mid (seen refusals c.settle.new.session behind)
                     reeled saved;
                 place = refl;
               },

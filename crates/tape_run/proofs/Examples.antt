@@ -1,0 +1,254 @@
+-- The cases of a session and of its history.
+use Rattle.std.proofs.Common.{◌≡◌, ◌≢◌, ◌<◌, ◌≤◌, ◌+◌, ◌⊎◌, ℕ, zero, suc, List, [], ◌∷◌, ◌++◌}
+use Rattle.std.proofs.Common.{length, true, false, Some, None, refl, sym, ap, subst, inl}
+use Rattle.std.proofs.Common.{inr, arith}
+use Rattle.std.proofs.Common.{◌∙◌, append-nil, length-append}
+use Rattle.std.specs.Prelude.{slice_get, slice_index}
+use Rattle.tape_image.specs.declared.item.Ending.TheVariants as endings
+use Rattle.tape_image.specs.Tape.{TapeItem, block}
+use Rattle.tape_image.specs.Begins.{Stop, Begins, ends, nothing}
+use Rattle.tape_label.specs.Kinds.{kind_at}
+use Rattle.tape_label.specs.Reading.{head_at, head1_at}
+use Rattle.tape_label.specs.VolumeLabels.{is_volume_label}
+use Rattle.tape_blocks.specs.Block.{Portion}
+use Rattle.tape_set.specs.declared.position.Position.{Position}
+use Rattle.tape_set.specs.Layout.{FileSet, Volume, Section, items, entries}
+use Rattle.tape_set.specs.Lawful.{IsLawful}
+use Rattle.tape_set.specs.Reach.{passes}
+use Rattle.tape_set.specs.Reading.{Reading, IsReadingOf, as_read}
+use Rattle.tape_core.specs.Point.{Point}
+use Rattle.tape_core.specs.Stands.{weight_of}
+use Rattle.tape_core.specs.Table.{saved}
+use Rattle.tape_core.specs.Weight.{IsFront}
+use Rattle.tape_run.specs.declared.fault.RunFault.{RunFault}
+use Rattle.tape_run.specs.Back.{AreVolumes}
+use Rattle.tape_run.specs.Crash.{IsOf}
+use Rattle.tape_run.specs.Given.{IsGiven, AreGiven}
+use Rattle.tape_run.specs.History.{Course, course_of}
+use Rattle.tape_run.specs.Headline.{HasStopped}
+use Rattle.tape_run.specs.Lives.{IsPlaceOf}
+use Rattle.tape_run.specs.Mount.{foreign_reel, reads, IsMount, IsMountOf}
+use Rattle.tape_run.specs.Seen.{Seen, IsKept, KeepsNotes}
+use Rattle.tape_run.specs.WorkedHistory.{worked_set, vol1, hdr1}
+use Rattle.tape_run.specs.Cases.{CasesOfMounts, CasesOfHistories, CasesOfGiven, CasesOfVolumes}
+use Rattle.tape_run.specs.Cases.{CasesOfSessions, CasesOfMade, CasesOfStops, CasesOfCrashes}
+use Rattle.tape_run.specs.Cases.{on_one_volume}
+
+-- ---- what may be mounted
+
+readings : (set : FileSet) (r : Reading) → IsReadingOf set r
+    → IsMount set (as_read (items set r.volume) r.good) (reads r)
+readings set r is = record {
+  is_reading = is;
+  more = [];
+  whole = sym (append-nil (as_read (items set r.volume) r.good));
+  behind = λ n. absurd (n refl);
+}
+
+more_behind : (set : FileSet) (r : Reading) (more : List TapeItem) → IsReadingOf set r
+    → length r.good ≡ length (items set r.volume) → passes r.good (entries set r.volume) ≡ true
+    → IsMount set (as_read (items set r.volume) r.good ++ more) (reads r)
+more_behind set r more is all fine =
+    record { is_reading = is; more = more; whole = refl; behind = λ n. (all, fine) }
+
+pub empty_begins : Begins 0 [] [] 0 (ends endings.Physical)
+empty_begins = record {
+  rest = [];
+  walks =
+      record { leads = record { spellings = []; whole = refl; items_are = refl }; moves = refl };
+  within = omega arith;
+  stops = nothing refl refl;
+}
+
+own_volume : (rest : List TapeItem)
+    → IsMount worked_set (block vol1 ∷ block hdr1 ∷ rest) foreign_reel → ⊥
+unfolding kind_at head_at head1_at is_volume_label
+own_volume rest e = absurd (cc e)
+
+pub cases_of_mounts : CasesOfMounts
+cases_of_mounts = record {
+  readings = readings;
+  more_behind = more_behind;
+  empty_image = λ set. ([], 0, ends endings.Physical, empty_begins, refl);
+  mark_first = λ set rest. refl;
+  own_volume = own_volume;
+  any_stop = λ set bytes xs end stop h b m. (xs, end, stop, b, m);
+  no_save = λ set xs m. m;
+  no_restart = λ set xs m. m;
+  cut_off = refl;
+  foreign_moves_nothing = λ set p. refl;
+}
+
+-- ---- histories
+
+pub cases_of_histories : CasesOfHistories
+cases_of_histories = record {
+  saved_and_back = λ set bytes. (refl, (refl, (refl, omega arith, (refl, omega arith, tt))));
+  no_note_yet = λ set h. let less = h.1 in absurd (omega (arith, less));
+  forgotten = λ set h. let less = h.2.1 in absurd (omega (arith, less));
+  other_note = λ set h. let e = h.0 in absurd (cc e);
+  reel_mounted = λ set bytes h m. (m, tt);
+  no_reel = λ set h x. x;
+  unasked = λ set h x. x;
+  left_out = λ set s x. x;
+  saved_course = refl;
+  back_course = refl;
+  last_note = refl;
+  same_course = refl;
+}
+
+-- ---- what readers gave
+
+no_other : IsGiven true (1 ∷ 2 ∷ []) (2 ∷ []) → ⊥
+no_other (rest, e) =
+    let two : 1 ≡ 2 = ap (λ l. slice_index l 0) e in
+    absurd (omega (arith, two))
+
+none_failed : (bytes given : List ℕ) → AreGiven 0 (bytes ∷ []) (given ∷ []) → given ≡ bytes
+none_failed bytes given (inl g) = g.0
+none_failed bytes given (inr (m, e, some, rest)) = absurd (omega (arith, e))
+
+pub cases_of_given : CasesOfGiven
+cases_of_given = record {
+  no_other = no_other;
+  front = (2 ∷ [], refl);
+  none_failed = none_failed;
+  one_failed = λ b c d. inl (refl, inr (0, refl, (c, refl), refl));
+  of_each = λ b g. g;
+  of_no_more = λ b g. g;
+  calm = refl;
+  one = refl;
+  greatest = refl;
+  two = refl;
+  device = refl;
+  no_fault = refl;
+  in_the_bytes = refl;
+  of_memory = refl;
+}
+
+-- ---- the images of all volumes
+
+pub cases_of_volumes : CasesOfVolumes
+cases_of_volumes = record {
+  one_image = λ id v files bytes end stop b. (omega arith, (end, stop, b), refl);
+  one_lacks = λ id v files e. absurd (omega (arith, e));
+  one_too_many = λ id v files bytes a. let less = a.0 in absurd (omega (arith, less));
+  a_reel_each = λ b c. refl;
+}
+
+-- ---- what a session is
+
+kept_note : (s : Seen) (c : Point) → s.notes ≡ c ∷ [] → IsKept s
+    → (ps : List Portion) × IsFront ps s.parts × (c.set_id ≡ s.place.set_id)
+    × (c.file ≡ s.place.file) × (c.staged ≡ weight_of ps)
+kept_note s c one kept =
+    let k = subst (λ notes. KeepsNotes s.place [] notes s.parts) one kept in
+    (k.0, k.3, k.2.of_set, k.2.of_file, k.2.staged)
+
+its_course : (s : Seen) (c : Point) → s.notes ≡ c ∷ []
+    → course_of s ≡ record { at = s.place.position; notes = c.position ∷ [] }
+its_course s c one = rw one refl
+
+pub cases_of_sessions : CasesOfSessions
+cases_of_sessions = record {
+  is_seen = λ s parts. refl;
+  seen_counts = λ s parts. (refl, refl);
+  its_course = its_course;
+  session = λ set s is. (is.at, is.notes);
+  one_note = λ set c parts stands. ([], ([], refl), stands, (parts, refl));
+  note_stands = λ set c parts n. (n.2, n.3);
+  kept_note = kept_note;
+  ran = λ set old new hs r. (r.session, r.same_file, r.reached);
+  has_run = λ old new steps bytes set hs r lawful history is.
+      (r.ran set hs lawful history is, r.are_given, r.count);
+  starts = λ id file s is. (is.place, is.no_notes, is.no_failures);
+  begins_file = λ set file s is lawful some.
+      let new = is.each set lawful refl some in (new.session, new.its_file, new.course);
+  was_read = λ set file steps bytes s hs r lawful some history.
+      let led = r.reads set hs lawful refl some history in
+      (led.0, led.1, r.are_given, r.count);
+}
+
+-- ---- steps that were made, and runs that were stopped
+
+pub cases_of_made : CasesOfMade
+cases_of_made = record {
+  was_reeled = λ bytes failed old new r. (r.is_given, r.count, r.notes, r.calm, r.grows);
+  same_reader = λ bytes failed old new r. (r.same_set, r.same_file);
+  mount_was_read = λ bytes failed old new set h r lawful mount placed.
+      let by = r.reads set h lawful mount placed in (by.at, by.position);
+  nothing_was_made = λ old new result r. r;
+  no_reel_was_there = λ old new result r. r;
+  was_saved = λ old new s. (s.notes, s.place, s.parts, s.count, s.calm);
+  went_back = λ old new w.
+      (w.noted, w.place, w.front, w.weighs, w.notes, w.count, w.calm);
+  save_refused = λ cause old new f. (f.0.place, f.0.parts, f.0.notes, f.0.count, f.1);
+  save_fails = λ old new. (λ x. x, λ x. x, λ x. x, λ e. e);
+  restart_refused = λ cause old new f. (f.0.place, f.0.parts, f.0.notes, f.0.count, f.1);
+  restart_fails = λ old new. (λ x. x, λ x. x, λ x. x);
+  no_such_note = λ old new n f. f;
+  reel_refused = λ cause bytes old new c. (c.rose, c.grows, c.notes, c.count, c.same_file);
+  stopped_by = λ set old new xs h s. (s.at, s.refused, s.position);
+  reel_fails = λ bytes old new. (λ x. x, λ x. x, λ x. x, λ e. e);
+}
+
+nothing_stops_none : (old new : Seen) (bytes : List (List ℕ)) (fault : RunFault)
+    → HasStopped old [] bytes fault new → ⊥
+nothing_stops_none old new bytes fault s =
+    let e : 0 ≡ length (s.made ++ s.step ∷ s.rest) = ap length s.all in
+    absurd (omega (arith, e, length-append s.made (s.step ∷ s.rest)))
+
+pub cases_of_stops : CasesOfStops
+cases_of_stops = record {
+  saves_stop = λ set old new hs readers. (λ x. x, λ x. x, λ x. x, λ r. r);
+  reels_stop = λ set old new hs b readers. (λ x. x, λ x. x, λ x. x, λ r. r);
+  no_reels_stop = λ set old new hs cause. (λ x. x, λ x. x, λ r. r);
+  restarts_stop = λ set old new hs readers n. (λ x. x, λ x. x, λ x. x);
+  sinks_stop = λ set old new hs readers cause. (λ r. r, λ r. r);
+  part_refused = λ set old new hs xs h r.
+      (r.session.at.all, r.same_file, r.refused, r.position, r.notes);
+  stopped_at = λ old new steps bytes fault s. (s.all, s.are_given, s.count);
+  stopped_so = λ old new steps bytes fault set hs s. s.stops set hs;
+  nothing_stops_none = nothing_stops_none;
+  two_reels = refl;
+  goes_back = tt;
+  goes_on = λ x. x;
+}
+
+-- ---- crashes
+
+its_place : (p q : Position) → IsPlaceOf (record { at = p; notes = [] }) q → q ≡ p
+its_place p q (inl e) = e
+its_place p q (inr (zero, e)) = absurd (cc e)
+its_place p q (inr (suc n, e)) = absurd (cc e)
+
+none_noted : (n : ℕ) (c : Point) → slice_get {X = Point} [] n ≡ Some c → ⊥
+none_noted zero c e = absurd (cc e)
+none_noted (suc n) c e = absurd (cc e)
+
+of_session : (s : Seen) (back : Point) (there : List Portion) → s.notes ≡ [] → IsOf s back there
+    → (back ≡ saved s.place (weight_of s.parts)) × (there ≡ s.parts)
+of_session s back there none (inl here) = here
+of_session s back there none (inr (n, noted, front, weighs)) =
+    absurd (none_noted n back (subst (λ notes. slice_get notes n ≡ Some back) none noted))
+
+of_a_note : (s : Seen) (back : Point) (there : List Portion) → s.notes ≡ back ∷ []
+    → IsFront there s.parts → weight_of there ≡ back.staged
+    → IsOf s back there
+of_a_note s back there one front weighs = inr (0, (rw one refl), front, weighs)
+
+pub cases_of_crashes : CasesOfCrashes
+cases_of_crashes = record {
+  of_a_note = of_a_note;
+  its_place = its_place;
+  noted_place = inr (1, refl);
+  of_session = of_session;
+  of_no_step = λ s back there stood. stood;
+  of_no_reel = λ s back there stood. stood;
+  came_back = λ old steps done bytes given back there set hs c lawful history is.
+      let stands = c.stands set hs lawful history is in (stands.0, stands.1, c.all, c.are_given);
+  resumed = λ c ps s r. (r.place, r.parts, r.notes);
+  saved_life = λ set s. ((refl, tt), refl);
+  went_on = λ c ps now steps bytes set hs g lawful stands history.
+      (g.delivers set hs lawful stands history, g.are_given);
+}

@@ -1,0 +1,148 @@
+-- The cases of a catalogue, and of reports of what is on reels.
+use Rattle.std.proofs.Common.{◌≡◌, ◌≢◌, ◌<◌, ◌≤◌, ◌⊎◌, ℕ, zero, suc, List, [], ◌∷◌, ◌++◌, length}
+use Rattle.std.proofs.Common.{Some, None, true, refl, ap, inl, inr, arith, codes, map}
+use Rattle.std.specs.Prelude.{slice_index}
+use Rattle.tape_set.specs.Layout.{FileSet, Volume, Section}
+use Rattle.tape_run.specs.declared.fault.EngineFault.TheVariants.{Run}
+use Rattle.tape_run.specs.declared.fault.RunFault.TheVariants.{NoSuchPoint}
+use Rattle.tape_run.specs.declared.section.SectionKey.{SectionKey}
+use Rattle.tape_run.specs.declared.section.SectionState.TheVariants.{Good}
+use Rattle.tape_run.specs.Cases.{on_one_volume}
+use Rattle.tape_run.specs.Checked.{IsCheckFault}
+use Rattle.tape_run.specs.Lacks.{IsFirstLack, IsFoundWhole, IsGoodAt, lack_of}
+use Rattle.tape_run.specs.Noted.{KeepsPlaces, GoodIsShown, StandsIn}
+use Rattle.tape_run.specs.Passing.{Told}
+use Rattle.tape_run.specs.Shown.{Shown}
+use Rattle.tape_run.specs.WholeSet.{HasEach}
+use Rattle.tape_run.specs.CasesOfCatalogues.{CasesOfCatalogues, CasesOfImages, CasesOfCopies}
+use Rattle.tape_run.specs.CasesOfCatalogues.{CasesOfReports, met}
+
+-- ---- the catalogue
+
+nothing_known : (id : List ℕ) (file sect : ℕ) → IsFirstLack [] id file sect → sect ≡ 1
+nothing_known id file zero l = let least = l.numbered.0 in absurd (omega (arith, least))
+nothing_known id file (suc zero) l = refl
+nothing_known id file (suc (suc n)) l =
+    absurd (let e = l.goes_on 1 (omega arith) (omega arith) in cc e)
+
+sections_stay : (t : Told) → KeepsPlaces (t ∷ []) [] → ⊥
+sections_stay t (more, e) =
+    let n : 0 ≡ suc (length more) = ap length e in
+    absurd (omega (arith, n))
+
+abbrev first_sect : List SectionKey → ℕ
+first_sect [] = 0
+first_sect (key ∷ keys) = key.sect
+
+not_moved : KeepsPlaces (met 1 1 true Good ∷ []) (met 1 2 true Good ∷ met 1 1 true Good ∷ []) → ⊥
+not_moved (more, e) =
+    let n : 2 ≡ 1 = ap first_sect e in
+    absurd (omega (arith, n))
+
+first_good : (t : Told) → t.1.state ≡ Good → GoodIsShown [] [] (t ∷ []) → Shown [] t.0 t.1
+first_good t good is = elim (is t ([], [], refl) good) [
+  | inl (front, rest, e) ↦ absurd (none front rest e)
+  | inr shown ↦ shown
+]
+  where
+    none : (front rest : List Told) → [] ≡ front ++ t ∷ rest → ⊥
+    none [] rest e = absurd (cc e)
+    none (x ∷ front) rest e = absurd (cc e)
+
+pub cases_of_catalogues : CasesOfCatalogues
+unfolding lack_of
+cases_of_catalogues = record {
+  line = refl;
+  key = λ set x. (refl, refl, refl);
+  new_one = refl;
+  better = refl;
+  worse = refl;
+  other_file = refl;
+  all = refl;
+  nothing_known = nothing_known;
+  nothing_found = λ id file f. absurd (let e = f.ends in cc e);
+  lacks_itself = λ c id file l. l.lacks (omega arith);
+  first_goes_on = λ c id file f more. f.goes_on 1 (omega arith) more;
+  no_good = λ key good. absurd (let e = good.there in cc e);
+  next_lacks = refl;
+  bad_lacks = refl;
+  count_lacks = refl;
+  none_lacks = refl;
+  file_lacks = refl;
+  found = refl;
+  not_found = refl;
+  nothing_met = refl;
+  sections_stay = sections_stay;
+  not_moved = not_moved;
+  first_good = first_good;
+}
+
+-- ---- images and copies
+
+pub cases_of_images : CasesOfImages
+cases_of_images = record {
+  ends_at = λ place xs ys takes. (place, takes);
+  ends_by = λ xs ys s. s.1;
+  breaks_off = λ fault xs ys s. s;
+  added = λ before after old new line a. (a.counted, a.stop, a.noted, a.places, a.good);
+  nothing_shows = λ key entry s. absurd (let e = s.volume.first in cc e);
+  shown = λ xs key entry s. (s.blocks, s.stands);
+  shown_labels = λ xs key entry s. (s.volume, s.head, s.second, s.ends);
+  headed = λ bytes key h. (h.set_id, h.file, h.sect);
+  ended = λ bytes key entry e. (e.file, e.sect, e.count, e.kind);
+  named = λ xs volume b. (b.first, b.named);
+}
+
+each_volume : (id : List ℕ) (v : Volume) (files : List (List Section))
+    → HasEach (on_one_volume id v files) (1 ∷ 1 ∷ [])
+each_volume id v files zero some = absurd (cc some)
+each_volume id v files (suc zero) some = ([], 1 ∷ [], refl)
+each_volume id v files (suc (suc zero)) some = absurd (cc some)
+each_volume id v files (suc (suc (suc k))) some = absurd (cc some)
+
+one_lacks : (id : List ℕ) (v : Volume) (files : List (List Section))
+    → HasEach (on_one_volume id v files) (2 ∷ []) → ⊥
+one_lacks id v files has = none (has 1 refl)
+  where
+    none : Rattle.tape_set.specs.Laws.StandsIn {A = ℕ} (2 ∷ []) 1 → ⊥
+    none ([], rest, e) =
+        let n : 2 ≡ 1 = ap (λ l. slice_index l 0) e in
+        absurd (omega (arith, n))
+    none (x ∷ [], rest, e) = absurd (cc e)
+    none (x ∷ y ∷ front, rest, e) = absurd (cc e)
+
+pub cases_of_copies : CasesOfCopies
+cases_of_copies = record {
+  each_volume = each_volume;
+  one_lacks = one_lacks;
+  whole_copy = λ set k end ending xs b. (end, ending, b);
+  ends_are_none = (tt, tt);
+  cut_is_none = λ e. absurd (cc e);
+  device_is_one = λ n. n refl;
+  copies = λ set k n bytes copy. (copy, tt, tt);
+  unopened = λ set line k are. are;
+  told_whole = λ set lines text found w. (w.all, w.told, w.good);
+  shown_on = λ reels told s. (s.stands, s.shown, s.read);
+}
+
+-- ---- reports
+
+other_fault : IsCheckFault (Run NoSuchPoint) → ⊥
+other_fault (inl e) = absurd (cc e)
+other_fault (inr e) = absurd (cc e)
+
+pub cases_of_reports : CasesOfReports
+cases_of_reports = record {
+  report = λ reels text found r. (r.read, r.told, r.all);
+  a_line_each = λ reel c d are. are;
+  no_more_lines = λ line c d are. are;
+  not_opened = λ line c d is. is;
+  opened = λ before c d is. is;
+  unopened_adds_none = λ c d is. is;
+  tells = λ reel c d old new t. (t.1, t.2);
+  no_summary_before = λ reel d. refl;
+  summary_last = λ d. refl;
+  in_part = λ reels old new r. (r.split, r.read);
+  other_fault = other_fault;
+  faults = (inl refl, inr refl);
+}

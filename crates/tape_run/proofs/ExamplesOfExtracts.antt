@@ -1,0 +1,137 @@
+-- The cases of files got back.
+use Rattle.std.proofs.Common.{◌≡◌, ◌⊎◌, inl, inr, ◌≢◌, ℕ, List, [], ◌∷◌, ◌++◌, Some, None}
+use Rattle.std.proofs.Common.{refl, sym, ap, subst, ◌∙◌, append-nil, false, true, length, arith}
+use Rattle.std.specs.Prelude.{IfSome, Option}
+use Rattle.tape_set.specs.Layout.{FileSet}
+use Rattle.tape_set.specs.Lawful.{IsLawful}
+use Rattle.tape_core.specs.Place.{IsPlaced}
+use Rattle.tape_run.specs.Given.{is_device, IsGiven}
+use Rattle.tape_run.specs.Mount.{IsMountOf, foreign_reel}
+use Rattle.tape_run.specs.OutSinks.{IsText}
+use Rattle.tape_run.specs.Reeling.{Opened, AreGiven, AreMounts, Gathers, IsNoted, goes_back}
+use Rattle.tape_run.specs.Reeling.{IsKeptFor}
+use Rattle.tape_run.specs.Seen.{Seen, seen}
+use Rattle.tape_run.specs.Steps.{WentBack}
+use Rattle.tape_core.specs.Point.{Point}
+use Rattle.tape_blocks.specs.Block.{Portion}
+use Rattle.tape_run.specs.Output.{AppendsFront}
+use Rattle.tape_run.specs.RecordText.{output_of}
+use Rattle.tape_blocks.specs.declared.form.Form.{Form}
+use Rattle.tape_set.specs.declared.position.Position.TheVariants.{Finished}
+use Rattle.tape_run.specs.CasesOfExtracts.{CasesOfTurns, CasesOfOutputs, Listed, Known}
+use Rattle.tape_run.specs.CasesOfExtracts.{StopsListed, StopsListedNow}
+
+foreign_turn : (set : FileSet) (o : Opened) (bytes : List ℕ) → o.had ≡ Some bytes
+    → IsMountOf set bytes foreign_reel
+    → AreMounts set (None ∷ Some o ∷ None ∷ []) (bytes ∷ []) (foreign_reel ∷ [])
+foreign_turn set o bytes e m = ((rw e refl), m, tt)
+
+given_of : (o : Opened) (bytes given : List ℕ) → o.had ≡ Some bytes → o.answer.fault ≡ None
+    → AreGiven (None ∷ Some o ∷ []) (given ∷ []) → given ≡ bytes
+given_of o bytes given had calm are =
+    subst (λ fault. IsGiven (is_device fault) bytes given) calm
+    (subst (λ before. IfSome before (λ xs. IsGiven (is_device o.answer.fault) xs given)) had are.0)
+
+no_turns : (old new : Seen) (set : FileSet) → Gathers [] old new → IsLawful set
+    → IsPlaced set old.place old.parts
+    → (new.place.position ≡ old.place.position) × IsPlaced set new.place new.parts
+no_turns old new set g lawful placed = elim (g.given) as (λ gs. AreGiven [] gs → _) [
+  | [] ↦ λ are. let a = g.arrives set [] lawful tt placed in (a.position, a.at)
+  | (b ∷ bs) ↦ λ are. absurd are
+] g.are_given
+
+-- the last of two notes is the second
+went_to_last : (old new : Seen) (c d : Point) → old.notes ≡ c ∷ d ∷ [] → IsNoted true true old new
+    → WentBack 1 old new
+went_to_last old new c d two (n, many, went) =
+    let one : n ≡ 1 = omega (arith, many, ap length two) in
+    subst (λ m. WentBack m old new) one went
+
+pub cases_of_turns : CasesOfTurns
+cases_of_turns = record {
+  no_turn = λ a b o. (λ x. x, λ x. x, λ x. x);
+  a_turn = λ a b o t. t;
+  others_stay = λ a b are. are;
+  no_more_turns = λ turn are. are;
+  foreign_turn = foreign_turn;
+  unasked = λ set given h are. are;
+  given_of = given_of;
+  tape_of = λ o bytes xs are. are.1;
+  tape_by = λ o bytes xs end stop had b. ((rw had refl), (end, stop, b), tt);
+  is_there = λ t s place parts. record { place = place; parts = parts };
+  over_two = λ t xs ys. refl;
+  no_turns = no_turns;
+  gathers = λ turns old new set hs g lawful mounts placed.
+      let a = g.arrives set hs lawful mounts placed in (a.at, a.same_file, a.position);
+  gathers_by_table = λ turns old new t tapes g are there.
+      let at = g.led t tapes are there in (at.place, at.parts);
+  doubtful = refl;
+  broken = refl;
+  sure = (refl, refl);
+  not_noted = λ old new n. n;
+  is_noted = λ back old new n. n;
+  has_note = λ c. (refl, refl);
+  went_to_last = went_to_last;
+  its_own_notes = λ s k. k;
+  steps_behind = (refl, refl, refl, refl);
+  counted = (refl, refl);
+  steps = λ o p. refl;
+  told = λ o b are. are.0;
+  none_told = λ o are. are;
+  told_alone = λ b are. absurd (cc are);
+  reel_read = λ back core next old new o r. (r.waits, r.answers, r.place);
+  waits = λ back core last old new f. (f.0, f.1.0, f.1.1);
+}
+
+text : (known : List ℕ) → IsText false (7 ∷ []) (Some known) → known ≡ 7 ∷ []
+text known (more, is, none) =
+    let e : known ≡ 7 ∷ more = cc is in
+    e ∙ ap (λ m. 7 ∷ m) (none refl)
+
+output_stopped : (session : Listed) (form : Form) (out now said says : Known)
+    → session.notes ≡ [] → StopsListed session form out now said says
+    → (now ≡ out)
+    ⊎ ((s : Seen) × (s.place.position ≡ Finished) × AppendsFront out now (output_of form s.parts))
+output_stopped session form out now said says none s =
+    let kept : IsKeptFor (goes_back session.notes)
+    (seen {S = List Portion} (λ s. 0) session session.sink) =
+    subst (λ n. IsKeptFor (goes_back n) (seen {S = List Portion} (λ s. 0) session session.sink))
+    (sym none) tt in
+    let (last, seen, follows, wrote) = s.follows session.sink refl kept in elim wrote [
+      | inl same ↦ inl same
+      | inr more ↦ inr (seen, more.0, more.1)
+    ]
+
+output_stopped_now : (session : Listed) (form : Form) (out now said says : Known)
+    → StopsListedNow session form out now said says
+    → (now ≡ out)
+    ⊎ ((s : Seen) × (s.place.position ≡ Finished) × (now ≡ Some (output_of form s.parts)))
+output_stopped_now session form out now said says s =
+    let (last, seen, follows, wrote) = s.follows session.sink refl in elim wrote [
+      | inl same ↦ inl same
+      | inr more ↦ elim more.1 [
+        | inl same ↦ inl same
+        | inr put ↦ inr (seen, more.0, put tt)
+      ]
+    ]
+
+pub cases_of_outputs : CasesOfOutputs
+cases_of_outputs = record {
+  output_stopped = output_stopped;
+  output_stopped_now = output_stopped_now;
+  written = λ records form out now parts w. w;
+  put = λ records form stands parts p. (p.0, p.1 tt);
+  ends = λ first old turns want records form out now e.
+      (e.wanted, e.gathers, e.are_steps, e.follows, e.is_written);
+  ends_now = λ first old turns want records form stands e.
+      (e.wanted, e.gathers, e.follows, e.is_put);
+  left_unread = λ session images lefts form out now said says want e. e.all;
+  lines = λ session images lefts form out now said says want e. (e.lines, e.are_turns);
+  left_unread_now = λ session images lefts form stands said says want e. e.all;
+  lines_now = λ session images lefts form stands said says want e. (e.lines, e.are_turns);
+  one_line_more = λ session form out now said says s. (s.few, s.lines);
+  one_line_more_now = λ session form out now said says s. (s.few, s.lines);
+  taken = λ form out weight records begun failed parts t. (t.weighs, t.counted);
+  text = text;
+  ended = (refl, refl);
+}

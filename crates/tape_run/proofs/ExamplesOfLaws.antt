@@ -1,0 +1,64 @@
+-- The cases of the laws.
+use Rattle.std.proofs.Common.{◌≡◌, ◌≢◌, ℕ, List, [], ◌∷◌, length, map, Option, Some, None, refl, ap}
+use Rattle.std.proofs.Common.{subst, arith, true, false}
+use Rattle.std.specs.Prelude.{MatchOption}
+use Rattle.tape_run.specs.declared.section.SectionKey.{SectionKey}
+use Rattle.tape_run.specs.declared.section.SectionState.TheVariants.{Good, Cut}
+use Rattle.tape_run.specs.Lacks.{LackIsFirst, IsFoundWhole, IsFirstLack, lack_of}
+use Rattle.tape_run.specs.OneEntry.{HasOneEach}
+use Rattle.tape_run.specs.Passing.{Told}
+use Rattle.tape_run.specs.CasesOfCatalogues.{met}
+use Rattle.tape_run.specs.CasesOfLaws.{CasesOfRunLaws, CasesOfCatalogueLaws}
+
+pub cases_of_run_laws : CasesOfRunLaws
+cases_of_run_laws = record {
+  a_front = λ law set front rest h m. law set front rest h m;
+  what_was_given = λ law set steps bytes given hs history are.
+      law set 0 2 steps bytes given hs history are;
+  a_refusal = λ law old new steps bytes fault set hs runs history.
+      law old new steps bytes bytes fault set hs refl runs history;
+  refusals = λ cause. (tt, tt);
+  no_refusals = (λ x. x, λ x. x, λ x. x);
+  came_back = λ law old steps bytes back there stood. law old steps bytes back there stood;
+  one_crash = λ law set c back ps there life hs lawful stands outlives are.
+      law set c ps (life ∷ []) (hs ∷ []) back there lawful stands outlives are;
+  items_are = λ law bytes. let all = law (bytes ∷ []) in (all.0, all.1);
+}
+
+none_lacks : LackIsFirst → (c : List Told) (id : List ℕ) (file : ℕ) → lack_of c id file ≡ None
+    → IsFoundWhole c id file
+none_lacks law c id file e =
+    subst (λ l. MatchOption l (IsFoundWhole c id file) (IsFirstLack c id file)) e (law c id file)
+
+first_lacks : LackIsFirst → (c : List Told) (id : List ℕ) (file sect : ℕ)
+    → lack_of c id file ≡ Some sect
+    → IsFirstLack c id file sect
+first_lacks law c id file sect e =
+    subst (λ l. MatchOption l (IsFoundWhole c id file) (IsFirstLack c id file)) e (law c id file)
+
+two_entries : HasOneEach (met 1 1 false Good ∷ met 1 2 true Cut ∷ [])
+two_entries = ((apart, tt), (tt, tt))
+  where
+    apart : (met 1 2 true Cut).0 ≢ (met 1 1 false Good).0
+    apart e =
+        let n : 2 ≡ 1 = ap (λ (key : SectionKey). key.sect) e in
+        absurd (omega (arith, n))
+
+pub cases_of_catalogue_laws : CasesOfCatalogueLaws
+cases_of_catalogue_laws = record {
+  none_lacks = none_lacks;
+  first_lacks = first_lacks;
+  volume_is_good = λ law set k lawful some. law set k [] lawful some;
+  set_is_good = λ law set ks c lawful each. law set ks c lawful each;
+  set_lacks_none = λ law set ks lawful each some. law set ks 1 lawful each some;
+  set_is_found = λ law set ks lawful each some. law set ks lawful each some;
+  copy_is_added = λ law set k xs after line new copy calm adds.
+      law set k xs after [] line new copy calm adds;
+  set_is_told = λ law set ks reels text found report lawful each some are.
+      law set ks reels text found lawful each some report are;
+  good_was_seen = λ law reels text found report t stands good.
+      law reels text found report t stands good;
+  two_entries = two_entries;
+  twice = λ one. one.0.0 refl;
+  one_entry = λ law before after new line adds. law.added before after [] new line tt adds;
+}

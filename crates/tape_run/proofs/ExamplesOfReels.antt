@@ -1,0 +1,78 @@
+-- The cases of a reel's answer, and of where the table leads over any tapes.
+use Rattle.std.proofs.Common.{◌≡◌, ℕ, List, [], ◌∷◌, ◌++◌, Some, None, refl, sym, ap, inl, inr, ◌∙◌}
+use Rattle.std.proofs.Common.{append-nil, ◌⊎◌}
+use Rattle.tape_image.specs.declared.item.Ending.TheVariants.{Physical}
+use Rattle.tape_image.specs.Begins.{ends}
+use Rattle.tape_label.specs.Kinds.{kind_at}
+use Rattle.tape_label.specs.Reading.{head_at, head1_at, head2_at, format_at, offset_at}
+use Rattle.tape_label.specs.VolumeLabels.{is_volume_label}
+use Rattle.tape_blocks.specs.Units.{unit_at}
+use Rattle.tape_blocks.specs.Parts.{parts_by}
+use Rattle.tape_blocks.specs.Judged.{judged}
+use Rattle.tape_core.specs.declared.answer.Answer.TheVariants.{Complete}
+use Rattle.tape_run.specs.declared.script.Step.TheVariants.{Save, Restart}
+use Rattle.tape_run.specs.Lead.{Lead, Noted, lead}
+use Rattle.tape_run.specs.Reels.{GoesOn}
+use Rattle.tape_run.proofs.Examples.{empty_begins}
+use Rattle.tape_run.specs.CasesOfReels.{CasesOfAnswers, CasesOfTable, CasesOfLeads}
+
+ended : GoesOn Complete → ⊥
+ended (inl e) = absurd (cc e)
+ended (inr e) = absurd (cc e)
+
+pub cases_of_answers : CasesOfAnswers
+cases_of_answers = record {
+  complete_reads_nothing = λ core bytes left answer r. r;
+  else_a_reel = λ core bytes left answer r. r;
+  goes_on = (inl refl, inr refl, ended);
+  blocks = refl;
+  on = λ core bytes left answer r. (r.on, r.blocks);
+  by_item = λ core items bytes left answer e. (e.last, e.final, e.no_fault, e.taken);
+  by_medium = λ core items bytes left answer e. (e.last, e.no_fault, e.taken);
+  by_fault = λ core items bytes left answer e. (e.last, e.told, e.taken);
+  memory_left_all = λ core old new l. l;
+  sink_left = λ core cause old new l. l;
+  to_block = λ core bytes left r. (r.on, r.delivers, r.taken);
+}
+
+pub cases_of_table : CasesOfTable
+unfolding kind_at head_at head1_at head2_at format_at offset_at is_volume_label parts_by
+    unit_at judged
+cases_of_table = record {
+  passed_gives_none = λ item p known. refl;
+  mark_gives_none = λ p known. refl;
+  bad_gives_none = λ p known. refl;
+  unknown_gives_none = λ p content. refl;
+  from_its_front = refl;
+  from_its_part = refl;
+  one_block = refl;
+  behind_one = refl;
+  led = λ xs core new held now l. (l.place, l.parts);
+  stops = λ core new item held now s. (s.delivers, s.parts, s.position);
+  cut_at = λ xs core new held now c. (c.all, c.stops);
+}
+
+parts_back : (t : Lead) → t.notes ≡ [] → (lead t (Save ∷ Restart 0 ∷ []) []).parts ≡ t.parts
+parts_back t none = rw none refl
+
+pub cases_of_leads : CasesOfLeads
+cases_of_leads = record {
+  starts = refl;
+  saved_and_back = refl;
+  parts_back = parts_back;
+  over_a_reel = λ t xs. refl;
+  items = λ bytes xs are. are.0;
+  items_of_none = ((0, ends Physical, empty_begins), tt);
+  items_of_each = λ bytes are. are;
+  items_of_no_more = λ xs are. are;
+  there = λ t s st. (st.place, st.parts, st.notes);
+  noted = λ n c parts are. (are.1, are.2);
+  each_noted = λ n c parts. (λ x. x, λ x. x);
+  save_stops = λ t readers fault new s. s;
+  reel_stops = λ t bytes cause new xs end stop s b. s xs end stop b;
+  run_led = λ old new steps bytes t tapes r are st. r.led t tapes are st;
+  read_led = λ id file steps bytes s tapes r are. r.led tapes are;
+  stopped_led = λ old new steps bytes fault t tapes s are st. s.led t tapes are st;
+  reel_led = λ bytes old new xs end stop r b. r.table xs end stop b;
+  cut_led = λ bytes old new xs end stop c b. c.table xs end stop b;
+}

@@ -1,0 +1,44 @@
+-- What the outcomes of `list` say.
+use Rattle.std.proofs.Common.{◌≡◌, ℕ, ◌+◌, List, [], ◌∷◌, ◌++◌, length, Option, refl, sym, ap, ◌∙◌}
+use Rattle.std.proofs.Common.{append_assoc}
+use Rattle.std.specs.List.{flat_map}
+use Rattle.std.specs.Io.KnownBytes.{Appends}
+use Rattle.tape_image.specs.declared.item.Ending.{Ending}
+use Rattle.tape_image.specs.declared.fault.ImageFault.{ImageFault}
+use Rattle.tape_image.specs.Tape.{TapeItem}
+use Rattle.tape_image.specs.Begins.{Walks}
+use Rattle.tape_image.specs.Step.{TakesEnd, TakesFault}
+use Rattle.tape_run.specs.Output.{AppendsFront}
+use Rattle.tape_run.specs.ListLine.{line_of}
+use Rattle.tape_run.specs.Listing.{lines_from, end_line}
+use Rattle.tape_run.specs.Listed.{StopsWriting, AppendsInto, at_item, at_end, at_fault}
+use Rattle.tape_run.specs.ListExamples.{StopSays}
+
+into_front : (old new : Option (List ℕ)) (all part : List ℕ) → AppendsInto old new all part
+    → AppendsFront old new (all ++ part)
+into_front old new all part a =
+    (all ++ a.0, a.1, a.2, ap (λ l. all ++ l) a.3 ∙ sym (append_assoc all a.0 a.1))
+
+-- where a write failed, a front of the bytes was read, and a front of what is said of it written
+pub stopped : (old new : Option (List ℕ)) (bytes left : List ℕ) → StopSays old new bytes left
+stopped old new bytes left (at_item done item place walks wrote) = (
+  (flat_map (λ s. s.bytes) walks.leads.spellings, walks.leads.whole),
+  (
+    lines_from 1 done ++ line_of (length done + 1) item,
+    into_front old new (lines_from 1 done) (line_of (length done + 1) item) wrote,
+  ),
+)
+stopped old new bytes left (at_end items ending place takes wrote) = (
+  (takes.taken, takes.whole),
+  (
+    lines_from 1 items ++ end_line ending,
+    into_front old new (lines_from 1 items) (end_line ending) wrote,
+  ),
+)
+stopped old new bytes left (at_fault items fault takes wrote) = (
+  (takes.given, takes.whole),
+  (
+    lines_from 1 items,
+    (lines_from 1 items, [], wrote, sym (Rattle.std.proofs.Common.append-nil (lines_from 1 items))),
+  ),
+)

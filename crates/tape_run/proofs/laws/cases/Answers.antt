@@ -1,0 +1,66 @@
+use Rattle.tape_run.proofs.Examples.{cases_of_mounts, cases_of_histories, cases_of_given}
+use Rattle.tape_run.proofs.Examples.{cases_of_volumes, cases_of_sessions, cases_of_made}
+use Rattle.tape_run.proofs.Examples.{cases_of_stops, cases_of_crashes}
+use Rattle.tape_run.proofs.ExamplesOfReels.{cases_of_answers, cases_of_table, cases_of_leads}
+use Rattle.tape_run.proofs.ExamplesOfCatalogues.{cases_of_catalogues, cases_of_images}
+use Rattle.tape_run.proofs.ExamplesOfCatalogues.{cases_of_copies, cases_of_reports}
+use Rattle.tape_run.proofs.ExamplesOfExtracts.{cases_of_turns, cases_of_outputs}
+use Rattle.tape_run.proofs.ExamplesOfLaws.{cases_of_run_laws, cases_of_catalogue_laws}
+use Rattle.tape_run.proofs.laws.cases.Goals as goal
+
+pub returns-clause-mounts : goal.returns-clause-mounts
+returns-clause-mounts c = cases_of_mounts
+
+pub returns-clause-histories : goal.returns-clause-histories
+returns-clause-histories c = cases_of_histories
+
+pub returns-clause-given : goal.returns-clause-given
+returns-clause-given c = cases_of_given
+
+pub returns-clause-volumes : goal.returns-clause-volumes
+returns-clause-volumes c = cases_of_volumes
+
+pub returns-clause-sessions : goal.returns-clause-sessions
+returns-clause-sessions c = cases_of_sessions
+
+pub returns-clause-made : goal.returns-clause-made
+returns-clause-made c = cases_of_made
+
+pub returns-clause-stops : goal.returns-clause-stops
+returns-clause-stops c = cases_of_stops
+
+pub returns-clause-crashes : goal.returns-clause-crashes
+returns-clause-crashes c = cases_of_crashes
+
+pub returns-clause-answers : goal.returns-clause-answers
+returns-clause-answers c = cases_of_answers
+
+pub returns-clause-table : goal.returns-clause-table
+returns-clause-table c = cases_of_table
+
+pub returns-clause-leads : goal.returns-clause-leads
+returns-clause-leads c = cases_of_leads
+
+pub returns-clause-catalogues : goal.returns-clause-catalogues
+returns-clause-catalogues c = cases_of_catalogues
+
+pub returns-clause-images : goal.returns-clause-images
+returns-clause-images c = cases_of_images
+
+pub returns-clause-copies : goal.returns-clause-copies
+returns-clause-copies c = cases_of_copies
+
+pub returns-clause-reports : goal.returns-clause-reports
+returns-clause-reports c = cases_of_reports
+
+pub returns-clause-turns : goal.returns-clause-turns
+returns-clause-turns c = cases_of_turns
+
+pub returns-clause-outputs : goal.returns-clause-outputs
+returns-clause-outputs c = cases_of_outputs
+
+pub returns-clause-run_laws : goal.returns-clause-run_laws
+returns-clause-run_laws c = cases_of_run_laws
+
+pub returns-clause-catalogue_laws : goal.returns-clause-catalogue_laws
+returns-clause-catalogue_laws c = cases_of_catalogue_laws

@@ -1,0 +1,333 @@
+-- What the definitions of a session and of its history say of cases, so that none of them says
+-- less, or asks more, than it should. The call `laws::cases` has them as its contract.
+use Rattle.std.specs.Prelude.{◌≡◌, ◌≢◌, ◌≤◌, ◌+◌, ◌⊎◌, ℕ, Bool, true, false, List, [], ◌∷◌, ◌++◌}
+use Rattle.std.specs.Prelude.{length, take, drop, replicate, slice_get, Option, Some, None, IsSome}
+use Rattle.std.specs.Prelude.{Result, Ok, Err}
+use Rattle.tape_image.specs.declared.fault.ImageCause.TheVariants.{Truncated, LengthsDiffer}
+use Rattle.tape_image.specs.declared.fault.ImageCause.TheVariants.{Reserved, TooLong, Device}
+use Rattle.tape_image.specs.declared.fault.ImageCause.TheVariants.{OutOfMemory as NoMemory}
+use Rattle.tape_image.specs.Tape.{TapeItem, block, mark}
+use Rattle.tape_image.specs.Begins.{Stop, Begins}
+use Rattle.tape_blocks.specs.Block.{Portion}
+use Rattle.tape_set.specs.declared.position.Position.{Position}
+use Rattle.tape_set.specs.Position.{start, awaiting, at_part}
+use Rattle.tape_set.specs.Layout.{FileSet, Volume, Section, items, entries, file_of}
+use Rattle.tape_set.specs.Lawful.{IsLawful}
+use Rattle.tape_set.specs.Before.{before}
+use Rattle.tape_set.specs.Reach.{passes}
+use Rattle.tape_set.specs.Reading.{Reading, IsReadingOf, as_read}
+use Rattle.tape_core.specs.declared.sink.SinkFault.{SinkFault}
+use Rattle.tape_core.specs.Place.{IsPlaced, place_of, rest_of}
+use Rattle.tape_core.specs.Point.{Point}
+use Rattle.tape_core.specs.Stands.{Stands, weight_of}
+use Rattle.tape_core.specs.Table.{saved, reader_of}
+use Rattle.tape_core.specs.Weight.{IsFront, Rose}
+use Rattle.tape_run.specs.declared.fault.RunFault.{RunFault}
+use Rattle.tape_run.specs.declared.fault.RunFault.TheVariants.{Sink, NoSuchPoint, TooFewReels}
+use Rattle.tape_run.specs.declared.fault.RunFault.TheVariants.{OutOfMemory, OtherFile}
+use Rattle.tape_run.specs.declared.script.Step.{Step}
+use Rattle.tape_run.specs.declared.script.Step.TheVariants.{Reel, Save, Restart}
+use Rattle.tape_run.specs.Back.{reels_of, AreVolumes}
+use Rattle.tape_run.specs.Crash.{IsOf, StoodAt}
+use Rattle.tape_run.specs.Given.{is_device, IsGiven, AreGiven, counted, counted_up}
+use Rattle.tape_run.specs.Headline.{Ran, HasRun, IsNew, IsStart, IsRead, PutRefused, Stops}
+use Rattle.tape_run.specs.Headline.{HasStopped, HasRestart, begins, reels_in}
+use Rattle.tape_run.specs.History.{Course, IsHistory, course, course_of}
+use Rattle.tape_run.specs.Lives.{IsPlaceOf, ComesBack, Life, IsResumed, AreHistories, GoesOn}
+use Rattle.tape_run.specs.Mount.{Happening, reads, foreign_reel, saves, restarts, IsMount}
+use Rattle.tape_run.specs.Mount.{IsMountOf, after_mount, cut}
+use Rattle.tape_run.specs.Runs.{Runs}
+use Rattle.tape_run.specs.Seen.{Seen, AreNotes, IsSession, IsKept, IsNote, seen}
+use Rattle.tape_run.specs.Steps.{Reeled, ReelFails, SaveFails, RestartFails, WentBack, Saved}
+use Rattle.tape_run.specs.Steps.{StoppedBy}
+use Rattle.tape_run.specs.Story.{Story}
+use Rattle.tape_run.specs.WorkedHistory.{worked_set, vol1, hdr1, reading}
+
+-- ---- what may be mounted
+
+-- of copies, foreign reels, and fronts of both
+pub record CasesOfMounts : Type 0 where
+  -- each reading of a volume, whole or cut, with any of its items not read well, is a mount of it
+  pub readings : (set : FileSet) (r : Reading) → IsReadingOf set r
+      → IsMount set (as_read (items set r.volume) r.good) (reads r)
+  -- behind a whole volume of which only data blocks are bad anything may follow
+  pub more_behind : (set : FileSet) (r : Reading) (more : List TapeItem) → IsReadingOf set r
+      → length r.good ≡ length (items set r.volume) → passes r.good (entries set r.volume) ≡ true
+      → IsMount set (as_read (items set r.volume) r.good ++ more) (reads r)
+  -- an image without a byte, and a reel that begins with a tape mark, are none of the set
+  pub empty_image : (set : FileSet) → IsMountOf set [] foreign_reel
+  pub mark_first : (set : FileSet) (rest : List TapeItem) → IsMount set (mark ∷ rest) foreign_reel
+  -- a volume of the set is not foreign
+  pub own_volume : (rest : List TapeItem)
+      → IsMount worked_set (block vol1 ∷ block hdr1 ∷ rest) foreign_reel → ⊥
+  -- an image may stop in any way behind the items of a mount
+  pub any_stop : (set : FileSet) (bytes : List ℕ) (xs : List TapeItem) (end : ℕ) (stop : Stop)
+      (h : Happening) → Begins 0 bytes xs end stop → IsMount set xs h → IsMountOf set bytes h
+  pub no_save : (set : FileSet) (xs : List TapeItem) → IsMount set xs saves → ⊥
+  pub no_restart : (set : FileSet) (xs : List TapeItem) → IsMount set xs (restarts 0) → ⊥
+  -- a front of a reading, and a reel that moves nothing
+  pub cut_off : cut 2 (reads (reading 1 (true ∷ false ∷ true ∷ [])))
+      ≡ reads (reading 1 (true ∷ false ∷ []))
+  pub foreign_moves_nothing : (set : FileSet) (p : Position)
+      → after_mount set 1 p foreign_reel ≡ p
+
+-- ---- histories
+
+-- two positions and a course that noted both
+abbrev pub two_notes : Course
+two_notes = record { at = awaiting 2 0; notes = start ∷ awaiting 1 1 ∷ [] }
+
+-- of scripts, what happens, and where that leads
+pub record CasesOfHistories : Type 0 where
+  -- notes are saved and gone back to, and a reel that is not asked for may be left
+  pub saved_and_back : (set : FileSet) (bytes : List ℕ)
+      → IsHistory set 0 (Save ∷ Save ∷ Restart 1 ∷ Restart 0 ∷ []) (bytes ∷ [])
+      (saves ∷ saves ∷ restarts 1 ∷ restarts 0 ∷ [])
+  -- but no note is there before one is saved, nor one that was forgotten
+  pub no_note_yet : (set : FileSet) → IsHistory set 0 (Restart 0 ∷ []) [] (restarts 0 ∷ []) → ⊥
+  pub forgotten : (set : FileSet)
+      → IsHistory set 2 (Restart 0 ∷ Restart 1 ∷ []) [] (restarts 0 ∷ restarts 1 ∷ []) → ⊥
+  pub other_note : (set : FileSet) → IsHistory set 2 (Restart 0 ∷ []) [] (restarts 1 ∷ []) → ⊥
+  -- a reel is mounted where the script asks for one, and nothing happens that it does not ask for
+  pub reel_mounted : (set : FileSet) (bytes : List ℕ) (h : Happening) → IsMountOf set bytes h
+      → IsHistory set 0 (Reel ∷ []) (bytes ∷ []) (h ∷ [])
+  pub no_reel : (set : FileSet) (h : Happening) → IsHistory set 0 (Reel ∷ []) [] (h ∷ []) → ⊥
+  pub unasked : (set : FileSet) (h : Happening) → IsHistory set 0 [] [] (h ∷ []) → ⊥
+  pub left_out : (set : FileSet) (s : Step) → IsHistory set 0 (s ∷ []) [] [] → ⊥
+  -- where they lead: a save notes the position, going back forgets the later notes, and a foreign
+  -- reel and a note that is not there change nothing
+  pub saved_course : course worked_set 1 two_notes (saves ∷ [])
+      ≡ record { at = awaiting 2 0; notes = start ∷ awaiting 1 1 ∷ awaiting 2 0 ∷ [] }
+  pub back_course : course worked_set 1 two_notes (restarts 0 ∷ [])
+      ≡ record { at = start; notes = start ∷ [] }
+  pub last_note : course worked_set 1 two_notes (restarts 1 ∷ [])
+      ≡ record { at = awaiting 1 1; notes = start ∷ awaiting 1 1 ∷ [] }
+  pub same_course : course worked_set 1 two_notes (foreign_reel ∷ restarts 2 ∷ []) ≡ two_notes
+
+-- ---- what readers gave
+
+-- of bytes, readers that failed, and their count
+pub record CasesOfGiven : Type 0 where
+  -- of a reader that failed a front of its bytes was given
+  pub no_other : IsGiven true (1 ∷ 2 ∷ []) (2 ∷ []) → ⊥
+  pub front : IsGiven true (1 ∷ 2 ∷ []) (1 ∷ [])
+  pub none_failed : (bytes given : List ℕ) → AreGiven 0 (bytes ∷ []) (given ∷ []) → given ≡ bytes
+  pub one_failed : (b c d : List ℕ) → AreGiven 1 (b ∷ c ∷ []) (b ∷ [] ∷ [])
+  pub of_each : (b : List ℕ) → AreGiven 0 (b ∷ []) [] → ⊥
+  pub of_no_more : (b : List ℕ) → AreGiven 0 [] (b ∷ []) → ⊥
+  -- they are counted up to the greatest number
+  pub calm : counted false 3 ≡ 3
+  pub one : counted true 3 ≡ 4
+  pub greatest : counted true 18446744073709551615 ≡ 18446744073709551615
+  pub two : counted_up 2 3 ≡ 5
+  -- it is the device's fault, and no other, that tells of such a reader
+  pub device : is_device (Some (record { place = 9; cause = Device })) ≡ true
+  pub no_fault : is_device None ≡ false
+  pub in_the_bytes : is_device (Some (record { place = 9; cause = Truncated })) ≡ false
+  pub of_memory : is_device (Some (record { place = 9; cause = NoMemory })) ≡ false
+
+-- ---- the images of all volumes
+
+abbrev pub on_one_volume : List ℕ → Volume → List (List Section) → FileSet
+on_one_volume id v files = record { set_id = id; volumes = v ∷ []; files = files }
+
+-- of images of a whole set
+pub record CasesOfVolumes : Type 0 where
+  pub one_image : (id : List ℕ) (v : Volume) (files : List (List Section)) (bytes : List ℕ)
+      (end : ℕ) (stop : Stop) → Begins 0 bytes (items (on_one_volume id v files) 1) end stop
+      → AreVolumes (on_one_volume id v files) 0 (bytes ∷ [])
+  pub one_lacks : (id : List ℕ) (v : Volume) (files : List (List Section))
+      → AreVolumes (on_one_volume id v files) 0 [] → ⊥
+  pub one_too_many : (id : List ℕ) (v : Volume) (files : List (List Section)) (bytes : List ℕ)
+      → AreVolumes (on_one_volume id v files) 1 (bytes ∷ []) → ⊥
+  pub a_reel_each : (b c : List ℕ) → reels_of (b ∷ c ∷ []) ≡ Reel ∷ Reel ∷ []
+
+-- ---- what a session is
+
+-- of sessions, and of what was read of a file
+pub record CasesOfSessions : Type 0 where
+  -- what is seen of one whose sink is the count of its refused calls
+  pub is_seen : (s : Story ℕ) (parts : List Portion)
+      → (seen (λ n. n) s parts).place ≡ rest_of s.core
+  pub seen_counts : (s : Story ℕ) (parts : List Portion)
+      → ((seen (λ n. n) s parts).failures ≡ s.failures)
+      × ((seen (λ n. n) s parts).refusals ≡ s.sink)
+  pub its_course : (s : Seen) (c : Point) → s.notes ≡ c ∷ []
+      → course_of s ≡ record { at = s.place.position; notes = c.position ∷ [] }
+  pub session : (set : FileSet) (s : Seen) → IsSession set s
+      → IsPlaced set s.place s.parts × AreNotes set s.place.file [] s.notes s.parts
+  -- a note stands with a front of the parts
+  pub one_note : (set : FileSet) (c : Point) (parts : List Portion)
+      → Stands set 1 c [] → AreNotes set 1 [] (c ∷ []) parts
+  pub note_stands : (set : FileSet) (c : Point) (parts : List Portion)
+      (n : AreNotes set 1 [] (c ∷ []) parts) → Stands set 1 c n.0 × IsFront n.0 parts
+  pub kept_note : (s : Seen) (c : Point) → s.notes ≡ c ∷ [] → IsKept s
+      → (ps : List Portion) × IsFront ps s.parts × (c.set_id ≡ s.place.set_id)
+      × (c.file ≡ s.place.file) × (c.staged ≡ weight_of ps)
+  -- where all steps were made the session is where the history leads
+  pub ran : (set : FileSet) (old new : Seen) (hs : List Happening) → Ran set old hs new
+      → IsSession set new × (new.place.file ≡ old.place.file)
+      × (course set old.place.file (course_of old) hs ≡ course_of new)
+  pub has_run : (old new : Seen) (steps : List Step) (bytes : List (List ℕ)) (set : FileSet)
+      (hs : List Happening) (r : HasRun old steps bytes new) → IsLawful set
+      → IsHistory set (length old.notes) steps r.given hs → IsSession set old
+      → Ran set old hs new × AreGiven r.failed bytes r.given
+      × (new.failures ≡ counted_up r.failed old.failures)
+  pub starts : (id : List ℕ) (file : ℕ) (s : Seen) → IsStart id file s
+      → (s.place ≡ reader_of id file) × (s.notes ≡ []) × (s.failures ≡ 0)
+  pub begins_file : (set : FileSet) (file : ℕ) (s : Seen) → IsStart set.set_id file s
+      → IsLawful set → IsSome (file_of set file)
+      → IsSession set s × (s.place.file ≡ file) × (course_of s ≡ begins)
+  pub was_read : (set : FileSet) (file : ℕ) (steps : List Step) (bytes : List (List ℕ)) (s : Seen)
+      (hs : List Happening) (r : IsRead set.set_id file steps bytes s) → IsLawful set
+      → IsSome (file_of set file) → IsHistory set 0 steps r.given hs
+      → (course_of s ≡ course set file begins hs)
+      × (s.parts ≡ before set file (course set file begins hs).at)
+      × AreGiven r.failed bytes r.given × (s.failures ≡ counted_up r.failed 0)
+
+-- ---- steps that were made, and runs that were stopped
+
+-- of steps, one by one
+pub record CasesOfMade : Type 0 where
+  -- what was given is a front at least, where the reader failed; parts and notes stay
+  pub was_reeled : (bytes : List ℕ) (failed : Bool) (old new : Seen)
+      (r : Reeled bytes failed old new) → IsGiven failed bytes r.given
+      × (new.failures ≡ counted failed old.failures) × (new.notes ≡ old.notes)
+      × (new.refusals ≡ old.refusals) × IsFront old.parts new.parts
+  pub same_reader : (bytes : List ℕ) (failed : Bool) (old new : Seen)
+      → Reeled bytes failed old new
+      → (new.place.set_id ≡ old.place.set_id) × (new.place.file ≡ old.place.file)
+  pub mount_was_read : (bytes : List ℕ) (failed : Bool) (old new : Seen) (set : FileSet)
+      (h : Happening) (r : Reeled bytes failed old new) → IsLawful set → IsMountOf set r.given h
+      → IsPlaced set old.place old.parts → IsPlaced set new.place new.parts
+      × (new.place.position ≡ after_mount set old.place.file old.place.position h)
+  pub nothing_was_made : (old new : Seen) (result : Result (Unit {0}) RunFault)
+      → Runs old [] [] result new → (result ≡ Ok tt) × (new ≡ old)
+  pub no_reel_was_there : (old new : Seen) (result : Result (Unit {0}) RunFault)
+      → Runs old (Reel ∷ []) [] result new → (result ≡ Err TooFewReels) × (new ≡ old)
+  -- what is noted is where the session stands, with the weight of its parts
+  pub was_saved : (old new : Seen) → Saved old new
+      → (new.notes ≡ old.notes ++ saved old.place (weight_of old.parts) ∷ [])
+      × (new.place ≡ old.place) × (new.parts ≡ old.parts)
+      × (new.failures ≡ old.failures) × (new.refusals ≡ old.refusals)
+  pub went_back : (old new : Seen) (w : WentBack 1 old new)
+      → (slice_get old.notes 1 ≡ Some w.point) × (new.place ≡ place_of w.point)
+      × IsFront new.parts old.parts × (weight_of new.parts ≡ w.point.staged)
+      × (new.notes ≡ take 2 old.notes) × (new.failures ≡ old.failures)
+      × (new.refusals ≡ old.refusals)
+  -- why one was not made, and what it left
+  pub save_refused : (cause : SinkFault) (old new : Seen) → SaveFails (Sink cause) old new
+      → (new.place ≡ old.place) × (new.parts ≡ old.parts) × (new.notes ≡ old.notes)
+      × (new.failures ≡ old.failures) × Rose old.refusals new.refusals
+  pub save_fails : (old new : Seen) → (SaveFails NoSuchPoint old new → ⊥)
+      × (SaveFails TooFewReels old new → ⊥) × (SaveFails OtherFile old new → ⊥)
+      × (SaveFails OutOfMemory old new → new ≡ old)
+  pub restart_refused : (cause : SinkFault) (old new : Seen) → RestartFails 0 (Sink cause) old new
+      → (new.place ≡ old.place) × (new.parts ≡ old.parts) × (new.notes ≡ old.notes)
+      × (new.failures ≡ old.failures) × Rose old.refusals new.refusals
+  pub restart_fails : (old new : Seen) → (RestartFails 0 TooFewReels old new → ⊥)
+      × (RestartFails 0 OutOfMemory old new → ⊥) × (RestartFails 0 OtherFile old new → ⊥)
+  pub no_such_note : (old new : Seen) (n : ℕ) → RestartFails n NoSuchPoint old new
+      → (length old.notes ≤ n) × (new ≡ old)
+  pub reel_refused : (cause : SinkFault) (bytes : List ℕ) (old new : Seen)
+      → ReelFails bytes (Sink cause) old new
+      → Rose old.refusals new.refusals × IsFront old.parts new.parts × (new.notes ≡ old.notes)
+      × (new.failures ≡ old.failures) × (new.place.file ≡ old.place.file)
+  pub stopped_by : (set : FileSet) (old new : Seen) (xs : List TapeItem) (h : Happening)
+      (s : StoppedBy set old xs h new) → IsPlaced set new.place new.parts
+      × (slice_get xs s.n ≡ Some (block s.content))
+      × (new.place.position
+      ≡ at_part s.part (after_mount set old.place.file old.place.position (cut s.n h)))
+  pub reel_fails : (bytes : List ℕ) (old new : Seen) → (ReelFails bytes NoSuchPoint old new → ⊥)
+      × (ReelFails bytes TooFewReels old new → ⊥) × (ReelFails bytes OtherFile old new → ⊥)
+      × (ReelFails bytes OutOfMemory old new → new ≡ old)
+
+-- of runs that a fault ended
+pub record CasesOfStops : Type 0 where
+  -- a step is not made for no other reason than it can have
+  pub saves_stop : (set : FileSet) (old new : Seen) (hs : List Happening)
+      (readers : List (List ℕ)) → (Stops set old hs Save readers NoSuchPoint new → ⊥)
+      × (Stops set old hs Save readers TooFewReels new → ⊥)
+      × (Stops set old hs Save readers OtherFile new → ⊥)
+      × (Stops set old hs Save readers OutOfMemory new → Ran set old hs new)
+  pub reels_stop : (set : FileSet) (old new : Seen) (hs : List Happening) (b : List ℕ)
+      (readers : List (List ℕ)) → (Stops set old hs Reel (b ∷ readers) TooFewReels new → ⊥)
+      × (Stops set old hs Reel (b ∷ readers) NoSuchPoint new → ⊥)
+      × (Stops set old hs Reel (b ∷ readers) OtherFile new → ⊥)
+      × (Stops set old hs Reel (b ∷ readers) OutOfMemory new → Ran set old hs new)
+  pub no_reels_stop : (set : FileSet) (old new : Seen) (hs : List Happening) (cause : SinkFault)
+      → (Stops set old hs Reel [] OutOfMemory new → ⊥)
+      × (Stops set old hs Reel [] (Sink cause) new → ⊥)
+      × (Stops set old hs Reel [] TooFewReels new → Ran set old hs new)
+  pub restarts_stop : (set : FileSet) (old new : Seen) (hs : List Happening)
+      (readers : List (List ℕ)) (n : ℕ) → (Stops set old hs (Restart n) readers NoSuchPoint new
+      → (length (course set old.place.file (course_of old) hs).notes ≤ n) × Ran set old hs new)
+      × (Stops set old hs (Restart n) readers OutOfMemory new → ⊥)
+      × (Stops set old hs (Restart n) readers TooFewReels new → ⊥)
+  pub sinks_stop : (set : FileSet) (old new : Seen) (hs : List Happening)
+      (readers : List (List ℕ)) (cause : SinkFault)
+      → (Stops set old hs Save readers (Sink cause) new → Ran set old hs new)
+      × (Stops set old hs (Restart 0) readers (Sink cause) new → Ran set old hs new)
+  -- a refused part: the sink holds just what lies before it, in a block that stands where the items
+  -- before it lead
+  pub part_refused : (set : FileSet) (old new : Seen) (hs : List Happening) (xs : List TapeItem)
+      (h : Happening) (r : PutRefused set old hs xs h new)
+      → (new.parts ≡ before set new.place.file new.place.position)
+      × (new.place.file ≡ old.place.file) × (slice_get xs r.n ≡ Some (block r.content))
+      × (new.place.position ≡ at_part r.part (after_mount set old.place.file
+      (course set old.place.file (course_of old) hs).at (cut r.n h)))
+      × ((course_of new).notes ≡ (course set old.place.file (course_of old) hs).notes)
+  -- the steps that were made and the one that was not are those of the script
+  pub stopped_at : (old new : Seen) (steps : List Step) (bytes : List (List ℕ)) (fault : RunFault)
+      (s : HasStopped old steps bytes fault new) → (steps ≡ s.made ++ s.step ∷ s.rest)
+      × AreGiven s.failed bytes s.given × (new.failures ≡ counted_up s.failed old.failures)
+  pub stopped_so : (old new : Seen) (steps : List Step) (bytes : List (List ℕ)) (fault : RunFault)
+      (set : FileSet) (hs : List Happening) (s : HasStopped old steps bytes fault new)
+      → IsLawful set → IsHistory set (length old.notes) s.made s.given hs → IsSession set old
+      → Stops set old hs s.step (drop (reels_in s.made) bytes) fault new
+  pub nothing_stops_none : (old new : Seen) (bytes : List (List ℕ)) (fault : RunFault)
+      → HasStopped old [] bytes fault new → ⊥
+  -- readers are counted, and it is told which scripts go back
+  pub two_reels : reels_in (Reel ∷ Save ∷ Restart 0 ∷ Reel ∷ []) ≡ 2
+  pub goes_back : HasRestart (Reel ∷ Save ∷ Restart 0 ∷ [])
+  pub goes_on : HasRestart (Reel ∷ Save ∷ Reel ∷ []) → ⊥
+
+-- ---- crashes
+
+-- of what comes back, and of lives one after another
+pub record CasesOfCrashes : Type 0 where
+  -- a place of a course is where it is, or one that it noted
+  pub its_place : (p q : Position) → IsPlaceOf (record { at = p; notes = [] }) q → q ≡ p
+  pub noted_place : IsPlaceOf two_notes (awaiting 1 1)
+  -- what a session without notes brings back is where it stands, with its parts
+  pub of_session : (s : Seen) (back : Point) (there : List Portion) → s.notes ≡ []
+      → IsOf s back there → (back ≡ saved s.place (weight_of s.parts)) × (there ≡ s.parts)
+  pub of_a_note : (s : Seen) (back : Point) (there : List Portion) → s.notes ≡ back ∷ []
+      → IsFront there s.parts → weight_of there ≡ back.staged → IsOf s back there
+  pub of_no_step : (s : Seen) (back : Point) (there : List Portion)
+      → StoodAt s [] [] back there → IsOf s back there
+  pub of_no_reel : (s : Seen) (back : Point) (there : List Portion)
+      → StoodAt s (Reel ∷ []) [] back there → IsOf s back there
+  pub came_back : (old : Seen) (steps done : List Step) (bytes given : List (List ℕ))
+      (back : Point) (there : List Portion) (set : FileSet) (hs : List Happening)
+      (c : ComesBack old steps done bytes given back there) → IsLawful set
+      → IsHistory set (length old.notes) done given hs → IsSession set old
+      → Stands set old.place.file back there
+      × IsPlaceOf (course set old.place.file (course_of old) hs) back.position
+      × (steps ≡ done ++ c.rest) × AreGiven c.failed bytes given
+  pub resumed : (c : Point) (ps : List Portion) (s : Seen) → IsResumed c ps s
+      → (s.place ≡ place_of c) × (s.parts ≡ ps) × (s.notes ≡ [])
+  -- a life that saved, and was cut off in its next reel, has a history
+  pub saved_life : (set : FileSet) (s : Seen) → AreHistories set (record {
+    began = s;
+    steps = Save ∷ Reel ∷ [];
+    bytes = [];
+    done = Save ∷ [];
+    given = [];
+  } ∷ []) ((saves ∷ []) ∷ [])
+  pub went_on : (c : Point) (ps now : List Portion) (steps : List Step) (bytes : List (List ℕ))
+      (set : FileSet) (hs : List Happening) (g : GoesOn c ps steps bytes now) → IsLawful set
+      → Stands set c.file c ps → IsHistory set 0 steps g.given hs
+      → (now ≡ before set c.file
+      (course set c.file (record { at = c.position; notes = [] }) hs).at)
+      × AreGiven g.failed bytes g.given

@@ -1,0 +1,179 @@
+-- What the definitions of a catalogue, and of reports of what is on reels, say of cases. The call
+-- `laws::cases` has them as its contract.
+use Rattle.std.specs.Prelude.{◌≡◌, ◌<◌, ◌≤◌, ◌⊎◌, ℕ, Bool, true, false, List, [], ◌∷◌, ◌++◌, length}
+use Rattle.std.specs.Prelude.{map, Option, Some, None, codes}
+use Rattle.std.specs.List.{AllByRecursion, flat_map}
+use Rattle.std.specs.Io.KnownBytes.{Appends}
+use Rattle.tape_image.specs.declared.item.Ending.{Ending}
+use Rattle.tape_image.specs.declared.item.Ending.TheVariants as endings
+use Rattle.tape_image.specs.declared.fault.ImageFault.{ImageFault}
+use Rattle.tape_image.specs.Step.{TakesEnd, TakesFault}
+use Rattle.tape_image.specs.declared.fault.ImageCause.TheVariants.{Truncated, Device}
+use Rattle.tape_image.specs.Tape.{TapeItem, block, mark}
+use Rattle.tape_image.specs.Begins.{Begins, ends}
+use Rattle.tape_image.specs.Reader.{IfKnown}
+use Rattle.tape_label.specs.declared.values.Kind.TheVariants as kinds
+use Rattle.tape_label.specs.Kinds.{HasKind}
+use Rattle.tape_set.specs.Layout.{FileSet, Volume, Section, Placed, items, sections}
+use Rattle.tape_run.specs.declared.fault.EngineFault.TheVariants.{Run, WriteFailed}
+use Rattle.tape_run.specs.declared.fault.RunFault.TheVariants.{NoSuchPoint, OutOfMemory}
+use Rattle.tape_run.specs.declared.section.Entry.{Entry}
+use Rattle.tape_run.specs.declared.section.ImageLine.{ImageLine}
+use Rattle.tape_run.specs.declared.section.ImageStop.TheVariants.{Marked, Physical, Fault}
+use Rattle.tape_run.specs.declared.section.Lack.{Lack}
+use Rattle.tape_run.specs.declared.section.SectionKey.{SectionKey}
+use Rattle.tape_run.specs.declared.section.SectionState.{SectionState}
+use Rattle.tape_run.specs.declared.section.SectionState.TheVariants.{Good, Bad, Count, Cut}
+use Rattle.tape_run.specs.Added.{Adds, AddsInPart, StopsBehind}
+use Rattle.tape_run.specs.Cases.{on_one_volume}
+use Rattle.tape_run.specs.CheckLine.{image_line, image_lines, section_line, found_line}
+use Rattle.tape_run.specs.Checked.{Reel, IsRead, AreRead, IsReport, ReportsInPart, IsCheckFault}
+use Rattle.tape_run.specs.Checked.{summary, summary_behind, Tells}
+use Rattle.tape_run.specs.Lacks.{IsFirstLack, IsFoundWhole, IsGoodAt, lacks, found_all, key_at}
+use Rattle.tape_run.specs.Lacks.{line_of, good_end, entry_at}
+use Rattle.tape_run.specs.Noted.{noted, noted_all, KeepsPlaces, GoodIsShown, StandsIn}
+use Rattle.tape_run.specs.Passing.{Told, met_in}
+use Rattle.tape_run.specs.Shown.{Shown, BeginsVolume, HeadsSection, EndsSection}
+use Rattle.tape_run.specs.WholeReels.{AreWholeCopies, IsToldWhole, IsShownOn, IsListedGood}
+use Rattle.tape_run.specs.WholeSet.{HasEach, IsWholeCopy, IsNoDevice, key_in}
+
+-- ---- the catalogue
+
+-- this section of the set ABC001, met so
+abbrev pub met : ℕ → ℕ → Bool → SectionState → Told
+met file sect eof state = (
+  key_at (codes "ABC001") file sect,
+  record { volume = codes "ABC001"; blocks = 3; eof = eof; state = state },
+)
+
+abbrev pub lack : ℕ → ℕ → Lack
+lack file sect = record { set_id = codes "ABC001"; file = file; sect = sect }
+
+-- of what is noted, and what lacks
+pub record CasesOfCatalogues : Type 0 where
+  pub line : line_of (met 1 2 true Bad) ≡ record {
+    set_id = codes "ABC001";
+    file = 1;
+    sect = 2;
+    volume = codes "ABC001";
+    blocks = 3;
+    state = Bad;
+  }
+  pub key : (set : FileSet) (x : Placed) → ((key_in set x).set_id ≡ set.set_id)
+      × ((key_in set x).file ≡ x.file) × ((key_in set x).sect ≡ x.sect)
+  -- a new section goes last, a good one takes the place of another, and nothing takes its place
+  pub new_one : noted (met 1 1 false Good ∷ []) (met 1 2 true Cut)
+      ≡ met 1 1 false Good ∷ met 1 2 true Cut ∷ []
+  pub better : noted (met 1 1 false Cut ∷ met 1 2 true Cut ∷ []) (met 1 1 false Good)
+      ≡ met 1 1 false Good ∷ met 1 2 true Cut ∷ []
+  pub worse : noted (met 1 1 false Good ∷ []) (met 1 1 false Cut) ≡ met 1 1 false Good ∷ []
+  pub other_file : noted (met 1 1 false Good ∷ []) (met 2 1 true Good)
+      ≡ met 1 1 false Good ∷ met 2 1 true Good ∷ []
+  pub all : noted_all [] (met 1 1 true Cut ∷ met 1 1 true Good ∷ []) ≡ met 1 1 true Good ∷ []
+  -- where nothing is known of a file its first section lacks
+  pub nothing_known : (id : List ℕ) (file sect : ℕ) → IsFirstLack [] id file sect → sect ≡ 1
+  pub nothing_found : (id : List ℕ) (file : ℕ) → IsFoundWhole [] id file → ⊥
+  -- those before it are good and go on, and it is not
+  pub lacks_itself : (c : List Told) (id : List ℕ) (file : ℕ) → IsFirstLack c id file 1
+      → good_end (entry_at c (key_at id file 1)) ≡ None
+  pub first_goes_on : (c : List Told) (id : List ℕ) (file : ℕ) (f : IsFoundWhole c id file)
+      → 1 < f.sect → good_end (entry_at c (key_at id file 1)) ≡ Some false
+  pub no_good : (key : SectionKey) → IsGoodAt [] key → ⊥
+  -- what lacks: the section behind one that goes on, one that is not good, and each file before the
+  -- last one met
+  pub next_lacks : lacks (met 1 1 false Good ∷ []) ≡ lack 1 2 ∷ []
+  pub bad_lacks : lacks (met 1 1 true Bad ∷ []) ≡ lack 1 1 ∷ []
+  pub count_lacks : lacks (met 1 1 true Count ∷ []) ≡ lack 1 1 ∷ []
+  pub none_lacks : lacks (met 1 2 true Good ∷ met 1 1 false Good ∷ []) ≡ []
+  pub file_lacks : lacks (met 2 1 true Good ∷ []) ≡ lack 1 1 ∷ []
+  pub found : found_all (met 1 1 true Good ∷ []) ≡ true
+  pub not_found : found_all (met 1 1 true Cut ∷ []) ≡ false
+  pub nothing_met : found_all [] ≡ false
+  -- sections keep their places
+  pub sections_stay : (t : Told) → KeepsPlaces (t ∷ []) [] → ⊥
+  pub not_moved : KeepsPlaces (met 1 1 true Good ∷ []) (met 1 2 true Good ∷ met 1 1 true Good ∷ [])
+      → ⊥
+  pub first_good : (t : Told) → t.1.state ≡ Good → GoodIsShown [] [] (t ∷ [])
+      → Shown [] t.0 t.1
+
+-- of what an image adds, and what it shows
+pub record CasesOfImages : Type 0 where
+  pub ends_at : (place : ℕ) (xs ys : List ℕ) → TakesEnd 0 [] endings.Physical place xs ys
+      → StopsBehind [] Physical xs ys
+  pub ends_by : (xs ys : List ℕ) (s : StopsBehind [] Marked xs ys)
+      → TakesEnd 0 [] endings.Marked s.0 xs ys
+  pub breaks_off : (fault : ImageFault) (xs ys : List ℕ) → StopsBehind [] (Fault fault) xs ys
+      → TakesFault 0 [] fault xs ys
+  pub added : (before after : Option (List ℕ)) (old new : List Told) (line : ImageLine)
+      (a : Adds before after old line new) → (line.items ≡ length a.items)
+      × IfKnown before after (StopsBehind a.items line.stop)
+      × (new ≡ noted_all old (met_in a.items)) × KeepsPlaces old new
+      × GoodIsShown a.items old new
+  pub nothing_shows : (key : SectionKey) (entry : Entry) → Shown [] key entry → ⊥
+  pub shown : (xs : List TapeItem) (key : SectionKey) (entry : Entry) (s : Shown xs key entry)
+      → (entry.blocks ≡ length s.content)
+      × (xs ≡ s.before ++ block s.hdr1 ∷ block s.hdr2 ∷ map block s.headers
+      ++ mark ∷ map block s.content ++ mark ∷ block s.trailer ∷ s.after)
+  pub shown_labels : (xs : List TapeItem) (key : SectionKey) (entry : Entry)
+      (s : Shown xs key entry) → BeginsVolume xs entry.volume × HeadsSection s.hdr1 key
+      × HasKind s.hdr2 kinds.Hdr2 × EndsSection s.trailer key (length s.content) entry
+  pub headed : (bytes : List ℕ) (key : SectionKey) (h : HeadsSection bytes key)
+      → (h.label.set_id ≡ key.set_id) × (h.label.sequence ≡ key.file) × (h.label.sect ≡ key.sect)
+  pub ended : (bytes : List ℕ) (key : SectionKey) (entry : Entry)
+      (e : EndsSection bytes key 3 entry) → (e.label.head.sequence ≡ key.file)
+      × (e.label.head.sect ≡ key.sect) × (e.label.blocks ≡ 3) × (e.label.eof ≡ entry.eof)
+  pub named : (xs : List TapeItem) (volume : List ℕ) (b : BeginsVolume xs volume)
+      → (xs ≡ block b.bytes ∷ b.more) × (b.label.volume ≡ volume)
+
+-- of whole copies
+pub record CasesOfCopies : Type 0 where
+  -- each volume of a set of one volume is among these, also twice, and not among none
+  pub each_volume : (id : List ℕ) (v : Volume) (files : List (List Section))
+      → HasEach (on_one_volume id v files) (1 ∷ 1 ∷ [])
+  pub one_lacks : (id : List ℕ) (v : Volume) (files : List (List Section))
+      → HasEach (on_one_volume id v files) (2 ∷ []) → ⊥
+  -- a whole copy may end in both ways, and a fault that is none of the device is no failure
+  pub whole_copy : (set : FileSet) (k end : ℕ) (ending : Ending) (xs : List ℕ)
+      → Begins 0 xs (items set k) end (ends ending) → IsWholeCopy set k xs
+  pub ends_are_none : IsNoDevice Physical × IsNoDevice Marked
+  pub cut_is_none : IsNoDevice (Fault (record { place = 9; cause = Truncated }))
+  pub device_is_one : IsNoDevice (Fault (record { place = 9; cause = Device })) → ⊥
+  pub copies : (set : FileSet) (k n : ℕ) (bytes : List ℕ) → IsWholeCopy set k bytes
+      → AreWholeCopies set (Some (Some bytes) ∷ [])
+      (Some (record { items = n; stop = Marked }) ∷ []) (k ∷ [])
+  pub unopened : (set : FileSet) (line : Option ImageLine) (k : ℕ)
+      → AreWholeCopies set (None ∷ []) (line ∷ []) (k ∷ []) → ⊥
+  -- what is told whole: all found, no lack, and a line GOOD for each section
+  pub told_whole : (set : FileSet) (lines : List (Option ImageLine)) (text : List ℕ) (found : Bool)
+      (w : IsToldWhole set lines text found) → (found ≡ true)
+      × (text ≡ image_lines 1 lines ++ (flat_map section_line w.listed ++ found_line))
+      × AllByRecursion (λ x. IsListedGood w.listed (key_in set x)) (sections set)
+  -- what is shown stands on one of the images, in the items that its bytes begin with
+  pub shown_on : (reels : List Reel) (told : Told) (s : IsShownOn reels told)
+      → (reels ≡ s.front ++ Some s.before ∷ s.rest) × Shown s.items told.0 told.1
+      × IfKnown s.before s.after (StopsBehind s.items s.stop)
+
+-- ---- reports
+
+-- of reports of images
+pub record CasesOfReports : Type 0 where
+  -- what is reported is what was read, and found is what the sections tell
+  pub report : (reels : List Reel) (text : List ℕ) (found : Bool) (r : IsReport reels text found)
+      → AreRead reels r.lines [] r.sections
+      × (text ≡ image_lines 1 r.lines ++ summary r.sections) × (found ≡ found_all r.sections)
+  -- each image has a line, and one that was not opened another than one that was
+  pub a_line_each : (reel : Reel) (c d : List Told) → AreRead (reel ∷ []) [] c d → ⊥
+  pub no_more_lines : (line : Option ImageLine) (c d : List Told) → AreRead [] (line ∷ []) c d → ⊥
+  pub not_opened : (line : ImageLine) (c d : List Told) → IsRead None (Some line) c d → ⊥
+  pub opened : (before : Option (List ℕ)) (c d : List Told) → IsRead (Some before) None c d → ⊥
+  pub unopened_adds_none : (c d : List Told) → IsRead None None c d → d ≡ c
+  pub tells : (reel : Reel) (c d : List Told) (old new : Option (List ℕ))
+      (t : Tells reel 2 c d old new) → IsRead reel t.0 c d × Appends old new (image_line 2 t.0)
+  -- a front of a report ends with a summary only where no image is left
+  pub no_summary_before : (reel : Reel) (d : List Told) → summary_behind (reel ∷ []) d ≡ []
+  pub summary_last : (d : List Told) → summary_behind [] d ≡ summary d
+  pub in_part : (reels : List Reel) (old new : Option (List ℕ)) (r : ReportsInPart reels old new)
+      → (reels ≡ r.first ++ r.left) × AreRead r.first r.lines [] r.sections
+  -- no other fault than a failed write, or want of memory
+  pub other_fault : IsCheckFault (Run NoSuchPoint) → ⊥
+  pub faults : IsCheckFault WriteFailed × IsCheckFault (Run OutOfMemory)

@@ -1,0 +1,208 @@
+-- What the definitions of files got back say of cases. The call `laws::cases` has them as its
+-- contract.
+use Rattle.std.specs.Prelude.{◌≡◌, ◌≢◌, ◌<◌, ◌≤◌, ◌⊎◌, ℕ, List, [], ◌∷◌, ◌++◌, length, map, Option}
+use Rattle.std.specs.Prelude.{Some, None, IfSome, Bool, true, false, ⊤}
+use Rattle.std.specs.Io.KnownBytes.{Appends}
+use Rattle.tape_blocks.specs.declared.form.Form.{Form}
+use Rattle.tape_blocks.specs.Block.{Portion}
+use Rattle.tape_blocks.specs.Spans.{join}
+use Rattle.tape_image.specs.Reader.{IfKnown}
+use Rattle.tape_image.specs.Tape.{TapeItem}
+use Rattle.tape_image.specs.Begins.{Stop, Begins}
+use Rattle.tape_set.specs.declared.position.Position.TheVariants.{Finished}
+use Rattle.tape_set.specs.declared.position.Want.{Want}
+use Rattle.tape_set.specs.Position.{want_at}
+use Rattle.tape_set.specs.Layout.{FileSet}
+use Rattle.tape_set.specs.Lawful.{IsLawful}
+use Rattle.tape_core.specs.declared.answer.Answer.TheVariants.{SectionDone, Useless}
+use Rattle.tape_core.specs.declared.answer.Reason.TheVariants.{BlockCount, Broken, BadItem}
+use Rattle.tape_core.specs.Place.{IsPlaced, rest_of}
+use Rattle.tape_core.specs.State.{State}
+use Rattle.tape_run.specs.declared.answer.ReelAnswer.{ReelAnswer}
+use Rattle.tape_run.specs.Extracting.{IsWritten, Ends, Extracts, Stops}
+use Rattle.tape_run.specs.ExtractingNow.{IsPut, EndsNow, ExtractsNow, StopsNow}
+use Rattle.tape_run.specs.Given.{is_device, IsGiven}
+use Rattle.tape_run.specs.Lead.{Lead, over_reel}
+use Rattle.tape_run.specs.Mount.{Happening, IsMountOf, foreign_reel}
+use Rattle.tape_run.specs.Output.{AppendsFront}
+use Rattle.tape_run.specs.OutSinks.{HasTaken, IsText, with_end, begun_text, TellsAlways}
+use Rattle.tape_run.specs.RecordText.{output_of}
+use Rattle.tape_run.specs.ReelLine.{reel_line, reel_lines, last_line}
+use Rattle.tape_run.specs.Reeling.{Opened, Turn, answer_of, AreTurns, IsTurn, Follows, AreGiven}
+use Rattle.tape_run.specs.Reeling.{AreMounts, AreTapes, over_tapes, IsThere, Gathers, Arrives}
+use Rattle.tape_run.specs.Reeling.{reached, is_doubtful, IsNoted, ReadsReel, Takes, TakesAll}
+use Rattle.tape_run.specs.Reeling.{IsReported, StopsReading, goes_back, IsKeptFor}
+use Rattle.tape_run.specs.Reeling.{step_behind, notes_behind, steps_of, AreTold, AreSteps}
+use Rattle.tape_run.specs.Reels.{Reads}
+use Rattle.tape_run.specs.Seen.{Seen, seen, IsKept}
+use Rattle.tape_run.specs.Steps.{Saved, WentBack}
+use Rattle.tape_run.specs.declared.script.Step.TheVariants.{Reel, Save, Restart}
+use Rattle.tape_core.specs.Point.{Point}
+use Rattle.tape_run.specs.Story.{Story}
+use Rattle.tape_core.specs.Stands.{weight_of}
+
+-- ---- images one after another
+
+-- of turns, mounts, and where they lead
+pub record CasesOfTurns : Type 0 where
+  pub no_turn : (a b : Option (List ℕ)) (o : Opened) → (IsTurn (λ r. r) None (Some b) None → ⊥)
+      × (IsTurn (λ r. r) (Some a) None None → ⊥) × (IsTurn (λ r. r) None None (Some o) → ⊥)
+  pub a_turn : (a b : Option (List ℕ)) (o : Opened) → IsTurn (λ r. r) (Some a) (Some b) (Some o)
+      → (o.had ≡ a) × (o.left ≡ b)
+  -- images behind those that were read are as they were
+  pub others_stay : (a b : Option (Option (List ℕ)))
+      → AreTurns (λ r. r) (a ∷ []) (b ∷ []) [] → b ∷ [] ≡ a ∷ []
+  pub no_more_turns : (turn : Turn) → AreTurns (λ (r : Option (List ℕ)). r) [] [] (turn ∷ []) → ⊥
+  -- a foreign reel whose bytes are known is a mount, and an image that was not opened is none
+  pub foreign_turn : (set : FileSet) (o : Opened) (bytes : List ℕ) → o.had ≡ Some bytes
+      → IsMountOf set bytes foreign_reel
+      → AreMounts set (None ∷ Some o ∷ None ∷ []) (bytes ∷ []) (foreign_reel ∷ [])
+  pub unasked : (set : FileSet) (given : List (List ℕ)) (h : Happening)
+      → AreMounts set [] given (h ∷ []) → ⊥
+  pub given_of : (o : Opened) (bytes given : List ℕ) → o.had ≡ Some bytes → o.answer.fault ≡ None
+      → AreGiven (None ∷ Some o ∷ []) (given ∷ []) → given ≡ bytes
+  pub tape_of : (o : Opened) (bytes : List ℕ) (xs : List TapeItem)
+      → AreTapes (None ∷ Some o ∷ []) (bytes ∷ []) (xs ∷ [])
+      → (end : ℕ) × (stop : Stop) × Begins 0 bytes xs end stop
+  pub tape_by : (o : Opened) (bytes : List ℕ) (xs : List TapeItem) (end : ℕ) (stop : Stop)
+      → o.had ≡ Some bytes → Begins 0 bytes xs end stop
+      → AreTapes (None ∷ Some o ∷ []) (bytes ∷ []) (xs ∷ [])
+  pub is_there : (t : Lead) (s : Seen) → s.place ≡ t.place → s.parts ≡ t.parts → IsThere t s
+  pub over_two : (t : Lead) (xs ys : List TapeItem)
+      → over_tapes t (xs ∷ ys ∷ []) ≡ over_reel (over_reel t xs) ys
+  -- no image leads nowhere but where the session was
+  pub no_turns : (old new : Seen) (set : FileSet) → Gathers [] old new → IsLawful set
+      → IsPlaced set old.place old.parts
+      → (new.place.position ≡ old.place.position) × IsPlaced set new.place new.parts
+  pub gathers : (turns : List Turn) (old new : Seen) (set : FileSet) (hs : List Happening)
+      (g : Gathers turns old new) → IsLawful set → AreMounts set turns g.given hs
+      → IsPlaced set old.place old.parts → IsPlaced set new.place new.parts
+      × (new.place.file ≡ old.place.file)
+      × (new.place.position ≡ reached set old.place.file old.place.position hs)
+  pub gathers_by_table : (turns : List Turn) (old new : Seen) (t : Lead)
+      (tapes : List (List TapeItem)) (g : Gathers turns old new) → AreTapes turns g.given tapes
+      → IsThere t old → (new.place ≡ (over_tapes t tapes).place)
+      × (new.parts ≡ (over_tapes t tapes).parts)
+  -- a wrong count, and a reader that it broke, are in doubt, and then nothing is noted
+  pub doubtful : is_doubtful (Useless (BlockCount 3 4)) ≡ true
+  pub broken : is_doubtful (Useless Broken) ≡ true
+  pub sure : (is_doubtful SectionDone ≡ false) × (is_doubtful (Useless BadItem) ≡ false)
+  pub not_noted : (old new : Seen) → IsNoted false true old new → new ≡ old
+  pub is_noted : (back : Bool) (old new : Seen) → IsNoted back false old new → Saved old new
+  -- a session that has a note goes back then, to the one made last
+  pub has_note : (c : Point) → (goes_back [] ≡ false) × (goes_back (c ∷ []) ≡ true)
+  pub went_to_last : (old new : Seen) (c d : Point) → old.notes ≡ c ∷ d ∷ []
+      → IsNoted true true old new → WentBack 1 old new
+  pub its_own_notes : (s : Seen) → IsKeptFor true s → IsKept s
+  -- by steps: a save behind each reel, none where it is in doubt, or the way back
+  pub steps_behind : (step_behind true false 2 ≡ Save ∷ []) × (step_behind false true 2 ≡ [])
+      × (step_behind true true 2 ≡ Restart 1 ∷ []) × (step_behind true true 0 ≡ [])
+  pub counted : (notes_behind false 2 ≡ 3) × (notes_behind true 2 ≡ 2)
+  pub steps : (o p : Opened) → steps_of true 2 (None ∷ Some o ∷ Some p ∷ [])
+      ≡ Reel ∷ step_behind true (is_doubtful o.answer.answer) 2
+      ++ (Reel ∷ step_behind true (is_doubtful p.answer.answer)
+      (notes_behind (is_doubtful o.answer.answer) 2) ++ [])
+  pub told : (o : Opened) (b : List ℕ) → AreTold (None ∷ Some o ∷ []) (b ∷ []) → o.had ≡ Some b
+  pub none_told : (o : Opened) → AreTold (Some o ∷ []) [] → ⊥
+  pub told_alone : (b : List ℕ) → AreTold (None ∷ []) (b ∷ []) → ⊥
+  pub reel_read : (back : Bool) (core next : State) (old new : Seen) (o : Opened)
+      → ReadsReel back core old o next new → (core.position ≢ Finished)
+      × IfKnown o.had o.left (λ bytes left. Reads core.position core bytes left o.answer)
+      × (new.place ≡ rest_of next)
+  pub waits : (back : Bool) (core last : State) (old new : Seen)
+      → Follows back core old (None ∷ []) last new
+      → (core.position ≢ Finished) × (last ≡ core) × (new ≡ old)
+
+-- ---- what was written and reported
+
+-- a session whose sink is the list of its parts, and images and writers that are their known bytes
+abbrev pub Listed : Type 0
+Listed = Story (List Portion)
+
+abbrev pub Known : Type 0
+Known = Option (List ℕ)
+
+-- what `extract` says of such ones
+abbrev pub ExtractsListed : Listed → List (Option Known) → List (Option Known) → Form → Known
+    → Known → Known → Known → Option Want → Type 0
+ExtractsListed session images lefts form out written said says want =
+    Extracts (λ s ps. s ≡ ps) (λ s. 0) (λ r. r) session images lefts form out written said says want
+
+abbrev pub StopsListed : Listed → Form → Known → Known → Known → Known → Type 0
+StopsListed session form out written said says =
+    Stops (λ s ps. s ≡ ps) (λ s. 0) session form (λ w. w) out written said says
+
+abbrev pub ExtractsListedNow : Listed → List (Option Known) → List (Option Known) → Form → Known
+    → Known → Known → Option Want → Type 0
+ExtractsListedNow session images lefts form stands said says want =
+    ExtractsNow (λ s ps. s ≡ ps) (λ s. 0) (λ r. r) session images lefts form ⊤ stands
+    said says want
+
+abbrev pub StopsListedNow : Listed → Form → Known → Known → Known → Known → Type 0
+StopsListedNow session form out put said says =
+    StopsNow (λ s ps. s ≡ ps) (λ s. 0) session form ⊤ (λ o. o) out put said says
+
+-- of what was written
+pub record CasesOfOutputs : Type 0 where
+  -- where nothing is wanted the records were written, and counted
+  pub written : (records : ℕ) (form : Form) (out now : Known) (parts : List Portion)
+      → IsWritten None records form out now parts
+      → (records ≡ length (join parts).records) × Appends out now (output_of form parts)
+  pub put : (records : ℕ) (form : Form) (stands : Known) (parts : List Portion)
+      → IsPut None ⊤ records form stands parts
+      → (records ≡ length (join parts).records) × (stands ≡ Some (output_of form parts))
+  -- what is wanted is what the session wants, where its images brought it
+  pub ends : (first : State) (old : Seen) (turns : List Turn) (want : Option Want) (records : ℕ)
+      (form : Form) (out now : Known) (e : Ends first old turns want records form out now)
+      → (want ≡ want_at e.now.place.file e.now.place.position)
+      × (old.notes ≡ [] → Gathers turns old e.now)
+      × AreSteps (goes_back old.notes) turns old e.now
+      × Follows (goes_back old.notes) first old turns e.last e.now
+      × IsWritten want records form out now e.now.parts
+  pub ends_now : (first : State) (old : Seen) (turns : List Turn) (want : Option Want)
+      (records : ℕ) (form : Form) (stands : Known)
+      (e : EndsNow first old turns want records form ⊤ stands)
+      → (want ≡ want_at e.now.place.file e.now.place.position) × Gathers turns old e.now
+      × Follows false first old turns e.last e.now × IsPut want ⊤ records form stands e.now.parts
+  -- images are left unread only where nothing is wanted, and each that was read has a line
+  pub left_unread : (session : Listed) (images lefts : List (Option Known)) (form : Form)
+      (out now said says : Known) (want : Option Want)
+      (e : ExtractsListed session images lefts form out now said says want)
+      → length e.turns < length images → want ≡ None
+  pub lines : (session : Listed) (images lefts : List (Option Known)) (form : Form)
+      (out now said says : Known) (want : Option Want)
+      (e : ExtractsListed session images lefts form out now said says want)
+      → Appends said says (reel_lines 1 (map answer_of e.turns) ++ last_line want e.records)
+      × AreTurns (λ r. r) images lefts e.turns
+  pub left_unread_now : (session : Listed) (images lefts : List (Option Known)) (form : Form)
+      (stands said says : Known) (want : Option Want)
+      (e : ExtractsListedNow session images lefts form stands said says want)
+      → length e.turns < length images → want ≡ None
+  pub lines_now : (session : Listed) (images lefts : List (Option Known)) (form : Form)
+      (stands said says : Known) (want : Option Want)
+      (e : ExtractsListedNow session images lefts form stands said says want)
+      → Appends said says (reel_lines 1 (map answer_of e.turns) ++ last_line want e.records)
+      × AreTurns (λ r. r) images lefts e.turns
+  -- a fault ends a report behind the line of at most one image more than those that were noted
+  pub one_line_more : (session : Listed) (form : Form) (out now said says : Known)
+      (s : StopsListed session form out now said says) → (length s.more ≤ 1)
+      × AppendsFront said says
+      (reel_lines 1 (map answer_of s.turns ++ s.more) ++ last_line s.want s.records)
+  pub one_line_more_now : (session : Listed) (form : Form) (out now said says : Known)
+      (s : StopsListedNow session form out now said says) → (length s.more ≤ 1)
+      × AppendsFront said says
+      (reel_lines 1 (map answer_of s.turns ++ s.more) ++ last_line s.want s.records)
+  -- and nothing was done to the output, or the file is complete and a front of it was written
+  pub output_stopped : (session : Listed) (form : Form) (out now said says : Known)
+      → session.notes ≡ [] → StopsListed session form out now said says → (now ≡ out)
+      ⊎ ((s : Seen) × (s.place.position ≡ Finished) × AppendsFront out now (output_of form s.parts))
+  pub output_stopped_now : (session : Listed) (form : Form) (out now said says : Known)
+      → StopsListedNow session form out now said says → (now ≡ out)
+      ⊎ ((s : Seen) × (s.place.position ≡ Finished) × (now ≡ Some (output_of form s.parts)))
+  -- what a sink that writes has taken
+  pub taken : (form : Form) (out : Known) (weight records : ℕ) (begun failed : Bool)
+      (parts : List Portion)
+      → HasTaken (λ (w : Known). w) form out weight records begun failed parts
+      → (weight ≡ weight_of parts) × (records ≡ length (join parts).records)
+  pub text : (known : List ℕ) → IsText false (7 ∷ []) (Some known) → known ≡ 7 ∷ []
+  pub ended : (with_end true 3 ≡ 3) × (with_end false 3 ≡ 4)

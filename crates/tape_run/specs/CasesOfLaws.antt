@@ -1,0 +1,98 @@
+-- What a caller draws from each law, so that none has a premise that nothing meets. The call
+-- `laws::cases` has them as its contract.
+use Rattle.std.specs.Prelude.{◌≡◌, ℕ, true, false, List, [], ◌∷◌, ◌++◌, length, map, Option, Some}
+use Rattle.std.specs.Prelude.{None, IsSome, Bool, Err}
+use Rattle.tape_image.specs.Tape.{TapeItem}
+use Rattle.tape_blocks.specs.Block.{Portion}
+use Rattle.tape_set.specs.Layout.{FileSet, Placed, nth, file_of, sections, items, on}
+use Rattle.tape_set.specs.Lawful.{IsLawful}
+use Rattle.tape_core.specs.declared.sink.SinkFault.{SinkFault}
+use Rattle.tape_core.specs.Point.{Point}
+use Rattle.tape_core.specs.Stands.{Stands}
+use Rattle.tape_run.specs.declared.fault.RunFault.{RunFault}
+use Rattle.tape_run.specs.declared.fault.RunFault.TheVariants.{Sink, NoSuchPoint, TooFewReels}
+use Rattle.tape_run.specs.declared.fault.RunFault.TheVariants.{OutOfMemory, OtherFile}
+use Rattle.tape_run.specs.declared.script.Step.{Step}
+use Rattle.tape_run.specs.declared.section.ImageLine.{ImageLine}
+use Rattle.tape_run.specs.declared.section.SectionState.TheVariants.{Good, Cut}
+use Rattle.tape_run.specs.Added.{Adds}
+use Rattle.tape_run.specs.CasesOfCatalogues.{met}
+use Rattle.tape_run.specs.Checked.{Reel, IsReport}
+use Rattle.tape_run.specs.Crash.{StoodAt}
+use Rattle.tape_run.specs.Fronts.{FrontsAreMounts, GivenIsHistory}
+use Rattle.tape_run.specs.Given.{AreGiven}
+use Rattle.tape_run.specs.History.{IsHistory}
+use Rattle.tape_run.specs.Lacks.{LackIsFirst, IsFoundWhole, IsFirstLack, lack_of, found_all}
+use Rattle.tape_run.specs.Lead.{AreItems, ItemsAreThere}
+use Rattle.tape_run.specs.Lives.{StoodComesBack, StandsAcrossCrashes, ComesBack, Life, Outlives}
+use Rattle.tape_run.specs.Lives.{AreHistories}
+use Rattle.tape_run.specs.Mount.{Happening, IsMountOf, cut}
+use Rattle.tape_run.specs.Noted.{noted_all, StandsIn}
+use Rattle.tape_run.specs.OneEntry.{HasOneEach, OneEntryASection}
+use Rattle.tape_run.specs.Passing.{Told, met_in}
+use Rattle.tape_run.specs.Runs.{Runs, OnlyRefusalsStop, IsRefusal}
+use Rattle.tape_run.specs.Seen.{Seen}
+use Rattle.tape_run.specs.Shown.{Shown}
+use Rattle.tape_run.specs.WholeReels.{WholeSetIsTold, GoodWasSeen, AreWholeCopies, IsToldWhole}
+use Rattle.tape_run.specs.WholeReels.{IsShownOn}
+use Rattle.tape_run.specs.WholeSet.{HasEach, AreAllGood, behind_copies, WholeVolumeIsGood}
+use Rattle.tape_run.specs.WholeSet.{WholeSetIsGood, WholeSetLacksNothing, WholeSetIsFound}
+use Rattle.tape_run.specs.WholeSet.{WholeCopiesAreAdded, IsWholeCopy, IsNoDevice}
+
+-- of laws of runs
+pub record CasesOfRunLaws : Type 0 where
+  pub a_front : FrontsAreMounts → (set : FileSet) (front rest : List ℕ) (h : Happening)
+      → IsMountOf set (front ++ rest) h → (n : ℕ) × IsMountOf set front (cut n h)
+  pub what_was_given : GivenIsHistory → (set : FileSet) (steps : List Step)
+      (bytes given : List (List ℕ)) (hs : List Happening) → IsHistory set 0 steps bytes hs
+      → AreGiven 2 bytes given → (others : List Happening) × IsHistory set 0 steps given others
+  pub a_refusal : OnlyRefusalsStop → (old new : Seen) (steps : List Step)
+      (bytes : List (List ℕ)) (fault : RunFault) (set : FileSet) (hs : List Happening)
+      → Runs old steps (map Some bytes) (Err fault) new
+      → IsHistory set (length old.notes) steps bytes hs → IsRefusal fault
+  pub refusals : (cause : SinkFault) → IsRefusal (Sink cause) × IsRefusal OutOfMemory
+  pub no_refusals : (IsRefusal NoSuchPoint → ⊥) × (IsRefusal TooFewReels → ⊥)
+      × (IsRefusal OtherFile → ⊥)
+  pub came_back : StoodComesBack → (old : Seen) (steps : List Step) (bytes : List (List ℕ))
+      (back : Point) (there : List Portion) → StoodAt old steps (map Some bytes) back there
+      → (done : List Step) × (given : List (List ℕ))
+      × ComesBack old steps done bytes given back there
+  pub one_crash : StandsAcrossCrashes → (set : FileSet) (c back : Point) (ps there : List Portion)
+      (life : Life) (hs : List Happening) → IsLawful set → Stands set c.file c ps
+      → Outlives c ps (life ∷ []) back there → AreHistories set (life ∷ []) (hs ∷ [])
+      → Stands set c.file back there
+  pub items_are : ItemsAreThere → (bytes : List ℕ)
+      → (reels : List (List TapeItem)) × AreItems (bytes ∷ []) reels
+
+-- of laws of catalogues and reports
+pub record CasesOfCatalogueLaws : Type 0 where
+  pub none_lacks : LackIsFirst → (c : List Told) (id : List ℕ) (file : ℕ)
+      → lack_of c id file ≡ None → IsFoundWhole c id file
+  pub first_lacks : LackIsFirst → (c : List Told) (id : List ℕ) (file sect : ℕ)
+      → lack_of c id file ≡ Some sect → IsFirstLack c id file sect
+  pub volume_is_good : WholeVolumeIsGood → (set : FileSet) (k : ℕ) → IsLawful set
+      → IsSome (nth set.volumes k)
+      → AreAllGood set (noted_all [] (met_in (items set k))) (on k (sections set))
+  pub set_is_good : WholeSetIsGood → (set : FileSet) (ks : List ℕ) (c : List Told) → IsLawful set
+      → HasEach set ks → AreAllGood set (behind_copies set c ks) (sections set)
+  pub set_lacks_none : WholeSetLacksNothing → (set : FileSet) (ks : List ℕ) → IsLawful set
+      → HasEach set ks → IsSome (file_of set 1)
+      → lack_of (behind_copies set [] ks) set.set_id 1 ≡ None
+  pub set_is_found : WholeSetIsFound → (set : FileSet) (ks : List ℕ) → IsLawful set
+      → HasEach set ks → IsSome (file_of set 1) → found_all (behind_copies set [] ks) ≡ true
+  pub copy_is_added : WholeCopiesAreAdded → (set : FileSet) (k : ℕ) (xs : List ℕ)
+      (after : Option (List ℕ)) (line : ImageLine) (new : List Told) → IsWholeCopy set k xs
+      → IsNoDevice line.stop → Adds (Some xs) after [] line new
+      → new ≡ noted_all [] (met_in (items set k))
+  pub set_is_told : WholeSetIsTold → (set : FileSet) (ks : List ℕ) (reels : List Reel)
+      (text : List ℕ) (found : Bool) (report : IsReport reels text found) → IsLawful set
+      → HasEach set ks → IsSome (file_of set 1) → AreWholeCopies set reels report.lines ks
+      → IsToldWhole set report.lines text found
+  pub good_was_seen : GoodWasSeen → (reels : List Reel) (text : List ℕ) (found : Bool)
+      (report : IsReport reels text found) (t : Told) → StandsIn report.sections t
+      → t.1.state ≡ Good → IsShownOn reels t
+  -- one entry a section: of two sections each, and not two of one
+  pub two_entries : HasOneEach (met 1 1 false Good ∷ met 1 2 true Cut ∷ [])
+  pub twice : HasOneEach (met 1 1 false Good ∷ met 1 1 false Cut ∷ []) → ⊥
+  pub one_entry : OneEntryASection → (before after : Option (List ℕ)) (new : List Told)
+      (line : ImageLine) → Adds before after [] line new → HasOneEach new

@@ -1,0 +1,176 @@
+-- What the definitions of a reel's answer, and of where the table leads over any tapes, say of
+-- cases. The call `laws::cases` has them as its contract.
+use Rattle.std.specs.Prelude.{◌≡◌, ◌+◌, ◌⊎◌, ℕ, List, [], ◌∷◌, ◌++◌, length, take, drop, codes}
+use Rattle.std.specs.Prelude.{Option, Some, None, false}
+use Rattle.std.specs.List.{AllByRecursion}
+use Rattle.tape_image.specs.Tape.{TapeItem, block, bad, mark}
+use Rattle.tape_image.specs.Begins.{Stop, Begins, Walks}
+use Rattle.tape_image.specs.Reader.{IfKnown}
+use Rattle.tape_image.specs.Step.{TakesEnd, TakesFault}
+use Rattle.tape_label.specs.declared.values.Format.TheVariants.{Spanned}
+use Rattle.tape_blocks.specs.Block.{Portion}
+use Rattle.tape_set.specs.Lawful.{FileForm}
+use Rattle.tape_set.specs.declared.position.Position.{Position}
+use Rattle.tape_set.specs.declared.position.Position.TheVariants.{Awaits, Finished}
+use Rattle.tape_set.specs.Position.{start, awaiting, part_of, at_part}
+use Rattle.tape_core.specs.declared.answer.Answer.{Answer}
+use Rattle.tape_core.specs.declared.answer.Answer.TheVariants.{Passed, Deliver, Complete}
+use Rattle.tape_core.specs.declared.sink.SinkFault.{SinkFault}
+use Rattle.tape_core.specs.Follows.{IsFinal}
+use Rattle.tape_core.specs.Place.{rest_of}
+use Rattle.tape_core.specs.Point.{Point}
+use Rattle.tape_core.specs.State.{State}
+use Rattle.tape_core.specs.Stands.{weight_of}
+use Rattle.tape_core.specs.Table.{step_of, mount_of, reader_of, saved}
+use Rattle.tape_core.specs.Weight.{IsFront}
+use Rattle.tape_run.specs.declared.answer.ReelAnswer.{ReelAnswer}
+use Rattle.tape_run.specs.declared.fault.RunFault.{RunFault}
+use Rattle.tape_run.specs.declared.fault.RunFault.TheVariants.{Sink, OutOfMemory}
+use Rattle.tape_run.specs.declared.script.Step.{Step}
+use Rattle.tape_run.specs.declared.script.Step.TheVariants.{Reel, Save, Restart}
+use Rattle.tape_run.specs.ByTable.{parts_from, parts_by, parts_at, delivered_parts, IsLed}
+use Rattle.tape_run.specs.ByTable.{StopsInside, IsCutAt}
+use Rattle.tape_run.specs.Headline.{HasRun, IsRead, HasStopped, reels_in}
+use Rattle.tape_run.specs.Lead.{Noted, Lead, at_start, lead, AreItems, AreNoted, StandsThere}
+use Rattle.tape_run.specs.Lead.{StopsBy, over_save}
+use Rattle.tape_run.specs.Reels.{Reads, ReadsReel, ReadsToBlock, EndedByItem, EndedByMedium}
+use Rattle.tape_run.specs.Reels.{EndedByFault, Leaves, GoesOn, answers_to, behind_items}
+use Rattle.tape_run.specs.Reels.{delivered_by}
+use Rattle.tape_run.specs.Seen.{Seen}
+use Rattle.tape_run.specs.Steps.{Reeled, CutShort}
+use Rattle.tape_run.specs.WorkedHistory.{block_0, block_1, vol1, hdr1, hdr2, first, middle}
+
+-- ---- what a reel answers
+
+-- of answers and what is left unread
+pub record CasesOfAnswers : Type 0 where
+  -- of a complete file nothing is read
+  pub complete_reads_nothing : (core : State) (bytes left : List ℕ) (answer : ReelAnswer)
+      → Reads Finished core bytes left answer
+      → (left ≡ bytes) × (answer.answer ≡ Complete) × (answer.fault ≡ None) × (answer.blocks ≡ 0)
+  pub else_a_reel : (core : State) (bytes left : List ℕ) (answer : ReelAnswer)
+      → Reads (Awaits 1 0 0) core bytes left answer → ReadsReel (mount_of core) bytes left answer
+  pub goes_on : GoesOn Passed × GoesOn Deliver × (GoesOn Complete → ⊥)
+  pub blocks : delivered_by (Passed ∷ Deliver ∷ Deliver ∷ Complete ∷ []) ≡ 2
+  pub on : (core : State) (bytes left : List ℕ) (answer : ReelAnswer)
+      (r : ReadsReel core bytes left answer) → AllByRecursion GoesOn (answers_to core r.items)
+      × (answer.blocks ≡ delivered_by (answers_to core r.items))
+  -- an item that ended the reading was answered finally, is the last one taken, and is no fault
+  pub by_item : (core : State) (items : List TapeItem) (bytes left : List ℕ)
+      (answer : ReelAnswer) (e : EndedByItem core items bytes left answer)
+      → (answer.answer ≡ (step_of (behind_items core items) (Some e.item)).0)
+      × IsFinal answer.answer × (answer.fault ≡ None)
+      × Walks 0 bytes (items ++ e.item ∷ []) e.at left
+  pub by_medium : (core : State) (items : List TapeItem) (bytes left : List ℕ)
+      (answer : ReelAnswer) (e : EndedByMedium core items bytes left answer)
+      → (answer.answer ≡ (step_of (behind_items core items) None).0) × (answer.fault ≡ None)
+      × TakesEnd 0 items e.ending e.at bytes left
+  pub by_fault : (core : State) (items : List TapeItem) (bytes left : List ℕ)
+      (answer : ReelAnswer) (e : EndedByFault core items bytes left answer)
+      → (answer.answer ≡ (step_of (behind_items core items) None).0)
+      × (answer.fault ≡ Some e.fault) × TakesFault 0 items e.fault bytes left
+  -- memory that was refused left everything unread, a sink what stands behind the refused block
+  pub memory_left_all : (core : State) (old new : Option (List ℕ)) → Leaves OutOfMemory core old new
+      → new ≡ old
+  pub sink_left : (core : State) (cause : SinkFault) (old new : Option (List ℕ))
+      → Leaves (Sink cause) core old new → IfKnown old new (ReadsToBlock (mount_of core))
+  pub to_block : (core : State) (bytes left : List ℕ) (r : ReadsToBlock core bytes left)
+      → AllByRecursion GoesOn (answers_to core r.items)
+      × ((step_of (behind_items core r.items) (Some (block r.content))).0 ≡ Deliver)
+      × Walks 0 bytes (r.items ++ block r.content ∷ []) r.at left
+
+-- ---- what the table delivers of any items
+
+abbrev pub spanned : FileForm
+spanned = record {
+  file_id = codes "PAYROLL          ";
+  format = Spanned;
+  rec_len = 0;
+  offset = 0;
+}
+
+-- the labels of a first section, and its first two blocks
+abbrev pub first_items : List TapeItem
+first_items = block vol1 ∷ block hdr1 ∷ block hdr2 ∷ mark ∷ block block_0 ∷ bad ∷ []
+
+abbrev pub at_front : State
+at_front = reader_of (codes "ABC001") 1
+
+-- of parts by the table
+pub record CasesOfTable : Type 0 where
+  pub passed_gives_none : (item : TapeItem) (p : Position) (known : Option FileForm)
+      → parts_by Passed item p known ≡ []
+  pub mark_gives_none : (p : Position) (known : Option FileForm)
+      → parts_by Deliver mark p known ≡ []
+  pub bad_gives_none : (p : Position) (known : Option FileForm) → parts_by Deliver bad p known ≡ []
+  pub unknown_gives_none : (p : Position) (content : List ℕ) → parts_from p None content ≡ []
+  pub from_its_front : parts_by Deliver (block block_0) start (Some spanned) ≡ first ∷ []
+  pub from_its_part : parts_by Deliver (block block_1) (Awaits 1 1 1) (Some spanned) ≡ []
+  -- the first block of a section is delivered, and a bad one behind it ends the reading there
+  pub one_block : delivered_parts (mount_of at_front) first_items ≡ first ∷ []
+  pub behind_one : (behind_items (mount_of at_front) first_items).position ≡ awaiting 1 1
+  pub led : (xs : List TapeItem) (core new : State) (held now : List Portion)
+      → IsLed xs core new held now
+      → (new ≡ rest_of (behind_items core xs)) × (now ≡ held ++ delivered_parts core xs)
+  pub stops : (core new : State) (item : TapeItem) (held now : List Portion)
+      (s : StopsInside core new item held now) → ((step_of core (Some item)).0 ≡ Deliver)
+      × (now ≡ held ++ take s.more (parts_at core item))
+      × (new.position ≡ at_part (part_of core.position + s.more) core.position)
+  pub cut_at : (xs : List TapeItem) (core new : State) (held now : List Portion)
+      (c : IsCutAt xs core new held now) → (xs ≡ c.before ++ c.item ∷ c.behind)
+      × StopsInside (behind_items core c.before) new c.item
+      (held ++ delivered_parts core c.before) now
+
+-- of where the table leads a run
+pub record CasesOfLeads : Type 0 where
+  pub starts : at_start (codes "ABC001") 1
+      ≡ record { place = at_front; parts = []; notes = [] }
+  -- a save notes where it stands, and going back leads there again and forgets the later notes
+  pub saved_and_back : lead (at_start (codes "ABC001") 1) (Save ∷ Save ∷ Restart 0 ∷ []) []
+      ≡ record {
+        place = at_front;
+        parts = [];
+        notes = record { place = at_front; parts = [] } ∷ [];
+      }
+  pub parts_back : (t : Lead) → t.notes ≡ [] → (lead t (Save ∷ Restart 0 ∷ []) []).parts ≡ t.parts
+  pub over_a_reel : (t : Lead) (xs : List TapeItem) → lead t (Reel ∷ []) (xs ∷ [])
+      ≡ record {
+        place = rest_of (behind_items (mount_of t.place) xs);
+        parts = t.parts ++ delivered_parts (mount_of t.place) xs;
+        notes = t.notes;
+      }
+  pub items : (bytes : List ℕ) (xs : List TapeItem) → AreItems (bytes ∷ []) (xs ∷ [])
+      → (end : ℕ) × (stop : Stop) × Begins 0 bytes xs end stop
+  pub items_of_none : AreItems ([] ∷ []) ([] ∷ [])
+  pub items_of_each : (bytes : List ℕ) → AreItems (bytes ∷ []) [] → ⊥
+  pub items_of_no_more : (xs : List TapeItem) → AreItems [] (xs ∷ []) → ⊥
+  pub there : (t : Lead) (s : Seen) → StandsThere t s
+      → (s.place ≡ t.place) × (s.parts ≡ t.parts) × AreNoted [] t.notes s.notes s.parts
+  pub noted : (n : Noted) (c : Point) (parts : List Portion) → AreNoted [] (n ∷ []) (c ∷ []) parts
+      → (c ≡ saved n.place (weight_of n.parts)) × IsFront n.parts parts
+  pub each_noted : (n : Noted) (c : Point) (parts : List Portion)
+      → (AreNoted [] (n ∷ []) [] parts → ⊥) × (AreNoted [] [] (c ∷ []) parts → ⊥)
+  -- a step that was not made leaves it where it led, or inside the reel
+  pub save_stops : (t : Lead) (readers : List (List ℕ)) (fault : RunFault) (new : Seen)
+      → StopsBy t Save readers fault new → StandsThere t new
+  pub reel_stops : (t : Lead) (bytes : List ℕ) (cause : SinkFault) (new : Seen)
+      (xs : List TapeItem) (end : ℕ) (stop : Stop)
+      → StopsBy t Reel (bytes ∷ []) (Sink cause) new → Begins 0 bytes xs end stop
+      → IsCutAt xs (mount_of t.place) new.place t.parts new.parts
+  -- what calls say of it
+  pub run_led : (old new : Seen) (steps : List Step) (bytes : List (List ℕ)) (t : Lead)
+      (tapes : List (List TapeItem)) (r : HasRun old steps bytes new) → AreItems r.given tapes
+      → StandsThere t old → StandsThere (lead t steps tapes) new
+  pub read_led : (id : List ℕ) (file : ℕ) (steps : List Step) (bytes : List (List ℕ)) (s : Seen)
+      (tapes : List (List TapeItem)) (r : IsRead id file steps bytes s) → AreItems r.given tapes
+      → StandsThere (lead (at_start id file) steps tapes) s
+  pub stopped_led : (old new : Seen) (steps : List Step) (bytes : List (List ℕ))
+      (fault : RunFault) (t : Lead) (tapes : List (List TapeItem))
+      (s : HasStopped old steps bytes fault new) → AreItems s.given tapes → StandsThere t old
+      → StopsBy (lead t s.made tapes) s.step (drop (reels_in s.made) bytes) fault new
+  pub reel_led : (bytes : List ℕ) (old new : Seen) (xs : List TapeItem) (end : ℕ) (stop : Stop)
+      (r : Reeled bytes false old new) → Begins 0 r.given xs end stop
+      → IsLed xs (mount_of old.place) new.place old.parts new.parts
+  pub cut_led : (bytes : List ℕ) (old new : Seen) (xs : List TapeItem) (end : ℕ) (stop : Stop)
+      → CutShort bytes old new → Begins 0 bytes xs end stop
+      → IsCutAt xs (mount_of old.place) new.place old.parts new.parts

@@ -1,0 +1,77 @@
+-- What a run of `list` leaves, where the writer held `old` before and holds `new` after.
+use Rattle.std.specs.Prelude.{◌≡◌, ◌≢◌, ℕ, ◌+◌, List, [], ◌∷◌, ◌++◌, length, Option}
+use Rattle.std.specs.Io.KnownBytes.{Appends, Keeps}
+use Rattle.tape_image.specs.declared.item.Ending.{Ending}
+use Rattle.tape_image.specs.declared.fault.ImageCause.{ImageCause}
+use Rattle.tape_image.specs.declared.fault.ImageCause.TheVariants.{Device, OutOfMemory}
+use Rattle.tape_image.specs.declared.fault.ImageFault.{ImageFault}
+use Rattle.tape_image.specs.Tape.{TapeItem}
+use Rattle.tape_image.specs.Begins.{ends, Walks}
+use Rattle.tape_image.specs.Reader.{IfKnown}
+use Rattle.tape_image.specs.Step.{TakesEnd, TakesFault}
+use Rattle.tape_run.specs.declared.fault.ListFault.{ListFault}
+use Rattle.tape_run.specs.declared.fault.ListFault.TheVariants.{Image, WriteFailed}
+use Rattle.tape_run.specs.ListLine.{line_of}
+use Rattle.tape_run.specs.Listing.{lines_from, end_line, listing_of, IsListing}
+use Rattle.tape_run.specs.Output.{AppendsFront}
+
+-- The items that the bytes begin with, up to the end of medium, were read, and the listing of the
+-- image was written. What is left of the bytes begins behind the end word, if there is one.
+pub record ListsToEnd (old new : Option (List ℕ)) (bytes left : List ℕ) : Type 0 where
+  pub items : List TapeItem
+  pub ending : Ending
+  pub place : ℕ
+  pub takes : TakesEnd 0 items ending place bytes left
+  pub listed : IsListing bytes (listing_of items (ends ending))
+  pub wrote : Appends old new (listing_of items (ends ending))
+
+-- The items before the fault were read, and their lines were written. The fault has its cause in
+-- the bytes, and then these lines are the listing of the image; or the reader failed there.
+pub record ListsToFault (fault : ImageFault) (old new : Option (List ℕ)) (bytes left : List ℕ) :
+    Type 0 where
+  pub items : List TapeItem
+  pub takes : TakesFault 0 items fault bytes left
+  pub listed : fault.cause ≢ Device → IsListing bytes (lines_from 1 items)
+  pub wrote : Appends old new (lines_from 1 items)
+
+-- a front of the listing was written
+abbrev pub ListsInPart : Option (List ℕ) → Option (List ℕ) → List ℕ → Type 0
+ListsInPart old new bytes = (text : List ℕ) × IsListing bytes text × AppendsFront old new text
+
+-- All of this was written, and then a front of that.
+abbrev pub AppendsInto : Option (List ℕ) → Option (List ℕ) → List ℕ → List ℕ → Type 0
+AppendsInto old new all part =
+    (front rest : List ℕ) × Appends old new (all ++ front) × (part ≡ front ++ rest)
+
+-- Where a write failed: what was read of the bytes, and which line was not written whole. Nothing
+-- is read behind the item whose line it is.
+pub data StopsWriting (old new : Option (List ℕ)) (bytes left : List ℕ) : Type 0 where
+  -- at the line of an item
+  at_item : (done : List TapeItem) (item : TapeItem) (place : ℕ)
+      → Walks 0 bytes (done ++ item ∷ []) place left
+      → AppendsInto old new (lines_from 1 done) (line_of (length done + 1) item)
+      → StopsWriting old new bytes left
+  -- at the last line, or as it was passed on
+  at_end : (items : List TapeItem) (ending : Ending) (place : ℕ)
+      → TakesEnd 0 items ending place bytes left
+      → AppendsInto old new (lines_from 1 items) (end_line ending)
+      → StopsWriting old new bytes left
+  -- as the lines before a fault of the image were passed on
+  at_fault : (items : List TapeItem) (fault : ImageFault)
+      → TakesFault 0 items fault bytes left
+      → Appends old new (lines_from 1 items)
+      → StopsWriting old new bytes left
+
+-- Where memory was refused nothing was read or written. Otherwise the image was listed up to its
+-- fault.
+abbrev pub FitsCause : ImageCause → ImageFault → Option (List ℕ) → Option (List ℕ)
+    → Option (List ℕ) → Option (List ℕ) → Type 0
+FitsCause OutOfMemory fault before after old new =
+    (fault.place ≡ 0) × (after ≡ before) × Keeps old new
+FitsCause _ fault before after old new = IfKnown before after (ListsToFault fault old new)
+
+-- the fault comes where it should, of a reader with the bytes `before` and then `after`
+abbrev pub FitsFault : Option (List ℕ) → Option (List ℕ) → Option (List ℕ) → Option (List ℕ)
+    → ListFault → Type 0
+FitsFault before after old new (Image fault) = FitsCause fault.cause fault before after old new
+FitsFault before after old new WriteFailed = IfKnown before after (StopsWriting old new)

@@ -1,0 +1,234 @@
+//! Listings of images that can't be read on, and of devices that fail.
+use crate::devices::{Dribble, FailsOnce, Narrow};
+use crate::image::{Image, payroll};
+use crate::listing::{GAP, WORKED};
+use crate::volumes::cut;
+use std::alloc::{AllocError, Global};
+use std::io::{ErrorKind, Read};
+use std::process::Abort;
+use std::test::Fail;
+use tape_image::{ImageCause, ImageFault};
+use tape_run::{ListFault, list_to};
+
+const NOT_WRITTEN: Result<(), ListFault> = Err(ListFault::WriteFailed);
+
+fn fault_at(place: u64, cause: ImageCause) -> ListFault {
+    ListFault::Image(ImageFault { place, cause })
+}
+
+/// What this reader gives ends in the fault, behind so many lines of the worked listing. The case
+/// is told where it does not.
+fn check<H: Abort + AllocGlobal, R: Read>(
+    rt: &H,
+    reader: &mut R,
+    fault: ListFault,
+    lines: usize,
+    case: usize,
+) {
+    let mut out = Vec::new(rt.alloc());
+    let answer = list_to(rt.alloc(), reader, &mut out);
+    assert!(rt; answer == Err(fault), "{case}: {answer:?}");
+    assert!(rt; out.as_slice() == first_lines(lines), "{case}");
+}
+
+/// The first lines of the worked listing.
+fn first_lines(count: usize) -> &'static [u8] {
+    let mut left = count;
+    let mut length = 0;
+    for (place, byte) in WORKED.as_bytes().iter().enumerate() {
+        if left > 0 && *byte == b'\n' {
+            left -= 1;
+            length = place.saturating_add(1);
+        }
+    }
+    WORKED.as_bytes().get(..length).unwrap_or(&[])
+}
+
+/// The worked image, with these bytes in the place of those at a place.
+fn worked_with(alloc: Global, place: usize, bytes: &[u8]) -> Result<Image, AllocError> {
+    let mut image = payroll(alloc)?;
+    for (slot, byte) in image.bytes.iter_mut().skip(place).zip(bytes) {
+        *slot = *byte;
+    }
+    Ok(image)
+}
+
+#[test]
+fn cut_images(rt: HostRuntime) -> Result<(), Fail> {
+    for count in [2288, 1885] {
+        let image = cut(rt.alloc(), count)?;
+        let fault = fault_at(1884, ImageCause::Truncated);
+        check(&rt, &mut image.bytes.as_slice(), fault, 6, count);
+    }
+    Ok(())
+}
+
+/// Places, bytes that stand there, and what is wrong then. The first data block begins behind
+/// three labels and a mark.
+const DAMAGED: &[(usize, &[u8], ImageCause)] = &[
+    (1072, &[0x21], ImageCause::LengthsDiffer),
+    (
+        268,
+        &[0xFF, 0xFF, 0xFE, 0xFF],
+        ImageCause::Reserved(0xFFFE_FFFF),
+    ),
+    (
+        268,
+        &[0x01, 0x00, 0x00, 0x10],
+        ImageCause::Reserved(0x1000_0001),
+    ),
+];
+
+#[test]
+fn damaged_words(rt: HostRuntime) -> Result<(), Fail> {
+    for (row, (place, bytes, cause)) in DAMAGED.iter().enumerate() {
+        let image = worked_with(rt.alloc(), *place, bytes)?;
+        let fault = fault_at(268, *cause);
+        check(&rt, &mut image.bytes.as_slice(), fault, 4, row);
+    }
+    Ok(())
+}
+
+/// Where the items of the worked image begin, and where it ends.
+const STARTS: [usize; 14] = [
+    0, 88, 176, 264, 268, 1076, 1884, 2292, 2296, 2384, 2472, 2476, 2480, 2484,
+];
+
+/// The place of the item under way when so many bytes were given, and the number of items before
+/// it.
+fn under_way(given: usize) -> (u64, usize) {
+    let mut found = (0, 0);
+    for (items, start) in STARTS.iter().enumerate() {
+        if *start <= given {
+            found = (*start as u64, items);
+        }
+    }
+    found
+}
+
+/// A reader that gives so many bytes of the image and fails.
+fn fails_after<H: Abort + AllocGlobal>(rt: &H, image: &Image, given: usize, kind: ErrorKind) {
+    let mut reader = Dribble {
+        bytes: image.bytes.as_slice(),
+        left: given,
+        kind,
+    };
+    let (place, items) = under_way(given);
+    let fault = fault_at(place, ImageCause::Device);
+    check(rt, &mut reader, fault, items, given);
+}
+
+#[test]
+fn a_reader_fails(rt: HostRuntime) -> Result<(), Fail> {
+    let image = payroll(rt.alloc())?;
+    for given in 0..2484usize {
+        let kind = match given % 2 {
+            0 => ErrorKind::Other,
+            _ => ErrorKind::Interrupted,
+        };
+        fails_after(&rt, &image, given, kind);
+    }
+    Ok(())
+}
+
+/// Where the writer takes so many bytes and fails, these are a front of the listing.
+fn stops_at<H: Abort + AllocGlobal>(rt: &H, image: &Image, left: usize, kind: Option<ErrorKind>) {
+    let mut out = Narrow::failing(rt.alloc(), left, kind, true);
+    let answer = list_to(rt.alloc(), &mut image.bytes.as_slice(), &mut out);
+    assert!(rt; answer == NOT_WRITTEN, "at {left}");
+    assert!(rt; out.taken.len() == left, "at {left}");
+    assert!(rt;
+        WORKED.as_bytes().starts_with(out.taken.as_slice()),
+        "at {left}"
+    );
+}
+
+#[test]
+fn a_writer_fails(rt: HostRuntime) -> Result<(), Fail> {
+    let image = payroll(rt.alloc())?;
+    for left in 0..WORKED.len() {
+        stops_at(&rt, &image, left, None);
+        stops_at(&rt, &image, left, Some(ErrorKind::Interrupted));
+        stops_at(&rt, &image, left, Some(ErrorKind::BrokenPipe));
+    }
+    Ok(())
+}
+
+/// The writer fails at this line.
+fn fails_once<H: Abort + AllocGlobal>(rt: &H, image: &Image, good: usize, kind: Option<ErrorKind>) {
+    let mut out = FailsOnce::new(rt.alloc(), good, kind);
+    let answer = list_to(rt.alloc(), &mut image.bytes.as_slice(), &mut out);
+    assert!(rt; answer == NOT_WRITTEN, "line {good}");
+    assert!(rt; out.calls == good.saturating_add(1), "line {good}");
+    assert!(rt; out.taken.as_slice() == first_lines(good), "line {good}");
+}
+
+/// A write that failed is not tried again, nor is anything written behind it.
+#[test]
+fn a_writer_fails_once(rt: HostRuntime) -> Result<(), Fail> {
+    let image = payroll(rt.alloc())?;
+    for good in 0..13 {
+        fails_once(&rt, &image, good, None);
+        fails_once(&rt, &image, good, Some(ErrorKind::Interrupted));
+        fails_once(&rt, &image, good, Some(ErrorKind::Other));
+    }
+    Ok(())
+}
+
+/// Where a write failed nothing was read behind the item whose line it was.
+#[test]
+fn what_was_read_when_a_write_failed(rt: HostRuntime) -> Result<(), Fail> {
+    let worked = payroll(rt.alloc())?;
+    for (good, end) in STARTS.iter().skip(1).enumerate() {
+        let mut out = FailsOnce::new(rt.alloc(), good, None);
+        let mut image = worked.bytes.as_slice();
+        let answer = list_to(rt.alloc(), &mut image, &mut out);
+        assert!(rt; answer == NOT_WRITTEN, "line {good}");
+        assert!(rt; image.len().saturating_add(*end) == 2484, "line {good}");
+    }
+    Ok(())
+}
+
+const CUT_OFF: Result<(), ListFault> = Err(ListFault::Image(ImageFault {
+    place: 1884,
+    cause: ImageCause::Truncated,
+}));
+
+/// How much of the worked image is there, how many lines that has, whether the writer can be
+/// flushed, and whether it is told that it could not. Else the fault of the image is.
+const FLUSHES: &[(usize, usize, bool, Result<(), ListFault>)] = &[
+    (2484, 13, true, Ok(())),
+    (2484, 13, false, NOT_WRITTEN),
+    (1885, 6, true, CUT_OFF),
+    (1885, 6, false, NOT_WRITTEN),
+];
+
+/// The last flush fails, at the end of medium and at a fault of the image, where it is told in that
+/// fault's place.
+#[test]
+fn the_last_flush(rt: HostRuntime) -> Result<(), Fail> {
+    for (count, lines, flushes, wanted) in FLUSHES {
+        let image = cut(rt.alloc(), *count)?;
+        let mut out = Narrow::new(rt.alloc(), WORKED.len(), *flushes);
+        let answer = list_to(rt.alloc(), &mut image.bytes.as_slice(), &mut out);
+        assert!(rt; answer == *wanted, "{count} {flushes}");
+        assert!(rt;
+            out.taken.as_slice() == first_lines(*lines),
+            "{count} {flushes}"
+        );
+    }
+    Ok(())
+}
+
+/// A fault stands behind the gaps before it.
+#[test]
+fn a_fault_behind_gaps(rt: HostRuntime) -> Result<(), Fail> {
+    let mut image = Image::with(rt.alloc(), &GAP);
+    image.mark()?;
+    image.word([1, 0, 0, 0])?;
+    let mut out = Vec::new(rt.alloc());
+    let answer = list_to(rt.alloc(), &mut image.bytes.as_slice(), &mut out);
+    assert!(rt; answer == Err(fault_at(12, ImageCause::Truncated)));
+    assert!(rt; out.as_slice() == b"000001 MARK\n".as_slice());
+    Ok(())
+}
