@@ -1,7 +1,7 @@
 -- Answers that the contracts of the program's functions exclude: each is what a wrong body would
--- give. Here are ends, faults, volumes and stages.
+-- give. Here are ends, faults and stages.
 use Rattle.std.proofs.Common.{◌≡◌, ◌+◌, [], length, true, false, refl, sym, ap, ◌∙◌}
-use Rattle.std.proofs.Common.{subst, arith, codes, inl, inr}
+use Rattle.std.proofs.Common.{subst, arith, codes}
 use Rattle.std.proofs.Math.Nat.{min-eq_left}
 use Rattle.std.specs.Prelude.{◌≤◌, Some, Ok, Err, slice_index}
 use Rattle.std.specs.Fmt.{digits}
@@ -20,7 +20,6 @@ use Rattle.tape_tool.specs.declared.fault.ToolFault.TheVariants as tool_faults
 use Rattle.tape_tool.specs.declared.fault.Fault.TheVariants as faults
 use Rattle.tape_tool.specs.Ends.{exit_status}
 use Rattle.tape_tool.specs.Fault.{file_number}
-use Rattle.tape_tool.specs.Blank.{IsPrefixByte, IsPrefix, blank_image, blank_volume}
 use Rattle.tape_tool.specs.Staging.{IsOfFile}
 use Rattle.tape_tool.proofs.end.End.status.Reads as status
 use Rattle.tape_tool.proofs.end.end_of.Reads as end_of
@@ -31,9 +30,6 @@ use Rattle.tape_tool.proofs.check_files.check_end.Reads as check_end
 use Rattle.tape_tool.proofs.fault.FileFault.number.Reads as number
 use Rattle.tape_tool.proofs.fault.number_of_write.Reads as number_of_write
 use Rattle.tape_tool.proofs.telling.fault_line.Reads as fault_line
-use Rattle.tape_tool.proofs.volume.blank_volume.Reads as blank_volume_of
-use Rattle.tape_tool.proofs.volume.blank_image.Reads as blank_image_of
-use Rattle.tape_tool.proofs.volume.Prefix.new.Reads as prefix
 use Rattle.tape_tool.proofs.staging.open_session.Reads as open_session
 use Rattle.tape_tool.proofs.staging.same_file.Reads as same_file
 
@@ -119,6 +115,14 @@ unfolding digits
 run_fault_number_3 κs z s h w =
     absurd (let d : 51 ≡ 52 = ap (λ v. slice_index v 16) (sym w ∙ h) in omega arith)
 
+-- stage_in_use_told_as_device: a stage that another run has is told as one whose disk failed
+stage_in_use_told_as_device : (κs : _) (z : _) (s : _)
+    → fault_line.Learnt κs (faults.Tool tool_faults.StageInUse, tt) z s
+    → z.bytes ≡ codes "tape: stage fault 3\n" → ⊥
+unfolding digits
+stage_in_use_told_as_device κs z s h w =
+    absurd (let d : 51 ≡ 55 = ap (λ v. slice_index v 18) (sym w ∙ h) in omega arith)
+
 -- place_of_fault_left_out: an image is cut off at byte 1,884, and byte 0 is told
 place_of_fault_left_out : (κs : _) (z : _) (s : _)
     → fault_line.Learnt κs (
@@ -130,40 +134,6 @@ place_of_fault_left_out : (κs : _) (z : _) (s : _)
 unfolding digits
 place_of_fault_left_out κs z s h w =
     absurd (let d : 48 ≡ 49 = ap (λ v. slice_index v 23) (sym w ∙ h) in omega arith)
-
--- ---- volumes
-
--- blank_volume_of_version_3: the label names version 3 of the standard
-blank_volume_of_version_3 : (κs : _) (a : _) (z : _) (s : _) → blank_volume_of.Learnt κs a z s
-    → z.version ≡ 51 → ⊥
-blank_volume_of_version_3 κs a z s h w =
-    absurd (let d : 51 ≡ 52 = sym w ∙ ap (λ v. v.version) h in omega arith)
-
--- volume_numbers_begin_at_2: the first volume of the prefix ABC is told as ABC002
-volume_numbers_begin_at_2 : (κs : _) (z : _) (s : _)
-    → blank_volume_of.Learnt κs (record { characters = codes "ABC" }, (1, tt)) z s
-    → z.volume ≡ codes "ABC002" → ⊥
-volume_numbers_begin_at_2 κs z s h w =
-    absurd (let d : 50 ≡ 49 = ap (λ v. slice_index v 5) (sym w ∙ ap (λ v. v.volume) h) in
-    omega arith)
-
--- one_mark_behind_the_label: the end word stands behind one tape mark
-one_mark_behind_the_label : (κs : _) (a : _) (z : _) (s : _) → blank_image_of.Learnt κs a z s
-    → a.0.now ≡ blank_volume (codes "ABC") 1 → slice_index z.items 92 ≡ 255 → ⊥
-one_mark_behind_the_label κs a z s h e w =
-    absurd (let d : 255 ≡ 0 = sym w ∙ ap (λ v. slice_index v 92) (h ∙ ap blank_image e) in
-    omega arith)
-
--- small_letters_in_prefixes: `abc` is taken for a prefix
-no_capital : IsPrefixByte 97 → ⊥
-no_capital (inl h) = absurd (omega (arith, h.1))
-no_capital (inr h) = absurd (omega (arith, h.1))
-
-small_letters_in_prefixes : (κs : _) (a : _) (p : _) (s : _)
-    → prefix.Learnt-named κs a (Some p) s → a.0.now ≡ codes "abc" → ⊥
-small_letters_in_prefixes κs a p s l e =
-    let w : IsPrefix (codes "abc") = subst IsPrefix e (l.some.0 refl) in
-    no_capital w.1.0
 
 -- ---- stages
 

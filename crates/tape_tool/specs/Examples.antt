@@ -1,28 +1,13 @@
--- Worked examples, and what each outcome of `list` says, clause by clause: they hold the
--- definitions.
-use Rattle.std.specs.Prelude.{◌≡◌, ◌≢◌, ℕ, List, [], ◌∷◌, ◌++◌, Option, codes, decimal}
-use Rattle.std.specs.Io.KnownBytes.{Appends, Keeps}
-use Rattle.tape_image.specs.declared.item.Ending.TheVariants.{Marked}
-use Rattle.tape_image.specs.declared.fault.ImageCause.TheVariants.{Truncated, Device, OutOfMemory}
-use Rattle.tape_image.specs.declared.fault.ImageFault.{ImageFault}
-use Rattle.tape_image.specs.Tape.{bad, mark}
-use Rattle.tape_image.specs.Begins.{ends}
-use Rattle.tape_image.specs.Reader.{IfKnown}
-use Rattle.tape_image.specs.Step.{TakesEnd}
-use Rattle.tape_tool.specs.declared.fault.FileFault.{FileFault}
+-- Fault lines, worked out: they hold the definitions.
+use Rattle.std.specs.Prelude.{◌≡◌, ◌++◌, codes, decimal}
+use Rattle.tape_image.specs.declared.fault.ImageCause.TheVariants.{Truncated}
 use Rattle.tape_tool.specs.declared.fault.FileFault.TheVariants.{WriteFailed}
 use Rattle.tape_tool.specs.declared.fault.ToolFault.TheVariants.{Image, File}
 use Rattle.tape_tool.specs.declared.fault.Fault.TheVariants as ended
-use Rattle.tape_tool.specs.Listing.{lines_from, listing_of, IsListing}
-use Rattle.tape_run.specs.Output.{AppendsFront}
-use Rattle.tape_tool.specs.Outcome.{ListsToEnd, ListsToFault, ListsInPart, StopsWriting, FitsFault}
-use Rattle.tape_tool.specs.Outcome.{FitsCause}
 use Rattle.tape_tool.specs.Telling.{fault_line}
 
--- a listing and three fault lines, worked out
+-- three fault lines, worked out
 pub record TextsAreWorked : Type 0 where
-  pub listing : listing_of (mark ∷ bad ∷ []) (ends Marked)
-      ≡ codes "000001 MARK\n000002 BAD\nEND MARKED\n"
   pub image_line : fault_line (ended.Tool (Image (record { place = 1884; cause = Truncated })))
       ≡ codes "tape: " ++ (codes "image fault " ++ decimal 1 ++ (codes " at " ++ decimal 1884))
       ++ codes "\n"
@@ -30,38 +15,3 @@ pub record TextsAreWorked : Type 0 where
       ≡ codes "tape: " ++ (codes "file fault " ++ decimal 4) ++ codes "\n"
   pub run_line : fault_line ended.OutOfMemory
       ≡ codes "tape: " ++ (codes "run fault " ++ decimal 4) ++ codes "\n"
-
--- what a run of `list` that ended the medium says
-pub record EndSays (old new : Option (List ℕ)) (bytes left : List ℕ) : Type 0 where
-  pub took : (l : ListsToEnd old new bytes left) → TakesEnd 0 l.items l.ending l.place bytes left
-  pub wrote : (l : ListsToEnd old new bytes left)
-      → Appends old new (listing_of l.items (ends l.ending))
-
--- what a run that met a fault of the image says
-abbrev pub FaultSays : ImageFault → Option (List ℕ) → Option (List ℕ) → List ℕ → List ℕ → Type 0
-FaultSays fault old new bytes left = (l : ListsToFault fault old new bytes left)
-    → (fault.cause ≢ Device → IsListing bytes (lines_from 1 l.items))
-    × Appends old new (lines_from 1 l.items)
-
--- what a run whose write failed says: a front of the bytes was read, and a front of what `list`
--- says of it was written
-abbrev pub StopSays : Option (List ℕ) → Option (List ℕ) → List ℕ → List ℕ → Type 0
-StopSays old new bytes left = StopsWriting old new bytes left
-    → ((taken : List ℕ) × (bytes ≡ taken ++ left)) × ((text : List ℕ) × AppendsFront old new text)
-
--- what any fault says
-pub record FaultFits (before after old new : Option (List ℕ)) : Type 0 where
-  pub of_file : (fault : FileFault) → FitsFault before after old new (File fault)
-      → (fault ≡ WriteFailed) × IfKnown before after (StopsWriting old new)
-  pub of_memory : (fault : ImageFault) → FitsCause OutOfMemory fault before after old new
-      → (fault.place ≡ 0) × (after ≡ before) × Keeps old new
-
--- what the outcomes of `list` say
-pub record OutcomesSay : Type 0 where
-  pub at_end : (old new : Option (List ℕ)) (bytes left : List ℕ) → EndSays old new bytes left
-  pub at_fault : (fault : ImageFault) (old new : Option (List ℕ)) (bytes left : List ℕ)
-      → FaultSays fault old new bytes left
-  pub in_part : (old new : Option (List ℕ)) (bytes : List ℕ) (l : ListsInPart old new bytes)
-      → IsListing bytes l.0 × AppendsFront old new l.0
-  pub stopped : (old new : Option (List ℕ)) (bytes left : List ℕ) → StopSays old new bytes left
-  pub fits : (before after old new : Option (List ℕ)) → FaultFits before after old new

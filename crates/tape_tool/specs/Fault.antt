@@ -6,11 +6,13 @@ use Rattle.tape_writer.specs.declared.fault.SetFault.{SetFault}
 use Rattle.tape_writer.specs.declared.fault.SetFault.TheVariants as sets
 use Rattle.tape_run.specs.declared.fault.EngineFault.{EngineFault}
 use Rattle.tape_run.specs.declared.fault.EngineFault.TheVariants as engine
+use Rattle.tape_run.specs.declared.fault.ListFault.{ListFault}
+use Rattle.tape_run.specs.declared.fault.ListFault.TheVariants as list
 use Rattle.tape_tool.specs.declared.fault.FileFault.{FileFault}
 use Rattle.tape_tool.specs.declared.fault.FileFault.TheVariants.{Exists, NotOpened, ReadFailed}
 use Rattle.tape_tool.specs.declared.fault.FileFault.TheVariants.{WriteFailed}
 use Rattle.tape_tool.specs.declared.fault.ToolFault.{ToolFault}
-use Rattle.tape_tool.specs.declared.fault.ToolFault.TheVariants.{Write, File, Run}
+use Rattle.tape_tool.specs.declared.fault.ToolFault.TheVariants.{Image, Write, File, Run}
 
 -- the number of a file's fault
 abbrev pub file_number : FileFault → ℕ
@@ -43,3 +45,8 @@ of_set sets.ReadFailed = File ReadFailed
 abbrev pub of_engine : EngineFault → ToolFault
 of_engine (engine.Run fault) = Run fault
 of_engine engine.WriteFailed = File WriteFailed
+
+-- what ends a command where an image was not listed
+abbrev pub of_list : ListFault → ToolFault
+of_list (list.Image fault) = Image fault
+of_list list.WriteFailed = File WriteFailed

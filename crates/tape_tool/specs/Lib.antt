@@ -1,10 +1,6 @@
-pub mod Line
-pub mod Listing
 pub mod Fault
-pub mod Outcome
 pub mod Telling
 pub mod Ends
 pub mod Examples
-pub mod Blank
 pub mod Staging
 pub mod Report

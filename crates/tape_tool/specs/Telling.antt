@@ -7,7 +7,7 @@ use Rattle.tape_run.specs.Fault as run_faults
 use Rattle.tape_stage.specs.Faults as stage_faults
 use Rattle.tape_tool.specs.declared.fault.ToolFault.{ToolFault}
 use Rattle.tape_tool.specs.declared.fault.ToolFault.TheVariants.{Image, Label, Write, File, Run}
-use Rattle.tape_tool.specs.declared.fault.ToolFault.TheVariants.{Stage}
+use Rattle.tape_tool.specs.declared.fault.ToolFault.TheVariants.{Stage, StageInUse}
 use Rattle.tape_tool.specs.declared.fault.Fault.{Fault}
 use Rattle.tape_tool.specs.declared.fault.Fault.TheVariants.{Tool, OutOfMemory}
 use Rattle.tape_tool.specs.Fault.{file_number, write_number}
@@ -32,6 +32,7 @@ tool_text (Write fault) = numbered (codes "write") (write_number fault)
 tool_text (File fault) = numbered (codes "file") (file_number fault)
 tool_text (Run fault) = numbered (codes "run") (run_faults.number_of fault)
 tool_text (Stage fault) = numbered (codes "stage") (stage_faults.number fault)
+tool_text StageInUse = numbered (codes "stage") 7
 
 -- what ended the program; no memory for the words of the command line is the fourth of a run
 abbrev pub fault_text : Fault → List ℕ

@@ -1,6 +1,6 @@
 //! `extract` as the program runs it: a file of a set, from the files of its reels' images.
 mod draft;
-mod folder;
+pub mod folder;
 mod guard;
 mod out_file;
 mod program;

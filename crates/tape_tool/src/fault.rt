@@ -1,12 +1,12 @@
 //! What can go wrong, and how it is told.
 ghost use Rattle.std.specs.Prelude.{◌≡◌};
-ghost use Rattle.tape_tool.specs.Fault.{file_number, write_number, of_set, of_engine};
+ghost use Rattle.tape_tool.specs.Fault.{file_number, write_number, of_set, of_engine, of_list};
 ghost use Rattle.tape_tool.specs.declared.fault.FileFault.TheVariants as files;
 ghost use Rattle.tape_tool.specs.declared.fault.ToolFault.TheVariants.{Image, File};
 
 use tape_image::ImageFault;
 use tape_label::LabelFault;
-use tape_run::{EngineFault, RunFault, WriteFailed};
+use tape_run::{EngineFault, ListFault, RunFault, WriteFailed};
 use tape_stage::StageFault;
 use tape_writer::{SetFault, WriteFault};
 use thiserror::Error;
@@ -77,6 +77,8 @@ pub enum ToolFault {
     Run(RunFault),
     /// A stage could not be opened or made.
     Stage(StageFault),
+    /// Another run has the stage open.
+    StageInUse,
 }
 
 impl From<WriteFailed> for FileFault {
@@ -118,6 +120,17 @@ impl From<EngineFault> for ToolFault {
         match fault {
             EngineFault::Run(fault) => ToolFault::Run(fault),
             EngineFault::WriteFailed => ToolFault::File(FileFault::WriteFailed),
+        }
+    }
+}
+
+impl From<ListFault> for ToolFault {
+    ghost from_gives = { λ fault e. e ≡ of_list fault };
+
+    fn from(fault: ListFault) -> ToolFault {
+        match fault {
+            ListFault::Image(fault) => ToolFault::Image(fault),
+            ListFault::WriteFailed => ToolFault::File(FileFault::WriteFailed),
         }
     }
 }

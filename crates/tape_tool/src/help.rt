@@ -4,6 +4,9 @@
 pub const ABOUT: &str =
     "Reads and writes labelled magnetic tape volumes (ECMA-13) as SIMH .tap images";
 
+/// What `--explain` does.
+pub const EXPLAIN: &str = "Tells a fault in words too: what stands now, and what to do next";
+
 /// Help behind the list of commands.
 pub const AFTER: &str = "Examples:
   tape list reel.tap
@@ -12,7 +15,8 @@ pub const AFTER: &str = "Examples:
 
 Exit status: 0 done, 1 a fault, 2 a wrong command line, 3 something is missing or still wanted.
 A fault is one line on standard error: 'tape: KIND fault NUMBER'; of an image, with the place of
-the byte: 'tape: image fault 1 at 1884'. What it means, and what to do:
+the byte: 'tape: image fault 1 at 1884'. With --explain it is told in words behind that line. What
+it means, and what to do:
 
 Faults of an image:
   1  cut off: the image ends inside a block                  copy it again from its source
@@ -42,7 +46,8 @@ Faults of a stage:
   1  the file is no stage                                    is the name right?
   2  the file is no stage any more                           something else wrote to it
   3  reading or writing it failed                            a full or a failing disk
-  4  no memory";
+  4  no memory
+  7  another run has it open                                 wait until it has ended";
 
 /// What `list` does.
 pub const ABOUT_LIST: &str = "Lists an image, a line for each block, tape mark and ECMA-13 label";
@@ -177,6 +182,10 @@ is cut into records, with S it is one";
 
 /// An ID=PATH has no '='.
 pub const NO_PATH: &str = "a file is named as ID=PATH, as 'PAYROLL=payroll.txt'";
+
+/// An input is an image.
+pub const INPUT_IS_IMAGE: &str = "an input is an image of the set itself, and would be lost: name
+other inputs, another DIR or another PRE";
 
 /// F without a record length.
 pub const RECORD_WANTED: &str = "--format F wants --record N";

@@ -1,7 +1,7 @@
 //! `init`: images of volumes without files.
 use crate::end::{End, end_of};
+use crate::explain::Site;
 use crate::fault::{Fault, FileFault, ToolFault};
-use crate::volume::{BlankImage, Prefix, blank_image, blank_volume};
 use crate::words::Init;
 use std::alloc::AllocError;
 use std::fs::OpenOptions;
@@ -9,10 +9,12 @@ use std::io;
 use std::io::{ErrorKind, Write};
 use std::rt::Runtime;
 use tape_run::{flush, write_text};
+use tape_writer::{BlankImage, Prefix, blank_image, blank_volume};
 
-/// Makes the images, and says how many.
-pub fn init<R: Runtime + AllocGlobal>(rt: &R, order: &Init<'_>) -> End {
+/// Makes the images, and says how many. At a fault the site is where it came.
+pub fn init<R: Runtime + AllocGlobal>(rt: &R, order: &Init<'_>, site: &mut Site<'_>) -> End {
     for number in 1..=order.count {
+        *site = Site::Volume(order.prefix, number);
         let Ok(path) = image_path(rt, order.folder, order.prefix, number) else {
             return End::Faulted(Fault::OutOfMemory);
         };
@@ -20,6 +22,7 @@ pub fn init<R: Runtime + AllocGlobal>(rt: &R, order: &Init<'_>) -> End {
             return end_of(Err(ToolFault::File(fault)));
         }
     }
+    *site = Site::Lines;
     let Ok(line) = format!(in rt.alloc(); "INIT {}\n", order.count) else {
         return End::Faulted(Fault::OutOfMemory);
     };
@@ -37,13 +40,24 @@ pub fn image_path<R: AllocGlobal>(
     number: u16,
 ) -> Result<String, AllocError> {
     let mut path = String::new(rt.alloc());
+    put_image_path(&mut path, folder, prefix, number)?;
+    Ok(path)
+}
+
+/// Writes behind a text where the image of a volume stands.
+pub fn put_image_path(
+    path: &mut String,
+    folder: &str,
+    prefix: Prefix,
+    number: u16,
+) -> Result<(), AllocError> {
     path.push_str(folder)?;
     path.push_str("/")?;
     for byte in prefix.characters {
         path.push(char::from(byte))?;
     }
     write!(path, "{number:03}.tap")?;
-    Ok(path)
+    Ok(())
 }
 
 /// Makes the image of one volume in a new file.

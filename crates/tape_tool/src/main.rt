@@ -3,19 +3,20 @@
 
 mod check_files;
 mod end;
+mod explain;
 mod extract;
 mod fault;
 mod help;
+mod host;
 mod init;
 mod laws;
-mod line;
-mod list;
+mod outline;
 mod program;
 mod staging;
 mod telling;
 #[cfg(test)]
 mod tests;
-mod volume;
+mod unfit;
 mod words;
 mod write;
 

@@ -1,30 +1,53 @@
 //! The program around the engines: words, files, buffers.
 use crate::check_files::check;
 use crate::end::{End, end_of, finish, no_words_end, words_end};
+use crate::explain::{Explanation, Site};
 use crate::extract::extract;
 use crate::fault::{Fault, FileFault, ToolFault};
 use crate::help;
+use crate::host::Host;
 use crate::init::init;
-use crate::list::list_to;
-use crate::words::{Order, order_of};
+use crate::outline::{Outline, mistake};
+use crate::unfit::Unfit;
+use crate::words::{Order, call_of};
 use crate::write::command::write;
+use crate::write::guard::{look_ahead, wrong_file};
+use crate::write::words::{WRITE, WriteOrder};
 use clap::error::ErrorKind;
 use std::fs::File;
 use std::io::{BufReader, BufWriter, Read};
 use std::rt::Runtime;
 use std::{env, io};
 use tape_image::{ImageCause, ImageFault};
+use tape_run::list_to;
 
-/// Runs the program, tells a fault in one line, and gives the exit status.
-pub fn run<R: Runtime + AllocGlobal>(rt: &R) -> u8 {
-    let end = match env::args(rt) {
-        Ok(words) => match words.collect::<Vec<String>>(rt.alloc()) {
-            Ok(words) => perform(rt, words.as_slice()),
-            Err(_) => End::Faulted(Fault::OutOfMemory),
-        },
-        Err(error) => without_words(rt, error.kind()),
+/// Runs the program, tells a fault, and gives the exit status.
+pub fn run<R: Host>(rt: &R) -> u8 {
+    let words = match env::args(rt) {
+        Ok(words) => words.collect::<Vec<String>>(rt.alloc()),
+        Err(error) => return finish(rt, without_words(rt, error.kind())),
     };
-    finish(rt, end)
+    match words {
+        Ok(words) => tell(rt, perform(rt, words.as_slice())),
+        Err(_) => finish(rt, End::Faulted(Fault::OutOfMemory)),
+    }
+}
+
+/// How a call ended.
+#[derive(Clone, Copy, Debug, PartialEq, Eq)]
+pub struct Outcome<'a> {
+    pub end: End,
+    /// What the program was at, where a fault is to be told in words.
+    pub explained: Option<Site<'a>>,
+}
+
+/// Tells how a call ended, and gives the exit status.
+fn tell<R: Eprint>(rt: &R, outcome: Outcome<'_>) -> u8 {
+    let status = finish(rt, outcome.end);
+    if let (End::Faulted(fault), Some(site)) = (outcome.end, outcome.explained) {
+        let _ = rt.eprint(Explanation { fault, site });
+    }
+    status
 }
 
 /// Ends a run whose words could not be had.
@@ -37,14 +60,34 @@ pub fn without_words<R: Eprint>(rt: &R, kind: io::ErrorKind) -> End {
 }
 
 /// Does what the words ask for, the program's own name first.
-pub fn perform<R: Runtime + AllocGlobal>(rt: &R, words: &[String]) -> End {
-    match order_of(rt.alloc(), words) {
-        Ok(Order::List { image }) => end_of(list(rt, image)),
-        Ok(Order::Init(order)) => init(rt, &order),
-        Ok(Order::Check { images }) => check(rt, images.as_slice()),
-        Ok(Order::Write(order)) => end_of(write(rt, &order)),
-        Ok(Order::Extract(order)) => extract(rt, &order),
-        Err(error) => refuse(rt, &error),
+pub fn perform<'a, R: Host>(rt: &R, words: &'a [String]) -> Outcome<'a> {
+    match call_of(rt.alloc(), words) {
+        Ok(call) => {
+            let mut site = Site::Unknown;
+            let end = obey(rt, &call.order, &mut site);
+            Outcome {
+                end,
+                explained: call.explained.then_some(site),
+            }
+        }
+        Err(error) => Outcome {
+            end: refuse(rt, &error),
+            explained: None,
+        },
+    }
+}
+
+/// Does what is to be done. At a fault the site is where it came.
+fn obey<'a, R: Host>(rt: &R, order: &Order<'a>, site: &mut Site<'a>) -> End {
+    match order {
+        Order::List { image } => list(rt, *image, site),
+        Order::Init(order) => init(rt, order, site),
+        Order::Check { images } => {
+            *site = Site::Lines;
+            check(rt, images.as_slice())
+        }
+        Order::Write(order) => write_files(rt, order, site),
+        Order::Extract(order) => extract(rt, order, site),
     }
 }
 
@@ -57,11 +100,48 @@ pub fn refuse<R: Print + Eprint>(rt: &R, error: &clap::Error) -> End {
     words_end(kind, printed)
 }
 
+/// Writes files on volumes, where no file would be lost by it.
+fn write_files<'a, R: Runtime + AllocGlobal>(
+    rt: &R,
+    order: &WriteOrder<'a>,
+    site: &mut Site<'a>,
+) -> End {
+    match look_ahead(rt, order) {
+        Ok(()) => {
+            let written = write(rt, order);
+            if let Err(ToolFault::Label(_)) = written {
+                *site = wrong_file(order);
+            }
+            end_of(written)
+        }
+        Err(Unfit::Faulted(fault)) => End::Faulted(fault),
+        Err(Unfit::Words(text)) => refuse_words(rt, &WRITE, text),
+    }
+}
+
+/// Tells a mistake in words that was found behind them.
+pub fn refuse_words<R: Print + Eprint + AllocGlobal>(rt: &R, outline: &Outline, text: &str) -> End {
+    match mistake(rt.alloc(), outline, text) {
+        Ok(error) => refuse(rt, &error),
+        Err(_) => End::Faulted(Fault::OutOfMemory),
+    }
+}
+
 /// Lists the image at the path, or that on standard input.
-fn list<R: Runtime + AllocGlobal>(rt: &R, image: Option<&str>) -> Result<(), ToolFault> {
-    let Some(path) = image else {
-        return list_input(rt, rt.reader());
+fn list<'a, R: Runtime + AllocGlobal>(rt: &R, image: Option<&'a str>, site: &mut Site<'a>) -> End {
+    let (listed, read) = match image {
+        None => (list_input(rt, rt.reader()), Site::Input),
+        Some(path) => (list_file(rt, path), Site::Image(path)),
     };
+    *site = match listed {
+        Err(ToolFault::File(FileFault::WriteFailed)) => Site::Lines,
+        _ => read,
+    };
+    end_of(listed)
+}
+
+/// Lists the image at the path.
+fn list_file<R: Runtime + AllocGlobal>(rt: &R, path: &str) -> Result<(), ToolFault> {
     match File::open(rt, path) {
         Ok(file) => list_input(rt, file),
         Err(_) => Err(ToolFault::File(FileFault::NotOpened)),
@@ -80,5 +160,5 @@ fn list_input<R: Print + AllocGlobal, I: Read + Drop>(rt: &R, input: I) -> Resul
     let Ok(mut writer) = BufWriter::new(rt.alloc(), io::writer(rt)) else {
         return Err(no_memory);
     };
-    list_to(rt.alloc(), &mut reader, &mut writer)
+    Ok(list_to(rt.alloc(), &mut reader, &mut writer)?)
 }

@@ -47,6 +47,8 @@ fn put_tool_fault(line: &mut FaultLine, fault: ToolFault)
         ToolFault::File(fault) => put_numbered(line, "file", fault.number()),
         ToolFault::Run(fault) => put_numbered(line, "run", fault.number()),
         ToolFault::Stage(fault) => put_numbered(line, "stage", fault.number()),
+        // Behind the numbers of the stage's own faults, 1 to 6.
+        ToolFault::StageInUse => put_numbered(line, "stage", 7),
     }
 }
 

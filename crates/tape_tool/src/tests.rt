@@ -1,13 +1,11 @@
-//! Listings of images that are written out from their format, and command lines.
+//! The program: command lines, files, and what is told.
 mod calls;
 mod check_program;
-mod devices;
+mod explain;
 mod extract_program;
 mod faults;
 mod image;
 mod init;
-mod labels;
-mod listing;
 mod program;
 mod staged_program;
 mod staging;

@@ -1,14 +1,21 @@
 //! What the words of a command line ask for.
 use crate::help;
-use crate::volume::Prefix;
-use crate::write::words::{WriteOrder, write_command, write_order};
+use crate::outline::{Kind, Outline, Word, command_of, mistake};
+use crate::write::words::{WRITE, WriteOrder, write_order};
 use arrayvec::ArrayVec;
-use clap::builder::ValueParser;
-use clap::error::ErrorKind;
-use clap::{Arg, ArgMatches, Command, Error};
+use clap::{Arg, ArgAction, ArgMatches, Command, Error};
 use std::alloc::{AllocError, Global};
 use tape_blocks::Form;
 use tape_label::Field;
+use tape_writer::Prefix;
+
+/// What a command line asks for.
+#[derive(Drop)]
+pub struct Call<'a> {
+    pub order: Order<'a>,
+    /// Whether a fault is to be told in words too.
+    pub explained: bool,
+}
 
 /// What is to be done.
 #[derive(Drop)]
@@ -51,13 +58,71 @@ pub struct Extract<'a> {
     pub stage: Option<&'a str>,
 }
 
+/// `list`. It takes any number of images, so that a second one is answered with a loop.
+const LIST: Outline = Outline {
+    name: "list",
+    called: "tape list",
+    about: help::ABOUT_LIST,
+    after_help: help::AFTER_LIST,
+    usage: Some("tape list [IMAGE]"),
+    words: &[Word("IMAGE", Kind::AnyTexts, help::IMAGE)],
+};
+
+/// `check`.
+const CHECK: Outline = Outline {
+    name: "check",
+    called: "tape check",
+    about: help::ABOUT_CHECK,
+    after_help: help::AFTER_CHECK,
+    usage: None,
+    words: &[Word("IMAGE", Kind::Texts, help::IMAGES)],
+};
+
+/// `extract`.
+pub const EXTRACT: Outline = Outline {
+    name: "extract",
+    called: "tape extract",
+    about: help::ABOUT_EXTRACT,
+    after_help: help::AFTER_EXTRACT,
+    usage: None,
+    words: &[
+        Word("SET", Kind::Text, help::SET),
+        Word("FILE", Kind::Number(1, 9_999), help::FILE),
+        Word("OUT", Kind::Text, help::OUT),
+        Word("IMAGE", Kind::Texts, help::REELS),
+        Word(
+            "form",
+            Kind::NameOption("FORM", FORMS, "lines"),
+            help::FORM_OF_OUT,
+        ),
+        Word("stage", Kind::TextOption("PATH"), help::STAGE),
+    ],
+};
+
+/// `init`.
+const INIT: Outline = Outline {
+    name: "init",
+    called: "tape init",
+    about: help::ABOUT_INIT,
+    after_help: help::AFTER_INIT,
+    usage: None,
+    words: &[
+        Word("DIR", Kind::Text, help::FOLDER),
+        Word("PRE", Kind::Text, help::PREFIX),
+        Word("COUNT", Kind::Number(1, 999), help::COUNT),
+    ],
+};
+
+/// The names of forms.
+pub const FORMS: &[&str] = &["lines", "raw"];
+
 /// The commands and their words.
 fn command<'a>(alloc: Global) -> Result<Command<'a>, AllocError> {
-    let command = with_command(tape_command(alloc)?, list_command(alloc))?;
-    let command = with_command(command, check_command(alloc))?;
-    let command = with_command(command, extract_command(alloc))?;
-    let command = with_command(command, init_command(alloc))?;
-    with_command(command, write_command(alloc))
+    let mut command = tape_command(alloc)?.arg(explain_option(alloc))?;
+    for outline in [&LIST, &CHECK, &EXTRACT, &INIT, &WRITE] {
+        command = command.subcommand(command_of(alloc, outline)?)?;
+    }
+    Ok(command)
 }
 
 /// The program. Usage names it as its user does, whatever the file is called.
@@ -72,85 +137,13 @@ fn tape_command<'a>(alloc: Global) -> Result<Command<'a>, AllocError> {
     )
 }
 
-/// The program with one more command.
-fn with_command<'a>(
-    program: Command<'a>,
-    command: Result<Command<'a>, AllocError>,
-) -> Result<Command<'a>, AllocError> {
-    program.subcommand(command?)
-}
-
-/// `init`.
-fn init_command<'a>(alloc: Global) -> Result<Command<'a>, AllocError> {
-    Command::new(alloc, "init")
-        .bin_name("tape init")?
-        .about(help::ABOUT_INIT)
-        .after_help(help::AFTER_INIT)
-        .arg(required(alloc, "DIR", help::FOLDER))?
-        .arg(required(alloc, "PRE", help::PREFIX))?
-        .arg(required(alloc, "COUNT", help::COUNT).value_parser(ValueParser::Unsigned(1, 999)))
-}
-
-/// A word that has to be there.
-pub fn required<'a>(alloc: Global, name: &'a str, help: &'a str) -> Arg<'a> {
-    Arg::new(alloc, name).required(true).help(help)
-}
-
-/// `check`. An image is named at least.
-fn check_command<'a>(alloc: Global) -> Result<Command<'a>, AllocError> {
-    Command::new(alloc, "check")
-        .bin_name("tape check")?
-        .about(help::ABOUT_CHECK)
-        .after_help(help::AFTER_CHECK)
-        .arg(required(alloc, "IMAGE", help::IMAGES).num_args(1..))
-}
-
-/// `extract`.
-fn extract_command<'a>(alloc: Global) -> Result<Command<'a>, AllocError> {
-    let command = Command::new(alloc, "extract")
-        .bin_name("tape extract")?
-        .about(help::ABOUT_EXTRACT)
-        .after_help(help::AFTER_EXTRACT);
-    with_reels(alloc, command)?
-        .arg(form_argument(alloc))?
-        .arg(stage_argument(alloc))
-}
-
-/// The words of `extract`.
-fn with_reels<'a>(alloc: Global, command: Command<'a>) -> Result<Command<'a>, AllocError> {
-    command
-        .arg(required(alloc, "SET", help::SET))?
-        .arg(required(alloc, "FILE", help::FILE).value_parser(ValueParser::Unsigned(1, 9999)))?
-        .arg(required(alloc, "OUT", help::OUT))?
-        .arg(required(alloc, "IMAGE", help::REELS).num_args(1..))
-}
-
-/// `--form`.
-fn form_argument<'a>(alloc: Global) -> Arg<'a> {
-    Arg::new(alloc, "form")
-        .long("form")
-        .value_name("FORM")
-        .value_parser(ValueParser::Names(&["lines", "raw"]))
-        .default_value("lines")
-        .help(help::FORM_OF_OUT)
-}
-
-/// `--stage`.
-fn stage_argument<'a>(alloc: Global) -> Arg<'a> {
-    Arg::new(alloc, "stage")
-        .long("stage")
-        .value_name("PATH")
-        .help(help::STAGE)
-}
-
-/// `list`. Its argument takes any number of images, so that a second one is answered with a loop.
-fn list_command<'a>(alloc: Global) -> Result<Command<'a>, AllocError> {
-    let image = Arg::new(alloc, "IMAGE").num_args(..).help(help::IMAGE);
-    Command::new(alloc, "list")
-        .about(help::ABOUT_LIST)
-        .override_usage("tape list [IMAGE]")
-        .after_help(help::AFTER_LIST)
-        .arg(image)
+/// `--explain`, of each command.
+fn explain_option<'a>(alloc: Global) -> Arg<'a> {
+    Arg::new(alloc, "explain")
+        .long("explain")
+        .action(ArgAction::SetTrue)
+        .global(true)
+        .help(help::EXPLAIN)
 }
 
 /// What the words ask for, the program's own name first.
@@ -158,8 +151,16 @@ fn list_command<'a>(alloc: Global) -> Result<Command<'a>, AllocError> {
 /// # Errors
 ///
 /// The error of a wrong command line, of a call for help, or of memory refused. It has its text.
-pub fn order_of<'a>(alloc: Global, words: &'a [String]) -> Result<Order<'a>, Error> {
+pub fn call_of<'a>(alloc: Global, words: &'a [String]) -> Result<Call<'a>, Error> {
     let matches = command(alloc)?.try_get_matches_from(words)?;
+    Ok(Call {
+        order: order_of(alloc, &matches)?,
+        explained: matches.get_flag("explain"),
+    })
+}
+
+/// What the words of the command ask for.
+fn order_of<'a>(alloc: Global, matches: &ArgMatches<'a>) -> Result<Order<'a>, Error> {
     if let Some(init) = matches.subcommand_matches("init") {
         return init_order(alloc, init);
     }
@@ -183,7 +184,7 @@ fn init_order<'a>(alloc: Global, matches: &ArgMatches<'a>) -> Result<Order<'a>, 
     let folder = matches.get_str("DIR").unwrap_or("");
     let count = matches.get_one::<u16>("COUNT").unwrap_or(0);
     if folder.is_empty() {
-        return Err(init_mistake(alloc, help::NO_FOLDER)?);
+        return Err(mistake(alloc, &INIT, help::NO_FOLDER)?);
     }
     match Prefix::new(matches.get_str("PRE").unwrap_or("")) {
         Some(prefix) => Ok(Order::Init(Init {
@@ -191,42 +192,32 @@ fn init_order<'a>(alloc: Global, matches: &ArgMatches<'a>) -> Result<Order<'a>, 
             prefix,
             count,
         })),
-        None => Err(init_mistake(alloc, help::WRONG_PREFIX)?),
+        None => Err(mistake(alloc, &INIT, help::WRONG_PREFIX)?),
     }
-}
-
-/// A mistake in the words of `init`, with its usage behind the text.
-fn init_mistake(alloc: Global, text: &str) -> Result<Error, AllocError> {
-    init_command(alloc)?.error(ErrorKind::ValueValidation, text)
 }
 
 /// What the words behind `check` ask for. The parser has seen to it that an image is named.
 fn check_order<'a>(alloc: Global, matches: &ArgMatches<'a>) -> Result<Order<'a>, Error> {
     let named = matches.get_strs("IMAGE").unwrap_or(&[]);
     if named.len() > MOST_IMAGES {
-        return Err(check_mistake(alloc, help::TOO_MANY_TO_CHECK)?);
+        return Err(mistake(alloc, &CHECK, help::TOO_MANY_TO_CHECK)?);
     }
     Ok(Order::Check {
         images: Vec::from_slice(alloc, named)?,
     })
 }
 
-/// A mistake in the words of `check`, with its usage behind the text.
-fn check_mistake(alloc: Global, text: &str) -> Result<Error, AllocError> {
-    check_command(alloc)?.error(ErrorKind::TooManyValues, text)
-}
-
 /// What the words behind `extract` ask for. The parser has seen to it that all of them are there.
 fn extract_order<'a>(alloc: Global, matches: &ArgMatches<'a>) -> Result<Order<'a>, Error> {
     let Some(set_id) = set_id_of(matches.get_str("SET").unwrap_or("")) else {
-        return Err(extract_mistake(alloc, help::WRONG_SET)?);
+        return Err(mistake(alloc, &EXTRACT, help::WRONG_SET)?);
     };
     let Some(images) = names_of(matches.get_strs("IMAGE").unwrap_or(&[])) else {
-        return Err(extract_mistake(alloc, help::TOO_MANY_IMAGES)?);
+        return Err(mistake(alloc, &EXTRACT, help::TOO_MANY_IMAGES)?);
     };
     let out = matches.get_str("OUT").unwrap_or("");
     if out == "-" {
-        return Err(extract_mistake(alloc, help::OUT_IS_DASH)?);
+        return Err(mistake(alloc, &EXTRACT, help::OUT_IS_DASH)?);
     }
     Ok(Order::Extract(Extract {
         set_id,
@@ -236,11 +227,6 @@ fn extract_order<'a>(alloc: Global, matches: &ArgMatches<'a>) -> Result<Order<'a
         form: form_of(matches),
         stage: matches.get_str("stage"),
     }))
-}
-
-/// A mistake in the words of `extract`, with its usage behind the text.
-pub fn extract_mistake(alloc: Global, text: &str) -> Result<Error, AllocError> {
-    extract_command(alloc)?.error(ErrorKind::ValueValidation, text)
 }
 
 /// A set's identifier: 1 to 6 bytes, with spaces behind them.
@@ -266,7 +252,7 @@ fn names_of<'a>(words: &[&'a str]) -> Option<Names<'a>> {
 }
 
 /// The form that was asked for.
-fn form_of(matches: &ArgMatches<'_>) -> Form {
+pub fn form_of(matches: &ArgMatches<'_>) -> Form {
     match matches.get_str("form") {
         Some("raw") => Form::Raw,
         _ => Form::Lines,
@@ -280,15 +266,10 @@ fn list_order<'a>(alloc: Global, matches: &ArgMatches<'a>) -> Result<Order<'a>, 
     };
     match images {
         [] => Ok(Order::List { image: None }),
-        ["-"] => Err(list_mistake(alloc, help::DASH)?),
+        ["-"] => Err(mistake(alloc, &LIST, help::DASH)?),
         [image] => Ok(Order::List {
             image: Some(*image),
         }),
-        _ => Err(list_mistake(alloc, help::ONE_IMAGE)?),
+        _ => Err(mistake(alloc, &LIST, help::ONE_IMAGE)?),
     }
-}
-
-/// A mistake in the words of `list`, with its usage behind the text.
-fn list_mistake(alloc: Global, text: &str) -> Result<Error, AllocError> {
-    list_command(alloc)?.error(ErrorKind::TooManyValues, text)
 }

@@ -1,5 +1,8 @@
 //! `write`: file sets written as images.
 pub mod command;
+pub mod guard;
 mod image_file;
+mod image_files;
+mod input_file;
 pub mod report;
 pub mod words;

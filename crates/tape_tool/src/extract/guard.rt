@@ -1,12 +1,12 @@
 //! What `extract` looks at before it reads: its output may cost no tape and no stage.
-use crate::fault::{Fault, FileFault, ToolFault};
+use crate::fault::{Fault, FileFault};
 use crate::help;
+use crate::unfit::{Unfit, refused, same_file};
 use crate::words::Extract;
 use std::alloc::Global;
 use std::fs;
 use std::fs::{File, Metadata};
 use std::io::Read;
-use std::os::unix::fs::MetadataExt;
 use std::rt::Runtime;
 use tape_image::{Ending, ImageCause, ImageFault, ImageReader};
 
@@ -17,15 +17,6 @@ pub enum Way {
     Renamed,
     /// What stands there is no plain file, as a pipe, a device or a link: it is written to.
     InPlace,
-}
-
-/// Why an output may not be written.
-#[derive(Clone, Copy, Debug, PartialEq, Eq)]
-pub enum Unfit {
-    /// The words ask for what would be lost by it.
-    Words(&'static str),
-    /// What stands there is an image, or can't be looked at.
-    Faulted(Fault),
 }
 
 /// How the output of this order is to be written. Nothing is made or changed.
@@ -59,8 +50,7 @@ fn way_to<R: Runtime>(rt: &R, path: &str) -> Way {
     }
 }
 
-/// Refuses with this text where the path leads to the file that was found. A file system that
-/// numbers no files has no answer, and nothing is refused.
+/// Refuses with this text where the path leads to the file that was found.
 fn differs<R: Runtime>(
     rt: &R,
     found: &Metadata,
@@ -68,14 +58,9 @@ fn differs<R: Runtime>(
     text: &'static str,
 ) -> Result<(), Unfit> {
     match fs::metadata(rt, path) {
-        Ok(other) if found.ino() != 0 && same_file(found, &other) => Err(Unfit::Words(text)),
+        Ok(other) if same_file(found, &other) => Err(Unfit::Words(text)),
         _ => Ok(()),
     }
-}
-
-/// Whether both are one file.
-fn same_file(one: &Metadata, other: &Metadata) -> bool {
-    one.dev() == other.dev() && one.ino() == other.ino()
 }
 
 /// Refuses a file that begins as an image does.
@@ -89,11 +74,6 @@ fn holds_no_image<R: Runtime + AllocGlobal>(rt: &R, path: &str) -> Result<(), Un
         Err(ImageCause::OutOfMemory) => Err(Unfit::Faulted(Fault::OutOfMemory)),
         Err(_) => Err(refused(FileFault::ReadFailed)),
     }
-}
-
-/// The output is left as it is, for this reason.
-fn refused(fault: FileFault) -> Unfit {
-    Unfit::Faulted(Fault::Tool(ToolFault::File(fault)))
 }
 
 /// Whether the first item of an image, or its end word, stands there whole.

@@ -1,12 +1,15 @@
 //! The program around the engines of `extract`: images, memory, the file.
 use super::draft::{Draft, DraftFile, Drafted, OutName};
-use super::guard::{Unfit, Way, way_of};
+use super::guard::{Way, way_of};
 use super::out_file::OutFile;
 use super::stage_file::session_in;
 use crate::end::{End, end_of, extract_end};
+use crate::explain::Site;
 use crate::fault::{Fault, FileFault, ToolFault};
-use crate::program::refuse;
-use crate::words::{Extract, Names, extract_mistake};
+use crate::host::Host;
+use crate::program::refuse_words;
+use crate::unfit::Unfit;
+use crate::words::{EXTRACT, Extract, Names};
 use std::fs::{File, Files};
 use std::io;
 use std::io::{BufReader, BufWriter, Write};
@@ -23,31 +26,31 @@ const HELD: usize = 65_536;
 /// The images of a run, each behind a buffer, or `None` where one was not opened.
 type Images<R> = Vec<Option<BufReader<<R as Files>::File>>>;
 
-/// Gets the file back that the words name.
-pub fn extract<R: Runtime + AllocGlobal>(rt: &R, order: &Extract<'_>) -> End {
+/// Gets the file back that the words name. At a fault the site is where it came.
+pub fn extract<'a, R: Host>(rt: &R, order: &Extract<'a>, site: &mut Site<'a>) -> End {
+    *site = Site::Out(order.out);
     let way = match way_of(rt, order) {
         Ok(way) => way,
         Err(Unfit::Faulted(fault)) => return End::Faulted(fault),
-        Err(Unfit::Words(text)) => return refuse_words(rt, text),
+        Err(Unfit::Words(text)) => return refuse_words(rt, &EXTRACT, text),
     };
     let Ok(images) = open_images(rt, &order.images) else {
         return End::Faulted(Fault::OutOfMemory);
     };
-    match order.stage {
-        Some(path) => match session_in(rt, path, order.set_id, order.file) {
-            Ok(session) => gather(rt, order, way, images, session),
-            Err(fault) => end_of(Err(fault)),
-        },
-        None => at_once(rt, order, way, images),
+    let Some(path) = order.stage else {
+        return at_once(rt, order, way, images);
+    };
+    let end = match session_in(rt, path, order.set_id, order.file) {
+        Ok(session) => gather(rt, order, way, images, session),
+        Err(fault) => {
+            *site = Site::Stage(path);
+            return end_of(Err(fault));
+        }
+    };
+    if let End::Faulted(Fault::Tool(ToolFault::Run(_))) = end {
+        *site = Site::Stage(path);
     }
-}
-
-/// Tells a mistake in the words.
-fn refuse_words<R: Runtime + AllocGlobal>(rt: &R, text: &str) -> End {
-    match extract_mistake(rt.alloc(), text) {
-        Ok(error) => refuse(rt, &error),
-        Err(_) => End::Faulted(Fault::OutOfMemory),
-    }
+    end
 }
 
 /// A draft of the output, where it is written so and one can be made. Where none can, as in a

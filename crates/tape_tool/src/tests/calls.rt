@@ -1,10 +1,11 @@
 //! The program as it is called: how a line ends, and the files around it. The tests share a folder:
 //! each file has a name of its own.
 use super::image::payroll;
-use super::volumes::{damaged, worked};
+use super::volumes::{damaged, lost, worked};
 use super::words::words_of;
 use crate::end::End;
 use crate::fault::{Fault, ToolFault};
+use crate::host::Host;
 use crate::program::perform;
 use std::alloc::{AllocError, Global};
 use std::fs;
@@ -16,32 +17,25 @@ use std::rt::Runtime;
 use std::test::Fail;
 
 /// How the line ends.
-pub fn end_of<H: Runtime + AllocGlobal>(rt: &H, line: &str) -> Result<End, Fail> {
+pub fn end_of<H: Host>(rt: &H, line: &str) -> Result<End, Fail> {
     let words = words_of(rt.alloc(), line)?;
-    Ok(perform(rt, words.as_slice()))
+    Ok(perform(rt, words.as_slice()).end)
 }
 
 /// The line ends so.
-pub fn ends<H: Runtime + AllocGlobal + Abort>(rt: &H, line: &str, wanted: End) -> Result<(), Fail> {
+pub fn ends<H: Host + Abort>(rt: &H, line: &str, wanted: End) -> Result<(), Fail> {
     let end = end_of(rt, line)?;
     assert!(rt; end == wanted, "{line}: {end:?}");
     Ok(())
 }
 
 /// The line ends with this fault.
-fn fails<H: Runtime + AllocGlobal + Abort>(
-    rt: &H,
-    line: &str,
-    fault: ToolFault,
-) -> Result<(), Fail> {
+fn fails<H: Host + Abort>(rt: &H, line: &str, fault: ToolFault) -> Result<(), Fail> {
     ends(rt, line, End::Faulted(Fault::Tool(fault)))
 }
 
 /// Each line ends as stands beside it.
-pub fn each_ends<H: Runtime + AllocGlobal + Abort>(
-    rt: &H,
-    cases: &[(&str, End)],
-) -> Result<(), Fail> {
+pub fn each_ends<H: Host + Abort>(rt: &H, cases: &[(&str, End)]) -> Result<(), Fail> {
     for (line, wanted) in cases {
         ends(rt, line, *wanted)?;
     }
@@ -49,10 +43,7 @@ pub fn each_ends<H: Runtime + AllocGlobal + Abort>(
 }
 
 /// Each line ends with the fault beside it.
-pub fn each_fails<H: Runtime + AllocGlobal + Abort>(
-    rt: &H,
-    cases: &[(&str, ToolFault)],
-) -> Result<(), Fail> {
+pub fn each_fails<H: Host + Abort>(rt: &H, cases: &[(&str, ToolFault)]) -> Result<(), Fail> {
     for (line, fault) in cases {
         fails(rt, line, *fault)?;
     }
@@ -60,7 +51,7 @@ pub fn each_fails<H: Runtime + AllocGlobal + Abort>(
 }
 
 /// None of these lines asks for anything that there is.
-pub fn each_is_wrong<H: Runtime + AllocGlobal + Abort>(rt: &H, lines: &[&str]) -> Result<(), Fail> {
+pub fn each_is_wrong<H: Host + Abort>(rt: &H, lines: &[&str]) -> Result<(), Fail> {
     for line in lines {
         ends(rt, line, End::WrongWords)?;
     }
@@ -82,6 +73,8 @@ pub enum Step<'a> {
     PutWorked(&'a str, usize),
     /// A file is made of a volume of which this block cannot be read.
     PutDamaged(&'a str, usize),
+    /// A file is made of the worked volume without its second block.
+    PutLost(&'a str),
     /// A file is made of the records of the worked volume.
     PutRecords(&'a str),
     /// A link of this name is made, which leads to that path.
@@ -103,7 +96,7 @@ pub enum Step<'a> {
 }
 
 /// Takes these steps, one behind the other: each comes to what it is to come to.
-pub fn take_all<H: Runtime + AllocGlobal + Abort>(rt: &H, steps: &[Step<'_>]) -> Result<(), Fail> {
+pub fn take_all<H: Host + Abort>(rt: &H, steps: &[Step<'_>]) -> Result<(), Fail> {
     for (number, step) in steps.iter().enumerate() {
         assert!(rt; take(rt, step)?, "the step behind {number} others");
     }
@@ -111,7 +104,7 @@ pub fn take_all<H: Runtime + AllocGlobal + Abort>(rt: &H, steps: &[Step<'_>]) ->
 }
 
 /// Takes a step, and tells whether it came to what it was to come to.
-fn take<H: Runtime + AllocGlobal>(rt: &H, step: &Step<'_>) -> Result<bool, Fail> {
+fn take<H: Host>(rt: &H, step: &Step<'_>) -> Result<bool, Fail> {
     match *step {
         Step::Ends(line, wanted) => Ok(end_of(rt, line)? == wanted),
         Step::Fails(line, fault) => Ok(end_of(rt, line)? == End::Faulted(Fault::Tool(fault))),
@@ -119,6 +112,7 @@ fn take<H: Runtime + AllocGlobal>(rt: &H, step: &Step<'_>) -> Result<bool, Fail>
         Step::Put(path, bytes) => put(rt, path, bytes),
         Step::PutWorked(path, length) => put_worked(rt, path, length),
         Step::PutDamaged(path, bad) => put_damaged(rt, path, bad),
+        Step::PutLost(path) => put(rt, path, lost(rt.alloc())?.bytes.as_slice()),
         Step::PutRecords(path) => put_records(rt, path),
         Step::Link(name, path) => Ok(unix::fs::symlink(rt, path, name).is_ok()),
         Step::Name(name, path) => Ok(fs::hard_link(rt, path, name).is_ok()),

@@ -5,7 +5,7 @@ use super::words::words_of;
 use crate::end::{End, finish};
 use crate::fault::{Fault, ToolFault};
 use crate::telling::fault_line;
-use crate::words::{Order, order_of};
+use crate::words::{Order, call_of};
 use std::test::Fail;
 use tape_run::RunFault;
 
@@ -39,7 +39,7 @@ fn files(rt: HostRuntime) -> Result<(), Fail> {
 fn at_most_256_images(rt: HostRuntime) -> Result<(), Fail> {
     let line = with_images(rt.alloc(), "check", 256)?;
     let words = words_of(rt.alloc(), line.as_str())?;
-    match order_of(rt.alloc(), words.as_slice())? {
+    match call_of(rt.alloc(), words.as_slice())?.order {
         Order::Check { images } => assert_eq!(rt; images.len(), 256),
         _ => return Err(Fail::from("an order to check")),
     }

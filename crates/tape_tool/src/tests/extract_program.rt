@@ -4,7 +4,7 @@ use super::words::words_of;
 use crate::end::{End, end_of, extract_end, finish};
 use crate::fault::{Fault, FileFault, ToolFault};
 use crate::telling::fault_line;
-use crate::words::{Extract, Order, order_of};
+use crate::words::{Extract, Order, call_of};
 use std::process::Abort;
 use std::test::Fail;
 use tape_blocks::Form;
@@ -161,7 +161,7 @@ fn is_order<A: Abort>(rt: &A, order: &Extract<'_>) {
 fn words_of_extract(rt: HostRuntime) -> Result<(), Fail> {
     each_is_wrong(&rt, WRONG)?;
     let words = words_of(rt.alloc(), "extract AB 9999 out.txt a.tap b.tap")?;
-    match order_of(rt.alloc(), words.as_slice())? {
+    match call_of(rt.alloc(), words.as_slice())?.order {
         Order::Extract(order) => is_order(&rt, &order),
         _ => return Err(Fail::from("an order to extract")),
     }
@@ -196,6 +196,7 @@ const FAULTS: &[(ToolFault, &str)] = &[
         ToolFault::Stage(StageFault::Device),
         "tape: stage fault 3\n",
     ),
+    (ToolFault::StageInUse, "tape: stage fault 7\n"),
 ];
 
 /// Faults of the engine, and as what they are told.

@@ -2,49 +2,21 @@
 use super::volumes::{FIXED, HDR1, VOL1, labels};
 use std::alloc::{AllocError, Global};
 
-/// A tape mark, an erase gap and the end of medium.
+/// A tape mark and the end of medium.
 pub const MARK: [u8; 4] = [0, 0, 0, 0];
-
-pub const GAP: [u8; 4] = [0xFE, 0xFF, 0xFF, 0xFF];
 
 pub const END: [u8; 4] = [0xFF, 0xFF, 0xFF, 0xFF];
 
-/// The thirteen lines of the worked image.
-pub const WORKED: &str = "000001 VOL1 ABC001
-000002 HDR1 PAYROLL           ABC001 0001 0001
-000003 HDR2 F 00800 00080 00
-000004 MARK
-000005 BLOCK 00800
-000006 BLOCK 00800
-000007 BLOCK 00400
-000008 MARK
-000009 EOF1 PAYROLL           ABC001 0001 0001 000003
-000010 EOF2 F 00800 00080 00
-000011 MARK
-000012 MARK
-END MARKED
-";
-
-/// What stands between two gaps of a test.
+/// What stands on a tape, as the bytes of its image.
 #[derive(Drop)]
 pub struct Image {
     pub bytes: Vec<u8>,
-    between: &'static [u8],
 }
 
 impl Image {
     pub fn new(alloc: Global) -> Image {
         Image {
             bytes: Vec::new(alloc),
-            between: &[],
-        }
-    }
-
-    /// An image with these bytes before each of its words and blocks.
-    pub fn with(alloc: Global, between: &'static [u8]) -> Image {
-        Image {
-            bytes: Vec::new(alloc),
-            between,
         }
     }
 
@@ -55,7 +27,6 @@ impl Image {
     }
 
     pub fn word(&mut self, word: &[u8; 4]) -> Result<(), AllocError> {
-        self.bytes.extend_from_slice(self.between)?;
         self.bytes.extend_from_slice(word)
     }
 
@@ -78,21 +49,14 @@ impl Image {
 
     /// A block of 80 characters: the text, and spaces behind it.
     pub fn label(&mut self, text: &str) -> Result<(), AllocError> {
-        self.label_of(text.as_bytes(), b' ')
-    }
-
-    /// A block of 80 bytes: the front, and copies of another byte behind it, the last of them the
-    /// version of a volume label.
-    pub fn label_of(&mut self, front: &[u8], filler: u8) -> Result<(), AllocError> {
-        let mut label = [filler; 80];
-        for (slot, byte) in label.iter_mut().zip(front) {
+        let mut label = [b' '; 80];
+        for (slot, byte) in label.iter_mut().zip(text.as_bytes()) {
             *slot = *byte;
         }
         self.block(&label, 0)
     }
 
-    /// The worked volume's labels and mark, up to the first data block: 268 bytes where nothing
-    /// stands between.
+    /// The worked volume's labels and mark, up to the first data block: 268 bytes.
     pub fn headers(&mut self) -> Result<(), AllocError> {
         labels(self, &[VOL1, HDR1, FIXED])
     }

@@ -4,9 +4,9 @@ use super::image::Image;
 use super::volumes::blank;
 use crate::end::End;
 use crate::fault::{Fault, FileFault, ToolFault};
-use crate::volume::{Prefix, blank_image, blank_volume};
 use std::process::Abort;
 use std::test::Fail;
+use tape_writer::{Prefix, blank_image, blank_volume};
 
 #[test]
 fn the_bytes_of_a_blank_volume(rt: HostRuntime) -> Result<(), Fail> {

@@ -4,7 +4,7 @@ use super::words::words_of;
 use crate::end::{End, finish};
 use crate::fault::{Fault, FileFault, ToolFault};
 use crate::program::{refuse, without_words};
-use crate::words::order_of;
+use crate::words::call_of;
 use std::alloc::{AllocError, Global};
 use std::cell::RefCell;
 use std::fmt::Display;
@@ -166,7 +166,7 @@ fn is_refused<H: Abort + AllocGlobal>(
     wanted: End,
 ) -> Result<(), Fail> {
     let words = words_of(rt.alloc(), line)?;
-    let Err(error) = order_of(rt.alloc(), words.as_slice()) else {
+    let Err(error) = call_of(rt.alloc(), words.as_slice()) else {
         return Err(Fail::from("a line that asks for nothing"));
     };
     let streams = Streams::new(rt.alloc(), open);

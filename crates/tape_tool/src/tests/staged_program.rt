@@ -1,10 +1,38 @@
 //! `extract --stage` as it is called.
-use super::calls::{Step, take_all};
+use super::calls::{Step, each_fails, take_all};
 use crate::end::End;
 use crate::fault::{FileFault, ToolFault};
+use std::fs::File;
 use std::test::Fail;
 use tape_run::RunFault;
 use tape_stage::StageFault;
+
+/// The call of a run that finds another one at its stage.
+const SECOND: &str = "extract ABC001 1 second.txt first.tap --stage first.stage";
+
+const FIRST: &[Step<'_>] = &[
+    Step::PutWorked("first.tap", 2484),
+    Step::Put("first.stage", b""),
+    Step::Remove("second.txt"),
+];
+
+const ALONE: &[Step<'_>] = &[
+    // What the other run has was left alone.
+    Step::HasLength("first.stage", 0),
+    Step::IsMissing("second.txt"),
+    Step::Ends(SECOND, End::Done),
+    Step::HasLength("second.txt", 2025),
+];
+
+#[test]
+fn two_runs_on_one_stage(rt: HostRuntime) -> Result<(), Fail> {
+    take_all(&rt, FIRST)?;
+    let first = File::open(&rt, "first.stage")?;
+    first.lock()?;
+    each_fails(&rt, &[(SECOND, ToolFault::StageInUse)])?;
+    drop(first);
+    take_all(&rt, ALONE)
+}
 
 const DAYS: &[Step<'_>] = &[
     Step::PutDamaged("monday.tap", 3),
@@ -33,6 +61,31 @@ const DAYS: &[Step<'_>] = &[
 #[test]
 fn a_file_over_two_days(rt: HostRuntime) -> Result<(), Fail> {
     take_all(&rt, DAYS)
+}
+
+/// A reel that lost a block, before a good one and alone: the stage keeps nothing of it.
+const IN_DOUBT: &[Step<'_>] = &[
+    Step::PutLost("doubt.tap"),
+    Step::PutWorked("sure.tap", 2484),
+    Step::Remove("doubt.stage"),
+    Step::Ends(
+        "extract ABC001 1 doubt.txt doubt.tap --stage doubt.stage",
+        End::Incomplete,
+    ),
+    Step::HasLength("doubt.stage", 256),
+    Step::IsMissing("doubt.txt"),
+    Step::Ends(
+        "extract ABC001 1 doubt.txt doubt.tap sure.tap --stage doubt.stage",
+        End::Done,
+    ),
+    Step::HasLength("doubt.stage", 2381),
+    Step::HasLength("doubt.txt", 2025),
+    Step::HasText("doubt.txt", 810, b"0011  "),
+];
+
+#[test]
+fn a_reel_in_doubt_before_a_good_one(rt: HostRuntime) -> Result<(), Fail> {
+    take_all(&rt, IN_DOUBT)
 }
 
 /// A stage of file 1 of the set ABC001, and what is no stage and stays.

@@ -72,30 +72,21 @@ fn reel(
     Ok(image)
 }
 
-/// The worked volume with these bytes before each of its words and blocks.
-pub fn worked_between(alloc: Global, between: &'static [u8]) -> Result<Image, AllocError> {
-    payroll_volume(alloc, between, &[EOF_THREE, EOF2])
-}
-
 /// The worked volume: 25 records of 80 characters in blocks of 800, 2,484 bytes.
 pub fn worked(alloc: Global) -> Result<Image, AllocError> {
-    worked_between(alloc, &[])
+    payroll_volume(alloc, &[EOF_THREE, EOF2])
 }
 
 /// The worked file on a volume that is too small for its end: three blocks, and an end of volume.
 pub fn first_of_two(alloc: Global) -> Result<Image, AllocError> {
     let trailer = "EOV1PAYROLL          ABC00100010001000100 00000 00000 000003";
     let second = "EOV2F0080000080                                   00";
-    payroll_volume(alloc, &[], &[trailer, second])
+    payroll_volume(alloc, &[trailer, second])
 }
 
 /// The labels and records of the worked volume, and these trailer labels.
-fn payroll_volume(
-    alloc: Global,
-    between: &'static [u8],
-    trailers: &[&str],
-) -> Result<Image, AllocError> {
-    let mut image = Image::with(alloc, between);
+fn payroll_volume(alloc: Global, trailers: &[&str]) -> Result<Image, AllocError> {
+    let mut image = Image::new(alloc);
     image.headers()?;
     image.records(alloc)?;
     close(&mut image, trailers)?;
@@ -106,6 +97,17 @@ fn payroll_volume(
 pub fn second_of_two(alloc: Global) -> Result<Image, AllocError> {
     let trailer = "EOF1PAYROLL          ABC00100020001000100 00000 00000 000000";
     reel(alloc, &[VOL2, HDR1_NEXT, FIXED], &[], &[trailer, EOF2])
+}
+
+/// The worked volume without its second block, of which its trailer knows.
+pub fn lost(alloc: Global) -> Result<Image, AllocError> {
+    let mut image = Image::new(alloc);
+    image.headers()?;
+    let records = payroll(alloc, b"")?;
+    image.block(&records.as_slice()[..800], 0)?;
+    image.block(&records.as_slice()[1600..2000], 0)?;
+    close(&mut image, &[EOF_THREE, EOF2])?;
+    Ok(image)
 }
 
 /// A volume of the 25 worked records in blocks of 400, of which one cannot be read.

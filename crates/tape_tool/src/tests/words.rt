@@ -1,5 +1,5 @@
 //! Command lines.
-use crate::words::{Order, order_of};
+use crate::words::{Order, call_of};
 use std::alloc::{AllocError, Global};
 use std::process::Abort;
 use std::test::Fail;
@@ -29,7 +29,7 @@ const ORDERS: &[(&str, Option<&str>)] = &[
 fn orders(rt: HostRuntime) -> Result<(), Fail> {
     for (line, image) in ORDERS {
         let words = words_of(rt.alloc(), line)?;
-        let order = order_of(rt.alloc(), words.as_slice())?;
+        let order = call_of(rt.alloc(), words.as_slice())?.order;
         assert!(rt;
             matches!(order, Order::List { image: found } if found == *image),
             "{line}"
@@ -51,9 +51,10 @@ const SAID: &[(&str, i32, &str)] = &[
     ("list -", 2, "leave IMAGE out to list standard input"),
     ("list -- -", 2, "write './-' for a file of that name"),
     ("list --all", 2, "unexpected argument '--all' found"),
-    ("--help", 0, "Usage: tape <COMMAND>"),
+    ("--help", 0, "Usage: tape [OPTIONS] <COMMAND>"),
     ("--version", 0, "tape 0.1.0"),
     ("list --help", 0, "Usage: tape list [IMAGE]"),
+    ("check --help", 0, "--explain"),
     ("list --all", 2, "Usage: tape list [IMAGE]"),
     ("help list", 0, "zcat reel.tap.gz | tape list"),
     ("init '' ABC 2", 2, "DIR is empty: write '.'"),
@@ -73,7 +74,7 @@ fn is_answered<H: Abort + AllocGlobal>(
     text: &str,
 ) -> Result<(), Fail> {
     let words = words_of(rt.alloc(), line)?;
-    let Err(error) = order_of(rt.alloc(), words.as_slice()) else {
+    let Err(error) = call_of(rt.alloc(), words.as_slice()) else {
         return Err(Fail::from("a line that should be refused"));
     };
     assert!(rt; error.exit_code() == status, "{line}");

@@ -2,10 +2,10 @@
 use super::calls::{Step, each_fails, each_is_wrong, end_of, ends, holds, put, take_all};
 use crate::end::End;
 use crate::fault::{Fault, FileFault, ToolFault};
+use crate::host::Host;
 use std::alloc::{AllocError, Global};
 use std::fs;
 use std::process::Abort;
-use std::rt::Runtime;
 use std::test::Fail;
 use tape_label::LabelFault;
 use tape_writer::WriteFault;
@@ -48,7 +48,7 @@ fn changed(alloc: Global, image: &[u8], kept: usize, zeros: u8) -> Result<Vec<u8
 }
 
 /// An image of these bytes is not written over.
-fn is_left_alone<H: Runtime + AllocGlobal + Abort>(rt: &H, image: &[u8]) -> Result<(), Fail> {
+fn is_left_alone<H: Host + Abort>(rt: &H, image: &[u8]) -> Result<(), Fail> {
     put(rt, "THR001.tap", image)?;
     let end = end_of(rt, "write . THR 100000 A=there.txt")?;
     assert!(rt;
@@ -88,6 +88,41 @@ fn a_folder_that_is_there(rt: HostRuntime) -> Result<(), Fail> {
     take_all(&rt, FOLDER)
 }
 
+/// What would be lost by a slip, or is no file, and is found before anything is written.
+const UNFIT: &[Step<'_>] = &[
+    Step::Put("apart.txt", b"AB\n"),
+    Step::Ends("init . UNF 2", End::Done),
+    Step::Remove("unfit.txt"),
+    Step::Link("unfit.txt", "UNF002.tap"),
+    Step::Ends(
+        "write . UNF 100000 A=UNF001.tap --format S --form raw",
+        End::WrongWords,
+    ),
+    Step::Ends(
+        "write ./. UNF 100000 A=apart.txt B=./UNF002.tap",
+        End::WrongWords,
+    ),
+    Step::Ends("write . UNF 100000 A=unfit.txt", End::WrongWords),
+    Step::HasLength("UNF001.tap", 100),
+    Step::HasLength("UNF002.tap", 100),
+    // A device, and a folder, behind images that would be written before them.
+    Step::Remove("UND003.tap"),
+    Step::Link("UND003.tap", "/dev/null"),
+    Step::Fails("write . UND 100000 A=apart.txt", EXISTS),
+    Step::IsMissing("UND001.tap"),
+    Step::Folder("UNO256.tap"),
+    Step::Fails(
+        "write . UNO 100000 A=apart.txt",
+        ToolFault::File(FileFault::NotOpened),
+    ),
+    Step::IsMissing("UNO001.tap"),
+];
+
+#[test]
+fn inputs_and_images_that_do_not_fit(rt: HostRuntime) -> Result<(), Fail> {
+    take_all(&rt, UNFIT)
+}
+
 const SECOND: &[Step<'_>] = &[
     Step::PutRecords("second.bin"),
     Step::Put("SND002.tap", b"kept"),
@@ -103,6 +138,25 @@ const SECOND: &[Step<'_>] = &[
 #[test]
 fn a_second_image_that_is_there(rt: HostRuntime) -> Result<(), Fail> {
     take_all(&rt, SECOND)
+}
+
+const LOOKED_FOR: &[Step<'_>] = &[
+    Step::Put("here.txt", b"AB\n"),
+    Step::Fails(
+        "write . LKD 100000 A=here.txt B=missing.txt",
+        ToolFault::File(FileFault::NotOpened),
+    ),
+    Step::Fails(
+        "write . LKD 100000 A=here.txt B=.",
+        ToolFault::File(FileFault::ReadFailed),
+    ),
+    Step::IsMissing("LKD001.tap"),
+];
+
+/// All inputs are looked for before anything is written: one that is missing, and a folder.
+#[test]
+fn inputs_are_looked_for_first(rt: HostRuntime) -> Result<(), Fail> {
+    take_all(&rt, LOOKED_FOR)
 }
 
 /// Lines that are no call of `write`.

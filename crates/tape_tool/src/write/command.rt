@@ -1,31 +1,29 @@
 //! `tape write`.
 use crate::fault::{FileFault, ToolFault};
-use crate::volume::{Prefix, blank_volume};
-use crate::write::image_file::ImageFile;
-use crate::write::report::{Ended, say};
+use crate::write::image_files::{ImageFiles, VOLUMES};
+use crate::write::input_file::InputFile;
+use crate::write::report::say;
 use crate::write::words::WriteOrder;
-use std::fs::{File, Files};
 use std::io;
 use std::rt::Runtime;
 use tape_blocks::Shape;
-use tape_image::ImageWriter;
-use tape_label::{Field, Format, Head1, Vol1};
-use tape_writer::{Input, RefusedSet, SetPlan, WriteFault, WrittenSet, write_set};
+use tape_label::{Field, Format, Head1};
+use tape_writer::{
+    Input, Prefix, RefusedSet, SetPlan, WriteFault, WrittenSet, blank_volume, write_set,
+};
 
-/// How many volumes a set has at most.
-const VOLUMES: u16 = 256;
-
-/// Writes the files on volumes, and says on which.
+/// Writes the files on volumes, and says on which. One input and one image are open at a time.
 ///
 /// Faults are looked for in this order: the shape, the files' identifiers, their inputs, and then
 /// what the engine finds.
 pub fn write<R: Runtime + AllocGlobal>(rt: &R, order: &WriteOrder<'_>) -> Result<(), ToolFault> {
     let shape = shape_of(order)?;
     let heads = heads_of(rt, order)?;
-    let mut files = open_inputs(rt, order, heads.as_slice())?;
-    let (plan, images) = volumes_of(rt, order, shape)?;
+    let mut files = find_inputs(rt, order, heads.as_slice())?;
+    let plan = plan_of(rt, order, shape)?;
+    let images = ImageFiles::new(rt, order.folder, order.prefix).map_err(|_| no_memory())?;
     match write_set(rt.alloc(), plan, files.as_mut_slice(), images) {
-        Ok(done) => end(rt, done),
+        Ok(done) => end(rt, &done),
         Err(refused) => Err(told(refused)),
     }
 }
@@ -80,7 +78,7 @@ fn heads_of<R: AllocGlobal>(rt: &R, order: &WriteOrder<'_>) -> Result<Vec<Head1>
 }
 
 /// A file's identifier and its path.
-fn split<'a>(word: &'a str) -> (&'a str, &'a str) {
+pub fn split<'a>(word: &'a str) -> (&'a str, &'a str) {
     word.split_once('=').unwrap_or((word, ""))
 }
 
@@ -101,18 +99,16 @@ fn head_of(file_id: Field<17>) -> Head1 {
     }
 }
 
-/// Opens the inputs, in their order.
-fn open_inputs<R: Runtime + AllocGlobal>(
-    rt: &R,
-    order: &WriteOrder<'_>,
+/// Looks for the inputs, in their order. None is read.
+fn find_inputs<'a, R: Runtime + AllocGlobal>(
+    rt: &'a R,
+    order: &WriteOrder<'a>,
     heads: &[Head1],
-) -> Result<Vec<Input<<R as Files>::File>>, ToolFault> {
+) -> Result<Vec<Input<InputFile<'a, R>>>, ToolFault> {
     let mut inputs = Vec::new(rt.alloc());
     for (word, head) in order.files.iter().zip(heads) {
         let (_, path) = split(word);
-        let Ok(reader) = File::open(rt, path) else {
-            return Err(ToolFault::File(FileFault::NotOpened));
-        };
+        let reader = InputFile::find(rt, path).map_err(ToolFault::File)?;
         inputs
             .push(Input {
                 head: *head,
@@ -123,34 +119,25 @@ fn open_inputs<R: Runtime + AllocGlobal>(
     Ok(inputs)
 }
 
-/// The image writers of a set.
-type Images<'a, R> = Vec<ImageWriter<ImageFile<'a, R>>>;
-
-/// The plan of the set, and a writer for each volume that it may have.
-fn volumes_of<'a, R: Runtime + AllocGlobal>(
-    rt: &'a R,
-    order: &WriteOrder<'a>,
+/// The plan of the set, on as many volumes as it may have.
+fn plan_of<R: AllocGlobal>(
+    rt: &R,
+    order: &WriteOrder<'_>,
     shape: Shape,
-) -> Result<(SetPlan, Images<'a, R>), ToolFault> {
+) -> Result<SetPlan, ToolFault> {
     let mut volumes = Vec::new(rt.alloc());
-    let mut images = Vec::new(rt.alloc());
     for number in 1..=VOLUMES {
-        let file = ImageFile::new(rt, order.folder, order.prefix, number);
         volumes
             .push(blank_volume(order.prefix, number))
             .map_err(|_| no_memory())?;
-        images
-            .push(ImageWriter::new(file))
-            .map_err(|_| no_memory())?;
     }
-    let plan = SetPlan {
+    Ok(SetPlan {
         set_id: set_id(order.prefix),
         volumes,
         capacity: order.capacity,
         shape,
         form: order.form,
-    };
-    Ok((plan, images))
+    })
 }
 
 /// The set has the identifier of its first volume.
@@ -158,78 +145,29 @@ fn set_id(prefix: Prefix) -> Field<6> {
     blank_volume(prefix, 1).volume
 }
 
-/// What is gathered while the images' files are written to their end.
-#[derive(Drop)]
-struct Ends {
-    volumes: Vec<Vol1>,
-    /// On how many of them something was written.
-    count: usize,
-    ended: Vec<Ended>,
-    /// The first fault.
-    fault: Option<ToolFault>,
-}
-
-impl Ends {
-    /// Has an image's file written to its end, and notes its volume and size.
-    fn take<R: Runtime + AllocGlobal>(&mut self, image: ImageWriter<ImageFile<'_, R>>) {
-        let size = image.size();
-        let fault = image.into_device().end();
-        let noted = self.note(size);
-        if self.fault.is_none() {
-            self.fault = fault.or(noted.err());
-        }
-    }
-
-    /// Notes the size of the next volume, where something was written on it.
-    fn note(&mut self, size: u64) -> Result<(), ToolFault> {
-        let place = self.ended.len();
-        if place >= self.count || place >= self.volumes.len() {
-            return Ok(());
-        }
-        let volume = self.volumes[place].volume;
-        self.ended
-            .push(Ended { volume, size })
-            .map_err(|_| no_memory())
-    }
-}
-
-/// Has the images' files written to their end, and says what was written.
+/// Says what was written.
 fn end<R: Runtime + AllocGlobal>(
     rt: &R,
-    done: WrittenSet<ImageFile<'_, R>>,
+    done: &WrittenSet<ImageFiles<'_, R>>,
 ) -> Result<(), ToolFault> {
-    let WrittenSet {
-        files,
-        ended: count,
-        volumes,
-        images,
-    } = done;
-    let ended = Vec::new(rt.alloc());
-    let mut ends = Ends {
-        volumes,
-        count,
-        ended,
-        fault: None,
-    };
-    for image in images {
-        ends.take(image);
-    }
-    match ends.fault {
-        Some(fault) => Err(fault),
-        None => say(&mut io::writer(rt), files as u64, ends.ended.as_slice()).map_err(
-            ToolFault::File,
-        ),
-    }
+    say(&mut io::writer(rt), done.files as u64, done.images.ended()).map_err(ToolFault::File)
 }
 
-/// What to tell of a refusal: in place of a device's fault, that of the file.
-fn told<R: Runtime + AllocGlobal>(refused: RefusedSet<ImageFile<'_, R>>) -> ToolFault {
-    let mut fault = ToolFault::from(refused.fault);
-    for image in refused.images {
-        let of_file = image.into_device().end();
-        if fault == ToolFault::Write(WriteFault::Device) {
-            fault = of_file.unwrap_or(fault);
-        }
+/// What to tell of a refusal: in place of a device's fault, that of the file. What is held of the
+/// volume under way is written first.
+fn told<R: Runtime + AllocGlobal>(refused: RefusedSet<ImageFiles<'_, R>>) -> ToolFault {
+    let RefusedSet {
+        fault,
+        images: _ended,
+        under_way,
+    } = refused;
+    let fault = ToolFault::from(fault);
+    let of_file = match under_way {
+        Some(image) => image.into_device().end(),
+        None => None,
+    };
+    match of_file {
+        Some(of_file) if fault == ToolFault::Write(WriteFault::Device) => of_file,
+        _ => fault,
     }
-    fault
 }

@@ -1,19 +1,20 @@
 //! Files of images, made when they are first written to.
+use crate::extract::folder::sync_folder_of;
 use crate::fault::{FileFault, ToolFault};
 use crate::init::image_path;
-use crate::volume::{BLANK, Prefix, blank_image, blank_volume};
-use std::fs::{Files, OpenOptions};
+use std::fs::{Files, OpenFile, OpenOptions};
 use std::io::{Error, ErrorKind, Read, Result, Write};
 use std::rt::Runtime;
 use tape_run::write_text;
-use tape_writer::WriteFault;
+use tape_writer::{BLANK, Prefix, WriteFault, blank_image, blank_volume};
 
 /// How many bytes are held before they are written to the file, at most.
 const ROOM: usize = 8_192;
 
 /// The file of an image. It is made at the first write; one that is there has to be a blank volume.
 ///
-/// Bytes are held and written together. A fault is kept: every later call is refused.
+/// Bytes are held and written together. A flush has the disk keep all of them, under the file's
+/// name. A fault is kept: every later call is refused.
 #[derive(Drop)]
 pub struct ImageFile<'a, R: Runtime + AllocGlobal> {
     rt: &'a R,
@@ -22,6 +23,7 @@ pub struct ImageFile<'a, R: Runtime + AllocGlobal> {
     number: u16,
     file: Option<<R as Files>::File>,
     held: Vec<u8>,
+    size: u64,
     fault: Option<ToolFault>,
 }
 
@@ -35,8 +37,14 @@ impl<'a, R: Runtime + AllocGlobal> ImageFile<'a, R> {
             number,
             file: None,
             held: Vec::new(rt.alloc()),
+            size: 0,
             fault: None,
         }
+    }
+
+    /// How many bytes were taken.
+    pub fn size(&self) -> u64 {
+        self.size
     }
 
     /// Writes what is held, and says what failed, if anything did.
@@ -45,6 +53,25 @@ impl<'a, R: Runtime + AllocGlobal> ImageFile<'a, R> {
             self.pass_on();
         }
         self.fault
+    }
+
+    /// Has the disk keep what was written, and the file's name.
+    fn sync(&self) -> std::result::Result<(), ToolFault> {
+        let Some(file) = &self.file else {
+            return Ok(());
+        };
+        let path = self.path()?;
+        if file.sync_all().is_err() || sync_folder_of(self.rt, path.as_str()).is_err() {
+            return Err(ToolFault::File(FileFault::WriteFailed));
+        }
+        Ok(())
+    }
+
+    /// Where the file stands.
+    fn path(&self) -> std::result::Result<String, ToolFault> {
+        image_path(self.rt, self.folder, self.prefix, self.number).map_err(|_| ToolFault::Write(
+            WriteFault::OutOfMemory,
+        ))
     }
 
     /// Opens the file, once.
@@ -56,9 +83,23 @@ impl<'a, R: Runtime + AllocGlobal> ImageFile<'a, R> {
             self.fault = Some(ToolFault::Write(WriteFault::OutOfMemory));
             return;
         }
-        match open(self.rt, self.folder, self.prefix, self.number) {
+        match self.open() {
             Ok(file) => self.file = Some(file),
             Err(fault) => self.fault = Some(fault),
+        }
+    }
+
+    /// Makes the file, or takes the one that is there, if it is a blank volume.
+    fn open(&self) -> std::result::Result<<R as Files>::File, ToolFault> {
+        let path = self.path()?;
+        let mut options = OpenOptions::new();
+        options.write(true).create_new(true);
+        match options.open(self.rt, path.as_str()) {
+            Ok(file) => Ok(file),
+            Err(error) if error.kind() == ErrorKind::AlreadyExists => {
+                Ok(open_blank(self.rt, path.as_str(), self.prefix, self.number)?)
+            }
+            Err(_) => Err(ToolFault::File(FileFault::NotOpened)),
         }
     }
 
@@ -97,37 +138,20 @@ impl<R: Runtime + AllocGlobal> Write for ImageFile<'_, R> {
             self.hold(buf);
         }
         if self.fault.is_none() {
+            self.size = self.size.saturating_add(buf.len() as u64);
             return Ok(buf.len());
         }
         Err(Error::from(ErrorKind::Other))
     }
 
     fn flush(&mut self) -> Result<()> {
-        match self.end() {
+        if self.end().is_none() {
+            self.fault = self.sync().err();
+        }
+        match self.fault {
             None => Ok(()),
             Some(_) => Err(Error::from(ErrorKind::Other)),
         }
-    }
-}
-
-/// Makes the file, or takes the one that is there, if it is a blank volume.
-fn open<R: Runtime + AllocGlobal>(
-    rt: &R,
-    folder: &str,
-    prefix: Prefix,
-    number: u16,
-) -> std::result::Result<<R as Files>::File, ToolFault> {
-    let Ok(path) = image_path(rt, folder, prefix, number) else {
-        return Err(ToolFault::Write(WriteFault::OutOfMemory));
-    };
-    let mut options = OpenOptions::new();
-    options.write(true).create_new(true);
-    match options.open(rt, path.as_str()) {
-        Ok(file) => Ok(file),
-        Err(error) if error.kind() == ErrorKind::AlreadyExists => {
-            Ok(open_blank(rt, path.as_str(), prefix, number)?)
-        }
-        Err(_) => Err(ToolFault::File(FileFault::NotOpened)),
     }
 }
 

@@ -1,14 +1,17 @@
 //! What `write` prints.
-ghost use Rattle.std.specs.Prelude.{◌≡◌, ◌≤◌, ◌+◌, ◌++◌, decimal, OnOk};
+ghost use Rattle.std.specs.Prelude.{◌≡◌, ◌≤◌, ◌+◌, ◌++◌, decimal, length, OnOk};
 ghost use Rattle.std.specs.Io.KnownBytes.{Appends};
 ghost use Rattle.arrayvec.specs.ArrayVec.{array_vec_len};
 ghost use Rattle.tape_tool.specs.Report.{volume_line, files_line, report};
 
 use crate::fault::FileFault;
-use crate::line::{Line, put};
+use arrayvec::ArrayVec;
 use std::io::Write;
 use tape_label::Field;
 use tape_run::{flush, write_text};
+
+/// Room for the longest line, which is that of all.
+type Line = ArrayVec<u8, 64>;
 
 /// A volume that was written.
 #[derive(Clone, Copy, Debug, PartialEq, Eq)]
@@ -67,4 +70,16 @@ fn put_decimal(line: &mut Line, number: u64)
     ensures len { array_vec_len line.new ≤ array_vec_len line.old + 20 }
 {
     put(line, itoa::Buffer::new().format(number).as_bytes());
+}
+
+/// Any text that fits.
+fn put(line: &mut Line, text: &[u8])
+    requires { array_vec_len line.old + length text.now ≤ 64 }
+    ensures items { line.new.items ≡ line.old.items ++ text.now }
+    ensures len { array_vec_len line.new ≡ array_vec_len line.old + length text.now }
+{
+    match line.try_extend_from_slice(text) {
+        Ok(()) => {}
+        Err(_) => unreachable!(),
+    }
 }

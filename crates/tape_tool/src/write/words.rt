@@ -1,19 +1,15 @@
 //! What the words behind `write` ask for.
 use crate::help;
-use crate::volume::Prefix;
-use crate::words::{Order, required};
-use clap::builder::ValueParser;
-use clap::error::ErrorKind;
-use clap::{Arg, ArgAction, ArgMatches, Command, Error};
+use crate::outline::{Kind, Outline, Word, mistake};
+use crate::words::{FORMS, Order, form_of};
+use clap::{ArgMatches, Error};
 use std::alloc::{AllocError, Global};
 use tape_blocks::Form;
 use tape_label::Format;
+use tape_writer::Prefix;
 
 /// The names of record formats.
 const FORMATS: &[&str] = &["F", "D", "S"];
-
-/// The names of forms.
-const FORMS: &[&str] = &["lines", "raw"];
 
 /// The greatest number that a block or a record length, or a capacity, can be.
 const MOST: u64 = 4_294_967_295;
@@ -34,77 +30,34 @@ pub struct WriteOrder<'a> {
 }
 
 /// `write`.
-pub fn write_command<'a>(alloc: Global) -> Result<Command<'a>, AllocError> {
-    let command = Command::new(alloc, "write")
-        .bin_name("tape write")?
-        .about(help::ABOUT_WRITE)
-        .after_help(help::AFTER_WRITE);
-    let command = with_words(alloc, command)?;
-    with_lengths(alloc, command)?
-        .arg(pad_full_option(alloc))?
-        .arg(form_option(alloc))
-}
-
-/// The words of `write`.
-fn with_words<'a>(alloc: Global, command: Command<'a>) -> Result<Command<'a>, AllocError> {
-    command
-        .arg(required(alloc, "DIR", help::FOLDER))?
-        .arg(required(alloc, "PRE", help::PREFIX))?
-        .arg(number(required(alloc, "CAPACITY", help::CAPACITY), MOST))?
-        .arg(required(alloc, "ID=PATH", help::FILES).num_args(1..))
-}
-
-/// The options that tell how records lie in blocks.
-fn with_lengths<'a>(alloc: Global, command: Command<'a>) -> Result<Command<'a>, AllocError> {
-    command
-        .arg(format_option(alloc))?
-        .arg(number(option(alloc, "block", help::BLOCK), MOST).default_value("2048"))?
-        .arg(number(option(alloc, "record", help::RECORD), MOST))?
-        .arg(number(option(alloc, "offset", help::OFFSET), 255).default_value("0"))
-}
-
-/// `--format`.
-fn format_option<'a>(alloc: Global) -> Arg<'a> {
-    Arg::new(alloc, "format")
-        .long("format")
-        .value_name("FORMAT")
-        .value_parser(ValueParser::Names(FORMATS))
-        .default_value("D")
-        .help(help::FORMAT)
-}
-
-/// `--pad-full`.
-fn pad_full_option<'a>(alloc: Global) -> Arg<'a> {
-    Arg::new(alloc, "pad-full")
-        .long("pad-full")
-        .action(ArgAction::SetTrue)
-        .help(help::PAD_FULL)
-}
-
-/// `--form`.
-fn form_option<'a>(alloc: Global) -> Arg<'a> {
-    Arg::new(alloc, "form")
-        .long("form")
-        .value_name("FORM")
-        .value_parser(ValueParser::Names(FORMS))
-        .default_value("lines")
-        .help(help::FORM)
-}
-
-/// An option that takes a number.
-fn option<'a>(alloc: Global, name: &'a str, help: &'a str) -> Arg<'a> {
-    Arg::new(alloc, name).long(name).value_name("N").help(help)
-}
-
-/// A number from 0 to this one.
-fn number(arg: Arg<'_>, most: u64) -> Arg<'_> {
-    arg.value_parser(ValueParser::Unsigned(0, most))
-}
+pub const WRITE: Outline = Outline {
+    name: "write",
+    called: "tape write",
+    about: help::ABOUT_WRITE,
+    after_help: help::AFTER_WRITE,
+    usage: None,
+    words: &[
+        Word("DIR", Kind::Text, help::FOLDER),
+        Word("PRE", Kind::Text, help::PREFIX),
+        Word("CAPACITY", Kind::Number(0, MOST), help::CAPACITY),
+        Word("ID=PATH", Kind::Texts, help::FILES),
+        Word(
+            "format",
+            Kind::NameOption("FORMAT", FORMATS, "D"),
+            help::FORMAT,
+        ),
+        Word("block", Kind::NumberOption(MOST, Some("2048")), help::BLOCK),
+        Word("record", Kind::NumberOption(MOST, None), help::RECORD),
+        Word("offset", Kind::NumberOption(255, Some("0")), help::OFFSET),
+        Word("pad-full", Kind::Flag, help::PAD_FULL),
+        Word("form", Kind::NameOption("FORM", FORMS, "lines"), help::FORM),
+    ],
+};
 
 /// What the words behind `write` ask for. The parser has seen to it that they are there.
 pub fn write_order<'a>(alloc: Global, matches: &ArgMatches<'a>) -> Result<Order<'a>, Error> {
     let Some(prefix) = Prefix::new(matches.get_str("PRE").unwrap_or("")) else {
-        return Err(mistake(alloc, help::WRONG_PREFIX)?);
+        return Err(wrong_words(alloc, help::WRONG_PREFIX)?);
     };
     let files = files_of(alloc, matches)?;
     let order = WriteOrder {
@@ -117,10 +70,10 @@ pub fn write_order<'a>(alloc: Global, matches: &ArgMatches<'a>) -> Result<Order<
         record: matches.get_one::<u32>("record"),
         offset: matches.get_one::<u8>("offset").unwrap_or(0),
         pad_full: matches.get_flag("pad-full"),
-        form: form_of(matches.get_str("form").unwrap_or("")),
+        form: form_of(matches),
     };
     match wrong(&order) {
-        Some(text) => Err(mistake(alloc, text)?),
+        Some(text) => Err(wrong_words(alloc, text)?),
         None => Ok(Order::Write(order)),
     }
 }
@@ -130,7 +83,7 @@ fn files_of<'a>(alloc: Global, matches: &ArgMatches<'a>) -> Result<Vec<&'a str>,
     let mut files = Vec::new(alloc);
     for word in matches.get_strs("ID=PATH").unwrap_or(&[]) {
         if !word.contains("=") {
-            return Err(mistake(alloc, help::NO_PATH)?);
+            return Err(wrong_words(alloc, help::NO_PATH)?);
         }
         files.push(*word)?;
     }
@@ -159,15 +112,7 @@ fn format_of(name: &str) -> Format {
     }
 }
 
-/// The form with this name.
-fn form_of(name: &str) -> Form {
-    match name {
-        "raw" => Form::Raw,
-        _ => Form::Lines,
-    }
-}
-
-/// A mistake in the words of `write`, with its usage behind the text.
-fn mistake(alloc: Global, text: &str) -> Result<Error, AllocError> {
-    write_command(alloc)?.error(ErrorKind::ValueValidation, text)
+/// A mistake in these words.
+fn wrong_words(alloc: Global, text: &str) -> Result<Error, AllocError> {
+    mistake(alloc, &WRITE, text)
 }

@@ -1,0 +1,318 @@
+//! What a fault means, in words: behind its one line, where `--explain` asks for them.
+use crate::fault::{Fault, ToolFault, number_of_write};
+use std::fmt;
+use tape_image::{ImageCause, ImageFault};
+use tape_writer::Prefix;
+
+/// What the program was at when a fault came, where it knows that.
+#[derive(Clone, Copy, Debug, PartialEq, Eq)]
+pub enum Site<'a> {
+    /// It does not know.
+    Unknown,
+    /// Its lines on standard output.
+    Lines,
+    /// The image on standard input.
+    Input,
+    /// The image at this path.
+    Image(&'a str),
+    /// The image of the volume with this number.
+    Volume(Prefix, u16),
+    /// The file that this word of `write` names.
+    File(&'a str),
+    /// Where the records of a file go.
+    Out(&'a str),
+    /// Where what was gathered is kept.
+    Stage(&'a str),
+}
+
+impl fmt::Display for Site<'_> {
+    fn fmt<W: fmt::Write>(&self, f: &mut fmt::Formatter<W>) -> fmt::Result {
+        match self {
+            Site::Unknown => Ok(()),
+            Site::Lines => f.write_str("  Output: standard output\n"),
+            Site::Input => f.write_str("  Image: standard input\n"),
+            Site::Image(path) => writeln!(f, "  Image: {path}"),
+            Site::Volume(prefix, number) => {
+                let [a, b, c] = prefix.characters.map(char::from);
+                writeln!(f, "  Image: {a}{b}{c}{number:03}.tap")
+            }
+            Site::File(word) => writeln!(f, "  File: {word}"),
+            Site::Out(path) => writeln!(f, "  OUT: {path}"),
+            Site::Stage(path) => writeln!(f, "  Stage: {path}"),
+        }
+    }
+}
+
+/// A fault and where it came, as lines of text.
+#[derive(Clone, Copy, Debug, PartialEq, Eq)]
+pub struct Explanation<'a> {
+    pub fault: Fault,
+    pub site: Site<'a>,
+}
+
+impl fmt::Display for Explanation<'_> {
+    fn fmt<W: fmt::Write>(&self, f: &mut fmt::Formatter<W>) -> fmt::Result {
+        let text = text_of(self.fault, self.site);
+        if text != NO_MEMORY && is_at(self.fault, self.site) {
+            write!(f, "{}", self.site)?;
+        }
+        f.write_str(text)
+    }
+}
+
+/// Whether the fault is one of the file that was under way.
+fn is_at(fault: Fault, site: Site<'_>) -> bool {
+    match (fault, site) {
+        (Fault::Tool(ToolFault::Run(_)), Site::Stage(_)) => true,
+        (Fault::Tool(ToolFault::Run(_)), _) => false,
+        _ => true,
+    }
+}
+
+/// What the fault is, what stands now, and what to do next.
+pub fn text_of(fault: Fault, site: Site<'_>) -> &'static str {
+    let Fault::Tool(fault) = fault else {
+        return NO_MEMORY;
+    };
+    match fault {
+        ToolFault::Image(fault) => image_text(fault),
+        ToolFault::Label(fault) => nth(LABEL, fault.number()),
+        ToolFault::Write(fault) => nth(WRITE, number_of_write(fault)),
+        ToolFault::File(fault) => nth(files_at(site), fault.number()),
+        ToolFault::Run(fault) => nth(RUN, fault.number()),
+        ToolFault::Stage(fault) => nth(STAGE, fault.number()),
+        ToolFault::StageInUse => nth(STAGE, 7),
+    }
+}
+
+/// The text of an image's fault.
+fn image_text(fault: ImageFault) -> &'static str {
+    let is_first = fault.place == 0;
+    match fault.cause {
+        ImageCause::Truncated | ImageCause::LengthsDiffer | ImageCause::Reserved(_) if is_first => {
+            NO_IMAGE
+        }
+        cause => nth(IMAGE, cause.number()),
+    }
+}
+
+/// The texts of a file's faults there.
+fn files_at(site: Site<'_>) -> &'static [&'static str] {
+    match site {
+        Site::Input | Site::Image(_) => FILE_OF_IMAGE,
+        Site::Volume(_, _) => FILE_OF_VOLUME,
+        Site::Out(_) => FILE_OF_OUT,
+        Site::Stage(_) => FILE_OF_STAGE,
+        Site::Lines => FILE_OF_LINES,
+        Site::File(_) | Site::Unknown => FILE,
+    }
+}
+
+/// The text of the fault with this number, from 1.
+fn nth(texts: &'static [&'static str], number: u8) -> &'static str {
+    match texts.get(usize::from(number).saturating_sub(1)) {
+        Some(text) => *text,
+        None => NEVER,
+    }
+}
+
+// The texts of each kind of fault, in the order of its numbers.
+
+/// What the program never tells.
+const NEVER: &str = "  Nothing that was asked for leads to this: the program itself is wrong.
+  Please report it, with the command line.
+";
+
+const NO_MEMORY: &str = "  There was not enough memory. What was written before it stays.
+  End other programs, and call again.
+";
+
+/// An image's first bytes are none of an image.
+const NO_IMAGE: &str = "  This does not begin as a .tap image. Nothing was read.
+  Is it compressed ('zcat NAME | tape list' lists that), or something else?
+";
+
+const IMAGE: &[&str] = &[
+    "  The image ends inside a block: it was cut off. What was listed is right.
+  Copy it again from its source, or 'extract' from it and from another copy.
+",
+    "  The lengths before and behind a block differ: the image is damaged there, or
+  ends there and goes on with what an older recording left.
+  What was listed is right. Copy it again, or 'extract' from another copy too.
+",
+    "  A word stands there that begins nothing: the image is damaged there, or ends
+  there and goes on with what an older recording left.
+  What was listed is right. Copy it again, or 'extract' from another copy too.
+",
+    "  The image has more than 4,294,967,295 bytes, and is not read behind them.
+  What was listed is right.
+",
+    "  Reading the image failed there: it is a folder, or the disk fails.
+  What was listed is right. Copy the image to another disk, and list the copy.
+",
+    NO_MEMORY,
+];
+
+const LABEL: &[&str] = &[
+    NEVER,
+    NEVER,
+    NEVER,
+    NEVER,
+    NEVER,
+    "  A character of the ID can't stand in a label. Nothing was written.
+  Take A to Z, 0 to 9, space and ! \" % & ' ( ) * + , - . / : ; < = > ? _
+",
+    "  The ID is longer than 17 characters. Nothing was written.
+  Write a shorter one before the '='.
+",
+];
+
+const WRITE: &[&str] = &[
+    NEVER,
+    "  Blocks and records of these lengths are not written. Nothing was written.
+  'tape write --help' tells what --block, --record, --offset, --pad-full take.
+",
+    "  CAPACITY is less than 1,024 or than the block length. Nothing was written.
+  Name a greater one.
+",
+    "  A record is too long, or with F not as long as --record says.
+  Images that were begun are not blank any more: remove them. Then name greater
+  --block and --record, or --format S, which takes records of any length.
+",
+    NEVER,
+    NEVER,
+    "  The set has no room on 256 volumes. Those that were written stay.
+  Remove them, and name a greater CAPACITY, or fewer files.
+",
+    "  There are more than 9,999 files. Write several sets.
+  Images that were begun are not blank any more: remove them first.
+",
+    NEVER,
+    NO_MEMORY,
+    NEVER,
+    NEVER,
+];
+
+/// Of `write`, where it is not known which file it was.
+const FILE: &[&str] = &[
+    "  An image of the set is there already and is not blank: it was left as it is.
+  Remove it if you do not need it, or name another PRE or DIR. Images that were
+  written before it are not blank any more.
+",
+    "  An input or an image could not be opened or made: are the names right, is DIR
+  there, may you read and write there?
+  Images that were begun are not blank any more: remove them first.
+",
+    "  Reading an input, or an image that is there, failed: a folder, or a bad disk.
+  Images that were begun are not blank any more: remove them first.
+",
+    "  Writing failed: a full disk, or standard output was closed.
+  Images that were begun are not blank any more: remove them first.
+",
+];
+
+const FILE_OF_LINES: &[&str] = &[
+    NEVER,
+    NEVER,
+    NEVER,
+    "  It takes no more: a full disk, or a pipe that was closed, as by 'head'.
+  What was printed is right.
+",
+];
+
+const FILE_OF_IMAGE: &[&str] = &[
+    NEVER,
+    "  It could not be opened. Nothing was read.
+  Is the name right, and may you read it?
+",
+    NEVER,
+    NEVER,
+];
+
+const FILE_OF_VOLUME: &[&str] = &[
+    "  It is there already, and was left as it is. Those made before it stay.
+  Name another PRE or DIR, or remove it if you do not need it.
+",
+    "  It could not be made. Those made before it stay.
+  Is DIR there, and may you write to it?
+",
+    NEVER,
+    "  It could not be written whole: is the disk full? Those made before it stay.
+  Remove it before you call again.
+",
+];
+
+const FILE_OF_OUT: &[&str] = &[
+    "  It begins as a tape image, and was left as it is. Nothing was read.
+  OUT stands before the images: tape extract SET FILE OUT IMAGE..
+  Name another OUT, or remove the file if you do not need it.
+",
+    "  It could not be opened or made. What a stage keeps stays.
+  Is its folder there, and may you read and write there?
+",
+    "  It could not be read, so it can't be seen whether it is an image.
+  It was left as it is, and nothing else was read. Name another OUT.
+",
+    "  It, or standard output, takes no more: a full disk, or a closed pipe.
+  OUT may not be whole. What a stage keeps stays.
+  Make room, or name an OUT on another disk, and call again.
+",
+];
+
+const FILE_OF_STAGE: &[&str] = &[
+    NEVER,
+    "  It could not be opened to read and write, or not be made. No image was read.
+  Is its folder there, and may you write there?
+",
+    NEVER,
+    NEVER,
+];
+
+const RUN: &[&str] = &[
+    "  What was gathered could not be kept: no memory, or a full or failing disk.
+  What the stage had saved before stays.
+  Make room, and call again; on a failing disk go on with a copy of the stage.
+",
+    NEVER,
+    NEVER,
+    NO_MEMORY,
+    "  It is the stage of another file, or of another set, and stays as it is.
+  Name the SET and FILE that it was begun with, or another stage.
+",
+];
+
+const STAGE: &[&str] = &[
+    "  It is no stage, and was left as it is. Is the name right?
+  A file of at most 256 bytes may be left by a first run that was stopped:
+  nothing is in it, and it may be removed.
+",
+    "  It was a stage, and something else wrote to it. It was left as it is.
+  Go on with an older copy of it, or begin a new stage under another name.
+",
+    "  Reading or writing it failed: a full or a failing disk. What was saved stays.
+  Make room, and call again; on a failing disk go on with a copy of the stage.
+",
+    NO_MEMORY,
+    NEVER,
+    NEVER,
+    "  Another run has it open. Nothing was read of it, and nothing changed.
+  Wait until that run has ended, or name another stage.
+",
+];
+
+/// All texts.
+#[cfg(test)]
+pub const TEXTS: &[&[&str]] = &[
+    &[NEVER, NO_MEMORY, NO_IMAGE],
+    IMAGE,
+    LABEL,
+    WRITE,
+    FILE,
+    FILE_OF_LINES,
+    FILE_OF_IMAGE,
+    FILE_OF_VOLUME,
+    FILE_OF_OUT,
+    FILE_OF_STAGE,
+    RUN,
+    STAGE,
+];

@@ -1,0 +1,169 @@
+//! What `--explain` tells behind the line of a fault.
+use super::calls::{Step, take_all};
+use super::words::words_of;
+use crate::end::End;
+use crate::explain::{Explanation, Site, TEXTS};
+use crate::fault::{Fault, FileFault, ToolFault};
+use crate::host::Host;
+use crate::program::perform;
+use std::process::Abort;
+use std::test::Fail;
+use tape_image::{ImageCause, ImageFault};
+use tape_run::RunFault;
+use tape_writer::Prefix;
+
+/// Each text has one to three lines of at most 79 columns, none of them empty.
+#[test]
+fn texts_fit_on_a_screen(rt: HostRuntime) {
+    for text in TEXTS.iter().flat_map(|texts| texts.iter()) {
+        let count = text.lines().count();
+        let fits = text
+            .lines()
+            .all(|line| line.starts_with("  ") && line.len() <= 79);
+        assert!(rt;
+            text.ends_with("\n") && fits && 0 < count && count <= 3,
+            "{text}"
+        );
+    }
+}
+
+const MADE: &[Step<'_>] = &[
+    Step::PutWorked("told.tap", 2484),
+    Step::PutWorked("told_cut.tap", 2000),
+    Step::Remove("TLD001.tap"),
+    Step::Ends("init . TLD 1", End::Done),
+    Step::Put("told.stage", b"no stage"),
+];
+
+const TLD: Prefix = Prefix {
+    characters: *b"TLD",
+};
+
+/// Lines that end by a fault, and where it is told to have come.
+const SITES: &[(&str, Option<Site<'_>>)] = &[
+    ("list told_cut.tap", None),
+    (
+        "list --explain told_cut.tap",
+        Some(Site::Image("told_cut.tap")),
+    ),
+    ("--explain list lost.tap", Some(Site::Image("lost.tap"))),
+    ("init . TLD 1 --explain", Some(Site::Volume(TLD, 1))),
+    (
+        "write . TLD 100000 A=told.tap Ab=told.tap --explain",
+        Some(Site::File("Ab=told.tap")),
+    ),
+    (
+        "write none TLD 100000 A=told.stage --explain",
+        Some(Site::Unknown),
+    ),
+    (
+        "extract ABC001 1 told.tap lost.tap --explain",
+        Some(Site::Out("told.tap")),
+    ),
+    (
+        "extract ABC001 1 told.txt told.tap --stage told.stage --explain",
+        Some(Site::Stage("told.stage")),
+    ),
+    (
+        "extract ABC001 1 lost/told.txt told.tap --explain",
+        Some(Site::Out("lost/told.txt")),
+    ),
+];
+
+/// The line ends by a fault, which is told to have come there.
+fn is_at<H: Host + Abort>(rt: &H, line: &str, site: Option<Site<'_>>) -> Result<(), Fail> {
+    let words = words_of(rt.alloc(), line)?;
+    let outcome = perform(rt, words.as_slice());
+    assert!(rt;
+        outcome.explained == site && matches!(outcome.end, End::Faulted(_)),
+        "{line}: {outcome:?}"
+    );
+    Ok(())
+}
+
+#[test]
+fn faults_have_their_places(rt: HostRuntime) -> Result<(), Fail> {
+    take_all(&rt, MADE)?;
+    for (line, site) in SITES {
+        is_at(&rt, line, *site)?;
+    }
+    Ok(())
+}
+
+const CUT_OFF: ToolFault = ToolFault::Image(ImageFault {
+    place: 1884,
+    cause: ImageCause::Truncated,
+});
+
+/// What `list` says of a gzip.
+const NO_IMAGE: ToolFault = ToolFault::Image(ImageFault {
+    place: 0,
+    cause: ImageCause::Reserved(529_205_248),
+});
+
+const NO_MEMORY: ToolFault = ToolFault::Image(ImageFault {
+    place: 0,
+    cause: ImageCause::OutOfMemory,
+});
+
+/// Faults, where they came, and the first line that is told of them, or the second.
+const TOLD: &[(ToolFault, Site<'_>, &str)] = &[
+    (
+        CUT_OFF,
+        Site::Image("cut.tap"),
+        "  Image: cut.tap\n  The image ends inside a block: it was cut off.",
+    ),
+    (
+        NO_IMAGE,
+        Site::Input,
+        "  Image: standard input\n  This does not begin as a .tap image.",
+    ),
+    (
+        NO_MEMORY,
+        Site::Image("a.tap"),
+        "  There was not enough memory.",
+    ),
+    (
+        ToolFault::File(FileFault::Exists),
+        Site::Volume(TLD, 7),
+        "  Image: TLD007.tap\n  It is there already, and was left as it is.",
+    ),
+    (
+        ToolFault::File(FileFault::Exists),
+        Site::Out("a.tap"),
+        "  OUT: a.tap\n  It begins as a tape image, and was left as it is.",
+    ),
+    (
+        ToolFault::File(FileFault::WriteFailed),
+        Site::Lines,
+        "  Output: standard output\n  It takes no more: a full disk,",
+    ),
+    (
+        ToolFault::StageInUse,
+        Site::Stage("s"),
+        "  Stage: s\n  Another run has it open.",
+    ),
+    (
+        ToolFault::Run(RunFault::OtherFile),
+        Site::Stage("s"),
+        "  Stage: s\n  It is the stage of another file,",
+    ),
+    (
+        ToolFault::Run(RunFault::OutOfMemory),
+        Site::Out("o"),
+        "  There was not enough memory.",
+    ),
+];
+
+#[test]
+fn faults_are_told_in_words(rt: HostRuntime) -> Result<(), Fail> {
+    for (fault, site, text) in TOLD {
+        let explanation = Explanation {
+            fault: Fault::Tool(*fault),
+            site: *site,
+        };
+        let told = format!(in rt.alloc(); "{explanation}")?;
+        assert!(rt; told.as_str().starts_with(text), "{told}");
+    }
+    Ok(())
+}

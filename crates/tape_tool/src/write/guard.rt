@@ -1,0 +1,82 @@
+//! What `write` looks at before it writes: no input of a set is one of its images.
+use crate::explain::Site;
+use crate::fault::{Fault, FileFault};
+use crate::help;
+use crate::init::put_image_path;
+use crate::unfit::{Unfit, refused, same_file};
+use crate::write::command::split;
+use crate::write::image_files::VOLUMES;
+use crate::write::words::WriteOrder;
+use std::fs;
+use std::fs::Metadata;
+use std::rt::Runtime;
+use tape_label::Field;
+
+/// Judges the files that the words name. None is opened, made or changed.
+///
+/// # Errors
+///
+/// `Words` where an input is an image that the set may be written to: the file itself, whatever
+/// name or link leads there. `Faulted` with `NotOpened` where a folder stands in the place of such
+/// an image, with `Exists` where anything else does that is no plain file, as a pipe or a device;
+/// with `OutOfMemory` where a growth was refused.
+pub fn look_ahead<R: Runtime + AllocGlobal>(rt: &R, order: &WriteOrder<'_>) -> Result<(), Unfit> {
+    let images = images_of(rt, order)?;
+    if images.is_empty() {
+        return Ok(());
+    }
+    for word in order.files.as_slice() {
+        let (_, path) = split(word);
+        match fs::metadata(rt, path) {
+            Ok(input) if images.iter().any(|image| same_file(image, &input)) => {
+                return Err(Unfit::Words(help::INPUT_IS_IMAGE));
+            }
+            _ => {}
+        }
+    }
+    Ok(())
+}
+
+/// The first file of which the identifier is none.
+pub fn wrong_file<'a>(order: &WriteOrder<'a>) -> Site<'a> {
+    for word in order.files.as_slice() {
+        if Field::<17>::new(split(word).0).is_err() {
+            return Site::File(*word);
+        }
+    }
+    Site::Unknown
+}
+
+/// The images of the set that are there already.
+fn images_of<R: Runtime + AllocGlobal>(
+    rt: &R,
+    order: &WriteOrder<'_>,
+) -> Result<Vec<Metadata>, Unfit> {
+    let mut images = Vec::new(rt.alloc());
+    let mut path = String::new(rt.alloc());
+    for number in 1..=VOLUMES {
+        path.clear();
+        put_image_path(&mut path, order.folder, order.prefix, number).map_err(|_| no_memory())?;
+        if let Ok(found) = fs::metadata(rt, path.as_str()) {
+            is_plain(&found)?;
+            images.push(found).map_err(|_| no_memory())?;
+        }
+    }
+    Ok(images)
+}
+
+/// Refuses what is no plain file.
+fn is_plain(found: &Metadata) -> Result<(), Unfit> {
+    if found.is_file() {
+        Ok(())
+    } else if found.is_dir() {
+        Err(refused(FileFault::NotOpened))
+    } else {
+        Err(refused(FileFault::Exists))
+    }
+}
+
+/// A growth was refused.
+fn no_memory() -> Unfit {
+    Unfit::Faulted(Fault::OutOfMemory)
+}

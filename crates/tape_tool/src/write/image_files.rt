@@ -1,0 +1,75 @@
+//! The files of a set's images, one after another.
+ghost use Rattle.std.specs.Prelude.{◌-◌};
+
+use crate::write::image_file::ImageFile;
+use crate::write::report::Ended;
+use std::alloc::{AllocError, Global};
+use std::rt::Runtime;
+use tape_label::Vol1;
+use tape_writer::{ImageStore, Prefix, blank_volume};
+
+/// How many volumes a set has at most.
+pub const VOLUMES: u16 = 256;
+
+/// Lends the file of each image in turn. One that has ended is closed, and noted. Of what stands in
+/// files nothing is claimed.
+#[derive(Drop)]
+pub struct ImageFiles<'a, R: Runtime + AllocGlobal> {
+    rt: &'a R,
+    folder: &'a str,
+    prefix: Prefix,
+    /// How many files were lent.
+    lent: u16,
+    ended: Vec<Ended>,
+}
+
+impl<'a, R: Runtime + AllocGlobal> ImageFiles<'a, R> {
+    /// The files of volumes with this prefix, in this folder. None is opened yet.
+    pub fn new(
+        rt: &'a R,
+        folder: &'a str,
+        prefix: Prefix,
+    ) -> Result<ImageFiles<'a, R>, AllocError> {
+        Ok(ImageFiles {
+            rt,
+            folder,
+            prefix,
+            lent: 0,
+            ended: Vec::with_capacity(rt.alloc(), usize::from(VOLUMES))?,
+        })
+    }
+
+    /// The volumes whose images ended, and their sizes.
+    pub fn ended(&self) -> &[Ended] {
+        self.ended.as_slice()
+    }
+}
+
+impl<'a, R: Runtime + AllocGlobal> ImageStore for ImageFiles<'a, R> {
+    type Device = ImageFile<'a, R>;
+
+    ghost holds = { λ files lent images. ⊥ };
+
+    ghost left = { λ files. 256 - files.lent };
+
+    fn left(&self) -> usize {
+        usize::from(VOLUMES.saturating_sub(self.lent))
+    }
+
+    fn next(&mut self, _volume: &Vol1) -> Option<ImageFile<'a, R>> {
+        if self.lent >= VOLUMES {
+            return None;
+        }
+        self.lent += 1;
+        Some(ImageFile::new(self.rt, self.folder, self.prefix, self.lent))
+    }
+
+    fn keep(&mut self, device: ImageFile<'a, R>) {
+        let volume = blank_volume(self.prefix, self.lent.min(VOLUMES)).volume;
+        // There is room for all that are lent.
+        let _ = self.ended.push(Ended {
+            volume,
+            size: device.size(),
+        });
+    }
+}
