@@ -1,14 +1,19 @@
 #!/bin/bash
-# Runs every example of README.md and docs/RECIPES.md with the built program, in a fresh folder, and
-# compares what it prints with what the page shows. An example is an indented line that begins with
-# '$ '; what stands below it in the same block is what it prints, standard output and standard error
-# together. A line of the form '    [status N]' says an exit status other than 0.
+# examples.sh [PROGRAM]: runs every example of README.md, docs/GUIDE.md and docs/RECIPES.md with
+# this program, as an installed /usr/bin/tape, or with ./tape where none is named, in a fresh
+# folder, and compares what it prints with what the page shows. An example is an indented line
+# that begins with '$ '; what stands below it in the same block is what it prints, standard output
+# and standard error together. A line of the form '    [status N]' says an exit status other than 0.
 # The last line printed is the number of examples that differ. By hand, not part of the gate.
 here=$(dirname "$(readlink -f "$0")")
 top=$(dirname "$here")
-program=${TAPE:-$top/crates/tape_tool/out/tape_tool}
+program=$(realpath -s "${1:-$top/tape}")
 if [ ! -x "$program" ]; then
-    echo "no program at $program: run ./tape --help first" >&2
+    echo "no program at $program" >&2
+    exit 2
+fi
+if [ "$program" = "$top/tape" ] && [ ! -x "$top/crates/tape_tool/out/tape_tool" ]; then
+    echo "the program is not built: run ./tape --help first" >&2
     exit 2
 fi
 folder=$(mktemp -d) || exit 2
@@ -62,7 +67,8 @@ page() {
     [ -n "$command" ] && try "$command" "$wanted"
 }
 
-page "$top/README.md"
-page "$top/docs/RECIPES.md"
+for it in README.md docs/GUIDE.md docs/RECIPES.md; do
+    [ ! -f "$top/$it" ] || page "$top/$it"
+done
 echo "$differ of $examples examples differ"
 [ "$differ" -eq 0 ]

@@ -1,0 +1,243 @@
+#!/usr/bin/env python3
+"""Makes the man page docs/tape.1 from the texts of the program's help.
+
+    docs/man.py                   writes the page anew
+    docs/man.py --check           says where the page, or docs/tape.bash, is older than the help
+    docs/man.py --program PATH    says which of these texts the help of this program does not print
+
+The last two end with status 1 where something differs. The texts are those of
+crates/tape_tool/src/help.rt; which word of a command has which text stands below.
+"""
+import os
+import re
+import subprocess
+import sys
+
+TOP = os.path.dirname(os.path.dirname(os.path.abspath(__file__)))
+SOURCE = os.path.join(TOP, "crates", "tape_tool", "src")
+PAGE = os.path.join(TOP, "docs", "tape.1")
+COMPLETION = os.path.join(TOP, "docs", "tape.bash")
+
+# For each command its usage, and its words with the name of what they say in help.rt.
+COMMANDS = {
+    "list": ("[IMAGE]", [("IMAGE", "IMAGE")]),
+    "check": ("IMAGE...", [("IMAGE", "IMAGES")]),
+    "extract": ("[--form FORM] [--stage PATH] SET FILE OUT IMAGE...", [
+        ("SET", "SET"), ("FILE", "FILE"), ("OUT", "OUT"), ("IMAGE", "REELS"),
+        ("--form lines|raw", "FORM_OF_OUT"), ("--stage PATH", "STAGE")]),
+    "init": ("DIR PRE COUNT", [("DIR", "FOLDER"), ("PRE", "PREFIX"), ("COUNT", "COUNT")]),
+    "write": ("[OPTIONS] DIR PRE CAPACITY ID=PATH...", [
+        ("DIR", "FOLDER"), ("PRE", "PREFIX"), ("CAPACITY", "CAPACITY"), ("ID=PATH", "FILES"),
+        ("--format F|D|S", "FORMAT"), ("--block N", "BLOCK"), ("--record N", "RECORD"),
+        ("--offset N", "OFFSET"), ("--pad-full", "PAD_FULL"), ("--form lines|raw", "FORM")]),
+}
+
+# The options of every command.
+OPTIONS = [("--explain", "EXPLAIN")]
+
+
+def read(*path):
+    with open(os.path.join(*path), encoding="utf-8") as file:
+        return file.read()
+
+
+def texts():
+    """The texts of help.rt by their names."""
+    found = re.findall(r'pub const (\w+): &str =\s*"((?:[^"\\]|\\.)*)";', read(SOURCE, "help.rt"),
+                       re.S)
+    return {name: unescaped(text) for name, text in found}
+
+
+def unescaped(text):
+    """What a string of the source stands for."""
+    text = re.sub(r"\\\n\s*", "", text)
+    return re.sub(r"\\(.)", lambda it: "\n" if it[1] == "n" else it[1], text)
+
+
+def escaped(text):
+    """Text as roff spells it."""
+    for old, new in [("\\", "\\e"), ("-", "\\-"), ("'", "\\(aq"), ("`", "\\(ga"), ("^", "\\(ha"),
+                     ("~", "\\(ti")]:
+        text = text.replace(old, new)
+    return re.sub(r"^\.", r"\&.", text)
+
+
+def quoted(text):
+    """Text as one argument of a request."""
+    return '"' + escaped(text).replace('"', "\\(dq") + '"'
+
+
+def one_column(lines):
+    """Lines that stand in two columns, each with a heading, one column behind the other."""
+    out, at = [], 0
+    while at < len(lines):
+        second = re.match(r"\S.*?:\s{3,}(?=\S.*:$)", lines[at])
+        if not second:
+            out.append(lines[at])
+            at += 1
+            continue
+        left, right = [lines[at][:second.end()].rstrip()], [lines[at][second.end():]]
+        at += 1
+        while at < len(lines) and lines[at].startswith(" "):
+            left.append(lines[at][:second.end()].rstrip())
+            right.append("  " + lines[at][second.end():].lstrip())
+            at += 1
+        out += left + [""] + [line for line in right if line.strip()] + [""]
+    return out
+
+
+def rows(lines):
+    """Indented lines: rows of a key and what it means, or text that is left as it is."""
+    out, keyed, verbatim = [], False, False
+    for line in lines:
+        indent = len(line) - len(line.lstrip())
+        cells = re.split(r" {2,}(?=\S)", line.strip())
+        numbered = re.fullmatch(r"\d+", cells[0]) and len(cells) > 1
+        row = re.match(r"(.*\S) {3,}(\S.*)", line.strip())
+        if keyed and indent > 20:
+            out.append(escaped(line.strip()))
+            continue
+        if numbered or row:
+            key, said = (cells[0], cells[1:]) if numbered else (row[1], [row[2]])
+            out += [".EE"] * verbatim + [".PP", ".PD 0"] * (not keyed)
+            out += [".TP", f".B {quoted(key)}"]
+            out += [part for cell in said for part in (".br", escaped(cell))][1:]
+            keyed, verbatim = True, False
+        elif indent > 2 and keyed:
+            out.append(escaped(line.strip()))
+        else:
+            out += [] if verbatim else [".PD"] * keyed + [".PP", ".EX"]
+            out.append(escaped(line[2:]))
+            keyed, verbatim = False, True
+    return out + [".EE"] * verbatim + [".PD"] * keyed
+
+
+def paragraphs(text):
+    """Text of help as roff: what is not indented is filled."""
+    out, block = [], []
+    for line in one_column(text.split("\n")) + [""]:
+        if line.startswith("  "):
+            block.append(line)
+            continue
+        if block:
+            out += rows(block)
+            block = []
+            if line:
+                out.append(".PP")
+        elif line and (not out or out[-1] == ""):
+            out.append(".PP")
+        out.append(escaped(line))
+    return [line for line in out if line]
+
+
+def titled(text):
+    """A text in sections by the headings that stand alone in it, as `Faults of an image:`."""
+    out = []
+    for part in re.split(r"\n\n", text):
+        first, _, rest = part.partition("\n")
+        if first.startswith("Example"):
+            out += [".SH EXAMPLES", *paragraphs(rest)]
+        elif first.startswith("Exit status: "):
+            sentence, _, more = part.removeprefix("Exit status: ").partition("\n")
+            out += [".SH EXIT STATUS", *paragraphs(sentence), ".SH DIAGNOSTICS", *paragraphs(more)]
+        elif first.endswith(":"):
+            out += [f".SS {quoted(first[:-1])}", *paragraphs(rest)]
+        else:
+            out += paragraphs(part)
+    return out
+
+
+def usage(name):
+    """The usage of a command."""
+    return f".B tape {name}\n{escaped(COMMANDS[name][0])}"
+
+
+def command_part(name, said):
+    """What is said of a command."""
+    out = [f".SS {quoted('tape ' + name)}", escaped(said["ABOUT_" + name.upper()]) + "."]
+    for word, text in COMMANDS[name][1]:
+        out += [".TP", f".B {escaped(word)}", escaped(said[text])]
+    return out + [".PP", *paragraphs(said["AFTER_" + name.upper()])]
+
+
+def page():
+    """The man page."""
+    said = texts()
+    version = re.search(r'\.version\("([^"]+)"\)', read(SOURCE, "words.rt"))[1]
+    about = said["ABOUT"]
+    out = [r".\" Made by docs/man.py from the texts of the program's help.",
+           f'.TH TAPE 1 "" "tape {version}" "User Commands"', ".SH NAME",
+           rf"tape \- {escaped(about[0].lower() + about[1:])}", ".SH SYNOPSIS"]
+    out += "\n.br\n".join(usage(name) for name in COMMANDS).split("\n")
+    out += [".SH DESCRIPTION", "Each command prints its part of this page by"]
+    out += [r".BR \-\-help ;", ".B tape \\-\\-version", "prints the version.", ".SH OPTIONS"]
+    for word, text in OPTIONS:
+        out += [".TP", f".B {escaped(word)}", escaped(said[text])]
+    out += [".SH COMMANDS"]
+    for name in COMMANDS:
+        out += command_part(name, said)
+    out += titled(said["AFTER"])
+    out += [".SH SEE ALSO", "What is proved, and what is only tested, tells the program's README."]
+    return "\n".join(out) + "\n"
+
+
+def words_of_source():
+    """Each word of the commands with the name of its text, as the sources pair them."""
+    source = read(SOURCE, "words.rt") + read(SOURCE, "write", "words.rt")
+    rows = re.findall(r'Word\(\s*"([^"]+)",\s*Kind::(\w+).*?help::(\w+)', source, re.S)
+    pairs = {("--" + name if kind in ("Flag", "TextOption", "NumberOption", "NameOption") else name,
+              text) for name, kind, text in rows}
+    for one in re.findall(r"Arg::new\(alloc, \"[^;{}]*", source):
+        name = re.search(r'\.long\("([\w-]+)"\)', one)
+        text = re.search(r"help\(help::(\w+)\)", one)
+        pairs.add(("--" + name[1], text[1]))
+    return pairs
+
+
+def old():
+    """What is older than the help."""
+    listed = {(word.split(" ")[0], text)
+              for words in [OPTIONS, *(words for _, words in COMMANDS.values())]
+              for word, text in words}
+    for word, text in sorted(listed ^ words_of_source()):
+        yield f"man.py: {word} with the text {text} stands in one of man.py and the sources alone"
+    if not os.path.exists(PAGE) or read(PAGE) != page():
+        yield "docs/tape.1 is old: make it anew by docs/man.py"
+    completion = read(COMPLETION)
+    for word in sorted({*COMMANDS, *(word for word, _ in listed if word.startswith("--"))}):
+        if not re.search(rf"(?<![\w-]){word}(?![\w-])", completion):
+            yield f"docs/tape.bash does not complete {word}"
+
+
+def not_printed(program):
+    """The texts that the help of the program does not print."""
+    said = texts()
+
+    def lacks(arguments, names):
+        run = subprocess.run([program, *arguments], stdout=subprocess.PIPE, check=True)
+        printed = " ".join(run.stdout.decode().split())
+        return [f"{' '.join(['tape', *arguments])} does not print {name}"
+                for name in names if " ".join(said[name].split()) not in printed]
+
+    found = lacks(["--help"], ["ABOUT", "AFTER", *(text for _, text in OPTIONS)])
+    for name, (_, words) in COMMANDS.items():
+        mine = [f"ABOUT_{name.upper()}", f"AFTER_{name.upper()}"]
+        found += lacks([name, "--help"], mine + [text for _, text in words])
+    return found
+
+
+def main():
+    if sys.argv[1:2] == ["--program"]:
+        wrong = not_printed(sys.argv[2])
+    elif sys.argv[1:] == ["--check"]:
+        wrong = list(old())
+    else:
+        with open(PAGE, "w", encoding="utf-8") as file:
+            file.write(page())
+        wrong = []
+    for line in wrong:
+        print(line)
+    return 1 if wrong else 0
+
+
+sys.exit(main())

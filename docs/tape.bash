@@ -1,0 +1,47 @@
+# Completion of tape(1) for bash.
+_tape() {
+    local cur=${COMP_WORDS[COMP_CWORD]} prev=${COMP_WORDS[COMP_CWORD-1]} command=${COMP_WORDS[1]}
+    local word at place=1
+    if [ "$COMP_CWORD" -eq 1 ]; then
+        COMPREPLY=($(compgen -W 'list check extract init write help --help --version' -- "$cur"))
+        return
+    fi
+    # Bash takes '=' for a word of its own.
+    [ "$cur" = '=' ] && cur=''
+    [ "$prev" = '=' ] && prev=${COMP_WORDS[COMP_CWORD-2]}
+    case $prev in
+    --form) COMPREPLY=($(compgen -W 'lines raw' -- "$cur")); return ;;
+    --format) COMPREPLY=($(compgen -W 'F D S' -- "$cur")); return ;;
+    --block | --record | --offset) return ;;
+    esac
+    case $command:$cur in
+    help:*) COMPREPLY=($(compgen -W 'list check extract init write' -- "$cur")); return ;;
+    extract:-*) COMPREPLY=($(compgen -W '--form --stage --explain --help' -- "$cur")); return ;;
+    write:-*)
+        COMPREPLY=($(compgen -W \
+            '--format --block --record --offset --pad-full --form --explain --help' -- "$cur"))
+        return ;;
+    *:-*) COMPREPLY=($(compgen -W '--explain --help' -- "$cur")); return ;;
+    esac
+    # Which of the words without a name this one is.
+    for ((at = 2; at < COMP_CWORD; at++)); do
+        word=${COMP_WORDS[at]}
+        case $word in
+        --form | --stage | --format | --block | --record | --offset) at=$((at + 1)) ;;
+        -*) ;;
+        *) place=$((place + 1)) ;;
+        esac
+    done
+    compopt -o filenames 2>/dev/null
+    local IFS=$'\n'
+    case $command:$place in
+    extract:1 | extract:2 | init:2 | init:3 | write:2 | write:3) [ "$prev" = --stage ] || return ;;
+    esac
+    case $command:$place:$prev in
+    init:1:* | write:1:*) COMPREPLY=($(compgen -d -- "$cur")) ;;
+    # No image is offered for OUT, which would be written over.
+    extract:3:* | *:--stage) COMPREPLY=($(compgen -f -X '*.[tT][aA][pP]' -- "$cur")) ;;
+    *) COMPREPLY=($(compgen -f -- "$cur")) ;;
+    esac
+}
+complete -F _tape tape

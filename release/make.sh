@@ -1,0 +1,178 @@
+#!/bin/bash
+# make.sh OUT [GATE-LOG]: makes a release of the program from this clone, which is at a commit, with
+# a clean work tree, and has its proofs in crates/*/out (what is not there is proved first).
+#
+# OUT is made anew, and gets
+#   tape-volumes_VERSION_amd64.deb      the program as it was proved and built, over Debian's libc6
+#   tape-VERSION-x86_64-linux.tar.gz    the program linked without any library, and what it is
+#                                       linked from (relink/)
+#   tape_tool.stamp                     the build's own sum of sources, toolchain and program
+#   PROVED.txt                          commit, toolchain, the line of each proof, sums
+#   SHA256SUMS
+# Both packages have man page, completion, pages and an image to try. GATE-LOG is what 'rt ci'
+# printed at this commit; its last line goes into PROVED.txt.
+# The same commit and toolchain give the same bytes: times are the commit's, names are sorted.
+set -eu
+here=$(dirname "$(readlink -f "$0")")
+out=$(realpath -m "${1:?usage: make.sh OUT [GATE-LOG]}")
+gate=${2:+$(tail -n 1 "$2")}
+cd "$here/.."
+
+fail() {
+    echo "make.sh: $*" >&2
+    exit 1
+}
+
+[ -z "$(git status --porcelain)" ] || fail "the work tree is not clean"
+case ${gate:-, 0 failed} in
+*', 0 failed') ;;
+*) fail "the gate's last line is '$gate'" ;;
+esac
+docs/man.py --check || fail "the man page is old"
+docs/definitions.py --check || fail "docs/DEFINITIONS.md is old"
+
+commit=$(git rev-parse HEAD)
+export SOURCE_DATE_EPOCH LC_ALL=C TZ=UTC
+SOURCE_DATE_EPOCH=$(git log -1 --format=%ct)
+umask 022
+room=$(mktemp -d)
+trap 'rm -rf "$room"' EXIT
+rm -rf "$out"
+mkdir -p "$out"
+
+# The proofs: each crate's own last line, lowest first.
+verdicts() {
+    local crate log=$room/log
+    for crate in $(sed -n 's/^tape_tool: //p' crates.txt) tape_tool; do
+        [ -d "crates/$crate" ] || continue
+        (cd "crates/$crate" && rt check --jobs 1) >"$log" 2>&1 ||
+            fail "$crate: $(tail -n 3 "$log")"
+        printf '  %-12s %s\n' "$crate" "$(tail -n 1 "$log")"
+        if [ "$crate" != tape_tool ]; then
+            (cd "crates/$crate" && rt lib) >"$log" 2>&1 || fail "$crate: $(tail -n 3 "$log")"
+        fi
+    done
+}
+verdicts >"$room/verdicts"
+
+# The program that was proved: built here, or before, where nothing has changed since.
+(cd crates/tape_tool && rt run -- --version) </dev/null >"$room/run" 2>&1 ||
+    fail "$(tail "$room/run")"
+built=crates/tape_tool/out
+program=$built/tape_tool object=$built/tape_tool.o
+number=$(env -i "$program" --version | cut -d' ' -f2)
+version=$number+$(git log -1 --format=%cd --date=format:%Y%m%d).$(git rev-parse --short=8 HEAD)
+docs/man.py --program "$program" || fail "the man page is not what the program says"
+
+# The same object file, linked by the system's compiler with no library left outside.
+relink=$room/relink
+mkdir "$relink"
+kit=$(dirname "$(rt doc)")
+cp "$object" "$kit/c/libos_c.a" "$kit/c/liblibc_c.a" "$relink/"
+cp "$here/relink.sh" "$relink/"
+sh "$relink/relink.sh" "$room/tape"
+
+# Both do what the stored run wants, and all examples.
+for it in "$program" "$room/tape"; do
+    # shellcheck disable=SC2046 # the words of the stored run, one a line
+    env -i "$it" $(cat crates/tape_tool/args) <crates/tape_tool/stdin |
+        cmp - crates/tape_tool/stdout
+    docs/examples.sh "$it" >"$room/log" || fail "$it: $(cat "$room/log")"
+done
+
+sum() {
+    sha256sum <"$1" | cut -c1-64
+}
+cat >"$out/PROVED.txt" <<T
+tape $version
+commit     $commit
+toolchain  $(rt version)
+proofs     the last line of 'rt check' in each crate, over the work that earlier checks kept:
+$(cat "$room/verdicts")
+gate       ${gate:-not told}
+examples   $(tail -n 1 "$room/log")
+sums       (SHA-256)
+  $(sum "$object")  tape_tool.o, as the toolchain made it
+  $(sum "$program")  tape_tool, as the toolchain linked it: /usr/bin/tape of the package
+  $(sum "$room/tape")  tape of the archive, linked by $(cc --version | head -n 1)
+  $(sum "$built/tape_tool.stamp")  tape_tool.stamp
+T
+cp "$built/tape_tool.stamp" "$out/"
+
+# What both packages have: pages, an image to try.
+papers() {
+    mkdir -p "$1/docs" "$1/examples"
+    cp README.md "$out/PROVED.txt" "$1/"
+    for it in CHANGELOG.md CONTRIBUTING.md; do
+        [ ! -f "$it" ] || cp "$it" "$1/"
+    done
+    cp docs/*.md "$1/docs/"
+    cp crates/tape_tool/stdin "$1/examples/reel.tap"
+}
+
+# Every file with the commit's time, readable for all.
+settle() {
+    chmod -R u=rwX,go=rX "$1"
+    find "$1" -exec touch -h -d "@$SOURCE_DATE_EPOCH" {} +
+}
+
+# The licence, and what the static program holds besides.
+if [ -f LICENSE ]; then
+    cp LICENSE "$room/copyright"
+else
+    echo "No licence has been granted for this work yet." >"$room/copyright"
+fi
+
+top=tape-$version-x86_64-linux
+papers "$room/$top"
+install -m 755 "$room/tape" "$room/$top/tape"
+cp docs/tape.1 docs/tape.bash "$room/$top/"
+cp -r "$relink" "$room/$top/relink"
+cat "$room/copyright" - >"$room/$top/COPYRIGHT" <<'T'
+The program in this archive has the GNU C library linked in, which is under the LGPL 2.1 or later;
+the folder relink links it with another one.
+T
+settle "$room/$top"
+chmod 755 "$room/$top/tape"
+tar -C "$room" --sort=name --owner=0 --group=0 --numeric-owner -cf - "$top" |
+    gzip -9n >"$out/$top.tar.gz"
+
+deb=$room/deb doc=$room/deb/usr/share/doc/tape-volumes
+papers "$doc"
+cp "$room/copyright" "$doc/copyright"
+mkdir -p "$deb/DEBIAN" "$deb/usr/bin" "$deb/usr/share/man/man1" \
+    "$deb/usr/share/bash-completion/completions"
+cp "$program" "$deb/usr/bin/tape"
+gzip -9nc docs/tape.1 >"$deb/usr/share/man/man1/tape.1.gz"
+cp docs/tape.bash "$deb/usr/share/bash-completion/completions/tape"
+maintainer="Sevumbia maintainers <maintainers@users.noreply.sevumbia.example>"
+day=$(date -u -R -d "@$SOURCE_DATE_EPOCH")
+printf 'tape-volumes (%s) stable; urgency=low\n\n  * Commit %s.\n\n -- %s  %s\n' \
+    "$version" "$commit" "$maintainer" "$day" | gzip -9n >"$doc/changelog.gz"
+size=$(find "$deb/usr" -type f -printf '%s\n' | awk '{n += $1} END {print int(n / 1024)}')
+glibc=$(readelf -V "$program" | grep -o 'GLIBC_[0-9.]*' | sort -uV | tail -n 1 | cut -d_ -f2)
+cat >"$deb/DEBIAN/control" <<T
+Package: tape-volumes
+Version: $version
+Architecture: amd64
+Maintainer: $maintainer
+Installed-Size: $size
+Depends: libc6 (>= $glibc)
+Section: utils
+Priority: optional
+Description: reads and writes ANSI labelled magnetic tapes in .tap images
+ Lists, checks and extracts files on volumes with the labels of ECMA-13 (ANSI
+ X3.27, ISO 1001), from SIMH .tap images of reels in any order, damaged, cut
+ or mixed with others, and writes such volumes. What it reads and writes is
+ proved against definitions: PROVED.txt and docs/PROVED.md.
+T
+(cd "$deb" && find usr -type f -print0 | sort -z | xargs -0 md5sum) >"$deb/DEBIAN/md5sums"
+settle "$deb"
+chmod 755 "$deb/usr/bin/tape"
+find "$deb/DEBIAN" -exec touch -h -d "@$SOURCE_DATE_EPOCH" {} +
+dpkg-deb --root-owner-group -Zxz --threads-max=1 -b "$deb" \
+    "$out/tape-volumes_${version}_amd64.deb" >/dev/null
+
+(cd "$out" && sha256sum -- * >"$room/sums" && mv "$room/sums" SHA256SUMS)
+touch -d "@$SOURCE_DATE_EPOCH" "$out"/*
+ls -l "$out"

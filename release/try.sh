@@ -1,0 +1,44 @@
+#!/bin/bash
+# try.sh OUT ROOT: tries the package of a release in ROOT, a Debian root of its own, as debootstrap
+# makes it: installed there, run with nothing else, all examples, removed. Then the program of the
+# archive with nothing beside it, linked again where ROOT has a C compiler. By hand, as root.
+set -eu
+here=$(dirname "$(readlink -f "$0")")
+out=$(realpath "$1") root=$(realpath "$2")
+top=$(dirname "$here")
+# Runs a command in the root, with the system's folders mounted for as long as it runs.
+inside() {
+    # shellcheck disable=SC2016 # for the inner shell
+    unshare --mount sh -c 'mount -t proc proc "$0/proc" && mount --rbind /dev "$0/dev" &&
+        exec chroot "$0" /usr/bin/env -i PATH=/usr/sbin:/usr/bin:/sbin:/bin LC_ALL=C "$@"' \
+        "$root" "$@"
+}
+rm -rf "$root/try"
+trap 'rm -rf "$root/try" "$out.before" "$out.after"' EXIT
+mkdir -p "$root/try/docs" "$root/try/crates/tape_tool"
+cp "$out"/*.deb "$root/try/"
+cp "$top/README.md" "$root/try/"
+cp "$top/docs/examples.sh" "$top"/docs/*.md "$root/try/docs/"
+cp "$top/crates/tape_tool/stdin" "$top/crates/tape_tool/stdout" "$root/try/crates/tape_tool/"
+find "$root/usr" "$root/etc" -xdev | LC_ALL=C sort >"$out.before"
+
+inside sh -c 'dpkg -i /try/*.deb'
+inside dpkg -L tape-volumes | grep -v '/docs/'
+inside tape --version
+inside sh -c 'tape list </try/crates/tape_tool/stdin | cmp - /try/crates/tape_tool/stdout'
+inside cat /usr/share/doc/tape-volumes/copyright
+inside bash /try/docs/examples.sh /usr/bin/tape
+(cd "$root/usr/bin" && sha256sum tape) | cut -c1-64 | grep -f - "$out/PROVED.txt"
+inside dpkg --purge tape-volumes
+
+find "$root/usr" "$root/etc" -xdev | LC_ALL=C sort >"$out.after"
+diff "$out.before" "$out.after" && echo "nothing is left"
+
+tar -C "$root/try" -xzf "$out"/*.tar.gz
+archive=$(echo "$root"/try/tape-*/)
+chroot "$archive" /tape list <"$top/crates/tape_tool/stdin" | cmp - "$top/crates/tape_tool/stdout"
+echo "the archive's program runs alone"
+if inside sh -c 'command -v cc' >/dev/null; then
+    inside sh -c 'sh /try/tape-*/relink/relink.sh /try/linked && cmp /try/linked /try/tape-*/tape'
+    echo "linked again it is the same"
+fi

@@ -1,0 +1,48 @@
+#!/usr/bin/env python3
+"""verify.py PROGRAM STAMP: says whether STAMP, the file tape_tool.stamp of a release, is that of
+the sources of this clone, of the toolchain on this machine, and of PROGRAM, the package's
+/usr/bin/tape.
+
+It proves nothing and trusts whoever wrote STAMP; it needs the toolchain, whose line enters the sum,
+and takes a second. The status is 0 where all is so, and 1 else.
+"""
+import hashlib
+import importlib.machinery
+import importlib.util
+import os
+import subprocess
+import sys
+
+TOP = os.path.dirname(os.path.dirname(os.path.abspath(__file__)))
+
+
+def toolchain():
+    """The toolchain's own module, which knows what a stamp is the sum of."""
+    page = subprocess.run(["rt", "doc"], stdout=subprocess.PIPE, text=True, check=True).stdout
+    path = os.path.join(os.path.dirname(page.strip()), "bin", "rtlib.py")
+    loader = importlib.machinery.SourceFileLoader("rtlib", path)
+    module = importlib.util.module_from_spec(importlib.util.spec_from_loader("rtlib", loader))
+    sys.modules["rtlib"], sys.dont_write_bytecode = module, True
+    loader.exec_module(module)
+    return module
+
+
+def read(path):
+    with open(path, "rb") as file:
+        return file.read()
+
+
+def main():
+    program, stamp = sys.argv[1:]
+    crate = toolchain().Crate(os.path.join(TOP, "crates", "tape_tool"), TOP, {})
+    words = read(os.path.join(crate.folder, "args")).decode().splitlines()
+    crate.said = {**crate.said, "args": words}
+    said = read(stamp).decode()
+    sources = said[:64] == crate.stamp()
+    made = said[64:] == hashlib.sha256(read(program)).hexdigest()
+    print("sources", "as they were proved" if sources else "are NOT those that were proved")
+    print("program", "as it was built from them" if made else "is NOT the one that was built")
+    return 0 if sources and made else 1
+
+
+sys.exit(main())
