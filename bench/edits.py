@@ -188,14 +188,32 @@ def list_lemmas(names):
     return 1 if lacking else 0
 
 
-def main(names):
+def crates_below():
+    """The crates, each with those that it stands on."""
     lines = text_of(f"{TOP}/crates.txt").splitlines()
-    all_names = [it.partition(":")[0].strip() for it in lines if it and not it.startswith("#")]
+    named = [it.partition(":") for it in lines if it and not it.startswith("#")]
+    return {name.strip(): below.split() for name, _, below in named}
+
+
+def copy_tree(to, names):
+    """Copies the repository, with what is kept in out/ of these crates and those below them."""
+    below = crates_below()
+    kept = {crate for name in names for crate in [name, *below[name]]}
+
+    def left_out(at, files):
+        is_other = os.path.dirname(at) == f"{TOP}/crates" and os.path.basename(at) not in kept
+        return {".git"} & set(files) | ({"out"} & set(files) if is_other else set())
+
+    shutil.copytree(TOP, to, ignore=left_out)
+    os.mkdir(f"{to}/.git")
+
+
+def main(names):
+    all_names = list(crates_below())
     if names == ["--lemmas"]:
         return list_lemmas(all_names)
     with tempfile.TemporaryDirectory() as room:
-        shutil.copytree(TOP, f"{room}/copy", ignore=shutil.ignore_patterns(".git"))
-        os.mkdir(f"{room}/copy/.git")
+        copy_tree(f"{room}/copy", names or all_names)
         crates = [f"{room}/copy/crates/{it}" for it in names or all_names]
         return 1 if sum(try_crate(it) for it in crates if edits_of(it)) else 0
 

@@ -3,9 +3,10 @@
        cc -O2 -shared -fPIC -o fail.so fail.c
        FAIL=r3 LD_PRELOAD=./fail.so tape list reel.tap
 
-   FAIL is a letter and a number: a (allocations), o (files opened), r (reads), w (writes), y (syncs). That call of the
-   kind, counted from 1, fails; with a plus behind the number all later ones fail too. FAIL=s fails none, but lets each read and write
-   pass one byte alone. Where FAIL_COUNTS names a file, the numbers of calls are written into it at the end, in the order
+   FAIL is a letter and a number: a (allocations), o (files opened), r (reads), w (writes), y (syncs, of folders too),
+   n (new names), l (locks: another run has it). That call of the kind, counted from 1, fails; with a plus behind the
+   number all later ones fail too. FAIL=s fails none, but lets each read and write pass one byte alone; FAIL=u fails
+   each lock as a file system that has none. Where FAIL_COUNTS names a file, the numbers of calls are written into it at the end, in the order
    of the letters, and behind them how many bytes the reads gave.
 
    The C library's own calls do not come by here: the program is to do its input and output without stdio. */
@@ -17,14 +18,15 @@
 #include <stdio.h>
 #include <stdlib.h>
 #include <string.h>
+#include <sys/file.h>
 #include <sys/syscall.h>
 #include <sys/types.h>
 #include <sys/uio.h>
 #include <unistd.h>
 
-enum kind { ALLOCATION, OPEN, READ, WRITE, SYNC, KINDS };
+enum kind { ALLOCATION, OPEN, READ, WRITE, SYNC, NAME, LOCK, KINDS };
 
-static const char letters[KINDS + 1] = "aorwy";
+static const char letters[KINDS + 1] = "aorwynl";
 static long counts[KINDS], given; /* calls of each kind; bytes that reads gave */
 
 void *__libc_malloc(size_t size);
@@ -156,14 +158,29 @@ int fdatasync(int file)
     return is_refused(SYNC) ? (int)no_device() : (int)syscall(SYS_fdatasync, file);
 }
 
+int rename(const char *from, const char *to)
+{
+    return is_refused(NAME) ? (int)no_device() : (int)syscall(SYS_renameat2, AT_FDCWD, from, AT_FDCWD, to, 0);
+}
+
+int flock(int file, int how)
+{
+    const char *word = getenv("FAIL");
+    int is_held = is_refused(LOCK);
+    if (!is_held && (!word || word[0] != 'u'))
+        return (int)syscall(SYS_flock, file, how);
+    errno = is_held ? EWOULDBLOCK : ENOLCK;
+    return -1;
+}
+
 __attribute__((destructor)) static void tell_counts(void)
 {
-    char text[100];
+    char text[200];
     const char *path = getenv("FAIL_COUNTS");
     if (!path)
         return;
-    int length = snprintf(text, sizeof text, "%ld %ld %ld %ld %ld %ld\n", counts[ALLOCATION], counts[OPEN],
-        counts[READ], counts[WRITE], counts[SYNC], given);
+    int length = snprintf(text, sizeof text, "%ld %ld %ld %ld %ld %ld %ld %ld\n", counts[ALLOCATION], counts[OPEN],
+        counts[READ], counts[WRITE], counts[SYNC], counts[NAME], counts[LOCK], given);
     long file = syscall(SYS_openat, AT_FDCWD, path, O_WRONLY | O_CREAT | O_TRUNC, 0600);
     if (file >= 0 && syscall(SYS_write, file, text, (size_t)length) == length)
         syscall(SYS_close, file);

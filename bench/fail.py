@@ -1,5 +1,5 @@
 #!/usr/bin/env python3
-"""Refuses every allocation, opening, read and write of the built program in turn, and judges what it answers.
+"""Refuses every call of the system that the built program makes in turn, and judges what it answers.
 By hand; the gate does not run it.
 
     ./fail.py [--program PATH] [COMMAND]..
@@ -31,8 +31,8 @@ from make_worked_image import block, first_label, mark, second_label, volume_lab
 
 HERE = Path(__file__).resolve().parent
 CRATE = HERE.parent / "crates" / "tape_tool"
-# allocations, openings, reads, writes, syncs, as fail.c counts them
-KINDS = "aorwy"
+# allocations, openings, reads, writes, syncs, new names, locks, as fail.c counts them
+KINDS = "aorwynl"
 
 
 @dataclass
@@ -104,11 +104,20 @@ LIST = {"a": NO_MEMORY, "o": {"file fault 2"}, "r": {"image fault 5"}, "w": {"fi
 INIT = {"a": {"run fault 4"}, "o": {"file fault 2"}, "w": {"file fault 4"}}
 WRITE = {
     "a": {"run fault 4", "write fault 10"},
-    "o": {"file fault 2"},
+    # an input is looked for first, and opened again when its turn comes
+    "o": {"file fault 2", "file fault 3"},
     "r": {"file fault 3"},
     "w": {"write fault 9", "file fault 4"},
+    "y": {"file fault 4"},
 }
-EXTRACT = {"a": NO_MEMORY | {"run fault 1"}, "o": {"file fault 2"}, "w": {"file fault 4"}}
+EXTRACT = {
+    "a": NO_MEMORY | {"run fault 1"},
+    "o": {"file fault 2"},
+    "r": {"file fault 3"},
+    "w": {"file fault 4"},
+    "y": {"file fault 4"},
+    "n": {"file fault 4"},
+}
 REELS = r"(REEL \d+ .*\n)*"
 UNREAD = {"o": r"REEL \d+ NOT OPENED\n", "r": r"REEL \d+ (REEL ENDED|NOT LABELLED) IMAGE 5 \d+\n"}
 EXTRACT_REPORTS = {
@@ -289,8 +298,8 @@ def main():
                 continue
             row, count = try_all(options, library, trial)
             rows, wrong = [*rows, row], wrong + count
-    print("| Trial | Allocations | Openings | Reads | Writes | Syncs | Runs | Nothing changed | Wrong answers |")
-    print("|---|---|---|---|---|---|---|---|---|")
+    print("| Trial | Allocations | Openings | Reads | Writes | Syncs | New names | Locks | Runs | Nothing changed | Wrong answers |")
+    print("|---|---|---|---|---|---|---|---|---|---|---|")
     print("\n".join(rows))
     return wrong != 0
 

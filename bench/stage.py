@@ -1,20 +1,24 @@
 #!/usr/bin/env python3
-"""Stops `tape extract --stage` at every call of the system and at random instants, and goes on.
+"""Stops `tape extract --stage` at every call of the system, at random instants and by power cuts, and goes on.
 By hand; the gate does not run it.
 
-    ./stage.py [--program PATH] [--kills N] [--seed N]
+    ./stage.py [--program PATH] [--kills N] [--sets N] [--seed N]
 
-First each allocation, opening, read, write and sync is refused in turn by fail.c, alone and with all
-later ones of its kind: the answer is status 1 with one fault line, or what the report says of an image
-that is not read; and the same command behind it, in which nothing is refused, completes the file.
-A stage that was not made to its end is no stage: its file has to be removed, and then the command
-completes the file.
+First each allocation, opening, read, write, sync, new name and lock is refused in turn by fail.c, alone
+and with all later ones of its kind: the answer is status 1 with one fault line, or what the report says
+of an image that is not read; and the same command behind it, in which nothing is refused, completes the
+file. A stage that was not made to its end is no stage: its file has to be removed, and then the command
+completes the file. Where a file system has no locks nothing changes. A run that finds another one at its
+stage is refused, and leaves it.
 Then the program is killed at random instants, over many reels, until a run completes: what it
-writes is each time the whole file. Prints a line for each wrong answer and a table; the status is 1
-where there was one.
+writes is each time the whole file.
+Last, over sets of random records, the files are made that a power cut could leave at each moment of some
+days, and each is gone on with: power.py tells what is right.
+Prints a line for each wrong answer and two tables; the status is 1 where there was one.
 """
 
 import argparse
+import fcntl
 import os
 import random
 import re
@@ -26,10 +30,11 @@ from pathlib import Path
 
 sys.dont_write_bytecode = True
 import fail
+import power
 
 WORDS = ["extract", "ABC001", "1", "OUT"]
 KEEP = ["--stage", "kept"]
-FAULTS = r"tape: (run fault [14]|stage fault [34]|file fault [24]|image fault 6 at 0)\n"
+FAULTS = r"tape: (run fault [14]|stage fault [347]|file fault [24]|image fault 6 at 0)\n"
 # records on each of the reels on which the program is killed
 RECORDS, REELS = 100_000, 20
 
@@ -74,15 +79,41 @@ def wrong_refusal(options, library, refusal):
         return None, counts
 
 
+def wrong_locks(options, library):
+    """What is wrong where there are no locks, and where another run has the stage."""
+    with tempfile.TemporaryDirectory(prefix="tape-stage-") as place:
+        folder = Path(place)
+        fresh(folder)
+        with open(folder / "kept", "wb") as held:
+            fcntl.flock(held, fcntl.LOCK_EX)
+            done = run(options, folder, ["one.tap", "two.tap"])
+            if (done.returncode, done.stdout, done.stderr) != (1, "", "tape: stage fault 7\n") or os.fstat(held.fileno()).st_size:
+                return f"two runs on one stage: status {done.returncode}, {done.stderr!r}"
+            unlocked = run(options, folder, ["one.tap", "two.tap"], library, "u")
+        if unlocked.returncode != 0 or (folder / "OUT").read_bytes() != fail.LINES:
+            return f"no locks: status {unlocked.returncode}, {unlocked.stderr!r}"
+        return None
+
+
+def compiled(name, folder):
+    """A library that is loaded before the C library."""
+    library = folder / f"{name}.so"
+    subprocess.run(["cc", "-O2", "-Wall", "-shared", "-fPIC", "-o", library, fail.HERE / f"{name}.c"], check=True)
+    return library
+
+
 def refuse_each(options):
     """The number of runs, and of wrong answers."""
     runs, wrong = 0, 0
     with tempfile.TemporaryDirectory(prefix="tape-stage-") as place:
-        library = Path(place) / "fail.so"
-        subprocess.run(["cc", "-O2", "-Wall", "-shared", "-fPIC", "-o", library, fail.HERE / "fail.c"], check=True)
+        library = compiled("fail", Path(place))
         why, counts = wrong_refusal(options, library, "")
         if why:
             sys.exit(f"with nothing refused: {why}")
+        why = wrong_locks(options, library)
+        if why:
+            wrong += 1
+            print(why)
         for kind, count in zip(fail.KINDS, counts):
             for refusal in (f"{kind}{n}{behind}" for n in range(1, count + 1) for behind in ("", "+")):
                 why, _ = wrong_refusal(options, library, refusal)
@@ -113,8 +144,9 @@ def kill_at_random(options):
         run(options, folder, names)
         longest = time.monotonic() - began
         while killed < options.kills:
-            for name in ("OUT", "kept"):
-                (folder / name).unlink(missing_ok=True)
+            # a draft of OUT stays where a run was killed
+            for path in (*folder.glob("OUT*"), folder / "kept"):
+                path.unlink(missing_ok=True)
             left = random.randint(1, 12)
             while True:
                 process = subprocess.Popen([options.program, *WORDS, *names, *KEEP], cwd=folder, stdin=subprocess.DEVNULL,
@@ -136,11 +168,29 @@ def kill_at_random(options):
     return killed, completed, wrong
 
 
+def cut_the_power(options):
+    """The rows of a table, one for each set, and how many answers were wrong."""
+    rows, wrong = [], 0
+    with tempfile.TemporaryDirectory(prefix="tape-stage-") as place:
+        library = compiled("record", Path(place))
+        for number in range(options.sets):
+            rng = random.Random(f"{options.seed} {number}")
+            folder = Path(place) / f"set{number}"
+            folder.mkdir()
+            trial = power.Trial(options, library, folder, power.make_plan(options, folder, rng, number), rng)
+            trial.live()
+            wrong += trial.wrong
+            rows.append(f"| {trial.plan.name} | {len(trial.plan.days)} | {trial.states} | {len(trial.judged)} | {trial.unmade} | {trial.wrong} |")
+            print(rows[-1], file=sys.stderr, flush=True)
+    return rows, wrong
+
+
 def main():
     parser = argparse.ArgumentParser(description=__doc__.split("\n\n")[0])
     parser.add_argument("--program", type=Path, default=fail.CRATE / "out" / "tape_tool", help="the built `tape`")
     parser.add_argument("--kills", type=int, default=300, help="how often the program is killed")
-    parser.add_argument("--seed", type=int, default=1, help="of the random instants")
+    parser.add_argument("--sets", type=int, default=12, help="over how many sets the power is cut")
+    parser.add_argument("--seed", type=int, default=1, help="of the random instants, sets and cuts")
     options = parser.parse_args()
     if not options.program.exists():
         sys.exit(f"{options.program} is not there: in crates/tape_tool run `rt run -- --help`, or name it with --program")
@@ -148,10 +198,14 @@ def main():
     random.seed(options.seed)
     counts, runs, wrong = refuse_each(options)
     killed, completed, torn = kill_at_random(options)
-    print("| Allocations | Openings | Reads | Writes | Syncs | Refused runs | Wrong | Kills | Files completed | Wrong |")
-    print("|---|---|---|---|---|---|---|---|---|---|")
-    print("| " + " | ".join(str(n) for n in [*counts[:5], runs, wrong, killed, completed, torn]) + " |")
-    return wrong + torn != 0
+    rows, lost = cut_the_power(options)
+    print("| Allocations | Openings | Reads | Writes | Syncs | New names | Locks | Refused runs | Wrong | Kills | Files completed | Wrong |")
+    print("|---|---|---|---|---|---|---|---|---|---|---|---|")
+    print("| " + " | ".join(str(n) for n in [*counts[:7], runs, wrong, killed, completed, torn]) + " |\n")
+    print("| Set | Days | Power cuts | Different files | Before the stage was made | Wrong |")
+    print("|---|---|---|---|---|---|")
+    print("\n".join(rows))
+    return wrong + torn + lost != 0
 
 
 if __name__ == "__main__":

@@ -1,0 +1,220 @@
+#!/usr/bin/env python3
+"""Stops `tape write` at random instants, at its writes and syncs and on full disks, and looks at what it leaves.
+By hand; the gate does not run it. The full disks are file systems in memory, which take the rights of root.
+
+    ./kills.py [--program PATH] [--kills N] [--refusals N] [--disks N] [--seed N]
+
+Right is, each time: of the volumes that were begun every one but the last is whole. Its image ends by two tape
+marks and an end word, `tape check` calls its section GOOD, and its data blocks, joined to those of the
+volumes before it, are a front of the input. A full disk or a refusal is status 1 and one line, file fault 4.
+Then 9,999 inputs and 256 volumes are written with 64 open files, and the most memory of each is told beside
+that of one input and one volume. Prints a line for each wrong answer and a table; the status is 1 where
+there was one.
+"""
+
+import argparse
+import os
+import random
+import resource
+import struct
+import subprocess
+import sys
+import tempfile
+import time
+from pathlib import Path
+
+sys.dont_write_bytecode = True
+import fail
+
+RECORDS = 30_000
+SHAPE = ["--format", "F", "--block", "800", "--record", "80", "--form", "raw"]
+FULL = "tape: file fault 4\n"
+FILES = 64
+
+
+def items(image):
+    """The blocks of an image in their order, with None for a tape mark, or nothing where it is not whole."""
+    found, at = [], 0
+    while True:
+        if at + 4 > len(image):
+            return None
+        (length,) = struct.unpack_from("<I", image, at)
+        if length == 0xFFFFFFFF:
+            return found if at + 4 == len(image) and found[-2:] == [None, None] else None
+        at += 4
+        if length == 0:
+            found.append(None)
+            continue
+        block, at = image[at : at + length], at + length + length % 2
+        if image[at : at + 4] != struct.pack("<I", length):
+            return None
+        found.append(block)
+        at += 4
+
+
+def data(image):
+    """The data blocks of a whole image of one section, joined."""
+    whole = items(image)
+    if whole is None:
+        return None
+    first = whole.index(None)
+    return b"".join(whole[first + 1 : whole.index(None, first + 1)])
+
+
+def what_is_wrong(options, folder, content):
+    """What was wrong of the volumes that are there, if anything was, and how many ended for certain."""
+    images = sorted(folder.glob("KIL*.tap"))
+    if [image.name for image in images] != [f"KIL{number:03}.tap" for number in range(1, len(images) + 1)]:
+        return "a volume is missing", 0
+    ended, joined = images[:-1], b""
+    for image in ended:
+        blocks = data(image.read_bytes())
+        if blocks is None:
+            return f"{image.name} is not whole", 0
+        joined += blocks
+    if content[: len(joined)] != joined:
+        return "the data blocks are no front of the input", 0
+    if ended:
+        told = subprocess.run([options.program, "check", *[str(image) for image in ended]], capture_output=True, text=True, check=False)
+        good = [line for line in told.stdout.splitlines() if line.startswith("SECTION") and line.endswith(" GOOD")]
+        if len(good) != len(ended):
+            return f"check calls {len(good)} of {len(ended)} sections GOOD", 0
+    return None, len(ended)
+
+
+def words(options, capacity, *files):
+    return [options.program, "write", ".", "KIL", str(capacity), *files]
+
+
+def tell(options, counts, case, wrong, ended):
+    counts[0] += 1
+    counts[1] += ended
+    if wrong:
+        counts[2] += 1
+        print(f"{case}: {wrong}")
+
+
+def kill_at_random(options, content):
+    """How many runs were killed, how many volumes had ended, and how many runs left something wrong."""
+    counts, took = [0, 0, 0], None
+    while counts[0] < options.kills:
+        with tempfile.TemporaryDirectory(prefix="tape-kills-") as place:
+            folder = Path(place)
+            (folder / "records").write_bytes(content)
+            line = words(options, options.capacity, "RECORDS=records", *SHAPE)
+            began = time.monotonic()
+            process = subprocess.Popen(line, cwd=folder, stdout=subprocess.DEVNULL, stderr=subprocess.DEVNULL)
+            if took is not None:
+                time.sleep(options.random.uniform(0, took))
+                process.kill()
+            process.wait()
+            if took is None:
+                took = time.monotonic() - began
+            elif process.returncode < 0:
+                tell(options, counts, f"killed, {counts[0]}", *what_is_wrong(options, folder, content))
+    return counts
+
+
+def refuse_each(options, content):
+    """The same where writes and syncs were refused, each alone and with all later ones of its kind."""
+    counts = [0, 0, 0]
+    with tempfile.TemporaryDirectory(prefix="tape-kills-") as place:
+        library = Path(place) / "fail.so"
+        subprocess.run(["cc", "-O2", "-Wall", "-shared", "-fPIC", "-o", library, fail.HERE / "fail.c"], check=True)
+        of_kind = dict(zip(fail.KINDS, refuse(options, content, library, "", [0, 0, 0]), strict=False))
+        for _ in range(options.refusals):
+            kind, later = options.random.choice("wy"), options.random.choice(("", "+"))
+            refuse(options, content, library, f"{kind}{options.random.randint(1, of_kind[kind])}{later}", counts)
+    return counts
+
+
+def refuse(options, content, library, refusal, counts):
+    with tempfile.TemporaryDirectory(prefix="tape-kills-") as place:
+        folder = Path(place)
+        (folder / "records").write_bytes(content)
+        told = os.environ | {"LD_PRELOAD": str(library), "FAIL": refusal, "FAIL_COUNTS": str(folder / "counts")}
+        line = words(options, options.capacity, "RECORDS=records", *SHAPE)
+        done = subprocess.run(line, cwd=folder, env=told, capture_output=True, text=True, check=False)
+        wrong, ended = what_is_wrong(options, folder, content)
+        if done.returncode == 1 and done.stderr not in (FULL, ""):
+            wrong = f"status {done.returncode}, {done.stderr!r}"
+        tell(options, counts, f"refused {refusal}", wrong, ended)
+        return [int(count) for count in (folder / "counts").read_text().split()]
+
+
+def fill_disks(options, content):
+    """The same on disks of many sizes that are too small."""
+    counts = [0, 0, 0]
+    with tempfile.TemporaryDirectory(prefix="tape-kills-") as place:
+        source, disk = Path(place) / "records", Path(place) / "disk"
+        source.write_bytes(content)
+        disk.mkdir()
+        for _ in range(options.disks):
+            size = options.random.randrange(16, len(content) // 1024)
+            subprocess.run(["mount", "-t", "tmpfs", "-o", f"size={size}k", "tape-kills", str(disk)], check=True)
+            try:
+                line = words(options, options.capacity, f"RECORDS={source}", *SHAPE)
+                done = subprocess.run(line, cwd=disk, capture_output=True, text=True, check=False)
+                wrong, ended = what_is_wrong(options, disk, content)
+                if (done.returncode, done.stderr) != (1, FULL):
+                    wrong = f"status {done.returncode}, {done.stderr!r}"
+                tell(options, counts, f"a disk of {size} KB", wrong, ended)
+            finally:
+                subprocess.run(["umount", str(disk)], check=True)
+    return counts
+
+
+def memory(folder, line):
+    """The most memory of a run with 64 open files, in KB, or nothing where it failed."""
+    process = subprocess.Popen(line, cwd=folder, stdout=subprocess.DEVNULL, stderr=subprocess.PIPE,
+        preexec_fn=lambda: resource.setrlimit(resource.RLIMIT_NOFILE, (FILES, FILES)))
+    told = process.stderr.read()
+    _, status, usage = os.wait4(process.pid, 0)
+    process.returncode = os.waitstatus_to_exitcode(status)
+    if process.returncode:
+        print(f"{' '.join(line[:6])}: status {process.returncode}, {told!r}")
+        return None
+    return usage.ru_maxrss
+
+
+def many(options):
+    """The most memory of a run with one input and one volume, with 9,999 inputs, and with 256 volumes."""
+    answers = []
+    for inputs, records, capacity in ((1, 10, 4_000_000), (9_999, 1, 100_000_000), (1, 256 * 20, 2_500)):
+        with tempfile.TemporaryDirectory(prefix="tape-kills-") as place:
+            folder = Path(place)
+            for number in range(inputs):
+                (folder / f"f{number}").write_bytes(b"7" * 80 * records)
+            files = [f"F{number}=f{number}" for number in range(inputs)]
+            answers.append(memory(folder, words(options, capacity, *files, *SHAPE)))
+            answers.append(len(list(folder.glob("KIL*.tap"))))
+    return answers
+
+
+def main():
+    parser = argparse.ArgumentParser(description=__doc__, formatter_class=argparse.RawDescriptionHelpFormatter)
+    parser.add_argument("--program", type=Path, default=fail.CRATE / "out" / "tape_tool", help="the built `tape`")
+    parser.add_argument("--kills", type=int, default=200, help="how often it is killed")
+    parser.add_argument("--refusals", type=int, default=200, help="how many writes and syncs are refused")
+    parser.add_argument("--disks", type=int, default=40, help="how many full disks there are")
+    parser.add_argument("--capacity", type=int, default=60_000, help="the capacity of a volume")
+    parser.add_argument("--seed", type=int, default=1)
+    options = parser.parse_args()
+    if not options.program.exists():
+        sys.exit(f"{options.program} is not there: in crates/tape_tool run `rt run -- --help`, or name it with --program")
+    options.program = str(options.program.resolve())
+    options.random = random.Random(options.seed)
+    content = b"".join(b"%07d" % number + b"x" * 73 for number in range(RECORDS))
+    failed = 0
+    print("| | runs | volumes ended | wrong |\n|---|---|---|---|")
+    for name, step in (("killed", kill_at_random), ("refused", refuse_each), ("full disks", fill_disks)):
+        counts = step(options, content)
+        failed += counts[2]
+        print(f"| {name} | " + " | ".join(str(count) for count in counts) + " |", flush=True)
+    small, one, inputs, of_inputs, volumes, of_volumes = many(options)
+    print(f"one input, {one} volume: {small} KB; 9,999 inputs, {of_inputs} volumes: {inputs} KB; {of_volumes} volumes: {volumes} KB")
+    return 1 if failed or None in (small, inputs, volumes) else 0
+
+
+if __name__ == "__main__":
+    sys.exit(main())

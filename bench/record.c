@@ -1,0 +1,168 @@
+/* Notes what a built program does to one file. Loaded before the C library:
+
+       cc -O2 -shared -fPIC -o record.so record.c
+       RECORD=kept RECORD_LOG=log LD_PRELOAD=./record.so tape extract .. --stage kept
+
+   The log has a record for each call that was answered with success: a letter, a place and a length (8 bytes each,
+   least byte first), and so many bytes. W: these bytes were written at the place. T: the file was cut to the place.
+   Y: it was synced. F: a sync of it failed. D: a folder was synced. P: these bytes went to standard output.
+
+   RECORD_FAIL=N: the N-th sync of the file fails, and no other one. 0: none does. */
+#define _GNU_SOURCE
+#include <errno.h>
+#include <fcntl.h>
+#include <stdarg.h>
+#include <stdint.h>
+#include <stdlib.h>
+#include <string.h>
+#include <sys/stat.h>
+#include <sys/syscall.h>
+#include <sys/uio.h>
+#include <unistd.h>
+
+#define FILES 1024
+/* above the numbers that the program's own files get */
+#define LOG 900
+
+static int is_open_log;
+static char is_noted[FILES];
+static long syncs;
+
+static void note(char letter, uint64_t place, const void *bytes, uint64_t length)
+{
+    char head[17];
+    const char *path = getenv("RECORD_LOG");
+    if (!path)
+        return;
+    if (!is_open_log) {
+        long file = syscall(SYS_openat, AT_FDCWD, path, O_WRONLY | O_CREAT | O_APPEND, 0600);
+        syscall(SYS_dup3, file, LOG, O_CLOEXEC);
+        syscall(SYS_close, file);
+        is_open_log = 1;
+    }
+    head[0] = letter;
+    memcpy(head + 1, &place, 8);
+    memcpy(head + 9, &length, 8);
+    struct iovec pieces[2] = {{head, sizeof head}, {(void *)bytes, length}};
+    if (syscall(SYS_writev, LOG, pieces, 2) != (long)(sizeof head + length))
+        abort();
+}
+
+static int noted(int file)
+{
+    return file >= 0 && file < FILES && is_noted[file];
+}
+
+static int opened(long file, const char *path)
+{
+    const char *name = getenv("RECORD");
+    if (file >= 0 && file < FILES)
+        is_noted[file] = name && strcmp(path, name) == 0;
+    if (file < 0) {
+        errno = (int)-file;
+        return -1;
+    }
+    return (int)file;
+}
+
+static long open_raw(int folder, const char *path, int flags, mode_t mode)
+{
+    long file = syscall(SYS_openat, folder, path, flags, mode);
+    return file < 0 ? -errno : file;
+}
+
+int open(const char *path, int flags, ...)
+{
+    va_list rest;
+    va_start(rest, flags);
+    mode_t mode = flags & (O_CREAT | __O_TMPFILE) ? va_arg(rest, mode_t) : 0;
+    va_end(rest);
+    return opened(open_raw(AT_FDCWD, path, flags, mode), path);
+}
+
+int openat(int folder, const char *path, int flags, ...)
+{
+    va_list rest;
+    va_start(rest, flags);
+    mode_t mode = flags & (O_CREAT | __O_TMPFILE) ? va_arg(rest, mode_t) : 0;
+    va_end(rest);
+    return opened(open_raw(folder, path, flags, mode), path);
+}
+
+int open64(const char *path, int flags, ...) __attribute__((alias("open")));
+int openat64(int folder, const char *path, int flags, ...) __attribute__((alias("openat")));
+
+int close(int file)
+{
+    if (file >= 0 && file < FILES)
+        is_noted[file] = 0;
+    return (int)syscall(SYS_close, file);
+}
+
+static ssize_t written(int file, uint64_t place, const void *bytes, ssize_t done)
+{
+    if (done > 0 && noted(file))
+        note('W', place, bytes, (uint64_t)done);
+    else if (done > 0 && file == STDOUT_FILENO)
+        note('P', 0, bytes, (uint64_t)done);
+    return done;
+}
+
+ssize_t write(int file, const void *bytes, size_t count)
+{
+    uint64_t place = noted(file) ? (uint64_t)syscall(SYS_lseek, file, 0, SEEK_CUR) : 0;
+    return written(file, place, bytes, syscall(SYS_write, file, bytes, count));
+}
+
+ssize_t pwrite(int file, const void *bytes, size_t count, off_t place)
+{
+    return written(file, (uint64_t)place, bytes, syscall(SYS_pwrite64, file, bytes, count, place));
+}
+
+ssize_t pwrite64(int file, const void *bytes, size_t count, off_t place) __attribute__((alias("pwrite")));
+
+/* a part of what is given may always be taken: here the first piece that is not empty */
+ssize_t writev(int file, const struct iovec *pieces, int count)
+{
+    int at = 0;
+    while (at < count - 1 && pieces[at].iov_len == 0)
+        at++;
+    return count > 0 ? write(file, pieces[at].iov_base, pieces[at].iov_len) : 0;
+}
+
+int ftruncate(int file, off_t length)
+{
+    int done = (int)syscall(SYS_ftruncate, file, length);
+    if (done == 0 && noted(file))
+        note('T', (uint64_t)length, NULL, 0);
+    return done;
+}
+
+int ftruncate64(int file, off_t length) __attribute__((alias("ftruncate")));
+
+static int synced(int file, long call)
+{
+    struct stat is;
+    const char *fails = getenv("RECORD_FAIL");
+    if (noted(file) && fails && ++syncs == atol(fails)) {
+        note('F', 0, NULL, 0);
+        errno = EIO;
+        return -1;
+    }
+    int done = (int)syscall(call, file);
+    if (done == 0 && noted(file))
+        note('Y', 0, NULL, 0);
+    else if (done == 0 && fstat(file, &is) == 0 && S_ISDIR(is.st_mode))
+        note('D', 0, NULL, 0);
+    return done;
+}
+
+int fsync(int file)
+{
+    return synced(file, SYS_fsync);
+}
+
+int fdatasync(int file)
+{
+    return synced(file, SYS_fdatasync);
+}
