@@ -1,0 +1,44 @@
+#!/usr/bin/env python3
+"""Says which quotes of docs/PROVED.md and of the crates' README.md are older than the code.
+
+A quote is an indented block without '$ '. Its lines have to stand in one file of crates/*/src or
+crates/*/specs, in the same order; lines of the file may be left out between them, and space at the
+front is not looked at. The last line printed is the number of quotes that differ. By hand, not part
+of the gate.
+"""
+import pathlib
+import re
+import sys
+
+TOP = pathlib.Path(__file__).resolve().parent.parent
+
+
+def lines_of(text):
+    return [" ".join(line.split()) for line in text.splitlines() if line.strip()]
+
+
+def stands_in(quote, source):
+    rest = iter(source)
+    return all(line in rest for line in quote)
+
+
+def quotes_of(page):
+    blocks = re.findall(r"(?:^    .*\n(?:\n(?=    ))?)+", page.read_text(), re.M)
+    return [block for block in blocks if not block.startswith("    $ ")]
+
+
+def main():
+    files = [*TOP.glob("crates/*/src/**/*.rt"), *TOP.glob("crates/*/specs/**/*.antt")]
+    sources = [lines_of(file.read_text()) for file in sorted(files)]
+    count = differ = 0
+    for page in [TOP / "docs/PROVED.md", *sorted(TOP.glob("crates/*/README.md"))]:
+        for block in quotes_of(page):
+            count += 1
+            if not any(stands_in(lines_of(block), source) for source in sources):
+                differ += 1
+                print(f"{page.relative_to(TOP)}: no file has these lines in this order:\n{block}")
+    print(f"{differ} of {count} quotes differ")
+    return 1 if differ else 0
+
+
+sys.exit(main())
