@@ -3,13 +3,16 @@ use std::alloc::{AllocError, Global};
 use tape_core::MemorySink;
 use tape_label::Field;
 
+/// An erase gap.
+pub const GAP: [u8; 4] = [0xFE, 0xFF, 0xFF, 0xFF];
+
 /// What stands on a tape, as the bytes of its image.
 #[derive(Drop)]
 pub struct Image {
     pub alloc: Global,
     pub bytes: Vec<u8>,
-    /// What stands before each word.
-    between: &'static [u8],
+    /// Whether an erase gap stands before each word.
+    gaps: bool,
 }
 
 /// So many of the bytes in front, or all of them where there are no more.
@@ -28,21 +31,27 @@ pub fn set_id() -> Field<6> {
 
 impl Image {
     pub fn new(alloc: Global) -> Image {
-        Image::with(alloc, &[])
-    }
-
-    /// An image with these bytes before each of its words.
-    pub fn with(alloc: Global, between: &'static [u8]) -> Image {
         Image {
             alloc,
             bytes: Vec::new(alloc),
-            between,
+            gaps: false,
+        }
+    }
+
+    /// An image with an erase gap before each of its words.
+    pub fn with_gaps(alloc: Global) -> Image {
+        Image {
+            alloc,
+            bytes: Vec::new(alloc),
+            gaps: true,
         }
     }
 
     /// A word, least byte first.
     pub fn word(&mut self, word: [u8; 4]) -> Result<(), AllocError> {
-        self.bytes.extend_from_slice(self.between)?;
+        if self.gaps {
+            self.bytes.extend_from_slice(&GAP)?;
+        }
         self.bytes.extend_from_slice(&word)
     }
 
@@ -144,14 +153,19 @@ pub const HDR2: &str = "HDR2F0080000080                                   00";
 /// The worked volume: 25 records in blocks of 10, 10 and 5, in 2,484 bytes. The first data block
 /// begins at 268, the others at 1,076 and 1,884; the closing mark at 2,292.
 pub fn payroll(alloc: Global) -> Result<Image, AllocError> {
-    payroll_between(alloc, &[])
+    payroll_on(Image::new(alloc), TRAILERS)
 }
 
-/// The worked volume with these bytes before each of its words.
-pub fn payroll_between(alloc: Global, between: &'static [u8]) -> Result<Image, AllocError> {
-    let second = "EOF2F0080000080                                   00";
-    payroll_on(Image::with(alloc, between), &[EOF_THREE, second])
+/// The worked volume with an erase gap before each of its words.
+pub fn payroll_with_gaps(alloc: Global) -> Result<Image, AllocError> {
+    payroll_on(Image::with_gaps(alloc), TRAILERS)
 }
+
+/// The trailer labels of the worked volume.
+const TRAILERS: &[&str] = &[
+    EOF_THREE,
+    "EOF2F0080000080                                   00",
+];
 
 /// The worked volume with these trailer labels.
 pub fn payroll_with(alloc: Global, trailers: &[&str]) -> Result<Image, AllocError> {

@@ -1,7 +1,7 @@
 //! Listings of images that can't be read on, and of devices that fail.
 use crate::devices::{Dribble, FailsOnce, Narrow};
 use crate::image::{Image, payroll};
-use crate::listing::{GAP, WORKED};
+use crate::listing::WORKED;
 use crate::volumes::cut;
 use std::alloc::{AllocError, Global};
 use std::io::{ErrorKind, Read};
@@ -223,7 +223,7 @@ fn the_last_flush(rt: HostRuntime) -> Result<(), Fail> {
 /// A fault stands behind the gaps before it.
 #[test]
 fn a_fault_behind_gaps(rt: HostRuntime) -> Result<(), Fail> {
-    let mut image = Image::with(rt.alloc(), &GAP);
+    let mut image = Image::with_gaps(rt.alloc());
     image.mark()?;
     image.word([1, 0, 0, 0])?;
     let mut out = Vec::new(rt.alloc());

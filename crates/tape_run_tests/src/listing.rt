@@ -1,14 +1,11 @@
 //! Whole listings.
 use crate::devices::{Dribble, Tail, Zeros};
-use crate::image::{Image, payroll, payroll_between};
+use crate::image::{GAP, Image, payroll, payroll_with_gaps};
 use std::alloc::{AllocError, Global};
 use std::io::{ErrorKind, Read, Write};
 use std::process::Abort;
 use std::test::Fail;
 use tape_run::list_to;
-
-/// An erase gap.
-pub const GAP: [u8; 4] = [0xFE, 0xFF, 0xFF, 0xFF];
 
 /// The thirteen lines of the worked image.
 pub const WORKED: &str = "000001 VOL1 ABC001
@@ -43,7 +40,7 @@ fn worked_image(rt: HostRuntime) -> Result<(), Fail> {
 
 #[test]
 fn gaps_are_no_items(rt: HostRuntime) -> Result<(), Fail> {
-    let image = payroll_between(rt.alloc(), &GAP)?;
+    let image = payroll_with_gaps(rt.alloc())?;
     check(&rt, &mut image.bytes.as_slice(), WORKED)
 }
 

@@ -161,8 +161,9 @@ fn is_order<A: Abort>(rt: &A, order: &Extract<'_>) {
 fn words_of_extract(rt: HostRuntime) -> Result<(), Fail> {
     each_is_wrong(&rt, WRONG)?;
     let words = words_of(rt.alloc(), "extract AB 9999 out.txt a.tap b.tap")?;
-    match call_of(rt.alloc(), words.as_slice())?.order {
-        Order::Extract(order) => is_order(&rt, &order),
+    let call = call_of(rt.alloc(), words.as_slice())?;
+    match &call.order {
+        Order::Extract(order) => is_order(&rt, order),
         _ => return Err(Fail::from("an order to extract")),
     }
     Ok(())

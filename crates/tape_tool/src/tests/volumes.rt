@@ -103,11 +103,19 @@ pub fn second_of_two(alloc: Global) -> Result<Image, AllocError> {
 pub fn lost(alloc: Global) -> Result<Image, AllocError> {
     let mut image = Image::new(alloc);
     image.headers()?;
-    let records = payroll(alloc, b"")?;
-    image.block(&records.as_slice()[..800], 0)?;
-    image.block(&records.as_slice()[1600..2000], 0)?;
+    lost_blocks(&mut image, payroll(alloc, b"")?.as_slice())?;
     close(&mut image, &[EOF_THREE, EOF2])?;
     Ok(image)
+}
+
+/// These records in blocks of 800, without the second.
+fn lost_blocks(image: &mut Image, records: &[u8]) -> Result<(), AllocError> {
+    for (number, block) in records.chunks(800).enumerate() {
+        if number != 1 {
+            image.block(block, 0)?;
+        }
+    }
+    Ok(())
 }
 
 /// A volume of the 25 worked records in blocks of 400, of which one cannot be read.
