@@ -33,6 +33,8 @@ def read(path):
 
 
 def main():
+    if len(sys.argv) != 3:
+        sys.exit(__doc__.strip())
     program, stamp = sys.argv[1:]
     crate = toolchain().Crate(os.path.join(TOP, "crates", "tape_tool"), TOP, {})
     words = read(os.path.join(crate.folder, "args")).decode().splitlines()
