@@ -32,6 +32,8 @@ SLOT = 128
 # files that are made for each moment, at least where there is something to choose
 CHOICES = 24
 NO_REEL = ["none.tap"]
+# how many of these files are gone on with under further power cuts, at most
+AGAIN = 20
 # a write is rather done than torn
 WAYS = ("whole", "whole", "front", "back", "sectors", "other", "mixed")
 
@@ -174,7 +176,9 @@ def torn(rng, disk, place, old, data, way):
         bounds = [0, *range(-place % SECTOR or SECTOR, size, SECTOR), size]
         return b"".join(rng.choice((old, data))[begin:end] for begin, end in zip(bounds, bounds[1:]))
     other = other_bytes(rng, disk, size)
-    return other if way == "other" else bytes(map(rng.choice, zip(data, other)))
+    mask = int.from_bytes(rng.randbytes(size), "big") if way == "mixed" else 0
+    new, other = int.from_bytes(data, "big"), int.from_bytes(other, "big")
+    return (new & mask | other & ~mask).to_bytes(size, "big")
 
 
 def leave(rng, disk, content, change, way):
@@ -195,9 +199,9 @@ def leave(rng, disk, content, change, way):
 
 
 def left_by(rng, disk, count):
-    """Files that a power cut may leave now: each subset of few changes, and random ones, torn and out of order."""
+    """Files that a power cut may leave now: each subset of few changes, fronts of many, and random ones, torn and out of order."""
     number = len(disk.unsynced)
-    subsets = range(1 << number) if number <= 4 else [(1 << k) - 1 for k in range(number + 1)]
+    subsets = range(1 << number) if number <= 4 else [(1 << k) - 1 for k in {0, 1, rng.randint(2, number), number - 1, number}]
     found = set()
     random_ones = [(rng.getrandbits(number), False) for _ in range(count if number else 0)]
     for subset, plain in [(subset, True) for subset in subsets] + random_ones:
@@ -232,6 +236,7 @@ class Trial:
     rng: random.Random
     judged: dict = field(default_factory=dict)
     states: int = 0
+    again: int = 0
     unmade: int = 0
     wrong: int = 0
 
@@ -306,7 +311,8 @@ class Trial:
         allowed = {position_of(disk.kept), position_of(disk.shown)} - {None}
         for left in left_by(self.rng, disk, count):
             self.judge(left, allowed, unmade)
-            if again and self.rng.random() < 0.03:
+            if again and self.again < AGAIN and self.rng.random() < 0.03:
+                self.again += 1
                 self.go_on(left, unmade)
 
     def go_on(self, content, unmade):
