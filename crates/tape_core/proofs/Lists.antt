@@ -8,7 +8,7 @@ use Rattle.tape_set.specs.Layout.{Section, Entry, is_data}
 use Rattle.tape_set.specs.Reach.{passes, good_run, both_good, moved, stopped, behind}
 use Rattle.tape_set.specs.declared.position.Position.{Position}
 use Rattle.tape_set.specs.declared.position.Position.TheVariants.{Awaits, Finished}
-use Rattle.tape_set.specs.Position.{awaiting, sect_of, block_of}
+use Rattle.tape_set.specs.Position.{awaiting, block_of}
 use Rattle.std.proofs.lemmas.List.{drop-append-le, length-drop, drop_at, take_all, drop_all}
 
 -- one more entry, read good or a data block
@@ -171,14 +171,6 @@ moved_short p sect block s seen h le =
         ap (λ n. stopped p sect block n) same
 
 -- ---- the position where a block is awaited
-
-pub stopped_sect : (sect block part n : ℕ)
-    → sect_of (stopped (Awaits sect block part) sect block n) ≡ sect
-stopped_sect sect block part n = go (n == block)
-  where
-    go : (t : Bool) → sect_of (cond t (Awaits sect block part) (awaiting sect n)) ≡ sect
-    go true = refl
-    go false = refl
 
 pub stopped_block : (sect block part n : ℕ)
     → block_of (stopped (Awaits sect block part) sect block n) ≡ n

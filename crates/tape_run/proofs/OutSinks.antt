@@ -10,7 +10,6 @@ use Rattle.tape_blocks.proofs.JoinLaws.{join_ends, join_goes_on}
 use Rattle.tape_core.specs.Stands.{weight_of}
 use Rattle.tape_core.proofs.Weights.{weight_of-one_more, front_of_all}
 use Rattle.tape_blocks.specs.declared.form.Form.{Form}
-use Rattle.tape_run.specs.Output.{AppendsFront}
 use Rattle.tape_run.specs.RecordText.{record_end, records_text, part_text}
 use Rattle.tape_run.specs.OutSinks.{begun_text, text_so_far, with_end, TellsAlways, IsText}
 use Rattle.tape_run.specs.OutSinks.{HasTaken}
@@ -134,25 +133,6 @@ put_done contents form out new weight heavier records more begun begins failed p
         known tells ∙ ap Some (sym g.text
             ∙ sym (append-nil (text_so_far form (parts ++ p ∷ [])))),
         λ w. refl,
-      );
-    }
-
--- a part that was not written whole: the sink has failed, and has taken what it had
-pub put_failed : {W : Type 0} (contents : W → Option (List ℕ)) (form : Form) (out new : W)
-    (weight records : ℕ) (begun failed : Bool) (parts : List Portion) (text : List ℕ)
-    → failed ≡ false → AppendsFront (contents out) (contents new) text
-    → HasTaken contents form out weight records begun failed parts
-    → HasTaken contents form new weight records begun true parts
-put_failed contents form out new weight records begun failed parts text works
-    (front, rest, wrote, all) h = record {
-      weighs = h.weighs;
-      counted = h.counted;
-      begins = h.begins;
-      text = λ tells. (
-        front,
-        some_appended (contents out) (contents new) (text_so_far form parts) front
-            (text_alone failed (text_so_far form parts) (contents out) works (h.text tells)) wrote,
-        λ no. absurd (cc),
       );
     }
 

@@ -4,7 +4,7 @@ use Rattle.std.proofs.Common.{if◌then◌else◌, List, [], ◌∷◌, ◌++◌
 use Rattle.std.proofs.Common.{None, refl, sym, ap, subst, ◌∙◌, arith, append-nil}
 use Rattle.std.proofs.lemmas.Bool.Decides.{nat_tests}
 use Rattle.std.proofs.Math.Seq.{take-nil}
-use Rattle.std.specs.Prelude.{Result, Ok, Err, OnOk, OnErr, IsOk}
+use Rattle.std.specs.Prelude.{Result, Ok, Err, OnOk, OnErr}
 use Rattle.tape_blocks.specs.declared.shape.Shape.{Shape}
 use Rattle.tape_blocks.specs.Block.{Portion, Holds}
 use Rattle.tape_blocks.specs.Judged.{begun_behind}
@@ -203,10 +203,6 @@ no_block ReelEnd bytes not is = absurd (cc)
 pub on_err : {A B : Type 0} (r : Result A B) (P : Type 0) → P → OnErr r P
 on_err (Ok x) P p = tt
 on_err (Err e) P p = p
-
-pub from_ok : {A B : Type 0} (r : Result A B) (P : Type 0) → OnOk r P → IsOk r → P
-from_ok (Ok x) P p ok = p
-from_ok (Err e) P p ok = absurd (cc)
 
 pub from_taken : {B : Type 0} (r : Result (Unit {0}) B) (P : Type 0) → OnOk r P → r ≡ Ok tt → P
 from_taken (Ok x) P p ok = p

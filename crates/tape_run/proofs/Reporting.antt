@@ -1,12 +1,12 @@
 -- What of a report was written, and what of it comes next.
-use Rattle.std.proofs.Common.{◌≡◌, inl, inr, ℕ, ◌+◌, ◌<◌, ◌≤◌, suc, Bool, List}
+use Rattle.std.proofs.Common.{◌≡◌, inl, inr, ℕ, ◌+◌, ◌<◌, suc, Bool, List}
 use Rattle.std.proofs.Common.{[], ◌∷◌, ◌++◌, length, map, take, drop, get_or, slice_set, Option}
 use Rattle.std.proofs.Common.{Result, Ok, Err, IfOk, OnErr, refl, sym, ap, subst, ◌∙◌}
 use Rattle.std.proofs.Common.{arith, append_assoc, append-nil, length-append}
 use Rattle.std.specs.List.{flat_map}
 use Rattle.std.specs.Io.KnownBytes.{Appends}
 use Rattle.std.proofs.KnownBytes.{Appends-trans, Appends-nil}
-use Rattle.std.proofs.lemmas.List.{drop_more, drop_all, drop-set-lt, map-append, length-map}
+use Rattle.std.proofs.lemmas.List.{drop_more, drop-set-lt, map-append, length-map}
 use Rattle.std.proofs.lemmas.List.{take_more, take-append-drop}
 use Rattle.std.proofs.lemmas.List.Concat.{flat_map-append}
 use Rattle.tape_run.specs.declared.section.ImageLine.{ImageLine}
@@ -29,10 +29,6 @@ front_then old mid new a b more all wrote part is = (
   is ∙ ap (λ t. (a ++ t) ++ more) part.3 ∙ ap (λ t. t ++ more) (sym (append_assoc a part.0 part.1))
       ∙ append_assoc (a ++ part.0) part.1 more,
 )
-
--- nothing more was written
-pub none_then : (w : Option (List ℕ)) (all : List ℕ) → AppendsFront w w all
-none_then w all = ([], all, Appends-nil w, refl)
 
 image_lines-more : (n : ℕ) (lines : List (Option ImageLine)) (line : Option ImageLine)
     → image_lines n (lines ++ line ∷ []) ≡ image_lines n lines ++ image_line (n + length lines) line
@@ -130,14 +126,6 @@ one_more X view first now place mid d old w new x y z within is s told =
           (Appends-trans old w new (image_lines 1 s.lines)
           (image_line (place + 1) line) s.wrote told.2);
     }
-
-pub all_told : (X : Type 0) (view : X → Reel) (first now : List X) (place : ℕ) (d : List Told)
-    (old new : Option (List ℕ)) → length now ≤ place → ReadSoFar X view first now place d old new
-    → TellsAll (map view first) d old new
-all_told X view first now place d old new all s =
-    let same : s.done ≡ first =
-    sym (s.split ∙ ap (λ l. s.done ++ l) (drop_all place now all) ∙ append-nil s.done) in
-    (s.lines, subst (λ l. AreRead (map view l) s.lines [] d) same s.read, s.wrote)
 
 -- a fault came at the image at a place
 pub stops_at : (X : Type 0) (view : X → Reel) (first now : List X) (place : ℕ) (mid : List Told)

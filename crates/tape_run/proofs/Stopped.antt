@@ -9,7 +9,6 @@ use Rattle.tape_set.specs.Lawful.{IsLawful}
 use Rattle.tape_set.specs.declared.position.Position.{Position}
 use Rattle.tape_set.specs.Position.{at_part}
 use Rattle.tape_core.specs.Point.{Point}
-use Rattle.tape_core.specs.Weight.{IsFront}
 use Rattle.tape_run.specs.Mount.{Happening, IsMount, cut, after_mount}
 use Rattle.tape_run.specs.declared.script.Step.{Step}
 use Rattle.tape_run.specs.declared.script.Step.TheVariants.{Reel, Save, Restart}
@@ -28,7 +27,6 @@ use Rattle.tape_run.specs.ByTable.{IsCutAt}
 use Rattle.tape_run.specs.Lead.{Lead, lead, StandsThere, StopsBy}
 use Rattle.tape_run.proofs.Notes.{notes_grow}
 use Rattle.tape_run.proofs.Headline.{headline}
-use Rattle.tape_run.proofs.Sessions.{kept_grow, kept_place}
 
 -- ---- results
 
@@ -325,12 +323,6 @@ stopped old new steps bytes fault runs =
     }
 
 -- ---- what is true of each session stays so
-
-pub kept_reel : (old new : Seen) → new.place.set_id ≡ old.place.set_id
-    → new.place.file ≡ old.place.file → new.notes ≡ old.notes → IsFront old.parts new.parts
-    → IsKept old → IsKept new
-kept_reel old new set_id file notes grows k = rw notes (kept_place old.place new.place [] old.notes
-    new.parts set_id file (kept_grow old.place [] old.notes old.parts new.parts grows k))
 
 pub kept_unmoved : (old new : Seen) → Unmoved old new → IsKept old → IsKept new
 kept_unmoved old new u k = rw (u.place, u.parts, u.notes) k

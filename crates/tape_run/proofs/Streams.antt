@@ -149,31 +149,6 @@ count_starts ahead parts weight is e limit =
       few = omega (arith, few, e, limit);
     }
 
--- the number behind one more part
-abbrev pub IsNext : Bool → ℕ → ℕ → Type 0
-IsNext true count next = next ≡ count
-IsNext false count next = count < 999999999999999 → next ≡ count + 1
-
-next_sum : (b : Bool) (count next n m : ℕ) → count + with_end b n ≡ m → m ≤ 999999999999999
-    → IsNext b count next → next + n ≡ m
-next_sum true count next n m h few e = omega (arith, h, e)
-next_sum false count next n m h few e = let one = e (omega (arith, h, few)) in omega (arith, h, one)
-
-pub count_goes_on : (ahead after : List Portion → Type 0) (count next : ℕ) (parts : List Portion)
-    (part : Part) → Counted ahead count parts
-    → ((xs : List Portion) → ahead xs → GivesPart (Ok (Some part)) xs after)
-    → IsNext (leaves part.span) count next → Counted after next parts
-count_goes_on ahead after count next parts part c gives e =
-    let (rest, is, there) = gives c.rest c.is_ahead in
-    let sum : count + with_end (leaves part.span) (ends rest) ≡ ends parts =
-    ap (λ xs. count + ends xs) (sym is) ∙ c.counted in
-    record {
-      rest = rest;
-      is_ahead = there;
-      counted = next_sum (leaves part.span) count next (ends rest) (ends parts) sum c.few e;
-      few = c.few;
-    }
-
 pub count_ended : (ahead after : List Portion → Type 0) (count : ℕ) (parts : List Portion)
     → Counted ahead count parts
     → ((xs : List Portion) → ahead xs → GivesPart (Ok None) xs after)
@@ -243,11 +218,6 @@ stream_ended form ahead left old new parts s e =
     let none : stream form s.rest ≡ [] = stream_none form s.rest (sym s.counted ∙ e) in
     subst (Appends old new)
     (sym (append-nil s.done) ∙ ap (λ t. s.done ++ t) (sym none) ∙ s.text) s.wrote
-
-pub stream_stopped : (form : Form) (ahead : List Portion → Type 0)
-    (left : ℕ) (old new : Option (List ℕ)) (parts : List Portion)
-    → Streams form ahead left old new parts → AppendsFront old new (output_of form parts)
-stream_stopped form ahead left old new parts s = (s.done, stream form s.rest, s.wrote, sym s.text)
 
 pub stream_failed : (form : Form) (ahead after : List Portion → Type 0)
     (left : ℕ) (old mid new : Option (List ℕ)) (parts : List Portion) (part : Part)

@@ -2,10 +2,10 @@
 use Rattle.std.proofs.Common.{◌≡◌, Bool, ℕ, zero, suc, ◌+◌, ◌<◌, ◌≤◌, List, [], ◌∷◌, ◌++◌}
 use Rattle.std.proofs.Common.{length, map, get_or, Option, Some, None, IfSome, IsSome, refl, sym}
 use Rattle.std.proofs.Common.{ap, subst, ◌∙◌, arith, append_assoc, append-nil, true, false, inl}
-use Rattle.std.proofs.Common.{◌&&◌, Ok, length-append}
+use Rattle.std.proofs.Common.{Ok, length-append}
 use Rattle.std.proofs.Math.ListN.{set}
-use Rattle.std.specs.Io.KnownBytes.{Appends, Keeps}
-use Rattle.std.proofs.KnownBytes.{Appends-trans, Appends-nil, Appends-kept}
+use Rattle.std.specs.Io.KnownBytes.{Appends}
+use Rattle.std.proofs.KnownBytes.{Appends-trans}
 use Rattle.tape_blocks.specs.Block.{Portion}
 use Rattle.tape_set.specs.Layout.{FileSet}
 use Rattle.tape_set.specs.Lawful.{IsLawful}
@@ -133,13 +133,6 @@ pub noted : (back : Bool) (bytes : Option (List ℕ)) (o : Opened) (old mid new 
     × IsNoted back (is_doubtful o.answer.answer) m new)
 noted back None o old mid new r s = tt
 noted back (Some b) o old mid new r s = (mid, r, s)
-
--- a session that does not go back, or has no cause to
-pub not_gone : (back doubtful : Bool) (old new : Seen) → (back && doubtful) ≡ false
-    → IsNoted false doubtful old new → IsNoted back doubtful old new
-not_gone back false old new e s = s
-not_gone false true old new e s = s
-not_gone true true old new e s = absurd (cc)
 
 -- what is kept of a session is kept behind a reel too
 pub kept_behind : (back doubtful : Bool) (old new : Seen) → IsNoted back doubtful old new
@@ -324,12 +317,6 @@ are_steps back core old turns last new f = λ bytes told.
 -- ---- calls
 
 -- the lines of at most one image more
-kept_nil : (old new : Option (List ℕ)) → Keeps old new → Appends old new []
-kept_nil old new keeps = Appends-kept old old new [] (Appends-nil old) keeps
-
-pub no_line : (number : ℕ) (old new : Option (List ℕ)) → Keeps old new → IsReported number old new
-no_line number old new keeps = ([], omega arith, ([], [], kept_nil old new keeps, refl))
-
 pub part_line : (number : ℕ) (outcome : Option ReelAnswer) (old new : Option (List ℕ))
     → AppendsFront old new (reel_line number outcome) → IsReported number old new
 part_line number outcome old new (front, rest, wrote, all) =
