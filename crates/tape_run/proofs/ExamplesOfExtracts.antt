@@ -9,7 +9,7 @@ use Rattle.tape_run.specs.Given.{is_device, IsGiven}
 use Rattle.tape_run.specs.Mount.{IsMountOf, foreign_reel}
 use Rattle.tape_run.specs.OutSinks.{IsText}
 use Rattle.tape_run.specs.Reeling.{Opened, AreGiven, AreMounts, Gathers, IsNoted, goes_back}
-use Rattle.tape_run.specs.Reeling.{IsKeptFor}
+use Rattle.tape_run.specs.Reeling.{IsKeptFor, AreSure, is_doubtful}
 use Rattle.tape_run.specs.Seen.{Seen, seen}
 use Rattle.tape_run.specs.Steps.{WentBack}
 use Rattle.tape_core.specs.Point.{Point}
@@ -47,6 +47,10 @@ went_to_last old new c d two (n, many, went) =
     let one : n ≡ 1 = omega (arith, many, ap length two) in
     subst (λ m. WentBack m old new) one went
 
+each_is_sure : (o p : Opened) → AreSure (Some o ∷ Some p ∷ [])
+    → (is_doubtful o.answer.answer ≡ false) × (is_doubtful p.answer.answer ≡ false)
+each_is_sure o p sure = (sure.0, sure.1.0)
+
 pub cases_of_turns : CasesOfTurns
 cases_of_turns = record {
   no_turn = λ a b o. (λ x. x, λ x. x, λ x. x);
@@ -68,6 +72,8 @@ cases_of_turns = record {
   doubtful = refl;
   broken = refl;
   sure = (refl, refl);
+  each_is_sure = each_is_sure;
+  sure_turns = λ o sure. (sure, tt);
   not_noted = λ old new n. n;
   is_noted = λ back old new n. n;
   has_note = λ c. (refl, refl);
@@ -123,6 +129,7 @@ cases_of_outputs = record {
   put = λ records form stands parts p. (p.0, p.1 tt);
   ends = λ first old turns want records form out now e.
       (e.wanted, e.gathers, e.are_steps, e.follows, e.is_written);
+  ends_sure = λ first old want records form out now o sure e. e.gathers (inr (sure, tt));
   ends_now = λ first old turns want records form stands e.
       (e.wanted, e.gathers, e.follows, e.is_put);
   left_unread = λ session images lefts form out now said says want e. e.all;

@@ -1,6 +1,6 @@
 -- What is left where all images were read, or a fault ended that.
 use Rattle.std.proofs.Common.{◌≡◌, Bool, ℕ, ◌⊎◌, List, [], map, Option}
-use Rattle.std.proofs.Common.{None, refl, sym, ap, subst, ◌∙◌, inl}
+use Rattle.std.proofs.Common.{None, refl, sym, ap, subst, ◌∙◌, inl, inr, false}
 use Rattle.std.proofs.Common.{arith, append-nil}
 use Rattle.std.specs.Io.KnownBytes.{Appends}
 use Rattle.std.proofs.KnownBytes.{Appends-trans, Appends-nil}
@@ -10,16 +10,28 @@ use Rattle.tape_set.specs.declared.position.Position.TheVariants.{Awaits, Finish
 use Rattle.tape_set.specs.declared.position.Want.{Want}
 use Rattle.tape_set.specs.Position.{want_at}
 use Rattle.tape_core.specs.Point.{Point}
-use Rattle.tape_run.specs.Seen.{seen}
+use Rattle.tape_core.specs.State.{State}
+use Rattle.tape_run.specs.Seen.{Seen, seen}
 use Rattle.tape_run.specs.Story.{Story}
 use Rattle.tape_blocks.specs.declared.form.Form.{Form}
 use Rattle.tape_run.specs.Output.{AppendsFront}
 use Rattle.tape_run.specs.RecordText.{output_of}
 use Rattle.tape_run.specs.ReelLine.{reel_lines, last_line}
-use Rattle.tape_run.specs.Reeling.{answer_of, TakesAll, StopsReading, Follows, goes_back}
+use Rattle.tape_run.specs.Reeling.{Turn, answer_of, TakesAll, StopsReading, Follows, goes_back}
+use Rattle.tape_run.specs.Reeling.{AreSure}
 use Rattle.tape_run.specs.Extracting.{IsWritten, Extracts, Stops}
 use Rattle.tape_run.proofs.Fitting.{front_more, front_then}
-use Rattle.tape_run.proofs.Turns.{gathers, are_steps}
+use Rattle.tape_run.proofs.Turns.{gathers, sure_follows}
+use Rattle.tape_run.proofs.TurnSteps.{are_steps}
+
+-- A session without a note, or one that met no reel in doubt, never went back.
+stayed : (notes : List Point) (core : State) (old : Seen) (turns : List Turn) (last : State)
+    (new : Seen) → (notes ≡ []) ⊎ AreSure turns → Follows (goes_back notes) core old turns last new
+    → Follows false core old turns last new
+stayed notes core old turns last new (inl none) f =
+    subst (λ (cs : List Point). Follows (goes_back cs) core old turns last new) none f
+stayed notes core old turns last new (inr sure) f =
+    sure_follows (goes_back notes) core old turns last new sure f
 
 pub extracted : {S R : Type 0} (holds : S → List Portion → Type 0)
     (refusals : S → ℕ) (remaining : R → Option (List ℕ)) (old mid : Story S)
@@ -46,9 +58,9 @@ extracted holds refusals remaining old mid images lefts form out written said be
             last = mid.core;
             now = seen refusals mid now;
             follows = f;
-            gathers = λ none. gathers old.core (seen refusals old held) t.turns mid.core
-                (seen refusals mid now) (subst (λ (notes : List Point). Follows (goes_back notes)
-                old.core (seen refusals old held) t.turns mid.core (seen refusals mid now)) none f);
+            gathers = λ never. gathers old.core (seen refusals old held) t.turns mid.core
+                (seen refusals mid now) (stayed old.notes old.core (seen refusals old held) t.turns
+                mid.core (seen refusals mid now) never f);
             are_steps = are_steps (goes_back old.notes) old.core (seen refusals old held) t.turns
                 mid.core (seen refusals mid now) f;
             wanted = is;

@@ -40,6 +40,7 @@ mod Reporting
 mod WholeReports
 mod Streams
 mod Turns
+mod TurnSteps
 mod Extracted
 mod OutSinks
 mod Now

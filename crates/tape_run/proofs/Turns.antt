@@ -1,8 +1,7 @@
 -- Images that were read one after another.
 use Rattle.std.proofs.Common.{◌≡◌, Bool, ℕ, zero, suc, ◌+◌, ◌<◌, ◌≤◌, List, [], ◌∷◌, ◌++◌}
 use Rattle.std.proofs.Common.{length, map, get_or, Option, Some, None, IfSome, IsSome, refl, sym}
-use Rattle.std.proofs.Common.{ap, subst, ◌∙◌, arith, append_assoc, append-nil, true, false, inl}
-use Rattle.std.proofs.Common.{Ok, length-append}
+use Rattle.std.proofs.Common.{ap, subst, ◌∙◌, arith, append_assoc, append-nil, true, false}
 use Rattle.std.proofs.Math.ListN.{set}
 use Rattle.std.specs.Io.KnownBytes.{Appends}
 use Rattle.std.proofs.KnownBytes.{Appends-trans}
@@ -15,19 +14,14 @@ use Rattle.tape_run.specs.declared.answer.ReelAnswer.{ReelAnswer}
 use Rattle.tape_run.specs.Given.{is_device, IsGiven}
 use Rattle.tape_run.specs.Mount.{Happening, IsMountOf}
 use Rattle.tape_run.specs.Seen.{Seen, IsKept}
-use Rattle.tape_run.specs.Runs.{Runs}
-use Rattle.tape_run.specs.declared.script.Step.{Step}
-use Rattle.tape_run.specs.declared.script.Step.TheVariants.{Reel}
-use Rattle.tape_run.proofs.Headline.{headline, took_so_many}
 use Rattle.tape_run.proofs.Sessions.{kept_save, kept_restart}
 use Rattle.tape_run.specs.Steps.{Reeled}
 use Rattle.tape_run.specs.Output.{AppendsFront}
 use Rattle.tape_run.specs.ReelLine.{reel_line, reel_lines}
-use Rattle.tape_run.specs.Reeling.{is_doubtful, IsNoted, IsKeptFor, step_behind, notes_behind}
-use Rattle.tape_run.specs.Reeling.{steps_of, AreTold, AreSteps}
+use Rattle.tape_run.specs.Reeling.{is_doubtful, IsNoted, IsKeptFor}
 use Rattle.tape_run.specs.Reeling.{Turn, Opened, answer_of, AreTurns, Follows}
 use Rattle.tape_run.specs.Reeling.{AreMounts, reached, Arrives, Gathers, IsTurn, IsReported}
-use Rattle.tape_run.specs.Reeling.{IsThere, LedOver}
+use Rattle.tape_run.specs.Reeling.{IsThere, LedOver, AreSure}
 use Rattle.tape_image.specs.Tape.{TapeItem}
 use Rattle.tape_image.specs.Begins.{Stop, Begins}
 use Rattle.tape_core.specs.Table.{mount_of}
@@ -145,6 +139,42 @@ pub kept_for : (back : Bool) (old new : Seen) → (IsKept old → IsKept new) �
     → IsKeptFor back new
 kept_for false old new f k = tt
 kept_for true old new f k = f k
+
+-- where a reel is not in doubt it is noted, whether the session goes back or not
+sure_noted : (back doubtful : Bool) (old new : Seen) → doubtful ≡ false
+    → IsNoted back doubtful old new → IsNoted false doubtful old new
+sure_noted false doubtful old new sure s = s
+sure_noted true false old new sure s = s
+sure_noted true true old new sure s = absurd (cc)
+
+sure_reeled : (back : Bool) (bytes : Option (List ℕ)) (o : Opened) (old new : Seen)
+    → is_doubtful o.answer.answer ≡ false
+    → IfSome bytes (λ b. (m : Seen) × Reeled b (is_device o.answer.fault) old m
+    × IsNoted back (is_doubtful o.answer.answer) m new)
+    → IfSome bytes (λ b. (m : Seen) × Reeled b (is_device o.answer.fault) old m
+    × IsNoted false (is_doubtful o.answer.answer) m new)
+sure_reeled back None o old new sure r = tt
+sure_reeled back (Some b) o old new sure (m, r, s) =
+    (m, r, sure_noted back (is_doubtful o.answer.answer) m new sure s)
+
+-- A session that goes back is, over reels of which none is in doubt, where one is that does not.
+pub sure_follows : (back : Bool) (core : State) (old : Seen) (turns : List Turn) (last : State)
+    (new : Seen) → AreSure turns → Follows back core old turns last new
+    → Follows false core old turns last new
+sure_follows back core old [] last new sure f = f
+sure_follows back core old (None ∷ turns) last new sure (waits, f) =
+    (waits, sure_follows back core old turns last new sure f)
+sure_follows back core old (Some o ∷ turns) last new (sure, more) (next, mid, r, f) = (
+  next,
+  mid,
+  record {
+    waits = r.waits;
+    answers = r.answers;
+    reeled = sure_reeled back o.had o old mid sure r.reeled;
+    place = r.place;
+  },
+  sure_follows back next mid turns last new more f,
+)
 
 -- what one reel gave, and where its mount leads
 pub record GivesOne (failed : Bool) (had : Option (List ℕ)) (old new : Seen) : Type 0 where
@@ -265,54 +295,6 @@ gathers core old (Some o ∷ turns) last new (next, mid, r, f) =
           more_given set o turns old mid new one rest hs lawful mounts placed;
       led = led_more o turns old mid new one rest.given rest.led;
     }
-
--- ---- steps of a run
-
--- one reel, and what was done behind it
-pub step_made : (back doubtful failed : Bool) (old mid behind new : Seen) (b : List ℕ)
-    (bs : List (List ℕ)) (steps : List Step) → Reeled b failed old mid
-    → IsNoted back doubtful mid behind
-    → (length behind.notes ≡ notes_behind doubtful (length old.notes)
-    → Runs behind steps (map Some bs) (Ok tt) new)
-    → Runs old (Reel ∷ step_behind back doubtful (length old.notes) ++ steps) (map Some (b ∷ bs))
-    (Ok tt) new
-step_made back false failed old mid behind new b bs steps r s rest =
-    let count : length behind.notes ≡ length old.notes + 1 =
-    ap length s.notes ∙ length-append mid.notes _ ∙ ap (λ n. length n + 1) r.notes in
-    inl ((failed, mid, r, inl ((behind, s, rest count))))
-step_made false true failed old mid behind new b bs steps r s rest =
-    let count : length behind.notes ≡ length old.notes =
-    ap (λ (z : Seen). length z.notes) s ∙ ap length r.notes in
-    inl ((failed, mid, r, subst (λ z. Runs z steps (map Some bs) (Ok tt) new) s (rest count)))
-step_made true true failed old mid behind new b bs steps r (n, one, w) rest =
-    let had : length old.notes ≡ suc n = omega (arith, one, ap length r.notes) in
-    let count : length behind.notes ≡ length old.notes =
-    ap length w.notes ∙ took_so_many n mid.notes (omega (arith, one)) ∙ omega (arith, had) in
-    subst (λ m. Runs old (Reel ∷ step_behind true true m ++ steps) (map Some (b ∷ bs)) (Ok tt) new)
-    (sym had) (inl ((failed, mid, r, inl ((behind, w, rest count)))))
-
-made : (back : Bool) (core : State) (old : Seen) (turns : List Turn) (last : State) (new : Seen)
-    (bytes : List (List ℕ)) → Follows back core old turns last new → AreTold turns bytes
-    → Runs old (steps_of back (length old.notes) turns) (map Some bytes) (Ok tt) new
-made back core old [] last new bytes (same_core, same) told = (refl, same)
-made back core old (None ∷ turns) last new bytes (waits, f) told =
-    made back core old turns last new bytes f told
-made back core old (Some o ∷ turns) last new [] f told = absurd told
-made back core old (Some o ∷ turns) last new (b ∷ bs) (next, behind, r, f) (had, told) =
-    let doubtful = is_doubtful o.answer.answer in
-    let (mid, reeled, noted) = subst (λ h. IfSome h (λ bytes. (mid : Seen)
-    × Reeled bytes (is_device o.answer.fault) old mid
-    × IsNoted back doubtful mid behind)) had r.reeled in
-    step_made back doubtful (is_device o.answer.fault) old mid behind new b bs _ reeled noted
-    (λ count. subst (λ n. Runs behind (steps_of back n turns) (map Some bs) (Ok tt) new) count
-    (made back next behind turns last new bs f told))
-
--- What was done is a run.
-pub are_steps : (back : Bool) (core : State) (old : Seen) (turns : List Turn) (last : State)
-    (new : Seen) → Follows back core old turns last new → AreSteps back turns old new
-are_steps back core old turns last new f = λ bytes told.
-    headline old new (steps_of back (length old.notes) turns) bytes
-    (made back core old turns last new bytes f told)
 
 -- ---- calls
 

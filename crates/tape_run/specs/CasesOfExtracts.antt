@@ -31,7 +31,7 @@ use Rattle.tape_run.specs.ReelLine.{reel_line, reel_lines, last_line}
 use Rattle.tape_run.specs.Reeling.{Opened, Turn, answer_of, AreTurns, IsTurn, Follows, AreGiven}
 use Rattle.tape_run.specs.Reeling.{AreMounts, AreTapes, over_tapes, IsThere, Gathers, Arrives}
 use Rattle.tape_run.specs.Reeling.{reached, is_doubtful, IsNoted, ReadsReel, Takes, TakesAll}
-use Rattle.tape_run.specs.Reeling.{IsReported, StopsReading, goes_back, IsKeptFor}
+use Rattle.tape_run.specs.Reeling.{IsReported, StopsReading, goes_back, IsKeptFor, AreSure}
 use Rattle.tape_run.specs.Reeling.{step_behind, notes_behind, steps_of, AreTold, AreSteps}
 use Rattle.tape_run.specs.Reels.{Reads}
 use Rattle.tape_run.specs.Seen.{Seen, seen, IsKept}
@@ -87,6 +87,11 @@ pub record CasesOfTurns : Type 0 where
   pub doubtful : is_doubtful (Useless (BlockCount 3 4)) ≡ true
   pub broken : is_doubtful (Useless Broken) ≡ true
   pub sure : (is_doubtful SectionDone ≡ false) × (is_doubtful (Useless BadItem) ≡ false)
+  -- turns are sure where no reel that was opened is in doubt
+  pub each_is_sure : (o p : Opened) → AreSure (Some o ∷ Some p ∷ [])
+      → (is_doubtful o.answer.answer ≡ false) × (is_doubtful p.answer.answer ≡ false)
+  pub sure_turns : (o : Opened) → is_doubtful o.answer.answer ≡ false
+      → AreSure (None ∷ Some o ∷ None ∷ [])
   pub not_noted : (old new : Seen) → IsNoted false true old new → new ≡ old
   pub is_noted : (back : Bool) (old new : Seen) → IsNoted back false old new → Saved old new
   -- a session that has a note goes back then, to the one made last
@@ -155,7 +160,7 @@ pub record CasesOfOutputs : Type 0 where
   pub ends : (first : State) (old : Seen) (turns : List Turn) (want : Option Want) (records : ℕ)
       (form : Form) (out now : Known) (e : Ends first old turns want records form out now)
       → (want ≡ want_at e.now.place.file e.now.place.position)
-      × (old.notes ≡ [] → Gathers turns old e.now)
+      × ((old.notes ≡ []) ⊎ AreSure turns → Gathers turns old e.now)
       × AreSteps (goes_back old.notes) turns old e.now
       × Follows (goes_back old.notes) first old turns e.last e.now
       × IsWritten want records form out now e.now.parts
@@ -164,6 +169,11 @@ pub record CasesOfOutputs : Type 0 where
       (e : EndsNow first old turns want records form ⊤ stands)
       → (want ≡ want_at e.now.place.file e.now.place.position) × Gathers turns old e.now
       × Follows false first old turns e.last e.now × IsPut want ⊤ records form stands e.now.parts
+  -- a session with a note that met no reel in doubt is where its mounts lead
+  pub ends_sure : (first : State) (old : Seen) (want : Option Want) (records : ℕ) (form : Form)
+      (out now : Known) (o : Opened) → is_doubtful o.answer.answer ≡ false
+      → (e : Ends first old (Some o ∷ []) want records form out now)
+      → Gathers (Some o ∷ []) old e.now
   -- images are left unread only where nothing is wanted, and each that was read has a line
   pub left_unread : (session : Listed) (images lefts : List (Option Known)) (form : Form)
       (out now said says : Known) (want : Option Want)

@@ -16,7 +16,7 @@ use Rattle.tape_run.specs.Output.{AppendsFront}
 use Rattle.tape_run.specs.RecordText.{output_of}
 use Rattle.tape_run.specs.ReelLine.{reel_lines, last_line}
 use Rattle.tape_run.specs.Reeling.{Turn, answer_of, AreTurns, Follows, Gathers, AreSteps, goes_back}
-use Rattle.tape_run.specs.Reeling.{IsKeptFor}
+use Rattle.tape_run.specs.Reeling.{IsKeptFor, AreSure}
 
 -- what was written where something is wanted, and where nothing is: the records, which were counted
 abbrev pub IsWritten : Option Want → ℕ → Form → Option (List ℕ) → Option (List ℕ) → List Portion
@@ -25,16 +25,17 @@ IsWritten (Some want) records form out written parts = ⊤
 IsWritten None records form out written parts = (records ≡ length (join parts).records)
     × Appends out written (output_of form parts)
 
--- What a session came to, over the images that were read: where it stands is what is wanted, it
--- stands there by the history of its mounts, and where nothing is wanted the records of the parts
--- that it gathered were written. One that has a note went back to the note made last behind each
--- reel that is in doubt; one that has none stays where such a reel left it.
+-- What a session came to, over the images that were read: where it stands is what is wanted, and
+-- where nothing is wanted the records of the parts that it gathered were written. One that came
+-- without notes, or met no reel in doubt, stands there by the history of its mounts. One that has a
+-- note went back to the note made last behind each reel that is in doubt; one that has none stays
+-- where such a reel left it.
 pub record Ends (first : State) (old : Seen) (turns : List Turn) (want : Option Want) (records : ℕ)
     (form : Form) (out written : Option (List ℕ)) : Type 0 where
   pub last : State
   pub now : Seen
   pub follows : Follows (goes_back old.notes) first old turns last now
-  pub gathers : old.notes ≡ [] → Gathers turns old now
+  pub gathers : (old.notes ≡ []) ⊎ AreSure turns → Gathers turns old now
   pub are_steps : AreSteps (goes_back old.notes) turns old now
   pub wanted : want ≡ want_at now.place.file now.place.position
   pub is_written : IsWritten want records form out written now.parts

@@ -69,6 +69,12 @@ is_doubtful (Useless (BlockCount label seen)) = true
 is_doubtful (Useless Broken) = true
 is_doubtful answer = false
 
+-- No reel of an image that was opened is in doubt.
+abbrev pub AreSure : List Turn → Type 0
+AreSure [] = ⊤
+AreSure (None ∷ turns) = AreSure turns
+AreSure (Some o ∷ turns) = (is_doubtful o.answer.answer ≡ false) × AreSure turns
+
 -- The session went back to the note made last.
 abbrev pub WentToLast : Seen → Seen → Type 0
 WentToLast old new = (n : ℕ) × (length old.notes ≡ n + 1) × WentBack n old new

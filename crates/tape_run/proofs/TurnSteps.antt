@@ -1,0 +1,62 @@
+-- What was done with images is a run of steps.
+use Rattle.std.proofs.Common.{◌≡◌, Bool, ℕ, suc, ◌+◌, List, [], ◌∷◌, ◌++◌}
+use Rattle.std.proofs.Common.{length, map, Some, None, IfSome, refl, sym}
+use Rattle.std.proofs.Common.{ap, subst, ◌∙◌, arith, true, false, inl}
+use Rattle.std.proofs.Common.{Ok, length-append}
+use Rattle.tape_core.specs.State.{State}
+use Rattle.tape_run.specs.Given.{is_device}
+use Rattle.tape_run.specs.Seen.{Seen}
+use Rattle.tape_run.specs.Runs.{Runs}
+use Rattle.tape_run.specs.declared.script.Step.{Step}
+use Rattle.tape_run.specs.declared.script.Step.TheVariants.{Reel}
+use Rattle.tape_run.proofs.Headline.{headline, took_so_many}
+use Rattle.tape_run.specs.Steps.{Reeled}
+use Rattle.tape_run.specs.Reeling.{is_doubtful, IsNoted, step_behind, notes_behind}
+use Rattle.tape_run.specs.Reeling.{steps_of, AreTold, AreSteps}
+use Rattle.tape_run.specs.Reeling.{Turn, Follows}
+
+-- one reel, and what was done behind it
+pub step_made : (back doubtful failed : Bool) (old mid behind new : Seen) (b : List ℕ)
+    (bs : List (List ℕ)) (steps : List Step) → Reeled b failed old mid
+    → IsNoted back doubtful mid behind
+    → (length behind.notes ≡ notes_behind doubtful (length old.notes)
+    → Runs behind steps (map Some bs) (Ok tt) new)
+    → Runs old (Reel ∷ step_behind back doubtful (length old.notes) ++ steps) (map Some (b ∷ bs))
+    (Ok tt) new
+step_made back false failed old mid behind new b bs steps r s rest =
+    let count : length behind.notes ≡ length old.notes + 1 =
+    ap length s.notes ∙ length-append mid.notes _ ∙ ap (λ n. length n + 1) r.notes in
+    inl ((failed, mid, r, inl ((behind, s, rest count))))
+step_made false true failed old mid behind new b bs steps r s rest =
+    let count : length behind.notes ≡ length old.notes =
+    ap (λ (z : Seen). length z.notes) s ∙ ap length r.notes in
+    inl ((failed, mid, r, subst (λ z. Runs z steps (map Some bs) (Ok tt) new) s (rest count)))
+step_made true true failed old mid behind new b bs steps r (n, one, w) rest =
+    let had : length old.notes ≡ suc n = omega (arith, one, ap length r.notes) in
+    let count : length behind.notes ≡ length old.notes =
+    ap length w.notes ∙ took_so_many n mid.notes (omega (arith, one)) ∙ omega (arith, had) in
+    subst (λ m. Runs old (Reel ∷ step_behind true true m ++ steps) (map Some (b ∷ bs)) (Ok tt) new)
+    (sym had) (inl ((failed, mid, r, inl ((behind, w, rest count)))))
+
+made : (back : Bool) (core : State) (old : Seen) (turns : List Turn) (last : State) (new : Seen)
+    (bytes : List (List ℕ)) → Follows back core old turns last new → AreTold turns bytes
+    → Runs old (steps_of back (length old.notes) turns) (map Some bytes) (Ok tt) new
+made back core old [] last new bytes (same_core, same) told = (refl, same)
+made back core old (None ∷ turns) last new bytes (waits, f) told =
+    made back core old turns last new bytes f told
+made back core old (Some o ∷ turns) last new [] f told = absurd told
+made back core old (Some o ∷ turns) last new (b ∷ bs) (next, behind, r, f) (had, told) =
+    let doubtful = is_doubtful o.answer.answer in
+    let (mid, reeled, noted) = subst (λ h. IfSome h (λ bytes. (mid : Seen)
+    × Reeled bytes (is_device o.answer.fault) old mid
+    × IsNoted back doubtful mid behind)) had r.reeled in
+    step_made back doubtful (is_device o.answer.fault) old mid behind new b bs _ reeled noted
+    (λ count. subst (λ n. Runs behind (steps_of back n turns) (map Some bs) (Ok tt) new) count
+    (made back next behind turns last new bs f told))
+
+-- What was done is a run.
+pub are_steps : (back : Bool) (core : State) (old : Seen) (turns : List Turn) (last : State)
+    (new : Seen) → Follows back core old turns last new → AreSteps back turns old new
+are_steps back core old turns last new f = λ bytes told.
+    headline old new (steps_of back (length old.notes) turns) bytes
+    (made back core old turns last new bytes f told)
