@@ -57,6 +57,9 @@ cases_of_turns = record {
   a_turn = λ a b o t. t;
   others_stay = λ a b are. are;
   no_more_turns = λ turn are. are;
+  one_begun = λ a b c d are. are;
+  first_turn = λ a b c o are. are.0;
+  none_begun = λ a turn. (λ are. are, λ are. absurd (cc), λ are. are);
   foreign_turn = foreign_turn;
   unasked = λ set given h are. are;
   given_of = given_of;
@@ -94,11 +97,12 @@ text known (more, is, none) =
     let e : known ≡ 7 ∷ more = cc is in
     e ∙ ap (λ m. 7 ∷ m) (none refl)
 
-output_stopped : (session : Listed) (form : Form) (out now said says : Known)
-    → session.notes ≡ [] → StopsListed session form out now said says
+output_stopped : (session : Listed) (images lefts : List (Option Known)) (form : Form)
+    (out now said says : Known)
+    → session.notes ≡ [] → StopsListed session images lefts form out now said says
     → (now ≡ out)
     ⊎ ((s : Seen) × (s.place.position ≡ Finished) × AppendsFront out now (output_of form s.parts))
-output_stopped session form out now said says none s =
+output_stopped session images lefts form out now said says none s =
     let kept : IsKeptFor (goes_back session.notes)
     (seen {S = List Portion} (λ s. 0) session session.sink) =
     subst (λ n. IsKeptFor (goes_back n) (seen {S = List Portion} (λ s. 0) session session.sink))
@@ -108,11 +112,12 @@ output_stopped session form out now said says none s =
       | inr more ↦ inr (seen, more.0, more.1)
     ]
 
-output_stopped_now : (session : Listed) (form : Form) (out now said says : Known)
-    → StopsListedNow session form out now said says
+output_stopped_now : (session : Listed) (images lefts : List (Option Known)) (form : Form)
+    (out now said says : Known)
+    → StopsListedNow session images lefts form out now said says
     → (now ≡ out)
     ⊎ ((s : Seen) × (s.place.position ≡ Finished) × (now ≡ Some (output_of form s.parts)))
-output_stopped_now session form out now said says s =
+output_stopped_now session images lefts form out now said says s =
     let (last, seen, follows, wrote) = s.follows session.sink refl in elim wrote [
       | inl same ↦ inl same
       | inr more ↦ elim more.1 [
@@ -136,8 +141,10 @@ cases_of_outputs = record {
   lines = λ session images lefts form out now said says want e. (e.lines, e.are_turns);
   left_unread_now = λ session images lefts form stands said says want e. e.all;
   lines_now = λ session images lefts form stands said says want e. (e.lines, e.are_turns);
-  one_line_more = λ session form out now said says s. (s.few, s.lines);
-  one_line_more_now = λ session form out now said says s. (s.few, s.lines);
+  one_line_more = λ session images lefts form out now said says s. (s.few, s.lines);
+  one_line_more_now = λ session images lefts form out now said says s. (s.few, s.lines);
+  stopped_turns = λ session images lefts form out now said says s. s.are_turns;
+  stopped_turns_now = λ session images lefts form out now said says s. s.are_turns;
   taken = λ form out weight records begun failed parts t. (t.weighs, t.counted);
   text = text;
   ended = (refl, refl);

@@ -21,7 +21,7 @@ use Rattle.tape_run.specs.Reeling.{Turn, answer_of, TakesAll, StopsReading, Foll
 use Rattle.tape_run.specs.Reeling.{AreSure}
 use Rattle.tape_run.specs.Extracting.{IsWritten, Extracts, Stops}
 use Rattle.tape_run.proofs.Fitting.{front_more, front_then}
-use Rattle.tape_run.proofs.Turns.{gathers, sure_follows}
+use Rattle.tape_run.proofs.Turns.{gathers, sure_follows, all_first}
 use Rattle.tape_run.proofs.TurnSteps.{are_steps}
 
 -- A session without a note, or one that met no reel in doubt, never went back.
@@ -68,15 +68,19 @@ extracted holds refusals remaining old mid images lefts form out written said be
           };
     }
 
-pub stops_reading : {S W : Type 0} (holds : S → List Portion → Type 0)
-    (refusals : S → ℕ) (old : Story S) (form : Form) (contents : W → Option (List ℕ))
+pub stops_reading : {S R W : Type 0} (holds : S → List Portion → Type 0)
+    (refusals : S → ℕ) (remaining : R → Option (List ℕ)) (old : Story S)
+    (images lefts : List (Option R)) (form : Form) (contents : W → Option (List ℕ))
     (out : W) (said says : Option (List ℕ)) (back : Bool) → back ≡ goes_back old.notes
-    → StopsReading holds refusals back old said says
-    → Stops holds refusals old form contents out out said says
-stops_reading holds refusals old form contents out said says back same stopped =
-    let s = subst (λ b. StopsReading holds refusals b old said says) same stopped in
+    → StopsReading holds refusals remaining back old images lefts said says
+    → Stops holds refusals remaining old images lefts form contents out out said says
+stops_reading holds refusals remaining old images lefts form contents out said says back same
+    stopped =
+    let s = subst (λ b. StopsReading holds refusals remaining b old images lefts said says) same
+    stopped in
     record {
       turns = s.turns;
+      are_turns = s.are_turns;
       more = s.more;
       few = s.few;
       want = None;
@@ -96,13 +100,14 @@ pub stops_at_end : {S R W : Type 0} (holds : S → List Portion → Type 0)
     → AppendsFront between says (last_line want records)
     → ((held : List Portion) → holds mid.sink held → (written ≡ out) ⊎ ((mid.core.position
     ≡ Finished) × AppendsFront (contents out) (contents written) (output_of form held)))
-    → Stops holds refusals old form contents out written said says
+    → Stops holds refusals remaining old images lefts form contents out written said says
 stops_at_end holds refusals remaining old mid images lefts form contents out written said between
     says want records back same took last wrote =
     let t = subst (λ b. TakesAll holds refusals remaining b old mid images lefts said between)
     same took in
     record {
       turns = t.turns;
+      are_turns = all_first remaining images lefts t.turns t.are_turns;
       more = [];
       few = omega arith;
       want = want;

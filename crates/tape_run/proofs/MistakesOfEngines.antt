@@ -1,7 +1,7 @@
 -- Answers that the contracts of the engines exclude: each is what a wrong body would give.
 use Rattle.std.proofs.Common.{◌≡◌, ℕ, List, [], ◌∷◌, ◌++◌, length, true, false, refl}
 use Rattle.std.proofs.Common.{ap, ◌∙◌, subst, arith, codes}
-use Rattle.std.specs.Prelude.{Bool, Option, Some, None, Ok, slice_index, map, option_map, ◌<◌}
+use Rattle.std.specs.Prelude.{Bool, Option, Some, None, Ok, Err, slice_index, map, option_map, ◌<◌}
 use Rattle.std.specs.Fmt.{digits}
 use Rattle.std.specs.Io.KnownBytes.{Appends}
 use Rattle.tape_core.specs.State.{State}
@@ -15,6 +15,7 @@ use Rattle.tape_run.specs.CheckLine.{image_lines}
 use Rattle.tape_run.specs.Checked.{AreRead, Reports, IsReport, summary}
 use Rattle.tape_run.specs.ReelLine.{reel_lines, last_line}
 use Rattle.tape_run.specs.Reeling.{Turn, answer_of, AreTurns, Follows, IsKeptFor, goes_back}
+use Rattle.tape_run.specs.Reeling.{AreFirstTurns}
 use Rattle.tape_run.proofs.check.check_to.Reads as check_to
 use Rattle.tape_run.proofs.extract.extract_to.Reads as extract_to
 
@@ -74,6 +75,25 @@ reels_counted_from_0 S R W P LS LR LW LP g d g' d' h e w f p i j κs a want s te
     (subst (λ v. Appends v (p.contents s.1.1.1.1.0.now) lines) old l.ok.lines) in
     absurd (let n : 48 ≡ 49 = ap (λ v. slice_index v 5)
     (r ∙ ap (λ v. reel_lines 1 v ++ last_line (Some want) l.ok.records) answers) in omega arith)
+
+-- of two images of which the first was not opened none makes the other way round
+exchanged : {R : Type 0} (remaining : R → Option (List ℕ)) (r t : R) (turns : List Turn)
+    → AreFirstTurns remaining (None ∷ Some r ∷ []) (Some t ∷ None ∷ []) turns → ⊥
+exchanged remaining r t [] are = absurd (cc)
+exchanged remaining r t (None ∷ turns) are = are.0
+exchanged remaining r t (Some o ∷ turns) are = are.0
+
+-- images_exchanged_at_a_fault: of two images the first was not opened, and behind a fault it is the
+-- second that was not
+images_exchanged_at_a_fault : (S : _) (R : _) (W : _) (P : _) (LS : _) (LR : _) (LW : _) (LP : _)
+    (g : _) (d : _) (g' : _) (d' : _) (h : _) (e : _) (w : _) (f : _) (p : _) (i : _) (j : _)
+    (κs : _) (a : _) (fault : _) (s : _) (r : _) (t : _)
+    → extract_to.Learnt-named S R W P LS LR LW LP g d g' d' h e w f p i j κs a (Err fault) s
+    → a.1.0.now ≡ None ∷ Some r ∷ [] → s.1.0.now ≡ Some t ∷ None ∷ [] → ⊥
+images_exchanged_at_a_fault S R W P LS LR LW LP g d g' d' h e w f p i j κs a fault s r t l old new =
+    let are = subst (λ v. AreFirstTurns h.remaining v s.1.0.now l.err.turns) old l.err.are_turns in
+    exchanged h.remaining r t l.err.turns
+    (subst (λ v. AreFirstTurns h.remaining (None ∷ Some r ∷ []) v l.err.turns) new are)
 
 -- a session of a complete file reads nothing
 no_turn : (back : Bool) (turns : List Turn) (core : State) (old : Seen) (last : State) (now : Seen)

@@ -16,7 +16,7 @@ use Rattle.tape_run.specs.ReelLine.{reel_lines, last_line}
 use Rattle.tape_run.specs.Reeling.{answer_of, TakesAll, StopsReading}
 use Rattle.tape_run.specs.ExtractingNow.{IsPut, ExtractsNow, StopsNow}
 use Rattle.tape_run.proofs.Fitting.{front_more, front_then}
-use Rattle.tape_run.proofs.Turns.{gathers}
+use Rattle.tape_run.proofs.Turns.{gathers, all_first}
 
 pub extracted_now : {S R : Type 0} (holds : S → List Portion → Type 0)
     (refusals : S → ℕ) (remaining : R → Option (List ℕ)) (old mid : Story S)
@@ -47,20 +47,23 @@ extracted_now holds refusals remaining old mid images lefts form tells stands sa
           };
     }
 
-pub stops_reading_now : {S O : Type 0} (holds : S → List Portion → Type 0)
-    (refusals : S → ℕ) (old : Story S) (form : Form) (tells : Type 0)
+pub stops_reading_now : {S R O : Type 0} (holds : S → List Portion → Type 0)
+    (refusals : S → ℕ) (remaining : R → Option (List ℕ)) (old : Story S)
+    (images lefts : List (Option R)) (form : Form) (tells : Type 0)
     (stands : O → Option (List ℕ)) (out : O) (said says : Option (List ℕ))
-    → StopsReading holds refusals false old said says
-    → StopsNow holds refusals old form tells stands out out said says
-stops_reading_now holds refusals old form tells stands out said says s = record {
-  turns = s.turns;
-  more = s.more;
-  few = s.few;
-  want = None;
-  records = 0;
-  lines = front_more said says _ (last_line None 0) s.lines;
-  follows = λ held was. let (core, now, f) = s.follows held was tt in (core, now, f, inl refl);
-}
+    → StopsReading holds refusals remaining false old images lefts said says
+    → StopsNow holds refusals remaining old images lefts form tells stands out out said says
+stops_reading_now holds refusals remaining old images lefts form tells stands out said says s =
+    record {
+      turns = s.turns;
+      are_turns = s.are_turns;
+      more = s.more;
+      few = s.few;
+      want = None;
+      records = 0;
+      lines = front_more said says _ (last_line None 0) s.lines;
+      follows = λ held was. let (core, now, f) = s.follows held was tt in (core, now, f, inl refl);
+    }
 
 pub stops_at_end_now : {S R O : Type 0} (holds : S → List Portion → Type 0)
     (refusals : S → ℕ) (remaining : R → Option (List ℕ)) (old mid : Story S)
@@ -72,10 +75,11 @@ pub stops_at_end_now : {S R O : Type 0} (holds : S → List Portion → Type 0)
     → ((held : List Portion) → holds mid.sink held → (put ≡ out) ⊎ ((mid.core.position
     ≡ Finished) × ((stands put ≡ stands out)
     ⊎ (tells → stands put ≡ Some (output_of form held)))))
-    → StopsNow holds refusals old form tells stands out put said says
+    → StopsNow holds refusals remaining old images lefts form tells stands out put said says
 stops_at_end_now holds refusals remaining old mid images lefts form tells stands out put said
     between says want records t last wrote = record {
       turns = t.turns;
+      are_turns = all_first remaining images lefts t.turns t.are_turns;
       more = [];
       few = omega arith;
       want = want;

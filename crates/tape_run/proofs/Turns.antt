@@ -21,7 +21,7 @@ use Rattle.tape_run.specs.ReelLine.{reel_line, reel_lines}
 use Rattle.tape_run.specs.Reeling.{is_doubtful, IsNoted, IsKeptFor}
 use Rattle.tape_run.specs.Reeling.{Turn, Opened, answer_of, AreTurns, Follows}
 use Rattle.tape_run.specs.Reeling.{AreMounts, reached, Arrives, Gathers, IsTurn, IsReported}
-use Rattle.tape_run.specs.Reeling.{IsThere, LedOver, AreSure}
+use Rattle.tape_run.specs.Reeling.{IsThere, LedOver, AreSure, AreFirstTurns}
 use Rattle.tape_image.specs.Tape.{TapeItem}
 use Rattle.tape_image.specs.Begins.{Stop, Begins}
 use Rattle.tape_core.specs.Table.{mount_of}
@@ -98,6 +98,33 @@ one_turn remaining (o ∷ olds) (x ∷ news) (u ∷ turns) t old new d (suc n) e
   one_turn remaining olds news turns t old new d n
       (omega (arith, e)) (omega (arith, lt)) are is turn,
 )
+
+-- all that was read are turns, and no more was begun
+pub all_first : {R : Type 0} (remaining : R → Option (List ℕ)) (olds news : List (Option R))
+    (turns : List Turn) → AreTurns remaining olds news turns
+    → AreFirstTurns remaining olds news turns
+all_first remaining [] news [] are = are
+all_first remaining (o ∷ olds) [] [] are = absurd (cc)
+all_first remaining (o ∷ olds) (x ∷ news) [] are = cc
+all_first remaining [] news (u ∷ turns) are = absurd are
+all_first remaining (o ∷ olds) [] (u ∷ turns) are = absurd are
+all_first remaining (o ∷ olds) (x ∷ news) (u ∷ turns) (a, are) =
+    (a, all_first remaining olds news turns are)
+
+-- the image behind the turns was begun
+pub one_begun : {R : Type 0} (remaining : R → Option (List ℕ)) (olds news : List (Option R))
+    (turns : List Turn) (new : Option R) (n : ℕ) → n ≡ length turns → n < length news
+    → AreTurns remaining olds news turns → AreFirstTurns remaining olds (set news n new) turns
+one_begun remaining olds [] [] new n e lt are = absurd (omega (arith, lt))
+one_begun remaining [] (x ∷ news) [] new n e lt are = absurd (cc)
+one_begun remaining (o ∷ olds) (x ∷ news) [] new zero e lt are = cc
+one_begun remaining (o ∷ olds) (x ∷ news) [] new (suc n) e lt are = absurd (omega (arith, e))
+one_begun remaining [] news (u ∷ turns) new n e lt are = absurd are
+one_begun remaining (o ∷ olds) [] (u ∷ turns) new n e lt are = absurd are
+one_begun remaining (o ∷ olds) (x ∷ news) (u ∷ turns) new zero e lt are =
+    absurd (omega (arith, e))
+one_begun remaining (o ∷ olds) (x ∷ news) (u ∷ turns) new (suc n) e lt (a, are) =
+    (a, one_begun remaining olds news turns new n (omega (arith, e)) (omega (arith, lt)) are)
 
 pub turns_few : {R : Type 0} (remaining : R → Option (List ℕ)) (olds news : List (Option R))
     (turns : List Turn) → AreTurns remaining olds news turns → length turns ≤ length olds

@@ -32,6 +32,7 @@ use Rattle.tape_run.specs.Reeling.{Opened, Turn, answer_of, AreTurns, IsTurn, Fo
 use Rattle.tape_run.specs.Reeling.{AreMounts, AreTapes, over_tapes, IsThere, Gathers, Arrives}
 use Rattle.tape_run.specs.Reeling.{reached, is_doubtful, IsNoted, ReadsReel, Takes, TakesAll}
 use Rattle.tape_run.specs.Reeling.{IsReported, StopsReading, goes_back, IsKeptFor, AreSure}
+use Rattle.tape_run.specs.Reeling.{AreFirstTurns}
 use Rattle.tape_run.specs.Reeling.{step_behind, notes_behind, steps_of, AreTold, AreSteps}
 use Rattle.tape_run.specs.Reels.{Reads}
 use Rattle.tape_run.specs.Seen.{Seen, seen, IsKept}
@@ -53,6 +54,16 @@ pub record CasesOfTurns : Type 0 where
   pub others_stay : (a b : Option (Option (List ℕ)))
       → AreTurns (λ r. r) (a ∷ []) (b ∷ []) [] → b ∷ [] ≡ a ∷ []
   pub no_more_turns : (turn : Turn) → AreTurns (λ (r : Option (List ℕ)). r) [] [] (turn ∷ []) → ⊥
+  -- at a fault one image more may have been begun, and those behind it are as they were
+  pub one_begun : (a b c d : Option (Option (List ℕ)))
+      → AreFirstTurns (λ r. r) (a ∷ b ∷ []) (c ∷ d ∷ []) [] → d ∷ [] ≡ b ∷ []
+  pub first_turn : (a b c : Option (Option (List ℕ))) (o : Opened)
+      → AreFirstTurns (λ r. r) (a ∷ b ∷ []) (c ∷ b ∷ []) (Some o ∷ [])
+      → IsTurn (λ r. r) a c (Some o)
+  pub none_begun : (a : Option (Option (List ℕ))) (turn : Turn)
+      → (AreFirstTurns (λ r. r) (a ∷ []) [] [] → ⊥)
+      × (AreFirstTurns (λ r. r) [] (a ∷ []) [] → ⊥)
+      × (AreFirstTurns (λ (r : Option (List ℕ)). r) [] [] (turn ∷ []) → ⊥)
   -- a foreign reel whose bytes are known is a mount, and an image that was not opened is none
   pub foreign_turn : (set : FileSet) (o : Opened) (bytes : List ℕ) → o.had ≡ Some bytes
       → IsMountOf set bytes foreign_reel
@@ -133,9 +144,11 @@ abbrev pub ExtractsListed : Listed → List (Option Known) → List (Option Know
 ExtractsListed session images lefts form out written said says want =
     Extracts (λ s ps. s ≡ ps) (λ s. 0) (λ r. r) session images lefts form out written said says want
 
-abbrev pub StopsListed : Listed → Form → Known → Known → Known → Known → Type 0
-StopsListed session form out written said says =
-    Stops (λ s ps. s ≡ ps) (λ s. 0) session form (λ w. w) out written said says
+abbrev pub StopsListed : Listed → List (Option Known) → List (Option Known) → Form → Known → Known
+    → Known → Known → Type 0
+StopsListed session images lefts form out written said says =
+    Stops (λ s ps. s ≡ ps) (λ s. 0) (λ r. r) session images lefts form (λ w. w) out written
+    said says
 
 abbrev pub ExtractsListedNow : Listed → List (Option Known) → List (Option Known) → Form → Known
     → Known → Known → Option Want → Type 0
@@ -143,9 +156,11 @@ ExtractsListedNow session images lefts form stands said says want =
     ExtractsNow (λ s ps. s ≡ ps) (λ s. 0) (λ r. r) session images lefts form ⊤ stands
     said says want
 
-abbrev pub StopsListedNow : Listed → Form → Known → Known → Known → Known → Type 0
-StopsListedNow session form out put said says =
-    StopsNow (λ s ps. s ≡ ps) (λ s. 0) session form ⊤ (λ o. o) out put said says
+abbrev pub StopsListedNow : Listed → List (Option Known) → List (Option Known) → Form → Known
+    → Known → Known → Known → Type 0
+StopsListedNow session images lefts form out put said says =
+    StopsNow (λ s ps. s ≡ ps) (λ s. 0) (λ r. r) session images lefts form ⊤ (λ o. o) out put
+    said says
 
 -- of what was written
 pub record CasesOfOutputs : Type 0 where
@@ -194,20 +209,31 @@ pub record CasesOfOutputs : Type 0 where
       → Appends said says (reel_lines 1 (map answer_of e.turns) ++ last_line want e.records)
       × AreTurns (λ r. r) images lefts e.turns
   -- a fault ends a report behind the line of at most one image more than those that were noted
-  pub one_line_more : (session : Listed) (form : Form) (out now said says : Known)
-      (s : StopsListed session form out now said says) → (length s.more ≤ 1)
+  pub one_line_more : (session : Listed) (images lefts : List (Option Known)) (form : Form)
+      (out now said says : Known)
+      (s : StopsListed session images lefts form out now said says) → (length s.more ≤ 1)
       × AppendsFront said says
       (reel_lines 1 (map answer_of s.turns ++ s.more) ++ last_line s.want s.records)
-  pub one_line_more_now : (session : Listed) (form : Form) (out now said says : Known)
-      (s : StopsListedNow session form out now said says) → (length s.more ≤ 1)
+  pub one_line_more_now : (session : Listed) (images lefts : List (Option Known)) (form : Form)
+      (out now said says : Known)
+      (s : StopsListedNow session images lefts form out now said says) → (length s.more ≤ 1)
       × AppendsFront said says
       (reel_lines 1 (map answer_of s.turns ++ s.more) ++ last_line s.want s.records)
+  -- these are turns of the first of the images
+  pub stopped_turns : (session : Listed) (images lefts : List (Option Known)) (form : Form)
+      (out now said says : Known) (s : StopsListed session images lefts form out now said says)
+      → AreFirstTurns (λ r. r) images lefts s.turns
+  pub stopped_turns_now : (session : Listed) (images lefts : List (Option Known)) (form : Form)
+      (out now said says : Known) (s : StopsListedNow session images lefts form out now said says)
+      → AreFirstTurns (λ r. r) images lefts s.turns
   -- and nothing was done to the output, or the file is complete and a front of it was written
-  pub output_stopped : (session : Listed) (form : Form) (out now said says : Known)
-      → session.notes ≡ [] → StopsListed session form out now said says → (now ≡ out)
+  pub output_stopped : (session : Listed) (images lefts : List (Option Known)) (form : Form)
+      (out now said says : Known)
+      → session.notes ≡ [] → StopsListed session images lefts form out now said says → (now ≡ out)
       ⊎ ((s : Seen) × (s.place.position ≡ Finished) × AppendsFront out now (output_of form s.parts))
-  pub output_stopped_now : (session : Listed) (form : Form) (out now said says : Known)
-      → StopsListedNow session form out now said says → (now ≡ out)
+  pub output_stopped_now : (session : Listed) (images lefts : List (Option Known)) (form : Form)
+      (out now said says : Known)
+      → StopsListedNow session images lefts form out now said says → (now ≡ out)
       ⊎ ((s : Seen) × (s.place.position ≡ Finished) × (now ≡ Some (output_of form s.parts)))
   -- what a sink that writes has taken
   pub taken : (form : Form) (out : Known) (weight records : ℕ) (begun failed : Bool)

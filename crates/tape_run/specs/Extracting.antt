@@ -16,7 +16,7 @@ use Rattle.tape_run.specs.Output.{AppendsFront}
 use Rattle.tape_run.specs.RecordText.{output_of}
 use Rattle.tape_run.specs.ReelLine.{reel_lines, last_line}
 use Rattle.tape_run.specs.Reeling.{Turn, answer_of, AreTurns, Follows, Gathers, AreSteps, goes_back}
-use Rattle.tape_run.specs.Reeling.{IsKeptFor, AreSure}
+use Rattle.tape_run.specs.Reeling.{IsKeptFor, AreSure, AreFirstTurns}
 
 -- what was written where something is wanted, and where nothing is: the records, which were counted
 abbrev pub IsWritten : Option Want → ℕ → Form → Option (List ℕ) → Option (List ℕ) → List Portion
@@ -56,12 +56,14 @@ pub record Extracts {S R : Type 0} (holds : S → List Portion → Type 0) (refu
       → Ends session.core (seen refusals session held) turns want records form out written
 
 -- A fault ended it: what was reported is a front of such a report, with the line of at most one
--- image more than those that were read and noted; and nothing was done to the output, or the file
--- is complete and a front of its records was written.
-pub record Stops {S W : Type 0} (holds : S → List Portion → Type 0) (refusals : S → ℕ)
-    (session : Story S) (form : Form) (contents : W → Option (List ℕ)) (out written : W)
+-- image more than those that were read and noted, which are the first of the images; and nothing
+-- was done to the output, or the file is complete and a front of its records was written.
+pub record Stops {S R W : Type 0} (holds : S → List Portion → Type 0) (refusals : S → ℕ)
+    (remaining : R → Option (List ℕ)) (session : Story S) (images lefts : List (Option R))
+    (form : Form) (contents : W → Option (List ℕ)) (out written : W)
     (said says : Option (List ℕ)) : Type 0 where
   pub turns : List Turn
+  pub are_turns : AreFirstTurns remaining images lefts turns
   pub more : List (Option ReelAnswer)
   pub few : length more ≤ 1
   pub want : Option Want

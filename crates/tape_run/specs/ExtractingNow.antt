@@ -17,7 +17,7 @@ use Rattle.tape_run.specs.Output.{AppendsFront}
 use Rattle.tape_run.specs.RecordText.{output_of}
 use Rattle.tape_run.specs.OutSinks.{HasTaken}
 use Rattle.tape_run.specs.ReelLine.{reel_lines, last_line}
-use Rattle.tape_run.specs.Reeling.{Turn, answer_of, AreTurns, Follows, Gathers}
+use Rattle.tape_run.specs.Reeling.{Turn, answer_of, AreTurns, AreFirstTurns, Follows, Gathers}
 
 -- what a sink that writes holds
 abbrev pub Takes : {W : Type 0} → (W → Option (List ℕ)) → OutSink W → List Portion → Type 0
@@ -61,13 +61,15 @@ pub record ExtractsNow {S R : Type 0} (holds : S → List Portion → Type 0) (r
   pub ends : (held : List Portion) → holds session.sink held
       → EndsNow session.core (seen refusals session held) turns want records form tells stands
 
--- A fault ended it: what was reported is a front of such a report; and nothing was done to what
--- stands under the output's name, or the file is complete and the same stands there, or just its
--- records.
-pub record StopsNow {S O : Type 0} (holds : S → List Portion → Type 0) (refusals : S → ℕ)
-    (session : Story S) (form : Form) (tells : Type 0) (stands : O → Option (List ℕ)) (out put : O)
+-- A fault ended it: what was reported is a front of such a report, of the first of the images; and
+-- nothing was done to what stands under the output's name, or the file is complete and the same
+-- stands there, or just its records.
+pub record StopsNow {S R O : Type 0} (holds : S → List Portion → Type 0) (refusals : S → ℕ)
+    (remaining : R → Option (List ℕ)) (session : Story S) (images lefts : List (Option R))
+    (form : Form) (tells : Type 0) (stands : O → Option (List ℕ)) (out put : O)
     (said says : Option (List ℕ)) : Type 0 where
   pub turns : List Turn
+  pub are_turns : AreFirstTurns remaining images lefts turns
   pub more : List (Option ReelAnswer)
   pub few : length more ≤ 1
   pub want : Option Want

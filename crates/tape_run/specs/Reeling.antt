@@ -63,6 +63,18 @@ AreTurns remaining (old ∷ olds) [] (turn ∷ turns) = ⊥
 AreTurns remaining (old ∷ olds) (new ∷ news) (turn ∷ turns) =
     IsTurn remaining old new turn × AreTurns remaining olds news turns
 
+-- The first of the images are these turns. The one behind them may have been begun; the others are
+-- as they were.
+abbrev pub AreFirstTurns : {R : Type 0} → (R → Option (List ℕ)) → List (Option R) → List (Option R)
+    → List Turn → Type 0
+AreFirstTurns remaining [] news [] = news ≡ []
+AreFirstTurns remaining (old ∷ olds) [] [] = ⊥
+AreFirstTurns remaining (old ∷ olds) (new ∷ news) [] = news ≡ olds
+AreFirstTurns remaining [] news (turn ∷ turns) = ⊥
+AreFirstTurns remaining (old ∷ olds) [] (turn ∷ turns) = ⊥
+AreFirstTurns remaining (old ∷ olds) (new ∷ news) (turn ∷ turns) =
+    IsTurn remaining old new turn × AreFirstTurns remaining olds news turns
+
 -- whether the trailer label of a reel counted other blocks, or that of one before it did
 abbrev pub is_doubtful : Answer → Bool
 is_doubtful (Useless (BlockCount label seen)) = true
@@ -249,10 +261,12 @@ IsReported number said says = (more : List (Option ReelAnswer)) × (length more 
     × AppendsFront said says (reel_lines number more)
 
 -- Images were read in their order, and a fault ended that: a line was reported for each of them,
--- and a front of one for one more.
-pub record StopsReading {S : Type 0} (holds : S → List Portion → Type 0) (refusals : S → ℕ)
-    (back : Bool) (old : Story S) (said says : Option (List ℕ)) : Type 0 where
+-- and a front of one for one more. Those behind that one are as they were.
+pub record StopsReading {S R : Type 0} (holds : S → List Portion → Type 0) (refusals : S → ℕ)
+    (remaining : R → Option (List ℕ)) (back : Bool) (old : Story S)
+    (images lefts : List (Option R)) (said says : Option (List ℕ)) : Type 0 where
   pub turns : List Turn
+  pub are_turns : AreFirstTurns remaining images lefts turns
   pub more : List (Option ReelAnswer)
   pub few : length more ≤ 1
   pub lines : AppendsFront said says (reel_lines 1 (map answer_of turns ++ more))

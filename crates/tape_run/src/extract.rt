@@ -59,7 +59,8 @@ pub fn extract_to<S: PartWalk + Drop, R: Read, W: Write, P: Write>(
         (P.contents report.old) (P.contents report.new)) }
     // While something of the file is wanted `out` is not touched at all.
     ensures untouched { IfOk result (λ want. want ≢ None → out.new ≡ out.old) }
-    ensures err { OnErr result (Stops S.holds S.refusals session form W.contents out.old out.new
+    ensures err { OnErr result (Stops S.holds S.refusals R.remaining session
+        images.old images.new form W.contents out.old out.new
         (P.contents report.old) (P.contents report.new)) }
 {
     let mut session = session;

@@ -24,8 +24,8 @@ pub fn read_images<S: PartSink, R: Read, P: Write>(
 ) -> Result<(), EngineFault>
     ensures ok { OnOk result (TakesAll S.holds S.refusals R.remaining back session.old session.new
         images.old images.new (P.contents report.old) (P.contents report.new)) }
-    ensures err { OnErr result (StopsReading S.holds S.refusals back session.old
-        (P.contents report.old) (P.contents report.new)) }
+    ensures err { OnErr result (StopsReading S.holds S.refusals R.remaining back session.old
+        images.old images.new (P.contents report.old) (P.contents report.new)) }
 {
     for number in 0..images.len() {
         if session.want().is_none() {

@@ -52,8 +52,8 @@ pub fn extract_now<W: Write + Drop, R: Read, O: Place<W>, P: Write>(
         (P.contents report.old) (P.contents report.new)) }
     // While something of the file is wanted the output's name is not touched at all.
     ensures untouched { IfOk result (λ want. want ≢ None → out.new ≡ out.old) }
-    ensures err { OnErr result (StopsNow (Takes W.contents) refused_by session form
-        (TellsAlways W.contents) O.stands out.old out.new
+    ensures err { OnErr result (StopsNow (Takes W.contents) refused_by R.remaining session
+        images.old images.new form (TellsAlways W.contents) O.stands out.old out.new
         (P.contents report.old) (P.contents report.new)) }
 {
     let mut session = session;

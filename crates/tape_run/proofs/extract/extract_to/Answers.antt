@@ -8,8 +8,8 @@ use Rattle.tape_run.proofs.extract.extract_to.Goals as goal
 pub returns-in_err-read_images-clause-err : goal.returns-in_err-read_images-clause-err
 returns-in_err-read_images-clause-err g c =
     on_err c.from_residual.result _
-    (stops_reading g.S.PartSink.holds g.S.PartSink.refusals c.args.session c.args.form
-    g.W.Write.contents c.args.out.now _ _ _ c.has_note-back.ensures
+    (stops_reading g.S.PartSink.holds g.S.PartSink.refusals g.R.Read.remaining c.args.session
+    _ _ c.args.form g.W.Write.contents c.args.out.now _ _ _ c.has_note-back.ensures
     c.in_err-read_images.ensures.err)
 
 pub returns-in_err-end_report-clause-err : goal.returns-in_err-end_report-clause-err

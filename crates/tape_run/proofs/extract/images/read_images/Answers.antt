@@ -4,7 +4,8 @@ use Rattle.std.proofs.lemmas.List.{length-set}
 use Rattle.std.proofs.KnownBytes.{Appends-nil}
 use Rattle.tape_run.specs.Seen.{seen}
 use Rattle.tape_run.proofs.Fitting.{on_err}
-use Rattle.tape_run.proofs.Turns.{front_behind, line_behind, one_turn, follows_then}
+use Rattle.tape_run.proofs.Turns.{front_behind, line_behind, one_turn, one_begun}
+use Rattle.tape_run.proofs.Turns.{follows_then}
 use Rattle.tape_run.proofs.extract.images.read_images.Goals as goal
 
 pub returns-in_err-take_image-clause-err : goal.returns-in_err-take_image-clause-err
@@ -12,8 +13,12 @@ returns-in_err-take_image-clause-err g c =
     let (turns, e, are, long, lines, f) = c.loop-number.invariant in
     let (more, few, part) = c.in_err-take_image.ensures.err in
     let number : c.loop-number.number + 1 ≡ 1 + length turns = omega (arith, e) in
+    let within : c.loop-number.number < length c.loop-number.images =
+    omega (arith, c.loop-number-test.true, long) in
     on_err c.from_residual.result _ (record {
       turns = turns;
+      are_turns = one_begun g.R.Read.remaining c.args.images.now c.loop-number.images turns
+          c.take_image.new.image c.loop-number.number (sym e) within are;
       more = more;
       few = few;
       lines = front_behind _ _ _ turns more (c.loop-number.number + 1) number lines part;

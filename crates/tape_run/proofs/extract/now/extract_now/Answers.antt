@@ -10,8 +10,8 @@ use Rattle.tape_run.proofs.extract.now.extract_now.Goals as goal
 pub returns-in_err-read_images-clause-err : goal.returns-in_err-read_images-clause-err
 returns-in_err-read_images-clause-err g c =
     on_err c.from_residual.result _
-    (stops_reading_now (Takes g.W.Write.contents) refused_by c.args.session c.args.form
-    (TellsAlways g.W.Write.contents) g.O.Place.stands c.args.out.now _ _
+    (stops_reading_now (Takes g.W.Write.contents) refused_by g.R.Read.remaining c.args.session
+    _ _ c.args.form (TellsAlways g.W.Write.contents) g.O.Place.stands c.args.out.now _ _
     c.in_err-read_images.ensures.err)
 
 pub returns-in_err-end_report-clause-err : goal.returns-in_err-end_report-clause-err
