@@ -16,10 +16,9 @@ use Rattle.tape_writer.specs.declared.phase.Phase.{Phase}
 use Rattle.tape_writer.specs.declared.phase.Phase.TheVariants.{Between, Filing, Failed}
 use Rattle.tape_writer.specs.declared.phase.OpenFile.{OpenFile}
 use Rattle.tape_writer.specs.Tapes.{Tapes}
-use Rattle.tape_writer.specs.Faults.{IsEnding, IsOfOut}
+use Rattle.tape_writer.specs.Faults.{IsEnding}
 use Rattle.tape_writer.specs.Told.{Told, opened_by, with_record}
 use Rattle.tape_writer.specs.Inside.{IsInside, IsFiling, IsBetween, IsWaiting, IsStuck}
-use Rattle.tape_writer.specs.Refusals.{IsBeginFault, IsPutFault, IsFinishFault}
 use Rattle.tape_writer.specs.State.{SetState, Stands, IsFilingLast, IsWriting, Leaves, IfFiling}
 use Rattle.tape_writer.specs.State.{IsOutOfVolumes}
 
@@ -241,26 +240,3 @@ leaves_failed old new faults.OutOfVolumes is e = is
 leaves_failed old new faults.Device is e = is
 leaves_failed old new faults.OutOfMemory is e = is
 leaves_failed old new _ is e = absurd e
-
--- the faults that end the writer may come of any record
-pub put_ending : (o : OpenFile) (bytes : List ℕ) (fault : WriteFault) → IsEnding fault
-    → IsPutFault o bytes fault
-put_ending o bytes faults.OutOfVolumes e = tt
-put_ending o bytes faults.Device e = tt
-put_ending o bytes faults.OutOfMemory e = tt
-put_ending o bytes _ e = absurd e
-
--- those of the tapes, of any file that is begun
-pub begin_out : (capacity n : ℕ) (head : Head1) (shape : Shape) (fault : WriteFault)
-    → IsOfOut fault → IsBeginFault capacity n head shape fault
-begin_out capacity n head shape faults.Device e = tt
-begin_out capacity n head shape faults.OutOfMemory e = tt
-begin_out capacity n head shape faults.OutOfVolumes e = absurd (e.2 refl)
-begin_out capacity n head shape _ e = absurd e.0
-
--- and of a set's end
-pub finish_out : (volumes : ℕ) (fault : WriteFault) → IsOfOut fault → IsFinishFault volumes fault
-finish_out volumes faults.Device e = tt
-finish_out volumes faults.OutOfMemory e = tt
-finish_out volumes faults.OutOfVolumes e = absurd (e.2 refl)
-finish_out volumes _ e = absurd e.0

@@ -10,7 +10,7 @@ use Rattle.tape_label.specs.Head1.{IsHead1}
 use Rattle.tape_label.specs.Head2.{IsHead2}
 use Rattle.tape_label.specs.Trail1.{IsTrail1}
 use Rattle.tape_blocks.specs.Block.{Portion, IsUnit, Holds}
-use Rattle.tape_blocks.specs.Tight.{Filled, IsWritten, parts_of_all}
+use Rattle.tape_blocks.specs.Tight.{Filled, IsWritten}
 use Rattle.tape_blocks.specs.Tight as packing
 use Rattle.tape_set.specs.Layout.{Section, Placed, numbered, ends_file}
 use Rattle.tape_set.specs.Before.{blocks_of_all}

@@ -12,10 +12,6 @@ pub rose_from : (a b c : ℕ) → a ≤ b → Rose b c → Rose a c
 rose_from a b c le (inl lt) = inl (omega arith)
 rose_from a b c le (inr top) = inr top
 
-pub rose_to : (a b c : ℕ) → Rose a b → b ≤ c → Rose a c
-rose_to a b c (inl lt) le = inl (omega arith)
-rose_to a b c (inr top) le = inr (omega arith)
-
 pub lasting_same : (H : Tapes → Type 0) (n m : Failures) (u v : ℕ) → Grows n m → v ≡ u → Lasting H n
     u H m v
 lasting_same H n m u v le e = record {
@@ -70,20 +66,6 @@ lasting_err H K n m u v f le e = record {
     held =
         subst (λ z. K (UnderWay z items)) (sym (append-nil volumes)) (f (UnderWay volumes items) h);
     size = e ∙ s;
-  };
-  count = le;
-}
-
--- a volume has ended, and the next has begun
-pub lasting_next : (H K : Tapes → Type 0) (n m : Failures) (u v : ℕ)
-    → ((volumes : List (List TapeItem)) (items : List TapeItem) → H (UnderWay volumes
-    items) → K (UnderWay (volumes ++ items ∷ []) [])) → Grows n m → v ≡ 0 → Lasting H n u K m v
-lasting_next H K n m u v f le e = record {
-  lasts = λ volumes items h s. record {
-    more = items ∷ [];
-    items = [];
-    held = f volumes items h;
-    size = e;
   };
   count = le;
 }

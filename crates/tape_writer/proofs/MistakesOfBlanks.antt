@@ -2,7 +2,6 @@
 -- give.
 use Rattle.std.proofs.Common.{◌≡◌, refl, sym, ap, ◌∙◌, subst, arith, codes, inl, inr}
 use Rattle.std.specs.Prelude.{Some, slice_index}
-use Rattle.std.specs.Fmt.{digits}
 use Rattle.tape_writer.specs.Blank.{IsPrefixByte, IsPrefix, blank_image, blank_volume}
 use Rattle.tape_writer.proofs.blank.blank_volume.Reads as blank_volume_of
 use Rattle.tape_writer.proofs.blank.blank_image.Reads as blank_image_of

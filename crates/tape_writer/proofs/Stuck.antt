@@ -1,9 +1,7 @@
 -- What comes next of the records does not fit, and no volume is left.
 use Rattle.std.proofs.Common.{◌≡◌, ◌<◌, ◌≤◌, ℕ, ◌+◌, List, [], ◌∷◌, ◌++◌, length, false}
 use Rattle.std.proofs.Common.{None, refl, sym, ap, ◌∙◌, subst, arith, drop}
-use Rattle.std.specs.Prelude.{nat_le}
 use Rattle.std.specs.List.{AllByRecursion}
-use Rattle.std.proofs.lemmas.Bool.Decides.{nat_tests}
 use Rattle.std.proofs.lemmas.List.{append-nil}
 use Rattle.tape_label.specs.declared.values.Vol1.{Vol1}
 use Rattle.tape_blocks.specs.declared.shape.Shape.{Shape}
@@ -21,14 +19,12 @@ use Rattle.tape_blocks.proofs.RunLaws.{filled_of, offers_shape, going_block, run
 use Rattle.tape_image.specs.Tape.{block}
 use Rattle.tape_set.specs.Layout.{Section}
 use Rattle.tape_set.specs.Sizes.{item_size}
-use Rattle.tape_set.specs.Tight.{takes_next}
 use Rattle.tape_writer.specs.declared.course.Opened.{Opened}
 use Rattle.tape_writer.specs.declared.course.Course.{Course}
 use Rattle.tape_writer.specs.Tapes.{Tapes}
-use Rattle.tape_writer.specs.Draft.{Draft, IsOpen, open_blocks}
+use Rattle.tape_writer.specs.Draft.{open_blocks}
 use Rattle.tape_writer.specs.Inside.{IsInside, IsPacking, IsFlat, IsStuck, IsLeftOut, Continues}
 use Rattle.tape_writer.proofs.Steps.{block_due, end_refused}
-use Rattle.tape_writer.proofs.Lists.{all_back}
 
 -- ---- what comes next
 
@@ -163,59 +159,3 @@ stuck_end H vs cap set_id file course fs records k none due = record {
   of_records = continues_end file.shape (open_blocks k.draft) records k.tight;
   due = end_refused cap course.used due;
 }
-
--- ---- a writer gives up only near its last volume's end
-
-taken_block : (cap used size room : ℕ) → size ≤ room
-    → nat_le (used + size + 192) cap ≡ false → cap < used + room + 192
-taken_block cap used size room le e = grind (arith, nat_tests)
-
-taken_end : (cap used : ℕ) → nat_le (used + 184 + (180 + 192)) cap ≡ false → cap < used + 556
-taken_end cap used e = grind (arith, nat_tests)
-
-near_by : (shape : Shape) (records : List (List ℕ)) (cap used : ℕ) (blocks next : List Filled)
-    → Continues shape records blocks next → takes_next cap used next ≡ false
-    → cap < used + shape.block_len + 556
-near_by shape records cap used blocks [] k due =
-    let less = taken_end cap used due in
-    omega (arith, less)
-near_by shape records cap used blocks (b ∷ bs) k due =
-    let written = (all_back (packing.IsWritten shape) blocks (b ∷ bs) k.each).0 in
-    let size : item_size (block b.bytes) ≤ shape.block_len + 9 = omega (arith, written.within) in
-    let less = taken_block cap used (item_size (block b.bytes)) (shape.block_len + 9) size due in
-    omega (arith, less)
-
-pub stuck_near_end : (H : Tapes → Type 0) (vs : List Vol1) (cap : ℕ) (set_id : List ℕ)
-    (file : Opened) (course : Course) (fs : List (List Section)) (records : List (List ℕ))
-    → IsStuck H vs cap set_id file course fs records
-    → (length vs ≤ course.volume) × (cap < course.used + file.shape.block_len + 556)
-stuck_near_end H vs cap set_id file course fs records k = (
-  k.none_left,
-  near_by file.shape records cap course.used (open_blocks k.draft) k.next k.of_records k.due,
-)
-
--- that a writer may give up anyhow on its last volume
-abbrev GivesUpAnyhow : Type 1
-GivesUpAnyhow = (H : Tapes → Type 0) (vs : List Vol1) (cap : ℕ) (set_id : List ℕ) (file : Opened)
-    (course : Course) (d : Draft) → IsOpen H vs cap set_id file course d
-    → length vs ≤ course.volume
-    → (records : List (List ℕ)) × IsStuck H vs cap set_id file course d.files records
-
--- it does not follow where there is room
-pub not_anyhow : (H : Tapes → Type 0) (vs : List Vol1) (cap : ℕ) (set_id : List ℕ)
-    (file : Opened) (course : Course) (d : Draft) → IsOpen H vs cap set_id file course d
-    → length vs ≤ course.volume → course.used + file.shape.block_len + 556 ≤ cap
-    → GivesUpAnyhow → ⊥
-not_anyhow H vs cap set_id file course d o none room any =
-    let k = any H vs cap set_id file course d o none in
-    let near = (stuck_near_end H vs cap set_id file course d.files k.0 k.1).1 in
-    absurd (omega (arith, near, room))
-
--- nor does a block that is left out
-pub left_near_end : (n cap : ℕ) (course : Course) (p : Packing) → IsLeftOut n cap course p
-    → cap < course.used + p.shape.block_len + 201
-left_near_end n cap course p l =
-    let size : item_size (block l.text) ≤ p.shape.block_len + 9 = omega (arith, l.given.within) in
-    let less = taken_block cap course.used (item_size (block l.text)) (p.shape.block_len + 9) size
-    l.due in
-    omega (arith, less)

@@ -1,17 +1,14 @@
 -- Images, one volume after another.
 use Rattle.std.proofs.Common.{◌≡◌, ◌≢◌, ℕ, ◌+◌, List, [], ◌∷◌, ◌++◌, Bool, true, false}
 use Rattle.std.proofs.Common.{Option, Some}
-use Rattle.std.proofs.Common.{None, Ok, Err, length, ◌%◌, replicate, refl, sym}
+use Rattle.std.proofs.Common.{None, Ok, length, ◌%◌, replicate, refl, sym}
 use Rattle.std.proofs.Common.{ap, subst, ◌∙◌, arith, append-nil, length-append}
 use Rattle.byteorder.specs.Endian.{little_bytes}
-use Rattle.tape_image.specs.declared.fault.ImageWriteFault.{ImageWriteFault}
-use Rattle.tape_image.specs.declared.fault.ImageWriteFault.TheVariants.{BlockLength, Device}
-use Rattle.tape_image.specs.declared.fault.ImageWriteFault.TheVariants.{Finished, TooLong}
 use Rattle.tape_image.specs.declared.item.Ending.TheVariants.{Marked}
 use Rattle.tape_image.specs.Tape.{TapeItem, block, bad, mark}
 use Rattle.tape_image.specs.Word.{end_word}
-use Rattle.tape_image.specs.Written.{written, is_no_block}
-use Rattle.tape_image.specs.Writer.{Writer, Standing, writing, finished, broken, PutsSome, Puts}
+use Rattle.tape_image.specs.Written.{written}
+use Rattle.tape_image.specs.Writer.{Writer, Standing, writing, finished, broken}
 use Rattle.tape_image.specs.Writer.{PutsFrom, BlockFrom, PutItem}
 use Rattle.tape_image.proofs.Leads.{Leads-nil, Leads-then, Leads-before}
 use Rattle.tape_image.proofs.WrittenItems.{put_item, put_all, known_after}
@@ -108,64 +105,6 @@ block_open : (s : Standing) (content : List ℕ) (old new : Writer)
 block_open writing content old new h = refl
 block_open finished content old new (e, _) = absurd (cc e)
 block_open broken content old new (e, _) = absurd (cc e)
-
-no_end : (w : Writer) → w.standing ≡ broken → w.standing ≡ finished → ⊥
-no_end w a b = cc
-
-no_start : (w : Writer) → w.standing ≡ broken → w.standing ≡ writing → ⊥
-no_start w a b = cc
-
--- a failed device has the items still, and some bytes
-failed : (items : List TapeItem) (bytes : List ℕ) (old new : Writer) → old.standing ≡ writing
-    → PutsSome bytes old new → IsImageSoFar items old → IsImageSoFar items new
-failed items bytes old new is p s = record {
-  bytes = s.bytes;
-  more = p.some;
-  contents =
-      known_after old.contents new.contents s.bytes p.some (contents_open items old s is) p.wrote;
-  leads = s.leads;
-  size = p.size ∙ s.size;
-  sized = s.sized;
-  open_at = λ e. absurd (no_end new p.stands e);
-  whole = λ e. absurd (no_start new p.stands e);
-}
-
-same_so_far : (items : List TapeItem) (old new : Writer) → new ≡ old → IsImageSoFar items old
-    → IsImageSoFar items new
-same_so_far items old new e s = subst (IsImageSoFar items) (sym e) s
-
-puts_err : (fault : ImageWriteFault) (items : List TapeItem) (bytes : List ℕ)
-    (after : Standing) (old new : Writer) → old.standing ≡ writing
-    → Puts bytes after old (Err fault) new → IsImageSoFar items old → IsImageSoFar items new
-puts_err TooLong items bytes after old new is (_, e) s = same_so_far items old new e s
-puts_err Device items bytes after old new is p s = failed items bytes old new is p s
-puts_err BlockLength items bytes after old new is p s = absurd p
-puts_err Finished items bytes after old new is p s = absurd p
-
--- a refused call leaves the items
-pub put_err : (at : Standing) (fault : ImageWriteFault) (items : List TapeItem) (bytes : List ℕ)
-    (after : Standing) (old new : Writer) → old.standing ≡ at
-    → PutsFrom at bytes after old (Err fault) new → IsImageSoFar items old → IsImageSoFar items new
-put_err writing fault items bytes after old new is p s =
-    puts_err fault items bytes after old new is p s
-put_err finished fault items bytes after old new is (_, e) s = same_so_far items old new e s
-put_err broken fault items bytes after old new is (_, e) s = same_so_far items old new e s
-
-long_err : (long : Bool) (P : Type 0) (fault : ImageWriteFault) (items : List TapeItem)
-    (content : List ℕ) (old new : Writer) → old.standing ≡ writing
-    → Rattle.std.specs.Prelude.MatchBool long (P × (new ≡ old)) (Puts (written (block content))
-    writing old (Err fault) new) → IsImageSoFar items old → IsImageSoFar items new
-long_err true P fault items content old new is (_, e) s = same_so_far items old new e s
-long_err false P fault items content old new is p s =
-    puts_err fault items (written (block content)) writing old new is p s
-
-pub block_err : (at : Standing) (fault : ImageWriteFault) (items : List TapeItem) (content : List ℕ)
-    (old new : Writer) → old.standing ≡ at → BlockFrom at content old (Err fault) new
-    → IsImageSoFar items old → IsImageSoFar items new
-block_err writing fault items content old new is p s =
-    long_err (is_no_block content) _ fault items content old new is p s
-block_err finished fault items content old new is (_, e) s = same_so_far items old new e s
-block_err broken fault items content old new is (_, e) s = same_so_far items old new e s
 
 -- the image that is here is the one under way
 under_way_is : (items : List TapeItem) (image : Option Writer) (u : Writer) → image ≡ Some u
@@ -269,13 +208,6 @@ end_at H H' image other u w (UnderWay volumes items) there gone put keep (s, h) 
         spelled = one_image volumes h.images items bytes h.spelled is;
       },
     )
-
--- there is none to end
-pub none_to_end : (H : StoreHolds) (image other : Option Writer) (tapes : Tapes) → image ≡ None
-    → other ≡ None → AreImages H image tapes → AreImages H other (Ended (all_volumes tapes))
-none_to_end H image other (Ended volumes) none gone (_, h) = (gone, h)
-none_to_end H image other (UnderWay volumes items) none gone (s, _) =
-    absurd (none_under_way items image none s)
 
 -- the next image is begun
 pub begun_at : (H H' : StoreHolds) (image : Option Writer) (w : Writer) (k : Option (List ℕ))

@@ -29,7 +29,7 @@ pub(crate) fn first_label(file: &Opened, sect: u16) -> [u8; 80]
 }
 
 /// HDR2, EOF2 or EOV2.
-#[tactic(auto, unfolding(crate::specs::Labels::second_label), using(crate::proofs::LabelLaws::second_fits))]
+#[tactic(auto, unfolding(crate::specs::Labels::second_label))]
 pub(crate) fn second_label(file: &Opened, kind: Kind) -> [u8; 80]
     requires ready { IsReady file.now }
     requires second { IsSecond kind }

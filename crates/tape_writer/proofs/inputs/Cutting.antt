@@ -54,23 +54,6 @@ one_piece cut all left next r new piece s c adds = record {
       ∙ s.same (piece ++ ys) ∙ adds ys;
 }
 
-known_whole : (cut : Cut) (new : List ℕ) (all next : Option (List ℕ)) (front : List ℕ)
-    → Consumes all next front
-    → ((ys : List ℕ) → records_of cut (front ++ ys) ≡ new ∷ records_of cut ys)
-    → IfKnown all next (λ xs ys. to_come cut false xs ≡ given true new (to_come cut false ys))
-known_whole cut new None next front c same = tt
-known_whole cut new (Some xs) None front c same = absurd c
-known_whole cut new (Some xs) (Some ys) front c same = ap (records_of cut) c ∙ same ys
-
--- with one piece more a record is whole
-pub whole_record : (cut : Cut) (all left next : Option (List ℕ)) (r new piece : List ℕ)
-    → SoFar cut all left r → Consumes left next piece → Adds cut r piece new true
-    → IfKnown all next (λ xs ys. to_come cut false xs ≡ given true new (to_come cut false ys))
-whole_record cut all left next r new piece s c adds = known_whole cut new all next
-    (s.front ++ piece) (Consumes-trans all left next s.front piece s.consumed c)
-    (λ ys. ap (records_from cut []) (append_assoc s.front piece ys)
-    ∙ s.same (piece ++ ys) ∙ adds ys)
-
 last_given : (cut : Cut) (r : List ℕ) (more : Bool)
     → MatchBool more (last_record cut r ≡ r ∷ []) (last_record cut r ≡ [])
     → last_record cut r ≡ given more r []

@@ -1,9 +1,9 @@
 -- Files written one after another.
-use Rattle.std.proofs.Common.{◌≡◌, ℕ, suc, ◌+◌, ◌<◌, ◌≤◌, List, [], ◌∷◌, ◌++◌, Option, Some, None}
+use Rattle.std.proofs.Common.{◌≡◌, ℕ, suc, ◌+◌, ◌<◌, List, [], ◌∷◌, ◌++◌, Option, Some, None}
 use Rattle.std.proofs.Common.{length, map, drop, get_or, slice_set, refl, sym, ap, subst, ◌∙◌}
 use Rattle.std.proofs.Common.{arith, append_assoc, append-nil, length-append}
 use Rattle.std.specs.Prelude.{IfSome}
-use Rattle.std.proofs.lemmas.List.{drop_more, drop_all, drop-set-lt, map-append}
+use Rattle.std.proofs.lemmas.List.{drop_more, drop-set-lt, map-append}
 use Rattle.tape_label.specs.declared.values.Head1.{Head1}
 use Rattle.tape_blocks.specs.declared.shape.Shape.{Shape}
 use Rattle.tape_writer.specs.Told.{Told, opened_by}
@@ -112,16 +112,3 @@ wrote_one X view set_id shape cut first now at old mid new x y d within is w ste
           (λ fs m. some_then (view x).1 _ _ (step _ m)
           (λ b n. one_told new set_id shape cut told fs (view x).0 b n)));
     }
-
--- all files were written
-pub wrote_all : (X : Type 0) (view : X → Head1 × Option (List ℕ)) (set_id : List ℕ)
-    (shape : Shape) (cut : Cut) (first now : List X) (at : ℕ) (old new : List Told → Type 0)
-    → length now ≤ at
-    → Wrote X view set_id shape cut first now at old new → (told : List Told)
-    → old told → IfAllKnown (map view first)
-    (λ fs. new (told ++ told_files set_id shape cut (length told + 1) fs))
-wrote_all X view set_id shape cut first now at old new all w told h =
-    let same : w.done ≡ first =
-    sym (w.split ∙ ap (λ l. w.done ++ l) (drop_all at now all) ∙ append-nil w.done) in
-    subst (λ l. IfAllKnown (map view l)
-    (λ fs. new (told ++ told_files set_id shape cut (length told + 1) fs))) same (w.told told h)

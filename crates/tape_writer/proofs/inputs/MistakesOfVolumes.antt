@@ -1,27 +1,20 @@
 -- Refusals of sets and of files from inputs that their contracts exclude: each is answered without
 -- its cause, as a wrong body would.
-use Rattle.std.proofs.Common.{◌≡◌, ◌≢◌, inl, inr, ℕ, ◌<◌, ◌≤◌, List, [], ◌∷◌, ◌++◌, length}
-use Rattle.std.proofs.Common.{refl, sym, subst, arith}
+use Rattle.std.proofs.Common.{◌≡◌, ◌≢◌, inl, inr, ℕ, ◌≤◌, List, [], ◌∷◌, ◌++◌, length}
+use Rattle.std.proofs.Common.{refl, subst, arith}
 use Rattle.std.specs.Prelude.{Option, Some, None, Err, IfSome, Bool, false, map}
 use Rattle.std.specs.List.{AllByRecursion}
-use Rattle.tape_image.specs.Tape.{TapeItem}
-use Rattle.tape_image.specs.Writer.{Writer}
 use Rattle.tape_label.specs.declared.values.Head1.{Head1}
 use Rattle.tape_blocks.specs.declared.shape.Shape.{Shape}
-use Rattle.tape_set.specs.Layout.{Volume}
-use Rattle.tape_set.specs.Sizes.{items_size}
-use Rattle.tape_set.proofs.Measures.{items_size-append}
 use Rattle.tape_writer.specs.declared.course.Opened.{Opened}
-use Rattle.tape_writer.specs.declared.course.Course.{Course}
 use Rattle.tape_writer.specs.declared.fault.WriteFault.TheVariants.{OutOfVolumes, Device}
 use Rattle.tape_writer.specs.declared.fault.SetFault.TheVariants.{Write}
 use Rattle.tape_writer.specs.declared.inputs.cut.Cut.{Cut}
 use Rattle.tape_writer.specs.declared.inputs.set.SetPlan.{SetPlan}
 use Rattle.tape_writer.specs.Tapes.{Tapes, Rose}
 use Rattle.tape_writer.specs.Images.{Holds, IsUnderWay}
-use Rattle.tape_writer.specs.Labels.{header_items}
 use Rattle.tape_writer.specs.Told.{Told, labelled}
-use Rattle.tape_writer.specs.Draft.{Draft, IsOpen, body_items, open_items, data_item}
+use Rattle.tape_writer.specs.Draft.{Draft, IsOpen, open_items}
 use Rattle.tape_writer.specs.State.{SetState, IsWriting}
 use Rattle.tape_writer.specs.ToldFiles.{IfAllKnown}
 use Rattle.tape_writer.specs.NoVolume.{GaveUpIn, GaveUpSet, HasNoVolume}
