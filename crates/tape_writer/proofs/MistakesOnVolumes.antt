@@ -127,6 +127,16 @@ section_number_not_raised : (T : _) (L : _) (g : _) (d : _) (κs : _) (a : _) (s
 section_number_not_raised T L g d κs a s l same =
     absurd (omega (arith, same, ap (λ c. c.sect) l.course))
 
+-- change_told_of_another_volume: at the change the tapes are asked for a volume with another label
+-- than the one that is written on it. What they were asked for is one label alone, as of tapes that
+-- keep it.
+change_told_of_another_volume : (T : _) (L : _) (g : _) (d : _) (κs : _) (a : _) (s : _)
+    (other : Vol1) → change_to.Learnt-named T L g d κs a (Ok tt) s → g.asked s.0.now.out other
+    → ((x y : Vol1) → g.asked s.0.now.out x → g.asked s.0.now.out y → x ≡ y)
+    → (other ≡ a.1.1.0.now → ⊥) → ⊥
+change_told_of_another_volume T L g d κs a s other l wrong one differs =
+    differs (one _ _ wrong l.asked)
+
 -- count_of_the_file: the next section begins with the three blocks that the file has so far
 count_of_the_file : (T : _) (L : _) (g : _) (d : _) (κs : _) (a : _) (s : _)
     → begin_section.Learnt-named T L g d κs a (Ok tt) s → s.0.now.course.count ≡ 3 → ⊥

@@ -115,6 +115,8 @@ impl<S: ImageStore + Drop> TapeOut for ImageTapes<S> {
 
     ghost failures = { λ t. device_failures t.failed };
 
+    ghost asked = { λ _ _. Unit {0} };
+
     fn block(&mut self, bytes: &[u8]) -> Result<(), OutFault> {
         let Some(image) = &mut self.image else {
             return Err(self.fail());

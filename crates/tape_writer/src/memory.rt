@@ -156,6 +156,8 @@ impl TapeOut for MemoryTapes {
 
     ghost failures = { λ m. record { device = m.misused; memory = m.refused } };
 
+    ghost asked = { λ _ _. Unit {0} };
+
     fn block(&mut self, bytes: &[u8]) -> Result<(), OutFault> {
         let Some(items) = &mut self.current else {
             return Err(self.misuse());

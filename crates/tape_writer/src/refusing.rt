@@ -62,6 +62,8 @@ impl<T: TapeOut> TapeOut for Refusing<T> {
       memory = (T.failures w.inner).memory;
     } };
 
+    ghost asked = { λ w volume. T.asked w.inner volume };
+
     fn block(&mut self, bytes: &[u8]) -> Result<(), OutFault> {
         if self.is_refused() {
             return Err(OutFault::Device);

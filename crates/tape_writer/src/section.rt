@@ -2,6 +2,7 @@
 
 ghost use Rattle.std.specs.Prelude.{◌≡◌, ◌≤◌, ◌+◌, OnOk, IfErr};
 ghost use Rattle.tape_writer.specs.Tapes.{Takes};
+ghost use Rattle.tape_label.specs.declared.values.Vol1.{Vol1};
 ghost use Rattle.tape_writer.specs.Lasting.{Lasting};
 ghost use Rattle.tape_writer.specs.Faults.{FailsWith, IsOfOut};
 ghost use Rattle.tape_writer.specs.Labels.{IsReady, header_items, trailer_items};
@@ -33,6 +34,7 @@ impl<T: TapeOut> Tape<T> {
             (T.holds self.old.out) (T.failures self.old.out) self.old.course.used
             (T.holds self.new.out) (T.failures self.new.out) self.new.course.used }
         ensures cause { FailsWith (T.failures self.old.out) result (T.failures self.new.out) }
+        ensures asked { (v : Vol1) → T.asked self.old.out v → T.asked self.new.out v }
         ensures out { IfErr result IsOfOut }
     {
         self.label(first_label(file, sect))?;
@@ -59,6 +61,7 @@ impl<T: TapeOut> Tape<T> {
             (T.holds self.old.out) (T.failures self.old.out) self.old.course.used
             (T.holds self.new.out) (T.failures self.new.out) self.new.course.used }
         ensures cause { FailsWith (T.failures self.old.out) result (T.failures self.new.out) }
+        ensures asked { (v : Vol1) → T.asked self.old.out v → T.asked self.new.out v }
         ensures out { IfErr result IsOfOut }
     {
         self.mark()?;

@@ -4,6 +4,7 @@ ghost use Rattle.std.specs.Prelude.{◌≡◌, ◌<◌, ◌≤◌, ◌+◌, ◌�
 ghost use Rattle.tape_image.specs.Tape.{block as block_item, mark as mark_item};
 ghost use Rattle.tape_set.specs.Sizes.{item_size};
 ghost use Rattle.tape_writer.specs.Tapes.{Takes, Closes, Grows};
+ghost use Rattle.tape_label.specs.declared.values.Vol1.{Vol1};
 ghost use Rattle.tape_writer.specs.Lasting.{Lasting};
 ghost use Rattle.tape_writer.specs.Draft.{added_course};
 ghost use Rattle.tape_writer.specs.Faults.{FailsWith, IsOfOut};
@@ -33,6 +34,7 @@ impl<T: TapeOut> Tape<T> {
             (T.holds self.old.out) (T.failures self.old.out) self.old.course.used
             (T.holds self.new.out) (T.failures self.new.out) self.new.course.used }
         ensures cause { FailsWith (T.failures self.old.out) result (T.failures self.new.out) }
+        ensures asked { (v : Vol1) → T.asked self.old.out v → T.asked self.new.out v }
         ensures out { IfErr result IsOfOut }
     {
         match self.out.block(bytes) {
@@ -54,6 +56,7 @@ impl<T: TapeOut> Tape<T> {
             (T.holds self.old.out) (T.failures self.old.out) self.old.course.used
             (T.holds self.new.out) (T.failures self.new.out) self.new.course.used }
         ensures cause { FailsWith (T.failures self.old.out) result (T.failures self.new.out) }
+        ensures asked { (v : Vol1) → T.asked self.old.out v → T.asked self.new.out v }
         ensures out { IfErr result IsOfOut }
     {
         match self.out.mark() {
@@ -77,6 +80,7 @@ impl<T: TapeOut> Tape<T> {
             (T.holds self.old.out) (T.failures self.old.out) self.old.course.used
             (T.holds self.new.out) (T.failures self.new.out) self.new.course.used }
         ensures cause { FailsWith (T.failures self.old.out) result (T.failures self.new.out) }
+        ensures asked { (v : Vol1) → T.asked self.old.out v → T.asked self.new.out v }
         ensures out { IfErr result IsOfOut }
     {
         self.block(&label)
@@ -97,6 +101,7 @@ impl<T: TapeOut> Tape<T> {
             (T.holds self.old.out) (T.failures self.old.out) self.old.course.used
             (T.holds self.new.out) (T.failures self.new.out) self.new.course.used }
         ensures cause { FailsWith (T.failures self.old.out) result (T.failures self.new.out) }
+        ensures asked { (v : Vol1) → T.asked self.old.out v → T.asked self.new.out v }
         ensures out { IfErr result IsOfOut }
     {
         self.block(bytes)?;
@@ -115,6 +120,7 @@ impl<T: TapeOut> Tape<T> {
             (T.holds self.new.out) (T.failures self.new.out) self.new.course.used) }
         ensures count { Grows (T.failures self.old.out) (T.failures self.new.out) }
         ensures cause { FailsWith (T.failures self.old.out) result (T.failures self.new.out) }
+        ensures asked { (v : Vol1) → T.asked self.old.out v → T.asked self.new.out v }
         ensures out { IfErr result IsOfOut }
     {
         if let Err(fault) = self.out.close() {

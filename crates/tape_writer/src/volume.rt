@@ -27,6 +27,7 @@ impl<T: TapeOut> Tape<T> {
             (T.holds self.old.out) (T.failures self.old.out) self.old.course.used
             (T.holds self.new.out) (T.failures self.new.out) self.new.course.used }
         ensures cause { FailsWith (T.failures self.old.out) result (T.failures self.new.out) }
+        ensures asked { OnOk result (T.asked self.new.out volume.now) }
         ensures out { IfErr result IsOfOut }
     {
         match self.out.change_volume(volume) {
@@ -51,6 +52,7 @@ impl<T: TapeOut> Tape<T> {
             (T.holds self.old.out) (T.failures self.old.out) self.old.course.used
             (T.holds self.new.out) (T.failures self.new.out) self.new.course.used }
         ensures cause { FailsWith (T.failures self.old.out) result (T.failures self.new.out) }
+        ensures asked { OnOk result (T.asked self.new.out volume.now) }
         ensures out { IfErr result IsOfOut }
     {
         self.next_volume(volume)?;
@@ -78,6 +80,7 @@ impl<T: TapeOut> Tape<T> {
             (T.holds self.old.out) (T.failures self.old.out) self.old.course.used
             (T.holds self.new.out) (T.failures self.new.out) self.new.course.used }
         ensures cause { FailsWith (T.failures self.old.out) result (T.failures self.new.out) }
+        ensures asked { OnOk result (T.asked self.new.out volume.now) }
         ensures out { IfErr result IsOfOut }
     {
         self.end_section(file, false)?;
