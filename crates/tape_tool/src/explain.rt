@@ -128,7 +128,7 @@ const NO_MEMORY: &str = "  There was not enough memory. What was written before 
 ";
 
 /// An image's first bytes are none of an image.
-const NO_IMAGE: &str = "  This does not begin as a .tap image. Nothing was read.
+const NO_IMAGE: &str = "  This does not begin as a .tap image. Nothing was listed.
   Is it compressed ('zcat NAME | tape list' lists that), or something else?
 ";
 
@@ -243,14 +243,15 @@ const FILE_OF_VOLUME: &[&str] = &[
 ];
 
 const FILE_OF_OUT: &[&str] = &[
-    "  It begins as a tape image, and was left as it is. Nothing was read.
+    "  It may keep a tape, and was left as it is. Nothing was read. It is named .tap,
+  begins as an image, or is compressed, an archive or a stage.
   OUT stands before the images: tape extract SET FILE OUT IMAGE..
   Name another OUT, or remove the file if you do not need it.
 ",
     "  It could not be opened or made. What a stage keeps stays.
   Is its folder there, and may you read and write there?
 ",
-    "  It could not be read, so it can't be seen whether it is an image.
+    "  It could not be read, so it can't be seen whether it keeps a tape.
   It was left as it is, and nothing else was read. Name another OUT.
 ",
     "  It, or standard output, takes no more: a full disk, or a closed pipe.

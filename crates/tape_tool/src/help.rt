@@ -302,7 +302,8 @@ middle of a write too, leaves what was saved last or what was just being saved:
 
 OUT is made, or replaced, only when the file is complete, and is on the disk then. Until then it is
 left as it is: the records go to a new file beside it, OUT.part, which takes its name at the end and
-is removed else. An OUT that is the stage or an image named here is refused, and one that begins as
-an image too ('tape: file fault 1'). A pipe, a link or a device as OUT is written to at the end.
+is removed else. An OUT that is the stage or an image named here is refused, and one that may keep a
+tape ('tape: file fault 1'): a file with something in it that is named .tap, begins as an image, or
+is compressed, an archive or a stage. A pipe, a link or a device as OUT is written to at the end.
 
 Exit status: 0 the file is complete, 1 a fault, 2 a wrong command line, 3 something is wanted.";

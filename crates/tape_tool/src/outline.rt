@@ -36,7 +36,7 @@ pub enum Kind {
     TextOption(&'static str),
     /// An option with a number, up to this one, and the number where it is left out.
     NumberOption(u64, Option<&'static str>),
-    /// An option with one of these names, which help calls so; the first where it is left out.
+    /// An option that help calls so, with one of these names, and the name where it is left out.
     NameOption(&'static str, &'static [&'static str], &'static str),
 }
 

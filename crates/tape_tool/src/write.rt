@@ -1,7 +1,7 @@
 //! `write`: file sets written as images.
 pub mod command;
 pub mod guard;
-mod image_file;
+pub mod image_file;
 mod image_files;
 mod input_file;
 pub mod report;

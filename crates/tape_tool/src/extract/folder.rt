@@ -7,17 +7,29 @@ use std::io::ErrorKind;
 /// read, and on a file system that has no such call, as some over a network, they are kept in its
 /// own time.
 pub fn sync_folder_of<R: Files>(files: &R, path: &str) -> io::Result<()> {
-    let folder = match path.rfind('/') {
-        Some(0) => "/",
-        Some(end) => &path[..end],
-        None => ".",
-    };
-    let Ok(folder) = File::open(files, folder) else {
+    let Ok(folder) = File::open(files, folder_of(path)) else {
         return Ok(());
     };
     match folder.sync_all() {
         Err(error) if is_unable(error.kind()) => Ok(()),
         done => done,
+    }
+}
+
+/// The folder that this path is in.
+pub fn folder_of(path: &str) -> &str {
+    match path.rfind('/') {
+        Some(0) => "/",
+        Some(end) => &path[..end],
+        None => ".",
+    }
+}
+
+/// The name that this path has in its folder.
+pub fn name_in_folder(path: &str) -> &str {
+    match path.rfind('/') {
+        Some(end) => &path[end + 1..],
+        None => path,
     }
 }
 

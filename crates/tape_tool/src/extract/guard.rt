@@ -1,14 +1,33 @@
 //! What `extract` looks at before it reads: its output may cost no tape and no stage.
+use super::folder::{folder_of, name_in_folder};
 use crate::fault::{Fault, FileFault};
 use crate::help;
 use crate::unfit::{Unfit, refused, same_file};
 use crate::words::Extract;
+use crate::write::image_file::fill;
 use std::alloc::Global;
 use std::fs;
 use std::fs::{File, Metadata};
 use std::io::Read;
 use std::rt::Runtime;
 use tape_image::{Ending, ImageCause, ImageFault, ImageReader};
+
+/// How the front of a file is told that may keep a tape although it is no image: the place and the
+/// bytes that stand there. The last two are the checkpoints in the slots of a stage.
+const FRONTS: &[(usize, &[u8])] = &[
+    // gzip, compress, bzip2, xz, Zstandard, zip.
+    (0, b"\x1f\x8b"),
+    (0, b"\x1f\x9d"),
+    (0, b"BZh"),
+    (0, b"\xfd7zXZ"),
+    (0, b"\x28\xb5\x2f\xfd"),
+    (0, b"PK\x03\x04"),
+    (16, b"TPCK"),
+    (144, b"TPCK"),
+];
+
+/// How many bytes the fronts take, at most.
+const FRONT: usize = 148;
 
 /// How an output is to be written.
 #[derive(Clone, Copy, Debug, PartialEq, Eq)]
@@ -23,12 +42,13 @@ pub enum Way {
 ///
 /// # Errors
 ///
-/// `Words` where the output is the stage or one of the images: the file itself, whatever name or
-/// link leads there. `Faulted` with `Exists` where it begins as an image does, and with
-/// `NotOpened` or `ReadFailed` where that can't be seen.
+/// `Words` where the output is the stage, also one that is not made yet, or one of the images: the
+/// file itself, whatever name or link leads there. `Faulted` with `Exists` where it may keep a
+/// tape: it holds something, and is named `.tap`, begins as an image does, or is compressed, an
+/// archive or a stage. With `NotOpened` or `ReadFailed` where that can't be seen.
 pub fn way_of<R: Runtime + AllocGlobal>(rt: &R, order: &Extract<'_>) -> Result<Way, Unfit> {
     let Ok(found) = fs::metadata(rt, order.out) else {
-        return Ok(way_to(rt, order.out));
+        return way_to_new(rt, order);
     };
     if let Some(stage) = order.stage {
         differs(rt, &found, stage, help::OUT_IS_STAGE)?;
@@ -36,10 +56,35 @@ pub fn way_of<R: Runtime + AllocGlobal>(rt: &R, order: &Extract<'_>) -> Result<W
     for image in &order.images {
         differs(rt, &found, *image, help::OUT_IS_IMAGE)?;
     }
-    if found.is_file() {
-        holds_no_image(rt, order.out)?;
+    if found.is_file() && found.len() > 0 {
+        keeps_no_tape(rt, order.out)?;
     }
     Ok(way_to(rt, order.out))
+}
+
+/// How to write to what is not there, or leads nowhere. A stage is made before the output is.
+fn way_to_new<R: Runtime>(rt: &R, order: &Extract<'_>) -> Result<Way, Unfit> {
+    match order.stage {
+        Some(stage) if is_one_name(rt, order.out, stage) => Err(Unfit::Words(help::OUT_IS_STAGE)),
+        _ => Ok(way_to(rt, order.out)),
+    }
+}
+
+/// Whether both paths are one name in one folder.
+fn is_one_name<R: Runtime>(rt: &R, one: &str, other: &str) -> bool {
+    if one == other {
+        return true;
+    }
+    if name_in_folder(one) != name_in_folder(other) {
+        return false;
+    }
+    match (
+        fs::metadata(rt, folder_of(one)),
+        fs::metadata(rt, folder_of(other)),
+    ) {
+        (Ok(here), Ok(there)) => same_file(&here, &there),
+        _ => false,
+    }
 }
 
 /// How to write to what has this name. What is missing can be made, and a link is followed.
@@ -61,6 +106,33 @@ fn differs<R: Runtime>(
         Ok(other) if same_file(found, &other) => Err(Unfit::Words(text)),
         _ => Ok(()),
     }
+}
+
+/// Refuses a file that may keep a tape.
+fn keeps_no_tape<R: Runtime + AllocGlobal>(rt: &R, path: &str) -> Result<(), Unfit> {
+    let Ok(mut file) = File::open(rt, path) else {
+        return Err(refused(FileFault::NotOpened));
+    };
+    let mut front = [0; FRONT];
+    let count = fill(&mut file, &mut front).map_err(refused)?;
+    if is_named_image(path) || begins_as_kept(&front[..count]) {
+        return Err(refused(FileFault::Exists));
+    }
+    holds_no_image(rt, path)
+}
+
+/// Whether a name ends as those of images do, in whatever case.
+fn is_named_image(path: &str) -> bool {
+    let name = path.as_bytes();
+    let end = name.len().saturating_sub(4);
+    name[end..].eq_ignore_ascii_case(b".tap")
+}
+
+/// Whether one of the fronts stands here.
+fn begins_as_kept(front: &[u8]) -> bool {
+    FRONTS.iter().any(|(place, bytes)| front
+        .get(*place..)
+        .is_some_and(|there| there.starts_with(*bytes)))
 }
 
 /// Refuses a file that begins as an image does.

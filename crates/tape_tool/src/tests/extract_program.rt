@@ -86,23 +86,86 @@ const NEVER_OUT: &[Step<'_>] = &[
     ),
     Step::IsWorked("only.tap"),
     Step::IsWorked("other.tap"),
-    Step::Put("marks.tap", b"\0\0\0\0"),
-    Step::Put("ended.tap", b"\xff\xff\xff\xff"),
+    // No front of a compressed file, but named as an image; and a name that only looks like one.
+    Step::Put("damaged.tap", b"\x01"),
+    Step::Put("damaged.TAP", b"\x01"),
     Step::Fails(
-        "extract ABC001 1 marks.tap only.tap",
+        "extract ABC001 1 damaged.tap only.tap",
         ToolFault::File(FileFault::Exists),
     ),
     Step::Fails(
-        "extract ABC001 1 ended.tap only.tap",
+        "extract ABC001 1 damaged.TAP only.tap",
         ToolFault::File(FileFault::Exists),
     ),
-    Step::Holds("ended.tap", b"\xff\xff\xff\xff"),
+    Step::Holds("damaged.TAP", b"\x01"),
+    Step::Put("empty.tap", b""),
+    Step::Ends("extract ABC001 1 empty.tap only.tap", End::Done),
+    Step::HasLength("empty.tap", 2025),
+    Step::Put("tap", b"\x01"),
+    Step::Ends("extract ABC001 1 tap only.tap", End::Done),
+    Step::HasLength("tap", 2025),
+    Step::Remove("tap"),
 ];
 
 #[test]
 fn tapes_are_never_the_output(rt: HostRuntime) -> Result<(), Fail> {
     take_all(&rt, NEVER_OUT)
 }
+
+/// Beginnings of what may keep a tape: images, compressed files, archives and stages.
+const KEPT: &[&[u8]] = &[
+    b"\0\0\0\0",
+    b"\xff\xff\xff\xff",
+    b"\x1f\x8b\x08\0",
+    b"\x1f\x9d\x90",
+    b"BZh9",
+    b"\xfd7zXZ\0",
+    b"\x28\xb5\x2f\xfd",
+    b"PK\x03\x04",
+    b"O000000000000001TPCK2",
+    b"C-----------------------------------------------\
+      ------------------------------------------------\
+      ------------------------------------------------TPCK2",
+];
+
+/// Beginnings that are as those but for a byte, and are written over.
+const PLAIN: &[&[u8]] = &[
+    b"\xff\xff\xff",
+    b"\x1f",
+    b"\x1f\x8c\x08\0",
+    b"BZ",
+    b"B\xfd7zXZ",
+    b"PK\x05\x06",
+    b"O00000000000001TPCK2",
+];
+
+#[test]
+fn what_may_keep_a_tape_is_never_the_output(rt: HostRuntime) -> Result<(), Fail> {
+    take_all(&rt, &[Step::PutWorked("held.tap", 2484)])?;
+    for bytes in KEPT {
+        take_all(
+            &rt,
+            &[
+                Step::Put("kept.bin", *bytes),
+                Step::Fails(HELD, ToolFault::File(FileFault::Exists)),
+                Step::Holds("kept.bin", *bytes),
+            ],
+        )?;
+    }
+    for bytes in PLAIN {
+        take_all(
+            &rt,
+            &[
+                Step::Put("kept.bin", *bytes),
+                Step::Ends(HELD, End::Done),
+                Step::HasLength("kept.bin", 2025),
+            ],
+        )?;
+    }
+    Ok(())
+}
+
+const HELD: &str = "extract ABC001 1 kept.bin held.tap";
 
 /// The new file beside the output: it takes the output's name, or goes, and costs no other file.
 const DRAFTS: &[Step<'_>] = &[

@@ -125,7 +125,20 @@ const REFUSED: &[Step<'_>] = &[
         "extract ABC001 1 refused.stage refused.tap --stage ./refused.stage",
         End::WrongWords,
     ),
+    Step::Fails(
+        "extract ABC001 1 refused.stage refused.tap",
+        ToolFault::File(FileFault::Exists),
+    ),
     Step::HasLength("refused.stage", 1531),
+    Step::Ends(
+        "extract ABC001 1 new.stage refused.tap --stage new.stage",
+        End::WrongWords,
+    ),
+    Step::Ends(
+        "extract ABC001 1 ./new.stage refused.tap --stage new.stage",
+        End::WrongWords,
+    ),
+    Step::IsMissing("new.stage"),
 ];
 
 #[test]

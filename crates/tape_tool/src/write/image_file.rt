@@ -1,4 +1,6 @@
 //! Files of images, made when they are first written to.
+ghost use Rattle.std.specs.Prelude.{◌≤◌, length, IfOk};
+
 use crate::extract::folder::sync_folder_of;
 use crate::fault::{FileFault, ToolFault};
 use crate::init::image_path;
@@ -185,14 +187,22 @@ fn is_blank<R: Read>(
 ) -> std::result::Result<bool, FileFault> {
     // One byte more than a blank volume has.
     let mut bytes = [0; BLANK + 1];
+    let count = fill(reader, &mut bytes)?;
+    let blank = blank_image(&blank_volume(prefix, number.min(999)));
+    Ok(&bytes[..count] == blank.as_slice())
+}
+
+/// Reads until the room is full or nothing follows, and says how many bytes came.
+pub fn fill<R: Read>(reader: &mut R, room: &mut [u8]) -> std::result::Result<usize, FileFault>
+    ensures within { IfOk result (λ count. count ≤ length room.new) }
+{
     let mut count = 0;
-    'reads: for _ in 0..=BLANK {
-        match reader.read(&mut bytes[count..]) {
+    'reads: for _ in 0..room.len() {
+        match reader.read(&mut room[count..]) {
             Ok(0) => break,
             Ok(more) => count += more,
             Err(_) => return Err(FileFault::ReadFailed),
         }
     }
-    let blank = blank_image(&blank_volume(prefix, number.min(999)));
-    Ok(&bytes[..count] == blank.as_slice())
+    Ok(count)
 }
