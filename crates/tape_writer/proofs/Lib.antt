@@ -1,5 +1,6 @@
 pub mod LabelLaws
 pub mod Last
+pub mod Asked
 pub mod Lists
 pub mod Volumes
 pub mod Sections

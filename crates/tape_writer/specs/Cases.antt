@@ -37,7 +37,7 @@ use Rattle.tape_writer.specs.Refusals.{IsNewFault, IsBeginFault, IsPutFault, IsF
 use Rattle.tape_writer.specs.Refusals.{IsInFile}
 use Rattle.tape_writer.specs.State.{SetState, IsWriting, IsOutOfVolumes, Leaves, HasLength}
 use Rattle.tape_writer.specs.Tapes.{Tapes, Ended, UnderWay, Takes, Changes, Closes, Keeps, Rose}
-use Rattle.tape_writer.specs.Tapes.{Failures, Grows, HasCause}
+use Rattle.tape_writer.specs.Tapes.{Failures, Grows, HasCause, WasAsked}
 use Rattle.tape_writer.specs.Told.{Told, opened_by, with_record, labelled, IsWithin, IsOfFile}
 use Rattle.tape_writer.specs.Told.{IsFiled, AreFiled, IsWrittenSet}
 
@@ -53,6 +53,10 @@ pub record CasesOfTapes : Type 0 where
   -- what refuses keeps what was there
   pub keeps : (after : Tapes) → Keeps {E = ℕ} (λ t. t ≡ Ended []) (Err 0) (λ t. t ≡ after)
       → Ended [] ≡ after
+  -- the volume with the number 2 was asked for by the second label, and before the first volume
+  -- nothing was
+  pub asked_second : (v w asked : Vol1) → WasAsked (λ u. u ≡ asked) (v ∷ w ∷ []) 2 → w ≡ asked
+  pub none_asked : (volumes : List Vol1) → WasAsked (λ _. ⊥) volumes 0
   -- a count that stands did not rise, but at its greatest value
   pub stands_still : Rose 3 3 → ⊥
   pub rises : Rose 3 4 × Rose 18446744073709551615 18446744073709551615

@@ -1,7 +1,8 @@
 -- What is written: volumes of items, and how the calls of a `TapeOut` change them.
 use Rattle.std.specs.Prelude.{◌≡◌, ◌<◌, ◌≤◌, ◌⊎◌, ℕ, List, [], ◌∷◌, ◌++◌, Result, OnOk, OnErr}
-use Rattle.std.specs.Prelude.{IfErr, slice_get, unwrap_or}
+use Rattle.std.specs.Prelude.{IfErr, slice_get, unwrap_or, ◌+◌, Some}
 use Rattle.tape_image.specs.Tape.{TapeItem}
+use Rattle.tape_label.specs.declared.values.Vol1.{Vol1}
 use Rattle.tape_writer.specs.declared.fault.OutFault.{OutFault}
 use Rattle.tape_writer.specs.declared.fault.OutFault.TheVariants.{Device, OutOfMemory}
 
@@ -40,6 +41,11 @@ Closes H result H' = (tapes : Tapes) → H tapes → OnOk result (H' (Ended (all
 abbrev pub Keeps : {E : Type 0} → (Tapes → Type 0) → Result (Unit {0}) E → (Tapes → Type 0)
     → Type 0
 Keeps H result H' = (tapes : Tapes) → H tapes → OnErr result (H' tapes)
+
+-- the tapes were asked for the volume with this number, from 1, by its own label
+abbrev pub WasAsked : (Vol1 → Type 0) → List Vol1 → ℕ → Type 0
+WasAsked asked volumes number = (k : ℕ) (volume : Vol1) → number ≡ k + 1
+    → slice_get volumes k ≡ Some volume → asked volume
 
 -- a count of failures rose, or stands where it stays: it is kept in 64 bits
 abbrev pub Rose : ℕ → ℕ → Type 0

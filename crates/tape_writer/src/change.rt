@@ -6,6 +6,7 @@ ghost use Rattle.std.specs.List.{AllByRecursion};
 ghost use Rattle.tape_image.specs.Tape.{block as block_item};
 ghost use Rattle.tape_blocks.specs.Tight.{Filled};
 ghost use Rattle.tape_set.specs.Sizes.{item_size};
+ghost use Rattle.tape_writer.specs.Tapes.{WasAsked};
 ghost use Rattle.tape_writer.specs.Lasting.{Lasting};
 ghost use Rattle.tape_writer.specs.Faults.{FailsWith, IsOfTape};
 ghost use Rattle.tape_label.specs.Widths.{IsWideVolume};
@@ -86,6 +87,8 @@ impl<T: TapeOut> Tape<T> {
             → result ≡ Err WriteFault.OutOfVolumes }
         ensures passed { OnOk result
             (Passed self.old.course (item_size (block_item bytes.now)) self.new.course) }
+        ensures asked { WasAsked (T.asked self.old.out) volumes.now self.old.course.volume
+            → OnOk result (WasAsked (T.asked self.new.out) volumes.now self.new.course.volume) }
         ensures of_tape { IfErr result IsOfTape }
         ensures lasting { Lasting
             (T.holds self.old.out) (T.failures self.old.out) self.old.course.used
@@ -128,6 +131,8 @@ impl<T: TapeOut> Tape<T> {
         ensures always { length volumes.now ≤ self.old.course.volume
             → capacity < self.old.course.used + 184 + 372
             → result ≡ Err WriteFault.OutOfVolumes }
+        ensures asked { WasAsked (T.asked self.old.out) volumes.now self.old.course.volume
+            → OnOk result (WasAsked (T.asked self.new.out) volumes.now self.new.course.volume) }
         ensures of_tape { IfErr result IsOfTape }
         ensures lasting { Lasting
             (T.holds self.old.out) (T.failures self.old.out) self.old.course.used

@@ -7,7 +7,7 @@ ghost use Rattle.tape_image.specs.Tape.{TapeItem, mark as mark_item};
 ghost use Rattle.tape_blocks.specs.Packing.{Packing};
 ghost use Rattle.tape_set.specs.Layout.{Section};
 ghost use Rattle.tape_set.specs.Tight.{least_capacity};
-ghost use Rattle.tape_writer.specs.Tapes.{Ended, UnderWay, Grows};
+ghost use Rattle.tape_writer.specs.Tapes.{Ended, UnderWay, Grows, WasAsked};
 ghost use Rattle.tape_writer.specs.Lasting.{Lasting};
 ghost use Rattle.tape_writer.specs.Faults.{FailsWith, IsOfTape, IsOfOut};
 ghost use Rattle.tape_label.specs.Widths.{IsWideVolume};
@@ -47,6 +47,8 @@ pub(crate) fn close_file<T: TapeOut>(
         tape.old.course packer.old past records
         → OnOk result (IsBetween (T.holds tape.new.out) volumes.now capacity set_id
         tape.new.course (past ++ record { file = file.now; records = records } ∷ [])) }
+    ensures asked { WasAsked (T.asked tape.old.out) volumes.now tape.old.course.volume
+        → OnOk result (WasAsked (T.asked tape.new.out) volumes.now tape.new.course.volume) }
     ensures of_tape { IfErr result IsOfTape }
     ensures stuck { IfErr result (λ fault. fault ≡ WriteFault.OutOfVolumes
         → (set_id : List ℕ) (fs : List (List Section)) (records : List (List ℕ))
@@ -79,6 +81,8 @@ fn begin_first<T: TapeOut>(
     ensures resting { (set_id : List ℕ) → T.holds tape.old.out (Ended [])
         → OnOk result (IsBetween (T.holds tape.new.out) volumes.now capacity set_id
         tape.new.course []) }
+    ensures asked { WasAsked (T.asked tape.old.out) volumes.now tape.old.course.volume
+        → OnOk result (WasAsked (T.asked tape.new.out) volumes.now tape.new.course.volume) }
     ensures out { IfErr result IsOfOut }
     ensures lasting { Lasting
         (T.holds tape.old.out) (T.failures tape.old.out) tape.old.course.used
@@ -107,6 +111,8 @@ fn open_file<T: TapeOut>(
         → IsBetween (T.holds tape.old.out) volumes.now capacity set_id tape.old.course told
         → OnOk result (IsFiling (T.holds tape.new.out) volumes.now capacity set_id file.now
         tape.new.course p told []) }
+    ensures asked { WasAsked (T.asked tape.old.out) volumes.now tape.old.course.volume
+        → OnOk result (WasAsked (T.asked tape.new.out) volumes.now tape.new.course.volume) }
     ensures out { IfErr result IsOfOut }
     ensures lasting { Lasting
         (T.holds tape.old.out) (T.failures tape.old.out) tape.old.course.used
@@ -129,6 +135,8 @@ fn start<T: TapeOut>(tape: &mut Tape<T>, volumes: &[Vol1], capacity: u32) -> Res
         → IsWaiting (T.holds tape.old.out) volumes.now capacity set_id tape.old.course told
         → OnOk result (IsBetween (T.holds tape.new.out) volumes.now capacity set_id
         tape.new.course told) }
+    ensures asked { WasAsked (T.asked tape.old.out) volumes.now tape.old.course.volume
+        → OnOk result (WasAsked (T.asked tape.new.out) volumes.now tape.new.course.volume) }
     ensures out { IfErr result IsOfOut }
     ensures lasting { Lasting
         (T.holds tape.old.out) (T.failures tape.old.out) tape.old.course.used
@@ -161,6 +169,8 @@ pub(crate) fn begin<T: TapeOut>(
         → IsWaiting (T.holds tape.old.out) volumes.now capacity set_id tape.old.course told
         → OnOk result (IsFiling (T.holds tape.new.out) volumes.now capacity set_id file.now
         tape.new.course p told []) }
+    ensures asked { WasAsked (T.asked tape.old.out) volumes.now tape.old.course.volume
+        → OnOk result (WasAsked (T.asked tape.new.out) volumes.now tape.new.course.volume) }
     ensures out { IfErr result IsOfOut }
     ensures lasting { Lasting
         (T.holds tape.old.out) (T.failures tape.old.out) tape.old.course.used
@@ -191,6 +201,8 @@ pub(crate) fn end_set<T: TapeOut>(
       used = tape.old.course.used + 8;
     }) }
     ensures count { Grows (T.failures tape.old.out) (T.failures tape.new.out) }
+    ensures asked { WasAsked (T.asked tape.old.out) volumes.now tape.old.course.volume
+        → OnOk result (WasAsked (T.asked tape.new.out) volumes.now tape.new.course.volume) }
     ensures out { IfErr result IsOfOut }
     ensures lasting { IfErr result (λ _. Lasting
         (T.holds tape.old.out) (T.failures tape.old.out) tape.old.course.used

@@ -7,6 +7,7 @@ ghost use Rattle.std.specs.List.{AllByRecursion};
 ghost use Rattle.tape_blocks.specs.Packing.{emptied, HasRecordLength};
 ghost use Rattle.tape_set.specs.Layout.{Section};
 ghost use Rattle.tape_set.specs.Tight.{least_capacity};
+ghost use Rattle.tape_writer.specs.Tapes.{WasAsked};
 ghost use Rattle.tape_writer.specs.Lasting.{Lasting};
 ghost use Rattle.tape_writer.specs.Faults.{FailsWith, IsOfTape, IsEnding};
 ghost use Rattle.tape_label.specs.Widths.{IsWideVolume};
@@ -49,6 +50,8 @@ fn flush<T: TapeOut>(
         → IsOpen (T.holds tape.old.out) volumes.now capacity set_id file.now tape.old.course d
         → OnOk result (Flushed (T.holds tape.new.out) volumes.now capacity set_id file.now
         tape.new.course d packer.old) }
+    ensures asked { WasAsked (T.asked tape.old.out) volumes.now tape.old.course.volume
+        → OnOk result (WasAsked (T.asked tape.new.out) volumes.now tape.new.course.volume) }
     ensures of_tape { IfErr result IsOfTape }
     ensures lasting { Lasting
         (T.holds tape.old.out) (T.failures tape.old.out) tape.old.course.used
@@ -104,6 +107,8 @@ pub(crate) fn put_record<T: TapeOut>(
     // So no input keeps a writer for ever.
     ensures room { OnOk result (room_of (length volumes.now) capacity tape.new.course packer.new
         < room_of (length volumes.now) capacity tape.old.course packer.old) }
+    ensures asked { WasAsked (T.asked tape.old.out) volumes.now tape.old.course.volume
+        → OnOk result (WasAsked (T.asked tape.new.out) volumes.now tape.new.course.volume) }
     ensures ending { IfErr result (λ fault. fault ≢ WriteFault.RecordLength → IsEnding fault) }
     ensures lasting { Lasting
         (T.holds tape.old.out) (T.failures tape.old.out) tape.old.course.used
@@ -144,6 +149,8 @@ pub(crate) fn flush_last<T: TapeOut>(
         tape.old.course packer.old fs records
         → OnOk result (IsFlat (T.holds tape.new.out) volumes.now capacity set_id file.now
         tape.new.course fs records) }
+    ensures asked { WasAsked (T.asked tape.old.out) volumes.now tape.old.course.volume
+        → OnOk result (WasAsked (T.asked tape.new.out) volumes.now tape.new.course.volume) }
     ensures of_tape { IfErr result IsOfTape }
     ensures stuck { IfErr result (λ fault. fault ≡ WriteFault.OutOfVolumes
         → (set_id : List ℕ) (fs : List (List Section)) (records : List (List ℕ))

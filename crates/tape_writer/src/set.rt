@@ -2,7 +2,7 @@
 
 ghost use Rattle.std.specs.Prelude.{◌≡◌, ◌<◌, ◌≤◌, [], length, IfOk, IfErr, IsOk, OnOk, Err};
 ghost use Rattle.std.specs.List.{AllByRecursion};
-ghost use Rattle.tape_writer.specs.Tapes.{Ended};
+ghost use Rattle.tape_writer.specs.Tapes.{Ended, WasAsked};
 ghost use Rattle.tape_writer.specs.Fields.{IsText, IsTextVolume};
 ghost use Rattle.tape_writer.specs.State.{IsWriting};
 ghost use Rattle.tape_writer.specs.Refusals.{IsNewFault};
@@ -102,6 +102,7 @@ impl<T: TapeOut + Drop> SetWriter<T> {
         }) }
         // Nothing was told so far.
         ensures told { T.holds out (Ended []) → IfOk result (λ w. IsWriting (T.holds w.out) w []) }
+        ensures asked { IfOk result (λ w. WasAsked (T.asked w.out) w.volumes w.course.volume) }
     {
         if let Err(fault) = judge_set(&set_id, &volumes) {
             return Err(fault);
@@ -129,6 +130,7 @@ impl<T: TapeOut + Drop> SetWriter<T> {
           phase = Between;
         } }
         ensures told { T.holds out (Ended []) → IsWriting (T.holds result.out) result [] }
+        ensures asked { WasAsked (T.asked result.out) result.volumes result.course.volume }
     {
         tell_all_widths(&volumes);
         SetWriter {

@@ -5,6 +5,7 @@ ghost use Rattle.std.specs.Prelude.{IfErr, Err, false};
 ghost use Rattle.tape_blocks.specs.Packing.{IsWritable};
 ghost use Rattle.tape_set.specs.Tight.{least_capacity};
 ghost use Rattle.tape_writer.specs.Fields.{IsTextHead};
+ghost use Rattle.tape_writer.specs.Tapes.{WasAsked};
 ghost use Rattle.tape_writer.specs.Lasting.{Lasting};
 ghost use Rattle.tape_writer.specs.Faults.{FailsByDevice, IsOfOut};
 ghost use Rattle.tape_writer.specs.Told.{Told, opened_by};
@@ -75,6 +76,9 @@ impl<T: TapeOut + Drop> SetWriter<T> {
         ensures lasting { Lasting
             (T.holds self.old.out) (T.failures self.old.out) self.old.course.used
             (T.holds self.new.out) (T.failures self.new.out) self.new.course.used }
+        ensures asked { WasAsked (T.asked self.old.out) self.old.volumes self.old.course.volume
+            → OnOk result (WasAsked (T.asked self.new.out) self.new.volumes
+            self.new.course.volume) }
         ensures leaves { IfErr result (Leaves self.old self.new) }
         ensures cause { FailsByDevice (T.failures self.old.out) result (T.failures self.new.out) }
     {
@@ -171,6 +175,9 @@ impl<T: TapeOut + Drop> SetWriter<T> {
         ensures lasting { Lasting
             (T.holds self.old.out) (T.failures self.old.out) self.old.course.used
             (T.holds self.new.out) (T.failures self.new.out) self.new.course.used }
+        ensures asked { WasAsked (T.asked self.old.out) self.old.volumes self.old.course.volume
+            → OnOk result (WasAsked (T.asked self.new.out) self.new.volumes
+            self.new.course.volume) }
         ensures leaves { IfErr result (Leaves self.old self.new) }
         ensures cause { FailsByDevice (T.failures self.old.out) result (T.failures self.new.out) }
     {

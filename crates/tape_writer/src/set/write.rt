@@ -2,7 +2,7 @@
 
 ghost use Rattle.std.specs.Prelude.{◌≡◌, ◌<◌, ◌+◌, ◌++◌, ◌∷◌, [], List, OnOk, IfErr};
 ghost use Rattle.tape_image.specs.Tape.{TapeItem, mark as mark_item};
-ghost use Rattle.tape_writer.specs.Tapes.{Ended, UnderWay};
+ghost use Rattle.tape_writer.specs.Tapes.{Ended, UnderWay, WasAsked};
 ghost use Rattle.tape_writer.specs.Lasting.{Lasting};
 ghost use Rattle.tape_writer.specs.Faults.{FailsWith, IsEnding};
 ghost use Rattle.tape_writer.specs.Told.{Told, with_record};
@@ -59,6 +59,9 @@ impl<T: TapeOut + Drop> SetWriter<T> {
         ensures lasting { Lasting
             (T.holds self.old.out) (T.failures self.old.out) self.old.course.used
             (T.holds self.new.out) (T.failures self.new.out) self.new.course.used }
+        ensures asked { WasAsked (T.asked self.old.out) self.old.volumes self.old.course.volume
+            → OnOk result (WasAsked (T.asked self.new.out) self.new.volumes
+            self.new.course.volume) }
         ensures leaves { IfErr result (Leaves self.old self.new) }
         ensures cause { FailsWith (T.failures self.old.out) result (T.failures self.new.out) }
     {
@@ -116,6 +119,9 @@ impl<T: TapeOut + Drop> SetWriter<T> {
         ensures lasting { Lasting
             (T.holds self.old.out) (T.failures self.old.out) self.old.course.used
             (T.holds self.new.out) (T.failures self.new.out) self.new.course.used }
+        ensures asked { WasAsked (T.asked self.old.out) self.old.volumes self.old.course.volume
+            → OnOk result (WasAsked (T.asked self.new.out) self.new.volumes
+            self.new.course.volume) }
         ensures leaves { IfErr result (Leaves self.old self.new) }
         ensures cause { FailsWith (T.failures self.old.out) result (T.failures self.new.out) }
     {
@@ -177,6 +183,9 @@ impl<T: TapeOut + Drop> SetWriter<T> {
         ensures lasting { IfErr result (λ _. Lasting
             (T.holds self.old.out) (T.failures self.old.out) self.old.course.used
             (T.holds self.new.out) (T.failures self.new.out) self.new.course.used) }
+        ensures asked { WasAsked (T.asked self.old.out) self.old.volumes self.old.course.volume
+            → OnOk result (WasAsked (T.asked self.new.out) self.new.volumes
+            self.new.course.volume) }
         ensures leaves { IfErr result (Leaves self.old self.new) }
         ensures cause { FailsWith (T.failures self.old.out) result (T.failures self.new.out) }
     {

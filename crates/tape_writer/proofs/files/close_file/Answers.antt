@@ -4,6 +4,7 @@ use Rattle.tape_writer.specs.Inside.{IsStuck}
 use Rattle.tape_writer.proofs.Packed.{err_map}
 use Rattle.tape_writer.proofs.Stuck.{stuck_end}
 use Rattle.tape_writer.proofs.Ends.{between_closed}
+use Rattle.tape_writer.proofs.Last.{lasting_then}
 use Rattle.tape_writer.proofs.files.close_file.Goals as goal
 
 pub returns-clause-filed : goal.returns-clause-filed
@@ -30,3 +31,7 @@ returns-clause-stuck g c =
     (stuck_end (g.T.TapeOut.holds c.flush_last.new.tape.out) c.args.volumes.now c.args.capacity
     set_id c.args.file.now c.flush_last.new.tape.course fs records flat q.1 q.2))
     c.end_file.ensures.none
+
+pub returns-clause-lasting : goal.returns-clause-lasting
+returns-clause-lasting g c =
+    lasting_then _ _ _ _ _ _ _ _ _ c.flush_last.ensures.lasting c.end_file.ensures.lasting

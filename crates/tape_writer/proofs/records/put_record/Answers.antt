@@ -25,6 +25,7 @@ offers-init g c = record {
   room = omega arith;
   judged = inl (refl, refl, refl);
   lasting = lasting_self _ _ _;
+  asked = λ w. w;
   packing = λ set_id fs records k. packing_first (g.T.TapeOut.holds c.args.tape.now.out)
       c.args.volumes.now c.args.capacity set_id c.args.file.now c.args.tape.now.course
       c.args.packer.now fs records c.args.whole.now k;
@@ -70,6 +71,7 @@ offers-preserved g c =
         rw (take_rest c.offers.rest.now c.in-Ok-BlockReady.taken) next,
       );
       lasting = lasting_then _ _ _ _ _ _ _ _ _ c.offers.invariant.lasting c.flush.ensures.lasting;
+      asked = λ w. c.in_ok-flush-in-Ok-BlockReady.ensures.asked (c.offers.invariant.asked w);
       packing = λ set_id fs records k.
           rw (take_rest c.offers.rest.now c.in-Ok-BlockReady.taken)
           (packing_next (g.T.TapeOut.holds c.offers.tape.out)

@@ -5,6 +5,7 @@ use Rattle.tape_set.specs.Layout.{Section}
 use Rattle.tape_writer.specs.Draft.{IsRoomy}
 use Rattle.tape_writer.specs.Inside.{IsInside, IsPacking}
 use Rattle.tape_writer.specs.Lasting.{Lasting}
+use Rattle.tape_writer.specs.Tapes.{WasAsked}
 use Rattle.tape_writer.specs.Room.{room_of}
 use Rattle.tape_writer.proofs.records.put_record.Given as goal
 
@@ -22,6 +23,8 @@ invariant-offers g l = record {
   lasting : Lasting (g.T.TapeOut.holds l.fn.tape.out)
       (g.T.TapeOut.failures l.fn.tape.out) l.fn.tape.course.used (g.T.TapeOut.holds l.tape.out)
       (g.T.TapeOut.failures l.tape.out) l.tape.course.used;
+  asked : WasAsked (g.T.TapeOut.asked l.fn.tape.out) l.volumes l.fn.tape.course.volume
+      → WasAsked (g.T.TapeOut.asked l.tape.out) l.volumes l.tape.course.volume;
   packing : (set_id : List ℕ) (fs : List (List Section)) (records : List (List ℕ))
       → IsInside (g.T.TapeOut.holds l.fn.tape.out) l.volumes l.capacity set_id l.file
       l.fn.tape.course l.fn.packer fs records

@@ -5,6 +5,7 @@ use Rattle.std.specs.Io.KnownBytes.{prepend_known}
 use Rattle.std.proofs.KnownBytes.{prepend_known-nil}
 use Rattle.tape_writer.specs.State.{IsWriting}
 use Rattle.tape_writer.specs.Told.{opened_by}
+use Rattle.tape_writer.proofs.Last.{rose_from}
 use Rattle.tape_writer.proofs.inputs.Putting.{file_told}
 use Rattle.tape_writer.specs.ToldFiles.{with_file}
 use Rattle.tape_writer.proofs.inputs.Refusing.{input_fault, end_fault}
@@ -65,3 +66,9 @@ returns-clause-stuck g c = λ e told held.
     ∙ prepend_known-nil _ ∙ ap (λ d. g.R.Read.remaining d.now) made.0) made.1 made.2
     (c.in_ok-put_records.ensures.told _ (c.in_default.ensures.told told held))
     (λ t h. c.in-Err-end_file.ensures.stuck t h f)
+
+pub returns-in_err-put_records-clause-cause : goal.returns-in_err-put_records-clause-cause
+returns-in_err-put_records-clause-cause g c =
+    let p = err_from_is_err_and c.from_residual.result c.from_residual.ensures.1 in
+    rw (p.1, p.2) (λ e. rose_from _ _ _ c.begin_file.ensures.lasting.count.0
+    (c.in_err-put_records.ensures.cause e))

@@ -1,5 +1,6 @@
 use Rattle.std.proofs.Common.{rules, ap, ◌∙◌}
 use Rattle.tape_writer.specs.State.{SetState}
+use Rattle.tape_writer.proofs.Asked.{asked_of}
 use Rattle.tape_writer.proofs.Last.{lasting_self}
 use Rattle.tape_writer.proofs.Calls.{begin_told}
 use Rattle.tape_writer.proofs.set.SetWriter.begin_with.Goals as goal
@@ -28,3 +29,11 @@ returns-in-Ok-clause-told g c =
     (search rules) (search rules)
     (λ s f x.
     c.in-Ok.ensures.filing c.self.inside.set_id told c.args.packer s f (search rules) x) k)
+
+pub returns-in-Ok-clause-asked : goal.returns-in-Ok-clause-asked
+returns-in-Ok-clause-asked g c =
+    rw (← c.self.view_is) (λ w.
+    asked_of (g.T.TapeOut.asked c.self.inside.tape.out)
+    (g.T.TapeOut.asked c.begin.new.tape.out) c.deref.result.now c.self.inside.volumes.items
+    c.self.inside.tape.course.volume c.begin.new.tape.course.volume (search rules)
+    c.in-Ok.ensures.asked w)

@@ -1,5 +1,6 @@
 use Rattle.std.proofs.Common.{rules}
 use Rattle.tape_writer.specs.State.{SetState}
+use Rattle.tape_writer.proofs.Asked.{asked_of}
 use Rattle.tape_writer.proofs.Last.{lasting_self}
 use Rattle.tape_writer.proofs.Calls.{end_told, stuck_told}
 use Rattle.tape_writer.proofs.set.SetWriter.end_file.Goals as goal
@@ -49,3 +50,11 @@ returns-in-Err-clause-stuck g c =
     c.in-Filing.is
     (search rules)
     (λ fs records x. c.in-Err.ensures.stuck e c.self.inside.set_id fs records x) k)
+
+pub returns-in-Ok-clause-asked : goal.returns-in-Ok-clause-asked
+returns-in-Ok-clause-asked g c =
+    rw (← c.self.view_is) (λ w.
+    asked_of (g.T.TapeOut.asked c.self.inside.tape.out)
+    (g.T.TapeOut.asked c.close_file.new.tape.out) c.deref.result.now c.self.inside.volumes.items
+    c.self.inside.tape.course.volume c.close_file.new.tape.course.volume (search rules)
+    c.in-Ok.ensures.asked w)

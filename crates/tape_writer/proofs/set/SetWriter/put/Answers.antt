@@ -1,5 +1,6 @@
 use Rattle.std.proofs.Common.{rules}
 use Rattle.tape_writer.specs.State.{SetState}
+use Rattle.tape_writer.proofs.Asked.{asked_of}
 use Rattle.tape_writer.proofs.Last.{lasting_self}
 use Rattle.tape_writer.proofs.Calls.{put_told, stuck_put_told, if_filing}
 use Rattle.tape_writer.proofs.set.SetWriter.put.Goals as goal
@@ -57,3 +58,11 @@ returns-in-Err-2-clause-length g c =
     let same = c.in-Err.ensures.always n in
     let no = c.if-eq.ensures in
     search rules))
+
+pub returns-in-Ok-clause-asked : goal.returns-in-Ok-clause-asked
+returns-in-Ok-clause-asked g c =
+    rw (← c.self.view_is) (λ w.
+    asked_of (g.T.TapeOut.asked c.self.inside.tape.out)
+    (g.T.TapeOut.asked c.put_record.new.tape.out) c.deref.result.now c.self.inside.volumes.items
+    c.self.inside.tape.course.volume c.put_record.new.tape.course.volume (search rules)
+    c.in-Ok.ensures.asked w)
