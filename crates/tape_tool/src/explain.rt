@@ -243,8 +243,7 @@ const FILE_OF_VOLUME: &[&str] = &[
 ];
 
 const FILE_OF_OUT: &[&str] = &[
-    "  It may keep a tape, and was left as it is. Nothing was read. It is named .tap,
-  begins as an image, or is compressed, an archive or a stage.
+    "  It may keep a tape, and was left as it is: an image, compressed, or a stage.
   OUT stands before the images: tape extract SET FILE OUT IMAGE..
   Name another OUT, or remove the file if you do not need it.
 ",

@@ -131,7 +131,7 @@ const TOLD: &[(ToolFault, Site<'_>, &str)] = &[
     (
         ToolFault::File(FileFault::Exists),
         Site::Out("a.tap"),
-        "  OUT: a.tap\n  It may keep a tape, and was left as it is.",
+        "  OUT: a.tap\n  It may keep a tape, and was left as it is:",
     ),
     (
         ToolFault::File(FileFault::WriteFailed),
