@@ -1,6 +1,6 @@
 -- What is true of every reader stays so.
 use Rattle.std.proofs.Common.{◌≡◌, ◌<◌, ◌≤◌, ◌⊎◌, inl, inr, ℕ, zero, suc, ◌+◌, List, [], ◌∷◌, ◌++◌}
-use Rattle.std.proofs.Common.{length, take, Bool, true, false, Option, Some, Ok, refl, sym, ap, ◌∙◌}
+use Rattle.std.proofs.Common.{length, take, Bool, true, false, Some, refl, sym, ap, ◌∙◌}
 use Rattle.std.proofs.Common.{arith, length-append}
 use Rattle.std.specs.Prelude.{◌==◌, ◌&&◌, ◌||◌, not, nat_le}
 use Rattle.std.proofs.lemmas.Bool.Decides.{nat_tests}
@@ -11,23 +11,20 @@ use Rattle.tape_blocks.specs.declared.part.Span.TheVariants.{Whole}
 use Rattle.tape_blocks.specs.Block.{Portion, IsUnit}
 use Rattle.tape_blocks.specs.Spans.{InOrder, leaves}
 use Rattle.tape_blocks.specs.Faults.{bool_eq}
-use Rattle.tape_blocks.specs.Judged.{judged, begun_behind}
-use Rattle.tape_blocks.proofs.JudgedLaws.{judged_found}
+use Rattle.tape_blocks.specs.Judged.{begun_behind}
 use Rattle.tape_set.specs.declared.position.Position.{Position}
-use Rattle.tape_set.specs.declared.position.Position.TheVariants.{Awaits, Finished}
-use Rattle.tape_set.specs.Position.{next_block, is_start, awaiting, block_of}
-use Rattle.tape_set.specs.Lawful.{FileForm, most_blocks}
+use Rattle.tape_set.specs.Position.{is_start, awaiting}
+use Rattle.tape_set.specs.Lawful.{FileForm}
 use Rattle.tape_set.proofs.FileParts.{begun_behind-append}
-use Rattle.tape_core.specs.declared.phase.Heading.{Heading}
 use Rattle.tape_core.specs.declared.phase.Phase.{Phase}
 use Rattle.tape_core.specs.declared.phase.Phase.TheVariants.{DataWanted, Over, Broken}
 use Rattle.tape_core.specs.declared.phase.Phase.TheVariants.{Volume as AtVolume, VolumeLabels}
 use Rattle.tape_core.specs.declared.phase.Phase.TheVariants.{Header2, Headers, DataPassed}
 use Rattle.tape_core.specs.declared.phase.Phase.TheVariants.{TrailerPassed, TrailerWanted, Trailers}
 use Rattle.tape_core.specs.declared.phase.Phase.TheVariants.{NextFile}
-use Rattle.tape_core.specs.Known.{is_finished, is_spanned}
+use Rattle.tape_core.specs.Known.{is_spanned}
 use Rattle.tape_core.specs.Parts.{parts_in, goes_on_at, begun_before, other_front}
-use Rattle.tape_core.specs.State.{IsState, ToldFits, is_broken}
+use Rattle.tape_core.specs.State.{ToldFits, is_broken}
 use Rattle.tape_core.specs.Follows.{Follows}
 use Rattle.tape_set.specs.Layout.{FileSet}
 

@@ -18,7 +18,7 @@ use Rattle.tape_core.specs.Table.{step_of}
 use Rattle.tape_core.specs.Follows.{IsFinal}
 use Rattle.tape_core.proofs.BlockLaws.{parts_in_it}
 use Rattle.tape_run.specs.Reels.{behind_items}
-use Rattle.tape_run.specs.ByTable.{parts_from, parts_by, parts_at, parts_of_arrival}
+use Rattle.tape_run.specs.ByTable.{parts_by, parts_at, parts_of_arrival}
 use Rattle.tape_run.specs.ByTable.{delivered_parts}
 use Rattle.tape_run.specs.ByTable.{IsLed, StopsInside}
 use Rattle.tape_run.proofs.FinalAnswers.{IsIdle, behind_final, idle_items}

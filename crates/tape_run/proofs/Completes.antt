@@ -9,7 +9,6 @@ use Rattle.tape_core.specs.Labels.{other_file_id, other_shape, form_at}
 use Rattle.tape_image.specs.Tape.{TapeItem, block, bad, mark}
 use Rattle.tape_label.specs.declared.fault.LabelFault.{LabelFault}
 use Rattle.tape_label.specs.declared.values.Kind.{Kind}
-use Rattle.tape_label.specs.declared.values.Kind.TheVariants as kinds
 use Rattle.tape_label.specs.declared.values.Kind.TheVariants.{Vol1 as AVol1, Hdr1 as AHdr1}
 use Rattle.tape_label.specs.declared.values.Kind.TheVariants.{Hdr2 as AHdr2, Eof1 as AEof1}
 use Rattle.tape_label.specs.declared.values.Kind.TheVariants.{Eof2 as AEof2, Eov1 as AEov1}
@@ -25,7 +24,6 @@ use Rattle.tape_set.specs.declared.position.Position.{Position}
 use Rattle.tape_set.specs.declared.position.Position.TheVariants.{Awaits, Finished}
 use Rattle.tape_set.specs.Position.{next_block, next_section, sect_of, block_of, part_of}
 use Rattle.tape_set.specs.Lawful.{FileForm, label_count, most_blocks}
-use Rattle.tape_core.specs.declared.answer.Answer.{Answer}
 use Rattle.tape_core.specs.declared.answer.Answer.TheVariants.{Complete}
 use Rattle.tape_core.specs.declared.phase.Heading.{Heading}
 use Rattle.tape_core.specs.declared.phase.Phase.{Phase}
@@ -36,10 +34,10 @@ use Rattle.tape_core.specs.declared.phase.Phase.TheVariants.{TrailerWanted, Trai
 use Rattle.tape_core.specs.State.{State}
 use Rattle.tape_core.specs.Parts.{begun_before, other_front}
 use Rattle.tape_core.specs.Table.{Outcome, first_label, at_head1, first_labels, at_head2}
-use Rattle.tape_core.specs.Table.{second_label, at_judged, at_awaited, at_data, at_bad_data}
-use Rattle.tape_core.specs.Table.{at_data_end, at_passed_trailer, at_end, at_wanted_trailer}
+use Rattle.tape_core.specs.Table.{second_label, at_judged, at_data}
+use Rattle.tape_core.specs.Table.{at_passed_trailer, at_end, at_wanted_trailer}
 use Rattle.tape_core.specs.Table.{at_block}
-use Rattle.tape_core.specs.Table.{at_mark, at_bad, at_reel_end, at_item, at_arrival}
+use Rattle.tape_core.specs.Table.{at_mark, at_bad, at_reel_end, at_arrival}
 use Rattle.tape_core.specs.Table.{unless_complete, step_of, other_numbers}
 
 pub record Tells (out : Outcome) : Type 0 where

@@ -1,19 +1,18 @@
 -- The cases of a session and of its history.
-use Rattle.std.proofs.Common.{◌≡◌, ◌≢◌, ◌<◌, ◌≤◌, ◌+◌, ◌⊎◌, ℕ, zero, suc, List, [], ◌∷◌, ◌++◌}
-use Rattle.std.proofs.Common.{length, true, false, Some, None, refl, sym, ap, subst, inl}
+use Rattle.std.proofs.Common.{◌≡◌, ℕ, zero, suc, List, [], ◌∷◌, ◌++◌}
+use Rattle.std.proofs.Common.{length, true, Some, refl, sym, ap, subst, inl}
 use Rattle.std.proofs.Common.{inr, arith}
-use Rattle.std.proofs.Common.{◌∙◌, append-nil, length-append}
+use Rattle.std.proofs.Common.{append-nil, length-append}
 use Rattle.std.specs.Prelude.{slice_get, slice_index}
 use Rattle.tape_image.specs.declared.item.Ending.TheVariants as endings
 use Rattle.tape_image.specs.Tape.{TapeItem, block}
-use Rattle.tape_image.specs.Begins.{Stop, Begins, ends, nothing}
+use Rattle.tape_image.specs.Begins.{Begins, ends, nothing}
 use Rattle.tape_label.specs.Kinds.{kind_at}
 use Rattle.tape_label.specs.Reading.{head_at, head1_at}
 use Rattle.tape_label.specs.VolumeLabels.{is_volume_label}
 use Rattle.tape_blocks.specs.Block.{Portion}
 use Rattle.tape_set.specs.declared.position.Position.{Position}
-use Rattle.tape_set.specs.Layout.{FileSet, Volume, Section, items, entries}
-use Rattle.tape_set.specs.Lawful.{IsLawful}
+use Rattle.tape_set.specs.Layout.{FileSet, items, entries}
 use Rattle.tape_set.specs.Reach.{passes}
 use Rattle.tape_set.specs.Reading.{Reading, IsReadingOf, as_read}
 use Rattle.tape_core.specs.Point.{Point}
@@ -21,18 +20,16 @@ use Rattle.tape_core.specs.Stands.{weight_of}
 use Rattle.tape_core.specs.Table.{saved}
 use Rattle.tape_core.specs.Weight.{IsFront}
 use Rattle.tape_run.specs.declared.fault.RunFault.{RunFault}
-use Rattle.tape_run.specs.Back.{AreVolumes}
 use Rattle.tape_run.specs.Crash.{IsOf}
 use Rattle.tape_run.specs.Given.{IsGiven, AreGiven}
-use Rattle.tape_run.specs.History.{Course, course_of}
+use Rattle.tape_run.specs.History.{course_of}
 use Rattle.tape_run.specs.Headline.{HasStopped}
 use Rattle.tape_run.specs.Lives.{IsPlaceOf}
-use Rattle.tape_run.specs.Mount.{foreign_reel, reads, IsMount, IsMountOf}
+use Rattle.tape_run.specs.Mount.{foreign_reel, reads, IsMount}
 use Rattle.tape_run.specs.Seen.{Seen, IsKept, KeepsNotes}
 use Rattle.tape_run.specs.WorkedHistory.{worked_set, vol1, hdr1}
 use Rattle.tape_run.specs.Cases.{CasesOfMounts, CasesOfHistories, CasesOfGiven, CasesOfVolumes}
 use Rattle.tape_run.specs.Cases.{CasesOfSessions, CasesOfMade, CasesOfStops, CasesOfCrashes}
-use Rattle.tape_run.specs.Cases.{on_one_volume}
 
 -- ---- what may be mounted
 

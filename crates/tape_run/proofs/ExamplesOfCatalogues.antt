@@ -1,16 +1,16 @@
 -- The cases of a catalogue, and of reports of what is on reels.
-use Rattle.std.proofs.Common.{◌≡◌, ◌≢◌, ◌<◌, ◌≤◌, ◌⊎◌, ℕ, zero, suc, List, [], ◌∷◌, ◌++◌, length}
-use Rattle.std.proofs.Common.{Some, None, true, refl, ap, inl, inr, arith, codes, map}
+use Rattle.std.proofs.Common.{◌≡◌, ℕ, zero, suc, List, [], ◌∷◌, ◌++◌, length}
+use Rattle.std.proofs.Common.{true, refl, ap, inl, inr, arith}
 use Rattle.std.specs.Prelude.{slice_index}
-use Rattle.tape_set.specs.Layout.{FileSet, Volume, Section}
+use Rattle.tape_set.specs.Layout.{Volume, Section}
 use Rattle.tape_run.specs.declared.fault.EngineFault.TheVariants.{Run}
 use Rattle.tape_run.specs.declared.fault.RunFault.TheVariants.{NoSuchPoint}
 use Rattle.tape_run.specs.declared.section.SectionKey.{SectionKey}
 use Rattle.tape_run.specs.declared.section.SectionState.TheVariants.{Good}
 use Rattle.tape_run.specs.Cases.{on_one_volume}
 use Rattle.tape_run.specs.Checked.{IsCheckFault}
-use Rattle.tape_run.specs.Lacks.{IsFirstLack, IsFoundWhole, IsGoodAt, lack_of}
-use Rattle.tape_run.specs.Noted.{KeepsPlaces, GoodIsShown, StandsIn}
+use Rattle.tape_run.specs.Lacks.{IsFirstLack, lack_of}
+use Rattle.tape_run.specs.Noted.{KeepsPlaces, GoodIsShown}
 use Rattle.tape_run.specs.Passing.{Told}
 use Rattle.tape_run.specs.Shown.{Shown}
 use Rattle.tape_run.specs.WholeSet.{HasEach}

@@ -1,5 +1,5 @@
 -- The cases of the laws.
-use Rattle.std.proofs.Common.{◌≡◌, ◌≢◌, ℕ, List, [], ◌∷◌, length, map, Option, Some, None, refl, ap}
+use Rattle.std.proofs.Common.{◌≡◌, ◌≢◌, ℕ, List, [], ◌∷◌, Some, None, refl, ap}
 use Rattle.std.proofs.Common.{subst, arith, true, false}
 use Rattle.std.specs.Prelude.{MatchOption}
 use Rattle.tape_run.specs.declared.section.SectionKey.{SectionKey}

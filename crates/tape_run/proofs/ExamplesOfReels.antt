@@ -1,6 +1,5 @@
 -- The cases of a reel's answer, and of where the table leads over any tapes.
-use Rattle.std.proofs.Common.{◌≡◌, ℕ, List, [], ◌∷◌, ◌++◌, Some, None, refl, sym, ap, inl, inr, ◌∙◌}
-use Rattle.std.proofs.Common.{append-nil, ◌⊎◌}
+use Rattle.std.proofs.Common.{◌≡◌, [], ◌∷◌, refl, inl, inr}
 use Rattle.tape_image.specs.declared.item.Ending.TheVariants.{Physical}
 use Rattle.tape_image.specs.Begins.{ends}
 use Rattle.tape_label.specs.Kinds.{kind_at}
@@ -11,7 +10,7 @@ use Rattle.tape_blocks.specs.Parts.{parts_by}
 use Rattle.tape_blocks.specs.Judged.{judged}
 use Rattle.tape_core.specs.declared.answer.Answer.TheVariants.{Complete}
 use Rattle.tape_run.specs.declared.script.Step.TheVariants.{Save, Restart}
-use Rattle.tape_run.specs.Lead.{Lead, Noted, lead}
+use Rattle.tape_run.specs.Lead.{Lead, lead}
 use Rattle.tape_run.specs.Reels.{GoesOn}
 use Rattle.tape_run.proofs.Examples.{empty_begins}
 use Rattle.tape_run.specs.CasesOfReels.{CasesOfAnswers, CasesOfTable, CasesOfLeads}

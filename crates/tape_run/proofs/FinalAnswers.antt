@@ -1,6 +1,6 @@
 -- Behind a final answer of a core nothing is delivered, and nothing that it keeps changes.
-use Rattle.std.proofs.Common.{◌≡◌, ℕ, ◌+◌, Bool, true, false, List, [], ◌∷◌, ◌++◌, Option, Some}
-use Rattle.std.proofs.Common.{None, Result, Ok, Err, refl, sym, ap, ◌∙◌, subst}
+use Rattle.std.proofs.Common.{◌≡◌, ℕ, Bool, true, false, List, [], ◌∷◌, ◌++◌, Option, Some}
+use Rattle.std.proofs.Common.{Result, Ok, Err, refl, sym, ap, ◌∙◌, subst}
 use Rattle.std.specs.Prelude.{if◌then◌else◌, not, nat_lt, ◌==◌, ⊤}
 use Rattle.std.specs.Str.{bytes_eq}
 use Rattle.tape_label.specs.VolumeLabels.{is_volume_label}
@@ -20,10 +20,9 @@ use Rattle.tape_blocks.specs.declared.fault.BlockFault.{BlockFault}
 use Rattle.tape_blocks.specs.Judged.{judged}
 use Rattle.tape_set.specs.declared.position.Position.{Position}
 use Rattle.tape_set.specs.declared.position.Position.TheVariants.{Awaits, Finished}
-use Rattle.tape_set.specs.Position.{next_block, next_section, sect_of, block_of, part_of}
+use Rattle.tape_set.specs.Position.{next_section, sect_of, block_of, part_of}
 use Rattle.tape_set.specs.Lawful.{FileForm, label_count, most_blocks}
 use Rattle.tape_core.specs.declared.answer.Answer.{Answer}
-use Rattle.tape_core.specs.declared.answer.Answer.TheVariants.{Passed, Deliver, Complete, Useless}
 use Rattle.tape_core.specs.declared.answer.Reason.{Reason}
 use Rattle.tape_core.specs.declared.phase.Heading.{Heading}
 use Rattle.tape_core.specs.declared.phase.Phase.{Phase}
@@ -37,11 +36,10 @@ use Rattle.tape_core.specs.Follows.{IsFinal}
 use Rattle.tape_core.specs.Place.{rest_of}
 use Rattle.tape_core.specs.Table.{Outcome, passed, useless, broken, first_label, at_head1}
 use Rattle.tape_core.specs.Table.{first_labels}
-use Rattle.tape_core.specs.Table.{at_head2, second_label, at_judged, at_awaited, at_data}
-use Rattle.tape_core.specs.Table.{at_bad_data}
-use Rattle.tape_core.specs.Table.{at_data_end, at_passed_trailer, at_end, at_wanted_trailer}
+use Rattle.tape_core.specs.Table.{at_head2, second_label, at_judged, at_data}
+use Rattle.tape_core.specs.Table.{at_passed_trailer, at_end, at_wanted_trailer}
 use Rattle.tape_core.specs.Table.{at_block}
-use Rattle.tape_core.specs.Table.{at_mark, at_bad, at_reel_end, at_item, at_arrival}
+use Rattle.tape_core.specs.Table.{at_mark, at_bad, at_item}
 use Rattle.tape_core.specs.Table.{unless_complete, step_of, other_numbers}
 use Rattle.tape_run.specs.Reels.{behind_items}
 use Rattle.tape_run.specs.ByTable.{parts_at, delivered_parts}

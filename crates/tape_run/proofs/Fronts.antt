@@ -3,10 +3,9 @@ use Rattle.std.proofs.Common.{◌≡◌, ◌≢◌, ◌≤◌, ℕ, zero, suc, �
 use Rattle.std.proofs.Common.{false}
 use Rattle.std.proofs.Common.{length, take, refl, sym, ap, subst, ◌∙◌, inl, inr, arith}
 use Rattle.std.proofs.Common.{length-append}
-use Rattle.std.proofs.Common.{cond}
 use Rattle.std.specs.Prelude.{if◌then◌else◌, drop, ◌&&◌}
 use Rattle.tape_image.specs.Tape.{TapeItem, block, bad, mark}
-use Rattle.tape_image.specs.Begins.{Stop, Walks, Begins}
+use Rattle.tape_image.specs.Begins.{Walks}
 use Rattle.tape_image.proofs.Leads.{Leads-before}
 use Rattle.tape_image.proofs.Existence.{Begins-some}
 use Rattle.tape_image.proofs.Callers.{walked_front}
@@ -20,9 +19,7 @@ use Rattle.tape_set.specs.Reach.{passes}
 use Rattle.tape_run.specs.Mount.{Happening, reads, foreign_reel, saves, restarts, IsCopy, IsMount}
 use Rattle.tape_run.specs.Mount.{IsMountOf, cut}
 use Rattle.tape_run.specs.Fronts.{FrontsAreMounts, GivenIsHistory}
-use Rattle.tape_run.specs.Given.{AreGiven, IsGiven}
-use Rattle.tape_run.specs.History.{IsHistory}
-use Rattle.tape_run.specs.declared.script.Step.{Step}
+use Rattle.tape_run.specs.Given.{IsGiven}
 use Rattle.tape_run.specs.declared.script.Step.TheVariants.{Reel, Save, Restart}
 
 -- ---- copies

@@ -1,6 +1,6 @@
 -- A run is where the table leads it.
 use Rattle.std.proofs.Common.{◌≡◌, ℕ, zero, suc, ◌+◌, List, [], ◌∷◌, ◌++◌, take, Some, refl, sym}
-use Rattle.std.proofs.Common.{ap, subst, ◌∙◌, arith, Bool}
+use Rattle.std.proofs.Common.{ap, ◌∙◌, arith, Bool}
 use Rattle.std.specs.List.{slice_get}
 use Rattle.tape_blocks.specs.Block.{Portion}
 use Rattle.tape_image.specs.Tape.{TapeItem}
@@ -17,7 +17,7 @@ use Rattle.tape_run.specs.Reels.{behind_items}
 use Rattle.tape_run.specs.ByTable.{delivered_parts}
 use Rattle.tape_run.specs.Seen.{Seen}
 use Rattle.tape_run.specs.Steps.{Reeled, Saved, WentBack}
-use Rattle.tape_run.specs.Lead.{Noted, Lead, over_reel, over_save, back_to, lead, AreItems}
+use Rattle.tape_run.specs.Lead.{Noted, Lead, over_reel, over_save, back_to, AreItems}
 use Rattle.tape_run.specs.Lead.{AreNoted}
 use Rattle.tape_run.specs.Lead.{StandsThere, LeadsBy, ItemsAreThere}
 use Rattle.tape_image.proofs.Existence.{Begins-some}

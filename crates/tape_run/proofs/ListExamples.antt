@@ -2,16 +2,10 @@
 use Rattle.std.proofs.Common.{◌≡◌, ℕ, ◌+◌, List, [], ◌∷◌, ◌++◌, length, Option, refl, sym, ap, ◌∙◌}
 use Rattle.std.proofs.Common.{append_assoc}
 use Rattle.std.specs.List.{flat_map}
-use Rattle.std.specs.Io.KnownBytes.{Appends}
-use Rattle.tape_image.specs.declared.item.Ending.{Ending}
-use Rattle.tape_image.specs.declared.fault.ImageFault.{ImageFault}
-use Rattle.tape_image.specs.Tape.{TapeItem}
-use Rattle.tape_image.specs.Begins.{Walks}
-use Rattle.tape_image.specs.Step.{TakesEnd, TakesFault}
 use Rattle.tape_run.specs.Output.{AppendsFront}
 use Rattle.tape_run.specs.ListLine.{line_of}
 use Rattle.tape_run.specs.Listing.{lines_from, end_line}
-use Rattle.tape_run.specs.Listed.{StopsWriting, AppendsInto, at_item, at_end, at_fault}
+use Rattle.tape_run.specs.Listed.{AppendsInto, at_item, at_end, at_fault}
 use Rattle.tape_run.specs.ListExamples.{StopSays}
 
 into_front : (old new : Option (List ℕ)) (all part : List ℕ) → AppendsInto old new all part

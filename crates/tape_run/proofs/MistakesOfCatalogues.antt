@@ -1,7 +1,7 @@
 -- Answers that the contracts of a catalogue exclude: each is what a wrong body would give.
-use Rattle.std.proofs.Common.{◌≡◌, ℕ, ◌+◌, List, [], ◌∷◌, ◌++◌, length, map, true, false, sym, ap}
+use Rattle.std.proofs.Common.{◌≡◌, ℕ, List, [], ◌∷◌, ◌++◌, length, map, true, false, sym, ap}
 use Rattle.std.proofs.Common.{◌∙◌, subst, arith, codes}
-use Rattle.std.specs.Prelude.{Option, Some, None, Ok, MatchOption, not}
+use Rattle.std.specs.Prelude.{Option, Some, None, Ok, MatchOption}
 use Rattle.tape_image.specs.declared.fault.ImageCause.{ImageCause}
 use Rattle.tape_image.specs.declared.item.Ending.TheVariants as endings
 use Rattle.tape_image.specs.Tape.{TapeItem, block}

@@ -1,35 +1,30 @@
 -- The worked history, by computation.
-use Rattle.std.proofs.Common.{◌≡◌, ◌≤◌, ◌<◌, ℕ, List, [], ◌∷◌, ◌++◌, true, false, refl, sym, ap}
+use Rattle.std.proofs.Common.{◌≡◌, ◌≤◌, ℕ, List, [], ◌∷◌, ◌++◌, true, false, refl, sym, ap}
 use Rattle.std.proofs.Common.{◌∙◌, subst, inl, codes, lit≤, lit<, Some, None, ◌+◌, ◌%◌, arith}
-use Rattle.std.specs.Prelude.{replicate, length, map}
-use Rattle.std.specs.List.{AllByRecursion, flat_map}
-use Rattle.tape_image.specs.Tape.{TapeItem, IsTapeItem, block, bad, mark}
-use Rattle.tape_image.specs.Word.{IsWord}
+use Rattle.std.specs.Prelude.{replicate, length}
+use Rattle.std.specs.List.{flat_map}
+use Rattle.tape_image.specs.Tape.{TapeItem, block, bad, mark}
 use Rattle.tape_image.specs.Spelling as spelling
 use Rattle.tape_image.specs.Spelling.{Spelling}
 use Rattle.tape_image.specs.Begins.{Stop, Begins, ends, faults}
 use Rattle.tape_image.specs.Begins as begin
 use Rattle.tape_image.specs.declared.item.Ending.TheVariants.{Marked, Physical}
 use Rattle.tape_image.specs.declared.fault.ImageCause.TheVariants.{Truncated}
-use Rattle.tape_label.specs.declared.values.Format.TheVariants.{Spanned}
 use Rattle.tape_label.specs.Kinds.{kind_at}
 use Rattle.tape_label.specs.VolumeLabels.{is_volume_label}
 use Rattle.tape_label.specs.Reading.{head1_at, head_at}
-use Rattle.tape_blocks.specs.Block.{Holds}
 use Rattle.tape_set.proofs.Worked as w
 use Rattle.tape_set.proofs.Worked.{Fit, made_section, made_form}
 use Rattle.tape_set.proofs.WorkedSpan as sp
-use Rattle.tape_set.specs.declared.position.Position.TheVariants.{Finished}
 use Rattle.tape_set.specs.Layout.{FileSet, items}
 use Rattle.tape_set.specs.Lawful.{IsLawful, most_blocks}
 use Rattle.tape_set.specs.Position.{want_at}
-use Rattle.tape_set.specs.Before.{before}
 use Rattle.tape_core.specs.Foreign.{starts_set}
-use Rattle.tape_run.specs.Mount.{IsCopy, IsMountOf, reads, foreign_reel}
-use Rattle.tape_run.specs.History.{Course, course, IsHistory}
+use Rattle.tape_run.specs.Mount.{IsMountOf, reads, foreign_reel}
+use Rattle.tape_run.specs.History.{Course, IsHistory}
 use Rattle.tape_run.specs.Given.{AreGiven}
 use Rattle.tape_run.specs.Seen.{Seen}
-use Rattle.tape_run.specs.Headline.{begins, IsRead}
+use Rattle.tape_run.specs.Headline.{IsRead}
 use Rattle.tape_run.proofs.Back.{none_failed, all_given}
 use Rattle.tape_run.specs.WorkedHistory.{worked_set, vol1, hdr1, hdr1_of_2, hdr2, eov1, eov2, eof1}
 use Rattle.tape_run.specs.WorkedHistory.{eof2, block_0, block_1, block_2, a_mark, an_end, label}

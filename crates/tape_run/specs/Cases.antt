@@ -1,10 +1,10 @@
 -- What the definitions of a session and of its history say of cases, so that none of them says
 -- less, or asks more, than it should. The call `laws::cases` has them as its contract.
-use Rattle.std.specs.Prelude.{◌≡◌, ◌≢◌, ◌≤◌, ◌+◌, ◌⊎◌, ℕ, Bool, true, false, List, [], ◌∷◌, ◌++◌}
-use Rattle.std.specs.Prelude.{length, take, drop, replicate, slice_get, Option, Some, None, IsSome}
+use Rattle.std.specs.Prelude.{◌≡◌, ◌≤◌, ℕ, Bool, true, false, List, [], ◌∷◌, ◌++◌}
+use Rattle.std.specs.Prelude.{length, take, drop, slice_get, Some, None, IsSome}
 use Rattle.std.specs.Prelude.{Result, Ok, Err}
-use Rattle.tape_image.specs.declared.fault.ImageCause.TheVariants.{Truncated, LengthsDiffer}
-use Rattle.tape_image.specs.declared.fault.ImageCause.TheVariants.{Reserved, TooLong, Device}
+use Rattle.tape_image.specs.declared.fault.ImageCause.TheVariants.{Truncated}
+use Rattle.tape_image.specs.declared.fault.ImageCause.TheVariants.{Device}
 use Rattle.tape_image.specs.declared.fault.ImageCause.TheVariants.{OutOfMemory as NoMemory}
 use Rattle.tape_image.specs.Tape.{TapeItem, block, mark}
 use Rattle.tape_image.specs.Begins.{Stop, Begins}
@@ -30,14 +30,14 @@ use Rattle.tape_run.specs.declared.script.Step.TheVariants.{Reel, Save, Restart}
 use Rattle.tape_run.specs.Back.{reels_of, AreVolumes}
 use Rattle.tape_run.specs.Crash.{IsOf, StoodAt}
 use Rattle.tape_run.specs.Given.{is_device, IsGiven, AreGiven, counted, counted_up}
-use Rattle.tape_run.specs.Headline.{Ran, HasRun, IsNew, IsStart, IsRead, PutRefused, Stops}
+use Rattle.tape_run.specs.Headline.{Ran, HasRun, IsStart, IsRead, PutRefused, Stops}
 use Rattle.tape_run.specs.Headline.{HasStopped, HasRestart, begins, reels_in}
 use Rattle.tape_run.specs.History.{Course, IsHistory, course, course_of}
-use Rattle.tape_run.specs.Lives.{IsPlaceOf, ComesBack, Life, IsResumed, AreHistories, GoesOn}
+use Rattle.tape_run.specs.Lives.{IsPlaceOf, ComesBack, IsResumed, AreHistories, GoesOn}
 use Rattle.tape_run.specs.Mount.{Happening, reads, foreign_reel, saves, restarts, IsMount}
 use Rattle.tape_run.specs.Mount.{IsMountOf, after_mount, cut}
 use Rattle.tape_run.specs.Runs.{Runs}
-use Rattle.tape_run.specs.Seen.{Seen, AreNotes, IsSession, IsKept, IsNote, seen}
+use Rattle.tape_run.specs.Seen.{Seen, AreNotes, IsSession, IsKept, seen}
 use Rattle.tape_run.specs.Steps.{Reeled, ReelFails, SaveFails, RestartFails, WentBack, Saved}
 use Rattle.tape_run.specs.Steps.{StoppedBy}
 use Rattle.tape_run.specs.Story.{Story}

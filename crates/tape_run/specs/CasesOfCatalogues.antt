@@ -1,6 +1,6 @@
 -- What the definitions of a catalogue, and of reports of what is on reels, say of cases. The call
 -- `laws::cases` has them as its contract.
-use Rattle.std.specs.Prelude.{◌≡◌, ◌<◌, ◌≤◌, ◌⊎◌, ℕ, Bool, true, false, List, [], ◌∷◌, ◌++◌, length}
+use Rattle.std.specs.Prelude.{◌≡◌, ◌<◌, ℕ, Bool, true, false, List, [], ◌∷◌, ◌++◌, length}
 use Rattle.std.specs.Prelude.{map, Option, Some, None, codes}
 use Rattle.std.specs.List.{AllByRecursion, flat_map}
 use Rattle.std.specs.Io.KnownBytes.{Appends}
@@ -24,14 +24,14 @@ use Rattle.tape_run.specs.declared.section.Lack.{Lack}
 use Rattle.tape_run.specs.declared.section.SectionKey.{SectionKey}
 use Rattle.tape_run.specs.declared.section.SectionState.{SectionState}
 use Rattle.tape_run.specs.declared.section.SectionState.TheVariants.{Good, Bad, Count, Cut}
-use Rattle.tape_run.specs.Added.{Adds, AddsInPart, StopsBehind}
+use Rattle.tape_run.specs.Added.{Adds, StopsBehind}
 use Rattle.tape_run.specs.Cases.{on_one_volume}
 use Rattle.tape_run.specs.CheckLine.{image_line, image_lines, section_line, found_line}
 use Rattle.tape_run.specs.Checked.{Reel, IsRead, AreRead, IsReport, ReportsInPart, IsCheckFault}
 use Rattle.tape_run.specs.Checked.{summary, summary_behind, Tells}
 use Rattle.tape_run.specs.Lacks.{IsFirstLack, IsFoundWhole, IsGoodAt, lacks, found_all, key_at}
 use Rattle.tape_run.specs.Lacks.{line_of, good_end, entry_at}
-use Rattle.tape_run.specs.Noted.{noted, noted_all, KeepsPlaces, GoodIsShown, StandsIn}
+use Rattle.tape_run.specs.Noted.{noted, noted_all, KeepsPlaces, GoodIsShown}
 use Rattle.tape_run.specs.Passing.{Told, met_in}
 use Rattle.tape_run.specs.Shown.{Shown, BeginsVolume, HeadsSection, EndsSection}
 use Rattle.tape_run.specs.WholeReels.{AreWholeCopies, IsToldWhole, IsShownOn, IsListedGood}

@@ -1,7 +1,7 @@
 -- What the definitions of files got back say of cases. The call `laws::cases` has them as its
 -- contract.
 use Rattle.std.specs.Prelude.{◌≡◌, ◌≢◌, ◌<◌, ◌≤◌, ◌⊎◌, ℕ, List, [], ◌∷◌, ◌++◌, length, map, Option}
-use Rattle.std.specs.Prelude.{Some, None, IfSome, Bool, true, false, ⊤}
+use Rattle.std.specs.Prelude.{Some, None, Bool, true, false, ⊤}
 use Rattle.std.specs.Io.KnownBytes.{Appends}
 use Rattle.tape_blocks.specs.declared.form.Form.{Form}
 use Rattle.tape_blocks.specs.Block.{Portion}
@@ -18,24 +18,22 @@ use Rattle.tape_core.specs.declared.answer.Answer.TheVariants.{SectionDone, Usel
 use Rattle.tape_core.specs.declared.answer.Reason.TheVariants.{BlockCount, Broken, BadItem}
 use Rattle.tape_core.specs.Place.{IsPlaced, rest_of}
 use Rattle.tape_core.specs.State.{State}
-use Rattle.tape_run.specs.declared.answer.ReelAnswer.{ReelAnswer}
 use Rattle.tape_run.specs.Extracting.{IsWritten, Ends, Extracts, Stops}
 use Rattle.tape_run.specs.ExtractingNow.{IsPut, EndsNow, ExtractsNow, StopsNow}
-use Rattle.tape_run.specs.Given.{is_device, IsGiven}
 use Rattle.tape_run.specs.Lead.{Lead, over_reel}
 use Rattle.tape_run.specs.Mount.{Happening, IsMountOf, foreign_reel}
 use Rattle.tape_run.specs.Output.{AppendsFront}
-use Rattle.tape_run.specs.OutSinks.{HasTaken, IsText, with_end, begun_text, TellsAlways}
+use Rattle.tape_run.specs.OutSinks.{HasTaken, IsText, with_end}
 use Rattle.tape_run.specs.RecordText.{output_of}
-use Rattle.tape_run.specs.ReelLine.{reel_line, reel_lines, last_line}
+use Rattle.tape_run.specs.ReelLine.{reel_lines, last_line}
 use Rattle.tape_run.specs.Reeling.{Opened, Turn, answer_of, AreTurns, IsTurn, Follows, AreGiven}
-use Rattle.tape_run.specs.Reeling.{AreMounts, AreTapes, over_tapes, IsThere, Gathers, Arrives}
-use Rattle.tape_run.specs.Reeling.{reached, is_doubtful, IsNoted, ReadsReel, Takes, TakesAll}
-use Rattle.tape_run.specs.Reeling.{IsReported, StopsReading, goes_back, IsKeptFor, AreSure}
+use Rattle.tape_run.specs.Reeling.{AreMounts, AreTapes, over_tapes, IsThere, Gathers}
+use Rattle.tape_run.specs.Reeling.{reached, is_doubtful, IsNoted, ReadsReel}
+use Rattle.tape_run.specs.Reeling.{goes_back, IsKeptFor, AreSure}
 use Rattle.tape_run.specs.Reeling.{AreFirstTurns}
 use Rattle.tape_run.specs.Reeling.{step_behind, notes_behind, steps_of, AreTold, AreSteps}
 use Rattle.tape_run.specs.Reels.{Reads}
-use Rattle.tape_run.specs.Seen.{Seen, seen, IsKept}
+use Rattle.tape_run.specs.Seen.{Seen, IsKept}
 use Rattle.tape_run.specs.Steps.{Saved, WentBack}
 use Rattle.tape_run.specs.declared.script.Step.TheVariants.{Reel, Save, Restart}
 use Rattle.tape_core.specs.Point.{Point}

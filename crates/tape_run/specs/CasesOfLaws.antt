@@ -4,7 +4,7 @@ use Rattle.std.specs.Prelude.{◌≡◌, ℕ, true, false, List, [], ◌∷◌, 
 use Rattle.std.specs.Prelude.{None, IsSome, Bool, Err}
 use Rattle.tape_image.specs.Tape.{TapeItem}
 use Rattle.tape_blocks.specs.Block.{Portion}
-use Rattle.tape_set.specs.Layout.{FileSet, Placed, nth, file_of, sections, items, on}
+use Rattle.tape_set.specs.Layout.{FileSet, nth, file_of, sections, items, on}
 use Rattle.tape_set.specs.Lawful.{IsLawful}
 use Rattle.tape_core.specs.declared.sink.SinkFault.{SinkFault}
 use Rattle.tape_core.specs.Point.{Point}
@@ -32,7 +32,6 @@ use Rattle.tape_run.specs.OneEntry.{HasOneEach, OneEntryASection}
 use Rattle.tape_run.specs.Passing.{Told, met_in}
 use Rattle.tape_run.specs.Runs.{Runs, OnlyRefusalsStop, IsRefusal}
 use Rattle.tape_run.specs.Seen.{Seen}
-use Rattle.tape_run.specs.Shown.{Shown}
 use Rattle.tape_run.specs.WholeReels.{WholeSetIsTold, GoodWasSeen, AreWholeCopies, IsToldWhole}
 use Rattle.tape_run.specs.WholeReels.{IsShownOn}
 use Rattle.tape_run.specs.WholeSet.{HasEach, AreAllGood, behind_copies, WholeVolumeIsGood}

@@ -1,6 +1,6 @@
 -- What the definitions of a reel's answer, and of where the table leads over any tapes, say of
 -- cases. The call `laws::cases` has them as its contract.
-use Rattle.std.specs.Prelude.{◌≡◌, ◌+◌, ◌⊎◌, ℕ, List, [], ◌∷◌, ◌++◌, length, take, drop, codes}
+use Rattle.std.specs.Prelude.{◌≡◌, ◌+◌, ℕ, List, [], ◌∷◌, ◌++◌, take, drop, codes}
 use Rattle.std.specs.Prelude.{Option, Some, None, false}
 use Rattle.std.specs.List.{AllByRecursion}
 use Rattle.tape_image.specs.Tape.{TapeItem, block, bad, mark}
@@ -13,7 +13,6 @@ use Rattle.tape_set.specs.Lawful.{FileForm}
 use Rattle.tape_set.specs.declared.position.Position.{Position}
 use Rattle.tape_set.specs.declared.position.Position.TheVariants.{Awaits, Finished}
 use Rattle.tape_set.specs.Position.{start, awaiting, part_of, at_part}
-use Rattle.tape_core.specs.declared.answer.Answer.{Answer}
 use Rattle.tape_core.specs.declared.answer.Answer.TheVariants.{Passed, Deliver, Complete}
 use Rattle.tape_core.specs.declared.sink.SinkFault.{SinkFault}
 use Rattle.tape_core.specs.Follows.{IsFinal}
@@ -32,13 +31,13 @@ use Rattle.tape_run.specs.ByTable.{parts_from, parts_by, parts_at, delivered_par
 use Rattle.tape_run.specs.ByTable.{StopsInside, IsCutAt}
 use Rattle.tape_run.specs.Headline.{HasRun, IsRead, HasStopped, reels_in}
 use Rattle.tape_run.specs.Lead.{Noted, Lead, at_start, lead, AreItems, AreNoted, StandsThere}
-use Rattle.tape_run.specs.Lead.{StopsBy, over_save}
+use Rattle.tape_run.specs.Lead.{StopsBy}
 use Rattle.tape_run.specs.Reels.{Reads, ReadsReel, ReadsToBlock, EndedByItem, EndedByMedium}
 use Rattle.tape_run.specs.Reels.{EndedByFault, Leaves, GoesOn, answers_to, behind_items}
 use Rattle.tape_run.specs.Reels.{delivered_by}
 use Rattle.tape_run.specs.Seen.{Seen}
 use Rattle.tape_run.specs.Steps.{Reeled, CutShort}
-use Rattle.tape_run.specs.WorkedHistory.{block_0, block_1, vol1, hdr1, hdr2, first, middle}
+use Rattle.tape_run.specs.WorkedHistory.{block_0, block_1, vol1, hdr1, hdr2, first}
 
 -- ---- what a reel answers
 

@@ -1,12 +1,10 @@
 -- A worked history: one small file on two volumes, twelve steps over reels whose bytes are written
 -- out, and what the headline says of them.
-use Rattle.std.specs.Prelude.{◌≡◌, ℕ, Bool, true, false, List, [], ◌∷◌, ◌++◌, Some, None, codes}
-use Rattle.std.specs.Prelude.{replicate, length}
-use Rattle.tape_label.specs.declared.values.Format.TheVariants.{Spanned}
+use Rattle.std.specs.Prelude.{◌≡◌, ℕ, Bool, true, false, List, [], ◌∷◌, ◌++◌, None, codes}
+use Rattle.std.specs.Prelude.{replicate}
 use Rattle.tape_blocks.specs.declared.part.Span.TheVariants.{First, Middle, Last}
 use Rattle.tape_blocks.specs.Block.{Portion}
-use Rattle.tape_blocks.specs.Spans.{Joined, join}
-use Rattle.tape_blocks.specs.Tight.{Filled}
+use Rattle.tape_blocks.specs.Spans.{join}
 use Rattle.tape_set.specs.declared.position.Position.{Position}
 use Rattle.tape_set.specs.declared.position.Position.TheVariants.{Finished}
 use Rattle.tape_set.specs.Position.{start, awaiting, want_at}
