@@ -115,12 +115,12 @@ one_given set bytes failed (x ∷ xs) all (inr (n, more, is, rest)) =
 -- partial_file_given: the sink refused part 3 of a block, and the file is given as one that was
 -- read.
 partial_file_given : (R : _) (LR : _) (h : _) (d : _) (κs : _) (a : _) (session : _) (s : _)
-    (set : FileSet) (bytes : List ℕ) → read_file.Learnt R LR h d κs a (Some session) s
+    (set : FileSet) (bytes : List ℕ) → read_file.Learnt-named R LR h d κs a (Ok (session, Ok tt)) s
     → IsLawful set → a.1.0 ≡ set.set_id → IsSome (file_of set a.1.1.0) → GivesMounts set bytes
     → a.1.1.1.0.now ≡ Reel ∷ [] → map h.remaining a.1.1.1.1.0.now ≡ Some bytes ∷ []
     → session.core.position ≡ Awaits 1 0 3 → ⊥
 partial_file_given R LR h d κs a session s set bytes k lawful id file all one known stands =
-    let r = k (bytes ∷ []) known in
+    let r = k.read (bytes ∷ []) known in
     let (m, history, front) = one_given set bytes r.3.failed r.3.given all r.3.are_given in
     let steps : IsHistory set 0 a.1.1.1.0.now r.3.given (m ∷ [])
     = subst (λ v. IsHistory set 0 v r.3.given (m ∷ [])) (sym one) history in

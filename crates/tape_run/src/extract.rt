@@ -94,9 +94,15 @@ fn end_report<P: Write>(report: &mut P, want: Option<Want>, records: u64) -> Res
     Ok(flush(report)?)
 }
 
-/// Writes the records of a file that is complete, has the writer pass them on, and says how many
-/// there are.
-fn write_file<S: PartWalk, W: Write>(
+/// Writes the records that the parts of a sink join to, has the writer pass them on, and says how
+/// many there are. Of a record that is begun and not ended nothing is written, so of a file that is
+/// not complete it writes the records before what is wanted.
+///
+/// # Errors
+///
+/// `Run(Sink)` with what the sink's device refused, or `Failed` where it gives fewer records than
+/// it did when they were counted; `WriteFailed`. What was written before is a front of the records.
+pub fn write_file<S: PartWalk, W: Write>(
     sink: &mut S,
     form: Form,
     out: &mut W,

@@ -35,7 +35,9 @@ mod whole;
 pub use answer::ReelAnswer;
 pub use catalogue::Catalogue;
 pub use check::check_to;
-pub use extract::{OutSink, Place, ReportLine, extract_now, extract_to, last_line, reel_line};
+pub use extract::{
+    OutSink, Place, ReportLine, extract_now, extract_to, last_line, reel_line, write_file,
+};
 pub use fault::{EngineFault, ListFault, RunFault, WriteFailed};
 pub use identifier::printed;
 pub use laws::{only_refusals_stop, stands_across_crashes, stood_comes_back};

@@ -1,13 +1,14 @@
 //! Whole readings, each in one call.
 
-ghost use Rattle.std.specs.Prelude.{◌≡◌, ◌≢◌, [], ◌∷◌, ℕ, List, Option, Some, None, OnOk, IfErr};
-ghost use Rattle.std.specs.Prelude.{IfSome, map};
+ghost use Rattle.std.specs.Prelude.{◌≡◌, ◌≢◌, [], ◌∷◌, ℕ, List, Option, Some, None, map};
+ghost use Rattle.std.specs.Prelude.{Err, IsOk, IfOk, OnOk, IfErr};
 ghost use Rattle.tape_blocks.specs.Block.{Portion};
+ghost use Rattle.tape_core.specs.Known.{IsFileNumber};
 ghost use Rattle.tape_core.specs.Place.{rest_of};
 ghost use Rattle.tape_core.specs.Point.{Point};
 ghost use Rattle.tape_core.specs.Crash.{OnlyThis};
 ghost use Rattle.tape_core.specs.Memory.{portions};
-ghost use Rattle.tape_run.specs.Headline.{IsRead, HasStopped, HasRestart};
+ghost use Rattle.tape_run.specs.Headline.{IsRead, IsStart, HasStopped, HasRestart};
 ghost use Rattle.tape_run.specs.Lives.{Life, IsResumed, Outlives, GoesOn};
 ghost use Rattle.tape_run.specs.Seen.{Seen, seen};
 
@@ -16,33 +17,43 @@ use crate::script::{Step, run};
 use crate::session::Session;
 use std::alloc::Global;
 use std::io::Read;
-use tape_core::{Checkpoint, MemorySink, PartSink, SinkFault};
+use tape_core::{Checkpoint, CoreFault, MemorySink, PartSink, SinkFault};
 use tape_label::Field;
 
-/// Reads a file into memory: a session from the file's start, and a run over the steps. `None`
-/// where the file's number is not 1 to 9,999, or a step was not made.
+/// Reads a file into memory: a session from the file's start, and a run over the steps. The session
+/// is where the steps that were made lead, also where one was not.
+///
+/// # Errors
+///
+/// `FileNumber`, where the file's number is not 1 to 9,999. Beside the session: what `run` answers.
 pub fn read_file<R: Read>(
     alloc: Global,
     set_id: Field<6>,
     file: u16,
     steps: &[Step],
     reels: &mut [R],
-) -> Option<Session<MemorySink>>
+) -> Result<(Session<MemorySink>, Result<(), RunFault>), CoreFault>
     // The headline with no premise on a sink: what is in memory are the parts before the position
     // that the history leads to.
-    ensures { IfSome result (λ session. (bytes : List (List ℕ))
+    ensures read { IfOk result (λ read. OnOk read.1 ((bytes : List (List ℕ))
         → map R.remaining reels.old ≡ map Some bytes
-        → (now : Seen) × (now.parts ≡ portions session.sink) × (now.place ≡ rest_of session.core)
-        × IsRead set_id file steps.now bytes now) }
+        → (now : Seen) × (now.parts ≡ portions read.0.sink) × (now.place ≡ rest_of read.0.core)
+        × IsRead set_id file steps.now bytes now)) }
+    // A fault ended the steps: the same of those before it.
+    ensures stopped { IfOk result (λ read. IfErr read.1 (λ fault. (bytes : List (List ℕ))
+        → map R.remaining reels.old ≡ map Some bytes
+        → (began : Seen) × IsStart set_id file began
+        × (now : Seen) × (now.place ≡ rest_of read.0.core)
+        × ((HasRestart steps.now → fault ≢ RunFault.Sink SinkFault.Device)
+        → now.parts ≡ portions read.0.sink)
+        × HasStopped began steps.now bytes fault now)) }
+    ensures number { IsFileNumber file → IsOk result }
+    ensures refused { (IsFileNumber file → ⊥) → result ≡ Err CoreFault.FileNumber }
 {
     let sink = MemorySink::new(alloc);
-    let Ok(mut session) = Session::new(alloc, set_id, file, sink) else {
-        return None;
-    };
-    match run(&mut session, steps, reels) {
-        Ok(()) => Some(session),
-        Err(_) => None,
-    }
+    let mut session = Session::new(alloc, set_id, file, sink)?;
+    let made = run(&mut session, steps, reels);
+    Ok((session, made))
 }
 
 /// Goes on with a file at a checkpoint, over a sink that came back with it: a session from there,

@@ -4,7 +4,7 @@ use crate::sessions::{begun, has_long, has_records, wanted};
 use std::alloc::Global;
 use std::process::Abort;
 use std::test::Fail;
-use tape_core::{Checkpoint, MemorySink, PartSink};
+use tape_core::{Checkpoint, CoreFault, MemorySink, PartSink};
 use tape_run::{RunFault, Session, Step, go_on, read_file, run};
 use tape_set::Position;
 
@@ -95,10 +95,13 @@ fn a_file_in_one_call(rt: HostRuntime) -> Result<(), Fail> {
     let second = long_second(rt.alloc())?;
     let mut reels = [first.bytes.as_slice(), second.bytes.as_slice()];
     let steps = [Step::Reel, Step::Reel];
-    let Some(session) = read_file(rt.alloc(), set_id(), 1, &steps, &mut reels) else {
-        return Err(Fail::new("the file is read"));
-    };
+    let (session, made) = read_file(rt.alloc(), set_id(), 1, &steps, &mut reels)?;
+    assert_eq!(rt; made, Ok(()));
     has_long(&rt, &session, 23, None, "file 1");
-    assert!(rt; read_file(rt.alloc(), set_id(), 0, &steps, &mut reels).is_none());
+    let (session, made) = read_file(rt.alloc(), set_id(), 1, &steps, &mut reels[..1])?;
+    assert_eq!(rt; made, Err(RunFault::TooFewReels));
+    assert!(rt; session.want().is_some());
+    let refused = read_file(rt.alloc(), set_id(), 0, &steps, &mut reels).err();
+    assert_eq!(rt; refused, Some(CoreFault::FileNumber));
     Ok(())
 }

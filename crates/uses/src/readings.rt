@@ -1,11 +1,11 @@
 //! A file got back from two damaged readings of its reel.
 use super::reel::{FIRST_BAD, SECOND_BAD};
-use std::alloc::{AllocError, Global};
+use std::alloc::Global;
 use std::io::Read;
 use std::test::Fail;
-use tape_core::MemorySink;
+use tape_blocks::Form;
 use tape_label::Field;
-use tape_run::{Step, read_file};
+use tape_run::{EngineFault, Step, read_file, write_file};
 
 /// The records of a file from two readings, a line feed behind each, where all of it was read.
 fn lines_of<R: Read>(
@@ -14,27 +14,14 @@ fn lines_of<R: Read>(
     file: u16,
     readings: &mut [R],
     lines: &mut Vec<u8>,
-) -> Result<bool, AllocError> {
+) -> Result<bool, EngineFault> {
     match read_file(alloc, set_id, file, &[Step::Reel, Step::Reel], readings) {
-        Some(session) if session.want().is_none() => {
-            put_lines(session.sink(), lines)?;
+        Ok((session, Ok(()))) if session.want().is_none() => {
+            write_file(&mut session.into_sink(), Form::Lines, lines)?;
             Ok(true)
         }
         _ => Ok(false),
     }
-}
-
-/// The parts that a sink holds, joined to records.
-fn put_lines(sink: &MemorySink, lines: &mut Vec<u8>) -> Result<(), AllocError> {
-    for number in 0..sink.count() {
-        if let Some(part) = sink.part(number) {
-            lines.extend_from_slice(part.bytes)?;
-            if !part.span.leaves() {
-                lines.extend_from_slice(b"\n")?;
-            }
-        }
-    }
-    Ok(())
 }
 
 #[test]
