@@ -98,7 +98,8 @@ fn a_file_in_one_call(rt: HostRuntime) -> Result<(), Fail> {
     let (session, made) = read_file(rt.alloc(), set_id(), 1, &steps, &mut reels)?;
     assert_eq!(rt; made, Ok(()));
     has_long(&rt, &session, 23, None, "file 1");
-    let (session, made) = read_file(rt.alloc(), set_id(), 1, &steps, &mut reels[..1])?;
+    let mut one = [first.bytes.as_slice()];
+    let (session, made) = read_file(rt.alloc(), set_id(), 1, &steps, &mut one)?;
     assert_eq!(rt; made, Err(RunFault::TooFewReels));
     assert!(rt; session.want().is_some());
     let refused = read_file(rt.alloc(), set_id(), 0, &steps, &mut reels).err();
