@@ -1,5 +1,5 @@
 -- The cases of sets written from inputs.
-use Rattle.std.proofs.Common.{◌≡◌, ◌⊎◌, ◌≤◌, ℕ, List, [], ◌∷◌, ◌++◌, length, Option, Some, IfSome}
+use Rattle.std.proofs.Common.{◌≡◌, ◌⊎◌, ℕ, List, [], ◌∷◌, ◌++◌, length, Option, Some, IfSome}
 use Rattle.std.proofs.Common.{refl, inl, inr, subst, arith}
 use Rattle.tape_label.specs.declared.values.Head1.{Head1}
 use Rattle.tape_blocks.specs.declared.shape.Shape.{Shape}
@@ -9,7 +9,8 @@ use Rattle.tape_writer.specs.declared.fault.SetFault.TheVariants.{Write}
 use Rattle.tape_writer.specs.declared.fault.WriteFault.TheVariants as faults
 use Rattle.tape_writer.specs.declared.inputs.cut.Cut.{Cut}
 use Rattle.tape_writer.specs.NoVolume.{GaveUp}
-use Rattle.tape_writer.specs.Records.{records_of, longest}
+use Rattle.tape_writer.specs.Records.{records_of}
+use Rattle.tape_writer.proofs.Fitting.{within_longest, has_longest}
 use Rattle.tape_writer.specs.State.{SetState}
 use Rattle.tape_writer.specs.Tapes.{Tapes}
 use Rattle.tape_writer.specs.ToldFiles.{told_files, with_file, IfAllKnown}
@@ -43,9 +44,12 @@ cases_of_inputs = record {
   raw = (refl, refl, refl);
   lines_of_any = λ shape. refl;
   raw_of_shape = λ shape. refl;
-  none_is_long = λ h. h;
-  short_is_not_long = λ h. absurd (omega (arith, h));
-  grows_long = λ cut r bytes g. g;
+  within_longest = within_longest;
+  has_longest = has_longest;
+  longest_of_each = (refl, refl, refl);
+  none_is_long = λ most h. h;
+  first_is_long = λ most r rs h. h;
+  grows_long = λ most cut r bytes g. g;
   told_in_order = λ id shape cut h k a b. refl;
   told_more = λ t r s. refl;
   all_known = λ h k a b given p. p;
@@ -55,11 +59,10 @@ cases_of_inputs = record {
   gave_up_set = λ plan cut given g. (g.on_tapes, g.on_volumes, g.capacity, g.set_id);
 }
 
-one_is_other : (shape : Shape) (r : List ℕ) → OneIsOther shape (r ∷ []) → length r ≤ longest
+one_is_other : (shape : Shape) (r : List ℕ) → OneIsOther shape (r ∷ [])
     → HasRecordLength shape.format shape.rec_len (length r) → ⊥
-one_is_other shape r (inl (inl not)) short has = not has
-one_is_other shape r (inl (inr long)) short has = absurd (omega (arith, long, short))
-one_is_other shape r (inr none) short has = none
+one_is_other shape r (inl not) has = not has
+one_is_other shape r (inr none) has = none
 
 of_second : (capacity : ℕ) (shape : Shape) (cut : Cut) (x y : Head1 × Option (List ℕ))
     (fault : SetFault) → IsFilesFault capacity shape cut 0 (x ∷ y ∷ []) fault

@@ -16,6 +16,7 @@ pub mod Ends
 pub mod Calls
 pub mod Closing
 pub mod Written
+pub mod Fitting
 pub mod Examples
 pub mod ExamplesOfInputs
 mod Mistakes

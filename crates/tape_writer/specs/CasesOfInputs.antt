@@ -1,6 +1,6 @@
 -- What the definitions of sets written from inputs say of cases. The call `laws::cases` has them as
 -- its contract, too.
-use Rattle.std.specs.Prelude.{◌≡◌, ◌⊎◌, ◌≤◌, ℕ, List, [], ◌∷◌, ◌++◌, length, Option, Some, None}
+use Rattle.std.specs.Prelude.{◌≡◌, ◌⊎◌, ◌≤◌, ◌<◌, ℕ, List, [], ◌∷◌, ◌++◌, length, Option, Some, None}
 use Rattle.tape_label.specs.declared.values.Format.TheVariants.{Fixed, Counted, Spanned}
 use Rattle.tape_label.specs.declared.values.Head1.{Head1}
 use Rattle.tape_blocks.specs.declared.form.Form.TheVariants as forms
@@ -14,7 +14,8 @@ use Rattle.tape_writer.specs.declared.inputs.cut.Cut.{Cut}
 use Rattle.tape_writer.specs.declared.inputs.cut.Cut.TheVariants.{Lines, Length, Whole}
 use Rattle.tape_writer.specs.declared.inputs.records.InputFault.TheVariants as inputs
 use Rattle.tape_writer.specs.declared.inputs.set.SetPlan.{SetPlan}
-use Rattle.tape_writer.specs.Records.{records_of, records_from, IsFirstLong, GrowsLong, longest}
+use Rattle.tape_writer.specs.Records.{records_of, records_from, longest_by, longest}
+use Rattle.tape_writer.specs.Records.{IsFirstLong, GrowsLong}
 use Rattle.tape_writer.specs.Refusals.{IsNewFault}
 use Rattle.tape_writer.specs.State.{SetState, IsOutOfVolumes}
 use Rattle.tape_writer.specs.Tapes.{Tapes, Ended}
@@ -43,11 +44,19 @@ pub record CasesOfInputs : Type 0 where
       × (raw_cut Spanned 0 ≡ Some Whole)
   pub lines_of_any : (shape : Shape) → cut_of forms.Lines shape ≡ Some Lines
   pub raw_of_shape : (shape : Shape) → cut_of forms.Raw shape ≡ raw_cut shape.format shape.rec_len
+  -- no record that a shape has is longer than its longest, which it has where it has any
+  pub within_longest : (shape : Shape) (n : ℕ)
+      → HasRecordLength shape.format shape.rec_len n → n ≤ longest shape
+  pub has_longest : (shape : Shape) (n : ℕ) → HasRecordLength shape.format shape.rec_len n
+      → HasRecordLength shape.format shape.rec_len (longest shape)
+  pub longest_of_each : (longest_by Fixed 80 ≡ 80) × (longest_by Counted 80 ≡ 76)
+      × (longest_by Spanned 0 ≡ 4294967295)
   -- which record gets too long: the first, whatever comes
-  pub none_is_long : IsFirstLong [] → ⊥
-  pub short_is_not_long : IsFirstLong ((65 ∷ []) ∷ []) → ⊥
-  pub grows_long : (cut : Cut) (r bytes : List ℕ) → GrowsLong cut r bytes → (more : List ℕ)
-      → IsFirstLong (records_from cut r (bytes ++ more))
+  pub none_is_long : (most : ℕ) → IsFirstLong most [] → ⊥
+  pub first_is_long : (most : ℕ) (r : List ℕ) (rs : List (List ℕ))
+      → IsFirstLong most (r ∷ rs) → most < length r
+  pub grows_long : (most : ℕ) (cut : Cut) (r bytes : List ℕ) → GrowsLong most cut r bytes
+      → (more : List ℕ) → IsFirstLong most (records_from cut r (bytes ++ more))
   -- the files told are those of the inputs, numbered in their order, each with its own records
   pub told_in_order : (id : List ℕ) (shape : Shape) (cut : Cut) (h k : Head1) (a b : List ℕ)
       → told_files id shape cut 1 ((h, a) ∷ (k, b) ∷ [])
@@ -80,9 +89,9 @@ pub record CasesOfSetFaults : Type 0 where
   pub as_told : (told_as inputs.ReadFailed ≡ ReadFailed)
       × (told_as inputs.TooLong ≡ Write faults.RecordLength)
       × (told_as inputs.OutOfMemory ≡ Write faults.OutOfMemory)
-  -- a record that the shape has, and that can be held, is no other, and none of no records is
+  -- a record that the shape has is no other, and none of no records is
   pub none_is_other : (shape : Shape) → OneIsOther shape [] → ⊥
-  pub one_is_other : (shape : Shape) (r : List ℕ) → OneIsOther shape (r ∷ []) → length r ≤ longest
+  pub one_is_other : (shape : Shape) (r : List ℕ) → OneIsOther shape (r ∷ [])
       → HasRecordLength shape.format shape.rec_len (length r) → ⊥
   -- each fault for its cause, and no other fault
   pub of_writer : (one other : WriteFault) → IsOfWriter (λ f. f ≡ one) (Write other)

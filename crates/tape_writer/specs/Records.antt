@@ -1,14 +1,24 @@
 -- The records of an input.
-use Rattle.std.specs.Prelude.{ℕ, ◌+◌, ◌≡◌, ◌<◌, ◌==◌, List, [], ◌∷◌, ◌++◌, Bool, true, false}
+use Rattle.std.specs.Prelude.{ℕ, ◌+◌, ◌-◌, ◌≡◌, ◌<◌, ◌==◌, List, [], ◌∷◌, ◌++◌, Bool, true, false}
 use Rattle.std.specs.Prelude.{length, if◌then◌else◌, Option}
 use Rattle.std.specs.Io.KnownBytes.{prepend_known}
+use Rattle.tape_label.specs.declared.values.Format.{Format}
+use Rattle.tape_label.specs.declared.values.Format.TheVariants.{Fixed, Counted, Spanned}
+use Rattle.tape_blocks.specs.declared.shape.Shape.{Shape}
 use Rattle.tape_writer.specs.declared.inputs.cut.Cut.{Cut}
 use Rattle.tape_writer.specs.declared.inputs.cut.Cut.TheVariants.{Lines, Length, Whole}
 use Rattle.tape_writer.specs.declared.inputs.records.Records.{Records}
 
--- no record has more bytes
-abbrev pub longest : ℕ
-longest = 4294967295
+-- The most bytes of a record, by format and record length. In format D the record length counts the
+-- four digits.
+abbrev pub longest_by : Format → ℕ → ℕ
+longest_by Fixed rec_len = rec_len
+longest_by Counted rec_len = rec_len - 4
+longest_by Spanned rec_len = 4294967295
+
+-- the most bytes that a record of a shape has
+abbrev pub longest : Shape → ℕ
+longest shape = longest_by shape.format shape.rec_len
 
 -- this byte ends the record before it, and is none of it
 abbrev pub ends_before : Cut → ℕ → Bool
@@ -62,11 +72,12 @@ Adds cut old bytes new false = (more : List ℕ)
 abbrev pub left_of : {R : Type 0} → (R → Option (List ℕ)) → Records R → Option (List ℕ)
 left_of remaining records = prepend_known records.ahead (remaining records.device)
 
--- the first of these records has more bytes than any that is held
-abbrev pub IsFirstLong : List (List ℕ) → Type 0
-IsFirstLong [] = ⊥
-IsFirstLong (r ∷ rs) = longest < length r
+-- the first of these records has more bytes than this
+abbrev pub IsFirstLong : ℕ → List (List ℕ) → Type 0
+IsFirstLong most [] = ⊥
+IsFirstLong most (r ∷ rs) = most < length r
 
--- whatever stands behind these bytes, the record that is begun with r gets too long
-abbrev pub GrowsLong : Cut → List ℕ → List ℕ → Type 0
-GrowsLong cut r bytes = (more : List ℕ) → IsFirstLong (records_from cut r (bytes ++ more))
+-- whatever stands behind these bytes, the record that is begun with r gets longer than this
+abbrev pub GrowsLong : ℕ → Cut → List ℕ → List ℕ → Type 0
+GrowsLong most cut r bytes =
+    (more : List ℕ) → IsFirstLong most (records_from cut r (bytes ++ more))

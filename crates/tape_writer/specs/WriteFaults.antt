@@ -1,5 +1,5 @@
 -- Why `write` does not write a set: a fault that these definitions rule out is not answered.
-use Rattle.std.specs.Prelude.{◌≡◌, ◌<◌, ◌+◌, ◌⊎◌, ℕ, List, [], ◌∷◌, length, Option, Some, None}
+use Rattle.std.specs.Prelude.{◌≡◌, ◌+◌, ◌⊎◌, ℕ, List, [], ◌∷◌, length, Option, Some, None}
 use Rattle.std.specs.Prelude.{IfSome, IfErr, Result}
 use Rattle.tape_label.specs.declared.values.Head1.{Head1}
 use Rattle.tape_blocks.specs.declared.shape.Shape.{Shape}
@@ -15,7 +15,7 @@ use Rattle.tape_writer.specs.declared.inputs.cut.Cut.{Cut}
 use Rattle.tape_writer.specs.declared.inputs.records.InputFault.{InputFault}
 use Rattle.tape_writer.specs.declared.inputs.records.InputFault.TheVariants as inputs
 use Rattle.tape_writer.specs.declared.inputs.set.SetPlan.{SetPlan}
-use Rattle.tape_writer.specs.Records.{records_of, longest}
+use Rattle.tape_writer.specs.Records.{records_of}
 use Rattle.tape_writer.specs.Tapes.{Failures, Rose}
 use Rattle.tape_writer.specs.WriteSet.{cut_of}
 
@@ -30,10 +30,9 @@ abbrev pub StopsByDevice : Failures → Result (Unit {0}) SetFault → Failures 
 StopsByDevice old result new =
     IfErr result (λ fault. fault ≡ Write Device → Rose old.device new.device)
 
--- a record of none of the shape's lengths, or one that is longer than any that is held
+-- a record of none of the shape's lengths
 abbrev pub IsOther : Shape → List ℕ → Type 0
-IsOther shape r =
-    (HasRecordLength shape.format shape.rec_len (length r) → ⊥) ⊎ (longest < length r)
+IsOther shape r = HasRecordLength shape.format shape.rec_len (length r) → ⊥
 
 -- one of these records is such a one
 abbrev pub OneIsOther : Shape → List (List ℕ) → Type 0

@@ -10,7 +10,7 @@ mod set;
 pub use chunk::Chunk;
 pub use cut::{Cut, Piece};
 pub use files::{Input, write_files};
-pub use form::cut_of;
+pub use form::{cut_of, longest};
 pub use laws::{lines_are_cut, pieces_are_cut, whole_is_one};
 pub use records::{InputFault, Records};
 pub use set::{RefusedSet, SetPlan, WrittenSet, write_set};

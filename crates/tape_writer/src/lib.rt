@@ -29,7 +29,7 @@ pub use fault::{OutFault, SetFault, WriteFault};
 pub use images::ImageTapes;
 pub use inputs::{
     Chunk, Cut, Input, InputFault, Piece, Records, RefusedSet, SetPlan, WrittenSet, cut_of,
-    lines_are_cut, pieces_are_cut, whole_is_one, write_files, write_set,
+    lines_are_cut, longest, pieces_are_cut, whole_is_one, write_files, write_set,
 };
 pub use memory::MemoryTapes;
 pub use memory_images::{MemoryImage, MemoryImages};

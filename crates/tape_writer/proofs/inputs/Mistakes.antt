@@ -1,8 +1,7 @@
 -- Answers that the contracts of writing from inputs exclude: each is what a wrong body would give.
 use Rattle.std.proofs.Common.{◌≡◌, ℕ, List, [], ◌∷◌, ◌++◌, length, true, false, refl, sym, ap, ◌∙◌}
-use Rattle.std.proofs.Common.{subst, arith, codes, inl, inr}
+use Rattle.std.proofs.Common.{subst, arith, codes, inl, inr, ◌+◌}
 use Rattle.std.specs.Prelude.{Option, Some, None, Ok, Err, IfSome, map, take, get_or}
-use Rattle.std.specs.Prelude.{◌<◌}
 use Rattle.tape_image.specs.Reader.{IfKnown}
 use Rattle.tape_label.specs.declared.values.Head1.{Head1}
 use Rattle.tape_label.specs.declared.values.Format.TheVariants.{Counted}
@@ -16,7 +15,7 @@ use Rattle.tape_blocks.specs.declared.form.Form.TheVariants as forms
 use Rattle.tape_writer.specs.declared.inputs.cut.Cut.{Cut}
 use Rattle.tape_writer.specs.declared.inputs.cut.Cut.TheVariants.{Lines, Length, Whole}
 use Rattle.tape_writer.specs.declared.inputs.records.InputFault.TheVariants.{TooLong}
-use Rattle.tape_writer.specs.Records.{to_come, records_of, given, left_of, longest, Adds}
+use Rattle.tape_writer.specs.Records.{to_come, records_of, given, left_of, Adds}
 use Rattle.tape_writer.specs.Records.{IsFirstLong, last_record}
 use Rattle.tape_writer.specs.ToldFiles.{IfAllKnown, told_files}
 use Rattle.tape_writer.specs.WriteFaults.{IsFaultOfCut, IsSetFault, IsFilesFault, OneIsOther}
@@ -85,16 +84,22 @@ rest_padded R L g d h κs a s ys l cut over old new w =
     ∙ gives R L g d h κs a true s (codes "AB") ys l old new in
     absurd (let n : 2 ≡ 3 = ap (λ v. length (get_or v 0 [])) e ∙ ap length w in omega arith)
 
--- longest_record_refused: a record of 4,294,967,295 bytes is told as one that is too long
+-- longest_record_refused: a record that has just as many bytes as the limit is told as too long
 longest_record_refused : (R : _) (L : _) (g : _) (d : _) (h : _) (κs : _) (a : _) (s : _)
     (xs : List ℕ) (r : List ℕ) (rs : List (List ℕ))
     → next.Learnt-named R L g d h κs a (Err TooLong) s → left_of g.remaining a.0.now ≡ Some xs
-    → to_come a.0.now.cut a.0.now.over xs ≡ r ∷ rs → length r ≡ longest → ⊥
+    → to_come a.0.now.cut a.0.now.over xs ≡ r ∷ rs → length r ≡ a.0.now.limit → ⊥
 longest_record_refused R L g d h κs a s xs r rs l old e len =
-    let k : List ℕ → Type 0 = λ xs. IsFirstLong (to_come a.0.now.cut a.0.now.over xs) in
-    let w : IsFirstLong (r ∷ rs) = subst IsFirstLong e
-    (subst (λ v. IfSome v k) old (l.long refl)) in
+    let first = IsFirstLong a.0.now.limit in
+    let w : first (r ∷ rs) = subst first e
+    (subst (λ v. IfSome v (λ xs. first (to_come a.0.now.cut a.0.now.over xs))) old (l.long refl)) in
     absurd (omega (arith, w, len))
+
+-- line_gathered_to_its_end: of a line without an end a byte more is held than any record may have
+line_gathered_to_its_end : (R : _) (L : _) (g : _) (d : _) (h : _) (κs : _) (a : _) (answer : _)
+    (s : _) → next.Learnt-named R L g d h κs a answer s
+    → length s.0.now.record.items ≡ a.0.now.limit + 1 → ⊥
+line_gathered_to_its_end R L g d h κs a answer s l w = absurd (omega (arith, l.within, w))
 
 -- raw_counted_as_one_record: a raw input is taken for one record of format D
 raw_counted_as_one_record : (κs : _) (a : _) (s : _) → cut_for.Learnt κs a (Some Whole) s
@@ -109,23 +114,21 @@ raw_counted_as_one_record κs a s h raw counted =
 
 -- no record of this input has a length that the shape has not
 fits_all : (shape : Shape) (r : List ℕ) → HasRecordLength shape.format shape.rec_len (length r)
-    → length r < 10 → OneIsOther shape (r ∷ []) → ⊥
-fits_all shape r has few (inl (inl other)) = other has
-fits_all shape r has few (inl (inr long)) = absurd (omega (arith, few, long))
-fits_all shape r has few (inr none) = none
+    → OneIsOther shape (r ∷ []) → ⊥
+fits_all shape r has (inl other) = other has
+fits_all shape r has (inr none) = none
 
 -- RecordLength is no fault of a file whose one record has a length of the shape
 no_length_fault : (capacity : ℕ) (shape : Shape) (cut : Cut) (n : ℕ) (head : Head1) (bytes r : List
     ℕ)
     → records_of cut bytes ≡ r ∷ [] → HasRecordLength shape.format shape.rec_len (length r)
-    → length r < 10
     → IsFilesFault capacity shape cut n ((head, Some bytes) ∷ []) (sets.Write
     write_faults.RecordLength)
     → ⊥
-no_length_fault capacity shape cut n head bytes r e has few (inl (inl begin)) = begin
-no_length_fault capacity shape cut n head bytes r e has few (inl (inr other)) =
-    fits_all shape r has few (subst (OneIsOther shape) e other)
-no_length_fault capacity shape cut n head bytes r e has few (inr none) = none
+no_length_fault capacity shape cut n head bytes r e has (inl (inl begin)) = begin
+no_length_fault capacity shape cut n head bytes r e has (inl (inr other)) =
+    fits_all shape r has (subst (OneIsOther shape) e other)
+no_length_fault capacity shape cut n head bytes r e has (inr none) = none
 
 -- empty_record_told_as_wrong_length: an empty line is refused where the shape has empty records
 empty_record_told_as_wrong_length : (T : _) (R : _) (LT : _) (LR : _) (g : _) (d : _) (e : _) (h :
@@ -141,7 +144,7 @@ empty_record_told_as_wrong_length : (T : _) (R : _) (LT : _) (LR : _) (g : _) (d
 empty_record_told_as_wrong_length T R LT LR g d e h f κs a s head l between one cut has =
     no_length_fault a.1.0.now.capacity a.1.1.1.0 a.1.1.1.1.0 (length a.1.0.now.files) head (codes
     "\n") []
-    (ap (λ v. records_of v (codes "\n")) cut) has (omega arith)
+    (ap (λ v. records_of v (codes "\n")) cut) has
     (subst (λ v. IsFilesFault a.1.0.now.capacity a.1.1.1.0 a.1.1.1.1.0 (length a.1.0.now.files) v
     (sets.Write write_faults.RecordLength)) one (l.due between))
 
@@ -160,7 +163,7 @@ read_failure_told_as_record_length : (T : _) (R : _) (LT : _) (LR : _) (g : _) (
 read_failure_told_as_record_length T R LT LR g d e h f κs a s head l between one cut has =
     no_length_fault a.1.0.now.capacity a.1.1.1.0 a.1.1.1.1.0 (length a.1.0.now.files) head (codes
     "A\n")
-    (codes "A") (ap (λ v. records_of v (codes "A\n")) cut) has (omega arith)
+    (codes "A") (ap (λ v. records_of v (codes "A\n")) cut) has
     (subst (λ v. IsFilesFault a.1.0.now.capacity a.1.1.1.0 a.1.1.1.1.0 (length a.1.0.now.files) v
     (sets.Write write_faults.RecordLength)) one (l.due between))
 

@@ -30,43 +30,45 @@ use Rattle.tape_writer.specs.Records.{ends_before, is_full, Adds, IsFirstLong, G
 use Rattle.tape_writer.specs.WriteFaults.{told_as, IsOther, OneIsOther, IsPuttingFault}
 use Rattle.tape_writer.specs.WriteFaults.{IsInputFault, IsFileFault, IsFilesFault}
 use Rattle.tape_writer.proofs.inputs.Cutting.{SoFar}
+use Rattle.tape_writer.proofs.Fitting.{within_longest}
 use Rattle.tape_writer.proofs.inputs.Filing.{Wrote}
 use Rattle.tape_writer.proofs.inputs.Putting.{Put, known_then}
 
 -- ---- records that get too long
 
-first_by : (ends full : Bool) (r s : List ℕ) (xs ys zs : List (List ℕ)) → longest < length r
-    → longest < length s → IsFirstLong zs
-    → IsFirstLong (if ends then r ∷ xs else (if full then s ∷ ys else zs))
-first_by true full r s xs ys zs a b c = a
-first_by false true r s xs ys zs a b c = b
-first_by false false r s xs ys zs a b c = c
+first_by : (most : ℕ) (ends full : Bool) (r s : List ℕ) (xs ys zs : List (List ℕ))
+    → most < length r → most < length s → IsFirstLong most zs
+    → IsFirstLong most (if ends then r ∷ xs else (if full then s ∷ ys else zs))
+first_by most true full r s xs ys zs a b c = a
+first_by most false true r s xs ys zs a b c = b
+first_by most false false r s xs ys zs a b c = c
 
 -- a record that is too long already is the first one
-first_long : (cut : Cut) (r bytes : List ℕ) → longest < length r
-    → IsFirstLong (records_from cut r bytes)
-first_long Lines [] [] l = absurd (omega (arith, l))
-first_long Lines (b ∷ r) [] l = l
-first_long (Length n) [] [] l = absurd (omega (arith, l))
-first_long (Length n) (b ∷ r) [] l = l
-first_long Whole r [] l = l
-first_long cut r (b ∷ bytes) l =
-    let more : longest < length (r ++ b ∷ []) = omega (arith, l, length-append r (b ∷ [])) in
-    first_by (ends_before cut b) (is_full cut (length r + 1)) r (r ++ b ∷ []) _ _ _ l more
-    (first_long cut (r ++ b ∷ []) bytes more)
+first_long : (most : ℕ) (cut : Cut) (r bytes : List ℕ) → most < length r
+    → IsFirstLong most (records_from cut r bytes)
+first_long most Lines [] [] l = absurd (omega (arith, l))
+first_long most Lines (b ∷ r) [] l = l
+first_long most (Length n) [] [] l = absurd (omega (arith, l))
+first_long most (Length n) (b ∷ r) [] l = l
+first_long most Whole r [] l = l
+first_long most cut r (b ∷ bytes) l =
+    let more : most < length (r ++ b ∷ []) = omega (arith, l, length-append r (b ∷ [])) in
+    first_by most (ends_before cut b) (is_full cut (length r + 1)) r (r ++ b ∷ []) _ _ _ l more
+    (first_long most cut (r ++ b ∷ []) bytes more)
 
-first_added : (cut : Cut) (r front new rest : List ℕ) (ended : Bool) → Adds cut r front new ended
-    → longest < length new → IsFirstLong (records_from cut r (front ++ rest))
-first_added cut r front new rest true adds l = subst IsFirstLong (sym (adds rest)) l
-first_added cut r front new rest false adds l =
-    subst IsFirstLong (sym (adds rest)) (first_long cut new rest l)
+first_added : (most : ℕ) (cut : Cut) (r front new rest : List ℕ) (ended : Bool)
+    → Adds cut r front new ended → most < length new
+    → IsFirstLong most (records_from cut r (front ++ rest))
+first_added most cut r front new rest true adds l = subst (IsFirstLong most) (sym (adds rest)) l
+first_added most cut r front new rest false adds l =
+    subst (IsFirstLong most) (sym (adds rest)) (first_long most cut new rest l)
 
 -- a piece that is refused makes it too long
-pub grows_long : (cut : Cut) (r bytes : List ℕ) (content taken : ℕ) (ended : Bool)
-    → content ≤ taken → taken ≤ length bytes → longest < length r + content
-    → Adds cut r (take taken bytes) (r ++ take content bytes) ended → GrowsLong cut r bytes
-grows_long cut r bytes content taken ended few all l adds = λ more.
-    let new : longest < length (r ++ take content bytes) =
+pub grows_long : (most : ℕ) (cut : Cut) (r bytes : List ℕ) (content taken : ℕ) (ended : Bool)
+    → content ≤ taken → taken ≤ length bytes → most < length r + content
+    → Adds cut r (take taken bytes) (r ++ take content bytes) ended → GrowsLong most cut r bytes
+grows_long most cut r bytes content taken ended few all l adds = λ more.
+    let new : most < length (r ++ take content bytes) =
     omega (
       arith,
       l,
@@ -75,29 +77,30 @@ grows_long cut r bytes content taken ended few all l adds = λ more.
       length-append r (take content bytes),
       length-take-le content bytes (omega (arith, few, all)),
     ) in
-    subst (λ z. IsFirstLong (records_from cut r z))
+    subst (λ z. IsFirstLong most (records_from cut r z))
     (sym (append_assoc (take taken bytes) (drop taken bytes) more)
     ∙ ap (λ z. z ++ more) (take-append-drop taken bytes))
-    (first_added cut r (take taken bytes) (r ++ take content bytes) (drop taken bytes ++ more) ended
-    adds new)
+    (first_added most cut r (take taken bytes) (r ++ take content bytes)
+    (drop taken bytes ++ more) ended adds new)
 
-long_known : (cut : Cut) (r ahead front : List ℕ) (all device : Option (List ℕ))
+long_known : (most : ℕ) (cut : Cut) (r ahead front : List ℕ) (all device : Option (List ℕ))
     → Consumes all (prepend_known ahead device) front
     → ((ys : List ℕ) → records_from cut [] (front ++ ys) ≡ records_from cut r ys)
-    → GrowsLong cut r ahead → IfSome all (λ xs. IsFirstLong (to_come cut false xs))
-long_known cut r ahead front None device c same g = tt
-long_known cut r ahead front (Some xs) None c same g = absurd c
-long_known cut r ahead front (Some xs) (Some ys) c same g =
-    subst IsFirstLong (sym (ap (records_of cut) c ∙ same (ahead ++ ys))) (g ys)
+    → GrowsLong most cut r ahead → IfSome all (λ xs. IsFirstLong most (to_come cut false xs))
+long_known most cut r ahead front None device c same g = tt
+long_known most cut r ahead front (Some xs) None c same g = absurd c
+long_known most cut r ahead front (Some xs) (Some ys) c same g =
+    subst (IsFirstLong most) (sym (ap (records_of cut) c ∙ same (ahead ++ ys))) (g ys)
 
 -- what was read of a record, and what is read ahead
-pub too_long : (cut here : Cut) (over : Bool) (r ahead : List ℕ) (all device : Option (List ℕ))
-    → SoFar cut all (prepend_known ahead device) r → here ≡ cut → over ≡ false
-    → GrowsLong here r ahead → IfSome all (λ xs. IsFirstLong (to_come cut over xs))
-too_long cut here over r ahead all device s is not g =
-    subst (λ z. IfSome all (λ xs. IsFirstLong (to_come cut z xs))) (sym not)
-    (long_known cut r ahead s.front all device s.consumed s.same
-    (subst (λ z. GrowsLong z r ahead) is g))
+pub too_long : (most limit : ℕ) (cut here : Cut) (over : Bool) (r ahead : List ℕ)
+    (all device : Option (List ℕ))
+    → SoFar cut all (prepend_known ahead device) r → limit ≡ most → here ≡ cut → over ≡ false
+    → GrowsLong limit here r ahead → IfSome all (λ xs. IsFirstLong most (to_come cut over xs))
+too_long most limit cut here over r ahead all device s lim is not g =
+    subst (λ z. IfSome all (λ xs. IsFirstLong most (to_come cut z xs))) (sym not)
+    (long_known most cut r ahead s.front all device s.consumed s.same
+    (subst (λ z. GrowsLong z cut r ahead) lim (subst (λ z. GrowsLong limit z r ahead) is g)))
 
 -- ---- records of other lengths
 
@@ -106,14 +109,16 @@ other_behind : (shape : Shape) (xs ys : List (List ℕ)) → OneIsOther shape ys
 other_behind shape [] ys h = h
 other_behind shape (x ∷ xs) ys h = inr (other_behind shape xs ys h)
 
-other_first : (shape : Shape) (rs : List (List ℕ)) → IsFirstLong rs → OneIsOther shape rs
+other_first : (shape : Shape) (rs : List (List ℕ)) → IsFirstLong (longest shape) rs
+    → OneIsOther shape rs
 other_first shape [] l = absurd l
-other_first shape (r ∷ rs) l = inl (inr l)
+other_first shape (r ∷ rs) l =
+    inl (λ has. absurd (omega (arith, l, within_longest shape (length r) has)))
 
 known_long : (shape : Shape) (cut : Cut) (a b : Bool) (rs : List (List ℕ))
     (all left : Option (List ℕ))
     → IfKnown all left (λ xs ys. to_come cut a xs ≡ rs ++ to_come cut b ys)
-    → IfSome left (λ ys. IsFirstLong (to_come cut b ys))
+    → IfSome left (λ ys. IsFirstLong (longest shape) (to_come cut b ys))
     → IfSome all (λ xs. OneIsOther shape (to_come cut a xs))
 known_long shape cut a b rs None left k l = tt
 known_long shape cut a b rs (Some xs) None k l = absurd k
@@ -122,13 +127,15 @@ known_long shape cut a b rs (Some xs) (Some ys) k l =
     (other_behind shape rs (to_come cut b ys) (other_first shape (to_come cut b ys) l))
 
 -- the next record is too long
-pub next_long : (shape : Shape) (cut here : Cut) (a b : Bool) (all left : Option (List ℕ))
-    (old mid : List Told → Type 0) → Put cut a b all left old mid → here ≡ cut
-    → IfSome left (λ ys. IsFirstLong (to_come here b ys))
+pub next_long : (shape : Shape) (most : ℕ) (cut here : Cut) (a b : Bool)
+    (all left : Option (List ℕ)) (old mid : List Told → Type 0) → Put cut a b all left old mid
+    → here ≡ cut → most ≡ longest shape
+    → IfSome left (λ ys. IsFirstLong most (to_come here b ys))
     → IfSome all (λ xs. OneIsOther shape (to_come cut a xs))
-next_long shape cut here a b all left old mid p is l =
+next_long shape most cut here a b all left old mid p is lim l =
     known_long shape cut a b p.records all left p.known
-    (subst (λ z. IfSome left (λ ys. IsFirstLong (to_come z b ys))) is l)
+    (subst (λ z. IfSome left (λ ys. IsFirstLong z (to_come cut b ys))) lim
+    (subst (λ z. IfSome left (λ ys. IsFirstLong most (to_come z b ys))) is l))
 
 known_other : (shape : Shape) (cut : Cut) (a c : Bool) (r : List ℕ) (rs : List (List ℕ))
     (all next : Option (List ℕ))
@@ -147,7 +154,7 @@ pub put_other : (shape : Shape) (cut : Cut) (a b c : Bool) (all left next : Opti
     → IfSome all (λ xs. OneIsOther shape (to_come cut a xs))
 put_other shape cut a b c all left next old mid r p k wrong =
     known_other shape cut a c r p.records all next
-    (known_then cut a b c true r p.records all left next p.known k) (inl wrong)
+    (known_then cut a b c true r p.records all left next p.known k) wrong
 
 -- ---- faults of the writer
 

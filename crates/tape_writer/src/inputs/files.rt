@@ -8,7 +8,7 @@ ghost use Rattle.tape_writer.specs.State.{IsWriting};
 ghost use Rattle.tape_writer.specs.Refusals.{IsInFile};
 ghost use Rattle.tape_writer.specs.declared.course.Opened.{Opened};
 ghost use Rattle.tape_writer.specs.declared.phase.Phase.TheVariants.{Between};
-ghost use Rattle.tape_writer.specs.Records.{records_of, to_come, left_of};
+ghost use Rattle.tape_writer.specs.Records.{records_of, to_come, left_of, longest as longest_of};
 ghost use Rattle.tape_writer.specs.ToldFiles.{with_records, with_file, told_files, IfAllKnown};
 ghost use Rattle.tape_writer.specs.NoVolume.{GaveUp, GaveUpIn};
 ghost use Rattle.tape_writer.specs.WriteFaults.{OneIsOther, IsInputFault, IsFileFault};
@@ -16,6 +16,7 @@ ghost use Rattle.tape_writer.specs.WriteFaults.{IsFilesFault, told_as, StopsByDe
 
 use crate::fault::{SetFault, WriteFault};
 use crate::inputs::cut::Cut;
+use crate::inputs::form::longest;
 use crate::inputs::records::{InputFault, Records};
 use crate::out::TapeOut;
 use crate::set::SetWriter;
@@ -36,9 +37,9 @@ pub struct Input<R> {
 ///
 /// # Errors
 ///
-/// `Write` with what the writer refuses, with `RecordLength` for a record of more than
-/// 4,294,967,295 bytes and with `OutOfMemory` for memory of the engine's own; `ReadFailed`
-/// where an input fails.
+/// `Write` with what the writer refuses, with `RecordLength` as soon as a record has more bytes than
+/// any of the shape and with `OutOfMemory` for memory of the engine's own; `ReadFailed` where an
+/// input fails.
 pub fn write_files<T: TapeOut + Drop, R: Read>(
     alloc: Global,
     writer: &mut SetWriter<T>,
@@ -107,7 +108,7 @@ fn write_file<T: TapeOut + Drop, R: Read>(
     if let Err(fault) = writer.begin_file(head, shape) {
         return Err(SetFault::Write(fault));
     }
-    let Ok(mut records) = Records::new(alloc, input, cut) else {
+    let Ok(mut records) = Records::new(alloc, input, cut, longest(&shape)) else {
         return Err(SetFault::Write(WriteFault::OutOfMemory));
     };
     put_records(writer, &mut records)?;
@@ -129,6 +130,7 @@ fn put_records<T: TapeOut + Drop, R: Read + Drop>(
         (λ xs ys. IsWriting (T.holds writer.new.out) writer.new
         (with_records told (to_come records.old.cut records.old.over xs)))) }
     ensures due { (file : Opened) → IsInFile file writer.old.phase
+        → records.old.limit ≡ longest_of file.shape
         → IfErr result (IsInputFault (IfSome (left_of R.remaining records.old) (λ xs.
         OneIsOther file.shape (to_come records.old.cut records.old.over xs)))) }
     ensures stuck { IfErr result (λ fault. fault ≡ SetFault.Write WriteFault.OutOfVolumes

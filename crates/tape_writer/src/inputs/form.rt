@@ -1,5 +1,6 @@
-//! Where an input of a form is cut into records.
+//! Where an input of a form is cut into records, and how long a record can be.
 ghost use Rattle.std.specs.Prelude.{◌≡◌};
+ghost use Rattle.tape_writer.specs.Records.{longest as longest_of};
 ghost use Rattle.tape_writer.specs.WriteSet.{cut_of as cut_by};
 
 use crate::inputs::cut::Cut;
@@ -18,5 +19,16 @@ pub fn cut_of(form: Form, shape: &Shape) -> Option<Cut>
             Format::Counted => None,
             Format::Spanned => Some(Cut::Whole),
         },
+    }
+}
+
+/// The most bytes that a record of a file of this shape has.
+pub fn longest(shape: &Shape) -> u32
+    ensures { result ≡ longest_of shape.now }
+{
+    match shape.format {
+        Format::Fixed => shape.rec_len,
+        Format::Counted => shape.rec_len.saturating_sub(4),
+        Format::Spanned => u32::MAX,
     }
 }

@@ -2,23 +2,19 @@
 ghost use Rattle.std.specs.Prelude.{◌≡◌, ◌≤◌, ◌<◌, ◌++◌, [], ℕ, List, length, IfOk, IfErr, OnOk};
 ghost use Rattle.std.specs.Prelude.{IfSome, true, false};
 ghost use Rattle.tape_image.specs.Reader.{IfKnown};
-ghost use Rattle.tape_writer.specs.Records.{to_come, given, longest, Adds, left_of, IsFirstLong};
-ghost use Rattle.tape_writer.specs.Records.{GrowsLong};
+ghost use Rattle.tape_writer.specs.Records.{to_come, given, Adds, left_of, IsFirstLong, GrowsLong};
 
 use crate::inputs::chunk::Chunk;
 use crate::inputs::cut::Cut;
 use std::alloc::{AllocError, Global};
 use std::io::Read;
 
-/// No record has more bytes.
-const LONGEST: usize = 4_294_967_295;
-
 /// Why there is no next record.
 #[derive(Clone, Copy, Debug, PartialEq, Eq)]
 pub enum InputFault {
     /// The reader failed, or was interrupted.
     ReadFailed,
-    /// The record has more than 4,294,967,295 bytes.
+    /// The record has more bytes than the limit.
     TooLong,
     /// A growth was refused.
     OutOfMemory,
@@ -29,6 +25,8 @@ pub enum InputFault {
 pub struct Records<R> {
     pub device: R,
     pub cut: Cut,
+    /// The most bytes of a record.
+    pub limit: u32,
     /// Whether the input's end was met.
     pub over: bool,
     pub record: Vec<u8>,
@@ -36,15 +34,17 @@ pub struct Records<R> {
 }
 
 impl<R: Read + Drop> Records<R> {
-    /// The records of this input, from where it stands. Nothing is read.
-    pub fn new(alloc: Global, device: R, cut: Cut) -> Result<Self, AllocError>
+    /// The records of this input, from where it stands, each of at most so many bytes. Nothing is
+    /// read.
+    pub fn new(alloc: Global, device: R, cut: Cut, limit: u32) -> Result<Self, AllocError>
         ensures { IfOk result (λ r. (r.device ≡ device) × (r.cut ≡ cut) × (r.over ≡ false)
-            × (r.ahead ≡ [])) }
+            × (r.ahead ≡ []) × (r.limit ≡ limit)) }
     {
         let ahead = Chunk::new(alloc)?;
         Ok(Records {
             device,
             cut,
+            limit,
             over: false,
             record: Vec::new(alloc),
             ahead,
@@ -62,19 +62,22 @@ impl<R: Read + Drop> Records<R> {
     ///
     /// # Errors
     ///
-    /// `ReadFailed` where the reader answers an error; `TooLong` where the record has more than
-    /// 4,294,967,295 bytes; `OutOfMemory`. Then nothing more is to be read.
+    /// `ReadFailed` where the reader answers an error; `TooLong` as soon as what was read shows that
+    /// the record has more bytes than the limit, whatever comes behind; `OutOfMemory`. Then nothing
+    /// more is to be read.
     pub fn next(&mut self) -> Result<bool, InputFault>
         ensures given { IfOk result (λ more.
             IfKnown (left_of R.remaining self.old) (left_of R.remaining self.new) (λ xs ys.
             to_come self.old.cut self.old.over xs
             ≡ given more self.new.record.items (to_come self.new.cut self.new.over ys))) }
         ensures end { IfOk result (λ more. more ≡ false → self.new.over ≡ true) }
-        ensures within { OnOk result (length self.new.record.items ≤ longest) }
+        // At a refusal too: no more than the limit is held of a record.
+        ensures within { length self.new.record.items ≤ self.old.limit }
         ensures long { IfErr result (λ fault. fault ≡ InputFault.TooLong
             → IfSome (left_of R.remaining self.old) (λ xs.
-            IsFirstLong (to_come self.old.cut self.old.over xs))) }
+            IsFirstLong self.old.limit (to_come self.old.cut self.old.over xs))) }
         ensures cut { self.new.cut ≡ self.old.cut }
+        ensures limit { self.new.limit ≡ self.old.limit }
     {
         self.record.clear();
         if self.over {
@@ -86,7 +89,7 @@ impl<R: Read + Drop> Records<R> {
                 self.over = true;
                 return Ok(self.cut.is_last(self.record.len()));
             }
-            let ended = take_piece(self.cut, &mut self.record, &mut self.ahead)?;
+            let ended = take_piece(self.cut, self.limit, &mut self.record, &mut self.ahead)?;
             if ended {
                 return Ok(true);
             }
@@ -95,20 +98,25 @@ impl<R: Read + Drop> Records<R> {
 }
 
 /// Moves the next piece of a record from the bytes read ahead. Whether the record ends with it.
-fn take_piece(cut: Cut, held: &mut Vec<u8>, ahead: &mut Chunk) -> Result<bool, InputFault>
-    requires within { length held.old.items ≤ longest }
+fn take_piece(
+    cut: Cut,
+    limit: u32,
+    held: &mut Vec<u8>,
+    ahead: &mut Chunk,
+) -> Result<bool, InputFault>
+    requires within { length held.old.items ≤ limit }
     requires some { 0 < length ahead.old }
     ensures taken { IfOk result (λ ended. (piece : List ℕ) × (ahead.old ≡ piece ++ ahead.new)
         × Adds cut held.old.items piece held.new.items ended) }
     ensures grew { IfOk result (λ ended. ended ≡ false
         → length held.old.items < length held.new.items) }
-    ensures within { OnOk result (length held.new.items ≤ longest) }
+    ensures within { length held.new.items ≤ limit }
     ensures long { IfErr result (λ fault. fault ≡ InputFault.TooLong
-        → GrowsLong cut held.old.items ahead.old) }
+        → GrowsLong limit cut held.old.items ahead.old) }
 {
     let bytes = ahead.as_slice();
     let piece = cut.piece(held.len(), bytes);
-    if piece.content > LONGEST - held.len() {
+    if piece.content > limit as usize - held.len() {
         return Err(InputFault::TooLong);
     }
     match held.extend_from_slice(&bytes[..piece.content]) {

@@ -14,6 +14,7 @@ records-preserved g c = record {
   capacity = c.put.ensures.same.1 ∙ c.records.invariant.capacity;
   set_id = c.put.ensures.same.2 ∙ c.records.invariant.set_id;
   cut = c.next.ensures.cut ∙ c.records.invariant.cut;
+  limit = c.next.ensures.limit ∙ c.records.invariant.limit;
   stays = λ file is. c.in-Ok.ensures.stays file (c.records.invariant.stays file is);
   files = c.put.ensures.files ∙ c.records.invariant.files;
   grew = grows_then _ _ _ c.records.invariant.grew c.put.ensures.lasting.count;
@@ -26,7 +27,7 @@ records-preserved g c = record {
 }
 
 pub returns-in-Err-put-clause-due : goal.returns-in-Err-put-clause-due
-returns-in-Err-put-clause-due g c = λ file is.
+returns-in-Err-put-clause-due g c = λ file is _.
     let r = c.next.new.self.record.items in
     put_fault file c.records.writer.phase c.record.result.now r _ c.in-Err-put.fault
     (c.records.invariant.stays file is) c.record.ensures c.in-Err-put.ensures.due
@@ -35,9 +36,10 @@ returns-in-Err-put-clause-due g c = λ file is.
     c.in-Ok-true.field-0-test c.in-Ok-true.ensures.given))
 
 pub returns-in-Err-clause-due : goal.returns-in-Err-clause-due
-returns-in-Err-clause-due g c = λ file is.
+returns-in-Err-clause-due g c = λ file is most.
     next_fault _ c.in-Err.fault c.fault_of.result c.fault_of.ensures (λ e.
-    next_long file.shape _ _ _ _ _ _ _ _ c.records.invariant.put c.records.invariant.cut
+    next_long file.shape _ _ _ _ _ _ _ _ _ c.records.invariant.put c.records.invariant.cut
+    (c.records.invariant.limit ∙ most)
     (c.in-Err.ensures.long e))
 
 pub records-init : goal.records-init
@@ -46,6 +48,7 @@ records-init g c = record {
   capacity = refl;
   set_id = refl;
   cut = refl;
+  limit = refl;
   stays = λ file is. is;
   files = refl;
   grew = grows_self _;

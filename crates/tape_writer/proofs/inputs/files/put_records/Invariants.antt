@@ -14,6 +14,7 @@ invariant-records g l = record {
   capacity : l.writer.capacity ≡ l.fn.writer.capacity;
   set_id : l.writer.set_id ≡ l.fn.writer.set_id;
   cut : l.records.cut ≡ l.fn.records.cut;
+  limit : l.records.limit ≡ l.fn.records.limit;
   stays : (file : Opened) → IsInFile file l.fn.writer.phase → IsInFile file l.writer.phase;
   files : l.writer.files ≡ l.fn.writer.files;
   grew : Grows (g.T.TapeOut.failures l.fn.writer.out) (g.T.TapeOut.failures l.writer.out);

@@ -34,7 +34,8 @@ returns-in_err-put_records-clause-due g c = λ _.
     rw (p.1, p.2) (inr (input_fault c.args.shape c.args.cut _ _ known _ _
     (ap (λ a. prepend_known a (g.R.Read.remaining c.in-Ok.records.device.now)) made.3
     ∙ prepend_known-nil _ ∙ ap (λ d. g.R.Read.remaining d.now) made.0)
-    made.1 made.2 (c.in_err-put_records.ensures.due _ c.in_default.ensures.opened)))
+    made.1 made.2 (c.in_err-put_records.ensures.due _ c.in_default.ensures.opened
+    (made.4 ∙ c.longest.ensures))))
 
 pub returns-clause-due : goal.returns-clause-due
 returns-clause-due g c = λ _.

@@ -11,11 +11,11 @@ returns-in-Ok-clause-taken c =
     c.as_slice-bytes.ensures c.skip.ensures (search (rules, c.in-Ok.ensures.items))
     (c.piece-piece.ensures.adds c.args.held.now.items (search rules))
 
-pub returns-then-piece-len-clause-long : goal.returns-then-piece-len-clause-long
-returns-then-piece-len-clause-long c = λ _.
+pub returns-then-piece-limit-clause-long : goal.returns-then-piece-limit-clause-long
+returns-then-piece-limit-clause-long c = λ _.
     let bytes = c.as_slice-bytes.result.now in
     let piece = c.piece-piece in
-    subst (GrowsLong c.args.cut c.args.held.now.items) c.as_slice-bytes.ensures
-    (grows_long c.args.cut c.args.held.now.items bytes piece.result.content piece.result.taken
+    subst (GrowsLong c.args.limit c.args.cut c.args.held.now.items) c.as_slice-bytes.ensures
+    (grows_long c.args.limit c.args.cut c.args.held.now.items bytes piece.result.content piece.result.taken
     piece.result.ended piece.ensures.within.0 piece.ensures.within.1 (search rules)
     (piece.ensures.adds c.args.held.now.items (search rules)))

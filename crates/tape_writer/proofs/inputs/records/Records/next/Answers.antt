@@ -7,6 +7,7 @@ pieces-preserved g c =
     let taken = c.in_ok-ended.ensures.taken in
     record {
       cut = search rules;
+      limit = search rules;
       over = search rules;
       fresh = c.pieces.invariant.fresh;
       within = search rules;

@@ -1,17 +1,18 @@
 use Rattle.std.proofs.Common.{◌≡◌, ◌≤◌, ◌-◌, ◌+◌, length, false}
-use Rattle.tape_writer.specs.Records.{longest, left_of}
+use Rattle.tape_writer.specs.Records.{left_of}
 use Rattle.tape_writer.proofs.inputs.Cutting.{SoFar}
 use Rattle.tape_writer.proofs.inputs.records.Records.next.Given as goal
 
 abbrev pub invariant-pieces : goal.invariant-pieces
 invariant-pieces g l = record {
   cut : l.self.cut ≡ l.fn.self.cut;
+  limit : l.self.limit ≡ l.fn.self.limit;
   over : l.self.over ≡ false;
   fresh : l.fn.self.over ≡ false;
-  within : length l.self.record.items ≤ longest;
+  within : length l.self.record.items ≤ l.fn.self.limit;
   so_far : SoFar l.fn.self.cut (left_of g.R.Read.remaining l.fn.self)
       (left_of g.R.Read.remaining l.self) l.self.record.items;
 }
 
 abbrev pub decreases-pieces : goal.decreases-pieces
-decreases-pieces g l = longest - length l.self.record.items + 1
+decreases-pieces g l = l.self.limit - length l.self.record.items + 1
