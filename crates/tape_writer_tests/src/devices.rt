@@ -29,6 +29,20 @@ impl Read for Dribble<'_> {
     }
 }
 
+/// Gives what is asked for without an end, and counts the bytes.
+#[derive(Drop)]
+pub(crate) struct Endless {
+    pub(crate) given: usize,
+}
+
+impl Read for Endless {
+    fn read(&mut self, buf: &mut [u8]) -> Result<usize> {
+        buf.fill(b'A');
+        self.given = self.given.saturating_add(buf.len());
+        Ok(buf.len())
+    }
+}
+
 /// Takes one byte a call, and none once it has taken as many as `left` says.
 #[derive(Drop)]
 pub(crate) struct Narrow {

@@ -1,6 +1,6 @@
 //! Sets that are not written from their inputs, and readers and writers that fail.
 
-use crate::devices::{Dribble, Narrows};
+use crate::devices::{Dribble, Endless, Narrows};
 use crate::inputs::{COUNTED, one_file, payroll, plan};
 use crate::sets::{FIXED, head};
 use std::alloc::Global;
@@ -122,6 +122,31 @@ fn an_input_that_fails(rt: HostRuntime) -> Result<(), Fail> {
             Ok(_) => return Err(Fail::from("an input that fails")),
             Err(refused) => is_refused(&rt, &refused, read_failed, left),
         }
+    }
+    Ok(())
+}
+
+/// The fault of a line without an end, and how many bytes of it were read.
+fn of_endless(alloc: Global, shape: Shape) -> Result<(Option<SetFault>, usize), Fail> {
+    let mut files = [Input {
+        head: head(),
+        reader: Endless { given: 0 },
+    }];
+    let images = MemoryImages::new(alloc, 1)?;
+    let fault = match on_one_volume(alloc, shape, Form::Lines, &mut files, images)? {
+        Ok(_) => None,
+        Err(refused) => Some(refused.fault),
+    };
+    Ok((fault, files[0].reader.given))
+}
+
+/// A line without an end: it is refused at once, since the first piece is longer than a record.
+#[test]
+fn a_line_without_end(rt: HostRuntime) -> Result<(), Fail> {
+    let refused = Some(SetFault::Write(WriteFault::RecordLength));
+    for shape in [FIXED, COUNTED] {
+        let answer = of_endless(rt.alloc(), shape)?;
+        assert!(rt; answer == (refused, 8_192), "{:?}", shape.format);
     }
     Ok(())
 }
