@@ -234,6 +234,11 @@ const FAULTS: &[(&str, ToolFault)] = &[
         "write . FLB 100000 A=.",
         ToolFault::File(FileFault::ReadFailed),
     ),
+    // A line without an end.
+    (
+        "write . FLD 100000 A=/dev/zero",
+        ToolFault::Write(WriteFault::RecordLength),
+    ),
 ];
 
 #[test]
