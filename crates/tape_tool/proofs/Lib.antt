@@ -1,3 +1,4 @@
 mod Sessions
 mod LinesOfVolumes
 mod Mistakes
+mod Examples

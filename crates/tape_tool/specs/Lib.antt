@@ -1,6 +1,6 @@
 pub mod Fault
 pub mod Telling
 pub mod Ends
-pub mod Examples
+pub mod Cases
 pub mod Staging
 pub mod Report

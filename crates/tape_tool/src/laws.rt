@@ -1,9 +1,14 @@
-//! Laws of the definitions that the contracts cite: calls that do nothing, whose contract is the
-//! law.
+//! What the definitions say of cases, as the contract of a call that does nothing.
 
-ghost use Rattle.tape_tool.specs.Examples.{TextsAreWorked};
+ghost use Rattle.tape_tool.specs.Cases.{CasesOfEnds, CasesOfFaults, CasesOfLines, CasesOfStaging};
 
-/// Three fault lines, worked out.
-pub fn texts_are_worked()
-    ensures { TextsAreWorked }
+use tape_stage::Disk;
+
+/// What the definitions of the program say of cases: how runs end, the numbers of faults, the lines
+/// that are printed, and what a session over a stage is.
+pub fn cases<D: Disk>()
+    ensures ends { CasesOfEnds }
+    ensures faults { CasesOfFaults }
+    ensures lines { CasesOfLines }
+    ensures staging { CasesOfStaging D.Disk }
 {}

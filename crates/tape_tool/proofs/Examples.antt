@@ -1,0 +1,63 @@
+-- The cases of ends, faults, lines and sessions over stages.
+use Rattle.std.proofs.Common.{◌≡◌, refl, ap, get_or, arith}
+use Rattle.std.specs.Fmt.{digits}
+use Rattle.tape_stage.specs.declared.disk.Disk.{Ghosts}
+use Rattle.tape_tool.specs.Cases.{CasesOfEnds, CasesOfFaults, CasesOfLines, CasesOfStaging}
+
+pub cases_of_ends : CasesOfEnds
+cases_of_ends = record {
+  statuses = λ fault. refl;
+  commands = λ fault. (refl, refl);
+  checks = λ fault. (refl, refl, refl, refl);
+  extracts = λ want fault. (refl, refl, refl, refl);
+  help = (refl, refl);
+  printed = refl;
+  not_printed = refl;
+  no_memory = λ printed. (refl, refl);
+  wrong_words = λ printed. refl;
+  no_words = refl;
+}
+
+pub cases_of_faults : CasesOfFaults
+cases_of_faults = record {
+  of_files = refl;
+  of_writers = refl;
+  of_sets = λ fault. (refl, refl);
+  of_engines = λ fault. (refl, refl);
+  of_lists = λ fault. (refl, refl);
+}
+
+pub cases_of_lines : CasesOfLines
+unfolding digits
+cases_of_lines = record {
+  image = refl;
+  label = refl;
+  write = refl;
+  file = refl;
+  run = refl;
+  stage = refl;
+  in_use = refl;
+  no_memory = refl;
+  volumes = refl;
+  none_written = refl;
+}
+
+pub cases_of_staging : {D : Type 0} (disk : Ghosts D) → CasesOfStaging disk
+cases_of_staging disk = record {
+  first = refl;
+  own = λ point. (refl, refl);
+  other_set = λ o.
+      absurd (let e : 88 ≡ 65 = ap (λ l. get_or l 0 0) o.0 in omega (arith, e));
+  other_file = λ o. absurd (let e : 4 ≡ 3 = o.1 in omega (arith, e));
+  stands = λ point parts session s. (s.resumed.place, s.resumed.notes);
+  holds = λ point parts session s. s.holds.framed;
+  survives = λ point parts session bytes s left.
+      let x = s.survives bytes left in (x.1, x.2, (bytes, left, (x.0, x.3)));
+  only = λ point back parts there session s. s.only back there;
+  goes_on = λ set_id read file session g. (g.staged, g.of_file.0, g.of_file.1, g.stands);
+  none_staged = λ set_id read file. (λ says. says tt, λ says. says tt);
+  of_another = λ set_id read file n point parts says staged set is.
+      says n point parts staged (set, is);
+  unopened = (tt, tt, tt);
+  opened = (λ h. h, λ h. h);
+}

@@ -1,0 +1,15 @@
+use Rattle.tape_tool.proofs.Examples.{cases_of_ends, cases_of_faults, cases_of_lines}
+use Rattle.tape_tool.proofs.Examples.{cases_of_staging}
+use Rattle.tape_tool.proofs.laws.cases.Goals as goal
+
+pub returns-clause-ends : goal.returns-clause-ends
+returns-clause-ends g c = cases_of_ends
+
+pub returns-clause-faults : goal.returns-clause-faults
+returns-clause-faults g c = cases_of_faults
+
+pub returns-clause-lines : goal.returns-clause-lines
+returns-clause-lines g c = cases_of_lines
+
+pub returns-clause-staging : goal.returns-clause-staging
+returns-clause-staging g c = cases_of_staging g.D.Disk

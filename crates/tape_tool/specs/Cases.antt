@@ -1,0 +1,170 @@
+-- What the definitions of ends, faults, lines and sessions over stages say of cases, so that none
+-- of them says less, or asks more, than it should. The call `laws::cases` has them as its contract.
+use Rattle.std.specs.Prelude.{◌≡◌, ℕ, Bool, true, false, List, [], ◌∷◌, map, replicate}
+use Rattle.std.specs.Prelude.{codes, Some, None, Ok, Err}
+use Rattle.clap.specs.declared.error.kind.ErrorKind.TheVariants as kinds
+use Rattle.std.specs.declared.io.ErrorKind.TheVariants as io_kinds
+use Rattle.tape_image.specs.declared.fault.ImageFault.{ImageFault}
+use Rattle.tape_image.specs.declared.fault.ImageCause.TheVariants as causes
+use Rattle.tape_label.specs.declared.fault.LabelFault.TheVariants as labels
+use Rattle.tape_blocks.specs.Block.{Portion}
+use Rattle.tape_set.specs.declared.position.Want.{Want}
+use Rattle.tape_set.specs.declared.position.Position.TheVariants.{Awaits}
+use Rattle.tape_core.specs.Place.{place_of, rest_of}
+use Rattle.tape_core.specs.Point.{Point}
+use Rattle.tape_writer.specs.declared.fault.WriteFault.{WriteFault}
+use Rattle.tape_writer.specs.declared.fault.WriteFault.TheVariants as writes
+use Rattle.tape_writer.specs.declared.fault.SetFault.TheVariants as sets
+use Rattle.tape_run.specs.declared.fault.RunFault.{RunFault}
+use Rattle.tape_run.specs.declared.fault.RunFault.TheVariants as runs
+use Rattle.tape_run.specs.declared.fault.EngineFault.TheVariants as engine
+use Rattle.tape_run.specs.declared.fault.ListFault.TheVariants as list
+use Rattle.tape_run.specs.Story.{Story}
+use Rattle.tape_stage.specs.Staged.{Staged, HoldsNone, Holding}
+use Rattle.tape_stage.specs.Stages.{Returns}
+use Rattle.tape_stage.specs.declared.disk.Disk.{Ghosts}
+use Rattle.tape_stage.specs.declared.stage.Stage.{Stage}
+use Rattle.tape_stage.specs.declared.stage.StageFault.TheVariants as stages
+use Rattle.tape_tool.specs.declared.end.End.TheVariants.{Done, Faulted, WrongWords, Incomplete}
+use Rattle.tape_tool.specs.declared.fault.Fault.{Fault}
+use Rattle.tape_tool.specs.declared.fault.Fault.TheVariants.{Tool, OutOfMemory}
+use Rattle.tape_tool.specs.declared.fault.ToolFault.{ToolFault}
+use Rattle.tape_tool.specs.declared.fault.ToolFault.TheVariants.{Image, Label, Write, File, Run}
+use Rattle.tape_tool.specs.declared.fault.ToolFault.TheVariants.{Stage as OfStage, StageInUse}
+use Rattle.tape_tool.specs.declared.fault.FileFault.TheVariants.{Exists, NotOpened, ReadFailed}
+use Rattle.tape_tool.specs.declared.fault.FileFault.TheVariants.{WriteFailed}
+use Rattle.tape_tool.specs.declared.staging.StagingFault.TheVariants as staging
+use Rattle.tape_tool.specs.Ends.{exit_status, end_of, check_end, extract_end, help_end, words_end}
+use Rattle.tape_tool.specs.Ends.{no_words_end}
+use Rattle.tape_tool.specs.Fault.{file_number, write_number, of_set, of_engine, of_list}
+use Rattle.tape_tool.specs.Report.{report}
+use Rattle.tape_tool.specs.Staging.{IsOfFile, first_point, StandsAt, GoesOn, Says, IsUnopened}
+use Rattle.tape_tool.specs.Telling.{fault_line}
+
+-- how runs end
+pub record CasesOfEnds : Type 0 where
+  -- 0 done, 1 a fault, 2 a wrong command line, 3 something lacks or is still wanted
+  pub statuses : (fault : Fault)
+      → map exit_status (Done ∷ Faulted fault ∷ WrongWords ∷ Incomplete ∷ []) ≡ 0 ∷ 1 ∷ 2 ∷ 3 ∷ []
+  -- a command is done, or ends by its fault
+  pub commands : (fault : ToolFault)
+      → (end_of (Ok tt) ≡ Done) × (end_of (Err fault) ≡ Faulted (Tool fault))
+  -- `check` found all, misses something, or ends by the fault of its engine
+  pub checks : (fault : RunFault) → (check_end (Ok true) ≡ Done)
+      × (check_end (Ok false) ≡ Incomplete)
+      × (check_end (Err (engine.Run fault)) ≡ Faulted (Tool (Run fault)))
+      × (check_end (Err engine.WriteFailed) ≡ Faulted (Tool (File WriteFailed)))
+  -- `extract` wants nothing more, or something, or ends by the fault of its engine
+  pub extracts : (want : Want) (fault : RunFault) → (extract_end (Ok None) ≡ Done)
+      × (extract_end (Ok (Some want)) ≡ Incomplete)
+      × (extract_end (Err (engine.Run fault)) ≡ Faulted (Tool (Run fault)))
+      × (extract_end (Err engine.WriteFailed) ≡ Faulted (Tool (File WriteFailed)))
+  -- help is a success where it was printed, and so is the version
+  pub help : (help_end true ≡ Done) × (help_end false ≡ Faulted (Tool (File WriteFailed)))
+  pub printed : map (λ kind. words_end kind true) (kinds.DisplayHelp ∷ kinds.DisplayVersion ∷ [])
+      ≡ Done ∷ Done ∷ []
+  pub not_printed : map (λ kind. words_end kind false)
+      (kinds.DisplayHelp ∷ kinds.DisplayVersion ∷ [])
+      ≡ replicate 2 (Faulted (Tool (File WriteFailed)))
+  -- want of memory for the words is a fault, and all else that can be wrong with them wrong words
+  pub no_memory : (printed : Bool)
+      → (words_end kinds.OutOfMemory printed ≡ Faulted OutOfMemory)
+      × (no_words_end io_kinds.OutOfMemory ≡ Faulted OutOfMemory)
+  pub wrong_words : (printed : Bool) → map (λ kind. words_end kind printed) (kinds.InvalidValue
+      ∷ kinds.UnknownArgument ∷ kinds.InvalidSubcommand ∷ kinds.NoEquals ∷ kinds.ValueValidation
+      ∷ kinds.TooManyValues ∷ kinds.TooFewValues ∷ kinds.WrongNumberOfValues
+      ∷ kinds.ArgumentConflict ∷ kinds.MissingRequiredArgument ∷ kinds.MissingSubcommand
+      ∷ kinds.DisplayHelpOnMissingArgumentOrSubcommand ∷ kinds.Io ∷ kinds.Format ∷ [])
+      ≡ replicate 14 WrongWords
+  -- words that are no text, or that could not be had
+  pub no_words : map no_words_end (io_kinds.InvalidData ∷ io_kinds.InvalidInput ∷ io_kinds.Other
+      ∷ []) ≡ replicate 3 WrongWords
+
+-- the numbers of faults, and what the faults of engines are told as
+pub record CasesOfFaults : Type 0 where
+  -- the numbers of files, in the order of their list
+  pub of_files : map file_number (Exists ∷ NotOpened ∷ ReadFailed ∷ WriteFailed ∷ [])
+      ≡ 1 ∷ 2 ∷ 3 ∷ 4 ∷ []
+  -- those of the writer
+  pub of_writers : map write_number (writes.BadField ∷ writes.BadShape ∷ writes.CapacityTooSmall
+      ∷ writes.RecordLength ∷ writes.NoFile ∷ writes.FileBegun ∷ writes.OutOfVolumes
+      ∷ writes.TooMany ∷ writes.Device ∷ writes.OutOfMemory ∷ writes.Failed ∷ writes.Finished
+      ∷ []) ≡ 1 ∷ 2 ∷ 3 ∷ 4 ∷ 5 ∷ 6 ∷ 7 ∷ 8 ∷ 9 ∷ 10 ∷ 11 ∷ 12 ∷ []
+  -- an input that could not be read on is a file's fault, and all else the writer's
+  pub of_sets : (fault : WriteFault) → (of_set (sets.Write fault) ≡ Write fault)
+      × (of_set sets.ReadFailed ≡ File ReadFailed)
+  -- output that could not be written is a file's fault, and all else the run's or the image's
+  pub of_engines : (fault : RunFault) → (of_engine (engine.Run fault) ≡ Run fault)
+      × (of_engine engine.WriteFailed ≡ File WriteFailed)
+  pub of_lists : (fault : ImageFault) → (of_list (list.Image fault) ≡ Image fault)
+      × (of_list list.WriteFailed ≡ File WriteFailed)
+
+-- the lines on standard error, and those that `write` prints
+pub record CasesOfLines : Type 0 where
+  -- one of each kind of fault; of images alone there is a place
+  pub image : fault_line (Tool (Image (record { place = 1884; cause = causes.Truncated })))
+      ≡ codes "tape: image fault 1 at 1884\n"
+  pub label : fault_line (Tool (Label (labels.NotACharacter 2))) ≡ codes "tape: label fault 6\n"
+  pub write : fault_line (Tool (Write writes.OutOfMemory)) ≡ codes "tape: write fault 10\n"
+  pub file : fault_line (Tool (File WriteFailed)) ≡ codes "tape: file fault 4\n"
+  pub run : fault_line (Tool (Run runs.OtherFile)) ≡ codes "tape: run fault 5\n"
+  pub stage : fault_line (Tool (OfStage (stages.BadFrame 300))) ≡ codes "tape: stage fault 2\n"
+  -- behind those of a stage itself, which are 1 to 6
+  pub in_use : fault_line (Tool StageInUse) ≡ codes "tape: stage fault 7\n"
+  -- no memory for the words of the command line
+  pub no_memory : fault_line OutOfMemory ≡ codes "tape: run fault 4\n"
+  -- a set on two volumes, and one without files
+  pub volumes : report 1 (record { volume = codes "ABC001"; size = 2484 }
+      ∷ record { volume = codes "ABC002"; size = 460 } ∷ [])
+      ≡ codes "VOLUME ABC001 2484\nVOLUME ABC002 460\nFILES 1 VOLUMES 2\n"
+  pub none_written : report 0 [] ≡ codes "FILES 0 VOLUMES 0\n"
+
+-- sessions over stages
+pub record CasesOfStaging {D : Type 0} (disk : Ghosts D) : Type 0 where
+  -- a file's start, of a set: nothing is read, and nothing staged
+  pub first : first_point (codes "ABC001") 3 ≡ record {
+    set_id = codes "ABC001";
+    file = 3;
+    position = Awaits 1 0 0;
+    begun = false;
+    known = None;
+    staged = 0;
+  }
+  -- a checkpoint is one of its file and set, and of no others
+  pub own : (point : Point) → IsOfFile point.set_id point.file point
+  pub other_set : IsOfFile (codes "ABC001") 3 (first_point (codes "XYZ001") 3) → ⊥
+  pub other_file : IsOfFile (codes "ABC001") 3 (first_point (codes "ABC001") 4) → ⊥
+  -- a session that stands at a checkpoint is there, and has noted nothing yet,
+  pub stands : (point : Point) (parts : List Portion) (session : Story (Stage D disk))
+      → StandsAt point parts session
+      → (rest_of session.core ≡ place_of point) × (session.notes ≡ [])
+  -- its stage holds just these parts,
+  pub holds : (point : Point) (parts : List Portion) (session : Story (Stage D disk))
+      → StandsAt point parts session
+      → Holding session.sink.weight parts (disk.seen session.sink.disk)
+  -- whatever a crash leaves of it now stands for something,
+  pub survives : (point : Point) (parts : List Portion) (session : Story (Stage D disk))
+      (bytes : List ℕ) → StandsAt point parts session → disk.may_leave session.sink.disk bytes
+      → (back : Point) × (there : List Portion) × Returns session.sink back there
+  -- and for nothing but this checkpoint and these parts
+  pub only : (point back : Point) (parts there : List Portion) (session : Story (Stage D disk))
+      → StandsAt point parts session → Returns session.sink back there
+      → (back ≡ point) × (there ≡ parts)
+  -- a session that goes on stands at the checkpoint that the bytes stand for, which is of its file
+  pub goes_on : (set_id read : List ℕ) (file : ℕ) (session : Story (Stage D disk))
+      (g : GoesOn set_id file read session) → Staged read g.generation g.point g.parts
+      × (g.point.set_id ≡ set_id) × (g.point.file ≡ file) × StandsAt g.point g.parts session
+  -- of what is no stage nothing is staged
+  pub none_staged : (set_id read : List ℕ) (file : ℕ)
+      → (Says set_id file read (staging.Stage stages.NoPoint) → HoldsNone read)
+      × (Says set_id file read (staging.Stage (stages.BadFrame 300)) → HoldsNone read)
+  -- a stage of another file stands for no checkpoint of this one
+  pub of_another : (set_id read : List ℕ) (file n : ℕ) (point : Point) (parts : List Portion)
+      → Says set_id file read staging.OtherFile → Staged read n point parts
+      → point.set_id ≡ set_id → point.file ≡ file → ⊥
+  -- what is no stage, and one for which there was no memory, was not opened
+  pub unopened : IsUnopened (staging.Stage stages.NoPoint)
+      × IsUnopened (staging.Stage (stages.BadFrame 300))
+      × IsUnopened (staging.Stage stages.OutOfMemory)
+  -- one whose disk failed may have been, and one of another file was
+  pub opened : (IsUnopened (staging.Stage stages.Device) → ⊥) × (IsUnopened staging.OtherFile → ⊥)
