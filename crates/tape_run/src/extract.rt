@@ -111,6 +111,7 @@ pub fn write_file<S: PartWalk, W: Write>(
         → IsWritten None records form (W.contents out.old) (W.contents out.new) parts) }
     ensures err { OnErr result ((parts : List Portion) → S.holds sink.old parts
         → AppendsFront (W.contents out.old) (W.contents out.new) (output_of form parts)) }
+    ensures kept { (parts : List Portion) → S.holds sink.old parts → S.holds sink.new parts }
 {
     let records = match count_records(sink) {
         Ok(records) => records,

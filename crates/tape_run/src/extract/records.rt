@@ -21,8 +21,7 @@ use tape_core::{PartWalk, SinkFault};
 pub fn count_records<S: PartWalk>(sink: &mut S) -> Result<u64, SinkFault>
     ensures count { IfOk result (λ count. (parts : List Portion) → S.holds sink.old parts
         → count ≡ length (join parts).records) }
-    ensures kept { OnOk result ((parts : List Portion) → S.holds sink.old parts
-        → S.holds sink.new parts) }
+    ensures kept { (parts : List Portion) → S.holds sink.old parts → S.holds sink.new parts }
 {
     // No sink weighs more than its limit, so the count below stays far from a u64's greatest value.
     let _weight = sink.weight();
@@ -61,6 +60,7 @@ pub fn write_records<S: PartWalk, W: Write>(
     ensures err { OnErr result ((parts : List Portion) → S.holds sink.old parts
         → records ≡ length (join parts).records
         → AppendsFront (W.contents out.old) (W.contents out.new) (output_of form parts)) }
+    ensures kept { (parts : List Portion) → S.holds sink.old parts → S.holds sink.new parts }
 {
     sink.rewind();
     let mut left = records;
