@@ -88,8 +88,9 @@ fn inside_a_block(rt: HostRuntime) {
 
 #[test]
 fn greatest_numbers_and_any_identifiers(rt: HostRuntime) {
-    let text =
-        b"TPCK2\xff\x00 +-\n99999999429496729599999R11S0000099\xff\xff\xff\xff\xff\xff\xff\xff\xff\xff\xff\xff\xff\xff\xff\xff\xff999999999999999   ";
+    let text = b"TPCK2\xff\x00 +-\n99999999429496729599999R11S0000099\
+        \xff\xff\xff\xff\xff\xff\xff\xff\xff\xff\xff\xff\xff\xff\xff\xff\xff\
+        999999999999999   ";
     let point = Checkpoint {
         file: 9999,
         begun: true,
