@@ -18,8 +18,8 @@ use tape_writer::{
 /// what the engine finds.
 pub fn write<R: Runtime + AllocGlobal>(rt: &R, order: &WriteOrder<'_>) -> Result<(), ToolFault> {
     let shape = shape_of(order)?;
-    let heads = heads_of(rt, order)?;
-    let mut files = find_inputs(rt, order, heads.as_slice())?;
+    check_ids(order)?;
+    let mut files = find_inputs(rt, order)?;
     let plan = plan_of(rt, order, shape)?;
     let images = ImageFiles::new(rt, order.folder, order.prefix).map_err(|_| no_memory())?;
     match write_set(rt.alloc(), plan, files.as_mut_slice(), images) {
@@ -64,17 +64,21 @@ fn record_length(order: &WriteOrder<'_>) -> u32 {
     }
 }
 
-/// The heads of the files, in their order.
-fn heads_of<R: AllocGlobal>(rt: &R, order: &WriteOrder<'_>) -> Result<Vec<Head1>, ToolFault> {
-    let mut heads = Vec::new(rt.alloc());
+/// Looks at the identifiers of all files. Nothing of them is kept: there may be thousands.
+fn check_ids(order: &WriteOrder<'_>) -> Result<(), ToolFault> {
     for word in order.files.as_slice() {
-        let (id, _) = split(word);
-        match Field::new(id) {
-            Ok(file_id) => heads.push(head_of(file_id)).map_err(|_| no_memory())?,
-            Err(fault) => return Err(ToolFault::Label(fault)),
-        }
+        head_for(word)?;
     }
-    Ok(heads)
+    Ok(())
+}
+
+/// The head of the file that this word is for.
+fn head_for(word: &str) -> Result<Head1, ToolFault> {
+    let (id, _) = split(word);
+    match Field::new(id) {
+        Ok(file_id) => Ok(head_of(file_id)),
+        Err(fault) => Err(ToolFault::Label(fault)),
+    }
 }
 
 /// A file's identifier and its path.
@@ -103,18 +107,12 @@ fn head_of(file_id: Field<17>) -> Head1 {
 fn find_inputs<'a, R: Runtime + AllocGlobal>(
     rt: &'a R,
     order: &WriteOrder<'a>,
-    heads: &[Head1],
 ) -> Result<Vec<Input<InputFile<'a, R>>>, ToolFault> {
     let mut inputs = Vec::new(rt.alloc());
-    for (word, head) in order.files.iter().zip(heads) {
-        let (_, path) = split(word);
+    for word in order.files.as_slice() {
+        let (head, (_, path)) = (head_for(word)?, split(word));
         let reader = InputFile::find(rt, path).map_err(ToolFault::File)?;
-        inputs
-            .push(Input {
-                head: *head,
-                reader,
-            })
-            .map_err(|_| no_memory())?;
+        inputs.push(Input { head, reader }).map_err(|_| no_memory())?;
     }
     Ok(inputs)
 }
