@@ -37,9 +37,9 @@ pub struct Input<R> {
 ///
 /// # Errors
 ///
-/// `Write` with what the writer refuses, with `RecordLength` as soon as a record has more bytes than
-/// any of the shape and with `OutOfMemory` for memory of the engine's own; `ReadFailed` where an
-/// input fails.
+/// `Write` with what the writer refuses, with `RecordLength` as soon as a record has more bytes
+/// than any of the shape and with `OutOfMemory` for memory of the engine's own; `ReadFailed` where
+/// an input fails.
 pub fn write_files<T: TapeOut + Drop, R: Read>(
     alloc: Global,
     writer: &mut SetWriter<T>,

@@ -62,9 +62,9 @@ impl<R: Read + Drop> Records<R> {
     ///
     /// # Errors
     ///
-    /// `ReadFailed` where the reader answers an error; `TooLong` as soon as what was read shows that
-    /// the record has more bytes than the limit, whatever comes behind; `OutOfMemory`. Then nothing
-    /// more is to be read.
+    /// `ReadFailed` where the reader answers an error; `TooLong` as soon as what was read shows
+    /// that the record has more bytes than the limit, whatever comes behind; `OutOfMemory`. Then
+    /// nothing more is to be read.
     pub fn next(&mut self) -> Result<bool, InputFault>
         ensures given { IfOk result (λ more.
             IfKnown (left_of R.remaining self.old) (left_of R.remaining self.new) (λ xs ys.

@@ -16,6 +16,7 @@ returns-then-piece-limit-clause-long c = λ _.
     let bytes = c.as_slice-bytes.result.now in
     let piece = c.piece-piece in
     subst (GrowsLong c.args.limit c.args.cut c.args.held.now.items) c.as_slice-bytes.ensures
-    (grows_long c.args.limit c.args.cut c.args.held.now.items bytes piece.result.content piece.result.taken
+    (grows_long c.args.limit c.args.cut c.args.held.now.items bytes piece.result.content
+    piece.result.taken
     piece.result.ended piece.ensures.within.0 piece.ensures.within.1 (search rules)
     (piece.ensures.adds c.args.held.now.items (search rules)))
