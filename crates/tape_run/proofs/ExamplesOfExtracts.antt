@@ -1,7 +1,7 @@
 -- The cases of files got back.
 use Rattle.std.proofs.Common.{◌≡◌, ◌⊎◌, inl, inr, ℕ, List, [], ◌∷◌, Some, None}
 use Rattle.std.proofs.Common.{refl, sym, ap, subst, ◌∙◌, false, true, length, arith}
-use Rattle.std.specs.Prelude.{IfSome, Option}
+use Rattle.std.specs.Prelude.{IfSome, Option, get_or, set}
 use Rattle.tape_set.specs.Layout.{FileSet}
 use Rattle.tape_set.specs.Lawful.{IsLawful}
 use Rattle.tape_core.specs.Place.{IsPlaced}
@@ -9,7 +9,8 @@ use Rattle.tape_run.specs.Given.{is_device, IsGiven}
 use Rattle.tape_run.specs.Mount.{IsMountOf, foreign_reel}
 use Rattle.tape_run.specs.OutSinks.{IsText}
 use Rattle.tape_run.specs.Reeling.{Opened, AreGiven, AreMounts, Gathers, IsNoted, goes_back}
-use Rattle.tape_run.specs.Reeling.{IsKeptFor, AreSure, is_doubtful}
+use Rattle.tape_run.specs.Reeling.{IsKeptFor, AreSure, is_doubtful, Turn, IsTurn, Took}
+use Rattle.tape_run.specs.Reeling.{AreTurns, AreFirstTurns}
 use Rattle.tape_run.specs.Seen.{Seen, seen}
 use Rattle.tape_run.specs.Steps.{WentBack}
 use Rattle.tape_core.specs.Point.{Point}
@@ -18,7 +19,7 @@ use Rattle.tape_run.specs.Output.{AppendsFront}
 use Rattle.tape_run.specs.RecordText.{output_of}
 use Rattle.tape_blocks.specs.declared.form.Form.{Form}
 use Rattle.tape_set.specs.declared.position.Position.TheVariants.{Finished}
-use Rattle.tape_run.specs.CasesOfExtracts.{CasesOfTurns, CasesOfOutputs, Listed, Known}
+use Rattle.tape_run.specs.CasesOfExtracts.{CasesOfTurns, CasesOfOutputs, Listed, Known, Readers}
 use Rattle.tape_run.specs.CasesOfExtracts.{StopsListed, StopsListedNow}
 
 foreign_turn : (set : FileSet) (o : Opened) (bytes : List ℕ) → o.had ≡ Some bytes
@@ -51,15 +52,46 @@ each_is_sure : (o p : Opened) → AreSure (Some o ∷ Some p ∷ [])
     → (is_doubtful o.answer.answer ≡ false) × (is_doubtful p.answer.answer ≡ false)
 each_is_sure o p sure = (sure.0, sure.1.0)
 
+took : (a b c d : Option Known) → Took (a ∷ b ∷ []) 1 c (d ∷ None ∷ []) → (c ≡ b) × (d ≡ a)
+took a b c d (is, left) = (is, cc left)
+
+two_mounted : (a b : Option Known) (s t : Turn) (left : List (Option Known))
+    → AreTurns Took (λ r. r) (a ∷ b ∷ []) 0 (s ∷ t ∷ []) left
+    → IsTurn (λ r. r) a s × IsTurn (λ r. r) b t × (left ≡ None ∷ None ∷ [])
+two_mounted a b s t left (i, x, (at, then), first, (j, y, (next, last), second, same)) = (
+  subst (λ z. IsTurn (λ r. r) z s) at first,
+  subst (λ z. IsTurn (λ r. r) z t) (next ∙ ap (λ l. get_or l 1 None) then) second,
+  same ∙ (last ∙ ap (λ l. set l 1 None) then),
+)
+
+one_more : (a b : Option Known) (left : List (Option Known))
+    → AreFirstTurns Took (λ r. r) (a ∷ b ∷ []) [] left
+    → (left ≡ a ∷ b ∷ []) ⊎ (left ≡ None ∷ b ∷ [])
+one_more a b left (mid, are, inl same) = inl (same ∙ are)
+one_more a b left (mid, are, inr (image, (is, then))) = inr (then ∙ ap (λ l. set l 0 None) are)
+
+first_turn : (a b : Option Known) (t : Turn) (left : List (Option Known))
+    → AreFirstTurns Took (λ r. r) (a ∷ b ∷ []) (t ∷ []) left → IsTurn (λ r. r) a t
+    × ((left ≡ None ∷ b ∷ []) ⊎ (left ≡ None ∷ None ∷ []))
+first_turn a b t left (mid, (i, x, (at, then), first, same), inl rest) =
+    (subst (λ z. IsTurn (λ r. r) z t) at first, inl (rest ∙ (same ∙ then)))
+first_turn a b t left (mid, (i, x, (at, then), first, same), inr (image, (is, last))) = (
+  subst (λ z. IsTurn (λ r. r) z t) at first,
+  inr (last ∙ ap (λ l. set l 1 None) (same ∙ then)),
+)
+
 pub cases_of_turns : CasesOfTurns
 cases_of_turns = record {
-  no_turn = λ a b o. (λ x. x, λ x. x, λ x. x);
-  a_turn = λ a b o t. t;
-  others_stay = λ a b are. are;
-  no_more_turns = λ turn are. are;
-  one_begun = λ a b c d are. are;
-  first_turn = λ a b c o are. are.0;
-  none_begun = λ a turn. (λ are. are, λ are. absurd (cc), λ are. are);
+  no_turn = λ a o. (λ x. x, λ x. x);
+  a_turn = λ a o t. t.0;
+  left_known = λ a b o had left. (had, (Some b, left));
+  not_there = tt;
+  took = took;
+  took_none = λ a t. t.0;
+  none_mounted = λ shelf left are. are;
+  two_mounted = two_mounted;
+  one_more = one_more;
+  first_turn = first_turn;
   foreign_turn = foreign_turn;
   unasked = λ set given h are. are;
   given_of = given_of;
@@ -97,12 +129,12 @@ text known (more, is, none) =
     let e : known ≡ 7 ∷ more = cc is in
     e ∙ ap (λ m. 7 ∷ m) (none refl)
 
-output_stopped : (session : Listed) (images lefts : List (Option Known)) (form : Form)
+output_stopped : (session : Listed) (shelf left : Readers) (form : Form)
     (out now said says : Known)
-    → session.notes ≡ [] → StopsListed session images lefts form out now said says
+    → session.notes ≡ [] → StopsListed session shelf left form out now said says
     → (now ≡ out)
     ⊎ ((s : Seen) × (s.place.position ≡ Finished) × AppendsFront out now (output_of form s.parts))
-output_stopped session images lefts form out now said says none s =
+output_stopped session shelf left form out now said says none s =
     let kept : IsKeptFor (goes_back session.notes)
     (seen {S = List Portion} (λ s. 0) session session.sink) =
     subst (λ n. IsKeptFor (goes_back n) (seen {S = List Portion} (λ s. 0) session session.sink))
@@ -112,12 +144,12 @@ output_stopped session images lefts form out now said says none s =
       | inr more ↦ inr (seen, more.0, more.1)
     ]
 
-output_stopped_now : (session : Listed) (images lefts : List (Option Known)) (form : Form)
+output_stopped_now : (session : Listed) (shelf left : Readers) (form : Form)
     (out now said says : Known)
-    → StopsListedNow session images lefts form out now said says
+    → StopsListedNow session shelf left form out now said says
     → (now ≡ out)
     ⊎ ((s : Seen) × (s.place.position ≡ Finished) × (now ≡ Some (output_of form s.parts)))
-output_stopped_now session images lefts form out now said says s =
+output_stopped_now session shelf left form out now said says s =
     let (last, seen, follows, wrote) = s.follows session.sink refl in elim wrote [
       | inl same ↦ inl same
       | inr more ↦ elim more.1 [
@@ -137,14 +169,14 @@ cases_of_outputs = record {
   ends_sure = λ first old want records form out now o sure e. e.gathers (inr (sure, tt));
   ends_now = λ first old turns want records form stands e.
       (e.wanted, e.gathers, e.follows, e.is_put);
-  left_unread = λ session images lefts form out now said says want e. e.all;
-  lines = λ session images lefts form out now said says want e. (e.lines, e.are_turns);
-  left_unread_now = λ session images lefts form stands said says want e. e.all;
-  lines_now = λ session images lefts form stands said says want e. (e.lines, e.are_turns);
-  one_line_more = λ session images lefts form out now said says s. (s.few, s.lines);
-  one_line_more_now = λ session images lefts form out now said says s. (s.few, s.lines);
-  stopped_turns = λ session images lefts form out now said says s. s.are_turns;
-  stopped_turns_now = λ session images lefts form out now said says s. s.are_turns;
+  left_unread = λ session shelf left form out now said says want e. (e.most, e.all);
+  lines = λ session shelf left form out now said says want e. (e.lines, e.are_turns);
+  left_unread_now = λ session shelf left form stands said says want e. (e.most, e.all);
+  lines_now = λ session shelf left form stands said says want e. (e.lines, e.are_turns);
+  one_line_more = λ session shelf left form out now said says s. (s.few, s.lines);
+  one_line_more_now = λ session shelf left form out now said says s. (s.few, s.lines);
+  stopped_turns = λ session shelf left form out now said says s. (s.most, s.are_turns);
+  stopped_turns_now = λ session shelf left form out now said says s. (s.most, s.are_turns);
   taken = λ form out weight records begun failed parts t. (t.weighs, t.counted);
   text = text;
   ended = (refl, refl);

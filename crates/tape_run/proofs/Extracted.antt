@@ -18,10 +18,10 @@ use Rattle.tape_run.specs.Output.{AppendsFront}
 use Rattle.tape_run.specs.RecordText.{output_of}
 use Rattle.tape_run.specs.ReelLine.{reel_lines, last_line}
 use Rattle.tape_run.specs.Reeling.{Turn, answer_of, TakesAll, StopsReading, Follows, goes_back}
-use Rattle.tape_run.specs.Reeling.{AreSure}
+use Rattle.tape_run.specs.Reeling.{AreSure, Mounting}
 use Rattle.tape_run.specs.Extracting.{IsWritten, Extracts, Stops}
 use Rattle.tape_run.proofs.Fitting.{front_more, front_then}
-use Rattle.tape_run.proofs.Turns.{gathers, sure_follows, all_first}
+use Rattle.tape_run.proofs.Turns.{gathers, sure_follows}
 use Rattle.tape_run.proofs.TurnSteps.{are_steps}
 
 -- A session without a note, or one that met no reel in doubt, never went back.
@@ -33,22 +33,23 @@ stayed notes core old turns last new (inl none) f =
 stayed notes core old turns last new (inr sure) f =
     sure_follows (goes_back notes) core old turns last new sure f
 
-pub extracted : {S R : Type 0} (holds : S → List Portion → Type 0)
-    (refusals : S → ℕ) (remaining : R → Option (List ℕ)) (old mid : Story S)
-    (images lefts : List (Option R)) (form : Form)
+pub extracted : {S L R : Type 0} (holds : S → List Portion → Type 0) (refusals : S → ℕ)
+    (size : L → ℕ) (gives : Mounting L R) (remaining : R → Option (List ℕ)) (old mid : Story S)
+    (shelf left : L) (form : Form)
     (out written said between says : Option (List ℕ)) (want : Option Want) (records : ℕ)
     (back : Bool) → back ≡ goes_back old.notes
-    → TakesAll holds refusals remaining back old mid images lefts said between
+    → TakesAll holds refusals size gives remaining back old mid shelf left said between
     → want ≡ want_at mid.core.file mid.core.position → Appends between says (last_line want records)
     → ((held : List Portion) → holds mid.sink held → IsWritten want records form out written held)
-    → Extracts holds refusals remaining old images lefts form out written said says want
-extracted holds refusals remaining old mid images lefts form out written said between says want
-    records back same took is last wrote =
-    let t = subst (λ b. TakesAll holds refusals remaining b old mid images lefts said between)
-    same took in
+    → Extracts holds refusals size gives remaining old shelf left form out written said says want
+extracted holds refusals size gives remaining old mid shelf left form out written said between says
+    want records back same took is last wrote =
+    let t = subst (λ b. TakesAll holds refusals size gives remaining b old mid shelf left said
+    between) same took in
     record {
       turns = t.turns;
       are_turns = t.are_turns;
+      most = t.most;
       all = λ less. is ∙ ap (want_at mid.core.file) (t.all less);
       records = records;
       lines = Appends-trans said between says _ _ t.lines last;
@@ -68,19 +69,22 @@ extracted holds refusals remaining old mid images lefts form out written said be
           };
     }
 
-pub stops_reading : {S R W : Type 0} (holds : S → List Portion → Type 0)
-    (refusals : S → ℕ) (remaining : R → Option (List ℕ)) (old : Story S)
-    (images lefts : List (Option R)) (form : Form) (contents : W → Option (List ℕ))
+pub stops_reading : {S L R W : Type 0} (holds : S → List Portion → Type 0)
+    (refusals : S → ℕ) (size : L → ℕ) (gives : Mounting L R) (remaining : R → Option (List ℕ))
+    (old : Story S) (shelf left : L) (form : Form) (contents : W → Option (List ℕ))
     (out : W) (said says : Option (List ℕ)) (back : Bool) → back ≡ goes_back old.notes
-    → StopsReading holds refusals remaining back old images lefts said says
-    → Stops holds refusals remaining old images lefts form contents out out said says
-stops_reading holds refusals remaining old images lefts form contents out said says back same
+    → StopsReading holds refusals size gives remaining back old shelf left said says
+    → Stops holds refusals size gives remaining old shelf left form contents out out said says
+stops_reading holds refusals size gives remaining old shelf left form contents out said says back
+    same
     stopped =
-    let s = subst (λ b. StopsReading holds refusals remaining b old images lefts said says) same
+    let s = subst (λ b. StopsReading holds refusals size gives remaining b old shelf left said
+    says) same
     stopped in
     record {
       turns = s.turns;
       are_turns = s.are_turns;
+      most = omega (arith, s.fewer);
       more = s.more;
       few = s.few;
       want = None;
@@ -91,23 +95,24 @@ stops_reading holds refusals remaining old images lefts form contents out said s
           (core, now, f, inl refl);
     }
 
-pub stops_at_end : {S R W : Type 0} (holds : S → List Portion → Type 0)
-    (refusals : S → ℕ) (remaining : R → Option (List ℕ)) (old mid : Story S)
-    (images lefts : List (Option R)) (form : Form)
+pub stops_at_end : {S L R W : Type 0} (holds : S → List Portion → Type 0) (refusals : S → ℕ)
+    (size : L → ℕ) (gives : Mounting L R) (remaining : R → Option (List ℕ)) (old mid : Story S)
+    (shelf left : L) (form : Form)
     (contents : W → Option (List ℕ)) (out written : W) (said between says : Option (List ℕ))
     (want : Option Want) (records : ℕ) (back : Bool) → back ≡ goes_back old.notes
-    → TakesAll holds refusals remaining back old mid images lefts said between
+    → TakesAll holds refusals size gives remaining back old mid shelf left said between
     → AppendsFront between says (last_line want records)
     → ((held : List Portion) → holds mid.sink held → (written ≡ out) ⊎ ((mid.core.position
     ≡ Finished) × AppendsFront (contents out) (contents written) (output_of form held)))
-    → Stops holds refusals remaining old images lefts form contents out written said says
-stops_at_end holds refusals remaining old mid images lefts form contents out written said between
-    says want records back same took last wrote =
-    let t = subst (λ b. TakesAll holds refusals remaining b old mid images lefts said between)
-    same took in
+    → Stops holds refusals size gives remaining old shelf left form contents out written said says
+stops_at_end holds refusals size gives remaining old mid shelf left form contents out written said
+    between says want records back same took last wrote =
+    let t = subst (λ b. TakesAll holds refusals size gives remaining b old mid shelf left said
+    between) same took in
     record {
       turns = t.turns;
-      are_turns = all_first remaining images lefts t.turns t.are_turns;
+      are_turns = (left, t.are_turns, inl refl);
+      most = t.most;
       more = [];
       few = omega arith;
       want = want;

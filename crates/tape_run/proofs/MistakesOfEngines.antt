@@ -1,7 +1,8 @@
 -- Answers that the contracts of the engines exclude: each is what a wrong body would give.
 use Rattle.std.proofs.Common.{◌≡◌, ℕ, List, [], ◌∷◌, ◌++◌, length, true, false, refl}
-use Rattle.std.proofs.Common.{ap, ◌∙◌, subst, arith, codes}
-use Rattle.std.specs.Prelude.{Bool, Option, Some, None, Ok, Err, slice_index, map, option_map, ◌<◌}
+use Rattle.std.proofs.Common.{ap, ◌∙◌, sym, subst, arith, codes}
+use Rattle.std.specs.Prelude.{Bool, Option, Some, None, Ok, Err, slice_index, map, option_map}
+use Rattle.std.specs.Prelude.{◌<◌, ◌≤◌}
 use Rattle.std.specs.Fmt.{digits}
 use Rattle.std.specs.Io.KnownBytes.{Appends}
 use Rattle.tape_core.specs.State.{State}
@@ -15,59 +16,63 @@ use Rattle.tape_run.specs.CheckLine.{image_lines}
 use Rattle.tape_run.specs.Checked.{AreRead, Reports, IsReport, summary}
 use Rattle.tape_run.specs.ReelLine.{reel_lines, last_line}
 use Rattle.tape_run.specs.Reeling.{Turn, answer_of, AreTurns, Follows, IsKeptFor, goes_back}
-use Rattle.tape_run.specs.Reeling.{AreFirstTurns}
+use Rattle.tape_run.specs.Reeling.{Mounting, IsTurn}
 use Rattle.tape_run.proofs.check.check_to.Reads as check_to
 use Rattle.tape_run.proofs.extract.extract_to.Reads as extract_to
 
 -- ---- getting a file back
 
 -- partial_output_written: something is wanted still, and the output is another than before
-partial_output_written : (S : _) (R : _) (W : _) (P : _) (LS : _) (LR : _) (LW : _) (LP : _) (g :
-    _) (d : _)
-    (g' : _) (d' : _) (h : _) (e : _) (w : _) (f : _) (p : _) (i : _) (j : _) (κs : _) (a : _)
+partial_output_written : (S : _) (R : _) (L : _) (W : _) (P : _) (LS : _) (LR : _)
+    (LL : _) (LW : _) (LP : _) (g : _) (d : _)
+    (g' : _) (d' : _) (h : _) (e : _) (m : _) (n : _) (w : _) (f : _) (p : _) (i : _) (j : _) (k :
+    _) (κs : _) (a : _)
     (want : _) (s : _)
-    → extract_to.Learnt-named S R W P LS LR LW LP g d g' d' h e w f p i j κs a (Ok (Some want)) s
+    → extract_to.Learnt-named S R L W P LS LR LL LW LP g d g' d' h e m n w f p i j k κs a (Ok (Some
+    want)) s
     → (s.1.1.1.0.now ≡ a.1.1.1.0.now → ⊥) → ⊥
-partial_output_written S R W P LS LR LW LP g d g' d' h e w f p i j κs a want s l other =
+partial_output_written S R L W P LS LR LL LW LP g d g' d' h e m n w f p i j k κs a want s l other =
     other (l.untouched (λ n. absurd (cc)))
 
 -- output_flushed_while_something_is_wanted: the same of an output that is flushed, which makes
 -- another writer of it
-output_flushed_while_something_is_wanted : (S : _) (R : _) (W : _) (P : _) (LS : _) (LR : _) (LW :
-    _)
-    (LP : _) (g : _) (d : _) (g' : _) (d' : _) (h : _) (e : _) (w : _) (f : _) (p : _) (i : _)
-    (j : _) (κs : _) (a : _) (want : _) (s : _)
-    → extract_to.Learnt-named S R W P LS LR LW LP g d g' d' h e w f p i j κs a (Ok (Some want)) s
+output_flushed_while_something_is_wanted : (S : _) (R : _) (L : _) (W : _) (P : _)
+    (LS : _) (LR : _) (LL : _) (LW : _)
+    (LP : _) (g : _) (d : _) (g' : _) (d' : _) (h : _) (e : _) (m : _) (n : _) (w : _) (f : _) (p :
+    _) (i : _)
+    (j : _) (k : _) (κs : _) (a : _) (want : _) (s : _)
+    → extract_to.Learnt-named S R L W P LS LR LL LW LP g d g' d' h e m n w f p i j k κs a (Ok (Some
+    want)) s
     → (s.1.1.1.0.now ≡ a.1.1.1.0.now → ⊥) → ⊥
 output_flushed_while_something_is_wanted = partial_output_written
 
 -- of one image some was read, unless nothing is wanted
-one_turn : (turns : List Turn) {R : Type 0} (remaining : R → Option (List ℕ)) (lefts : List (Option
-    R))
-    (want : Want) → AreTurns remaining (None ∷ []) lefts turns → (length turns < 1 → Some want ≡
-    None)
-    → map answer_of turns ≡ None ∷ []
-one_turn [] remaining lefts want h all = absurd (let n : Some want ≡ None = all (omega arith) in cc)
-one_turn (None ∷ []) remaining lefts want h all = refl
-one_turn (None ∷ t ∷ turns) remaining [] want h all = absurd h
-one_turn (None ∷ t ∷ turns) remaining (l ∷ lefts) want h all = absurd h.1
-one_turn (Some o ∷ turns) remaining [] want h all = absurd h
-one_turn (Some o ∷ turns) remaining (None ∷ lefts) want h all = absurd h.0
-one_turn (Some o ∷ turns) remaining (Some l ∷ lefts) want h all = absurd h.0
+one_turn : {L R : Type 0} (gives : Mounting L R) (remaining : R → Option (List ℕ)) (shelf left : L)
+    (turns : List Turn) (want : Want) → AreTurns gives remaining shelf 0 turns left
+    → ((image : Option R) (next : L) → gives shelf 0 image next → image ≡ None)
+    → (length turns < 1 → Some want ≡ None)
+    → (more : List Turn) × (map answer_of turns ≡ None ∷ map answer_of more)
+one_turn gives remaining shelf left [] want are none all =
+    absurd (let n : Some want ≡ None = all (omega arith) in cc)
+one_turn gives remaining shelf left (None ∷ turns) want are none all = (turns, refl)
+one_turn gives remaining shelf left (Some o ∷ turns) want (image, next, gave, turn, are) none all =
+    absurd (subst (λ z. IsTurn remaining z (Some o)) (none image next gave) turn)
 
--- reels_counted_from_0: the one image, which was not opened, is told as reel 0
-reels_counted_from_0 : (S : _) (R : _) (W : _) (P : _) (LS : _) (LR : _) (LW : _) (LP : _) (g : _)
-    (d : _) (g' : _) (d' : _) (h : _) (e : _) (w : _) (f : _) (p : _) (i : _) (j : _) (κs : _)
-    (a : _) (want : _) (s : _) (text : List ℕ)
-    → extract_to.Learnt-named S R W P LS LR LW LP g d g' d' h e w f p i j κs a (Ok (Some want)) s
-    → a.1.0.now ≡ None ∷ [] → p.contents a.1.1.1.1.0.now ≡ Some []
+-- reels_counted_from_0: the first image, which is not there, is told as reel 0
+reels_counted_from_0 : (S : _) (R : _) (L : _) (W : _) (P : _) (LS : _) (LR : _) (LL : _) (LW : _)
+    (LP : _) (g : _) (d : _) (g' : _) (d' : _) (h : _) (e : _) (m : _) (n : _) (w : _) (f : _)
+    (p : _) (i : _) (j : _) (k : _) (κs : _) (a : _) (want : _) (s : _) (text : List ℕ)
+    → extract_to.Learnt-named S R L W P LS LR LL LW LP g d g' d' h e m n w f p i j k κs a
+    (Ok (Some want)) s
+    → m.size a.1.0.now ≡ 1
+    → ((image : Option _) (next : _) → m.gives a.1.0.now 0 image next → image ≡ None)
+    → p.contents a.1.1.1.1.0.now ≡ Some []
     → p.contents s.1.1.1.1.0.now ≡ Some (codes "REEL 0 NOT OPENED\n" ++ text) → ⊥
 unfolding digits
-reels_counted_from_0 S R W P LS LR LW LP g d g' d' h e w f p i j κs a want s text l one old new =
-    let answers : map answer_of l.ok.turns ≡ None ∷ [] = one_turn l.ok.turns h.remaining s.1.0.now
-    want
-    (subst (λ v. AreTurns h.remaining v s.1.0.now l.ok.turns) one l.ok.are_turns)
-    (subst (λ (v : List _). length l.ok.turns < length v → Some want ≡ None) one l.ok.all) in
+reels_counted_from_0 S R L W P LS LR LL LW LP g d g' d' h e m n w f p i j k κs a want s text l one
+    none old new =
+    let (more, answers) = one_turn m.gives h.remaining a.1.0.now s.1.0.now l.ok.turns want
+    l.ok.are_turns none (subst (λ v. length l.ok.turns < v → Some want ≡ None) one l.ok.all) in
     let lines : List ℕ = reel_lines 1 (map answer_of l.ok.turns) ++ last_line (Some want)
     l.ok.records in
     let r : Appends (Some []) (Some (codes "REEL 0 NOT OPENED\n" ++ text)) lines
@@ -76,24 +81,32 @@ reels_counted_from_0 S R W P LS LR LW LP g d g' d' h e w f p i j κs a want s te
     absurd (let n : 48 ≡ 49 = ap (λ v. slice_index v 5)
     (r ∙ ap (λ v. reel_lines 1 v ++ last_line (Some want) l.ok.records) answers) in omega arith)
 
--- of two images of which the first was not opened none makes the other way round
-exchanged : {R : Type 0} (remaining : R → Option (List ℕ)) (r t : R) (turns : List Turn)
-    → AreFirstTurns remaining (None ∷ Some r ∷ []) (Some t ∷ None ∷ []) turns → ⊥
-exchanged remaining r t [] are = absurd (cc)
-exchanged remaining r t (None ∷ turns) are = are.0
-exchanged remaining r t (Some o ∷ turns) are = are.0
+-- what mounting the first image leaves as it is stays so where no more than one is mounted
+stays : {L R : Type 0} (gives : Mounting L R) (remaining : R → Option (List ℕ)) (kept : L → Type 0)
+    (shelf left : L) (turns : List Turn) → AreTurns gives remaining shelf 0 turns left
+    → length turns ≤ 1
+    → ((z : L) (image : Option R) (y : L) → gives z 0 image y → kept z → kept y)
+    → kept shelf → kept left
+stays gives remaining kept shelf left [] are few mounts was = subst kept (sym are) was
+stays gives remaining kept shelf left (t ∷ []) (image, next, gave, turn, same) few mounts was =
+    subst kept (sym same) (mounts shelf image next gave was)
+stays gives remaining kept shelf left (t ∷ u ∷ turns) are few mounts was =
+    absurd (omega (arith, few))
 
--- images_exchanged_at_a_fault: of two images the first was not opened, and behind a fault it is the
--- second that was not
-images_exchanged_at_a_fault : (S : _) (R : _) (W : _) (P : _) (LS : _) (LR : _) (LW : _) (LP : _)
-    (g : _) (d : _) (g' : _) (d' : _) (h : _) (e : _) (w : _) (f : _) (p : _) (i : _) (j : _)
-    (κs : _) (a : _) (fault : _) (s : _) (r : _) (t : _)
-    → extract_to.Learnt-named S R W P LS LR LW LP g d g' d' h e w f p i j κs a (Err fault) s
-    → a.1.0.now ≡ None ∷ Some r ∷ [] → s.1.0.now ≡ Some t ∷ None ∷ [] → ⊥
-images_exchanged_at_a_fault S R W P LS LR LW LP g d g' d' h e w f p i j κs a fault s r t l old new =
-    let are = subst (λ v. AreFirstTurns h.remaining v s.1.0.now l.err.turns) old l.err.are_turns in
-    exchanged h.remaining r t l.err.turns
-    (subst (λ v. AreFirstTurns h.remaining (None ∷ Some r ∷ []) v l.err.turns) new are)
+-- images_mounted_from_1: there is one image, and another was mounted: something is not as it was
+-- that mounting the first leaves
+images_mounted_from_1 : (S : _) (R : _) (L : _) (W : _) (P : _) (LS : _) (LR : _) (LL : _) (LW : _)
+    (LP : _) (g : _) (d : _) (g' : _) (d' : _) (h : _) (e : _) (m : _) (n : _) (w : _) (f : _)
+    (p : _) (i : _) (j : _) (k : _) (κs : _) (a : _) (want : _) (s : _) (kept : _ → Type 0)
+    → extract_to.Learnt-named S R L W P LS LR LL LW LP g d g' d' h e m n w f p i j k κs a
+    (Ok want) s
+    → m.size a.1.0.now ≡ 1
+    → ((z : _) (image : Option _) (y : _) → m.gives z 0 image y → kept z → kept y)
+    → kept a.1.0.now → (kept s.1.0.now → ⊥) → ⊥
+images_mounted_from_1 S R L W P LS LR LL LW LP g d g' d' h e m n w f p i j k κs a want s kept l one
+    mounts was other =
+    other (stays m.gives h.remaining kept a.1.0.now s.1.0.now l.ok.turns l.ok.are_turns
+    (subst (λ v. length l.ok.turns ≤ v) one l.ok.most) mounts was)
 
 -- a session of a complete file reads nothing
 no_turn : (back : Bool) (turns : List Turn) (core : State) (old : Seen) (last : State) (now : Seen)
@@ -103,15 +116,18 @@ no_turn back (None ∷ turns) core old last now h over = absurd (h.0 over)
 no_turn back (Some o ∷ turns) core old last now h over = absurd (h.2.waits over)
 
 -- image_read_behind_the_completing_one: the file is complete, and a reel is read and told
-image_read_behind_the_completing_one : (S : _) (R : _) (W : _) (P : _) (LS : _) (LR : _) (LW : _)
-    (LP : _) (g : _) (d : _) (g' : _) (d' : _) (h : _) (e : _) (w : _) (f : _) (p : _) (i : _)
-    (j : _) (κs : _) (a : _) (s : _) (held : _) (text : List ℕ)
-    → extract_to.Learnt-named S R W P LS LR LW LP g d g' d' h e w f p i j κs a (Ok None) s
+image_read_behind_the_completing_one : (S : _) (R : _) (L : _) (W : _) (P : _) (LS : _) (LR : _)
+    (LL : _) (LW : _) (LP : _) (g : _) (d : _) (g' : _) (d' : _) (h : _) (e : _) (m : _) (n : _)
+    (w : _) (f : _) (p : _) (i : _)
+    (j : _) (k : _) (κs : _) (a : _) (s : _) (held : _) (text : List ℕ)
+    → extract_to.Learnt-named S R L W P LS LR LL LW LP g d g' d' h e m n w f p i j k κs a (Ok None)
+    s
     → a.0.core.position ≡ Finished → g'.holds a.0.sink held
     → IsKeptFor (goes_back a.0.notes) (seen g'.refusals a.0 held)
     → p.contents a.1.1.1.1.0.now ≡ Some []
     → p.contents s.1.1.1.1.0.now ≡ Some (codes "REEL 1 COMPLETE\n" ++ text) → ⊥
-image_read_behind_the_completing_one S R W P LS LR LW LP g d g' d' h e w f p i j κs a s held text
+image_read_behind_the_completing_one S R L W P LS LR LL LW LP g d g' d' h e m n w f p i j k κs a s
+    held text
     l over holds kept old new =
     let ends = l.ok.ends held holds kept in
     let none : l.ok.turns ≡ []

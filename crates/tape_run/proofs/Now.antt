@@ -13,23 +13,25 @@ use Rattle.tape_blocks.specs.declared.form.Form.{Form}
 use Rattle.tape_run.specs.Output.{AppendsFront}
 use Rattle.tape_run.specs.RecordText.{output_of}
 use Rattle.tape_run.specs.ReelLine.{reel_lines, last_line}
-use Rattle.tape_run.specs.Reeling.{answer_of, TakesAll, StopsReading}
+use Rattle.tape_run.specs.Reeling.{answer_of, TakesAll, StopsReading, Mounting}
 use Rattle.tape_run.specs.ExtractingNow.{IsPut, ExtractsNow, StopsNow}
 use Rattle.tape_run.proofs.Fitting.{front_more, front_then}
-use Rattle.tape_run.proofs.Turns.{gathers, all_first}
+use Rattle.tape_run.proofs.Turns.{gathers}
 
-pub extracted_now : {S R : Type 0} (holds : S → List Portion → Type 0)
-    (refusals : S → ℕ) (remaining : R → Option (List ℕ)) (old mid : Story S)
-    (images lefts : List (Option R)) (form : Form) (tells : Type 0)
+pub extracted_now : {S L R : Type 0} (holds : S → List Portion → Type 0) (refusals : S → ℕ)
+    (size : L → ℕ) (gives : Mounting L R) (remaining : R → Option (List ℕ)) (old mid : Story S)
+    (shelf left : L) (form : Form) (tells : Type 0)
     (stands said between says : Option (List ℕ)) (want : Option Want) (records : ℕ)
-    → TakesAll holds refusals remaining false old mid images lefts said between
+    → TakesAll holds refusals size gives remaining false old mid shelf left said between
     → want ≡ want_at mid.core.file mid.core.position → Appends between says (last_line want records)
     → ((held : List Portion) → holds mid.sink held → IsPut want tells records form stands held)
-    → ExtractsNow holds refusals remaining old images lefts form tells stands said says want
-extracted_now holds refusals remaining old mid images lefts form tells stands said between says want
-    records t is last wrote = record {
+    → ExtractsNow holds refusals size gives remaining old shelf left form tells stands said says
+    want
+extracted_now holds refusals size gives remaining old mid shelf left form tells stands said between
+    says want records t is last wrote = record {
       turns = t.turns;
       are_turns = t.are_turns;
+      most = t.most;
       all = λ less. is ∙ ap (want_at mid.core.file) (t.all less);
       records = records;
       lines = Appends-trans said between says _ _ t.lines last;
@@ -47,16 +49,19 @@ extracted_now holds refusals remaining old mid images lefts form tells stands sa
           };
     }
 
-pub stops_reading_now : {S R O : Type 0} (holds : S → List Portion → Type 0)
-    (refusals : S → ℕ) (remaining : R → Option (List ℕ)) (old : Story S)
-    (images lefts : List (Option R)) (form : Form) (tells : Type 0)
+pub stops_reading_now : {S L R O : Type 0} (holds : S → List Portion → Type 0)
+    (refusals : S → ℕ) (size : L → ℕ) (gives : Mounting L R) (remaining : R → Option (List ℕ))
+    (old : Story S) (shelf left : L) (form : Form) (tells : Type 0)
     (stands : O → Option (List ℕ)) (out : O) (said says : Option (List ℕ))
-    → StopsReading holds refusals remaining false old images lefts said says
-    → StopsNow holds refusals remaining old images lefts form tells stands out out said says
-stops_reading_now holds refusals remaining old images lefts form tells stands out said says s =
+    → StopsReading holds refusals size gives remaining false old shelf left said says
+    → StopsNow holds refusals size gives remaining old shelf left form tells stands out out said
+    says
+stops_reading_now holds refusals size gives remaining old shelf left form tells stands out said
+    says s =
     record {
       turns = s.turns;
       are_turns = s.are_turns;
+      most = omega (arith, s.fewer);
       more = s.more;
       few = s.few;
       want = None;
@@ -65,21 +70,23 @@ stops_reading_now holds refusals remaining old images lefts form tells stands ou
       follows = λ held was. let (core, now, f) = s.follows held was tt in (core, now, f, inl refl);
     }
 
-pub stops_at_end_now : {S R O : Type 0} (holds : S → List Portion → Type 0)
-    (refusals : S → ℕ) (remaining : R → Option (List ℕ)) (old mid : Story S)
-    (images lefts : List (Option R)) (form : Form) (tells : Type 0)
+pub stops_at_end_now : {S L R O : Type 0} (holds : S → List Portion → Type 0) (refusals : S → ℕ)
+    (size : L → ℕ) (gives : Mounting L R) (remaining : R → Option (List ℕ)) (old mid : Story S)
+    (shelf left : L) (form : Form) (tells : Type 0)
     (stands : O → Option (List ℕ)) (out put : O) (said between says : Option (List ℕ))
     (want : Option Want) (records : ℕ)
-    → TakesAll holds refusals remaining false old mid images lefts said between
+    → TakesAll holds refusals size gives remaining false old mid shelf left said between
     → AppendsFront between says (last_line want records)
     → ((held : List Portion) → holds mid.sink held → (put ≡ out) ⊎ ((mid.core.position
     ≡ Finished) × ((stands put ≡ stands out)
     ⊎ (tells → stands put ≡ Some (output_of form held)))))
-    → StopsNow holds refusals remaining old images lefts form tells stands out put said says
-stops_at_end_now holds refusals remaining old mid images lefts form tells stands out put said
-    between says want records t last wrote = record {
+    → StopsNow holds refusals size gives remaining old shelf left form tells stands out put said
+    says
+stops_at_end_now holds refusals size gives remaining old mid shelf left form tells stands out put
+    said between says want records t last wrote = record {
       turns = t.turns;
-      are_turns = all_first remaining images lefts t.turns t.are_turns;
+      are_turns = (left, t.are_turns, inl refl);
+      most = t.most;
       more = [];
       few = omega arith;
       want = want;

@@ -21,7 +21,7 @@ use Rattle.tape_run.specs.ReelLine.{reel_line, reel_lines}
 use Rattle.tape_run.specs.Reeling.{is_doubtful, IsNoted, IsKeptFor}
 use Rattle.tape_run.specs.Reeling.{Turn, Opened, answer_of, AreTurns, Follows}
 use Rattle.tape_run.specs.Reeling.{AreMounts, reached, Arrives, Gathers, IsTurn, IsReported}
-use Rattle.tape_run.specs.Reeling.{IsThere, LedOver, AreSure, AreFirstTurns}
+use Rattle.tape_run.specs.Reeling.{IsThere, LedOver, AreSure, Mounting}
 use Rattle.tape_image.specs.Tape.{TapeItem}
 use Rattle.tape_image.specs.Begins.{Stop, Begins}
 use Rattle.tape_core.specs.Table.{mount_of}
@@ -77,63 +77,20 @@ front_behind old mid new turns more number e first (front, rest, wrote, all) = (
 
 -- ---- images
 
--- one more image was taken, the first of those that were not
-pub one_turn : {R : Type 0} (remaining : R → Option (List ℕ)) (olds news : List (Option R))
-    (turns : List Turn) (t : Turn) (old new d : Option R) (n : ℕ) → n ≡ length turns
-    → n < length news
-    → AreTurns remaining olds news turns → get_or news n d ≡ old → IsTurn remaining old new t
-    → AreTurns remaining olds (set news n new) (turns ++ t ∷ [])
-one_turn remaining olds [] [] t old new d n e lt are is turn = absurd (omega (arith, lt))
-one_turn remaining olds (x ∷ news) [] t old new d zero e lt are is turn =
-    subst (λ os. AreTurns remaining os (new ∷ news) (t ∷ [])) are
-    (subst (λ z. AreTurns remaining (z ∷ news) (new ∷ news) (t ∷ [])) (sym is) ((turn, refl)))
-one_turn remaining olds (x ∷ news) [] t old new d (suc n) e lt are is turn =
-    absurd (omega (arith, e))
-one_turn remaining [] news (u ∷ turns) t old new d n e lt are is turn = absurd are
-one_turn remaining (o ∷ olds) [] (u ∷ turns) t old new d n e lt are is turn = absurd are
-one_turn remaining (o ∷ olds) (x ∷ news) (u ∷ turns) t old new d zero e lt are is turn =
-    absurd (omega (arith, e))
-one_turn remaining (o ∷ olds) (x ∷ news) (u ∷ turns) t old new d (suc n) e lt (a, are) is turn = (
-  a,
-  one_turn remaining olds news turns t old new d n
-      (omega (arith, e)) (omega (arith, lt)) are is turn,
-)
-
--- all that was read are turns, and no more was begun
-pub all_first : {R : Type 0} (remaining : R → Option (List ℕ)) (olds news : List (Option R))
-    (turns : List Turn) → AreTurns remaining olds news turns
-    → AreFirstTurns remaining olds news turns
-all_first remaining [] news [] are = are
-all_first remaining (o ∷ olds) [] [] are = absurd (cc)
-all_first remaining (o ∷ olds) (x ∷ news) [] are = cc
-all_first remaining [] news (u ∷ turns) are = absurd are
-all_first remaining (o ∷ olds) [] (u ∷ turns) are = absurd are
-all_first remaining (o ∷ olds) (x ∷ news) (u ∷ turns) (a, are) =
-    (a, all_first remaining olds news turns are)
-
--- the image behind the turns was begun
-pub one_begun : {R : Type 0} (remaining : R → Option (List ℕ)) (olds news : List (Option R))
-    (turns : List Turn) (new : Option R) (n : ℕ) → n ≡ length turns → n < length news
-    → AreTurns remaining olds news turns → AreFirstTurns remaining olds (set news n new) turns
-one_begun remaining olds [] [] new n e lt are = absurd (omega (arith, lt))
-one_begun remaining [] (x ∷ news) [] new n e lt are = absurd (cc)
-one_begun remaining (o ∷ olds) (x ∷ news) [] new zero e lt are = cc
-one_begun remaining (o ∷ olds) (x ∷ news) [] new (suc n) e lt are = absurd (omega (arith, e))
-one_begun remaining [] news (u ∷ turns) new n e lt are = absurd are
-one_begun remaining (o ∷ olds) [] (u ∷ turns) new n e lt are = absurd are
-one_begun remaining (o ∷ olds) (x ∷ news) (u ∷ turns) new zero e lt are =
-    absurd (omega (arith, e))
-one_begun remaining (o ∷ olds) (x ∷ news) (u ∷ turns) new (suc n) e lt (a, are) =
-    (a, one_begun remaining olds news turns new n (omega (arith, e)) (omega (arith, lt)) are)
-
-pub turns_few : {R : Type 0} (remaining : R → Option (List ℕ)) (olds news : List (Option R))
-    (turns : List Turn) → AreTurns remaining olds news turns → length turns ≤ length olds
-turns_few remaining olds news [] are = omega arith
-turns_few remaining [] news (u ∷ turns) are = absurd are
-turns_few remaining (o ∷ olds) [] (u ∷ turns) are = absurd are
-turns_few remaining (o ∷ olds) (x ∷ news) (u ∷ turns) (a, are) =
-    let few = turns_few remaining olds news turns are in
-    omega (arith, few)
+-- one more image was mounted, the first of those that were not
+pub one_turn : {L R : Type 0} (gives : Mounting L R) (remaining : R → Option (List ℕ)) (shelf : L)
+    (number : ℕ) (turns : List Turn) (mid : L) (t : Turn) (image : Option R) (next : L)
+    → AreTurns gives remaining shelf number turns mid
+    → gives mid (number + length turns) image next → IsTurn remaining image t
+    → AreTurns gives remaining shelf number (turns ++ t ∷ []) next
+one_turn gives remaining shelf number [] mid t image next same g turn =
+    let at : number + 0 ≡ number = omega arith in
+    let given = subst (λ n. gives mid n image next) at g in
+    (image, next, subst (λ z. gives z number image next) same given, turn, refl)
+one_turn gives remaining shelf number (u ∷ turns) mid t image next (i, z, gave, was, are) g turn =
+    let at : number + length (u ∷ turns) ≡ number + 1 + length turns = omega arith in
+    let given = subst (λ n. gives mid n image next) at g in
+    (i, z, gave, was, one_turn gives remaining z (number + 1) turns mid t image next are given turn)
 
 -- ---- the session
 

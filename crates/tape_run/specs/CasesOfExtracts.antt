@@ -30,7 +30,7 @@ use Rattle.tape_run.specs.Reeling.{Opened, Turn, answer_of, AreTurns, IsTurn, Fo
 use Rattle.tape_run.specs.Reeling.{AreMounts, AreTapes, over_tapes, IsThere, Gathers}
 use Rattle.tape_run.specs.Reeling.{reached, is_doubtful, IsNoted, ReadsReel}
 use Rattle.tape_run.specs.Reeling.{goes_back, IsKeptFor, AreSure}
-use Rattle.tape_run.specs.Reeling.{AreFirstTurns}
+use Rattle.tape_run.specs.Reeling.{AreFirstTurns, Took}
 use Rattle.tape_run.specs.Reeling.{step_behind, notes_behind, steps_of, AreTold, AreSteps}
 use Rattle.tape_run.specs.Reels.{Reads}
 use Rattle.tape_run.specs.Seen.{Seen, IsKept}
@@ -44,24 +44,30 @@ use Rattle.tape_core.specs.Stands.{weight_of}
 
 -- of turns, mounts, and where they lead
 pub record CasesOfTurns : Type 0 where
-  pub no_turn : (a b : Option (List ℕ)) (o : Opened) → (IsTurn (λ r. r) None (Some b) None → ⊥)
-      × (IsTurn (λ r. r) (Some a) None None → ⊥) × (IsTurn (λ r. r) None None (Some o) → ⊥)
-  pub a_turn : (a b : Option (List ℕ)) (o : Opened) → IsTurn (λ r. r) (Some a) (Some b) (Some o)
-      → (o.had ≡ a) × (o.left ≡ b)
-  -- images behind those that were read are as they were
-  pub others_stay : (a b : Option (Option (List ℕ)))
-      → AreTurns (λ r. r) (a ∷ []) (b ∷ []) [] → b ∷ [] ≡ a ∷ []
-  pub no_more_turns : (turn : Turn) → AreTurns (λ (r : Option (List ℕ)). r) [] [] (turn ∷ []) → ⊥
-  -- at a fault one image more may have been begun, and those behind it are as they were
-  pub one_begun : (a b c d : Option (Option (List ℕ)))
-      → AreFirstTurns (λ r. r) (a ∷ b ∷ []) (c ∷ d ∷ []) [] → d ∷ [] ≡ b ∷ []
-  pub first_turn : (a b c : Option (Option (List ℕ))) (o : Opened)
-      → AreFirstTurns (λ r. r) (a ∷ b ∷ []) (c ∷ b ∷ []) (Some o ∷ [])
-      → IsTurn (λ r. r) a c (Some o)
-  pub none_begun : (a : Option (Option (List ℕ))) (turn : Turn)
-      → (AreFirstTurns (λ r. r) (a ∷ []) [] [] → ⊥)
-      × (AreFirstTurns (λ r. r) [] (a ∷ []) [] → ⊥)
-      × (AreFirstTurns (λ (r : Option (List ℕ)). r) [] [] (turn ∷ []) → ⊥)
+  pub no_turn : (a : Option (List ℕ)) (o : Opened) → (IsTurn (λ r. r) (Some a) None → ⊥)
+      × (IsTurn (λ (r : Option (List ℕ)). r) None (Some o) → ⊥)
+  pub a_turn : (a : Option (List ℕ)) (o : Opened) → IsTurn (λ r. r) (Some a) (Some o) → o.had ≡ a
+  pub left_known : (a b : List ℕ) (o : Opened) → o.had ≡ Some a → o.left ≡ Some b
+      → IsTurn (λ r. r) (Some (Some a)) (Some o)
+  pub not_there : IsTurn (λ (r : Option (List ℕ)). r) None None
+  -- readers in a list are taken from their places, each once, in their order
+  pub took : (a b c d : Option (Option (List ℕ))) → Took (a ∷ b ∷ []) 1 c (d ∷ None ∷ [])
+      → (c ≡ b) × (d ≡ a)
+  pub took_none : (a : Option (Option (List ℕ))) → Took [] 0 a [] → a ≡ None
+  pub none_mounted : (shelf left : List (Option (Option (List ℕ))))
+      → AreTurns Took (λ r. r) shelf 0 [] left → left ≡ shelf
+  pub two_mounted : (a b : Option (Option (List ℕ))) (s t : Turn)
+      (left : List (Option (Option (List ℕ))))
+      → AreTurns Took (λ r. r) (a ∷ b ∷ []) 0 (s ∷ t ∷ []) left
+      → IsTurn (λ r. r) a s × IsTurn (λ r. r) b t × (left ≡ None ∷ None ∷ [])
+  -- at a fault one image more may have been mounted, and those behind it were not
+  pub one_more : (a b : Option (Option (List ℕ))) (left : List (Option (Option (List ℕ))))
+      → AreFirstTurns Took (λ r. r) (a ∷ b ∷ []) [] left
+      → (left ≡ a ∷ b ∷ []) ⊎ (left ≡ None ∷ b ∷ [])
+  pub first_turn : (a b : Option (Option (List ℕ))) (t : Turn)
+      (left : List (Option (Option (List ℕ))))
+      → AreFirstTurns Took (λ r. r) (a ∷ b ∷ []) (t ∷ []) left → IsTurn (λ r. r) a t
+      × ((left ≡ None ∷ b ∷ []) ⊎ (left ≡ None ∷ None ∷ []))
   -- a foreign reel whose bytes are known is a mount, and an image that was not opened is none
   pub foreign_turn : (set : FileSet) (o : Opened) (bytes : List ℕ) → o.had ≡ Some bytes
       → IsMountOf set bytes foreign_reel
@@ -136,28 +142,34 @@ Listed = Story (List Portion)
 abbrev pub Known : Type 0
 Known = Option (List ℕ)
 
+-- images of which each is taken once
+abbrev pub Readers : Type 0
+Readers = List (Option Known)
+
 -- what `extract` says of such ones
-abbrev pub ExtractsListed : Listed → List (Option Known) → List (Option Known) → Form → Known
-    → Known → Known → Known → Option Want → Type 0
-ExtractsListed session images lefts form out written said says want =
-    Extracts (λ s ps. s ≡ ps) (λ s. 0) (λ r. r) session images lefts form out written said says want
-
-abbrev pub StopsListed : Listed → List (Option Known) → List (Option Known) → Form → Known → Known
-    → Known → Known → Type 0
-StopsListed session images lefts form out written said says =
-    Stops (λ s ps. s ≡ ps) (λ s. 0) (λ r. r) session images lefts form (λ w. w) out written
-    said says
-
-abbrev pub ExtractsListedNow : Listed → List (Option Known) → List (Option Known) → Form → Known
-    → Known → Known → Option Want → Type 0
-ExtractsListedNow session images lefts form stands said says want =
-    ExtractsNow (λ s ps. s ≡ ps) (λ s. 0) (λ r. r) session images lefts form ⊤ stands
+abbrev pub ExtractsListed : Listed → Readers → Readers → Form → Known → Known → Known → Known
+    → Option Want → Type 0
+ExtractsListed session shelf left form out written said says want =
+    Extracts (λ s ps. s ≡ ps) (λ s. 0) length Took (λ r. r) session shelf left form out written
     said says want
 
-abbrev pub StopsListedNow : Listed → List (Option Known) → List (Option Known) → Form → Known
-    → Known → Known → Known → Type 0
-StopsListedNow session images lefts form out put said says =
-    StopsNow (λ s ps. s ≡ ps) (λ s. 0) (λ r. r) session images lefts form ⊤ (λ o. o) out put
+abbrev pub StopsListed : Listed → Readers → Readers → Form → Known → Known → Known → Known → Type 0
+StopsListed session shelf left form out written said says =
+    Stops (λ s ps. s ≡ ps) (λ s. 0) length Took (λ r. r) session shelf left form (λ w. w) out
+    written
+    said says
+
+abbrev pub ExtractsListedNow : Listed → Readers → Readers → Form → Known → Known → Known
+    → Option Want → Type 0
+ExtractsListedNow session shelf left form stands said says want =
+    ExtractsNow (λ s ps. s ≡ ps) (λ s. 0) length Took (λ r. r) session shelf left form ⊤ stands
+    said says want
+
+abbrev pub StopsListedNow : Listed → Readers → Readers → Form → Known → Known → Known → Known
+    → Type 0
+StopsListedNow session shelf left form out put said says =
+    StopsNow (λ s ps. s ≡ ps) (λ s. 0) length Took (λ r. r) session shelf left form ⊤ (λ o. o) out
+    put
     said says
 
 -- of what was written
@@ -188,50 +200,50 @@ pub record CasesOfOutputs : Type 0 where
       → (e : Ends first old (Some o ∷ []) want records form out now)
       → Gathers (Some o ∷ []) old e.now
   -- images are left unread only where nothing is wanted, and each that was read has a line
-  pub left_unread : (session : Listed) (images lefts : List (Option Known)) (form : Form)
+  pub left_unread : (session : Listed) (shelf left : Readers) (form : Form)
       (out now said says : Known) (want : Option Want)
-      (e : ExtractsListed session images lefts form out now said says want)
-      → length e.turns < length images → want ≡ None
-  pub lines : (session : Listed) (images lefts : List (Option Known)) (form : Form)
+      (e : ExtractsListed session shelf left form out now said says want)
+      → (length e.turns ≤ length shelf) × (length e.turns < length shelf → want ≡ None)
+  pub lines : (session : Listed) (shelf left : Readers) (form : Form)
       (out now said says : Known) (want : Option Want)
-      (e : ExtractsListed session images lefts form out now said says want)
+      (e : ExtractsListed session shelf left form out now said says want)
       → Appends said says (reel_lines 1 (map answer_of e.turns) ++ last_line want e.records)
-      × AreTurns (λ r. r) images lefts e.turns
-  pub left_unread_now : (session : Listed) (images lefts : List (Option Known)) (form : Form)
+      × AreTurns Took (λ r. r) shelf 0 e.turns left
+  pub left_unread_now : (session : Listed) (shelf left : Readers) (form : Form)
       (stands said says : Known) (want : Option Want)
-      (e : ExtractsListedNow session images lefts form stands said says want)
-      → length e.turns < length images → want ≡ None
-  pub lines_now : (session : Listed) (images lefts : List (Option Known)) (form : Form)
+      (e : ExtractsListedNow session shelf left form stands said says want)
+      → (length e.turns ≤ length shelf) × (length e.turns < length shelf → want ≡ None)
+  pub lines_now : (session : Listed) (shelf left : Readers) (form : Form)
       (stands said says : Known) (want : Option Want)
-      (e : ExtractsListedNow session images lefts form stands said says want)
+      (e : ExtractsListedNow session shelf left form stands said says want)
       → Appends said says (reel_lines 1 (map answer_of e.turns) ++ last_line want e.records)
-      × AreTurns (λ r. r) images lefts e.turns
+      × AreTurns Took (λ r. r) shelf 0 e.turns left
   -- a fault ends a report behind the line of at most one image more than those that were noted
-  pub one_line_more : (session : Listed) (images lefts : List (Option Known)) (form : Form)
+  pub one_line_more : (session : Listed) (shelf left : Readers) (form : Form)
       (out now said says : Known)
-      (s : StopsListed session images lefts form out now said says) → (length s.more ≤ 1)
+      (s : StopsListed session shelf left form out now said says) → (length s.more ≤ 1)
       × AppendsFront said says
       (reel_lines 1 (map answer_of s.turns ++ s.more) ++ last_line s.want s.records)
-  pub one_line_more_now : (session : Listed) (images lefts : List (Option Known)) (form : Form)
+  pub one_line_more_now : (session : Listed) (shelf left : Readers) (form : Form)
       (out now said says : Known)
-      (s : StopsListedNow session images lefts form out now said says) → (length s.more ≤ 1)
+      (s : StopsListedNow session shelf left form out now said says) → (length s.more ≤ 1)
       × AppendsFront said says
       (reel_lines 1 (map answer_of s.turns ++ s.more) ++ last_line s.want s.records)
   -- these are turns of the first of the images
-  pub stopped_turns : (session : Listed) (images lefts : List (Option Known)) (form : Form)
-      (out now said says : Known) (s : StopsListed session images lefts form out now said says)
-      → AreFirstTurns (λ r. r) images lefts s.turns
-  pub stopped_turns_now : (session : Listed) (images lefts : List (Option Known)) (form : Form)
-      (out now said says : Known) (s : StopsListedNow session images lefts form out now said says)
-      → AreFirstTurns (λ r. r) images lefts s.turns
+  pub stopped_turns : (session : Listed) (shelf left : Readers) (form : Form)
+      (out now said says : Known) (s : StopsListed session shelf left form out now said says)
+      → (length s.turns ≤ length shelf) × AreFirstTurns Took (λ r. r) shelf s.turns left
+  pub stopped_turns_now : (session : Listed) (shelf left : Readers) (form : Form)
+      (out now said says : Known) (s : StopsListedNow session shelf left form out now said says)
+      → (length s.turns ≤ length shelf) × AreFirstTurns Took (λ r. r) shelf s.turns left
   -- and nothing was done to the output, or the file is complete and a front of it was written
-  pub output_stopped : (session : Listed) (images lefts : List (Option Known)) (form : Form)
+  pub output_stopped : (session : Listed) (shelf left : Readers) (form : Form)
       (out now said says : Known)
-      → session.notes ≡ [] → StopsListed session images lefts form out now said says → (now ≡ out)
+      → session.notes ≡ [] → StopsListed session shelf left form out now said says → (now ≡ out)
       ⊎ ((s : Seen) × (s.place.position ≡ Finished) × AppendsFront out now (output_of form s.parts))
-  pub output_stopped_now : (session : Listed) (images lefts : List (Option Known)) (form : Form)
+  pub output_stopped_now : (session : Listed) (shelf left : Readers) (form : Form)
       (out now said says : Known)
-      → StopsListedNow session images lefts form out now said says → (now ≡ out)
+      → StopsListedNow session shelf left form out now said says → (now ≡ out)
       ⊎ ((s : Seen) × (s.place.position ≡ Finished) × (now ≡ Some (output_of form s.parts)))
   -- what a sink that writes has taken
   pub taken : (form : Form) (out : Known) (weight records : ℕ) (begun failed : Bool)

@@ -16,7 +16,7 @@ use Rattle.tape_run.specs.Output.{AppendsFront}
 use Rattle.tape_run.specs.RecordText.{output_of}
 use Rattle.tape_run.specs.ReelLine.{reel_lines, last_line}
 use Rattle.tape_run.specs.Reeling.{Turn, answer_of, AreTurns, Follows, Gathers, AreSteps, goes_back}
-use Rattle.tape_run.specs.Reeling.{IsKeptFor, AreSure, AreFirstTurns}
+use Rattle.tape_run.specs.Reeling.{IsKeptFor, AreSure, AreFirstTurns, Mounting}
 
 -- what was written where something is wanted, and where nothing is: the records, which were counted
 abbrev pub IsWritten : Option Want → ℕ → Form → Option (List ℕ) → Option (List ℕ) → List Portion
@@ -43,12 +43,14 @@ pub record Ends (first : State) (old : Seen) (turns : List Turn) (want : Option 
 -- Images were read in their order, all of them or up to the one that completed the file; a line was
 -- reported for each, and a last one with what is wanted or how many records the file has; and the
 -- session that the sink's parts belong to ended so.
-pub record Extracts {S R : Type 0} (holds : S → List Portion → Type 0) (refusals : S → ℕ)
-    (remaining : R → Option (List ℕ)) (session : Story S) (images lefts : List (Option R))
-    (form : Form) (out written said says : Option (List ℕ)) (want : Option Want) : Type 0 where
+pub record Extracts {S L R : Type 0} (holds : S → List Portion → Type 0) (refusals : S → ℕ)
+    (size : L → ℕ) (gives : Mounting L R) (remaining : R → Option (List ℕ)) (session : Story S)
+    (shelf left : L) (form : Form) (out written said says : Option (List ℕ)) (want : Option Want)
+    : Type 0 where
   pub turns : List Turn
-  pub are_turns : AreTurns remaining images lefts turns
-  pub all : length turns < length images → want ≡ None
+  pub are_turns : AreTurns gives remaining shelf 0 turns left
+  pub most : length turns ≤ size shelf
+  pub all : length turns < size shelf → want ≡ None
   pub records : ℕ
   pub lines : Appends said says (reel_lines 1 (map answer_of turns) ++ last_line want records)
   pub ends : (held : List Portion) → holds session.sink held
@@ -58,12 +60,13 @@ pub record Extracts {S R : Type 0} (holds : S → List Portion → Type 0) (refu
 -- A fault ended it: what was reported is a front of such a report, with the line of at most one
 -- image more than those that were read and noted, which are the first of the images; and nothing
 -- was done to the output, or the file is complete and a front of its records was written.
-pub record Stops {S R W : Type 0} (holds : S → List Portion → Type 0) (refusals : S → ℕ)
-    (remaining : R → Option (List ℕ)) (session : Story S) (images lefts : List (Option R))
-    (form : Form) (contents : W → Option (List ℕ)) (out written : W)
+pub record Stops {S L R W : Type 0} (holds : S → List Portion → Type 0) (refusals : S → ℕ)
+    (size : L → ℕ) (gives : Mounting L R) (remaining : R → Option (List ℕ)) (session : Story S)
+    (shelf left : L) (form : Form) (contents : W → Option (List ℕ)) (out written : W)
     (said says : Option (List ℕ)) : Type 0 where
   pub turns : List Turn
-  pub are_turns : AreFirstTurns remaining images lefts turns
+  pub are_turns : AreFirstTurns gives remaining shelf turns left
+  pub most : length turns ≤ size shelf
   pub more : List (Option ReelAnswer)
   pub few : length more ≤ 1
   pub want : Option Want

@@ -18,6 +18,7 @@ use Rattle.tape_run.specs.RecordText.{output_of}
 use Rattle.tape_run.specs.OutSinks.{HasTaken}
 use Rattle.tape_run.specs.ReelLine.{reel_lines, last_line}
 use Rattle.tape_run.specs.Reeling.{Turn, answer_of, AreTurns, AreFirstTurns, Follows, Gathers}
+use Rattle.tape_run.specs.Reeling.{Mounting}
 
 -- what a sink that writes holds
 abbrev pub Takes : {W : Type 0} → (W → Option (List ℕ)) → OutSink W → List Portion → Type 0
@@ -49,13 +50,14 @@ pub record EndsNow (first : State) (old : Seen) (turns : List Turn) (want : Opti
 -- Images were read in their order, all of them or up to the one that completed the file; a line was
 -- reported for each, and a last one; and where nothing is wanted the records, and nothing else,
 -- stand under the output's name.
-pub record ExtractsNow {S R : Type 0} (holds : S → List Portion → Type 0) (refusals : S → ℕ)
-    (remaining : R → Option (List ℕ)) (session : Story S) (images lefts : List (Option R))
-    (form : Form) (tells : Type 0) (stands said says : Option (List ℕ)) (want : Option Want)
-    : Type 0 where
+pub record ExtractsNow {S L R : Type 0} (holds : S → List Portion → Type 0) (refusals : S → ℕ)
+    (size : L → ℕ) (gives : Mounting L R) (remaining : R → Option (List ℕ)) (session : Story S)
+    (shelf left : L) (form : Form) (tells : Type 0) (stands said says : Option (List ℕ))
+    (want : Option Want) : Type 0 where
   pub turns : List Turn
-  pub are_turns : AreTurns remaining images lefts turns
-  pub all : length turns < length images → want ≡ None
+  pub are_turns : AreTurns gives remaining shelf 0 turns left
+  pub most : length turns ≤ size shelf
+  pub all : length turns < size shelf → want ≡ None
   pub records : ℕ
   pub lines : Appends said says (reel_lines 1 (map answer_of turns) ++ last_line want records)
   pub ends : (held : List Portion) → holds session.sink held
@@ -64,12 +66,13 @@ pub record ExtractsNow {S R : Type 0} (holds : S → List Portion → Type 0) (r
 -- A fault ended it: what was reported is a front of such a report, of the first of the images; and
 -- nothing was done to what stands under the output's name, or the file is complete and the same
 -- stands there, or just its records.
-pub record StopsNow {S R O : Type 0} (holds : S → List Portion → Type 0) (refusals : S → ℕ)
-    (remaining : R → Option (List ℕ)) (session : Story S) (images lefts : List (Option R))
-    (form : Form) (tells : Type 0) (stands : O → Option (List ℕ)) (out put : O)
+pub record StopsNow {S L R O : Type 0} (holds : S → List Portion → Type 0) (refusals : S → ℕ)
+    (size : L → ℕ) (gives : Mounting L R) (remaining : R → Option (List ℕ)) (session : Story S)
+    (shelf left : L) (form : Form) (tells : Type 0) (stands : O → Option (List ℕ)) (out put : O)
     (said says : Option (List ℕ)) : Type 0 where
   pub turns : List Turn
-  pub are_turns : AreFirstTurns remaining images lefts turns
+  pub are_turns : AreFirstTurns gives remaining shelf turns left
+  pub most : length turns ≤ size shelf
   pub more : List (Option ReelAnswer)
   pub few : length more ≤ 1
   pub want : Option Want

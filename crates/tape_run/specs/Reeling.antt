@@ -1,6 +1,6 @@
 -- What `extract` makes of images, one after another.
-use Rattle.std.specs.Prelude.{◌≡◌, ◌≢◌, ℕ, zero, suc, ◌+◌, ◌<◌, ◌≤◌, List, [], ◌∷◌, ◌++◌, length}
-use Rattle.std.specs.Prelude.{map, Option}
+use Rattle.std.specs.Prelude.{◌≡◌, ◌≢◌, ◌⊎◌, ℕ, zero, suc, ◌+◌, ◌<◌, ◌≤◌, List, [], ◌∷◌, ◌++◌}
+use Rattle.std.specs.Prelude.{length, map, Option, get_or, set}
 use Rattle.std.specs.Prelude.{Some, None, IfSome, IsSome, ⊤, Bool, true, false}
 use Rattle.std.specs.Io.KnownBytes.{Appends}
 use Rattle.tape_blocks.specs.Block.{Portion}
@@ -47,33 +47,41 @@ abbrev pub answer_of : Turn → Option ReelAnswer
 answer_of None = None
 answer_of (Some o) = Some o.answer
 
--- An image is this turn, with what its reader had before and has now.
-abbrev pub IsTurn : {R : Type 0} → (R → Option (List ℕ)) → Option R → Option R → Turn → Type 0
-IsTurn remaining None None None = ⊤
-IsTurn remaining (Some old) (Some new) (Some o) =
-    (o.had ≡ remaining old) × (o.left ≡ remaining new)
-IsTurn remaining old new turn = ⊥
+-- An image that was mounted, or was not there, is this turn: its reader had these bytes, and was
+-- given up with those left.
+abbrev pub IsTurn : {R : Type 0} → (R → Option (List ℕ)) → Option R → Turn → Type 0
+IsTurn remaining None None = ⊤
+IsTurn remaining (Some old) (Some o) =
+    (o.had ≡ remaining old) × ((new : _) × (o.left ≡ remaining new))
+IsTurn remaining image turn = ⊥
 
--- The first of the images are these turns; the others are as they were.
-abbrev pub AreTurns : {R : Type 0} → (R → Option (List ℕ)) → List (Option R) → List (Option R)
-    → List Turn → Type 0
-AreTurns remaining olds news [] = news ≡ olds
-AreTurns remaining [] news (turn ∷ turns) = ⊥
-AreTurns remaining (old ∷ olds) [] (turn ∷ turns) = ⊥
-AreTurns remaining (old ∷ olds) (new ∷ news) (turn ∷ turns) =
-    IsTurn remaining old new turn × AreTurns remaining olds news turns
+-- What mounting an image of a shelf gives, by its number, and the shelf then.
+abbrev pub Mounting : Type 0 → Type 0 → Type 1
+Mounting L R = L → ℕ → Option R → L → Type 0
 
--- The first of the images are these turns. The one behind them may have been begun; the others are
--- as they were.
-abbrev pub AreFirstTurns : {R : Type 0} → (R → Option (List ℕ)) → List (Option R) → List (Option R)
-    → List Turn → Type 0
-AreFirstTurns remaining [] news [] = news ≡ []
-AreFirstTurns remaining (old ∷ olds) [] [] = ⊥
-AreFirstTurns remaining (old ∷ olds) (new ∷ news) [] = news ≡ olds
-AreFirstTurns remaining [] news (turn ∷ turns) = ⊥
-AreFirstTurns remaining (old ∷ olds) [] (turn ∷ turns) = ⊥
-AreFirstTurns remaining (old ∷ olds) (new ∷ news) (turn ∷ turns) =
-    IsTurn remaining old new turn × AreFirstTurns remaining olds news turns
+-- The reader with this number is taken from a list, where there is one.
+abbrev pub Took : {R : Type 0} → Mounting (List (Option R)) R
+Took readers number image left =
+    (image ≡ get_or readers number None) × (left ≡ set readers number None)
+
+-- The images of a shelf from this number on, mounted one after another, are these turns.
+abbrev pub AreTurns : {L R : Type 0} → Mounting L R → (R → Option (List ℕ)) → L → ℕ → List Turn → L
+    → Type 0
+AreTurns gives remaining shelf number [] last = last ≡ shelf
+AreTurns gives remaining shelf number (turn ∷ turns) last = (image : Option _) × (next : _)
+    × gives shelf number image next × IsTurn remaining image turn
+    × AreTurns gives remaining next (number + 1) turns last
+
+-- The image with this number may have been mounted; no other was.
+abbrev pub MayMount : {L R : Type 0} → Mounting L R → L → ℕ → L → Type 0
+MayMount gives shelf number last = (last ≡ shelf)
+    ⊎ ((image : Option _) × gives shelf number image last)
+
+-- The first images of a shelf are these turns. The one behind them may have been mounted.
+abbrev pub AreFirstTurns : {L R : Type 0} → Mounting L R → (R → Option (List ℕ)) → L → List Turn → L
+    → Type 0
+AreFirstTurns gives remaining shelf turns last = (mid : _)
+    × AreTurns gives remaining shelf 0 turns mid × MayMount gives mid (length turns) last
 
 -- whether the trailer label of a reel counted other blocks, or that of one before it did
 abbrev pub is_doubtful : Answer → Bool
@@ -231,10 +239,10 @@ AreSteps back turns old new = (bytes : List (List ℕ)) → AreTold turns bytes
 
 -- The image with this number was read, or passed, and its line was reported.
 pub record Takes {S R : Type 0} (holds : S → List Portion → Type 0) (refusals : S → ℕ)
-    (remaining : R → Option (List ℕ)) (back : Bool) (old new : Story S) (image left : Option R)
+    (remaining : R → Option (List ℕ)) (back : Bool) (old new : Story S) (image : Option R)
     (number : ℕ) (said says : Option (List ℕ)) : Type 0 where
   pub turn : Turn
-  pub is_turn : IsTurn remaining image left turn
+  pub is_turn : IsTurn remaining image turn
   pub line : Appends said says (reel_line number (answer_of turn))
   pub follows : (held : List Portion) → holds old.sink held
       → IsKeptFor back (seen refusals old held) → (now : List Portion)
@@ -243,13 +251,14 @@ pub record Takes {S R : Type 0} (holds : S → List Portion → Type 0) (refusal
 
 -- Images were read in their order, all of them or up to the one that completed the file, and a line
 -- was reported for each.
-pub record TakesAll {S R : Type 0} (holds : S → List Portion → Type 0) (refusals : S → ℕ)
-    (remaining : R → Option (List ℕ)) (back : Bool) (old new : Story S)
-    (images lefts : List (Option R)) (said says : Option (List ℕ)) : Type 0 where
+pub record TakesAll {S L R : Type 0} (holds : S → List Portion → Type 0) (refusals : S → ℕ)
+    (size : L → ℕ) (gives : Mounting L R) (remaining : R → Option (List ℕ)) (back : Bool)
+    (old new : Story S) (shelf left : L) (said says : Option (List ℕ)) : Type 0 where
   pub turns : List Turn
-  pub are_turns : AreTurns remaining images lefts turns
+  pub are_turns : AreTurns gives remaining shelf 0 turns left
   pub lines : Appends said says (reel_lines 1 (map answer_of turns))
-  pub all : length turns < length images → new.core.position ≡ Finished
+  pub most : length turns ≤ size shelf
+  pub all : length turns < size shelf → new.core.position ≡ Finished
   pub follows : (held : List Portion) → holds old.sink held
       → IsKeptFor back (seen refusals old held) → (now : List Portion)
       × holds new.sink now × IsKeptFor back (seen refusals new now)
@@ -261,12 +270,13 @@ IsReported number said says = (more : List (Option ReelAnswer)) × (length more 
     × AppendsFront said says (reel_lines number more)
 
 -- Images were read in their order, and a fault ended that: a line was reported for each of them,
--- and a front of one for one more. Those behind that one are as they were.
-pub record StopsReading {S R : Type 0} (holds : S → List Portion → Type 0) (refusals : S → ℕ)
-    (remaining : R → Option (List ℕ)) (back : Bool) (old : Story S)
-    (images lefts : List (Option R)) (said says : Option (List ℕ)) : Type 0 where
+-- and a front of one for one more. Those behind that one were not mounted.
+pub record StopsReading {S L R : Type 0} (holds : S → List Portion → Type 0) (refusals : S → ℕ)
+    (size : L → ℕ) (gives : Mounting L R) (remaining : R → Option (List ℕ)) (back : Bool)
+    (old : Story S) (shelf left : L) (said says : Option (List ℕ)) : Type 0 where
   pub turns : List Turn
-  pub are_turns : AreFirstTurns remaining images lefts turns
+  pub are_turns : AreFirstTurns gives remaining shelf turns left
+  pub fewer : length turns < size shelf
   pub more : List (Option ReelAnswer)
   pub few : length more ≤ 1
   pub lines : AppendsFront said says (reel_lines 1 (map answer_of turns ++ more))

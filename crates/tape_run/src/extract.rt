@@ -17,6 +17,7 @@ mod records;
 use crate::fault::EngineFault;
 use crate::output::{flush, write_text};
 use crate::session::Session;
+use crate::shelf::Shelf;
 use images::read_images;
 pub use line::{ReportLine, last_line, reel_line};
 pub use now::{Place, extract_now};
@@ -31,35 +32,38 @@ use tape_set::Want;
 /// gave, and writes the file's records where it is complete. The answer is what is wanted of a file
 /// that is not.
 ///
-/// An image that is `None` was not opened: this is reported, and it is passed. Behind each reel the
-/// session is saved, but not behind one that counted wrong. Where the session came with a note it
-/// goes back then, to the note made last, and the next reel goes on from there; else it stays
-/// broken, nothing is saved behind the reels that are Broken for it, and nothing is gathered of
-/// them. Images behind the one that completes the file are not read. `out` is written
-/// and flushed where the file is complete, and else not touched; the report's last line comes
-/// behind that, and then the report is flushed. The session is dropped, with its sink.
+/// An image is mounted when its turn comes, and given up when it was read. One that is not there is
+/// reported as not opened, and passed. Behind each reel the session is saved, but not behind one
+/// that counted wrong. Where the session came with a note it goes back then, to the note made last,
+/// and the next reel goes on from there; else it stays broken, nothing is saved behind the reels
+/// that are Broken for it, and nothing is gathered of them. Images behind the one that completes
+/// the file are not mounted. `out` is written and flushed where the file is complete, and else not
+/// touched; the report's last line comes behind that, and then the report is flushed. The session
+/// is dropped, with its sink.
 ///
-/// The only memory taken is that of the session: a buffer while a reel is read, and notes.
+/// The only memory taken is that of the session, a buffer while a reel is read, and notes, and what
+/// mounting takes.
 ///
 /// # Errors
 ///
-/// `Run` with the fault of a reel, of a save, of going back, or of the walk over the sink's parts,
-/// as `Sink(Failed)` where this gives fewer records than before; `WriteFailed` where `out` or
-/// the report failed. What was reported is a front of such a report. `out` was not touched, or the
-/// file is complete, and a front of its records was written.
-pub fn extract_to<S: PartWalk + Drop, R: Read, W: Write, P: Write>(
+/// `Run` with the fault of a reel, of a save or of going back, with `OutOfMemory` where there was
+/// no memory to mount an image, or with the fault of the walk over the sink's parts, as
+/// `Sink(Failed)` where this gives fewer records than before; `WriteFailed` where `out` or the
+/// report failed. What was reported is a front of such a report. `out` was not touched, or the file
+/// is complete, and a front of its records was written.
+pub fn extract_to<S: PartWalk + Drop, R: Read + Drop, L: Shelf<R>, W: Write, P: Write>(
     session: Session<S>,
-    images: &mut [Option<R>],
+    images: &mut L,
     form: Form,
     out: &mut W,
     report: &mut P,
 ) -> Result<Option<Want>, EngineFault>
-    ensures ok { IfOk result (Extracts S.holds S.refusals R.remaining session
+    ensures ok { IfOk result (Extracts S.holds S.refusals L.size L.gives R.remaining session
         images.old images.new form (W.contents out.old) (W.contents out.new)
         (P.contents report.old) (P.contents report.new)) }
     // While something of the file is wanted `out` is not touched at all.
     ensures untouched { IfOk result (λ want. want ≢ None → out.new ≡ out.old) }
-    ensures err { OnErr result (Stops S.holds S.refusals R.remaining session
+    ensures err { OnErr result (Stops S.holds S.refusals L.size L.gives R.remaining session
         images.old images.new form W.contents out.old out.new
         (P.contents report.old) (P.contents report.new)) }
 {

@@ -30,6 +30,7 @@ mod script;
 mod section;
 mod sections;
 mod session;
+mod shelf;
 mod whole;
 
 pub use answer::ReelAnswer;
@@ -47,4 +48,5 @@ pub use report::{Report, check_set};
 pub use script::{Step, run};
 pub use section::{Entry, ImageLine, ImageStop, Lack, SectionKey, SectionLine, SectionState};
 pub use session::Session;
+pub use shelf::Shelf;
 pub use whole::{go_on, read_file};

@@ -7,7 +7,7 @@ use crate::sections::of_blocks;
 use crate::volumes::{
     EOF_FOUR, EOF_NONE, EOF_ONE, SPANNED, cut, damaged, one_block, records as worked_records,
 };
-use std::alloc::Global;
+use std::alloc::{AllocError, Global};
 use std::io::{ErrorKind, Read, Write};
 use std::process::Abort;
 use std::test::Fail;
@@ -19,8 +19,20 @@ use tape_set::Want;
 /// What `extract` answers.
 type Answer = Result<Option<Want>, EngineFault>;
 
+/// The images, on a shelf.
+pub fn shelf_of<R: Read + Drop>(
+    alloc: Global,
+    images: &mut [Option<R>],
+) -> Result<Vec<Option<R>>, AllocError> {
+    let mut shelf = Vec::new(alloc);
+    for image in images {
+        shelf.push(image.take())?;
+    }
+    Ok(shelf)
+}
+
 /// File 1 or another one of the set ABC001, from these images.
-fn run<R: Read, W: Write, P: Write>(
+fn run<R: Read + Drop, W: Write, P: Write>(
     alloc: Global,
     file: u16,
     form: Form,
@@ -29,11 +41,12 @@ fn run<R: Read, W: Write, P: Write>(
     report: &mut P,
 ) -> Result<Answer, Fail> {
     let session = Session::new(alloc, set_id(), file, MemorySink::new(alloc))?;
-    Ok(extract_to(session, images, form, out, report))
+    let mut shelf = shelf_of(alloc, images)?;
+    Ok(extract_to(session, &mut shelf, form, out, report))
 }
 
 /// The lines over these images, and what is written of the file.
-fn gives<H: Abort + AllocGlobal, R: Read>(
+fn gives<H: Abort + AllocGlobal, R: Read + Drop>(
     rt: &H,
     form: Form,
     images: &mut [Option<R>],
@@ -50,7 +63,7 @@ fn gives<H: Abort + AllocGlobal, R: Read>(
 }
 
 /// The lines over these images, from which something is still wanted.
-fn wants<H: Abort + AllocGlobal, R: Read>(
+fn wants<H: Abort + AllocGlobal, R: Read + Drop>(
     rt: &H,
     file: u16,
     images: &mut [Option<R>],

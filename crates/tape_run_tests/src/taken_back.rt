@@ -1,4 +1,5 @@
 //! Reels whose trailers count other blocks, read by sessions that have a note and go back to it.
+use crate::extract::shelf_of;
 use crate::image::{EOF_THREE, HDR1, HDR2, Image, VOL1, payroll, set_id};
 use crate::volumes::{cut, records};
 use std::alloc::{AllocError, Global};
@@ -34,7 +35,8 @@ fn gives<H: Abort + AllocGlobal>(
     let (mut report, mut out) = (Vec::new(rt.alloc()), Vec::new(rt.alloc()));
     let mut session = Session::new(rt.alloc(), set_id(), 1, MemorySink::new(rt.alloc()))?;
     session.note()?;
-    let answer = extract_to(session, images, Form::Lines, &mut out, &mut report)?;
+    let mut shelf = shelf_of(rt.alloc(), images)?;
+    let answer = extract_to(session, &mut shelf, Form::Lines, &mut out, &mut report)?;
     assert_eq!(rt; report.as_slice(), lines.as_bytes(), "{lines}");
     assert!(rt; answer == want, "{lines}");
     assert!(rt; out.as_slice() == written, "{lines}");

@@ -2,6 +2,7 @@
 mod draft;
 pub mod folder;
 mod guard;
+mod images;
 mod out_file;
 mod program;
 mod stage_file;

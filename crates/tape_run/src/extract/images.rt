@@ -11,52 +11,51 @@ use crate::answer::ReelAnswer;
 use crate::fault::{EngineFault, RunFault};
 use crate::output::write_text;
 use crate::session::Session;
+use crate::shelf::Shelf;
 use std::io::{Read, Write};
 use tape_core::{Answer, PartSink, Reason};
 
-/// Reads the images in their order, until the file is complete. `back` says whether the session
+/// Mounts the images in their order, until the file is complete. `back` says whether the session
 /// goes back behind a reel that is in doubt.
-pub fn read_images<S: PartSink, R: Read, P: Write>(
+pub fn read_images<S: PartSink, R: Read + Drop, L: Shelf<R>, P: Write>(
     session: &mut Session<S>,
-    images: &mut [Option<R>],
+    images: &mut L,
     back: bool,
     report: &mut P,
 ) -> Result<(), EngineFault>
-    ensures ok { OnOk result (TakesAll S.holds S.refusals R.remaining back session.old session.new
-        images.old images.new (P.contents report.old) (P.contents report.new)) }
-    ensures err { OnErr result (StopsReading S.holds S.refusals R.remaining back session.old
-        images.old images.new (P.contents report.old) (P.contents report.new)) }
+    ensures ok { OnOk result (TakesAll S.holds S.refusals L.size L.gives R.remaining back
+        session.old session.new images.old images.new
+        (P.contents report.old) (P.contents report.new)) }
+    ensures err { OnErr result (StopsReading S.holds S.refusals L.size L.gives R.remaining back
+        session.old images.old images.new (P.contents report.old) (P.contents report.new)) }
 {
-    for number in 0..images.len() {
+    for number in 0..images.count() {
         if session.want().is_none() {
             return Ok(());
         }
-        take_image(
-            session,
-            &mut images[number],
-            number as u64 + 1,
-            back,
-            report,
-        )?;
+        let Ok(image) = images.mount(number) else {
+            return Err(EngineFault::Run(RunFault::OutOfMemory));
+        };
+        take_image(session, image, number as u64 + 1, back, report)?;
     }
     Ok(())
 }
 
-/// Reads the image with this number, or passes it where it was not opened, and reports its line.
-fn take_image<S: PartSink, R: Read, P: Write>(
+/// Reads the image with this number, or passes it where it is not there, and reports its line.
+fn take_image<S: PartSink, R: Read + Drop, P: Write>(
     session: &mut Session<S>,
-    image: &mut Option<R>,
+    image: Option<R>,
     number: u64,
     back: bool,
     report: &mut P,
 ) -> Result<(), EngineFault>
     requires waits { session.old.core.position ≢ Finished }
     ensures ok { OnOk result (Takes S.holds S.refusals R.remaining back session.old
-        session.new image.old image.new number (P.contents report.old) (P.contents report.new)) }
+        session.new image number (P.contents report.old) (P.contents report.new)) }
     ensures err { OnErr result (IsReported number (P.contents report.old) (P.contents report.new)) }
 {
     match image {
-        Some(device) => take_reel(session, device, number, back, report),
+        Some(mut device) => take_reel(session, &mut device, number, back, report),
         None => Ok(write_text(report, reel_line(number, None).as_bytes())?),
     }
 }
@@ -71,7 +70,7 @@ fn take_reel<S: PartSink, R: Read, P: Write>(
 ) -> Result<(), EngineFault>
     requires waits { session.old.core.position ≢ Finished }
     ensures ok { OnOk result (Takes S.holds S.refusals R.remaining back session.old
-        session.new (Some device.old) (Some device.new) number
+        session.new (Some device.old) number
         (P.contents report.old) (P.contents report.new)) }
     ensures err { OnErr result (IsReported number (P.contents report.old) (P.contents report.new)) }
 {

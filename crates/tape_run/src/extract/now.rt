@@ -8,6 +8,7 @@ use super::images::read_images;
 use super::out_sink::OutSink;
 use crate::fault::{EngineFault, WriteFailed};
 use crate::session::Session;
+use crate::shelf::Shelf;
 use std::io::{Read, Write};
 use tape_blocks::Form;
 use tape_set::Want;
@@ -32,28 +33,30 @@ pub trait Place<W: Write> {
 /// under the output's name; else what stands there is not touched, and what was written is dropped
 /// with the session. The answer is what is wanted of a file that is not complete.
 ///
-/// The only memory taken is that of the session: a buffer while a reel is read, and notes.
+/// The only memory taken is that of the session, a buffer while a reel is read, and notes, and what
+/// mounting takes.
 ///
 /// # Errors
 ///
-/// `Run` with the fault of a reel or of a save, or `Sink(Failed)` where a record is begun behind
+/// `Run` with the fault of a reel or of a save, with `OutOfMemory` where there was none to mount an
+/// image, or `Sink(Failed)` where a record is begun behind
 /// the last part; `WriteFailed` where the output or the report failed. What was reported is a
 /// front of such a report. What stands under the output's name stands there as it was, or the file
 /// is complete, and its records stand there.
-pub fn extract_now<W: Write + Drop, R: Read, O: Place<W>, P: Write>(
+pub fn extract_now<W: Write + Drop, R: Read + Drop, L: Shelf<R>, O: Place<W>, P: Write>(
     session: Session<OutSink<W>>,
-    images: &mut [Option<R>],
+    images: &mut L,
     form: Form,
     out: &mut O,
     report: &mut P,
 ) -> Result<Option<Want>, EngineFault>
-    ensures ok { IfOk result (ExtractsNow (Takes W.contents) refused_by R.remaining session
-        images.old images.new form (TellsAlways W.contents) (O.stands out.new)
+    ensures ok { IfOk result (ExtractsNow (Takes W.contents) refused_by L.size L.gives R.remaining
+        session images.old images.new form (TellsAlways W.contents) (O.stands out.new)
         (P.contents report.old) (P.contents report.new)) }
     // While something of the file is wanted the output's name is not touched at all.
     ensures untouched { IfOk result (λ want. want ≢ None → out.new ≡ out.old) }
-    ensures err { OnErr result (StopsNow (Takes W.contents) refused_by R.remaining session
-        images.old images.new form (TellsAlways W.contents) O.stands out.old out.new
+    ensures err { OnErr result (StopsNow (Takes W.contents) refused_by L.size L.gives R.remaining
+        session images.old images.new form (TellsAlways W.contents) O.stands out.old out.new
         (P.contents report.old) (P.contents report.new)) }
 {
     let mut session = session;

@@ -112,7 +112,9 @@ fn find_inputs<'a, R: Runtime + AllocGlobal>(
     for word in order.files.as_slice() {
         let (head, (_, path)) = (head_for(word)?, split(word));
         let reader = InputFile::find(rt, path).map_err(ToolFault::File)?;
-        inputs.push(Input { head, reader }).map_err(|_| no_memory())?;
+        inputs
+            .push(Input { head, reader })
+            .map_err(|_| no_memory())?;
     }
     Ok(inputs)
 }

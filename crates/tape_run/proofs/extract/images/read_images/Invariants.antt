@@ -8,8 +8,7 @@ use Rattle.tape_run.proofs.extract.images.read_images.Given as goal
 
 abbrev pub invariant-loop-number : goal.invariant-loop-number
 invariant-loop-number g l = (turns : List Turn) × (length turns ≡ l.number)
-    × AreTurns g.R.Read.remaining l.fn.images l.images turns
-    × (length l.images ≡ length l.fn.images)
+    × AreTurns g.L.Shelf.gives g.R.Read.remaining l.fn.images 0 turns l.images
     × Appends (g.P.Write.contents l.fn.report) (g.P.Write.contents l.report) (reel_lines 1
     (map answer_of turns))
     × ((held : List Portion) → g.S.PartSink.holds l.fn.session.sink held

@@ -38,7 +38,7 @@ returns-clause-ok g c =
     let refusals = g.S.PartSink.refusals in
     record {
       turn = Some opened;
-      is_turn = (refl, refl);
+      is_turn = (refl, (c.reel.new.device, refl));
       line = subst (Appends (g.P.Write.contents c.args.report.now)
           (g.P.Write.contents c.write_text.new.writer)) text c.in_ok-write_text.ensures.ok;
       follows = λ held was kept.

@@ -10,20 +10,24 @@ use Rattle.tape_run.proofs.extract.now.extract_now.Goals as goal
 pub returns-in_err-read_images-clause-err : goal.returns-in_err-read_images-clause-err
 returns-in_err-read_images-clause-err g c =
     on_err c.from_residual.result _
-    (stops_reading_now (Takes g.W.Write.contents) refused_by g.R.Read.remaining c.args.session
-    _ _ c.args.form (TellsAlways g.W.Write.contents) g.O.Place.stands c.args.out.now _ _
+    (stops_reading_now (Takes g.W.Write.contents) refused_by g.L.Shelf.size g.L.Shelf.gives
+    g.R.Read.remaining c.args.session _ _ c.args.form (TellsAlways g.W.Write.contents)
+    g.O.Place.stands c.args.out.now _ _
     c.in_err-read_images.ensures.err)
 
 pub returns-in_err-end_report-clause-err : goal.returns-in_err-end_report-clause-err
 returns-in_err-end_report-clause-err g c =
-    on_err _ _ (stops_at_end_now (Takes g.W.Write.contents) refused_by g.R.Read.remaining
+    on_err _ _ (stops_at_end_now (Takes g.W.Write.contents) refused_by g.L.Shelf.size
+    g.L.Shelf.gives
+    g.R.Read.remaining
     c.args.session c.read_images.new.session _ _ c.args.form (TellsAlways g.W.Write.contents)
     g.O.Place.stands c.args.out.now c.args.out.now _ _ _ (Some c.in-Some.want) 0
     c.in_ok-read_images.ensures.ok c.in_err-end_report.ensures.err (λ held was. inl refl))
 
 pub returns-in-Some-clause-ok : goal.returns-in-Some-clause-ok
 returns-in-Some-clause-ok g c =
-    extracted_now (Takes g.W.Write.contents) refused_by g.R.Read.remaining c.args.session
+    extracted_now (Takes g.W.Write.contents) refused_by g.L.Shelf.size g.L.Shelf.gives
+    g.R.Read.remaining c.args.session
     c.read_images.new.session _ _ c.args.form (TellsAlways g.W.Write.contents) _ _ _ _
     (Some c.in-Some.want) 0
     c.in_ok-read_images.ensures.ok (sym c.in-Some.is ∙ c.want.ensures) c.in_ok-end_report.ensures.ok
@@ -31,7 +35,9 @@ returns-in-Some-clause-ok g c =
 
 pub returns-in_err-written-clause-err : goal.returns-in_err-written-clause-err
 returns-in_err-written-clause-err g c =
-    on_err _ _ (stops_at_end_now (Takes g.W.Write.contents) refused_by g.R.Read.remaining
+    on_err _ _ (stops_at_end_now (Takes g.W.Write.contents) refused_by g.L.Shelf.size
+    g.L.Shelf.gives
+    g.R.Read.remaining
     c.args.session c.read_images.new.session _ _ c.args.form (TellsAlways g.W.Write.contents)
     g.O.Place.stands c.args.out.now c.args.out.now _ _ _ None 0
     c.in_ok-read_images.ensures.ok (nothing_more _ _) (λ held was. inl refl))
@@ -40,7 +46,9 @@ pub returns-in_err-place-clause-err : goal.returns-in_err-place-clause-err
 returns-in_err-place-clause-err g c =
     let mid = c.read_images.new.session in
     let none : None ≡ want_at mid.core.file mid.core.position = search rules in
-    on_err _ _ (stops_at_end_now (Takes g.W.Write.contents) refused_by g.R.Read.remaining
+    on_err _ _ (stops_at_end_now (Takes g.W.Write.contents) refused_by g.L.Shelf.size
+    g.L.Shelf.gives
+    g.R.Read.remaining
     c.args.session mid _ _ c.args.form (TellsAlways g.W.Write.contents)
     g.O.Place.stands c.args.out.now c.place.new.self _ _ _ None 0
     c.in_ok-read_images.ensures.ok (nothing_more _ _)
@@ -53,7 +61,9 @@ pub returns-in_err-end_report-2-clause-err : goal.returns-in_err-end_report-2-cl
 returns-in_err-end_report-2-clause-err g c =
     let mid = c.read_images.new.session in
     let none : None ≡ want_at mid.core.file mid.core.position = search rules in
-    on_err _ _ (stops_at_end_now (Takes g.W.Write.contents) refused_by g.R.Read.remaining
+    on_err _ _ (stops_at_end_now (Takes g.W.Write.contents) refused_by g.L.Shelf.size
+    g.L.Shelf.gives
+    g.R.Read.remaining
     c.args.session mid _ _ c.args.form (TellsAlways g.W.Write.contents)
     g.O.Place.stands c.args.out.now c.place.new.self _ _ _ None c.in_ok-written.records
     c.in_ok-read_images.ensures.ok c.in_err-end_report-2.ensures.err
@@ -67,7 +77,8 @@ pub returns-clause-ok : goal.returns-clause-ok
 returns-clause-ok g c =
     let mid = c.read_images.new.session in
     let none : None ≡ want_at mid.core.file mid.core.position = search rules in
-    extracted_now (Takes g.W.Write.contents) refused_by g.R.Read.remaining c.args.session mid _ _
+    extracted_now (Takes g.W.Write.contents) refused_by g.L.Shelf.size g.L.Shelf.gives
+    g.R.Read.remaining c.args.session mid _ _
     c.args.form (TellsAlways g.W.Write.contents) _ _ _ _ None c.in_ok-written.records
     c.in_ok-read_images.ensures.ok none c.in_ok-end_report-2.ensures.ok
     (λ held was.
