@@ -1,0 +1,45 @@
+#!/usr/bin/env python3
+"""Runs tables of whole calls of the program: words, exit status, both streams and files, byte by byte.
+By hand; the gate does not run it, since there it would have to prove these tests too.
+
+    ./whole.py
+
+In a copy of the repository the files of bench/whole stand among the tests of tape_tool. `rt try` compiles and
+runs them, over a system that is the real one but for its words and streams, and that notes what is opened.
+Prints what `rt` says of each test; the status is 1 where one failed.
+"""
+
+import shutil
+import subprocess
+import sys
+import tempfile
+from pathlib import Path
+
+REPOSITORY = Path(__file__).resolve().parent.parent
+TABLES = REPOSITORY / "bench" / "whole"
+ENDING = ".rt.txt"
+
+
+def put_tables(crate):
+    """Copies the tables among the crate's tests, and names them there."""
+    names = sorted(path.name.removesuffix(ENDING) for path in TABLES.glob("*" + ENDING))
+    for name in names:
+        shutil.copy(TABLES / (name + ENDING), crate / "src" / "tests" / f"{name}.rt")
+    tests = crate / "src" / "tests.rt"
+    tests.write_text(tests.read_text() + "".join(f"mod {name};\n" for name in names))
+
+
+def main():
+    with tempfile.TemporaryDirectory() as folder:
+        copy = Path(folder) / "copy"
+        subprocess.run(["git", "clone", "--quiet", REPOSITORY, copy], check=True)
+        crate = copy / "crates" / "tape_tool"
+        put_tables(crate)
+        tried = subprocess.run(["rt", "try", "--test"], cwd=crate, stdout=subprocess.PIPE, text=True)
+    tests = [line for line in tried.stdout.splitlines() if line.startswith("test ")]
+    print("\n".join(line for line in tests if " whole" in line or " result:" in line or "FAILED" in line))
+    return 0 if tests and tests[-1].startswith("test result: ok.") else 1
+
+
+if __name__ == "__main__":
+    sys.exit(main())
