@@ -36,9 +36,13 @@ def main():
         crate = copy / "crates" / "tape_tool"
         put_tables(crate)
         tried = subprocess.run(["rt", "try", "--test"], cwd=crate, stdout=subprocess.PIPE, text=True)
-    tests = [line for line in tried.stdout.splitlines() if line.startswith("test ")]
-    print("\n".join(line for line in tests if " whole" in line or " result:" in line or "FAILED" in line))
-    return 0 if tests and tests[-1].startswith("test result: ok.") else 1
+    failed = False
+    for line in tried.stdout.splitlines():
+        if line.startswith("test "):
+            failed = line.endswith("FAILED")
+        if failed or line.startswith(("test tests::whole", "test result")):
+            print(line)
+    return 0 if "\ntest result: ok." in tried.stdout else 1
 
 
 if __name__ == "__main__":
