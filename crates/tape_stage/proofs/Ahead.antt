@@ -8,7 +8,7 @@ use Rattle.std.specs.Int.{to_be_bytes, from_be_bytes}
 use Rattle.tape_blocks.specs.Block.{Portion}
 use Rattle.tape_stage.specs.Parts.{frame, frames, AllShort}
 use Rattle.tape_blocks.specs.Block.{indicator}
-use Rattle.tape_stage.specs.Staged.{Holding, Ahead}
+use Rattle.tape_stage.specs.Staged.{Ahead}
 use Rattle.tape_blocks.specs.declared.part.Span.{Span}
 
 -- the first of the frames that are ahead

@@ -1,6 +1,6 @@
 -- A body reads as what it was written from.
 use Rattle.std.proofs.Common.{◌≡◌, ℕ, Bool, true, false, cond, List, ◌++◌, length}
-use Rattle.std.proofs.Common.{take, drop, replicate, Option, Some, None, refl, ap, ◌∙◌, subst}
+use Rattle.std.proofs.Common.{take, drop, replicate, Option, Some, None, refl, ap, ◌∙◌}
 use Rattle.std.proofs.Common.{arith, length-append}
 use Rattle.std.proofs.lemmas.List.{take_at, drop_at}
 use Rattle.std.specs.Str.{all_ascii_digits}

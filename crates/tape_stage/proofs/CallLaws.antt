@@ -61,6 +61,13 @@ image_back first bytes calls call c is now =
     subst (λ (b : List ℕ). left_after b (IsImage first calls) call c) is
     (left_back first (λ d. d ≡ first) calls call c now)
 
+pub image_more : (first bytes : List ℕ) (calls : List Call) (call : Call) (c : List ℕ)
+    → seen_by first calls ≡ bytes
+    → left_after bytes (IsImage first calls) call c → IsImage first (calls ++ call ∷ []) c
+image_more first bytes calls call c is now =
+    left_more first (λ d. d ≡ first) calls call c
+    (subst (λ (b : List ℕ). left_after b (IsImage first calls) call c) (sym is) now)
+
 pub elapses_more : (first : List ℕ) (calls : List Call) (call : Call)
     → Elapses (length calls) (length (calls ++ call ∷ [])) (WasImage first calls)
     (WasImage first (calls ++ call ∷ [])) (IsImage first (calls ++ call ∷ []))

@@ -9,7 +9,7 @@ use Rattle.tape_stage.specs.Same.{DidCall}
 use Rattle.tape_stage.specs.declared.content.Call.{Call}
 use Rattle.tape_stage.specs.declared.content.Call.TheVariants.{Look, Write, Cut, Sync}
 use Rattle.tape_stage.specs.declared.content.Content.{Content}
-use Rattle.tape_stage.proofs.CallLaws.{image_back, elapses_more}
+use Rattle.tape_stage.proofs.CallLaws.{image_back, image_more, elapses_more}
 
 abbrev Leaves : Content → List ℕ → Type 0
 Leaves content = IsImage (first_of content) content.calls.items
@@ -64,3 +64,23 @@ pub worst_left_now : (content : Content)
 worst_left_now content =
     worst_image (first_of content) (kept_or content.changed content.worst.items content.bytes.items)
     content.calls.items content.right.fit content.right.worst_is
+
+pub written_open : (old mid new : Content) (place : ℕ) (copy : Vec ℕ Global) (bytes : List ℕ)
+    → mid ≡ old → copy.items ≡ bytes → DidCall (Write place copy) mid new
+    → (d c : List ℕ) → Leaves old d → Torn place (length bytes) d c → Leaves new c
+written_open old mid new place copy bytes is same before d c left torn =
+    let did = subst (λ (o : Content). DidCall (Write place copy) o new) is before in
+    let P : List ℕ → List Call → Type 0 = λ f calls. IsImage f calls c in
+    subst (λ (f : List ℕ). P f new.calls.items) (sym did.first)
+    (subst (λ (calls : List Call). P (first_of old) calls) (sym did.calls)
+    (image_more (first_of old) old.bytes.items old.calls.items (Write place copy) c old.right.seen
+    (d, left, subst (λ (b : List ℕ). Torn place (length b) d c) (sym same) torn)))
+
+pub looked_open : (old mid new : Content) → mid ≡ old → DidCall Look mid new
+    → (c : List ℕ) → Leaves old c → Leaves new c
+looked_open old mid new is before c left =
+    let did = subst (λ (o : Content). DidCall Look o new) is before in
+    let P : List ℕ → List Call → Type 0 = λ f calls. IsImage f calls c in
+    subst (λ (f : List ℕ). P f new.calls.items) (sym did.first)
+    (subst (λ (calls : List Call). P (first_of old) calls) (sym did.calls)
+    (image_more (first_of old) old.bytes.items old.calls.items Look c old.right.seen left))

@@ -1,9 +1,10 @@
 -- The cases of disks and stages.
-use Rattle.std.proofs.Common.{◌≡◌, ◌⊎◌, [], ◌∷◌, refl, inl}
-use Rattle.std.proofs.Common.{inr, arith, get_or, ap}
+use Rattle.std.proofs.Common.{◌≡◌, ◌⊎◌, ◌∙◌, List, ℕ, [], ◌∷◌, refl, inl}
+use Rattle.std.proofs.Common.{inr, arith, get_or, ap, take}
 use Rattle.tape_blocks.specs.declared.part.Span.TheVariants as spans
 use Rattle.tape_stage.specs.declared.disk.Disk.{Ghosts}
 use Rattle.tape_stage.specs.Body.{body_text}
+use Rattle.tape_stage.specs.Disk.{Torn}
 use Rattle.tape_stage.specs.Frames.{NoFrameAt}
 use Rattle.tape_stage.specs.Staged.{HoldsNone}
 use Rattle.tape_stage.specs.Cases.{CasesOfCrashes, CasesOfMoments, CasesOfFiles, CasesOfStages}
@@ -33,6 +34,23 @@ cases_of_crashes = record {
   other_is_other = λ h. absurd (let e = h (1 ∷ []) tt in cc e);
   stepped = λ c e. ([], refl, (refl, e));
   not_stepped = λ h. (h [] refl).2;
+  allowed = λ d c old step. step.1;
+  not_allowed = λ h. absurd (let e = h [] (7 ∷ []) refl refl in cc e);
+  allowed_of_nothing = λ d c none step. none;
+  held_over = refl;
+  held_behind = refl;
+  held_lost = (
+    1 ∷ [],
+    refl,
+    record { before = refl; after = refl; no_shorter = omega arith; no_longer = omega arith },
+  );
+  held_torn = (
+    1 ∷ [],
+    refl,
+    record { before = refl; after = refl; no_shorter = omega arith; no_longer = omega arith },
+  );
+  held_there = λ left. absurd (let e = left.2.before ∙ ap (take 1) left.1 in cc e);
+  held_of_nothing = λ left. left.1;
   cut_in_memory = (
     1 ∷ 2 ∷ [],
     refl,
@@ -52,6 +70,10 @@ not_invented : ⊥ ⊎ ⊥ → ⊥
 not_invented (inl h) = h
 not_invented (inr h) = h
 
+held_never : ⊥ ⊎ ((d : List ℕ) × ⊥ × Torn 0 1 d []) → ⊥
+held_never (inl h) = h
+held_never (inr h) = h.1
+
 pub cases_of_moments : CasesOfMoments
 cases_of_moments = record {
   not_in_between = λ p. elim (p.before 0 (7 ∷ []) (omega arith) (refl, refl)) [
@@ -65,6 +87,13 @@ cases_of_moments = record {
     before = λ t c le was. inl was;
     now = λ c none. none;
   };
+  held_before = inl refl;
+  held_now = inr (
+    [],
+    refl,
+    record { before = refl; after = refl; no_shorter = omega arith; no_longer = omega arith },
+  );
+  held_never = λ left. held_never left;
   not_forgotten = λ e. e.keeps 0 [] (omega arith) tt;
   not_invented = λ e. not_invented (e.nothing_else 0 [] (omega arith) tt);
   not_again = λ e. omega (arith, e.later);

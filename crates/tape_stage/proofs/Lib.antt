@@ -9,6 +9,7 @@ pub mod FieldLaws
 pub mod Finds
 pub mod FrameLaws
 pub mod Giving
+pub mod HoldingLaws
 pub mod Held
 pub mod Keeps
 pub mod Makes

@@ -1,7 +1,7 @@
 -- Files that a crash inside a call of a stage never leaves, by the call's contract: each is one
 -- that a wrong body would leave open, and one that no crash before the call could leave.
 -- What is asked of a stage (`IsStage`, `Ready`) is what `create` and `save` say of theirs.
-use Rattle.std.proofs.Common.{◌≡◌, ◌⊎◌, inl, inr, ℕ, ◌+◌, ◌≤◌, ◌<◌, Bool, true, false, List, length}
+use Rattle.std.proofs.Common.{◌≡◌, ◌⊎◌, inl, inr, ℕ, ◌+◌, Bool, true, false, List, length}
 use Rattle.std.proofs.Common.{get_or, sym, ap, ◌∙◌, subst, arith}
 use Rattle.std.specs.Prelude.{not, Some, option_map, unwrap_or}
 use Rattle.tape_blocks.specs.Block.{Portion}

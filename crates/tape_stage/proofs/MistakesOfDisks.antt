@@ -1,20 +1,22 @@
 -- Answers that the contracts of disks exclude: each is what a wrong body would give.
-use Rattle.std.proofs.Common.{◌≡◌, ℕ, ◌+◌, ◌-◌, [], ◌∷◌, ◌++◌, length, take, drop, get_or}
-use Rattle.std.proofs.Common.{true, false, inl, inr, sym, ap, ◌∙◌, subst, arith}
-use Rattle.std.specs.Prelude.{max, replicate, Some, Ok, Err, IfSome}
-use Rattle.arrayvec.specs.ArrayVec.{array_vec_len}
+use Rattle.std.proofs.Common.{◌≡◌, ◌+◌, [], ◌∷◌, ◌++◌, length, take, drop, get_or}
+use Rattle.std.proofs.Common.{true, inl, inr, sym, ap, ◌∙◌, subst, arith}
+use Rattle.std.specs.Prelude.{max, replicate, slice_range, Some, Ok, Err, IfSome}
 use Rattle.tape_core.specs.Weight.{Rose}
 use Rattle.tape_stage.specs.Calls.{worst_by}
+use Rattle.tape_stage.specs.Holding.{with_held, LeftTorn}
 use Rattle.tape_stage.specs.Memory.{first_of, memory_bytes}
 use Rattle.tape_stage.specs.declared.content.Call.TheVariants.{Write}
 use Rattle.tape_stage.specs.declared.disk.DiskFault.TheVariants.{Device}
 use Rattle.tape_stage.proofs.file_disk.FileDisk.fail.Reads as fail
 use Rattle.tape_stage.proofs.file_disk.FileDisk.new.Reads as new
-use Rattle.tape_stage.proofs.file_disk.FileDisk.pass_on.Reads as pass_on
 use Rattle.tape_stage.proofs.file_disk.FileDiskDisk.write_at.Reads as write_at
 use Rattle.tape_stage.proofs.memory.MemoryDisk.crash.Reads as crash
-use Rattle.tape_stage.proofs.window.Window.give.Reads as give
-use Rattle.tape_stage.proofs.window.Window.takes.Reads as takes
+use Rattle.tape_stage.proofs.read_ahead.ReadAhead.give.Reads as give
+use Rattle.tape_stage.proofs.write_behind.WriteBehind.hold.Reads as hold
+use Rattle.tape_stage.proofs.write_behind.WriteBehind.pass_on.Reads as pass_on
+use Rattle.tape_stage.proofs.write_behind.WriteBehind.takes.Reads as takes
+use Rattle.tape_stage.proofs.write_behind.WriteBehindDisk.sync.Reads as sync
 
 -- ---- a disk in memory
 
@@ -31,26 +33,76 @@ crash_leaves_what_is_read κs a z s two l first calls is w =
     = ap (λ t. take 0 (1 ∷ []) ++ replicate (length t) 255 ++ drop (0 + length t) (1 ∷ [])) is in
     absurd (let n : 2 ≡ 255 = ap (λ t. get_or t 0 0) (sym w ∙ e ∙ worst) in omega arith)
 
--- ---- bytes that are held
+-- ---- bytes that are held before a disk
 
--- window_read_from_its_start: of the bytes 1 2 3 from place 10 on, a read at 11 gives the 1
-window_read_from_its_start : (κs : _) (a : _) (s : _) → give.Learnt-named κs a true s
-    → a.0.now.start ≡ 10 → a.0.now.bytes.items ≡ 1 ∷ 2 ∷ 3 ∷ [] → a.1.0 ≡ 11
-    → length a.1.1.0.now ≡ 1 → s.1.1.0.now ≡ 1 ∷ [] → ⊥
-window_read_from_its_start κs a s l from held at size w =
-    let e : s.1.1.0.now ≡ take 1 (drop (11 - 10) (1 ∷ 2 ∷ 3 ∷ []))
-    = l.bytes ∙ ap (λ n. take n (drop (a.1.0 - a.0.now.start) a.0.now.bytes.items)) size
-    ∙ ap (λ n. take 1 (drop (n - a.0.now.start) a.0.now.bytes.items)) at
-    ∙ ap (λ n. take 1 (drop (11 - n) a.0.now.bytes.items)) from
-    ∙ ap (λ t. take 1 (drop (11 - 10) t)) held in
-    absurd (let n : 1 ≡ 2 = ap (λ t. get_or t 0 0) (sym w ∙ e) in omega arith)
+-- held_bytes_not_written: what is held is passed over, and held on
+held_bytes_not_written : (D : _) (L : _) (g : _) (d : _) (κs : _) (a : _) (s : _)
+    → pass_on.Learnt-named D L g d κs a (Ok tt) s → s.0.now.bytes.items ≡ 1 ∷ [] → ⊥
+held_bytes_not_written D L g d κs a s l is =
+    let e : 1 ∷ [] ≡ [] = sym is ∙ l.empty in
+    absurd (let n : 1 ≡ 0 = ap length e in omega arith)
+
+-- lost_where_it_fails: the byte 1 was held and could not be written, and is not read any more
+lost_where_it_fails : (D : _) (L : _) (g : _) (d : _) (κs : _) (a : _) (s : _)
+    → pass_on.Learnt-named D L g d κs a (Err Device) s → g.is_honest a.0.now.disk
+    → with_held a.0.now.start a.0.now.bytes.items (g.seen a.0.now.disk) ≡ 1 ∷ []
+    → with_held s.0.now.start s.0.now.bytes.items (g.seen s.0.now.disk) ≡ [] → ⊥
+lost_where_it_fails D L g d κs a s l honest was is =
+    let e : [] ≡ 1 ∷ [] = sym is ∙ l.same honest ∙ was in
+    absurd (let n : 0 ≡ 1 = ap length e in omega arith)
+
+-- written_one_byte_off: 2 1 was read, with the 1 held, and once it is written 1 1 is
+written_one_byte_off : (D : _) (L : _) (g : _) (d : _) (κs : _) (a : _) (s : _)
+    → pass_on.Learnt-named D L g d κs a (Ok tt) s → g.is_honest a.0.now.disk
+    → with_held a.0.now.start a.0.now.bytes.items (g.seen a.0.now.disk) ≡ 2 ∷ 1 ∷ []
+    → with_held s.0.now.start s.0.now.bytes.items (g.seen s.0.now.disk) ≡ 1 ∷ 1 ∷ [] → ⊥
+written_one_byte_off D L g d κs a s l honest was is =
+    let e : 1 ∷ 1 ∷ [] ≡ 2 ∷ 1 ∷ [] = sym is ∙ l.same honest ∙ was in
+    absurd (let n : 1 ≡ 2 = ap (λ t. get_or t 0 0) e in omega arith)
+
+-- held_one_byte_off: over 1 2 the byte 7 is written at place 1, and 7 2 is read
+held_one_byte_off : (D : _) (L : _) (g : _) (d : _) (κs : _) (a : _) (s : _)
+    → hold.Learnt-named D L g d κs a (Ok tt) s → g.is_honest a.0.now.disk
+    → with_held a.0.now.start a.0.now.bytes.items (g.seen a.0.now.disk) ≡ 1 ∷ 2 ∷ []
+    → a.1.0 ≡ 1 → a.1.1.0.now ≡ 7 ∷ []
+    → with_held s.0.now.start s.0.now.bytes.items (g.seen s.0.now.disk) ≡ 7 ∷ 2 ∷ [] → ⊥
+held_one_byte_off D L g d κs a s l honest was at bytes is =
+    let e : 7 ∷ 2 ∷ [] ≡ take 1 (1 ∷ 2 ∷ []) ++ (7 ∷ []) ++ drop (1 + 1) (1 ∷ 2 ∷ [])
+    = sym is ∙ l.written honest
+    ∙ ap (λ t. take a.1.0 t ++ a.1.1.0.now ++ drop (a.1.0 + length a.1.1.0.now) t) was
+    ∙ ap (λ n. take n (1 ∷ 2 ∷ []) ++ a.1.1.0.now ++ drop (n + length a.1.1.0.now) (1 ∷ 2 ∷ [])) at
+    ∙ ap (λ t. take 1 (1 ∷ 2 ∷ []) ++ t ++ drop (1 + length t) (1 ∷ 2 ∷ [])) bytes in
+    absurd (let n : 7 ≡ 1 = ap (λ t. get_or t 0 0) e in omega arith)
 
 -- write_elsewhere_added: behind two bytes from place 10 on, a write at 11 is taken for the next
-write_elsewhere_added : (κs : _) (a : _) (s : _) → takes.Learnt-named κs a true s
-    → a.0.now.start ≡ 10 → array_vec_len a.0.now.bytes ≡ 2 → a.1.0 ≡ 11 → ⊥
-write_elsewhere_added κs a s l from size at =
-    let e : a.0.now.start + array_vec_len a.0.now.bytes ≡ a.1.0 = l.end in
+write_elsewhere_added : (D : _) (L : _) (g : _) (d : _) (κs : _) (a : _) (s : _)
+    → takes.Learnt-named D L g d κs a true s
+    → a.0.now.start ≡ 10 → length a.0.now.bytes.items ≡ 2 → a.1.0 ≡ 11 → ⊥
+write_elsewhere_added D L g d κs a s l from size at =
+    let e : a.0.now.start + length a.0.now.bytes.items ≡ a.1.0 = l.end in
     absurd (omega arith)
+
+-- sync_not_asked: the byte 1 was read, and behind a sync a crash may leave no byte
+sync_not_asked : (D : _) (L : _) (g : _) (d : _) (κs : _) (a : _) (s : _)
+    → sync.Learnt-named D L g d κs a (Ok tt) s → g.is_honest a.0.now.disk
+    → with_held a.0.now.start a.0.now.bytes.items (g.seen a.0.now.disk) ≡ 1 ∷ []
+    → LeftTorn (g.may_leave s.0.now.disk) s.0.now.start s.0.now.bytes.items [] → ⊥
+sync_not_asked D L g d κs a s l honest was left =
+    let e : [] ≡ 1 ∷ [] = l.durable honest [] left ∙ was in
+    absurd (let n : 0 ≡ 1 = ap length e in omega arith)
+
+-- window_read_from_its_start: of 1 2 3 a read of one byte at place 1 gives the 1
+window_read_from_its_start : (D : _) (L : _) (g : _) (d : _) (κs : _) (a : _) (s : _)
+    → give.Learnt-named D L g d κs a true s → g.is_honest a.0.now.disk
+    → g.seen a.0.now.disk ≡ 1 ∷ 2 ∷ 3 ∷ [] → a.1.0 ≡ 1 → length a.1.1.0.now ≡ 1
+    → s.1.1.0.now ≡ 1 ∷ [] → ⊥
+window_read_from_its_start D L g d κs a s l honest seen at size w =
+    let e : s.1.1.0.now ≡ slice_range (1 ∷ 2 ∷ 3 ∷ []) 1 (1 + 1)
+    = l.bytes honest
+    ∙ ap (λ t. slice_range t a.1.0 (a.1.0 + length a.1.1.0.now)) seen
+    ∙ ap (λ n. slice_range (1 ∷ 2 ∷ 3 ∷ []) n (n + length a.1.1.0.now)) at
+    ∙ ap (λ n. slice_range (1 ∷ 2 ∷ 3 ∷ []) 1 (1 + n)) size in
+    absurd (let n : 1 ≡ 2 = ap (λ t. get_or t 0 0) (sym w ∙ e) in omega arith)
 
 -- ---- a disk over a file
 
@@ -75,23 +127,6 @@ file_failures_not_counted : (F : _) (L : _) (κs : _) (a : _) (z : _) (s : _)
     → fail.Learnt-named F L κs a z s → a.0.now.failed ≡ 3 → s.0.now.failed ≡ 2 → ⊥
 file_failures_not_counted F L κs a z s l three two =
     not_rose (subst (Rose 3) two (subst (λ n. Rose n s.0.now.failed) three l.counted))
-
--- held_bytes_not_written: what is held is passed over, and still to be written
-held_bytes_not_written : (F : _) (L : _) (r : _) (dr : _) (w : _) (dw : _) (k : _) (dk : _)
-    (o : _) (dp : _) (κs : _) (a : _) (s : _)
-    → pass_on.Learnt-named F L r dr w dw k dk o dp κs a (Ok tt) s → s.0.now.held.is_unwritten ≡ true
-    → ⊥
-held_bytes_not_written F L r dr w dw k dk o dp κs a s l is =
-    let e : true ≡ false = sym is ∙ l.written in
-    absurd (cc)
-
--- lost_bytes_forgotten: the bytes that were held could not be written, and later calls go on
-lost_bytes_forgotten : (F : _) (L : _) (r : _) (dr : _) (w : _) (dw : _) (k : _) (dk : _)
-    (o : _) (dp : _) (κs : _) (a : _) (s : _)
-    → pass_on.Learnt-named F L r dr w dw k dk o dp κs a (Err Device) s → s.0.now.lost ≡ false → ⊥
-lost_bytes_forgotten F L r dr w dw k dk o dp κs a s l is =
-    let e : false ≡ true = sym is ∙ l.lost in
-    absurd (cc)
 
 -- file_length_at_the_last_write: after a write of two bytes at the start of ten, two are there
 file_length_at_the_last_write : (F : _) (L : _) (r : _) (dr : _) (w : _) (dw : _) (k : _) (dk : _)

@@ -1,6 +1,6 @@
 -- Answers that the contracts of checkpoints, of their texts and of the faults exclude: each is what
 -- a wrong body would give.
-use Rattle.std.proofs.Common.{◌≡◌, ℕ, [], ◌∷◌, codes, sym, ap, ◌∙◌, arith}
+use Rattle.std.proofs.Common.{◌≡◌, codes, sym, ap, ◌∙◌, arith}
 use Rattle.std.proofs.Common.{get_or, drop, take, false}
 use Rattle.std.specs.Prelude.{if◌then◌else◌, replicate, Some, Ok, Err}
 use Rattle.std.specs.Str.{bytes_eq}

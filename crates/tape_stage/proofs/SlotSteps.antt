@@ -1,18 +1,18 @@
 -- The three steps from one generation to the next.
 use Rattle.std.proofs.Common.{◌≡◌, ◌⊎◌, inl, inr, ⊎_elim, ℕ, ◌+◌, ◌≤◌, Bool, true}
 use Rattle.std.proofs.Common.{false, not, List, [], ◌∷◌, length, take, drop}
-use Rattle.std.proofs.Common.{Some, ◌==◌, refl, sym, ap, ◌∙◌, subst, arith}
+use Rattle.std.proofs.Common.{Some, ◌==◌, sym, ap, ◌∙◌, subst, arith}
 use Rattle.std.proofs.lemmas.List.{length-take}
 use Rattle.std.proofs.lemmas.Bool.Decides.{eqb_tells}
 use Rattle.tape_stage.specs.Disk.{Torn, Holds, Only}
 use Rattle.tape_blocks.specs.Block.{Portion}
 use Rattle.tape_stage.specs.Body.{body_of, FitBody}
-use Rattle.tape_stage.specs.Staged.{slot_place, gate_at, body_at, read_slot, slot_at, Holding}
+use Rattle.tape_stage.specs.Staged.{slot_place, gate_at, body_at, read_slot, slot_at}
 use Rattle.tape_stage.specs.Staged.{Loses, StagedIn, IsClosed, IsFilled, IsNext, IsEither}
 use Rattle.tape_stage.specs.Staged.{Ready}
 use Rattle.tape_stage.specs.Moments.{After}
 use Rattle.tape_core.specs.Point.{Point}
-use Rattle.tape_stage.proofs.Torn.{torn_high, holds_torn, holds_piece, holds_byte}
+use Rattle.tape_stage.proofs.Torn.{holds_torn, holds_piece, holds_byte}
 use Rattle.tape_stage.proofs.Tears.{KeptIn, torn_other, gate_alike, torn_gate_body, torn_body_gate}
 use Rattle.tape_stage.proofs.Tears.{kept_holding, alike_staged, loses_gate, closed_none, open_reads}
 use Rattle.tape_stage.proofs.Tears.{none_loses}

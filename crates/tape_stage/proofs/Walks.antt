@@ -4,9 +4,8 @@ use Rattle.std.proofs.Common.{[], ◌∷◌, ◌++◌, take, drop, length, get_o
 use Rattle.std.proofs.Common.{subst, arith}
 use Rattle.std.proofs.lemmas.List.{length-take-le, length-drop, drop-drop}
 use Rattle.std.proofs.lemmas.Bool.Decides.{eqb_tells}
-use Rattle.std.proofs.lemmas.Nat.{be_bytes_4}
 use Rattle.std.proofs.Math.Seq.{take-add}
-use Rattle.std.specs.Int.{to_be_bytes, from_be_bytes}
+use Rattle.std.specs.Int.{to_be_bytes}
 use Rattle.tape_blocks.specs.Block.{Portion}
 use Rattle.tape_stage.specs.Parts.{frame, frames}
 use Rattle.tape_blocks.specs.Block.{indicator}

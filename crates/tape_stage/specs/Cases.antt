@@ -17,11 +17,12 @@ use Rattle.tape_stage.specs.declared.disk.Disk.{Ghosts}
 use Rattle.tape_stage.specs.declared.stage.Stage.{Stage}
 use Rattle.tape_stage.specs.declared.stage.StageFault.TheVariants.{NoPoint, BadFrame, Device}
 use Rattle.tape_stage.specs.declared.stage.StageFault.TheVariants.{OutOfMemory, Failed, Full}
-use Rattle.tape_stage.specs.Disk.{Torn, CutShort, Elapses, Follows, NoMore, Only}
+use Rattle.tape_stage.specs.Disk.{Torn, CutShort, Elapses, Follows, Allows, NoMore, Only}
 use Rattle.tape_stage.specs.Disk as disk
 use Rattle.tape_stage.specs.Faults.{SaysNone, IsNotDevice, OnBadFrame, sink_fault_of}
 use Rattle.tape_stage.specs.Found.{IsBadPlace}
 use Rattle.tape_stage.specs.Frames.{AheadIn, IsFrameAt, NoFrameAt}
+use Rattle.tape_stage.specs.Holding.{with_held, LeftTorn, LeftSince}
 use Rattle.tape_stage.specs.Moments.{Passes, Untouched}
 use Rattle.tape_stage.specs.OnlyReading.{OnlyReads}
 use Rattle.tape_stage.specs.Parts.{IsFront, frames}
@@ -60,6 +61,19 @@ pub record CasesOfCrashes : Type 0 where
   -- what may be left behind a step is what the step makes of what might be left before
   pub stepped : Follows (λ d c. (d ≡ []) × (c ≡ 7 ∷ [])) (λ c. c ≡ []) (λ c. c ≡ 7 ∷ [])
   pub not_stepped : Follows (λ d c. ⊥) (λ c. c ≡ []) (λ c. c ≡ []) → ⊥
+  -- and what a step allows may be left behind it
+  pub allowed : Allows (λ d c. (d ≡ []) × (c ≡ 7 ∷ [])) (λ c. c ≡ []) (λ c. c ≡ 7 ∷ [])
+  pub not_allowed : Allows (λ d c. c ≡ 7 ∷ []) (λ c. c ≡ []) (λ c. c ≡ []) → ⊥
+  pub allowed_of_nothing : Allows (λ d c. c ≡ 7 ∷ []) (λ c. ⊥) (λ c. ⊥)
+  -- bytes that are held are read at their place, also behind the end,
+  pub held_over : with_held 1 (8 ∷ 9 ∷ []) (1 ∷ 2 ∷ 3 ∷ 4 ∷ []) ≡ 1 ∷ 8 ∷ 9 ∷ 4 ∷ []
+  pub held_behind : with_held 2 (7 ∷ []) (1 ∷ 2 ∷ []) ≡ 1 ∷ 2 ∷ 7 ∷ []
+  -- a crash may leave none of them, or others in their place, but no other byte before them,
+  pub held_lost : LeftTorn (λ c. c ≡ 1 ∷ []) 1 (7 ∷ []) (1 ∷ [])
+  pub held_torn : LeftTorn (λ c. c ≡ 1 ∷ []) 1 (7 ∷ []) (1 ∷ 255 ∷ [])
+  pub held_there : LeftTorn (λ c. c ≡ 1 ∷ []) 1 (7 ∷ []) (2 ∷ []) → ⊥
+  -- and nothing where the disk behind leaves nothing
+  pub held_of_nothing : LeftTorn (λ c. ⊥) 0 (7 ∷ []) [] → ⊥
   -- of a disk in memory that was cut from two bytes to one: both, until it is synced, and no more
   -- once it is
   pub cut_in_memory : IsImage (1 ∷ 2 ∷ []) (Cut 1 ∷ []) (1 ∷ 2 ∷ [])
@@ -82,6 +96,10 @@ pub record CasesOfMoments : Type 0 where
   pub not_backwards : Passes {D = ℕ} (λ d c. ⊥) (λ d. d) (λ d t c. ⊥) 1 0 (λ c. ⊥) → ⊥
   -- but what might have been left before the call, it may have left
   pub left_before : Passes {D = ℕ} (λ d c. ⊥) (λ d. d) (λ d t c. c ≡ 7 ∷ []) 0 1 (λ c. ⊥)
+  -- so it is where bytes are held: earlier what the disk behind left, now that with these torn in
+  pub held_before : LeftSince (λ t c. c ≡ 5 ∷ []) (λ c. ⊥) 0 (7 ∷ []) 0 (5 ∷ [])
+  pub held_now : LeftSince (λ t c. ⊥) (λ c. c ≡ []) 0 (7 ∷ []) 0 (7 ∷ [])
+  pub held_never : LeftSince (λ t c. ⊥) (λ c. ⊥) 0 (7 ∷ []) 0 [] → ⊥
   -- as time goes on, nothing that might have been left is forgotten,
   pub not_forgotten : Elapses 0 1 (λ t c. Unit {0}) (λ t c. ⊥) (λ c. ⊥) → ⊥
   -- nothing else was there,

@@ -24,6 +24,10 @@ pub record CutShort (n : ℕ) (old new : List ℕ) : Type 0 where
 abbrev pub Follows : (List ℕ → List ℕ → Type 0) → (List ℕ → Type 0) → (List ℕ → Type 0) → Type 0
 Follows step old new = (c : List ℕ) → new c → (d : List ℕ) × old d × step d c
 
+-- each old outcome after a step is a new outcome
+abbrev pub Allows : (List ℕ → List ℕ → Type 0) → (List ℕ → Type 0) → (List ℕ → Type 0) → Type 0
+Allows step old new = (d c : List ℕ) → old d → step d c → new c
+
 -- no outcome is new
 abbrev pub NoMore : (List ℕ → Type 0) → (List ℕ → Type 0) → Type 0
 NoMore old new = (c : List ℕ) → new c → old c

@@ -6,6 +6,7 @@ pub mod Faults
 pub mod Fields
 pub mod Found
 pub mod Frames
+pub mod Holding
 pub mod Laws
 pub mod Memory
 pub mod Moments

@@ -1,5 +1,5 @@
 -- What a call that only reads leaves of a disk.
-use Rattle.std.specs.Prelude.{◌≡◌, ℕ, List}
+use Rattle.std.specs.Prelude.{◌≡◌}
 use Rattle.tape_stage.specs.declared.disk.Disk.{Ghosts}
 use Rattle.tape_stage.specs.Disk.{SameFact}
 use Rattle.tape_stage.specs.Moments.{Passes}

@@ -1,7 +1,7 @@
 //! A disk: what a read gives, what a crash may leave, and how often it failed.
 ghost use Rattle.std.specs.Prelude.{◌≡◌, ◌+◌, ◌≤◌, ℕ, List, length, take, max, slice_range, IfOk};
 ghost use Rattle.std.specs.Prelude.{OnOk, OnErr};
-ghost use Rattle.tape_stage.specs.Disk.{Holds, Torn, CutShort, Follows, NoMore, Only, Elapses};
+ghost use Rattle.tape_stage.specs.Disk.{Holds, Torn, CutShort, Follows, NoMore, Only, Elapses, Allows};
 ghost use Rattle.tape_stage.specs.Disk.{SameFact};
 ghost use Rattle.tape_core.specs.Weight.{Rose};
 
@@ -44,7 +44,8 @@ pub trait Disk {
             (left_since self.new) (may_leave self.new) }
         ensures cause { OnErr result (Rose (faults self.old) (faults self.new)) }
         ensures calm { OnOk result (faults self.new ≡ faults self.old) }
-        ensures honest { SameFact (is_honest self.old) (is_honest self.new) };
+        ensures honest { SameFact (is_honest self.old) (is_honest self.new) }
+        ensures stays { is_honest self.old → NoMore (may_leave self.new) (may_leave self.old) };
 
     /// Fills the buffer with the bytes from a place on.
     fn read(&mut self, place: u64, buf: &mut [u8]) -> Result<(), DiskFault>
@@ -69,6 +70,9 @@ pub trait Disk {
             → OnOk result (Holds (seen self.old) place bytes.now (seen self.new)) }
         ensures long { OnOk result (length_of self.new ≡ max (length_of self.old)
             (place + length bytes.now)) }
+        ensures no_shorter { length_of self.old ≤ length_of self.new }
+        ensures no_longer { length_of self.new ≤ max (length_of self.old)
+            (place + length bytes.now) }
         ensures partly { is_honest self.old
             → OnErr result (Torn place (length bytes.now) (seen self.old) (seen self.new)) }
         ensures crash { is_honest self.old
@@ -78,7 +82,11 @@ pub trait Disk {
             (left_since self.new) (may_leave self.new) }
         ensures cause { OnErr result (Rose (faults self.old) (faults self.new)) }
         ensures calm { OnOk result (faults self.new ≡ faults self.old) }
-        ensures honest { SameFact (is_honest self.old) (is_honest self.new) };
+        ensures honest { SameFact (is_honest self.old) (is_honest self.new) }
+        ensures stays { is_honest self.old → NoMore (may_leave self.new) (may_leave self.old) }
+        ensures any { is_honest self.old
+            → OnOk result (Allows (Torn place (length bytes.now)) (may_leave self.old)
+            (may_leave self.new)) };
 
     /// Cuts to a length.
     fn cut(&mut self, len: u64) -> Result<(), DiskFault>

@@ -4,12 +4,13 @@ ghost use Rattle.std.specs.Prelude.{OnOk};
 ghost use Rattle.tape_core.specs.Weight.{Rose};
 
 use crate::disk::{Disk, DiskFault};
+use crate::read_ahead::ReadAhead;
 use crate::whole::{read_from, write_from};
-use crate::window::{ROOM, Window};
+use crate::write_behind::WriteBehind;
 use std::fs::OpenFile;
 use std::io::{Read, Seek, SeekFrom, Write};
 
-/// A file as a disk.
+/// A file as a disk, each call at once one of the file.
 ///
 /// It counts its length itself, so that no call asks for a place that was never there, and names
 /// each failure of the file `Device`: an error, an interruption, and an end or a write that takes
@@ -17,18 +18,30 @@ use std::io::{Read, Seek, SeekFrom, Write};
 /// no honesty, and what is proved of stages on honest disks is a promise for a file whose system
 /// keeps what it synced.
 ///
-/// Up to 8,192 bytes are held before they are written, and as many are read ahead. What is held is
-/// written when a write goes on elsewhere or does not fit, and before each read, cut and sync, so
-/// reads see it and a sync keeps it. Where that fails, these bytes are lost and not tried again:
-/// this call and every later one but `len` is `Device`, so that no sync passes over them. A disk
-/// that is let go does not write what it holds.
+/// Behind a sync that failed every call but `len` is `Device`: a system may have dropped what it
+/// could not keep, and answer the next sync with Ok.
 #[derive(Drop)]
 pub struct FileDisk<F> {
     file: F,
     len: u64,
     failed: u64,
-    held: Window,
     lost: bool,
+}
+
+/// A file as a disk, up to 8,192 bytes of which are held before they are written, and as many read
+/// ahead.
+pub type HeldFile<F> = ReadAhead<WriteBehind<FileDisk<F>>>;
+
+/// The whole file, behind windows. It has to be open for reading and writing, and nobody else may
+/// change its length.
+///
+/// # Errors
+///
+/// `Device`, where the file does not tell its length; it is dropped.
+pub fn held_file<F: Read + Write + Seek + OpenFile + Drop>(
+    file: F,
+) -> Result<HeldFile<F>, DiskFault> {
+    Ok(ReadAhead::new(WriteBehind::new(FileDisk::new(file)?)))
 }
 
 impl<F: Seek + Drop> FileDisk<F> {
@@ -48,7 +61,6 @@ impl<F: Seek + Drop> FileDisk<F> {
                 file,
                 len,
                 failed: 0,
-                held: Window::new(),
                 lost: false,
             }),
             Err(_) => Err(DiskFault::Device),
@@ -57,7 +69,7 @@ impl<F: Seek + Drop> FileDisk<F> {
 }
 
 impl<F> FileDisk<F> {
-    /// Hands the file back. Bytes that are held are not written: no sync has kept them.
+    /// Hands the file back.
     pub fn into_file(self) -> F
         ensures { result ≡ self.file }
     {
@@ -75,92 +87,40 @@ impl<F> FileDisk<F> {
 }
 
 impl<F: Read + Write + Seek + OpenFile> FileDisk<F> {
-    /// Writes what is to be written. Where that fails, or has failed, nothing is held any more.
-    fn pass_on(&mut self) -> Result<(), DiskFault>
+    /// Fills the buffer from a place on.
+    fn look(&mut self, place: u64, buf: &mut [u8]) -> Result<(), DiskFault>
+        ensures same_size { length buf.new ≡ length buf.old }
         ensures same_length { self.new.len ≡ self.old.len }
         ensures same_count { self.new.failed ≡ self.old.failed }
         ensures alive { OnOk result (self.old.lost ≡ false) }
-        ensures written { OnOk result (self.new.held.is_unwritten ≡ false) }
-        ensures lost { OnErr result (self.new.lost ≡ true) }
     {
         if self.lost {
             return Err(DiskFault::Device);
         }
-        if !self.held.is_unwritten {
-            return Ok(());
-        }
-        let written = write_from(&mut self.file, self.held.start, self.held.bytes.as_slice());
-        self.held.clear();
-        self.lost = written.is_err();
-        written
+        read_from(&mut self.file, place, buf)
     }
 
-    /// Holds bytes to be written from a place on, or writes them where there are too many.
-    fn hold(&mut self, place: u64, bytes: &[u8]) -> Result<(), DiskFault>
+    /// Writes bytes from a place on.
+    fn put(&mut self, place: u64, bytes: &[u8]) -> Result<(), DiskFault>
         ensures same_length { self.new.len ≡ self.old.len }
         ensures same_count { self.new.failed ≡ self.old.failed }
         ensures alive { OnOk result (self.old.lost ≡ false) }
     {
-        if !self.lost && self.held.takes(place, bytes.len()) {
-            self.held.add(bytes);
-            return Ok(());
+        if self.lost {
+            return Err(DiskFault::Device);
         }
-        self.pass_on()?;
-        self.held.clear();
-        if bytes.len() > ROOM {
-            return write_from(&mut self.file, place, bytes);
-        }
-        self.held.begin(place, bytes);
-        self.held.is_unwritten = true;
-        Ok(())
+        write_from(&mut self.file, place, bytes)
     }
 
-    /// Fills the buffer from a place on.
-    fn look(&mut self, place: u64, buf: &mut [u8]) -> Result<(), DiskFault>
-        requires { place + length buf.old ≤ self.old.len }
-        ensures same_size { length buf.new ≡ length buf.old }
-        ensures same_length { self.new.len ≡ self.old.len }
-        ensures same_count { self.new.failed ≡ self.old.failed }
-        ensures alive { OnOk result (self.old.lost ≡ false) }
-    {
-        self.pass_on()?;
-        if self.held.give(place, buf) {
-            return Ok(());
-        }
-        if buf.len() <= ROOM {
-            return self.look_ahead(place, buf);
-        }
-        let size = buf.len();
-        read_from(&mut self.file, place, buf, size)?;
-        Ok(())
-    }
-
-    /// Fills the buffer from a place on, and holds what the file gives behind that. A failure there
-    /// goes unseen: nobody asked for these bytes.
-    fn look_ahead(&mut self, place: u64, buf: &mut [u8]) -> Result<(), DiskFault>
-        requires there { place + length buf.old ≤ self.old.len }
-        requires short { length buf.old ≤ 8192 }
-        ensures same_size { length buf.new ≡ length buf.old }
-        ensures same_length { self.new.len ≡ self.old.len }
-        ensures same_count { self.new.failed ≡ self.old.failed }
-    {
-        let mut ahead = [0; ROOM];
-        let room = (self.len - place).min(ROOM as u64) as usize;
-        let count = read_from(&mut self.file, place, &mut ahead[..room], buf.len())?;
-        buf.copy_from_slice(&ahead[..buf.len()]);
-        self.held.begin(place, &ahead[..count]);
-        Ok(())
-    }
-
-    /// Cuts the file, and forgets what was read ahead.
+    /// Cuts the file.
     fn cut_file(&mut self, len: u64) -> Result<(), DiskFault>
         ensures same_length { self.new.len ≡ self.old.len }
         ensures same_count { self.new.failed ≡ self.old.failed }
         ensures alive { OnOk result (self.old.lost ≡ false) }
-        ensures written { OnOk result (self.new.held.is_unwritten ≡ false) }
     {
-        self.pass_on()?;
-        self.held.clear();
+        if self.lost {
+            return Err(DiskFault::Device);
+        }
         match self.file.set_len(len) {
             Ok(()) => Ok(()),
             Err(_) => Err(DiskFault::Device),
@@ -172,17 +132,16 @@ impl<F: Read + Write + Seek + OpenFile> FileDisk<F> {
         ensures same_length { self.new.len ≡ self.old.len }
         ensures same_count { self.new.failed ≡ self.old.failed }
         ensures alive { OnOk result (self.old.lost ≡ false) }
-        ensures written { OnOk result (self.new.held.is_unwritten ≡ false) }
         ensures lost { OnErr result (self.new.lost ≡ true) }
     {
-        self.pass_on()?;
-        match self.file.sync_all() {
-            Ok(()) => Ok(()),
-            Err(_) => {
-                self.lost = true;
-                Err(DiskFault::Device)
-            }
+        if self.lost {
+            return Err(DiskFault::Device);
         }
+        self.lost = self.file.sync_all().is_err();
+        if self.lost {
+            return Err(DiskFault::Device);
+        }
+        Ok(())
     }
 }
 
@@ -224,7 +183,7 @@ impl<F: Read + Write + Seek + OpenFile> Disk for FileDisk<F> {
         let Some(end) = place.checked_add(bytes.len() as u64) else {
             return Err(self.fail());
         };
-        match self.hold(place, bytes) {
+        match self.put(place, bytes) {
             Ok(()) => {
                 self.len = self.len.max(end);
                 Ok(())

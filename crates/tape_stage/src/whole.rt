@@ -1,44 +1,36 @@
 //! Whole reads and writes of a file, with no second try after a failure.
-ghost use Rattle.std.specs.Prelude.{◌≡◌, ◌≤◌, length, IfOk};
+ghost use Rattle.std.specs.Prelude.{◌≡◌, length};
 
 use crate::disk::DiskFault;
 use std::io::{Read, Seek, SeekFrom, Write};
 
-/// Reads from a place on until so many bytes are there, and says how many are. It asks for as many
-/// as the buffer takes, but an end before the least, or an interruption there, is a failure.
+/// Fills the buffer from a place on. An end before that, or an interruption, is a failure.
 pub(crate) fn read_from<R: Read + Seek>(
     file: &mut R,
     place: u64,
     buf: &mut [u8],
-    least: usize,
-) -> Result<usize, DiskFault>
-    requires { least ≤ length buf.old }
+) -> Result<(), DiskFault>
     ensures same_size { length buf.new ≡ length buf.old }
-    ensures enough { IfOk result (λ count. least ≤ count) }
-    ensures within { IfOk result (λ count. count ≤ length buf.new) }
 {
     match file.seek(SeekFrom::Start(place)) {
-        Ok(_) => read_least(file, buf, least),
+        Ok(_) => read_whole(file, buf),
         Err(_) => Err(DiskFault::Device),
     }
 }
 
-/// Reads on until so many bytes are there, and says how many are.
-fn read_least<R: Read>(file: &mut R, buf: &mut [u8], least: usize) -> Result<usize, DiskFault>
-    requires { least ≤ length buf.old }
+/// Reads on until the buffer is full.
+fn read_whole<R: Read>(file: &mut R, buf: &mut [u8]) -> Result<(), DiskFault>
     ensures same_size { length buf.new ≡ length buf.old }
-    ensures enough { IfOk result (λ count. least ≤ count) }
-    ensures within { IfOk result (λ count. count ≤ length buf.new) }
 {
     let mut at = 0;
-    'reads: while at < least {
+    'reads: while at < buf.len() {
         match file.read(&mut buf[at..]) {
             Ok(0) => return Err(DiskFault::Device),
             Ok(n) => at += n,
             Err(_) => return Err(DiskFault::Device),
         }
     }
-    Ok(at)
+    Ok(())
 }
 
 /// Writes all bytes from a place on.

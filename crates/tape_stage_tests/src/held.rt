@@ -6,10 +6,10 @@ use std::fs::{File, Metadata, OpenFile, OpenOptions};
 use std::io::{ErrorKind, Read, Seek, SeekFrom, Write};
 use std::test::*;
 use std::{fs, io};
-use tape_stage::{Disk, DiskFault, FileDisk, MemoryDisk};
+use tape_stage::{Disk, DiskFault, HeldFile, MemoryDisk, held_file};
 
 /// A file of a fixed length, in memory. It counts its reads and its writes, and one of its writes
-/// fails.
+/// fails, or each of its syncs.
 #[derive(Drop)]
 struct Counting {
     bytes: Vec<u8>,
@@ -17,6 +17,7 @@ struct Counting {
     reads: u32,
     writes: u32,
     failing: u32,
+    unsynced: bool,
 }
 
 impl Counting {
@@ -30,6 +31,7 @@ impl Counting {
             reads: 0,
             writes: 0,
             failing,
+            unsynced: false,
         })
     }
 }
@@ -87,6 +89,9 @@ impl OpenFile for Counting {
     }
 
     fn sync_all(&self) -> io::Result<()> {
+        if self.unsynced {
+            return Err(io::Error::from(ErrorKind::Other));
+        }
         Ok(())
     }
 
@@ -96,16 +101,21 @@ impl OpenFile for Counting {
 }
 
 /// A disk over such a file.
-fn disk_counting(alloc: Global, size: usize, failing: u32) -> Option<FileDisk<Counting>> {
-    FileDisk::new(Counting::new(alloc, size, failing).ok()?).ok()
+fn disk_counting(alloc: Global, size: usize, failing: u32) -> Option<HeldFile<Counting>> {
+    held_file(Counting::new(alloc, size, failing).ok()?).ok()
+}
+
+/// The file behind the windows of a disk.
+fn file_of(disk: HeldFile<Counting>) -> Counting {
+    disk.into_disk().into_disk().into_file()
 }
 
 /// A disk over a new file.
-fn made_in(rt: &HostRuntime, path: &str) -> Option<FileDisk<File>> {
+fn made_in(rt: &HostRuntime, path: &str) -> Option<HeldFile<File>> {
     let _ = fs::remove_file(rt, path);
     let mut options = OpenOptions::new();
     options.read(true).write(true).create(true);
-    FileDisk::new(options.open(rt, path).ok()?).ok()
+    held_file(options.open(rt, path).ok()?).ok()
 }
 
 /// A record of 85 bytes, all of them the last byte of its number.
@@ -136,8 +146,8 @@ fn small_calls_are_put_together(rt: HostRuntime) {
         assert!(rt; gives_record(&mut disk, record), "{record}");
     }
     // In 8,192 bytes there are 96 records of 85.
-    let file = disk.into_file();
-    assert!(rt; file.writes == 4 && file.reads == 4);
+    let file = file_of(disk);
+    assert_eq!(rt; (file.writes, file.reads), (4, 4));
 }
 
 #[test]
@@ -152,29 +162,36 @@ fn a_write_elsewhere_comes_behind_what_is_held(rt: HostRuntime) {
     // A write over what was read ahead.
     assert!(rt; write(&mut disk, 5, b"fg") && gives(&mut disk, 0, b"aBCdefg.XY.."));
     assert!(rt; write(&mut disk, 11, b"Z"));
-    let file = disk.into_file();
+    let file = file_of(disk);
     // The last one was not written: no sync kept it.
     assert!(rt; file.bytes.as_slice() == b"aBCdefg.XY..".as_slice() && file.writes == 4);
 }
 
-/// Whether each call but `len` fails.
-fn is_lost<D: Disk>(disk: &mut D) -> bool {
-    let mut two = *b"..";
-    let kept = disk.sync().is_ok() || write(disk, 2, b"cd") || cut(disk, 0);
-    !kept && !read(disk, 6, &mut two)
-}
-
 #[test]
-fn a_failed_write_is_not_tried_again(rt: HostRuntime) {
+fn what_could_not_be_written_is_held_on(rt: HostRuntime) {
     let Some(mut disk) = disk_counting(rt.alloc(), 12, 1) else {
         assert!(rt; false);
         return;
     };
-    assert!(rt; write(&mut disk, 0, b"ab"));
+    assert!(rt; write(&mut disk, 0, b"ab") && disk.sync() == Err(DiskFault::Device));
+    // It is read, and the next sync writes it before it says that all is kept.
+    assert!(rt; gives(&mut disk, 0, b"ab..") && disk.sync() == Ok(()));
+    let file = file_of(disk);
+    assert!(rt; file.bytes.as_slice() == b"ab..........".as_slice() && file.writes == 2);
+}
+
+#[test]
+fn behind_a_failed_sync_nothing_is_kept(rt: HostRuntime) -> Result<(), Fail> {
+    let mut file = Counting::new(rt.alloc(), 12, 0)?;
+    file.unsynced = true;
+    let Ok(mut disk) = held_file(file) else {
+        return Err(Fail::from("a disk"));
+    };
     assert!(rt; disk.sync() == Err(DiskFault::Device));
-    // What was held is lost, so nothing later passes for kept.
-    assert!(rt; is_lost(&mut disk));
-    assert!(rt; disk.len() == Ok(12) && disk.into_file().writes == 1);
+    // The system may answer the next sync Ok: it is not asked.
+    let kept = disk.sync().is_ok() || cut(&mut disk, 0) || read(&mut disk, 6, &mut [0; 2]);
+    assert!(rt; !kept && disk.len() == Ok(12));
+    Ok(())
 }
 
 /// Whether the disk, which held nothing, forgets at a cut what it read ahead.

@@ -1,5 +1,5 @@
 -- A header that the contract of `header` excludes: a wrong body would write it.
-use Rattle.std.proofs.Common.{◌≡◌, ℕ, [], ◌∷◌, get_or, ap, arith}
+use Rattle.std.proofs.Common.{◌≡◌, [], ◌∷◌, get_or, ap, arith}
 use Rattle.tape_blocks.specs.declared.part.Span.TheVariants.{Whole}
 use Rattle.tape_stage.proofs.putting.header.Reads as header
 

@@ -6,10 +6,10 @@ use crate::staging::{StagingFault, open_session};
 use std::fs::{File, OpenOptions, TryLockError};
 use tape_label::Field;
 use tape_run::{RunFault, Session};
-use tape_stage::{FileDisk, Stage, StageFault};
+use tape_stage::{HeldFile, Stage, StageFault, held_file};
 
 /// A session over the stage in a file.
-type FileSession = Session<Stage<FileDisk<File>>>;
+type FileSession = Session<Stage<HeldFile<File>>>;
 
 /// The session of the stage in the file at this path. Where no file is there, or an empty one, a
 /// stage is made.
@@ -34,7 +34,7 @@ pub fn session_in<R: Host>(
     if is_in_use(&kept) {
         return Err(ToolFault::StageInUse);
     }
-    let Ok(disk) = FileDisk::new(kept) else {
+    let Ok(disk) = held_file(kept) else {
         return Err(ToolFault::Stage(StageFault::Device));
     };
     // A stage that is made here is nothing without its name.

@@ -10,10 +10,10 @@ use std::{fs, io};
 use tape_label::Field;
 use tape_run::Session;
 use tape_set::Want;
-use tape_stage::{FileDisk, MemoryDisk, Stage, StageFault};
+use tape_stage::{HeldFile, MemoryDisk, Stage, StageFault, held_file};
 
 /// A session over the stage in a file.
-type FileSession = Session<Stage<FileDisk<File>>>;
+type FileSession = Session<Stage<HeldFile<File>>>;
 
 /// One day: the session is opened, reads the reel of which a block cannot be read, and is saved.
 /// What is left is the disk, and what is wanted next.
@@ -143,7 +143,7 @@ fn session_in(rt: &HostRuntime, path: &str) -> io::Result<Option<FileSession>> {
     let mut options = OpenOptions::new();
     options.read(true).write(true).create(true);
     let file = options.open(rt, path)?;
-    let Ok(disk) = FileDisk::new(file) else {
+    let Ok(disk) = held_file(file) else {
         return Ok(None);
     };
     Ok(open_session(rt.alloc(), disk, Field::of_bytes(*b"ABC001"), 1).ok())

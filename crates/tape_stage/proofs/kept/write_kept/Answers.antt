@@ -1,5 +1,5 @@
-use Rattle.std.proofs.Common.{ℕ, List, length, sym, subst, arith}
-use Rattle.tape_stage.specs.Disk.{Torn}
+use Rattle.std.proofs.Common.{ℕ, List, OnOk, length, sym, subst, arith}
+use Rattle.tape_stage.specs.Disk.{Only, Torn}
 use Rattle.tape_stage.proofs.Torn.{holds_torn}
 use Rattle.tape_stage.proofs.kept.write_kept.Goals as goal
 
@@ -13,3 +13,9 @@ returns-clause-torn g c honest =
     (holds_torn c.args.place bytes old mid
     (omega (arith, g.met.D.Disk.long_as_seen c.args.disk.now honest, c.requires))
     (c.in_ok-write_at.ensures.written honest))
+
+pub returns-clause-durable : goal.returns-clause-durable
+returns-clause-durable g c honest =
+    let honest1 = c.write_at.ensures.honest.onward honest in
+    subst (λ (l : List ℕ). OnOk c.sync.result (Only l (g.D.Disk.may_leave c.sync.new.self)))
+    (sym (c.sync.ensures.same honest1)) (c.sync.ensures.durable honest1)

@@ -50,6 +50,14 @@ returns-clause-any_moment g c honest =
           x (omega arith) from.2 ∙ was.2,
     )))
 
+pub returns-in_err-write_at-clause-any_moment : goal.returns-in_err-write_at-clause-any_moment
+returns-in_err-write_at-clause-any_moment g c honest =
+    let m = g.D.Disk.may_leave in
+    stands m g.D.Disk.moment g.D.Disk.left_since c.args.disk.now c.write_at.new.self
+    (FrontOf c.args.place (m c.args.disk.now)) (c.write_at.ensures.time honest)
+    (λ x left.
+    let from = c.write_at.ensures.crash honest x left in (from.0, from.1, from.2.before))
+
 pub returns-in_err-write_at-clause-kept : goal.returns-in_err-write_at-clause-kept
 returns-in_err-write_at-clause-kept g c honest =
     torn_keeps c.args.place _ c.args.place (g.D.Disk.seen c.args.disk.now)

@@ -1,5 +1,5 @@
 use Rattle.std.proofs.Common.{◌≡◌, ◌-◌, ◌≤◌, length}
-use Rattle.tape_stage.proofs.whole.read_least.Given as goal
+use Rattle.tape_stage.proofs.whole.read_whole.Given as goal
 
 abbrev pub invariant-reads : goal.invariant-reads
 invariant-reads g l = (l.at ≤ length l.buf) × (length l.buf ≡ length l.fn.buf)

@@ -1,0 +1,298 @@
+-- What holding bytes before a disk does to what is read and to what a crash may leave.
+use Rattle.std.proofs.Common.{◌≡◌, inl, inr, ⊎_elim, ℕ, ◌+◌, ◌-◌, ◌≤◌, ◌<◌, List, [], ◌++◌}
+use Rattle.std.proofs.Common.{length, take, drop, refl, sym, ap, ◌∙◌, subst, arith}
+use Rattle.std.proofs.Common.{length-append, length-drop, append_assoc}
+use Rattle.std.proofs.lemmas.List.{length-take-le, take_at, drop_at}
+use Rattle.std.proofs.lemmas.List.{take-append-drop, take-take, drop-take, drop-drop}
+use Rattle.std.proofs.lemmas.Bool.{cases_lt}
+use Rattle.std.proofs.Math.ListN.{drop_of_length-le}
+use Rattle.tape_stage.specs.Calls.{over}
+use Rattle.tape_stage.proofs.Torn.{alike_less, torn_high}
+use Rattle.tape_stage.specs.Disk.{Torn, CutShort, Elapses, NoMore, Holds, Allows}
+use Rattle.tape_stage.specs.Holding.{with_held, LeftTorn, LeftSince, torn_same}
+
+pub cut_same : (n : ℕ) (c : List ℕ) → CutShort n c c
+cut_same n c = record { no_shorter = omega arith; no_longer = omega arith; front = refl }
+
+-- nothing is torn
+pub torn_none : (p : ℕ) (d c : List ℕ) → Torn p 0 d c → c ≡ d
+torn_none p d c torn =
+    sym (take-append-drop p c) ∙ ap (λ (l : List ℕ). l ++ drop p c) torn.before
+    ∙ ap (λ (l : List ℕ). take p d ++ l) (subst (λ (k : ℕ). drop k c ≡ drop k d) none torn.after)
+    ∙ take-append-drop p d
+  where
+    none : p + 0 ≡ p
+    none = omega arith
+
+pub left_none : (leaves : List ℕ → Type 0) (p : ℕ) (bytes c : List ℕ) → bytes ≡ []
+    → LeftTorn leaves p bytes c → leaves c
+left_none leaves p bytes c none left = subst leaves
+    (sym (torn_none p left.0 c
+    (subst (λ (l : List ℕ). Torn p (length l) left.0 c) none left.2))) left.1
+
+pub none_left : (leaves : List ℕ → Type 0) (p : ℕ) (bytes c : List ℕ) → leaves c
+    → LeftTorn leaves p bytes c
+none_left leaves p bytes c left = (c, left, torn_same p (length bytes) c)
+
+-- nothing was held, and nothing was done
+pub idle_elapses : (m : ℕ) (past : ℕ → List ℕ → Type 0) (leaves : List ℕ → Type 0) (s0 s1 : ℕ)
+    (b : List ℕ) → b ≡ []
+    → Elapses m m (LeftSince past leaves s0 b) (LeftSince past leaves s1 b) (LeftTorn leaves s1 b)
+idle_elapses m past leaves s0 s1 b none = record {
+  later = omega arith;
+  nothing_else = λ t c le was. ⊎_elim (λ before. inl (inl before)) (λ now. inr now) was;
+  keeps = λ t c le was. ⊎_elim (λ before. inl before)
+      (λ now. inr (none_left leaves s1 b c (left_none leaves s0 b c none now))) was;
+}
+
+-- what was held is written
+pub passed_elapses : (m0 m1 : ℕ) (past0 past1 : ℕ → List ℕ → Type 0)
+    (leaves0 leaves1 : List ℕ → Type 0) (s0 s1 : ℕ) (b0 b1 : List ℕ)
+    → Allows (Torn s0 (length b0)) leaves0 leaves1
+    → ((t : ℕ) (c : List ℕ) → t ≤ m1 → leaves1 c → past1 t c)
+    → Elapses m0 m1 past0 past1 leaves1
+    → Elapses m0 m1 (LeftSince past0 leaves0 s0 b0) (LeftSince past1 leaves1 s1 b1)
+    (LeftTorn leaves1 s1 b1)
+passed_elapses m0 m1 past0 past1 leaves0 leaves1 s0 s1 b0 b1 any counts time = record {
+  later = time.later;
+  nothing_else = λ t c le was. ⊎_elim
+      (λ there. ⊎_elim (λ before. inl (inl before)) (λ now. inr (none_left leaves1 s1 b1 c now))
+      (time.nothing_else t c le there)) (λ now. inr now) was;
+  keeps = λ t c le was. ⊎_elim (λ before. inl (time.keeps t c le before))
+      (λ held. inl (counts t c (omega (arith, le, time.later)) (any held.0 c held.1 held.2))) was;
+}
+
+-- the same bytes are held on
+pub failed_elapses : (m0 m1 : ℕ) (past0 past1 : ℕ → List ℕ → Type 0)
+    (leaves0 leaves1 : List ℕ → Type 0) (s : ℕ) (b : List ℕ) → NoMore leaves1 leaves0
+    → Elapses m0 m1 past0 past1 leaves1
+    → Elapses m0 m1 (LeftSince past0 leaves0 s b) (LeftSince past1 leaves1 s b)
+    (LeftTorn leaves1 s b)
+failed_elapses m0 m1 past0 past1 leaves0 leaves1 s b stays time = record {
+  later = time.later;
+  nothing_else = λ t c le was. ⊎_elim
+      (λ there. ⊎_elim (λ before. inl (inl before)) (λ now. inr (none_left leaves1 s b c now))
+      (time.nothing_else t c le there)) (λ now. inr now) was;
+  keeps = λ t c le was. ⊎_elim (λ before. inl (time.keeps t c le before))
+      (λ held. inr (held.0, stays held.0 held.1, held.2)) was;
+}
+
+-- passed on, and then other bytes are held
+pub begun_elapses : (m0 m1 : ℕ) (past0 past1 : ℕ → List ℕ → Type 0)
+    (leaves0 leaves1 : List ℕ → Type 0) (s0 s1 s2 : ℕ) (b0 b1 b2 : List ℕ) → b1 ≡ []
+    → Elapses m0 m1 (LeftSince past0 leaves0 s0 b0) (LeftSince past1 leaves1 s1 b1)
+    (LeftTorn leaves1 s1 b1)
+    → Elapses m0 m1 (LeftSince past0 leaves0 s0 b0) (LeftSince past1 leaves1 s2 b2)
+    (LeftTorn leaves1 s2 b2)
+begun_elapses m0 m1 past0 past1 leaves0 leaves1 s0 s1 s2 b0 b1 b2 none time = record {
+  later = time.later;
+  nothing_else = λ t c le was. ⊎_elim
+      (λ there. ⊎_elim (λ before. inl before)
+      (λ now. inr (none_left leaves1 s2 b2 c (left_none leaves1 s1 b1 c none now)))
+      (time.nothing_else t c le (inl there))) (λ now. inr now) was;
+  keeps = λ t c le was. ⊎_elim (λ before. inl before)
+      (λ now. inr (none_left leaves1 s2 b2 c (left_none leaves1 s1 b1 c none now)))
+      (time.keeps t c le was);
+}
+
+-- passed on, and then a call of the disk
+pub then_elapses : (m0 m1 m2 : ℕ) (past0 past1 past2 : ℕ → List ℕ → Type 0)
+    (leaves0 leaves1 leaves2 : List ℕ → Type 0) (s0 s1 : ℕ) (b0 b1 : List ℕ) → b1 ≡ []
+    → NoMore (LeftTorn leaves0 s0 b0) (LeftTorn leaves1 s1 b1)
+    → ((t : ℕ) (c : List ℕ) → t ≤ m1 → leaves1 c → past1 t c)
+    → Elapses m0 m1 (LeftSince past0 leaves0 s0 b0) (LeftSince past1 leaves1 s1 b1)
+    (LeftTorn leaves1 s1 b1)
+    → Elapses m1 m2 past1 past2 leaves2
+    → Elapses m0 m2 (LeftSince past0 leaves0 s0 b0) (LeftSince past2 leaves2 s1 b1)
+    (LeftTorn leaves2 s1 b1)
+then_elapses m0 m1 m2 past0 past1 past2 leaves0 leaves1 leaves2 s0 s1 b0 b1 none crash counts first
+    second =
+    record {
+      later = omega (arith, first.later, second.later);
+      nothing_else = λ t c le was. ⊎_elim
+          (λ there. ⊎_elim
+          (λ before. ⊎_elim (λ old. inl old) (λ mid. inl (inr (crash c mid)))
+          (first.nothing_else t c le (inl before)))
+          (λ now. inr (none_left leaves2 s1 b1 c now))
+          (second.nothing_else t c (omega (arith, le, first.later)) there))
+          (λ now. inr now) was;
+      keeps = λ t c le was. ⊎_elim
+          (λ before. inl (second.keeps t c (omega (arith, le, first.later)) before))
+          (λ now. inl (second.keeps t c (omega (arith, le, first.later))
+          (counts t c (omega (arith, le, first.later)) (left_none leaves1 s1 b1 c none now))))
+          (first.keeps t c le was);
+    }
+
+-- two torn writes are one, one behind the other
+pub torn_one : (p m n : ℕ) (d e c : List ℕ) → Torn p m d e → Torn (p + m) n e c
+    → Torn p (m + n) d c
+torn_one p m n d e c first second = record {
+  before = alike_less (p + m) p e c (omega arith) second.before ∙ first.before;
+  after = torn_high (p + m) n (p + (m + n)) e c (omega arith) second
+      ∙ torn_high p m (p + (m + n)) d e (omega arith) first;
+  no_shorter = omega (arith, first.no_shorter, second.no_shorter);
+  no_longer = omega (arith, first.no_longer, second.no_longer);
+}
+
+-- more bytes are held
+pub more_open : (leaves : List ℕ → Type 0) (p : ℕ) (bytes more : List ℕ) (d c : List ℕ)
+    → LeftTorn leaves p bytes d → Torn (p + length bytes) (length more) d c
+    → LeftTorn leaves p (bytes ++ more) c
+more_open leaves p bytes more d c left torn = (
+  left.0,
+  left.1,
+  subst (λ (n : ℕ). Torn p n left.0 c) (sym (length-append bytes more))
+      (torn_one p (length bytes) (length more) left.0 d c left.2 torn),
+)
+
+pub more_stays : (leaves : List ℕ → Type 0) (p : ℕ) (bytes more : List ℕ) (c : List ℕ)
+    → LeftTorn leaves p bytes c → LeftTorn leaves p (bytes ++ more) c
+more_stays leaves p bytes more c left = more_open leaves p bytes more c c left
+    (torn_same (p + length bytes) (length more) c)
+
+pub more_elapses : (m : ℕ) (past : ℕ → List ℕ → Type 0) (leaves : List ℕ → Type 0) (s : ℕ)
+    (b more : List ℕ)
+    → Elapses m m (LeftSince past leaves s b) (LeftSince past leaves s (b ++ more))
+    (LeftTorn leaves s (b ++ more))
+more_elapses m past leaves s b more = record {
+  later = omega arith;
+  nothing_else = λ t c le was. ⊎_elim (λ before. inl (inl before)) (λ now. inr now) was;
+  keeps = λ t c le was. ⊎_elim (λ before. inl before)
+      (λ now. inr (more_stays leaves s b more c now)) was;
+}
+
+-- one torn write is two, one behind the other
+pub torn_two : (p m n : ℕ) (d c : List ℕ) → Torn p (m + n) d c
+    → (e : List ℕ) × Torn p m d e × Torn (p + m) n e c
+torn_two p m n d c torn = ⊎_elim
+    (λ (short : length c < p + m).
+    let none : drop (p + m) c ≡ drop (p + m) d = drop_of_length-le c (omega (arith, short))
+    ∙ sym (drop_of_length-le d (omega (arith, short, torn.no_shorter))) in (
+      c,
+      record {
+        before = torn.before;
+        after = none;
+        no_shorter = torn.no_shorter;
+        no_longer = omega (arith, short);
+      },
+      torn_same (p + m) n c,
+    ))
+    (λ (long : p + m ≤ length c).
+    let front : length (take (p + m) c) ≡ p + m = length-take-le (p + m) c long in
+    let all : length (take (p + m) c ++ drop (p + m) d) ≡ (p + m) + (length d - (p + m)) =
+    omega (arith, front, length-append (take (p + m) c) (drop (p + m) d), length-drop (p + m) d) in
+    let rest : drop (p + m) (take (p + m) c ++ drop (p + m) d) ≡ drop (p + m) d =
+    drop_at (take (p + m) c) (drop (p + m) d) (p + m) front in
+    let low : take (p + m) (take (p + m) c ++ drop (p + m) d) ≡ take (p + m) c =
+    take_at (take (p + m) c) (drop (p + m) d) (p + m) front in
+    let first : Torn p m d (take (p + m) c ++ drop (p + m) d) = record {
+      before = alike_less (p + m) p c (take (p + m) c ++ drop (p + m) d) (omega arith) low
+          ∙ torn.before;
+      after = rest;
+      no_shorter = omega (arith, all);
+      no_longer = omega (arith, all);
+    } in
+    let assoc : p + (m + n) ≡ p + m + n = omega arith in (
+      take (p + m) c ++ drop (p + m) d,
+      first,
+      record {
+        before = sym low;
+        after = subst (λ (k : ℕ). drop k c ≡ drop k d) assoc torn.after
+            ∙ sym (torn_high p m (p + m + n) d (take (p + m) c ++ drop (p + m) d)
+            (omega arith) first);
+        no_shorter = omega (arith, all, torn.no_shorter, long);
+        no_longer = omega (arith, all, torn.no_longer);
+      },
+    ))
+    (cases_lt (length c) (p + m))
+
+-- the held bytes with more behind them
+pub holds_more : (p : ℕ) (bytes more old : List ℕ) → p ≤ length old
+    → Holds (with_held p bytes old) (p + length bytes) more (with_held p (bytes ++ more) old)
+holds_more p bytes more old le =
+    let w : List ℕ = with_held p bytes old in
+    let front : length (take p old ++ bytes) ≡ p + length bytes =
+    omega (arith, length-append (take p old) bytes, length-take-le p old le) in
+    let low : take (p + length bytes) w ≡ take p old ++ bytes =
+    take_at (take p old ++ bytes) (drop (p + length bytes) old) (p + length bytes) front in
+    let rest : drop (p + length bytes + length more) w ≡ drop (p + length bytes + length more) old =
+    torn_high p (length bytes) (p + length bytes + length more) old w (omega arith)
+    (over p bytes old le) in
+    let count : p + length (bytes ++ more) ≡ p + length bytes + length more =
+    omega (arith, length-append bytes more) in
+    ap (λ (n : ℕ). take p old ++ (bytes ++ more) ++ drop n old) count
+    ∙ ap (λ (l : List ℕ). l ++ drop (p + length bytes + length more) old)
+    (sym (append_assoc (take p old) bytes more))
+    ∙ ap (λ (l : List ℕ). l ++ more ++ drop (p + length bytes + length more) old) (sym low)
+    ∙ ap (λ (l : List ℕ). take (p + length bytes) w ++ more ++ l) (sym rest)
+
+-- the same for what a crash may leave
+pub left_more : (leaves : List ℕ → Type 0) (p : ℕ) (bytes more : List ℕ) (c : List ℕ)
+    → LeftTorn leaves p (bytes ++ more) c
+    → (e : List ℕ) × LeftTorn leaves p bytes e × Torn (p + length bytes) (length more) e c
+left_more leaves p bytes more c left =
+    let (e, first, second) = torn_two p (length bytes) (length more) left.0 c
+    (subst (λ (n : ℕ). Torn p n left.0 c) (length-append bytes more) left.2) in
+    (e, (left.0, left.1, first), second)
+
+-- the same state told twice
+pub same_left : {D : Type 0} (leaves : D → List ℕ → Type 0) (a b : D) (s t : ℕ) (x y c : List ℕ)
+    → a ≡ b → s ≡ t → x ≡ y → LeftTorn (leaves a) s x c → LeftTorn (leaves b) t y c
+same_left leaves a b s t x y c disk start bytes left = (
+  left.0,
+  subst (λ (d : _). leaves d left.0) disk left.1,
+  subst (λ (l : List ℕ). Torn t (length l) left.0 c) bytes
+      (subst (λ (n : ℕ). Torn n (length x) left.0 c) start left.2),
+)
+
+-- a write that is torn twice
+pub torn_both : (p n : ℕ) (d e c : List ℕ) → Torn p n d e → Torn p n e c → Torn p n d c
+torn_both p n d e c first second = record {
+  before = second.before ∙ first.before;
+  after = second.after ∙ first.after;
+  no_shorter = omega (arith, first.no_shorter, second.no_shorter);
+  no_longer = omega (arith, first.no_longer, second.no_longer);
+}
+
+pub same_elapses : {D : Type 0} (moment : D → ℕ) (left_since : D → ℕ → List ℕ → Type 0)
+    (may_leave : D → List ℕ → Type 0) (m0 : ℕ) (past0 : ℕ → List ℕ → Type 0) (a b : D) (s t : ℕ)
+    (x y : List ℕ) → b ≡ a → t ≡ s → y ≡ x
+    → Elapses m0 (moment a) past0 (LeftSince (left_since a) (may_leave a) s x)
+    (LeftTorn (may_leave a) s x)
+    → Elapses m0 (moment b) past0 (LeftSince (left_since b) (may_leave b) t y)
+    (LeftTorn (may_leave b) t y)
+same_elapses moment left_since may_leave m0 past0 a b s t x y disk start bytes time =
+    subst (λ (d : _). Elapses m0 (moment d) past0 (LeftSince (left_since d) (may_leave d) t y)
+    (LeftTorn (may_leave d) t y)) (sym disk)
+    (subst (λ (n : ℕ). Elapses m0 (moment a) past0 (LeftSince (left_since a) (may_leave a) n y)
+    (LeftTorn (may_leave a) n y)) (sym start)
+    (subst (λ (l : List ℕ). Elapses m0 (moment a) past0 (LeftSince (left_since a) (may_leave a) s l)
+    (LeftTorn (may_leave a) s l)) (sym bytes) time))
+
+-- ---- bytes that were read ahead
+
+part_of_part : (xs held out : List ℕ) (start from rest n : ℕ)
+    → take (from + rest) (drop start xs) ≡ held → n ≤ rest
+    → out ≡ take n (take rest (drop from held)) → out ≡ take n (drop (start + from) xs)
+part_of_part xs held out start from rest n is fits o =
+    o ∙ take-take n rest (drop from held) fits
+    ∙ ap (λ l. take n (drop from l)) (sym is)
+    ∙ ap (take n) (drop-take from rest (drop start xs))
+    ∙ take-take n rest (drop from (drop start xs)) fits
+    ∙ ap (take n) (drop-drop from start xs)
+
+-- a part of the bytes from a place on is those from a later place on
+pub slice_of_slice : (xs held out : List ℕ) (start place n : ℕ)
+    → take (start + length held - start) (drop start xs) ≡ held
+    → start ≤ place → place - start ≤ length held → n ≤ length held - (place - start)
+    → out ≡ take n (take (length held - (place - start)) (drop (place - start) held))
+    → out ≡ take (place + n - place) (drop place xs)
+slice_of_slice xs held out start place n is from inside fits o =
+    let whole : (place - start) + (length held - (place - start)) ≡ start + length held - start
+    = omega (arith, from, inside) in
+    let there : start + (place - start) ≡ place = omega (arith, from) in
+    let many : n ≡ place + n - place = omega arith in
+    part_of_part xs held out start (place - start) (length held - (place - start)) n
+    (ap (λ k. take k (drop start xs)) whole ∙ is) fits o
+    ∙ ap (λ k. take n (drop k xs)) there
+    ∙ ap (λ k. take k (drop place xs)) many

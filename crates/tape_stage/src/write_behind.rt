@@ -1,0 +1,264 @@
+//! Bytes that are held before they are written to a disk.
+ghost use Rattle.std.specs.Prelude.{◌≡◌, ◌+◌, ◌<◌, ◌≤◌, ◌^◌, [], ◌++◌, length, max, ℕ, List};
+ghost use Rattle.std.specs.Prelude.{OnOk, OnErr};
+ghost use Rattle.std.specs.Bool.{OnTrue};
+ghost use Rattle.tape_stage.specs.Disk.{Holds, Torn, Follows, NoMore, Only, Elapses, SameFact, Allows};
+ghost use Rattle.tape_stage.specs.Holding.{with_held, LeftTorn, LeftSince};
+ghost use Rattle.tape_core.specs.Weight.{Rose};
+ghost use Rattle.tape_stage.specs.Holding.{held_long, held_over, held_counts, held_only};
+
+use crate::disk::{Disk, DiskFault};
+use arrayvec::ArrayVec;
+
+/// How many bytes are held, at most.
+const ROOM: usize = 8_192;
+
+/// A disk before which up to 8,192 bytes are held, so that small writes in a row are one write of
+/// it. What is held is written when a write goes on elsewhere or does not fit, and before a read, a
+/// cut and a sync, so a read sees it and a sync keeps it.
+///
+/// Where that fails the call is `Device`, and the bytes are held on: what a read gives is not
+/// changed by a failure, and the next call writes them again. A disk that is let go does not write
+/// what it holds: no sync has kept it.
+#[derive(Drop)]
+pub struct WriteBehind<D: Disk> {
+    pub(crate) disk: D,
+    pub(crate) start: u64,
+    pub(crate) bytes: ArrayVec<u8, ROOM>,
+    pub(crate) failed: u64,
+    ghost within: { start ≤ D.length_of disk },
+    ghost low: { start + length bytes.items < 2 ^ 64 },
+}
+
+impl<D: Disk> WriteBehind<D> {
+    /// Nothing is held.
+    pub fn new(disk: D) -> WriteBehind<D>
+        ensures disk { result.disk ≡ disk }
+        ensures bytes { result.bytes.items ≡ [] }
+    {
+        WriteBehind {
+            disk,
+            start: 0,
+            bytes: ArrayVec::new(),
+            failed: 0,
+        }
+    }
+
+    /// Hands the disk back. What is held is not written: no sync has kept it.
+    pub fn into_disk(self) -> D
+        ensures { result ≡ self.disk }
+    {
+        self.disk
+    }
+
+    /// Writes what is held. Where that fails it is held on, and the next call tries it again.
+    fn pass_on(&mut self) -> Result<(), DiskFault>
+        ensures empty { OnOk result (self.new.bytes.items ≡ []) }
+        ensures start { OnOk result (self.new.start ≡ 0) }
+        ensures same_length { max (D.length_of self.new.disk) (self.new.start + length self.new.bytes.items)
+            ≡ max (D.length_of self.old.disk) (self.old.start + length self.old.bytes.items) }
+        ensures same { D.is_honest self.old.disk
+            → with_held self.new.start self.new.bytes.items (D.seen self.new.disk)
+            ≡ with_held self.old.start self.old.bytes.items (D.seen self.old.disk) }
+        ensures crash { D.is_honest self.old.disk
+            → NoMore (LeftTorn (D.may_leave self.old.disk) self.old.start self.old.bytes.items)
+            (LeftTorn (D.may_leave self.new.disk) self.new.start self.new.bytes.items) }
+        ensures stays { D.is_honest self.old.disk
+            → NoMore (LeftTorn (D.may_leave self.new.disk) self.new.start self.new.bytes.items)
+            (LeftTorn (D.may_leave self.old.disk) self.old.start self.old.bytes.items) }
+        ensures time { D.is_honest self.old.disk
+            → Elapses (D.moment self.old.disk) (D.moment self.new.disk)
+            (LeftSince (D.left_since self.old.disk) (D.may_leave self.old.disk) self.old.start
+            self.old.bytes.items)
+            (LeftSince (D.left_since self.new.disk) (D.may_leave self.new.disk) self.new.start
+            self.new.bytes.items)
+            (LeftTorn (D.may_leave self.new.disk) self.new.start self.new.bytes.items) }
+        ensures calm { self.new.failed ≡ self.old.failed }
+        ensures honest { SameFact (D.is_honest self.old.disk) (D.is_honest self.new.disk) }
+    {
+        if self.bytes.is_empty() {
+            self.start = 0;
+            return Ok(());
+        }
+        match self.disk.write_at(self.start, self.bytes.as_slice()) {
+            Ok(()) => {
+                self.bytes.clear();
+                self.start = 0;
+                Ok(())
+            }
+            Err(fault) => Err(fault),
+        }
+    }
+
+    /// Whether a write of so many bytes goes on where those end that are held, and fits.
+    fn takes(&self, place: u64, size: usize) -> bool
+        ensures fits { OnTrue result (length self.now.bytes.items + size ≤ 8192) }
+        ensures end { OnTrue result (self.now.start + length self.now.bytes.items ≡ place) }
+    {
+        size <= self.bytes.remaining_capacity()
+            && self.start <= place
+            && place - self.start == self.bytes.len() as u64
+    }
+
+    /// Adds bytes to those that are held.
+    fn add(&mut self, bytes: &[u8])
+        requires fits { length self.old.bytes.items + length bytes.now ≤ 8192 }
+        requires low { self.old.start + (length self.old.bytes.items + length bytes.now) < 2 ^ 64 }
+        ensures disk { self.new.disk ≡ self.old.disk }
+        ensures start { self.new.start ≡ self.old.start }
+        ensures bytes { self.new.bytes.items ≡ self.old.bytes.items ++ bytes.now }
+        ensures calm { self.new.failed ≡ self.old.failed }
+    {
+        match self.bytes.try_extend_from_slice(bytes) {
+            Ok(()) => {}
+            Err(_) => unreachable!(),
+        }
+    }
+
+    /// Counts a call that failed.
+    fn fail(&mut self) -> DiskFault
+        ensures disk { self.new.disk ≡ self.old.disk }
+        ensures start { self.new.start ≡ self.old.start }
+        ensures bytes { self.new.bytes.items ≡ self.old.bytes.items }
+        ensures counted { Rose self.old.failed self.new.failed }
+    {
+        self.failed = self.failed.saturating_add(1);
+        DiskFault::Device
+    }
+
+    /// Holds bytes to be written from a place on, or writes them where there are too many.
+    fn hold(&mut self, place: u64, bytes: &[u8]) -> Result<(), DiskFault>
+        requires there { place ≤ max (D.length_of self.old.disk)
+            (self.old.start + length self.old.bytes.items) }
+        requires low { place + length bytes.now < 2 ^ 64 }
+        ensures written { D.is_honest self.old.disk → OnOk result (Holds
+            (with_held self.old.start self.old.bytes.items (D.seen self.old.disk))
+            place bytes.now
+            (with_held self.new.start self.new.bytes.items (D.seen self.new.disk))) }
+        ensures long { OnOk result
+            (max (D.length_of self.new.disk) (self.new.start + length self.new.bytes.items)
+            ≡ max (max (D.length_of self.old.disk) (self.old.start + length self.old.bytes.items))
+            (place + length bytes.now)) }
+        ensures no_shorter { max (D.length_of self.old.disk) (self.old.start + length self.old.bytes.items)
+            ≤ max (D.length_of self.new.disk) (self.new.start + length self.new.bytes.items) }
+        ensures no_longer { max (D.length_of self.new.disk) (self.new.start + length self.new.bytes.items)
+            ≤ max (max (D.length_of self.old.disk) (self.old.start + length self.old.bytes.items))
+            (place + length bytes.now) }
+        ensures partly { D.is_honest self.old.disk → OnErr result (Torn place (length bytes.now)
+            (with_held self.old.start self.old.bytes.items (D.seen self.old.disk))
+            (with_held self.new.start self.new.bytes.items (D.seen self.new.disk))) }
+        ensures crash { D.is_honest self.old.disk → Follows (Torn place (length bytes.now))
+            (LeftTorn (D.may_leave self.old.disk) self.old.start self.old.bytes.items)
+            (LeftTorn (D.may_leave self.new.disk) self.new.start self.new.bytes.items) }
+        ensures stays { D.is_honest self.old.disk
+            → NoMore (LeftTorn (D.may_leave self.new.disk) self.new.start self.new.bytes.items)
+            (LeftTorn (D.may_leave self.old.disk) self.old.start self.old.bytes.items) }
+        ensures any { D.is_honest self.old.disk → OnOk result (Allows
+            (Torn place (length bytes.now))
+            (LeftTorn (D.may_leave self.old.disk) self.old.start self.old.bytes.items)
+            (LeftTorn (D.may_leave self.new.disk) self.new.start self.new.bytes.items)) }
+        ensures time { D.is_honest self.old.disk
+            → Elapses (D.moment self.old.disk) (D.moment self.new.disk)
+            (LeftSince (D.left_since self.old.disk) (D.may_leave self.old.disk) self.old.start
+            self.old.bytes.items)
+            (LeftSince (D.left_since self.new.disk) (D.may_leave self.new.disk) self.new.start
+            self.new.bytes.items)
+            (LeftTorn (D.may_leave self.new.disk) self.new.start self.new.bytes.items) }
+        ensures calm { self.new.failed ≡ self.old.failed }
+        ensures honest { SameFact (D.is_honest self.old.disk) (D.is_honest self.new.disk) }
+    {
+        if self.takes(place, bytes.len()) {
+            self.add(bytes);
+            return Ok(());
+        }
+        self.pass_on()?;
+        if bytes.len() > ROOM {
+            self.disk.write_at(place, bytes)?;
+            return Ok(());
+        }
+        self.start = place;
+        self.add(bytes);
+        Ok(())
+    }
+}
+
+impl<D: Disk> Disk for WriteBehind<D> {
+    ghost is_honest = { λ h. D.is_honest h.disk };
+
+    ghost length_of = { λ h. max (D.length_of h.disk) (h.start + length h.bytes.items) };
+
+    ghost seen = { λ h. with_held h.start h.bytes.items (D.seen h.disk) };
+
+    ghost may_leave = { λ h. LeftTorn (D.may_leave h.disk) h.start h.bytes.items };
+
+    ghost moment = { λ h. D.moment h.disk };
+
+    ghost left_since = { λ h. LeftSince (D.left_since h.disk) (D.may_leave h.disk) h.start
+        h.bytes.items };
+
+    ghost faults = { λ h. h.failed };
+
+    ghost long_as_seen = { λ h honest. held_long h.start h.bytes.items (D.seen h.disk)
+        (D.length_of h.disk) (D.long_as_seen h.disk honest) h.within };
+
+    ghost seen_now = { λ h honest. (
+      D.seen h.disk,
+      D.seen_now h.disk honest,
+      held_over h.start
+          h.bytes.items (D.seen h.disk) (D.length_of h.disk) (D.long_as_seen h.disk honest)
+          h.within,
+    ) };
+
+    ghost counts_now = { λ h t c honest le now. held_counts (D.left_since h.disk)
+        (D.may_leave h.disk) h.start h.bytes.items t c now };
+
+    ghost only_now = { λ h c honest left. held_only (D.left_since h.disk) (D.may_leave h.disk)
+        h.start h.bytes.items (D.moment h.disk) c (λ was. D.only_now h.disk c honest was) left };
+
+    fn len(&mut self) -> Result<u64, DiskFault> {
+        match self.disk.len() {
+            Ok(len) => Ok(len.max(self.start + self.bytes.len() as u64)),
+            Err(_) => Err(self.fail()),
+        }
+    }
+
+    fn read(&mut self, place: u64, buf: &mut [u8]) -> Result<(), DiskFault> {
+        match self.pass_on() {
+            Ok(()) => match self.disk.read(place, buf) {
+                Ok(()) => Ok(()),
+                Err(_) => Err(self.fail()),
+            },
+            Err(_) => Err(self.fail()),
+        }
+    }
+
+    fn write_at(&mut self, place: u64, bytes: &[u8]) -> Result<(), DiskFault> {
+        if place.checked_add(bytes.len() as u64).is_none() {
+            return Err(self.fail());
+        }
+        match self.hold(place, bytes) {
+            Ok(()) => Ok(()),
+            Err(_) => Err(self.fail()),
+        }
+    }
+
+    fn cut(&mut self, len: u64) -> Result<(), DiskFault> {
+        match self.pass_on() {
+            Ok(()) => match self.disk.cut(len) {
+                Ok(()) => Ok(()),
+                Err(_) => Err(self.fail()),
+            },
+            Err(_) => Err(self.fail()),
+        }
+    }
+
+    fn sync(&mut self) -> Result<(), DiskFault> {
+        match self.pass_on() {
+            Ok(()) => match self.disk.sync() {
+                Ok(()) => Ok(()),
+                Err(_) => Err(self.fail()),
+            },
+            Err(_) => Err(self.fail()),
+        }
+    }
+}
