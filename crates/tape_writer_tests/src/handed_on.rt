@@ -8,14 +8,21 @@ use std::io::{Error, ErrorKind, Result as IoResult, Write};
 use std::test::Fail;
 use tape_blocks::Form;
 use tape_label::Vol1;
-use tape_writer::{ImageStore, Input, SetFault, WriteFault, write_set};
+use tape_writer::{ImageStore, Input, RefusedSet, SetFault, WriteFault, WrittenSet, write_set};
 
-/// Keeps what it takes, and how much of it was there at each flush. So many flushes succeed.
+/// Keeps what it takes, and how much of it was there at the last flush. So many flushes succeed.
 #[derive(Drop)]
 struct Flushed {
     bytes: Vec<u8>,
-    at: Vec<usize>,
+    flushed: Option<usize>,
     left: usize,
+}
+
+impl Flushed {
+    /// Whether these are its bytes, and all of them were there at its last flush. There was one.
+    fn is_whole(&self, bytes: &[u8]) -> bool {
+        self.bytes.as_slice() == bytes && self.flushed == Some(bytes.len()) && self.left == 0
+    }
 }
 
 impl Write for Flushed {
@@ -25,33 +32,24 @@ impl Write for Flushed {
     }
 
     fn flush(&mut self) -> IoResult<()> {
-        if self.at.len() >= self.left {
+        if self.left == 0 {
             return Err(Error::from(ErrorKind::Other));
         }
-        self.at.push(self.bytes.len())?;
+        self.left -= 1;
+        self.flushed = Some(self.bytes.len());
         Ok(())
     }
 }
 
-/// Has two devices, and notes at each that it lends how many images it was handed.
+/// Has two devices, and notes how many it lent, and how many images it was handed before the last
+/// of these. Each device can be flushed so often.
 #[derive(Drop)]
 struct Noting {
     alloc: Global,
-    begun: Vec<usize>,
+    lent: usize,
+    before: usize,
     images: Vec<Flushed>,
     flushes: usize,
-}
-
-impl Noting {
-    /// Each device can be flushed so often.
-    fn new(alloc: Global, flushes: usize) -> Result<Noting, AllocError> {
-        Ok(Noting {
-            alloc,
-            begun: Vec::with_capacity(alloc, 2)?,
-            images: Vec::with_capacity(alloc, 2)?,
-            flushes,
-        })
-    }
 }
 
 impl ImageStore for Noting {
@@ -66,10 +64,11 @@ impl ImageStore for Noting {
     }
 
     fn next(&mut self, _volume: &Vol1) -> Option<Flushed> {
-        let _ = self.begun.push(self.images.len());
+        self.lent = self.lent.saturating_add(1);
+        self.before = self.images.len();
         Some(Flushed {
             bytes: Vec::new(self.alloc),
-            at: Vec::new(self.alloc),
+            flushed: None,
             left: self.flushes,
         })
     }
@@ -79,53 +78,79 @@ impl ImageStore for Noting {
     }
 }
 
-/// The image was flushed once, with all of its bytes, and these are they.
-fn is_whole(rt: &impl std::process::Abort, image: &Flushed, bytes: &[u8]) {
-    assert_eq!(rt; image.bytes.as_slice(), bytes);
-    assert_eq!(rt; image.at.as_slice(), [bytes.len()].as_slice());
+/// What the worked file becomes on two such devices.
+fn written(
+    alloc: Global,
+    records: &[u8],
+    flushes: usize,
+) -> Result<Result<WrittenSet<Noting>, RefusedSet<Noting>>, Fail> {
+    let mut files = [Input {
+        head: head(),
+        reader: records,
+    }];
+    let plan = plan(alloc, 2, 2_500, FIXED, Form::Raw)?;
+    let images = Noting {
+        alloc,
+        lent: 0,
+        before: 0,
+        images: Vec::new(alloc),
+        flushes,
+    };
+    Ok(write_set(alloc, plan, &mut files, images))
+}
+
+/// Whether both images were handed on, each whole and flushed, the first before the second began.
+fn are_handed_on(alloc: Global, records: &[u8], images: &Noting) -> Result<bool, AllocError> {
+    let first = first_of_two(alloc, records)?;
+    let second = second_of_two(alloc)?;
+    Ok(match images.images.as_slice() {
+        [one, two] => {
+            (images.lent, images.before) == (2, 1)
+                && one.is_whole(first.as_slice())
+                && two.is_whole(second.as_slice())
+        }
+        _ => false,
+    })
 }
 
 /// Where the second volume begins the first one's image is handed on, whole and flushed.
 #[test]
 fn the_first_image_is_handed_on_before_the_second_begins(rt: HostRuntime) -> Result<(), Fail> {
     let records = payroll(rt.alloc(), b"")?;
-    let mut files = [Input {
-        head: head(),
-        reader: records.as_slice(),
-    }];
-    let plan = plan(rt.alloc(), 2, 2_500, FIXED, Form::Raw)?;
-    let Ok(done) = write_set(rt.alloc(), plan, &mut files, Noting::new(rt.alloc(), 1)?) else {
-        return Err(Fail::from("a set that should be written"));
+    let told = match written(rt.alloc(), records.as_slice(), 1)? {
+        Ok(done) => are_handed_on(rt.alloc(), records.as_slice(), &done.images)?,
+        Err(_) => false,
     };
-    assert_eq!(rt; done.images.begun.as_slice(), [0, 1].as_slice());
-    assert_eq!(rt; done.images.images.len(), 2);
-    let first = first_of_two(rt.alloc(), records.as_slice())?;
-    is_whole(&rt, &done.images.images[0], first.as_slice());
-    is_whole(
-        &rt,
-        &done.images.images[1],
-        second_of_two(rt.alloc())?.as_slice(),
-    );
+    assert!(rt; told);
     Ok(())
+}
+
+/// Whether the set was refused by the first device, which has all of its image.
+fn is_refused(
+    alloc: Global,
+    records: &[u8],
+    refused: RefusedSet<Noting>,
+) -> Result<bool, AllocError> {
+    let first = first_of_two(alloc, records)?;
+    let images = &refused.images;
+    let facts = (refused.fault, images.lent, images.images.len());
+    Ok(match refused.under_way {
+        Some(image) => {
+            facts == (SetFault::Write(WriteFault::Device), 1, 0)
+                && image.into_device().bytes.as_slice() == first.as_slice()
+        }
+        None => false,
+    })
 }
 
 /// A device that can't be flushed: no further volume begins.
 #[test]
 fn an_image_that_is_not_flushed(rt: HostRuntime) -> Result<(), Fail> {
     let records = payroll(rt.alloc(), b"")?;
-    let mut files = [Input {
-        head: head(),
-        reader: records.as_slice(),
-    }];
-    let plan = plan(rt.alloc(), 2, 2_500, FIXED, Form::Raw)?;
-    let Err(refused) = write_set(rt.alloc(), plan, &mut files, Noting::new(rt.alloc(), 0)?) else {
-        return Err(Fail::from("an image that is not flushed"));
+    let told = match written(rt.alloc(), records.as_slice(), 0)? {
+        Ok(_) => false,
+        Err(refused) => is_refused(rt.alloc(), records.as_slice(), refused)?,
     };
-    assert!(rt; refused.fault == SetFault::Write(WriteFault::Device));
-    assert_eq!(rt; refused.images.begun.as_slice(), [0].as_slice());
-    assert_eq!(rt; refused.images.images.len(), 0);
-    let image = refused.under_way.ok_or("no image")?.into_device();
-    let first = first_of_two(rt.alloc(), records.as_slice())?;
-    assert_eq!(rt; image.bytes.as_slice(), first.as_slice());
+    assert!(rt; told);
     Ok(())
 }

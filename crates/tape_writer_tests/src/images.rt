@@ -2,13 +2,13 @@
 
 use crate::calls::{Row, follow};
 use crate::sets::on_images;
-use std::alloc::Global;
+use std::alloc::{AllocError, Global};
 use std::process::Abort;
 use std::test::Fail;
 use tape_writer::{ImageTapes, MemoryImages};
 
 /// What stands in an image.
-#[derive(Drop)]
+#[derive(Clone, Copy)]
 pub(crate) enum Piece<'a> {
     /// A block.
     Block(&'a [u8]),
@@ -19,33 +19,37 @@ pub(crate) enum Piece<'a> {
 }
 
 /// A block between two words of its length, with a pad byte where it is odd.
-fn add_block(bytes: &mut Vec<u8>, content: &[u8]) -> Result<(), Fail> {
+fn add_block(bytes: &mut Vec<u8>, content: &[u8]) -> Result<(), AllocError> {
     let word = (content.len() as u64).to_le_bytes();
     bytes.extend_from_slice(&word[..4])?;
     bytes.extend_from_slice(content)?;
     if content.len() % 2 == 1 {
         bytes.push(0)?;
     }
-    bytes.extend_from_slice(&word[..4])?;
-    Ok(())
+    bytes.extend_from_slice(&word[..4])
 }
 
 /// What stands behind these bytes of an image.
-pub(crate) fn add(bytes: &mut Vec<u8>, piece: &Piece) -> Result<(), Fail> {
+fn add(bytes: &mut Vec<u8>, piece: &Piece) -> Result<(), AllocError> {
     match piece {
-        Piece::Block(content) => add_block(bytes, content)?,
-        Piece::Mark => bytes.extend_from_slice(&[0, 0, 0, 0])?,
-        Piece::End => bytes.extend_from_slice(&[0xFF, 0xFF, 0xFF, 0xFF])?,
+        Piece::Block(content) => add_block(bytes, content),
+        Piece::Mark => bytes.extend_from_slice(&[0, 0, 0, 0]),
+        Piece::End => bytes.extend_from_slice(&[0xFF, 0xFF, 0xFF, 0xFF]),
+    }
+}
+
+/// These pieces, one behind the other.
+pub(crate) fn add_all(bytes: &mut Vec<u8>, pieces: &[Piece]) -> Result<(), AllocError> {
+    for piece in pieces {
+        add(bytes, piece)?;
     }
     Ok(())
 }
 
 /// The bytes of an image.
-pub(crate) fn image_of(alloc: Global, pieces: &[Piece]) -> Result<Vec<u8>, Fail> {
+pub(crate) fn image_of(alloc: Global, pieces: &[Piece]) -> Result<Vec<u8>, AllocError> {
     let mut bytes = Vec::new(alloc);
-    for piece in pieces {
-        add(&mut bytes, piece)?;
-    }
+    add_all(&mut bytes, pieces)?;
     Ok(bytes)
 }
 
@@ -59,11 +63,11 @@ pub(crate) fn written(
 ) -> Result<Vec<Vec<u8>>, Fail> {
     let mut writer = on_images(alloc, capacity, count)?;
     follow(rt, &mut writer, rows);
-    images_of(writer.into_out())
+    Ok(images_of(writer.into_out())?)
 }
 
 /// The images that ended, and behind them that of the volume under way, if there is one.
-pub(crate) fn images_of(tapes: ImageTapes<MemoryImages>) -> Result<Vec<Vec<u8>>, Fail> {
+pub(crate) fn images_of(tapes: ImageTapes<MemoryImages>) -> Result<Vec<Vec<u8>>, AllocError> {
     let (store, under_way) = tapes.into_parts();
     let mut images = store.into_images();
     if let Some(image) = under_way {
@@ -72,38 +76,30 @@ pub(crate) fn images_of(tapes: ImageTapes<MemoryImages>) -> Result<Vec<Vec<u8>>,
     Ok(images)
 }
 
-/// The bytes of the last image, which is taken away.
-pub(crate) fn last_image(images: &mut Vec<Vec<u8>>) -> Result<Vec<u8>, Fail> {
-    Ok(images.pop().ok_or("no image")?)
+/// How many images ended, and how long that of the volume under way is, if there is one.
+pub(crate) fn ended(tapes: ImageTapes<MemoryImages>) -> (usize, Option<usize>) {
+    let (store, under_way) = tapes.into_parts();
+    let length = match under_way {
+        Some(image) => Some(image.into_device().bytes.len()),
+        None => None,
+    };
+    (store.into_images().len(), length)
 }
 
-/// The images have these lengths, the last one first, and there are no others.
-pub(crate) fn have_lengths(
-    rt: &impl Abort,
-    mut images: Vec<Vec<u8>>,
-    lengths: &[usize],
-) -> Result<(), Fail> {
-    assert_eq!(rt; images.len(), lengths.len());
-    for length in lengths {
-        assert_eq!(rt;
-            last_image(&mut images)?.len(),
-            *length,
-            "the one of {length}"
-        );
+/// Whether the images have these lengths, and there are no others.
+pub(crate) fn have_lengths(images: &[Vec<u8>], lengths: &[usize]) -> bool {
+    for (image, length) in images.iter().zip(lengths) {
+        if image.len() != *length {
+            return false;
+        }
     }
-    Ok(())
+    images.len() == lengths.len()
 }
 
-/// The last image has this length and, behind so many bytes, these pieces alone.
-pub(crate) fn ends_with(
-    rt: &impl Abort,
-    images: &mut Vec<Vec<u8>>,
-    length: usize,
-    behind: usize,
-    pieces: Vec<u8>,
-) -> Result<(), Fail> {
-    let image = last_image(images)?;
-    assert_eq!(rt; image.len(), length);
-    assert!(rt; image.get(behind..) == Some(pieces.as_slice()));
-    Ok(())
+/// Whether the image at this place of the list has, behind so many bytes, these alone.
+pub(crate) fn ends_with(images: &[Vec<u8>], at: usize, behind: usize, bytes: &[u8]) -> bool {
+    match images.get(at) {
+        Some(image) => image.get(behind..) == Some(bytes),
+        None => false,
+    }
 }

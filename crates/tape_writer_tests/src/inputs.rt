@@ -3,7 +3,6 @@
 use crate::sets::{FIXED, head, volumes};
 use crate::volumes::{first_of_two, one_volume, second_of_two};
 use std::alloc::{AllocError, Global};
-use std::process::Abort;
 use std::test::Fail;
 use tape_blocks::{Form, Shape};
 use tape_label::{Field, Format};
@@ -34,7 +33,7 @@ pub(crate) fn plan(
     capacity: u32,
     shape: Shape,
     form: Form,
-) -> Result<SetPlan, Fail> {
+) -> Result<SetPlan, AllocError> {
     Ok(SetPlan {
         set_id: Field::of_bytes(*b"ABC001"),
         volumes: volumes(alloc, count)?,
@@ -97,56 +96,57 @@ fn at<'a>(images: &'a [Vec<u8>], place: usize) -> &'a [u8] {
     }
 }
 
-/// The images are these two, or the first one alone where the second one is empty.
-fn are<A: Abort>(rt: &A, images: &[Vec<u8>], first: &[u8], second: &[u8]) {
+/// Whether the images are these two, or the first one alone where the second one is empty.
+fn are(images: &[Vec<u8>], first: &[u8], second: &[u8]) -> bool {
     let count = if second.is_empty() { 1 } else { 2 };
-    assert!(rt; images.len() == count);
-    assert_eq!(rt; at(images, 0), first);
-    assert_eq!(rt; at(images, 1), second);
+    images.len() == count && at(images, 0) == first && at(images, 1) == second
 }
 
-/// The input becomes the worked image.
-fn is_worked<H: Abort + AllocGlobal>(rt: &H, form: Form, input: Vec<u8>) -> Result<(), Fail> {
-    let plan = plan(rt.alloc(), 2, 100_000, FIXED, form)?;
-    let images = written(rt.alloc(), plan, input.as_slice())?;
-    let wanted = one_volume(rt.alloc(), payroll(rt.alloc(), b"")?.as_slice())?;
-    are(rt, images.as_slice(), wanted.as_slice(), &[]);
+/// So many bytes of the records, with these behind each, become the worked image.
+fn is_worked(alloc: Global, form: Form, behind: &[u8], length: usize) -> Result<bool, Fail> {
+    let mut input = payroll(alloc, behind)?;
+    input.truncate(length);
+    let images = written(
+        alloc,
+        plan(alloc, 2, 100_000, FIXED, form)?,
+        input.as_slice(),
+    )?;
+    let wanted = one_volume(alloc, payroll(alloc, b"")?.as_slice())?;
+    Ok(are(images.as_slice(), wanted.as_slice(), &[]))
+}
+
+/// Lines of which the last one has a line feed, and has none; and raw bytes.
+const INPUTS: &[(Form, &[u8], usize)] = &[
+    (Form::Lines, b"\n", 2025),
+    (Form::Lines, b"\n", 2024),
+    (Form::Raw, b"", 2000),
+];
+
+#[test]
+fn the_worked_volume(rt: HostRuntime) -> Result<(), Fail> {
+    for (form, behind, length) in INPUTS {
+        assert!(rt;
+            is_worked(rt.alloc(), *form, behind, *length)?,
+            "{length} bytes"
+        );
+    }
     Ok(())
 }
 
-/// The worked image of records as lines, the last one with a line feed.
-#[test]
-fn the_worked_volume(rt: HostRuntime) -> Result<(), Fail> {
-    is_worked(&rt, Form::Lines, payroll(rt.alloc(), b"\n")?)
-}
-
-/// And without.
-#[test]
-fn the_worked_volume_of_a_line_without_its_end(rt: HostRuntime) -> Result<(), Fail> {
-    let mut lines = payroll(rt.alloc(), b"\n")?;
-    lines.truncate(2024);
-    is_worked(&rt, Form::Lines, lines)
-}
-
-#[test]
-fn the_worked_volume_of_raw_bytes(rt: HostRuntime) -> Result<(), Fail> {
-    is_worked(&rt, Form::Raw, payroll(rt.alloc(), b"")?)
-}
-
-/// What three volumes of 2,500 bytes take of the raw records.
-fn on_small_volumes(alloc: Global) -> Result<Vec<Vec<u8>>, Fail> {
+/// Whether three volumes of 2,500 bytes take the raw records so: the third block fits on the first
+/// volume, the file's end does not, so that section 2 is empty.
+fn are_small(alloc: Global) -> Result<bool, Fail> {
     let records = payroll(alloc, b"")?;
     let plan = plan(alloc, 3, 2_500, FIXED, Form::Raw)?;
-    written(alloc, plan, records.as_slice())
+    let images = written(alloc, plan, records.as_slice())?;
+    let first = first_of_two(alloc, records.as_slice())?;
+    let second = second_of_two(alloc)?;
+    Ok(are(images.as_slice(), first.as_slice(), second.as_slice()))
 }
 
-/// The third block fits on the first volume, the file's end does not: section 2 is empty.
 #[test]
 fn two_volumes(rt: HostRuntime) -> Result<(), Fail> {
-    let images = on_small_volumes(rt.alloc())?;
-    let first = first_of_two(rt.alloc(), payroll(rt.alloc(), b"")?.as_slice())?;
-    let second = second_of_two(rt.alloc())?;
-    are(&rt, images.as_slice(), first.as_slice(), second.as_slice());
+    assert!(rt; are_small(rt.alloc())?);
     Ok(())
 }
 
@@ -160,37 +160,51 @@ const SIZES: [(Shape, Form, u32, usize, usize, usize); 6] = [
     (SPANNED, Form::Lines, 1_042, 290, 1_032, 486),
 ];
 
+/// How long the two images are that a record of so many bytes becomes.
+fn sizes_of(
+    alloc: Global,
+    shape: Shape,
+    form: Form,
+    capacity: u32,
+    length: usize,
+) -> Result<(usize, usize), Fail> {
+    let input = Vec::from_elem(alloc, b'7', length)?;
+    let plan = plan(alloc, 2, capacity, shape, form)?;
+    let images = written(alloc, plan, input.as_slice())?;
+    Ok((
+        at(images.as_slice(), 0).len(),
+        at(images.as_slice(), 1).len(),
+    ))
+}
+
 /// Sizes: no record at all, and a record over two volumes.
 #[test]
 fn sizes(rt: HostRuntime) -> Result<(), Fail> {
     for (row, (shape, form, capacity, length, first, second)) in SIZES.into_iter().enumerate() {
-        let input = Vec::from_elem(rt.alloc(), b'7', length)?;
-        let plan = plan(rt.alloc(), 2, capacity, shape, form)?;
-        let images = written(rt.alloc(), plan, input.as_slice())?;
-        assert!(rt; at(images.as_slice(), 0).len() == first, "row {row}");
-        assert!(rt; at(images.as_slice(), 1).len() == second, "row {row}");
+        let sizes = sizes_of(rt.alloc(), shape, form, capacity, length)?;
+        assert!(rt; sizes == (first, second), "row {row}");
     }
     Ok(())
 }
 
-/// The block of 18 bytes that is the first behind the headers.
-fn first_block<'a>(images: &'a [Vec<u8>]) -> &'a [u8] {
-    at(images, 0).get(272..290).unwrap_or(&[])
-}
-
-/// Lines, and the first block of them in format D.
+/// Lines, and the block of 18 bytes that is the first behind the headers, in format D.
 const LINES: &[(&[u8], &[u8])] = &[
     (b"AB\n\n", b"0006AB0004^^^^^^^^"),
     (b"A\r\n\nB", b"0006A\r00040005B^^^"),
 ];
 
+/// Whether the lines become a volume with this block.
+fn have_block(alloc: Global, lines: &[u8], block: &[u8]) -> Result<bool, Fail> {
+    let plan = plan(alloc, 1, 100_000, COUNTED, Form::Lines)?;
+    let images = written(alloc, plan, lines)?;
+    Ok(at(images.as_slice(), 0).get(272..290) == Some(block))
+}
+
 /// Lines in format D: an empty line is a record, a carriage return stays.
 #[test]
 fn lines_and_what_they_keep(rt: HostRuntime) -> Result<(), Fail> {
     for (lines, block) in LINES {
-        let plan = plan(rt.alloc(), 1, 100_000, COUNTED, Form::Lines)?;
-        let images = written(rt.alloc(), plan, lines)?;
-        assert_eq!(rt; first_block(images.as_slice()), *block);
+        assert!(rt; have_block(rt.alloc(), lines, block)?, "{block:?}");
     }
     Ok(())
 }

@@ -2,6 +2,8 @@
 #![tactic(auto)]
 
 #[cfg(test)]
+mod blanks;
+#[cfg(test)]
 mod calls;
 #[cfg(test)]
 mod capacity;

@@ -1,10 +1,9 @@
 //! What is refused, in which order, and what stands then.
 
 use crate::calls::Call::{Begin, BeginSpanned, EndFile, Finish, Put, Records};
-use crate::calls::{follow, perform};
+use crate::calls::{Row, follow, perform};
 use crate::sets::{FIXED, head, on_images, spanned, volume, volumes};
 use std::alloc::Global;
-use std::process::Abort;
 use std::test::Fail;
 use tape_label::{Field, Head1};
 use tape_writer::WriteFault::{
@@ -13,27 +12,33 @@ use tape_writer::WriteFault::{
 };
 use tape_writer::{MemoryTapes, Refusing, SetWriter, WriteFault};
 
+const OUT_OF_TURN: &[Row] = &[
+    (Put(80), Err(NoFile), 0),
+    (EndFile, Err(NoFile), 0),
+    (Finish, Err(NoFile), 0),
+    (Begin, Ok(()), 268),
+    (Begin, Err(FileBegun), 268),
+    (Finish, Err(FileBegun), 268),
+    (EndFile, Ok(()), 452),
+    (EndFile, Err(NoFile), 452),
+    (Finish, Ok(()), 460),
+    (Put(80), Err(Finished), 460),
+    (EndFile, Err(Finished), 460),
+    (Begin, Err(Finished), 460),
+    (Finish, Err(Finished), 460),
+];
+
 #[test]
 fn calls_out_of_turn(rt: HostRuntime) -> Result<(), Fail> {
     let mut writer = on_images(rt.alloc(), 2_500, 1)?;
-    let rows = [
-        (Put(80), Err(NoFile), 0),
-        (EndFile, Err(NoFile), 0),
-        (Finish, Err(NoFile), 0),
-        (Begin, Ok(()), 268),
-        (Begin, Err(FileBegun), 268),
-        (Finish, Err(FileBegun), 268),
-        (EndFile, Ok(()), 452),
-        (EndFile, Err(NoFile), 452),
-        (Finish, Ok(()), 460),
-        (Put(80), Err(Finished), 460),
-        (EndFile, Err(Finished), 460),
-        (Begin, Err(Finished), 460),
-        (Finish, Err(Finished), 460),
-    ];
-    follow(&rt, &mut writer, &rows);
+    follow(&rt, &mut writer, OUT_OF_TURN);
     Ok(())
 }
+
+const NOT_BEGUN: &[Row] = &[
+    (BeginSpanned(17), Err(BadShape), 0),
+    (BeginSpanned(1_477), Err(CapacityTooSmall), 0),
+];
 
 #[test]
 fn files_that_are_not_begun(rt: HostRuntime) -> Result<(), Fail> {
@@ -42,12 +47,8 @@ fn files_that_are_not_begun(rt: HostRuntime) -> Result<(), Fail> {
         file_id: Field::of_bytes(*b"payroll          "),
         ..head()
     };
-    assert_eq!(rt; writer.begin_file(bad, spanned(17)), Err(BadField));
-    let rows = [
-        (BeginSpanned(17), Err(BadShape), 0),
-        (BeginSpanned(1_477), Err(CapacityTooSmall), 0),
-    ];
-    follow(&rt, &mut writer, &rows);
+    assert!(rt; writer.begin_file(bad, spanned(17)) == Err(BadField));
+    follow(&rt, &mut writer, NOT_BEGUN);
     // The set identifier of a head is replaced, and not looked at.
     let other = Head1 {
         set_id: Field::of_bytes(*b"xxxxxx"),
@@ -69,21 +70,20 @@ fn made(
     Ok(SetWriter::new(alloc, Field::of_bytes(set_id), labels, 2_500, out).err())
 }
 
+/// The names of a set and of its volumes, how many these are, and what `new` answers.
+const MADE: &[(&[u8; 6], &[u8; 6], usize, Option<WriteFault>)] = &[
+    (b"abc001", b"ABC001", 0, Some(BadField)),
+    (b"ABC001", b"abc001", 1, Some(BadField)),
+    (b"ABC001", b"ABC001", 0, Some(OutOfVolumes)),
+    (b"ABC001", b"ABC001", 9_999, None),
+    (b"ABC001", b"ABC001", 10_000, Some(TooMany)),
+];
+
 #[test]
 fn sets_that_are_not_begun(rt: HostRuntime) -> Result<(), Fail> {
-    let rows = [
-        (*b"abc001", *b"ABC001", 0, Some(BadField)),
-        (*b"ABC001", *b"abc001", 1, Some(BadField)),
-        (*b"ABC001", *b"ABC001", 0, Some(OutOfVolumes)),
-        (*b"ABC001", *b"ABC001", 9_999, None),
-        (*b"ABC001", *b"ABC001", 10_000, Some(TooMany)),
-    ];
-    for (set_id, id, count, want) in rows {
-        assert_eq!(rt;
-            made(rt.alloc(), set_id, id, count)?,
-            want,
-            "{count} volumes, {want:?}"
-        );
+    for (set_id, id, count, want) in MADE {
+        let answer = made(rt.alloc(), **set_id, **id, *count)?;
+        assert!(rt; answer == *want, "{count} volumes: {answer:?}");
     }
     Ok(())
 }
@@ -96,10 +96,13 @@ fn write_all(writer: &mut SetWriter<Refusing<MemoryTapes>>) -> Result<(), WriteF
     Ok(())
 }
 
-/// What stands where the call after this many was refused: what was answered, what the next call
-/// answers, how many volumes there are, and how many items on the first of them. The volume changes
-/// by the 14th call of the tapes.
-fn stands_behind(left: usize) -> (Result<(), WriteFault>, Result<(), WriteFault>, usize, usize) {
+/// What was answered, what the next call answers, how many volumes there are, and how many items on
+/// the first of them.
+type Stands = (Result<(), WriteFault>, Result<(), WriteFault>, usize, usize);
+
+/// What stands where the call after this many was refused. The volume changes by the 14th call of
+/// the tapes.
+fn stands_behind(left: usize) -> Stands {
     match left {
         0 => (Err(Device), Err(Failed), 0, 0),
         1..14 => (Err(Device), Err(Failed), 1, left.saturating_sub(1)),
@@ -108,23 +111,23 @@ fn stands_behind(left: usize) -> (Result<(), WriteFault>, Result<(), WriteFault>
     }
 }
 
-/// Writes a set whose tapes refuse the call after this many.
-fn refused_behind(rt: &impl Abort, alloc: Global, left: usize) -> Result<(), Fail> {
+/// Writes a set whose tapes refuse the call after this many, and tells what stands then.
+fn refused_behind(alloc: Global, left: usize) -> Result<Stands, Fail> {
+    let volumes = volumes(alloc, 2)?;
     let out = Refusing::new(MemoryTapes::new(alloc), left);
     let set_id = Field::of_bytes(*b"ABC001");
-    let mut writer = SetWriter::new(alloc, set_id, volumes(alloc, 2)?, 2_500, out)?;
+    let mut writer = SetWriter::new(alloc, set_id, volumes, 2_500, out)?;
     let answer = write_all(&mut writer);
     let after = perform(&mut writer, Put(80));
     let tapes = writer.out().inner();
-    let stands = (answer, after, tapes.count(), tapes.length(0));
-    assert_eq!(rt; stands, stands_behind(left), "call {left}");
-    Ok(())
+    Ok((answer, after, tapes.count(), tapes.length(0)))
 }
 
 #[test]
 fn each_call_of_the_tapes_refused(rt: HostRuntime) -> Result<(), Fail> {
     for left in 0..25usize {
-        refused_behind(&rt, rt.alloc(), left)?;
+        let stands = refused_behind(rt.alloc(), left)?;
+        assert!(rt; stands == stands_behind(left), "call {left}");
     }
     Ok(())
 }

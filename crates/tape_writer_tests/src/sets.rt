@@ -1,6 +1,6 @@
 //! What a set is written of: labels, shapes and volumes.
 
-use std::alloc::Global;
+use std::alloc::{AllocError, Global};
 use std::test::Fail;
 use tape_blocks::Shape;
 use tape_label::{Field, Format, Head1, Vol1};
@@ -11,6 +11,15 @@ pub(crate) const FIXED: Shape = Shape {
     format: Format::Fixed,
     block_len: 800,
     rec_len: 80,
+    offset: 0,
+    pad_full: false,
+};
+
+/// Records of up to 16 bytes behind their four digits, in blocks of at most 100.
+pub(crate) const COUNTED: Shape = Shape {
+    format: Format::Counted,
+    block_len: 100,
+    rec_len: 20,
     offset: 0,
     pad_full: false,
 };
@@ -54,12 +63,9 @@ pub(crate) fn head() -> Head1 {
 }
 
 /// The first volumes of a set, of these three.
-pub(crate) fn volumes(alloc: Global, count: usize) -> Result<Vec<Vol1>, Fail> {
-    let mut volumes = Vec::new(alloc);
-    for id in [*b"ABC001", *b"ABC002", *b"ABC003"].iter().take(count) {
-        volumes.push(volume(*id))?;
-    }
-    Ok(volumes)
+pub(crate) fn volumes(alloc: Global, count: usize) -> Result<Vec<Vol1>, AllocError> {
+    let all = [volume(*b"ABC001"), volume(*b"ABC002"), volume(*b"ABC003")];
+    Vec::from_slice(alloc, &all[..count.min(3)])
 }
 
 /// A writer of items in memory, on so many of the three volumes.
@@ -69,8 +75,8 @@ pub(crate) fn in_memory(
     count: usize,
 ) -> Result<SetWriter<MemoryTapes>, Fail> {
     let set_id = Field::of_bytes(*b"ABC001");
-    let out = MemoryTapes::new(alloc);
-    Ok(SetWriter::new(alloc, set_id, volumes(alloc, count)?, capacity, out)?)
+    let volumes = volumes(alloc, count)?;
+    Ok(SetWriter::new(alloc, set_id, volumes, capacity, MemoryTapes::new(alloc))?)
 }
 
 /// A writer of images in memory, on so many of the three volumes.
@@ -80,6 +86,7 @@ pub(crate) fn on_images(
     count: usize,
 ) -> Result<SetWriter<ImageTapes<MemoryImages>>, Fail> {
     let set_id = Field::of_bytes(*b"ABC001");
+    let volumes = volumes(alloc, count)?;
     let out = ImageTapes::new(MemoryImages::new(alloc, count)?);
-    Ok(SetWriter::new(alloc, set_id, volumes(alloc, count)?, capacity, out)?)
+    Ok(SetWriter::new(alloc, set_id, volumes, capacity, out)?)
 }

@@ -1,23 +1,24 @@
 //! Volumes of a file of 25 records, written out from the formats.
 
 use crate::images::Piece::{Block, End, Mark};
-use crate::images::{add, image_of};
+use crate::images::{Piece, add_all, image_of};
 use crate::texts::*;
-use std::alloc::Global;
-use std::test::Fail;
+use std::alloc::{AllocError, Global};
 
 /// The volume of the whole file.
-pub(crate) fn one_volume(alloc: Global, records: &[u8]) -> Result<Vec<u8>, Fail> {
-    of_records(alloc, records, [EOF1, EOF2])
+pub(crate) fn one_volume(alloc: Global, records: &[u8]) -> Result<Vec<u8>, AllocError> {
+    let closing = [Mark, Block(EOF1), Block(EOF2), Mark, Mark, End];
+    of_records(alloc, records, &closing)
 }
 
 /// The volume that the file fills, where its end stands on the next.
-pub(crate) fn first_of_two(alloc: Global, records: &[u8]) -> Result<Vec<u8>, Fail> {
-    of_records(alloc, records, [EOV1, EOV2])
+pub(crate) fn first_of_two(alloc: Global, records: &[u8]) -> Result<Vec<u8>, AllocError> {
+    let closing = [Mark, Block(EOV1), Block(EOV2), Mark, Mark, End];
+    of_records(alloc, records, &closing)
 }
 
 /// The next one, with the file end alone.
-pub(crate) fn second_of_two(alloc: Global) -> Result<Vec<u8>, Fail> {
+pub(crate) fn second_of_two(alloc: Global) -> Result<Vec<u8>, AllocError> {
     let pieces = [
         Block(VOL1_SECOND),
         Block(HDR1_SECOND_SECTION),
@@ -33,16 +34,12 @@ pub(crate) fn second_of_two(alloc: Global) -> Result<Vec<u8>, Fail> {
     image_of(alloc, &pieces)
 }
 
-/// The first volume, with these records in blocks of 800 bytes, and with these trailer labels.
-fn of_records(alloc: Global, records: &[u8], trailers: [&[u8; 80]; 2]) -> Result<Vec<u8>, Fail> {
-    let headers = [Block(VOL1_FIRST), Block(HDR1), Block(HDR2), Mark];
-    let mut bytes = image_of(alloc, &headers)?;
+/// The first volume, with these records in blocks of 800 bytes, and these pieces behind them.
+fn of_records(alloc: Global, records: &[u8], closing: &[Piece]) -> Result<Vec<u8>, AllocError> {
+    let mut bytes = image_of(alloc, &[Block(VOL1_FIRST), Block(HDR1), Block(HDR2), Mark])?;
     for block in records.chunks(800) {
-        add(&mut bytes, &Block(block))?;
+        add_all(&mut bytes, &[Block(block)])?;
     }
-    let [first, second] = trailers;
-    for piece in [Mark, Block(first), Block(second), Mark, Mark, End] {
-        add(&mut bytes, &piece)?;
-    }
+    add_all(&mut bytes, closing)?;
     Ok(bytes)
 }
