@@ -1,38 +1,106 @@
 //! Answers to reels that contradict themselves.
-use crate::image::{EOF_FIVE, HDR1, HDR2, Image, VOL1, five_blocks};
-use crate::sessions::{begun, has_records, reads, useless, wanted};
+use crate::image::{EOF_FIVE, HDR1, HDR2, Image, VOL1};
+use crate::scripts::{Do, Reel, Script, each_goes};
+use crate::volumes::EOF_FOUR;
 use std::alloc::{AllocError, Global};
 use std::test::Fail;
-use tape_core::{Answer, Reason, SinkFault};
+use tape_core::Answer::Useless;
+use tape_core::{Reason, SinkFault};
 use tape_image::{ImageCause, ImageFault};
 use tape_label::LabelFault;
-use tape_run::{ReelAnswer, RunFault, Step, run};
+use tape_run::{ReelAnswer, RunFault, Step};
+
+/// The worked file in five good blocks, and with another count of them.
+const GOOD: Reel<'_> = Reel::Five(5, EOF_FIVE);
+
+const COUNTED: Reel<'_> = Reel::Five(5, EOF_FOUR);
+
+const IDENTIFIER: Reason = Reason::BadLabel(LabelFault::Identifier);
+
+/// A reserved word where the first data block begins.
+const RESERVED: ReelAnswer = ReelAnswer {
+    answer: Useless(Reason::ReelEnded),
+    fault: Some(ImageFault {
+        place: 268,
+        cause: ImageCause::Reserved(0x1000_0001),
+    }),
+    blocks: 0,
+};
+
+const SCRIPTS: &[Script<'_>] = &[
+    // A restart mends a session that another count broke.
+    (
+        "another count",
+        1,
+        &[
+            Do::Runs(&[Step::Save], &[COUNTED], Ok(())),
+            Do::Reads(
+                COUNTED,
+                Useless(Reason::BlockCount { label: 4, seen: 5 }),
+                5,
+                Some((1, 5)),
+            ),
+            Do::Reads(GOOD, Useless(Reason::Broken), 0, Some((1, 5))),
+            Do::Runs(&[Step::Restart(0), Step::Reel], &[GOOD], Ok(())),
+            Do::Holds(25, None),
+        ],
+    ),
+    (
+        "no volume label",
+        1,
+        &[Do::Reads(
+            Reel::Defaced(0),
+            Useless(Reason::NotLabelled),
+            0,
+            Some((1, 0)),
+        )],
+    ),
+    (
+        "no first header label",
+        1,
+        &[Do::Reads(
+            Reel::Defaced(1),
+            Useless(Reason::NotLabelled),
+            0,
+            Some((1, 0)),
+        )],
+    ),
+    (
+        "no second header label",
+        1,
+        &[Do::Reads(Reel::Defaced(2), Useless(IDENTIFIER), 0, Some((1, 0)))],
+    ),
+    // Behind the data the block was delivered, and its trailer is awaited.
+    (
+        "no trailer label",
+        1,
+        &[Do::Reads(Reel::Defaced(3), Useless(IDENTIFIER), 1, Some((1, 1)))],
+    ),
+    (
+        "a fault of the image is told",
+        1,
+        &[
+            Do::Breaks(Reel::Reserved, RESERVED, Some((1, 0))),
+            Do::Weighs(0, 0),
+        ],
+    ),
+];
 
 #[test]
-fn another_count_breaks_the_session(rt: HostRuntime) -> Result<(), Fail> {
-    let four = "EOF1PAYROLL          ABC00100010001000100 00000 00000 000004";
-    let image = five_blocks(rt.alloc(), 5, four)?;
-    let good = five_blocks(rt.alloc(), 5, EOF_FIVE)?;
-    let mut session = begun(rt.alloc(), 1)?;
-    run(&mut session, &[Step::Save], &mut [image.bytes.as_slice()])?;
-    let count = Reason::BlockCount { label: 4, seen: 5 };
-    let (counted, broken) = (useless(count, 5), useless(Reason::Broken, 0));
-    let rows = [
-        ("another count", image.bytes.as_slice(), counted),
-        ("the good copy behind it", good.bytes.as_slice(), broken),
-    ];
-    for (name, bytes, answer) in rows {
-        reads(&rt, &mut session, name, bytes, answer, wanted(1, 5))?;
-    }
-    // A restart mends it.
-    let steps = [Step::Restart(0), Step::Reel];
-    run(&mut session, &steps, &mut [good.bytes.as_slice()])?;
-    has_records(&rt, &session, 25, None, "the good copy behind a restart");
-    Ok(())
+fn reels_that_contradict_themselves(rt: HostRuntime) -> Result<(), Fail> {
+    each_goes(&rt, SCRIPTS)
+}
+
+/// A volume of which the first data block begins with a reserved word.
+pub fn with_reserved_word(alloc: Global) -> Result<Image, AllocError> {
+    let mut image = Image::new(alloc);
+    image.headers(&[VOL1, HDR1, HDR2])?;
+    image.word([0x01, 0x00, 0x00, 0x10])?;
+    Ok(image)
 }
 
 /// A volume of one block, with one of its labels (0 to 3) replaced by 80 bytes 0xFF.
-fn defaced(alloc: Global, which: usize) -> Result<Image, AllocError> {
+pub fn defaced(alloc: Global, which: usize) -> Result<Image, AllocError> {
     let mut image = Image::new(alloc);
     for (number, label) in [VOL1, HDR1, HDR2].iter().enumerate() {
         if number == which {
@@ -54,70 +122,17 @@ fn defaced(alloc: Global, which: usize) -> Result<Image, AllocError> {
     Ok(image)
 }
 
-#[test]
-fn labels_of_no_characters(rt: HostRuntime) -> Result<(), Fail> {
-    let identifier = Reason::BadLabel(LabelFault::Identifier);
-    // Behind the data the block was delivered, and its trailer is awaited.
-    let rows = [
-        (0usize, "volume label", Reason::NotLabelled, 0u32),
-        (1, "first header label", Reason::NotLabelled, 0),
-        (2, "second header label", identifier, 0),
-        (3, "trailer label", identifier, 1),
-    ];
-    for (which, name, reason, blocks) in rows {
-        let image = defaced(rt.alloc(), which)?;
-        let mut session = begun(rt.alloc(), 1)?;
-        let answer = useless(reason, blocks);
-        reads(
-            &rt,
-            &mut session,
-            name,
-            image.bytes.as_slice(),
-            answer,
-            wanted(1, blocks),
-        )?;
-    }
-    Ok(())
-}
-
-#[test]
-fn a_fault_of_the_image_is_told(rt: HostRuntime) -> Result<(), Fail> {
-    let mut image = Image::new(rt.alloc());
-    image.headers(&[VOL1, HDR1, HDR2])?;
-    image.word([0x01, 0x00, 0x00, 0x10])?;
-    let fault = ImageFault {
-        place: 268,
-        cause: ImageCause::Reserved(0x1000_0001),
-    };
-    let answer = ReelAnswer {
-        answer: Answer::Useless(Reason::ReelEnded),
-        fault: Some(fault),
-        blocks: 0,
-    };
-    let mut session = begun(rt.alloc(), 1)?;
-    let bytes = image.bytes.as_slice();
-    reads(
-        &rt,
-        &mut session,
-        "a reserved word",
-        bytes,
-        answer,
-        wanted(1, 0),
-    )?;
-    assert_eq!(rt; session.device_faults(), 0);
-    Ok(())
-}
+const NUMBERS: &[(RunFault, u8)] = &[
+    (RunFault::Sink(SinkFault::Full), 1),
+    (RunFault::NoSuchPoint, 2),
+    (RunFault::TooFewReels, 3),
+    (RunFault::OutOfMemory, 4),
+    (RunFault::OtherFile, 5),
+];
 
 #[test]
 fn faults_have_numbers(rt: HostRuntime) {
-    let rows = [
-        (RunFault::Sink(SinkFault::Full), 1u8),
-        (RunFault::NoSuchPoint, 2),
-        (RunFault::TooFewReels, 3),
-        (RunFault::OutOfMemory, 4),
-        (RunFault::OtherFile, 5),
-    ];
-    for (fault, number) in rows {
-        assert_eq!(rt; fault.number(), number, "{fault}");
+    for (fault, number) in NUMBERS {
+        assert!(rt; fault.number() == *number, "{fault}");
     }
 }

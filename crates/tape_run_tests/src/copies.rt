@@ -1,51 +1,112 @@
 //! Damaged copies, completed by others.
-use crate::image::{EOF_FIVE, HDR1, HDR2, Image, VOL1, five_blocks, front, payroll};
-use crate::sessions::{begun, has_records, reads, told, useless, wanted};
+use crate::image::{EOF_FIVE, HDR1, HDR2, Image, VOL1};
+use crate::scripts::{Do, Reel, Script, each_goes};
 use std::alloc::{AllocError, Global};
-use std::process::Abort;
 use std::test::Fail;
+use tape_core::Answer::Useless;
 use tape_core::{Answer, Reason};
 use tape_image::{ImageCause, ImageFault};
 use tape_label::LabelFault;
-use tape_run::{ReelAnswer, Step, run};
-use tape_set::Want;
+use tape_run::{ReelAnswer, Step};
 
-#[test]
-fn bad_blocks_in_two_copies(rt: HostRuntime) -> Result<(), Fail> {
-    let fourth = five_blocks(rt.alloc(), 3, EOF_FIVE)?;
-    let second = five_blocks(rt.alloc(), 1, EOF_FIVE)?;
-    let mut session = begun(rt.alloc(), 1)?;
+const ONE: &[Step] = &[Step::Reel];
+
+/// The worked file in five blocks, of which the fourth one or the second one is bad.
+const FOURTH_BAD: Reel<'_> = Reel::Five(3, EOF_FIVE);
+
+const SECOND_BAD: Reel<'_> = Reel::Five(1, EOF_FIVE);
+
+/// The worked volume cut inside its last data block.
+const CUT_OFF: ReelAnswer = ReelAnswer {
+    answer: Useless(Reason::ReelEnded),
+    fault: Some(ImageFault {
+        place: 1884,
+        cause: ImageCause::Truncated,
+    }),
+    blocks: 2,
+};
+
+const SCRIPTS: &[Script<'_>] = &[
     // The bad block of the second copy was delivered before, and does not stop it.
-    let (stopped, whole) = (useless(Reason::BadItem, 3), told(Answer::Complete, 2));
-    let rows = [
-        (
-            "block 3 is bad",
-            fourth.bytes.as_slice(),
-            stopped,
-            wanted(1, 3),
-        ),
-        ("block 1 is bad", second.bytes.as_slice(), whole, None),
-    ];
-    for (name, bytes, answer, want) in rows {
-        reads(&rt, &mut session, name, bytes, answer, want)?;
-    }
-    has_records(&rt, &session, 25, None, "both copies");
-    Ok(())
-}
+    (
+        "bad blocks in two copies",
+        1,
+        &[
+            Do::Reads(FOURTH_BAD, Useless(Reason::BadItem), 3, Some((1, 3))),
+            Do::Reads(SECOND_BAD, Answer::Complete, 2, None),
+            Do::Holds(25, None),
+        ],
+    ),
+    (
+        "both copies in one run",
+        1,
+        &[
+            Do::Runs(&[Step::Reel, Step::Reel], &[FOURTH_BAD, SECOND_BAD], Ok(())),
+            Do::Holds(25, None),
+        ],
+    ),
+    (
+        "the closing mark of the file before is lost",
+        2,
+        &[
+            Do::Reads(
+                Reel::WithoutMark,
+                Useless(Reason::BadLabel(LabelFault::Identifier)),
+                0,
+                Some((1, 0)),
+            ),
+            Do::Runs(ONE, &[Reel::WithoutMark], Ok(())),
+            Do::Holds(0, Some((1, 0))),
+        ],
+    ),
+    (
+        "cut behind the last block's data",
+        1,
+        &[
+            Do::Runs(ONE, &[Reel::Cut(2288)], Ok(())),
+            Do::Holds(20, Some((1, 2))),
+            Do::Runs(ONE, &[Reel::Worked], Ok(())),
+            Do::Holds(25, None),
+        ],
+    ),
+    (
+        "cut one byte into its first word",
+        1,
+        &[
+            Do::Runs(ONE, &[Reel::Cut(1885)], Ok(())),
+            Do::Holds(20, Some((1, 2))),
+            Do::Runs(ONE, &[Reel::Worked], Ok(())),
+            Do::Holds(25, None),
+        ],
+    ),
+    (
+        "cut behind the last block",
+        1,
+        &[
+            Do::Runs(ONE, &[Reel::Cut(2292)], Ok(())),
+            Do::Holds(25, Some((1, 3))),
+            Do::Runs(ONE, &[Reel::Worked], Ok(())),
+            Do::Holds(25, None),
+        ],
+    ),
+    // Cut between two items an image ends physically, and that is no fault.
+    (
+        "a cut is told with its place",
+        1,
+        &[
+            Do::Breaks(Reel::Cut(2288), CUT_OFF, Some((1, 2))),
+            Do::Reads(Reel::Cut(2292), Useless(Reason::ReelEnded), 1, Some((1, 3))),
+        ],
+    ),
+];
 
 #[test]
-fn both_copies_in_one_run(rt: HostRuntime) -> Result<(), Fail> {
-    let fourth = five_blocks(rt.alloc(), 3, EOF_FIVE)?;
-    let second = five_blocks(rt.alloc(), 1, EOF_FIVE)?;
-    let mut session = begun(rt.alloc(), 1)?;
-    let mut reels = [fourth.bytes.as_slice(), second.bytes.as_slice()];
-    run(&mut session, &[Step::Reel, Step::Reel], &mut reels)?;
-    has_records(&rt, &session, 25, None, "both copies");
-    Ok(())
+fn damaged_copies(rt: HostRuntime) -> Result<(), Fail> {
+    each_goes(&rt, SCRIPTS)
 }
 
 /// Two files; in place of the mark that closes the first one stands a block that cannot be given.
-fn without_a_mark(alloc: Global) -> Result<Image, AllocError> {
+pub fn without_a_mark(alloc: Global) -> Result<Image, AllocError> {
     let mut image = Image::new(alloc);
     image.headers(&[VOL1, HDR1, HDR2])?;
     image.records(0, 10, true)?;
@@ -62,93 +123,4 @@ fn without_a_mark(alloc: Global) -> Result<Image, AllocError> {
     image.trailers(&["EOF1STOCK            ABC00100010002000100 00000 00000 000001"])?;
     image.end()?;
     Ok(image)
-}
-
-#[test]
-fn the_closing_mark_of_the_file_before_is_lost(rt: HostRuntime) -> Result<(), Fail> {
-    let image = without_a_mark(rt.alloc())?;
-    let start = Some(Want {
-        file: 2,
-        sect: 1,
-        block: 0,
-        part: 0,
-    });
-    let mut session = begun(rt.alloc(), 2)?;
-    let bytes = image.bytes.as_slice();
-    let stopped = useless(Reason::BadLabel(LabelFault::Identifier), 0);
-    reads(
-        &rt,
-        &mut session,
-        "a bad block in place of the mark",
-        bytes,
-        stopped,
-        start,
-    )?;
-    run(&mut session, &[Step::Reel], &mut [image.bytes.as_slice()])?;
-    has_records(&rt, &session, 0, start, "the same reel again");
-    Ok(())
-}
-
-/// The worked volume cut behind so many bytes, with what is awaited and held then.
-#[derive(Clone, Copy)]
-struct Cut<'a> {
-    name: &'a str,
-    bytes: usize,
-    block: u32,
-    records: u8,
-}
-
-/// Reads the first bytes of the worked volume, and then the whole.
-fn completes<A: Abort>(rt: &A, alloc: Global, whole: &[u8], cut: Cut<'_>) -> Result<(), Fail> {
-    let mut session = begun(alloc, 1)?;
-    run(&mut session, &[Step::Reel], &mut [front(whole, cut.bytes)])?;
-    has_records(rt, &session, cut.records, wanted(1, cut.block), cut.name);
-    run(&mut session, &[Step::Reel], &mut [whole])?;
-    has_records(rt, &session, 25, None, cut.name);
-    Ok(())
-}
-
-#[test]
-fn cut_copies_and_the_whole_after(rt: HostRuntime) -> Result<(), Fail> {
-    let image = payroll(rt.alloc())?;
-    let rows = [
-        ("behind the last block's data", 2288usize, 2u32, 20u8),
-        ("one byte into its first word", 1885, 2, 20),
-        ("behind the last block", 2292, 3, 25),
-    ];
-    for (name, bytes, block, records) in rows {
-        let cut = Cut {
-            name,
-            bytes,
-            block,
-            records,
-        };
-        completes(&rt, rt.alloc(), image.bytes.as_slice(), cut)?;
-    }
-    Ok(())
-}
-
-#[test]
-fn a_cut_is_told_with_its_place(rt: HostRuntime) -> Result<(), Fail> {
-    let image = payroll(rt.alloc())?;
-    let fault = ImageFault {
-        place: 1884,
-        cause: ImageCause::Truncated,
-    };
-    let cut = ReelAnswer {
-        answer: Answer::Useless(Reason::ReelEnded),
-        fault: Some(fault),
-        blocks: 2,
-    };
-    // Cut between two items an image ends physically, and that is no fault.
-    let rows = [
-        (2288usize, cut, 2u32),
-        (2292, useless(Reason::ReelEnded, 1), 3),
-    ];
-    let mut session = begun(rt.alloc(), 1)?;
-    for (bytes, answer, block) in rows {
-        let cut = front(image.bytes.as_slice(), bytes);
-        reads(&rt, &mut session, "a cut", cut, answer, wanted(1, block))?;
-    }
-    Ok(())
 }

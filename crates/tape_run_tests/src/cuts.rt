@@ -2,7 +2,7 @@
 use crate::image::{front, holds_long, long_first};
 use crate::readers::Failing;
 use crate::sessions::{begun, wanted};
-use std::process::Abort;
+use std::alloc::Global;
 use std::test::Fail;
 use tape_core::MemorySink;
 use tape_run::{Session, Step, run};
@@ -26,43 +26,43 @@ fn awaited(cut: usize) -> Option<Want> {
     wanted(1, blocks_before(cut) as u32)
 }
 
-/// A session that read the volume up to a cut stands there, and so many of its readers failed.
-fn stands_behind<A: Abort>(rt: &A, session: &Session<MemorySink>, cut: usize, failed: u64) {
-    assert_eq!(rt;
-        (session.want(), session.device_faults()),
-        (awaited(cut), failed),
-        "{cut}"
-    );
-    assert!(rt;
-        holds_long(session.sink(), blocks_before(cut) as usize),
-        "{cut}"
-    );
+/// Whether a session that read the volume up to a cut stands there, and so many of its readers
+/// failed.
+fn stands_behind(session: &Session<MemorySink>, cut: usize, failed: u64) -> bool {
+    session.want() == awaited(cut)
+        && session.device_faults() == failed
+        && holds_long(session.sink(), blocks_before(cut) as usize)
+}
+
+/// Whether a session stands there where the bytes end at the cut.
+fn ends_at(alloc: Global, whole: &[u8], cut: usize) -> Result<bool, Fail> {
+    let mut session = begun(alloc, 1)?;
+    run(&mut session, &[Step::Reel], &mut [front(whole, cut)])?;
+    Ok(stands_behind(&session, cut, 0))
+}
+
+/// Whether it stands there where the reader fails at the cut. Behind the trailer label nothing is
+/// asked of the reader.
+fn fails_at(alloc: Global, whole: &[u8], cut: usize) -> Result<bool, Fail> {
+    let mut session = begun(alloc, 1)?;
+    run(
+        &mut session,
+        &[Step::Reel],
+        &mut [Failing(front(whole, cut))],
+    )?;
+    Ok(stands_behind(&session, cut, if cut < 932 { 1 } else { 0 }))
 }
 
 #[test]
-fn by_the_end_of_the_bytes(rt: HostRuntime) -> Result<(), Fail> {
+fn at_each_length(rt: HostRuntime) -> Result<(), Fail> {
     let image = long_first(rt.alloc())?;
+    let whole = image.bytes.as_slice();
     for cut in 0..1033usize {
-        let mut session = begun(rt.alloc(), 1)?;
-        run(
-            &mut session,
-            &[Step::Reel],
-            &mut [front(image.bytes.as_slice(), cut)],
-        )?;
-        stands_behind(&rt, &session, cut, 0);
-    }
-    Ok(())
-}
-
-#[test]
-fn by_a_reader_that_fails(rt: HostRuntime) -> Result<(), Fail> {
-    let image = long_first(rt.alloc())?;
-    for cut in 0..1033usize {
-        let mut session = begun(rt.alloc(), 1)?;
-        let mut reels = [Failing(front(image.bytes.as_slice(), cut))];
-        run(&mut session, &[Step::Reel], &mut reels)?;
-        // Behind the trailer label nothing is asked of the reader.
-        stands_behind(&rt, &session, cut, if cut < 932 { 1 } else { 0 });
+        assert!(rt; ends_at(rt.alloc(), whole, cut)?, "{cut}");
+        assert!(rt;
+            fails_at(rt.alloc(), whole, cut)?,
+            "{cut}, and a reader that fails"
+        );
     }
     Ok(())
 }

@@ -47,6 +47,12 @@ impl Image {
         }
     }
 
+    /// So many of its first bytes.
+    pub fn cut(mut self, length: usize) -> Image {
+        self.bytes.truncate(length);
+        self
+    }
+
     /// A word, least byte first.
     pub fn word(&mut self, word: [u8; 4]) -> Result<(), AllocError> {
         if self.gaps {

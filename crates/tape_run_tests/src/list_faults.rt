@@ -27,8 +27,8 @@ fn check<H: Abort + AllocGlobal, R: Read>(
 ) {
     let mut out = Vec::new(rt.alloc());
     let answer = list_to(rt.alloc(), reader, &mut out);
-    assert!(rt; answer == Err(fault), "{case}: {answer:?}");
-    assert!(rt; out.as_slice() == first_lines(lines), "{case}");
+    let told = out.as_slice() == first_lines(lines);
+    assert!(rt; told && answer == Err(fault), "{case}: {answer:?}");
 }
 
 /// The first lines of the worked listing.
@@ -135,11 +135,10 @@ fn a_reader_fails(rt: HostRuntime) -> Result<(), Fail> {
 fn stops_at<H: Abort + AllocGlobal>(rt: &H, image: &Image, left: usize, kind: Option<ErrorKind>) {
     let mut out = Narrow::failing(rt.alloc(), left, kind, true);
     let answer = list_to(rt.alloc(), &mut image.bytes.as_slice(), &mut out);
-    assert!(rt; answer == NOT_WRITTEN, "at {left}");
-    assert!(rt; out.taken.len() == left, "at {left}");
+    let told = WORKED.as_bytes().starts_with(out.taken.as_slice());
     assert!(rt;
-        WORKED.as_bytes().starts_with(out.taken.as_slice()),
-        "at {left}"
+        told && out.taken.len() == left && answer == NOT_WRITTEN,
+        "at {left}: {answer:?}"
     );
 }
 
@@ -158,9 +157,8 @@ fn a_writer_fails(rt: HostRuntime) -> Result<(), Fail> {
 fn fails_once<H: Abort + AllocGlobal>(rt: &H, image: &Image, good: usize, kind: Option<ErrorKind>) {
     let mut out = FailsOnce::new(rt.alloc(), good, kind);
     let answer = list_to(rt.alloc(), &mut image.bytes.as_slice(), &mut out);
-    assert!(rt; answer == NOT_WRITTEN, "line {good}");
-    assert!(rt; out.calls == good.saturating_add(1), "line {good}");
-    assert!(rt; out.taken.as_slice() == first_lines(good), "line {good}");
+    let told = out.taken.as_slice() == first_lines(good) && out.calls == good.saturating_add(1);
+    assert!(rt; told && answer == NOT_WRITTEN, "line {good}: {answer:?}");
 }
 
 /// A write that failed is not tried again, nor is anything written behind it.
@@ -183,8 +181,8 @@ fn what_was_read_when_a_write_failed(rt: HostRuntime) -> Result<(), Fail> {
         let mut out = FailsOnce::new(rt.alloc(), good, None);
         let mut image = worked.bytes.as_slice();
         let answer = list_to(rt.alloc(), &mut image, &mut out);
-        assert!(rt; answer == NOT_WRITTEN, "line {good}");
-        assert!(rt; image.len().saturating_add(*end) == 2484, "line {good}");
+        let read = image.len().saturating_add(*end) == 2484;
+        assert!(rt; read && answer == NOT_WRITTEN, "line {good}: {answer:?}");
     }
     Ok(())
 }
@@ -211,11 +209,8 @@ fn the_last_flush(rt: HostRuntime) -> Result<(), Fail> {
         let image = cut(rt.alloc(), *count)?;
         let mut out = Narrow::new(rt.alloc(), WORKED.len(), *flushes);
         let answer = list_to(rt.alloc(), &mut image.bytes.as_slice(), &mut out);
-        assert!(rt; answer == *wanted, "{count} {flushes}");
-        assert!(rt;
-            out.taken.as_slice() == first_lines(*lines),
-            "{count} {flushes}"
-        );
+        let told = out.taken.as_slice() == first_lines(*lines);
+        assert!(rt; told && answer == *wanted, "{count} {flushes}: {answer:?}");
     }
     Ok(())
 }
@@ -228,7 +223,7 @@ fn a_fault_behind_gaps(rt: HostRuntime) -> Result<(), Fail> {
     image.word([1, 0, 0, 0])?;
     let mut out = Vec::new(rt.alloc());
     let answer = list_to(rt.alloc(), &mut image.bytes.as_slice(), &mut out);
-    assert!(rt; answer == Err(fault_at(12, ImageCause::Truncated)));
-    assert!(rt; out.as_slice() == b"000001 MARK\n".as_slice());
+    let told = out.as_slice() == b"000001 MARK\n".as_slice();
+    assert!(rt; told && answer == Err(fault_at(12, ImageCause::Truncated)));
     Ok(())
 }

@@ -1,105 +1,108 @@
 //! Reels in order, in any order, and reels that give nothing.
-use crate::image::{HDR2, Image, VOL1, blank, holds_records, long_first, long_second, payroll};
-use crate::sessions::{begun, has_long, has_records, reads, told, useless, wanted};
+use crate::image::{HDR2, Image, VOL1};
+use crate::scripts::{Do, Reel, Script, each_goes};
 use std::alloc::{AllocError, Global};
 use std::test::Fail;
-use tape_core::{Answer, PartSink, Reason};
-use tape_run::{Step, run};
+use tape_core::Answer::Useless;
+use tape_core::{Answer, Reason};
+use tape_run::Step;
 
-#[test]
-fn a_file_on_one_volume(rt: HostRuntime) -> Result<(), Fail> {
-    let image = payroll(rt.alloc())?;
-    assert_eq!(rt; image.bytes.len(), 2484);
-    let mut session = begun(rt.alloc(), 1)?;
-    run(&mut session, &[Step::Reel], &mut [image.bytes.as_slice()])?;
-    has_records(&rt, &session, 25, None, "the worked volume");
-    let counts = (session.sink().weight(), session.device_faults());
-    assert_eq!(rt; counts, (25 * 85, 0));
-    assert!(rt; holds_records(&session.into_sink(), 25));
-    Ok(())
-}
+const ONE: &[Step] = &[Step::Reel];
 
-#[test]
-fn a_record_on_two_volumes(rt: HostRuntime) -> Result<(), Fail> {
-    let first = long_first(rt.alloc())?;
-    let second = long_second(rt.alloc())?;
-    assert_eq!(rt; (first.bytes.len(), second.bytes.len()), (1032, 486));
-    let mut session = begun(rt.alloc(), 1)?;
-    let mut reels = [first.bytes.as_slice(), second.bytes.as_slice()];
-    run(&mut session, &[Step::Reel, Step::Reel], &mut reels)?;
-    has_long(&rt, &session, 23, None, "both volumes");
-    Ok(())
-}
+const TWO: &[Step] = &[Step::Reel, Step::Reel];
 
-#[test]
-fn the_second_volume_first(rt: HostRuntime) -> Result<(), Fail> {
-    let first = long_first(rt.alloc())?;
-    let second = long_second(rt.alloc())?;
-    let mut session = begun(rt.alloc(), 1)?;
-    run(&mut session, &[Step::Reel], &mut [second.bytes.as_slice()])?;
-    has_long(&rt, &session, 0, wanted(1, 0), "the second volume in a run");
-    let (one, two) = (first.bytes.as_slice(), second.bytes.as_slice());
-    let (start, next) = (wanted(1, 0), wanted(2, 0));
-    let later = useless(Reason::LaterSection, 0);
-    let done = told(Answer::SectionDone, 22);
+const THREE: &[Step] = &[Step::Reel, Step::Reel, Step::Reel];
+
+const SCRIPTS: &[Script<'_>] = &[
+    (
+        "a file on one volume",
+        1,
+        &[
+            Do::IsLong(Reel::Worked, 2484),
+            Do::Runs(ONE, &[Reel::Worked], Ok(())),
+            Do::Holds(25, None),
+            Do::Weighs(25 * 85, 0),
+        ],
+    ),
+    (
+        "a record on two volumes",
+        1,
+        &[
+            Do::IsLong(Reel::LongFirst, 1032),
+            Do::IsLong(Reel::LongSecond, 486),
+            Do::Runs(TWO, &[Reel::LongFirst, Reel::LongSecond], Ok(())),
+            Do::HoldsLong(23, None),
+        ],
+    ),
     // The first volume again gives nothing again.
-    let earlier = useless(Reason::EarlierSection, 0);
-    let rows = [
-        ("second", two, later, start, 0usize),
-        ("first", one, done, next, 22),
-        ("first again", one, earlier, next, 22),
-        ("second again", two, told(Answer::Complete, 1), None, 23),
-    ];
-    for (name, bytes, answer, want, parts) in rows {
-        reads(&rt, &mut session, name, bytes, answer, want)?;
-        has_long(&rt, &session, parts, want, name);
-    }
-    Ok(())
-}
-
-#[test]
-fn second_first_second_in_one_run(rt: HostRuntime) -> Result<(), Fail> {
-    let first = long_first(rt.alloc())?;
-    let second = long_second(rt.alloc())?;
-    let mut session = begun(rt.alloc(), 1)?;
-    let mut reels = [
-        second.bytes.as_slice(),
-        first.bytes.as_slice(),
-        second.bytes.as_slice(),
-    ];
-    run(
-        &mut session,
-        &[Step::Reel, Step::Reel, Step::Reel],
-        &mut reels,
-    )?;
-    has_long(&rt, &session, 23, None, "second, first, second");
-    Ok(())
-}
-
-#[test]
-fn a_complete_file_reads_nothing(rt: HostRuntime) -> Result<(), Fail> {
-    let image = payroll(rt.alloc())?;
-    let mut session = begun(rt.alloc(), 1)?;
-    let mut reels = [image.bytes.as_slice(), image.bytes.as_slice()];
-    run(&mut session, &[Step::Reel, Step::Reel], &mut reels)?;
+    (
+        "the second volume first",
+        1,
+        &[
+            Do::Runs(ONE, &[Reel::LongSecond], Ok(())),
+            Do::HoldsLong(0, Some((1, 0))),
+            Do::Reads(
+                Reel::LongSecond,
+                Useless(Reason::LaterSection),
+                0,
+                Some((1, 0)),
+            ),
+            Do::HoldsLong(0, Some((1, 0))),
+            Do::Reads(Reel::LongFirst, Answer::SectionDone, 22, Some((2, 0))),
+            Do::HoldsLong(22, Some((2, 0))),
+            Do::Reads(
+                Reel::LongFirst,
+                Useless(Reason::EarlierSection),
+                0,
+                Some((2, 0)),
+            ),
+            Do::HoldsLong(22, Some((2, 0))),
+            Do::Reads(Reel::LongSecond, Answer::Complete, 1, None),
+            Do::HoldsLong(23, None),
+        ],
+    ),
+    (
+        "second, first, second in one run",
+        1,
+        &[
+            Do::Runs(
+                THREE,
+                &[Reel::LongSecond, Reel::LongFirst, Reel::LongSecond],
+                Ok(()),
+            ),
+            Do::HoldsLong(23, None),
+        ],
+    ),
     // The trailer that completes the file ends at 2,384; nothing behind it was read, and of the
-    // second nothing.
-    assert_eq!(rt; (reels[0].len(), reels[1].len()), (2484 - 2384, 2484));
-    let again = told(Answer::Complete, 0);
-    reads(
-        &rt,
-        &mut session,
-        "the second reel again",
-        reels[1],
-        again,
-        None,
-    )?;
-    has_records(&rt, &session, 25, None, "a complete file");
-    Ok(())
+    // second reel nothing.
+    (
+        "a complete file reads nothing",
+        1,
+        &[
+            Do::Leaves(TWO, &[Reel::Worked, Reel::Worked], [2484 - 2384, 2484]),
+            Do::Reads(Reel::Worked, Answer::Complete, 0, None),
+            Do::Holds(25, None),
+        ],
+    ),
+    (
+        "reels that are none of the set",
+        1,
+        &[
+            Do::Runs(THREE, &[Reel::Foreign, Reel::Blank, Reel::Empty], Ok(())),
+            Do::Holds(0, Some((1, 0))),
+            Do::Reads(Reel::Foreign, Useless(Reason::OtherSet), 0, Some((1, 0))),
+            Do::Reads(Reel::Blank, Useless(Reason::NotLabelled), 0, Some((1, 0))),
+        ],
+    ),
+];
+
+#[test]
+fn reels_in_any_order(rt: HostRuntime) -> Result<(), Fail> {
+    each_goes(&rt, SCRIPTS)
 }
 
 /// A volume whose identifier is that of the worked volume, and whose set identifier is not.
-fn foreign(alloc: Global) -> Result<Image, AllocError> {
+pub fn foreign(alloc: Global) -> Result<Image, AllocError> {
     let mut image = Image::new(alloc);
     image.headers(&[
         VOL1,
@@ -108,33 +111,4 @@ fn foreign(alloc: Global) -> Result<Image, AllocError> {
     ])?;
     image.records(0, 10, true)?;
     Ok(image)
-}
-
-#[test]
-fn reels_that_are_none_of_the_set(rt: HostRuntime) -> Result<(), Fail> {
-    let foreign = foreign(rt.alloc())?;
-    let blank = blank(rt.alloc())?;
-    let mut session = begun(rt.alloc(), 1)?;
-    let mut reels = [foreign.bytes.as_slice(), blank.bytes.as_slice(), &[]];
-    run(
-        &mut session,
-        &[Step::Reel, Step::Reel, Step::Reel],
-        &mut reels,
-    )?;
-    has_records(&rt, &session, 0, wanted(1, 0), "three reels");
-    let rows = [
-        ("another set", foreign.bytes.as_slice(), Reason::OtherSet),
-        ("no file", blank.bytes.as_slice(), Reason::NotLabelled),
-    ];
-    for (name, bytes, reason) in rows {
-        reads(
-            &rt,
-            &mut session,
-            name,
-            bytes,
-            useless(reason, 0),
-            wanted(1, 0),
-        )?;
-    }
-    Ok(())
 }

@@ -1,62 +1,56 @@
 //! Notes, restarts and resumed sessions.
-use crate::image::{front, long_first, long_second, payroll, set_id};
-use crate::sessions::{begun, has_long, has_records, wanted};
+use crate::image::{front, holds_long, long_first, long_second, set_id};
+use crate::scripts::{Do, Reel, Script, each_goes};
+use crate::sessions::begun;
 use std::alloc::Global;
-use std::process::Abort;
 use std::test::Fail;
 use tape_core::{Checkpoint, CoreFault, MemorySink, PartSink};
-use tape_run::{RunFault, Session, Step, go_on, read_file, run};
+use tape_run::{RunFault, Step, go_on, read_file, run};
 use tape_set::Position;
 
-#[test]
-fn back_to_a_note_and_on(rt: HostRuntime) -> Result<(), Fail> {
-    let image = payroll(rt.alloc())?;
-    let whole = image.bytes.as_slice();
-    let mut session = begun(rt.alloc(), 1)?;
-    run(
-        &mut session,
-        &[Step::Reel, Step::Save, Step::Reel],
-        &mut [front(whole, 1884), whole],
-    )?;
-    let point = session.save()?;
-    let noted = (session.want(), point.position, point.staged);
-    assert_eq!(rt; noted, (None, Position::Finished, 25 * 85));
-    goes_back(&rt, &mut session, whole)
-}
+const TWO: &[Step] = &[Step::Reel, Step::Reel];
 
-/// Of a complete session with two notes: note 0 is behind two blocks; note 1 is forgotten with it.
-fn goes_back<A: Abort>(
-    rt: &A,
-    session: &mut Session<MemorySink>,
-    whole: &[u8],
-) -> Result<(), Fail> {
-    let none: &mut [&[u8]] = &mut [];
-    run(session, &[Step::Restart(0)], none)?;
-    has_records(rt, session, 20, wanted(1, 2), "back at note 0");
-    run(session, &[Step::Reel], &mut [whole])?;
-    has_records(rt, session, 25, None, "and on");
-    let forgotten = run(session, &[Step::Restart(1)], none);
-    assert_eq!(rt; forgotten, Err(RunFault::NoSuchPoint));
-    has_records(rt, session, 25, None, "nothing changed");
-    Ok(())
-}
-
-#[test]
-fn no_note_and_no_reel(rt: HostRuntime) -> Result<(), Fail> {
-    let image = payroll(rt.alloc())?;
-    let mut session = begun(rt.alloc(), 1)?;
-    let steps = [Step::Reel, Step::Reel, Step::Reel];
-    let mut reels = [front(image.bytes.as_slice(), 1884), image.bytes.as_slice()];
+const SCRIPTS: &[Script<'_>] = &[
+    // Note 0 is behind two blocks; note 1 is forgotten with it.
+    (
+        "back to a note and on",
+        1,
+        &[
+            Do::Runs(
+                &[Step::Reel, Step::Save, Step::Reel],
+                &[Reel::Cut(1884), Reel::Worked],
+                Ok(()),
+            ),
+            Do::Saves(Position::Finished, 25 * 85),
+            Do::Holds(25, None),
+            Do::Runs(&[Step::Restart(0)], &[], Ok(())),
+            Do::Holds(20, Some((1, 2))),
+            Do::Runs(&[Step::Reel], &[Reel::Worked], Ok(())),
+            Do::Holds(25, None),
+            Do::Runs(&[Step::Restart(1)], &[], Err(RunFault::NoSuchPoint)),
+            Do::Holds(25, None),
+        ],
+    ),
     // A reel is asked for also where the file is complete.
-    let few = run(&mut session, &steps, &mut reels);
-    has_records(&rt, &session, 25, None, "no reel is left");
-    let none = session.restart(0);
-    assert_eq!(rt;
-        (few, none),
-        (Err(RunFault::TooFewReels), Err(RunFault::NoSuchPoint))
-    );
-    has_records(&rt, &session, 25, None, "there is no note");
-    Ok(())
+    (
+        "no note and no reel",
+        1,
+        &[
+            Do::Runs(
+                &[Step::Reel, Step::Reel, Step::Reel],
+                &[Reel::Cut(1884), Reel::Worked],
+                Err(RunFault::TooFewReels),
+            ),
+            Do::Holds(25, None),
+            Do::Restarts(0, Err(RunFault::NoSuchPoint)),
+            Do::Holds(25, None),
+        ],
+    ),
+];
+
+#[test]
+fn notes_and_restarts(rt: HostRuntime) -> Result<(), Fail> {
+    each_goes(&rt, SCRIPTS)
 }
 
 /// Reads so many of the reel's bytes, and notes where this leads.
@@ -67,42 +61,58 @@ fn stopped(alloc: Global, bytes: &[u8]) -> Result<(Checkpoint, MemorySink), Fail
     Ok((point, session.into_sink()))
 }
 
+/// Where a session stands that read 500 bytes of the long record's first volume.
+const STOPPED: Position = Position::Awaits {
+    sect: 1,
+    block: 8,
+    part: 0,
+};
+
+/// Whether a session that was stopped there goes on to the end of both volumes.
+fn goes_on(alloc: Global, first: &[u8], second: &[u8]) -> Result<bool, Fail> {
+    let (point, sink) = stopped(alloc, front(first, 500))?;
+    let stood = (point.position, point.begun, point.staged) == (STOPPED, true, 8 * 18);
+    let (resumed, result) = go_on(alloc, &point, sink, TWO, &mut [first, second]);
+    let weight = resumed.sink().weight();
+    let done = result == Ok(()) && resumed.want().is_none();
+    Ok(stood && done && weight == 23 * 5 + 290 && holds_long(resumed.sink(), 23))
+}
+
 #[test]
 fn a_resumed_session_goes_on(rt: HostRuntime) -> Result<(), Fail> {
     let first = long_first(rt.alloc())?;
     let second = long_second(rt.alloc())?;
-    let (point, sink) = stopped(rt.alloc(), front(first.bytes.as_slice(), 500))?;
-    let position = Position::Awaits {
-        sect: 1,
-        block: 8,
-        part: 0,
-    };
-    assert_eq!(rt;
-        (point.position, point.begun, point.staged),
-        (position, true, 8 * 18)
-    );
-    let mut reels = [first.bytes.as_slice(), second.bytes.as_slice()];
-    let steps = [Step::Reel, Step::Reel];
-    let (resumed, result) = go_on(rt.alloc(), &point, sink, &steps, &mut reels);
-    has_long(&rt, &resumed, 23, None, "resumed");
-    assert_eq!(rt; (result, resumed.sink().weight()), (Ok(()), 23 * 5 + 290));
+    assert!(rt; goes_on(rt.alloc(), first.bytes.as_slice(), second.bytes.as_slice())?);
     Ok(())
+}
+
+/// Whether the file is read whole from both volumes.
+fn is_whole(alloc: Global, first: &[u8], second: &[u8]) -> Result<bool, CoreFault> {
+    let (session, made) = read_file(alloc, set_id(), 1, TWO, &mut [first, second])?;
+    Ok(made == Ok(()) && session.want().is_none() && holds_long(session.sink(), 23))
+}
+
+/// Whether it is told that a reel lacks, and something of the file is wanted.
+fn lacks_a_reel(alloc: Global, first: &[u8]) -> Result<bool, CoreFault> {
+    let (session, made) = read_file(alloc, set_id(), 1, TWO, &mut [first])?;
+    Ok(made == Err(RunFault::TooFewReels) && session.want().is_some())
+}
+
+/// Whether there is no file of this number.
+fn is_no_file(alloc: Global, number: u16, first: &[u8]) -> bool {
+    match read_file(alloc, set_id(), number, TWO, &mut [first]) {
+        Ok(_) => false,
+        Err(fault) => fault == CoreFault::FileNumber,
+    }
 }
 
 #[test]
 fn a_file_in_one_call(rt: HostRuntime) -> Result<(), Fail> {
     let first = long_first(rt.alloc())?;
     let second = long_second(rt.alloc())?;
-    let mut reels = [first.bytes.as_slice(), second.bytes.as_slice()];
-    let steps = [Step::Reel, Step::Reel];
-    let (session, made) = read_file(rt.alloc(), set_id(), 1, &steps, &mut reels)?;
-    assert_eq!(rt; made, Ok(()));
-    has_long(&rt, &session, 23, None, "file 1");
-    let mut one = [first.bytes.as_slice()];
-    let (session, made) = read_file(rt.alloc(), set_id(), 1, &steps, &mut one)?;
-    assert_eq!(rt; made, Err(RunFault::TooFewReels));
-    assert!(rt; session.want().is_some());
-    let refused = read_file(rt.alloc(), set_id(), 0, &steps, &mut reels).err();
-    assert_eq!(rt; refused, Some(CoreFault::FileNumber));
+    let (first, second) = (first.bytes.as_slice(), second.bytes.as_slice());
+    assert!(rt; is_whole(rt.alloc(), first, second)?);
+    assert!(rt; lacks_a_reel(rt.alloc(), first)?);
+    assert!(rt; is_no_file(rt.alloc(), 0, first));
     Ok(())
 }

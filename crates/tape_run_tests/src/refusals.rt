@@ -3,7 +3,6 @@ use crate::image::{
     HDR1, Image, VOL1, front, holds_long, holds_records, long_first, long_second, payroll, set_id,
 };
 use std::alloc::{AllocError, Global};
-use std::process::Abort;
 use std::test::Fail;
 use tape_core::{CoreFault, MemorySink, PartSink, Refusing, SinkFault};
 use tape_run::{RunFault, Session, Step, run};
@@ -25,57 +24,47 @@ fn part_of(block: u32, part: u32) -> Option<Want> {
     })
 }
 
-/// So many of the worked records are held, and this is wanted.
-fn has<A: Abort>(
-    rt: &A,
-    session: &Session<Refusing<MemorySink>>,
-    count: u8,
-    want: Option<Want>,
-    refused: usize,
-) {
-    assert_eq!(rt; session.want(), want, "{refused}");
-    assert!(rt; holds_records(session.sink().inner(), count), "{refused}");
+/// The device of the sink failed.
+const FAILED: Result<(), RunFault> = Err(RunFault::Sink(SinkFault::Device));
+
+const ONE: &[Step] = &[Step::Reel];
+
+/// Whether so many of the worked records are held, and this is wanted.
+fn has(session: &Session<Refusing<MemorySink>>, count: u8, want: Option<Want>) -> bool {
+    session.want() == want && holds_records(session.sink().inner(), count)
 }
 
-/// The device of the sink failed in the call of this number.
-fn failed<A: Abort>(rt: &A, answer: Result<(), RunFault>, refused: usize) {
-    assert_eq!(rt; answer, Err(RunFault::Sink(SinkFault::Device)), "{refused}");
+/// Whether the reel stops at the put that is refused, and completes the file when read again.
+fn completes(alloc: Global, whole: &[u8], refused: u8) -> Result<bool, Fail> {
+    let mut session = refusing(alloc, refused as usize)?;
+    let failed = run(&mut session, ONE, &mut [whole]) == FAILED;
+    // Ten records stand in a block.
+    let place = part_of((refused / 10) as u32, (refused % 10) as u32);
+    let stopped = failed && has(&session, refused, place);
+    run(&mut session, ONE, &mut [whole])?;
+    Ok(stopped && has(&session, 25, None))
 }
 
 #[test]
 fn each_put_refused_in_turn(rt: HostRuntime) -> Result<(), Fail> {
     let image = payroll(rt.alloc())?;
-    let whole = image.bytes.as_slice();
     for refused in 0..25u8 {
-        let call = refused as usize;
-        let mut session = refusing(rt.alloc(), call)?;
-        let result = run(&mut session, &[Step::Reel], &mut [whole]);
-        failed(&rt, result, call);
-        // Ten records stand in a block.
-        let place = part_of((refused / 10) as u32, (refused % 10) as u32);
-        has(&rt, &session, refused, place, call);
-        run(&mut session, &[Step::Reel], &mut [whole])?;
-        has(&rt, &session, 25, None, call);
+        assert!(rt;
+            completes(rt.alloc(), image.bytes.as_slice(), refused)?,
+            "{refused}"
+        );
     }
     Ok(())
 }
 
-/// Reads both volumes of the long record, up to the refused call, and then again.
-fn completes_long<A: Abort>(
-    rt: &A,
-    alloc: Global,
-    volumes: [&[u8]; 2],
-    refused: usize,
-) -> Result<(), Fail> {
+/// The same of both volumes of the long record.
+fn completes_long(alloc: Global, volumes: [&[u8]; 2], refused: usize) -> Result<bool, Fail> {
     let mut session = refusing(alloc, refused)?;
     let steps = [Step::Reel, Step::Reel];
-    let result = run(&mut session, &steps, &mut { volumes });
-    failed(rt, result, refused);
-    assert!(rt; holds_long(session.sink().inner(), refused), "{refused}");
+    let failed = run(&mut session, &steps, &mut { volumes }) == FAILED;
+    let stopped = failed && holds_long(session.sink().inner(), refused);
     run(&mut session, &steps, &mut { volumes })?;
-    assert_eq!(rt; session.want(), None, "{refused}");
-    assert!(rt; holds_long(session.sink().inner(), 23), "{refused}");
-    Ok(())
+    Ok(stopped && session.want().is_none() && holds_long(session.sink().inner(), 23))
 }
 
 #[test]
@@ -84,14 +73,14 @@ fn each_put_of_a_long_record_refused_in_turn(rt: HostRuntime) -> Result<(), Fail
     let second = long_second(rt.alloc())?;
     let volumes = [first.bytes.as_slice(), second.bytes.as_slice()];
     for refused in 0..23usize {
-        completes_long(&rt, rt.alloc(), volumes, refused)?;
+        assert!(rt; completes_long(rt.alloc(), volumes, refused)?, "{refused}");
     }
     Ok(())
 }
 
 /// Two readings of the worked volume, the first of them cut, with a note before each, and a third
 /// behind a restart.
-const SCRIPT: [Step; 6] = [
+const SCRIPT: &[Step] = &[
     Step::Save,
     Step::Reel,
     Step::Save,
@@ -100,30 +89,33 @@ const SCRIPT: [Step; 6] = [
     Step::Reel,
 ];
 
+/// How many calls the script makes: 1 for each save and the restart, 20 puts, 5 puts, and 25 again.
+const CALLS: usize = 53;
+
+/// Whether the script stops at the refused call, and one reel more completes the file: the sink
+/// holds what lies before the place, and nothing is put twice. Behind the last call it is complete.
+fn completes_script(alloc: Global, whole: &[u8], refused: usize) -> Result<bool, Fail> {
+    let mut session = refusing(alloc, refused)?;
+    let mut reels = [front(whole, 1884), whole, whole];
+    let stopped = match run(&mut session, SCRIPT, &mut reels) {
+        Ok(()) => refused == CALLS,
+        Err(fault) => refused < CALLS && matches!(fault, RunFault::Sink(_)),
+    };
+    if refused < CALLS {
+        run(&mut session, ONE, &mut [whole])?;
+    }
+    Ok(stopped && has(&session, 25, None))
+}
+
 #[test]
 fn each_call_of_a_script_refused_in_turn(rt: HostRuntime) -> Result<(), Fail> {
     let image = payroll(rt.alloc())?;
-    let whole = image.bytes.as_slice();
-    // 1 call for each save and the restart, 20 puts, 5 puts, and 25 again.
-    for refused in 0..53usize {
-        let mut session = refusing(rt.alloc(), refused)?;
-        let result = run(
-            &mut session,
-            &SCRIPT,
-            &mut [front(whole, 1884), whole, whole],
+    for refused in 0..=CALLS {
+        assert!(rt;
+            completes_script(rt.alloc(), image.bytes.as_slice(), refused)?,
+            "{refused}"
         );
-        assert!(rt; matches!(result, Err(RunFault::Sink(_))), "{refused}");
-        // The sink holds what lies before the place, and nothing is put twice.
-        run(&mut session, &[Step::Reel], &mut [whole])?;
-        has(&rt, &session, 25, None, refused);
     }
-    let mut session = refusing(rt.alloc(), 53)?;
-    run(
-        &mut session,
-        &SCRIPT,
-        &mut [front(whole, 1884), whole, whole],
-    )?;
-    has(&rt, &session, 25, None, 53);
     Ok(())
 }
 
@@ -133,26 +125,29 @@ fn save(session: &mut Session<Refusing<MemorySink>>) -> Result<(), RunFault> {
     Ok(())
 }
 
-/// The save is refused, so there is no note to go back to, and nothing changed.
-fn is_refused<A: Abort>(rt: &A, session: &mut Session<Refusing<MemorySink>>) {
-    let refused = save(session);
-    failed(rt, refused, 20);
-    let none = session.restart(0);
-    assert_eq!(rt; none, Err(RunFault::NoSuchPoint));
-    has(rt, session, 20, part_of(2, 0), 20);
+/// Whether a save is refused, so that there is no note to go back to, and nothing changed.
+fn is_refused(session: &mut Session<Refusing<MemorySink>>) -> bool {
+    save(session) == FAILED
+        && session.restart(0) == Err(RunFault::NoSuchPoint)
+        && has(session, 20, part_of(2, 0))
+}
+
+/// Whether a session stands where it stood behind a refused save, behind one that was not, and
+/// behind going back to that.
+fn stands_still(alloc: Global, whole: &[u8]) -> Result<bool, Fail> {
+    let mut session = refusing(alloc, 20)?;
+    run(&mut session, ONE, &mut [front(whole, 1884)])?;
+    // The 21st call is the save's.
+    let refused = is_refused(&mut session);
+    save(&mut session)?;
+    session.restart(0)?;
+    Ok(refused && has(&session, 20, part_of(2, 0)))
 }
 
 #[test]
 fn refused_saves_and_restarts_leave_the_session(rt: HostRuntime) -> Result<(), Fail> {
     let image = payroll(rt.alloc())?;
-    let mut session = refusing(rt.alloc(), 20)?;
-    let cut = front(image.bytes.as_slice(), 1884);
-    run(&mut session, &[Step::Reel], &mut [cut])?;
-    // The 21st call is the save's.
-    is_refused(&rt, &mut session);
-    save(&mut session)?;
-    session.restart(0)?;
-    has(&rt, &session, 20, part_of(2, 0), 21);
+    assert!(rt; stands_still(rt.alloc(), image.bytes.as_slice())?);
     Ok(())
 }
 
@@ -170,28 +165,30 @@ fn two_records(alloc: Global) -> Result<Image, AllocError> {
     Ok(image)
 }
 
-/// This is wanted, and so many parts of this weight are held.
-fn weighs<A: Abort>(
-    rt: &A,
+/// Whether this is wanted, and so many parts of this weight are held.
+fn weighs(
     session: &Session<Refusing<MemorySink>>,
     want: Option<Want>,
     parts: usize,
     weight: u64,
-) {
+) -> bool {
     let sink = session.sink();
-    let found = (session.want(), sink.inner().count(), sink.weight());
-    assert_eq!(rt; found, (want, parts, weight));
+    (session.want(), sink.inner().count(), sink.weight()) == (want, parts, weight)
+}
+
+/// Whether a refused second part of a block is put when the reel is read again, and the first one
+/// is not.
+fn goes_on_inside(alloc: Global, whole: &[u8]) -> Result<bool, Fail> {
+    let mut session = refusing(alloc, 1)?;
+    let failed = run(&mut session, ONE, &mut [whole]) == FAILED;
+    let stopped = failed && weighs(&session, part_of(0, 1), 1, 7);
+    run(&mut session, ONE, &mut [whole])?;
+    Ok(stopped && weighs(&session, None, 2, 12))
 }
 
 #[test]
 fn the_second_part_of_a_block(rt: HostRuntime) -> Result<(), Fail> {
     let image = two_records(rt.alloc())?;
-    let whole = image.bytes.as_slice();
-    let mut session = refusing(rt.alloc(), 1)?;
-    let result = run(&mut session, &[Step::Reel], &mut [whole]);
-    failed(&rt, result, 1);
-    weighs(&rt, &session, part_of(0, 1), 1, 7);
-    run(&mut session, &[Step::Reel], &mut [whole])?;
-    weighs(&rt, &session, None, 2, 12);
+    assert!(rt; goes_on_inside(rt.alloc(), image.bytes.as_slice())?);
     Ok(())
 }

@@ -1,0 +1,257 @@
+//! Sessions, step by step: what is read of which image, what is answered, and what stands then.
+use crate::answers::{defaced, with_reserved_word};
+use crate::copies::without_a_mark;
+use crate::image::{
+    EOF_FIVE, Image, blank, five_blocks, holds_long, holds_records, long_first, long_second,
+};
+use crate::order::foreign;
+use crate::sections::{first_of_two, of_blocks, one_section, second_of_two};
+use crate::sessions::begun;
+use crate::volumes::cut;
+use std::alloc::{AllocError, Global};
+use std::process::Abort;
+use std::test::Fail;
+use tape_core::{Answer, MemorySink, PartSink};
+use tape_run::{ReelAnswer, RunFault, Session, Step, run};
+use tape_set::{Position, Want};
+
+/// An image that is read.
+#[derive(Clone, Copy)]
+pub enum Reel<'a> {
+    /// The worked volume.
+    Worked,
+    /// So many of its first bytes.
+    Cut(usize),
+    /// The worked file in five blocks, of which this one is bad (5: none is), with this trailer.
+    Five(u8, &'a str),
+    /// So many of the first bytes of that, with five good blocks and their count.
+    FiveCut(usize),
+    /// A volume with so many blocks of a byte, and this trailer.
+    Blocks(u32, &'a str),
+    /// A volume with a section of one block of a byte: its header and its trailer.
+    Section(&'a str, &'a str),
+    /// The worked file on two volumes.
+    FirstOfTwo,
+    SecondOfTwo,
+    /// The first volume of the long record, and the second.
+    LongFirst,
+    LongSecond,
+    /// A volume with no file.
+    Blank,
+    /// No byte.
+    Empty,
+    /// A volume of another set.
+    Foreign,
+    /// Two files, without the mark that closes the first.
+    WithoutMark,
+    /// A volume whose label of this number is none.
+    Defaced(usize),
+    /// A volume with a word that is reserved where its first data block begins.
+    Reserved,
+}
+
+/// The block of which section is wanted, from its first part on, or nothing.
+pub type Wanted = Option<(u16, u32)>;
+
+/// What is done in a session, and what is to come of it.
+#[derive(Clone, Copy)]
+pub enum Do<'a> {
+    /// This reel is read, answers so, without a fault, and so many blocks of it are delivered; this
+    /// is wanted then.
+    Reads(Reel<'a>, Answer, u32, Wanted),
+    /// The same, where the image has a fault.
+    Breaks(Reel<'a>, ReelAnswer, Wanted),
+    /// These steps are taken over these reels, and end so.
+    Runs(&'a [Step], &'a [Reel<'a>], Result<(), RunFault>),
+    /// The first two of these reels were read by such steps, and of each so many bytes are left.
+    Leaves(&'a [Step], &'a [Reel<'a>], [usize; 2]),
+    /// A note is taken of this position, where so much is staged.
+    Saves(Position, u64),
+    /// The note of this number is gone back to, which ends so.
+    Restarts(usize, Result<(), RunFault>),
+    /// So many of the worked records are held, and this is wanted.
+    Holds(u8, Wanted),
+    /// So many parts of the long record are held, and this is wanted.
+    HoldsLong(usize, Wanted),
+    /// What is held weighs so much, and so many readers failed.
+    Weighs(u64, u64),
+    /// The image of this reel has so many bytes.
+    IsLong(Reel<'a>, usize),
+}
+
+/// A script: its name, the file, and what is done.
+pub type Script<'a> = (&'a str, u16, &'a [Do<'a>]);
+
+/// Follows each script in a session of its own.
+pub fn each_goes<H: Abort + AllocGlobal>(rt: &H, scripts: &[Script<'_>]) -> Result<(), Fail> {
+    for (name, file, steps) in scripts {
+        goes(rt, name, *file, steps)?;
+    }
+    Ok(())
+}
+
+/// Follows a script: each step comes to what it is to come to.
+fn goes<H: Abort + AllocGlobal>(
+    rt: &H,
+    name: &str,
+    file: u16,
+    steps: &[Do<'_>],
+) -> Result<(), Fail> {
+    let mut session = begun(rt.alloc(), file)?;
+    for (number, step) in steps.iter().enumerate() {
+        assert!(rt;
+            takes(rt.alloc(), &mut session, file, step)?,
+            "{name}: the step behind {number} others"
+        );
+    }
+    Ok(())
+}
+
+/// Takes a step, and tells whether it came to what it was to come to.
+fn takes(
+    alloc: Global,
+    session: &mut Session<MemorySink>,
+    file: u16,
+    step: &Do<'_>,
+) -> Result<bool, Fail> {
+    match *step {
+        Do::Reads(reel, answer, blocks, wanted) => {
+            let told = of_no_fault(answer, blocks);
+            Ok(answers(alloc, session, reel)? == told && wants(session, file, wanted))
+        }
+        Do::Breaks(reel, told, wanted) => {
+            Ok(answers(alloc, session, reel)? == told && wants(session, file, wanted))
+        }
+        Do::Runs(steps, reels, end) => Ok(runs(alloc, session, steps, reels)? == end),
+        Do::Leaves(steps, reels, left) => Ok(leaves(alloc, session, steps, reels, left)?),
+        Do::Saves(position, staged) => Ok(saves(session, position, staged)?),
+        Do::Restarts(number, end) => Ok(session.restart(number) == end),
+        Do::IsLong(reel, length) => Ok(image_of(alloc, reel)?.bytes.len() == length),
+        stands => Ok(stands_so(session, file, stands)),
+    }
+}
+
+/// Whether the session stands as the step says.
+fn stands_so(session: &Session<MemorySink>, file: u16, step: Do<'_>) -> bool {
+    let sink = session.sink();
+    match step {
+        Do::Holds(count, wanted) => holds_records(sink, count) && wants(session, file, wanted),
+        Do::HoldsLong(parts, wanted) => holds_long(sink, parts) && wants(session, file, wanted),
+        Do::Weighs(weight, failed) => {
+            (sink.weight(), session.device_faults()) == (weight, failed)
+        }
+        _ => false,
+    }
+}
+
+/// The answer of a reel that was read without a fault.
+fn of_no_fault(answer: Answer, blocks: u32) -> ReelAnswer {
+    ReelAnswer {
+        answer,
+        fault: None,
+        blocks,
+    }
+}
+
+/// Whether a note is taken of this position, where so much is staged.
+fn saves(
+    session: &mut Session<MemorySink>,
+    position: Position,
+    staged: u64,
+) -> Result<bool, RunFault> {
+    let point = session.save()?;
+    Ok((point.position, point.staged) == (position, staged))
+}
+
+/// Whether this is wanted of the file.
+fn wants(session: &Session<MemorySink>, file: u16, wanted: Wanted) -> bool {
+    let want = match wanted {
+        Some((sect, block)) => Some(Want {
+            file,
+            sect,
+            block,
+            part: 0,
+        }),
+        None => None,
+    };
+    session.want() == want
+}
+
+/// What the reel answers.
+fn answers(
+    alloc: Global,
+    session: &mut Session<MemorySink>,
+    reel: Reel<'_>,
+) -> Result<ReelAnswer, Fail> {
+    let image = image_of(alloc, reel)?;
+    Ok(session.reel(&mut image.bytes.as_slice())?)
+}
+
+/// How these steps over these reels end.
+fn runs(
+    alloc: Global,
+    session: &mut Session<MemorySink>,
+    steps: &[Step],
+    reels: &[Reel<'_>],
+) -> Result<Result<(), RunFault>, AllocError> {
+    let images = images_of(alloc, reels)?;
+    let mut readers = readers_of(alloc, images.as_slice())?;
+    Ok(run(session, steps, readers.as_mut_slice()))
+}
+
+/// Whether these steps over two reels leave so much of each.
+fn leaves(
+    alloc: Global,
+    session: &mut Session<MemorySink>,
+    steps: &[Step],
+    reels: &[Reel<'_>],
+    left: [usize; 2],
+) -> Result<bool, AllocError> {
+    let images = images_of(alloc, reels)?;
+    let mut readers = readers_of(alloc, images.as_slice())?;
+    let done = run(session, steps, readers.as_mut_slice()).is_ok();
+    Ok(match readers.as_slice() {
+        [first, second] => done && [first.len(), second.len()] == left,
+        _ => false,
+    })
+}
+
+/// The images of these reels.
+fn images_of(alloc: Global, reels: &[Reel<'_>]) -> Result<Vec<Image>, AllocError> {
+    let mut images = Vec::new(alloc);
+    for reel in reels {
+        images.push(image_of(alloc, *reel)?)?;
+    }
+    Ok(images)
+}
+
+/// A reader of each image.
+fn readers_of<'a>(alloc: Global, images: &'a [Image]) -> Result<Vec<&'a [u8]>, AllocError> {
+    let mut readers = Vec::new(alloc);
+    for image in images {
+        readers.push(image.bytes.as_slice())?;
+    }
+    Ok(readers)
+}
+
+/// The image of a reel.
+pub fn image_of(alloc: Global, reel: Reel<'_>) -> Result<Image, AllocError> {
+    match reel {
+        Reel::Worked => cut(alloc, 2484),
+        Reel::Cut(length) => cut(alloc, length),
+        Reel::Five(bad, trailer) => five_blocks(alloc, bad, trailer),
+        Reel::FiveCut(length) => Ok(five_blocks(alloc, 5, EOF_FIVE)?.cut(length)),
+        Reel::Blocks(count, trailer) => of_blocks(alloc, count, trailer),
+        Reel::Section(header, trailer) => one_section(alloc, header, trailer),
+        Reel::FirstOfTwo => first_of_two(alloc),
+        Reel::SecondOfTwo => second_of_two(alloc),
+        Reel::LongFirst => long_first(alloc),
+        Reel::LongSecond => long_second(alloc),
+        Reel::Blank => blank(alloc),
+        Reel::Empty => Ok(Image::new(alloc)),
+        Reel::Foreign => foreign(alloc),
+        Reel::WithoutMark => without_a_mark(alloc),
+        Reel::Defaced(label) => defaced(alloc, label),
+        Reel::Reserved => with_reserved_word(alloc),
+    }
+}
