@@ -2,7 +2,6 @@
 
 use crate::fixtures::disk_of;
 use std::alloc::{AllocError, Global};
-use std::process::Abort;
 use std::test::*;
 use tape_stage::{Disk, DiskFault, MemoryDisk};
 
@@ -54,19 +53,21 @@ fn becomes(disk: &mut MemoryDisk, step: Step, seen: &[u8]) -> bool {
     takes(disk, step) && disk.bytes() == seen && disk.len() == Ok(seen.len() as u64)
 }
 
+/// Calls in a row, and the bytes behind each.
+const CALLS: &[(Step, &[u8])] = &[
+    (Step::Write(0, b"abcdef"), b"abcdef"),
+    (Step::Write(4, b"XYZ"), b"abcdXYZ"),
+    (Step::Cut(2), b"ab"),
+    (Step::Write(2, b""), b"ab"),
+    (Step::Sync, b"ab"),
+];
+
 #[test]
 fn calls_change_the_bytes(rt: HostRuntime) {
     let mut disk = MemoryDisk::new(rt.alloc());
     assert!(rt; disk.len() == Ok(0));
-    let rows: [(Step, &[u8]); 5] = [
-        (Step::Write(0, b"abcdef"), b"abcdef"),
-        (Step::Write(4, b"XYZ"), b"abcdXYZ"),
-        (Step::Cut(2), b"ab"),
-        (Step::Write(2, b""), b"ab"),
-        (Step::Sync, b"ab"),
-    ];
-    for (step, seen) in rows {
-        assert!(rt; becomes(&mut disk, step, seen), "{seen:?}");
+    for (step, seen) in CALLS {
+        assert!(rt; becomes(&mut disk, *step, seen), "{seen:?}");
     }
 }
 
@@ -78,71 +79,70 @@ fn a_read_fills_its_buffer(rt: HostRuntime) -> Result<(), AllocError> {
     Ok(())
 }
 
-/// What is read of a disk that held `abcdef` behind these calls, and what a crash leaves of it.
-fn behind(alloc: Global, steps: &[Step]) -> Result<Option<(Vec<u8>, MemoryDisk)>, AllocError> {
+/// Whether a disk that held `abcdef` has these bytes behind these calls, and a crash leaves those.
+fn leaves(alloc: Global, steps: &[Step], seen: &[u8], left: &[u8]) -> Result<bool, AllocError> {
     let mut disk = disk_of(alloc, b"abcdef")?;
-    if !takes_all(&mut disk, steps) {
-        return Ok(None);
-    }
-    Ok(Some((disk.bytes().to_vec(alloc)?, disk.crash())))
+    let stands = takes_all(&mut disk, steps) && disk.bytes() == seen;
+    Ok(stands && disk.crash().bytes() == left)
 }
+
+/// Calls, what is there behind them, and what a crash leaves of it.
+const CRASHES: &[(&[Step], &[u8], &[u8])] = &[
+    (&[], b"abcdef", b"abcdef"),
+    (
+        &[Step::Write(1, b"XY"), Step::Write(6, b"gh")],
+        b"aXYdefgh",
+        b"a\xff\xffdef\xff\xff",
+    ),
+    (
+        &[Step::Write(1, b"XY"), Step::Sync, Step::Write(5, b"Z")],
+        b"aXYdeZ",
+        b"aXYde\xff",
+    ),
+    (
+        &[Step::Cut(2), Step::Write(2, b"X")],
+        b"abX",
+        b"ab\xff\xff\xff\xff",
+    ),
+    (&[Step::Cut(2), Step::Sync], b"ab", b"ab"),
+];
 
 #[test]
 fn a_crash_leaves_writes_and_cuts_open_until_a_sync(rt: HostRuntime) -> Result<(), AllocError> {
-    let rows: [(&[Step], &[u8], &[u8]); 5] = [
-        (&[], b"abcdef", b"abcdef"),
-        (
-            &[Step::Write(1, b"XY"), Step::Write(6, b"gh")],
-            b"aXYdefgh",
-            b"a\xff\xffdef\xff\xff",
-        ),
-        (
-            &[Step::Write(1, b"XY"), Step::Sync, Step::Write(5, b"Z")],
-            b"aXYdeZ",
-            b"aXYde\xff",
-        ),
-        (
-            &[Step::Cut(2), Step::Write(2, b"X")],
-            b"abX",
-            b"ab\xff\xff\xff\xff",
-        ),
-        (&[Step::Cut(2), Step::Sync], b"ab", b"ab"),
-    ];
-    for (steps, seen, left) in rows {
-        let Some((read, crashed)) = behind(rt.alloc(), steps)? else {
-            assert!(rt; false, "a call before {seen:?}");
-            return Ok(());
-        };
-        assert!(rt;
-            read.as_slice() == seen && crashed.bytes() == left,
-            "{seen:?}"
-        );
+    for (steps, seen, left) in CRASHES {
+        assert!(rt; leaves(rt.alloc(), steps, seen, left)?, "{seen:?}");
     }
     Ok(())
 }
 
-/// Each call of the disk fails, and leaves its bytes and the buffer of a read.
-fn stands_still(rt: &impl Abort, disk: &mut MemoryDisk) {
+/// Whether each call of the disk fails, and leaves its bytes and the buffer of a read.
+fn stands_still(disk: &mut MemoryDisk) -> bool {
     let mut two = *b"..";
-    assert!(rt; disk.sync() == Err(DiskFault::Device));
-    assert!(rt; disk.len() == Err(DiskFault::Device));
-    assert!(rt; !write(disk, 0, b"YY") && !cut(disk, 0) && !read(disk, 0, &mut two));
-    assert!(rt; &two == b"..");
-    assert!(rt; disk.bytes() == b"Xbcdef".as_slice());
+    let fails = disk.sync() == Err(DiskFault::Device)
+        && disk.len() == Err(DiskFault::Device)
+        && !write(disk, 0, b"YY")
+        && !cut(disk, 0)
+        && !read(disk, 0, &mut two);
+    fails && &two == b".." && disk.bytes() == b"Xbcdef".as_slice()
+}
+
+/// Whether a disk that is to stop behind two calls, one of them a write, stops there.
+fn stops(disk: &mut MemoryDisk) -> bool {
+    disk.stop_after(2);
+    disk.len() == Ok(6) && write(disk, 0, b"X") && stands_still(disk)
+}
+
+/// Whether what a crash left is another disk, which is not stopped, and can be.
+fn goes_on(mut disk: MemoryDisk) -> bool {
+    let stands = disk.bytes() == b"\xffbcdef".as_slice() && disk.len() == Ok(6);
+    disk.stop_after(0);
+    stands && disk.len() == Err(DiskFault::Device)
 }
 
 #[test]
 fn a_stopped_disk_fails_and_keeps_its_bytes(rt: HostRuntime) -> Result<(), AllocError> {
     let mut disk = disk_of(rt.alloc(), b"abcdef")?;
-    disk.stop_after(2);
-    assert!(rt; disk.len() == Ok(6));
-    assert!(rt; write(&mut disk, 0, b"X"));
-    stands_still(&rt, &mut disk);
-    // What a crash left is another disk, which is not stopped.
-    let mut disk = disk.crash();
-    assert!(rt; disk.bytes() == b"\xffbcdef".as_slice());
-    assert!(rt; disk.len() == Ok(6));
-    disk.stop_after(0);
-    assert!(rt; disk.len() == Err(DiskFault::Device));
+    assert!(rt; stops(&mut disk));
+    assert!(rt; goes_on(disk.crash()));
     Ok(())
 }

@@ -14,10 +14,9 @@ type Row<'r> = (&'r [u8; 80], usize, &'r str, Option<PointFault>);
 
 const RANGE: Option<PointFault> = Some(PointFault::Range);
 
-/// The fault of the field at a position.
-fn field(position: u8) -> Option<PointFault> {
-    Some(PointFault::Field(position))
-}
+const MARK: Option<PointFault> = Some(PointFault::Mark);
+
+const VERSION: Option<PointFault> = Some(PointFault::Version);
 
 /// The text with other characters from a position on, which is counted from 1.
 fn with(text: &[u8; 80], position: usize, characters: &str) -> [u8; 80] {
@@ -30,41 +29,32 @@ fn with(text: &[u8; 80], position: usize, characters: &str) -> [u8; 80] {
 }
 
 /// Each row has its fault, or none.
-fn answers(rt: &impl Abort, rows: &[Row<'_>]) {
+fn answers(rt: &impl Abort, name: &str, rows: &[Row<'_>]) {
     for (text, position, characters, fault) in rows {
         let read = read_point(&with(text, *position, characters));
-        assert!(rt; read.err() == *fault, "{characters} at {position}");
+        assert!(rt; read.err() == *fault, "{name}: {characters} at {position}");
     }
 }
 
-/// Such a text goes on at this place.
-fn goes_on(rt: &impl Abort, text: &[u8; 80], position: usize, characters: &str, at: Position) {
-    let read = read_point(&with(text, position, characters));
-    assert!(rt;
-        matches!(read, Ok(point) if point.position() == at),
-        "{characters} at {position}"
-    );
+/// Whether the checkpoint has this text in version 2, and is read of it.
+fn is_text(point: &Checkpoint, text: &[u8; 80]) -> bool {
+    write_point(point) == *text && read_point(text) == Ok(*point)
 }
 
-/// The checkpoint has this text in version 2, and is read of it.
-fn is_text(rt: &impl Abort, point: &Checkpoint, text: &[u8; 80]) {
-    assert_eq!(rt; &write_point(point), text);
-    assert_eq!(rt; read_point(text), Ok(*point));
+/// The whole file, in version 1.
+const WHOLE_1: &[u8; 80] =
+    b"TPCK1ABC00100010000000000D01F0008000PAYROLL          000000000002125            ";
+
+/// Whether the checkpoint is read of both texts.
+fn is_read(point: &Checkpoint, one: &[u8; 80], two: &[u8; 80]) -> bool {
+    read_point(one) == Ok(*point) && is_text(point, two)
 }
 
 #[test]
 fn both_versions_of_one_checkpoint(rt: HostRuntime) {
-    is_text(&rt, &payroll(), PAYROLL_2);
-    is_text(&rt, &start(), START_2);
-    assert_eq!(rt; read_point(PAYROLL_1), Ok(payroll()));
-    assert_eq!(rt; read_point(START_1), Ok(start()));
-}
-
-#[test]
-fn a_whole_file(rt: HostRuntime) {
-    let one = b"TPCK1ABC00100010000000000D01F0008000PAYROLL          000000000002125            ";
-    is_text(&rt, &whole(), WHOLE_2);
-    assert_eq!(rt; read_point(one), Ok(whole()));
+    assert!(rt; is_read(&payroll(), PAYROLL_1, PAYROLL_2));
+    assert!(rt; is_read(&start(), START_1, START_2));
+    assert!(rt; is_read(&whole(), WHOLE_1, WHOLE_2));
 }
 
 #[test]
@@ -83,7 +73,7 @@ fn inside_a_block(rt: HostRuntime) {
             file_id: Field::of_bytes(*b"PAYROLL          "),
         }),
     };
-    is_text(&rt, &point, text);
+    assert!(rt; is_text(&point, text));
 }
 
 #[test]
@@ -104,7 +94,7 @@ fn greatest_numbers_and_any_identifiers(rt: HostRuntime) {
             file_id: Field::of_bytes([0xff; 17]),
         }),
     };
-    is_text(&rt, &point, text);
+    assert!(rt; is_text(&point, text));
 }
 
 /// The text does not have 80 characters.
@@ -122,88 +112,70 @@ fn any_other_length(rt: HostRuntime) {
     has_another_length(&rt, &longer);
 }
 
-#[test]
-fn length_then_mark_then_version(rt: HostRuntime) {
-    let mark = Some(PointFault::Mark);
-    let version = Some(PointFault::Version);
-    answers(
-        &rt,
+/// Rows by what they show.
+const ROWS: &[(&str, &[Row<'_>])] = &[
+    (
+        "length, then mark, then version",
         &[
-            (PAYROLL_1, 1, "tpck", mark),
-            (PAYROLL_1, 4, "X3", mark),
-            (PAYROLL_1, 5, "0", version),
-            (PAYROLL_1, 5, "3", version),
-            (PAYROLL_2, 5, " ABC001+", version),
+            (PAYROLL_1, 1, "tpck", MARK),
+            (PAYROLL_1, 4, "X3", MARK),
+            (PAYROLL_1, 5, "0", VERSION),
+            (PAYROLL_1, 5, "3", VERSION),
+            (PAYROLL_2, 5, " ABC001+", VERSION),
             // The same characters behind the other version's digit are another text.
-            (PAYROLL_1, 5, "2", field(20)),
-            (PAYROLL_2, 5, "1", field(26)),
+            (PAYROLL_1, 5, "2", Some(PointFault::Field(20))),
+            (PAYROLL_2, 5, "1", Some(PointFault::Field(26))),
         ],
-    );
-}
-
-#[test]
-fn each_field_of_version_1_wrong(rt: HostRuntime) {
-    answers(
-        &rt,
+    ),
+    (
+        "each field of version 1 wrong",
         &[
-            (PAYROLL_1, 12, " ", field(12)),
-            (PAYROLL_1, 19, "x", field(16)),
-            (PAYROLL_1, 20, "+00003", field(20)),
-            (PAYROLL_1, 25, ":", field(20)),
-            (PAYROLL_1, 26, "r", field(26)),
-            (PAYROLL_1, 27, "2", field(27)),
-            (PAYROLL_1, 28, " ", field(28)),
-            (PAYROLL_1, 29, "V", field(29)),
-            (PAYROLL_1, 34, ".", field(30)),
-            (PAYROLL_1, 35, "  ", field(35)),
-            (PAYROLL_1, 54, " ", field(54)),
-            (PAYROLL_1, 68, "/", field(54)),
-            (PAYROLL_1, 69, "0", field(69)),
-            (PAYROLL_1, 80, "\n", field(69)),
+            (PAYROLL_1, 12, " ", Some(PointFault::Field(12))),
+            (PAYROLL_1, 19, "x", Some(PointFault::Field(16))),
+            (PAYROLL_1, 20, "+00003", Some(PointFault::Field(20))),
+            (PAYROLL_1, 25, ":", Some(PointFault::Field(20))),
+            (PAYROLL_1, 26, "r", Some(PointFault::Field(26))),
+            (PAYROLL_1, 27, "2", Some(PointFault::Field(27))),
+            (PAYROLL_1, 28, " ", Some(PointFault::Field(28))),
+            (PAYROLL_1, 29, "V", Some(PointFault::Field(29))),
+            (PAYROLL_1, 34, ".", Some(PointFault::Field(30))),
+            (PAYROLL_1, 35, "  ", Some(PointFault::Field(35))),
+            (PAYROLL_1, 54, " ", Some(PointFault::Field(54))),
+            (PAYROLL_1, 68, "/", Some(PointFault::Field(54))),
+            (PAYROLL_1, 69, "0", Some(PointFault::Field(69))),
+            (PAYROLL_1, 80, "\n", Some(PointFault::Field(69))),
         ],
-    );
-}
-
-#[test]
-fn each_field_of_version_2_wrong(rt: HostRuntime) {
-    answers(
-        &rt,
+    ),
+    (
+        "each field of version 2 wrong",
         &[
-            (PAYROLL_2, 15, "-", field(12)),
-            (PAYROLL_2, 16, " ", field(16)),
-            (PAYROLL_2, 20, "+000000003", field(20)),
-            (PAYROLL_2, 29, " ", field(20)),
-            (PAYROLL_2, 30, " ", field(30)),
-            (PAYROLL_2, 34, "x", field(30)),
-            (PAYROLL_2, 35, "0", field(35)),
-            (PAYROLL_2, 36, " ", field(36)),
-            (PAYROLL_2, 37, "/", field(37)),
-            (PAYROLL_2, 38, "f", field(38)),
-            (PAYROLL_2, 39, " ", field(39)),
-            (PAYROLL_2, 45, ":", field(44)),
-            (PAYROLL_2, 63, "+", field(63)),
-            (PAYROLL_2, 78, "x", field(78)),
-            (PAYROLL_2, 80, "0", field(78)),
+            (PAYROLL_2, 15, "-", Some(PointFault::Field(12))),
+            (PAYROLL_2, 16, " ", Some(PointFault::Field(16))),
+            (PAYROLL_2, 20, "+000000003", Some(PointFault::Field(20))),
+            (PAYROLL_2, 29, " ", Some(PointFault::Field(20))),
+            (PAYROLL_2, 30, " ", Some(PointFault::Field(30))),
+            (PAYROLL_2, 34, "x", Some(PointFault::Field(30))),
+            (PAYROLL_2, 35, "0", Some(PointFault::Field(35))),
+            (PAYROLL_2, 36, " ", Some(PointFault::Field(36))),
+            (PAYROLL_2, 37, "/", Some(PointFault::Field(37))),
+            (PAYROLL_2, 38, "f", Some(PointFault::Field(38))),
+            (PAYROLL_2, 39, " ", Some(PointFault::Field(39))),
+            (PAYROLL_2, 45, ":", Some(PointFault::Field(44))),
+            (PAYROLL_2, 63, "+", Some(PointFault::Field(63))),
+            (PAYROLL_2, 78, "x", Some(PointFault::Field(78))),
+            (PAYROLL_2, 80, "0", Some(PointFault::Field(78))),
         ],
-    );
-}
-
-#[test]
-fn the_first_wrong_field_and_fields_before_the_range(rt: HostRuntime) {
-    answers(
-        &rt,
+    ),
+    (
+        "the first wrong field, and fields before the range",
         &[
-            (PAYROLL_1, 19, "x+", field(16)),
-            (PAYROLL_2, 34, "xx", field(30)),
-            (PAYROLL_1, 12, "00000001+", field(20)),
+            (PAYROLL_1, 19, "x+", Some(PointFault::Field(16))),
+            (PAYROLL_2, 34, "xx", Some(PointFault::Field(30))),
+            (PAYROLL_1, 12, "00000001+", Some(PointFault::Field(20))),
         ],
-    );
-}
-
-#[test]
-fn numbers_out_of_range(rt: HostRuntime) {
-    answers(
-        &rt,
+    ),
+    (
+        "numbers out of range",
         &[
             (PAYROLL_1, 12, "0000", RANGE),
             (PAYROLL_2, 12, "0000", RANGE),
@@ -211,41 +183,20 @@ fn numbers_out_of_range(rt: HostRuntime) {
             (PAYROLL_2, 20, "4294967296", RANGE),
             (PAYROLL_2, 20, "9999999999", RANGE),
         ],
-    );
-    goes_on(
-        &rt,
-        PAYROLL_2,
-        20,
-        "4294967295",
-        awaits(1, 4_294_967_295, 0),
-    );
-    // Six digits are all of version 1.
-    goes_on(&rt, PAYROLL_1, 20, "999999", awaits(1, 999_999, 0));
-}
-
-#[test]
-fn a_whole_file_awaits_nothing(rt: HostRuntime) {
-    let whole = &with(PAYROLL_2, 16, "0000000000000000000D");
-    // No record is begun behind it, not even in format S, and its file is known.
-    let spanned = &with(whole, 38, "S00000");
-    goes_on(&rt, whole, 1, "", Position::Finished);
-    goes_on(&rt, spanned, 1, "", Position::Finished);
-    answers(
-        &rt,
+    ),
+    (
+        "a whole file awaits nothing",
         &[
-            (whole, 19, "1", RANGE),
-            (whole, 29, "1", RANGE),
-            (whole, 34, "1", RANGE),
-            (spanned, 36, "1", RANGE),
+            (WHOLE_2, 19, "1", RANGE),
+            (WHOLE_2, 29, "1", RANGE),
+            (WHOLE_2, 34, "1", RANGE),
+            // No record is begun behind it, not even in format S, and its file is known.
+            (WHOLE_2, 36, "11S00000", RANGE),
             (START_2, 16, "0000000000000000000D", RANGE),
         ],
-    );
-}
-
-#[test]
-fn known_exactly_where_the_file_is_not_at_its_start(rt: HostRuntime) {
-    answers(
-        &rt,
+    ),
+    (
+        "known exactly where the file is not at its start",
         &[
             (PAYROLL_1, 20, "000000", RANGE),
             (PAYROLL_2, 20, "0000000000", RANGE),
@@ -254,14 +205,9 @@ fn known_exactly_where_the_file_is_not_at_its_start(rt: HostRuntime) {
             // One part of the first block is not the start.
             (START_2, 34, "1", RANGE),
         ],
-    );
-    goes_on(&rt, PAYROLL_2, 20, "000000000000001", awaits(1, 0, 1));
-}
-
-#[test]
-fn what_is_said_of_a_file(rt: HostRuntime) {
-    answers(
-        &rt,
+    ),
+    (
+        "what is said of a file",
         &[
             // Nothing is said where nothing is known,
             (START_1, 29, "F", RANGE),
@@ -279,32 +225,74 @@ fn what_is_said_of_a_file(rt: HostRuntime) {
             (PAYROLL_1, 29, "S00000", None),
             (PAYROLL_1, 29, "F99999", None),
         ],
-    );
-}
-
-#[test]
-fn records_are_begun_in_format_s_alone(rt: HostRuntime) {
-    answers(
-        &rt,
+    ),
+    (
+        "records are begun in format S alone",
         &[
             (PAYROLL_1, 27, "1", RANGE),
             (PAYROLL_1, 27, "11D00000", RANGE),
             (PAYROLL_1, 27, "11S00000", None),
             (START_2, 36, "1", RANGE),
         ],
-    );
+    ),
+];
+
+#[test]
+fn what_is_read_of_a_text(rt: HostRuntime) {
+    for (name, rows) in ROWS {
+        answers(&rt, name, rows);
+    }
+}
+
+/// A text, a position in it, the characters that stand from there on in their place, and where such
+/// a checkpoint goes on: section, block and part; or nowhere.
+const GOES_ON: &[(&[u8; 80], usize, &str, Option<(u16, u32, u32)>)] = &[
+    (PAYROLL_2, 20, "4294967295", Some((1, 4_294_967_295, 0))),
+    // Six digits are all of version 1.
+    (PAYROLL_1, 20, "999999", Some((1, 999_999, 0))),
+    (PAYROLL_2, 20, "000000000000001", Some((1, 0, 1))),
+    (WHOLE_2, 1, "", None),
+    (WHOLE_2, 38, "S00000", None),
+];
+
+/// Whether such a text goes on there.
+fn goes_on(
+    text: &[u8; 80],
+    position: usize,
+    characters: &str,
+    at: Option<(u16, u32, u32)>,
+) -> bool {
+    let wanted = match at {
+        Some((sect, block, part)) => awaits(sect, block, part),
+        None => Position::Finished,
+    };
+    match read_point(&with(text, position, characters)) {
+        Ok(point) => point.position() == wanted,
+        Err(_) => false,
+    }
 }
 
 #[test]
+fn where_a_text_goes_on(rt: HostRuntime) {
+    for (text, position, characters, at) in GOES_ON {
+        assert!(rt;
+            goes_on(text, *position, characters, *at),
+            "{characters} at {position}"
+        );
+    }
+}
+
+const NUMBERS: &[(PointFault, u8)] = &[
+    (PointFault::Length, 1),
+    (PointFault::Mark, 2),
+    (PointFault::Version, 3),
+    (PointFault::Field(78), 4),
+    (PointFault::Range, 5),
+];
+
+#[test]
 fn faults_have_numbers(rt: HostRuntime) {
-    let faults = [
-        (PointFault::Length, 1),
-        (PointFault::Mark, 2),
-        (PointFault::Version, 3),
-        (PointFault::Field(78), 4),
-        (PointFault::Range, 5),
-    ];
-    for (fault, number) in faults {
-        assert!(rt; fault.number() == number, "{number}");
+    for (fault, number) in NUMBERS {
+        assert!(rt; fault.number() == *number, "{number}");
     }
 }

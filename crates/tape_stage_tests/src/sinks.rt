@@ -2,7 +2,6 @@
 
 use crate::fixtures::*;
 use std::alloc::Global;
-use std::process::Abort;
 use std::test::*;
 use tape_blocks::{Part, Span};
 use tape_core::{Checkpoint, PartSink, PartWalk};
@@ -26,11 +25,25 @@ fn with_three(alloc: Global, two: &Checkpoint) -> Option<Stage<MemoryDisk>> {
     if done { Some(stage) } else { None }
 }
 
-/// No part is staged, and the slots have the generations 3 and 2.
-fn has_generations(rt: &impl Abort, bytes: &[u8]) {
-    assert!(rt; bytes.len() == 256);
-    assert!(rt; bytes.starts_with(b"O000000000000003"));
-    assert!(rt; bytes.get(128..144) == Some(b"O000000000000002".as_slice()));
+/// Whether no part is staged, and the slots have the generations 3 and 2.
+fn has_generations(bytes: &[u8]) -> bool {
+    bytes.len() == 256
+        && bytes.starts_with(b"O000000000000003")
+        && bytes.get(128..144) == Some(b"O000000000000002".as_slice())
+}
+
+/// Whether the sink is cut to the first two of its three records at once.
+fn is_cut(stage: &mut Stage<MemoryDisk>, two: &Checkpoint) -> bool {
+    stage.weight() == 255
+        && cut_to(stage, two)
+        && holds(stage, b"ab")
+        && stage.acknowledged() == *two
+}
+
+/// Whether it is cut below what was saved: the earlier checkpoint is saved as a new generation
+/// first.
+fn is_cut_to_its_start(stage: &mut Stage<MemoryDisk>) -> bool {
+    cut_to(stage, &start()) && holds(stage, b"") && stage.acknowledged() == start()
 }
 
 #[test]
@@ -43,13 +56,9 @@ fn a_sink_cuts_at_once_down_to_what_was_saved(rt: HostRuntime) {
         assert!(rt; false);
         return;
     };
-    assert!(rt; stage.weight() == 255);
-    assert!(rt; cut_to(&mut stage, &two) && holds(&mut stage, b"ab"));
-    assert!(rt; stage.acknowledged() == two);
-    // Below it, the earlier checkpoint is saved as a new generation first.
-    assert!(rt; cut_to(&mut stage, &start()) && holds(&mut stage, b""));
-    assert!(rt; stage.acknowledged() == start());
-    has_generations(&rt, stage.into_disk().bytes());
+    assert!(rt; is_cut(&mut stage, &two));
+    assert!(rt; is_cut_to_its_start(&mut stage));
+    assert!(rt; has_generations(stage.into_disk().bytes()));
 }
 
 /// Whether a walk from the first part gives the part `AB` and then, twice, none.

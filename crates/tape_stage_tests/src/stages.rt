@@ -2,6 +2,7 @@
 
 use crate::fixtures::*;
 use std::alloc::{AllocError, Global};
+use std::process::Abort;
 use std::test::*;
 use tape_blocks::{Part, Span};
 use tape_core::{Checkpoint, PartSink};
@@ -22,30 +23,45 @@ fn saved(alloc: Global, records: u32, point: &Checkpoint) -> Option<Stage<Memory
     }
 }
 
-#[test]
-fn a_stage_byte_by_byte(rt: HostRuntime) {
-    let Some(stage) = saved(rt.alloc(), 25, &whole()) else {
-        assert!(rt; false);
-        return;
-    };
-    let disk = stage.into_disk();
-    let bytes = disk.bytes();
+/// What stands in front of a stage of the whole file.
+const SLOTS: &[(usize, &[u8])] = &[
+    (0, b"O000000000000001"),
+    (16, START_2),
+    (96, &[b' '; 32]),
+    (128, b"O000000000000002"),
+    (144, WHOLE_2),
+    (224, &[b' '; 32]),
+];
+
+/// The front and the length of a part of 80 bytes.
+const FRAME: &[u8] = b"0\x00\x00\x00\x50";
+
+/// These are the bytes of a stage of 25 records.
+fn are_whole(rt: &impl Abort, bytes: &[u8]) {
     assert!(rt; bytes.len() == 2381);
-    let slots: [(usize, &[u8]); 6] = [
-        (0, b"O000000000000001"),
-        (16, START_2),
-        (96, &[b' '; 32]),
-        (128, b"O000000000000002"),
-        (144, WHOLE_2),
-        (224, &[b' '; 32]),
-    ];
-    stand(&rt, bytes, &slots);
+    stand(rt, bytes, SLOTS);
     for n in 0..25usize {
         let place = 256 + 85 * n;
-        let frame: [(usize, &[u8]); 2] = [(place, b"0\x00\x00\x00\x50"), (place + 5, &[b'r'; 80])];
-        stand(&rt, bytes, &frame);
+        stand(rt, bytes, &[(place, FRAME), (place + 5, &[b'r'; 80])]);
     }
 }
+
+#[test]
+fn a_stage_byte_by_byte(rt: HostRuntime) {
+    match saved(rt.alloc(), 25, &whole()) {
+        Some(stage) => are_whole(&rt, stage.into_disk().bytes()),
+        None => assert!(rt; false),
+    }
+}
+
+/// What stands in a new stage.
+const NEW_SLOTS: &[(usize, &[u8])] = &[
+    (0, b"O000000000000001"),
+    (16, START_2),
+    (96, &[b' '; 32]),
+    (128, b"C000000000000000"),
+    (144, &[b' '; 112]),
+];
 
 #[test]
 fn a_new_stage_byte_by_byte(rt: HostRuntime) {
@@ -54,15 +70,32 @@ fn a_new_stage_byte_by_byte(rt: HostRuntime) {
         return;
     };
     let disk = stage.into_disk();
-    let slots: [(usize, &[u8]); 5] = [
-        (0, b"O000000000000001"),
-        (16, START_2),
-        (96, &[b' '; 32]),
-        (128, b"C000000000000000"),
-        (144, &[b' '; 112]),
-    ];
-    stand(&rt, disk.bytes(), &slots);
     assert!(rt; disk.bytes().len() == 256);
+    stand(&rt, disk.bytes(), NEW_SLOTS);
+}
+
+/// Parts, and their frames.
+const PARTS: &[(Span, &[u8])] = &[
+    (Span::First, b"AB"),
+    (Span::Middle, b"C"),
+    (Span::Last, b""),
+    (Span::Whole, b""),
+];
+
+const FRAMES: &[u8] = b"1\x00\x00\x00\x02AB2\x00\x00\x00\x01C3\x00\x00\x00\x000\x00\x00\x00\x00";
+
+/// Whether the stage takes the parts.
+fn takes_parts(stage: &mut Stage<MemoryDisk>) -> bool {
+    for (span, bytes) in PARTS {
+        let part = Part {
+            span: *span,
+            bytes: *bytes,
+        };
+        if bytes.len() > 2 || stage.put(part).is_err() {
+            return false;
+        }
+    }
+    stage.weight() == 23
 }
 
 #[test]
@@ -71,19 +104,8 @@ fn spans_and_lengths_in_frames(rt: HostRuntime) {
         assert!(rt; false);
         return;
     };
-    let parts = [
-        (Span::First, b"AB".as_slice()),
-        (Span::Middle, b"C".as_slice()),
-        (Span::Last, b"".as_slice()),
-        (Span::Whole, b"".as_slice()),
-    ];
-    for (span, bytes) in parts {
-        assert!(rt; bytes.len() <= 2 && stage.put(Part { span, bytes }).is_ok());
-    }
-    assert!(rt; stage.weight() == 23);
-    let disk = stage.into_disk();
-    let frames = b"1\x00\x00\x00\x02AB2\x00\x00\x00\x01C3\x00\x00\x00\x000\x00\x00\x00\x00";
-    assert!(rt; disk.bytes().get(256..) == Some(frames.as_slice()));
+    assert!(rt; takes_parts(&mut stage));
+    assert!(rt; stage.into_disk().bytes().get(256..) == Some(FRAMES));
 }
 
 /// The fault at which bytes open as no stage.
@@ -117,10 +139,11 @@ fn first_slot(
 const SEVEN_2: &[u8; 80] =
     b"TPCK2ABC00100010001000000000000001R01D0000000PAYROLL          000000000000007   ";
 
+const NO_STAGES: &[&[u8]] = &[b"", &[b'O'; 255], &[b'O'; 256]];
+
 #[test]
 fn bytes_that_are_no_stage(rt: HostRuntime) -> Result<(), AllocError> {
-    let rows: [&[u8]; 3] = [b"", &[b'O'; 255], &[b'O'; 256]];
-    for bytes in rows {
+    for bytes in NO_STAGES {
         let size = bytes.len();
         assert!(rt;
             fault_of(rt.alloc(), bytes)? == Some(StageFault::NoPoint),
@@ -140,31 +163,49 @@ fn fault_of_seven(
     fault_of(alloc, &bytes)
 }
 
-#[test]
-fn gates_of_a_stage(rt: HostRuntime) -> Result<(), AllocError> {
-    let frames = b"0\x00\x00\x00\x02AB";
-    assert!(rt; fault_of_seven(rt.alloc(), b'O', frames)?.is_none());
-    assert!(rt; fault_of_seven(rt.alloc(), b'o', frames)? == Some(StageFault::NoPoint));
-    Ok(())
-}
+/// A name, the gate and the frames of such a stage, and the fault at which it opens, or none.
+const SEVENS: &[(&str, u8, &[u8], Option<StageFault>)] = &[
+    ("an open gate", b'O', b"0\x00\x00\x00\x02AB", None),
+    (
+        "no gate",
+        b'o',
+        b"0\x00\x00\x00\x02AB",
+        Some(StageFault::NoPoint),
+    ),
+    (
+        "no digit of a span",
+        b'O',
+        b"4\x00\x00\x00\x02AB",
+        BAD_FIRST,
+    ),
+    ("too long a part", b'O', b"0\x00\x01\x86\xa0AB", BAD_FIRST),
+    ("past the weight", b'O', b"0\x00\x00\x00\x03ABC", BAD_FIRST),
+    ("least byte first", b'O', b"0\x02\x00\x00\x00AB", BAD_FIRST),
+    (
+        "a byte behind",
+        b'O',
+        b"0\x00\x00\x00\x01A",
+        Some(StageFault::BadFrame(262)),
+    ),
+    ("an end too early", b'O', b"0\x00\x00\x00\x02A", BAD_FIRST),
+    ("no frame", b'O', b"", BAD_FIRST),
+];
+
+const BAD_FIRST: Option<StageFault> = Some(StageFault::BadFrame(256));
 
 #[test]
-fn frames_of_other_than_seven_bytes(rt: HostRuntime) -> Result<(), AllocError> {
-    let rows: [(&str, &[u8], u64); 7] = [
-        ("no digit of a span", b"4\x00\x00\x00\x02AB", 256),
-        ("too long a part", b"0\x00\x01\x86\xa0AB", 256),
-        ("past the weight", b"0\x00\x00\x00\x03ABC", 256),
-        ("least byte first", b"0\x02\x00\x00\x00AB", 256),
-        ("a byte behind", b"0\x00\x00\x00\x01A", 262),
-        ("an end too early", b"0\x00\x00\x00\x02A", 256),
-        ("no frame", b"", 256),
-    ];
-    for (name, frames, place) in rows {
-        let fault = fault_of_seven(rt.alloc(), b'O', frames)?;
-        assert!(rt; fault == Some(StageFault::BadFrame(place)), "{name}");
+fn gates_and_frames_of_a_stage(rt: HostRuntime) -> Result<(), AllocError> {
+    for (name, gate, frames, fault) in SEVENS {
+        assert!(rt;
+            fault_of_seven(rt.alloc(), *gate, frames)? == *fault,
+            "{name}"
+        );
     }
     Ok(())
 }
+
+/// What stands in such a stage that was saved.
+const SAVED_AGAIN: &[(usize, &[u8])] = &[(16, START_1), (128, b"O000000000000002"), (144, START_2)];
 
 #[test]
 fn a_stage_of_version_1_is_saved_in_version_2(rt: HostRuntime) -> Result<(), AllocError> {
@@ -177,8 +218,7 @@ fn a_stage_of_version_1_is_saved_in_version_2(rt: HostRuntime) -> Result<(), All
     assert!(rt; point == start() && save(&mut stage, &point));
     let disk = stage.into_disk();
     assert!(rt; disk.bytes().len() == 256);
-    let slots: [(usize, &[u8]); 3] = [(16, START_1), (128, b"O000000000000002"), (144, START_2)];
-    stand(&rt, disk.bytes(), &slots);
+    stand(&rt, disk.bytes(), SAVED_AGAIN);
     Ok(())
 }
 
@@ -198,34 +238,37 @@ fn opened_of_two(alloc: Global, second: &[u8; 16]) -> Result<Option<u64>, AllocE
     }
 }
 
+/// The gate and the generation of the second slot, and the weight that opens.
+const SECONDS: &[(&[u8; 16], u64)] = &[
+    (b"O000000000000001", 0),
+    (b"O000000000000002", 0),
+    (b"O000000000000003", 7),
+    // A closed gate, and a generation that is no number, don't count.
+    (b"C000000000000003", 0),
+    (b"O+00000000000003", 0),
+];
+
 #[test]
 fn the_greater_generation_or_the_first_slot(rt: HostRuntime) -> Result<(), AllocError> {
-    let rows = [
-        (b"O000000000000001", 0),
-        (b"O000000000000002", 0),
-        (b"O000000000000003", 7),
-        // A closed gate, and a generation that is no number, don't count.
-        (b"C000000000000003", 0),
-        (b"O+00000000000003", 0),
-    ];
-    for (second, weight) in rows {
+    for (second, weight) in SECONDS {
         let opened = opened_of_two(rt.alloc(), second)?;
-        assert!(rt; opened == Some(weight), "{second:?}");
+        assert!(rt; opened == Some(*weight), "{second:?}");
     }
     Ok(())
 }
 
+const NUMBERS: &[(StageFault, u8)] = &[
+    (StageFault::NoPoint, 1),
+    (StageFault::BadFrame(256), 2),
+    (StageFault::Device, 3),
+    (StageFault::OutOfMemory, 4),
+    (StageFault::Failed, 5),
+    (StageFault::Full, 6),
+];
+
 #[test]
 fn stage_faults_have_numbers(rt: HostRuntime) {
-    let faults = [
-        (StageFault::NoPoint, 1),
-        (StageFault::BadFrame(256), 2),
-        (StageFault::Device, 3),
-        (StageFault::OutOfMemory, 4),
-        (StageFault::Failed, 5),
-        (StageFault::Full, 6),
-    ];
-    for (fault, number) in faults {
-        assert!(rt; fault.number() == number, "{number}");
+    for (fault, number) in NUMBERS {
+        assert!(rt; fault.number() == *number, "{number}");
     }
 }

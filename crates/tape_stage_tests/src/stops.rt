@@ -14,22 +14,34 @@ fn stopping(alloc: Global, calls: u64) -> Option<(Stage<MemoryDisk>, Checkpoint)
     Stage::open_disk(alloc, disk).ok()
 }
 
+/// Whether a stage whose disk stops refuses one call for that, and every later one.
+fn refuses(stage: &mut Stage<MemoryDisk>) -> bool {
+    let part = Part {
+        span: Span::Whole,
+        bytes: b"AB",
+    };
+    stage.put(part) == Err(SinkFault::Device)
+        && stage.put(part) == Err(SinkFault::Failed)
+        && stage.restart(&start()) == Err(StageFault::Failed)
+        && stage.weight() == 0
+}
+
 #[test]
 fn a_failed_stage_refuses_until_it_is_opened_again(rt: HostRuntime) {
     let Some((mut stage, _)) = stopping(rt.alloc(), 7) else {
         assert!(rt; false);
         return;
     };
-    for fault in [SinkFault::Device, SinkFault::Failed] {
-        let part = Part {
-            span: Span::Whole,
-            bytes: b"AB",
-        };
-        assert!(rt; stage.put(part) == Err(fault), "{fault}");
-    }
-    assert!(rt; stage.restart(&start()) == Err(StageFault::Failed));
-    assert!(rt; stage.weight() == 0);
+    assert!(rt; refuses(&mut stage));
     assert!(rt; Stage::open_disk(rt.alloc(), stage.into_disk().crash()).is_ok());
+}
+
+/// Whether a save that its disk does not take is pending, and the stage gives no part then.
+fn is_pending(stage: &mut Stage<MemoryDisk>, point: &Checkpoint) -> bool {
+    stage.pending().is_none()
+        && !save(stage, point)
+        && stage.pending() == Some(start())
+        && stage.next_part().err() == Some(SinkFault::Failed)
 }
 
 #[test]
@@ -38,10 +50,7 @@ fn what_was_being_saved_when_the_disk_stopped(rt: HostRuntime) {
         assert!(rt; false);
         return;
     };
-    assert!(rt; stage.pending().is_none());
-    assert!(rt; !save(&mut stage, &point));
-    assert!(rt; stage.pending() == Some(start()));
-    assert!(rt; stage.next_part().err() == Some(SinkFault::Failed));
+    assert!(rt; is_pending(&mut stage, &point));
 }
 
 /// What the parts are of this weight, in the run of `day`.
@@ -177,23 +186,27 @@ fn acknowledged_after(alloc: Global, calls: u64) -> Option<u64> {
     Some(saved.acknowledged.staged)
 }
 
+/// Calls behind which the disk stops, and the weight that is acknowledged then.
+///
+/// Opening makes 6: a sync, the length, both slots, the length, a cut and its sync. A part is put
+/// by 2. The first save makes 5, 3 of them syncs; each later one 6, since it closes a gate first.
+/// Going back makes 7, with its cut.
+const WEIGHTS: &[(u64, u64)] = &[
+    (14, 0),
+    (15, 170),
+    (22, 170),
+    (23, 255),
+    (28, 255),
+    (29, 170),
+    (39, 170),
+    (40, 340),
+];
+
 #[test]
 fn how_many_calls_the_run_makes(rt: HostRuntime) {
-    // Opening makes 6: a sync, the length, both slots, the length, a cut and its sync. A part is
-    // put by 2. The first save makes 5, 3 of them syncs; each later one 6, since it closes a gate
-    // first. Going back makes 7, with its cut.
-    for (calls, weight) in [
-        (14, 0),
-        (15, 170),
-        (22, 170),
-        (23, 255),
-        (28, 255),
-        (29, 170),
-        (39, 170),
-        (40, 340),
-    ] {
+    for (calls, weight) in WEIGHTS {
         assert!(rt;
-            acknowledged_after(rt.alloc(), calls) == Some(weight),
+            acknowledged_after(rt.alloc(), *calls) == Some(*weight),
             "{calls}"
         );
     }
