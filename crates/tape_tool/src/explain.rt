@@ -5,7 +5,7 @@ use tape_image::{ImageCause, ImageFault};
 use tape_writer::Prefix;
 
 /// What the program was at when a fault came, where it knows that.
-#[derive(Clone, Copy, Debug, PartialEq, Eq)]
+#[derive(Clone, Copy, PartialEq, Eq)]
 pub enum Site<'a> {
     /// It does not know.
     Unknown,
@@ -44,7 +44,7 @@ impl fmt::Display for Site<'_> {
 }
 
 /// A fault and where it came, as lines of text.
-#[derive(Clone, Copy, Debug, PartialEq, Eq)]
+#[derive(Clone, Copy)]
 pub struct Explanation<'a> {
     pub fault: Fault,
     pub site: Site<'a>,

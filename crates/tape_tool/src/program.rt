@@ -34,7 +34,7 @@ pub fn run<R: Host>(rt: &R) -> u8 {
 }
 
 /// How a call ended.
-#[derive(Clone, Copy, Debug, PartialEq, Eq)]
+#[derive(Clone, Copy)]
 pub struct Outcome<'a> {
     pub end: End,
     /// What the program was at, where a fault is to be told in words.

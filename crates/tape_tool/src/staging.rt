@@ -17,7 +17,7 @@ use tape_run::Session;
 use tape_stage::{Disk, Stage, StageFault};
 
 /// Why there is no session over a stage.
-#[derive(Clone, Copy, Debug, PartialEq, Eq)]
+#[derive(Clone, Copy, PartialEq, Eq)]
 pub enum StagingFault {
     /// The stage could not be opened or made.
     Stage(StageFault),

@@ -33,7 +33,7 @@ pub enum Order<'a> {
 }
 
 /// What `init` makes: images of the volumes from 1 to the count, in a folder.
-#[derive(Clone, Copy, Debug, PartialEq, Eq)]
+#[derive(Clone, Copy)]
 pub struct Init<'a> {
     pub folder: &'a str,
     pub prefix: Prefix,
@@ -47,7 +47,7 @@ const MOST_IMAGES: usize = 256;
 pub type Names<'a> = ArrayVec<&'a str, MOST_IMAGES>;
 
 /// What `extract` gets back, and from what: a file of a set, from images in their order.
-#[derive(Debug, Drop, PartialEq, Eq)]
+#[derive(Drop)]
 pub struct Extract<'a> {
     pub set_id: Field<6>,
     pub file: u16,

@@ -30,7 +30,7 @@ const FRONTS: &[(usize, &[u8])] = &[
 const FRONT: usize = 148;
 
 /// How an output is to be written.
-#[derive(Clone, Copy, Debug, PartialEq, Eq)]
+#[derive(Clone, Copy)]
 pub enum Way {
     /// A new file takes its name once it is complete.
     Renamed,

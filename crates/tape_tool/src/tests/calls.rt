@@ -103,6 +103,16 @@ pub fn take_all<H: Host + Abort>(rt: &H, steps: &[Step<'_>]) -> Result<(), Fail>
     Ok(())
 }
 
+/// Takes the steps of each script, which has a name.
+pub fn follow_all<H: Host + Abort>(rt: &H, scripts: &[(&str, &[Step<'_>])]) -> Result<(), Fail> {
+    for (name, steps) in scripts {
+        for (number, step) in steps.iter().enumerate() {
+            assert!(rt; take(rt, step)?, "{name}: the step behind {number} others");
+        }
+    }
+    Ok(())
+}
+
 /// Takes a step, and tells whether it came to what it was to come to.
 fn take<H: Host>(rt: &H, step: &Step<'_>) -> Result<bool, Fail> {
     match *step {

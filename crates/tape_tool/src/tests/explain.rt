@@ -76,7 +76,8 @@ fn is_at<H: Host + Abort>(rt: &H, line: &str, site: Option<Site<'_>>) -> Result<
     let outcome = perform(rt, words.as_slice());
     assert!(rt;
         outcome.explained == site && matches!(outcome.end, End::Faulted(_)),
-        "{line}: {outcome:?}"
+        "{line}: {:?}",
+        outcome.end
     );
     Ok(())
 }

@@ -1,63 +1,23 @@
 //! Blank volumes. Each test has a prefix of its own.
-use super::calls::{Step, each_ends, holds, take_all};
-use super::image::Image;
-use super::volumes::blank;
+use super::calls::{Step, each_ends, follow_all};
 use crate::end::End;
 use crate::fault::{Fault, FileFault, ToolFault};
-use std::process::Abort;
 use std::test::Fail;
-use tape_writer::{Prefix, blank_image, blank_volume};
 
-#[test]
-fn the_bytes_of_a_blank_volume(rt: HostRuntime) -> Result<(), Fail> {
-    let Some(prefix) = Prefix::new("ABC") else {
-        return Err(Fail::from("a prefix"));
-    };
-    is_blank(&rt, &blank(rt.alloc())?, prefix);
-    Ok(())
-}
-
-/// The image is that of the first volume.
-fn is_blank<A: Abort>(rt: &A, image: &Image, prefix: Prefix) {
-    let made = blank_image(&blank_volume(prefix, 1));
-    assert_eq!(rt; made.as_slice(), image.bytes.as_slice());
-}
-
-const PREFIXES: &[&str] = &["ABC", "A09", "Z9Z"];
-
-const NO_PREFIXES: &[&str] = &["AB", "ABCD", "abc", "AB ", "A@C", "A[C", "A/C", "A:C", ""];
-
-#[test]
-fn prefixes(rt: HostRuntime) {
-    for text in PREFIXES {
-        assert!(rt; Prefix::new(text).is_some(), "{text}");
-    }
-    for text in NO_PREFIXES {
-        assert!(rt; Prefix::new(text).is_none(), "{text}");
-    }
-}
-
-#[test]
-fn two_volumes(rt: HostRuntime) -> Result<(), Fail> {
-    take_all(&rt, TWO)?;
-    let image = blank(rt.alloc())?;
-    assert!(rt; holds(&rt, "./ABC001.tap", image.bytes.as_slice())?);
-    Ok(())
-}
+/// The first volume without files: its label, two tape marks and the end of medium.
+const BLANK: &[u8] = b"\
+    P\0\0\0VOL1ABC001                                                                     4P\0\0\0\
+    \0\0\0\0\0\0\0\0\xFF\xFF\xFF\xFF";
 
 const TWO: &[Step<'_>] = &[
     Step::Ends("init . ABC 2", End::Done),
+    Step::Holds("./ABC001.tap", BLANK),
     Step::HasLength("./ABC002.tap", 100),
     Step::HasText("./ABC002.tap", 8, b"ABC002"),
     Step::Ends("list ABC002.tap", End::Done),
 ];
 
 /// Nothing that is there is changed, and what was made before stays.
-#[test]
-fn a_file_that_is_there(rt: HostRuntime) -> Result<(), Fail> {
-    take_all(&rt, OLD)
-}
-
 const OLD: &[Step<'_>] = &[
     Step::Put("OLD002.tap", b"kept"),
     Step::Fails("init . OLD 3", ToolFault::File(FileFault::Exists)),
@@ -66,6 +26,13 @@ const OLD: &[Step<'_>] = &[
     Step::IsMissing("OLD003.tap"),
     Step::Fails("init . OLD 1", ToolFault::File(FileFault::Exists)),
 ];
+
+const SCRIPTS: &[(&str, &[Step<'_>])] = &[("two volumes", TWO), ("a file that is there", OLD)];
+
+#[test]
+fn volumes_are_made(rt: HostRuntime) -> Result<(), Fail> {
+    follow_all(&rt, SCRIPTS)
+}
 
 const REFUSALS: &[(&str, End)] = &[
     ("init", End::WrongWords),

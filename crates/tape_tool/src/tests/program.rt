@@ -49,9 +49,9 @@ impl Streams {
         }
     }
 
-    /// What was printed.
-    fn told<A: Abort>(self, rt: &A, text: &str) {
-        assert_eq!(rt; self.told.into_inner().as_str(), text);
+    /// Whether just this was printed.
+    fn has_told(self, text: &str) -> bool {
+        self.told.into_inner().as_str() == text
     }
 }
 
@@ -127,10 +127,9 @@ const STATUSES: &[(End, u8, &str)] = &[
 /// The end has this status, and is told so where standard error is open.
 fn is_told<H: Abort + AllocGlobal>(rt: &H, end: End, status: u8, text: &str) {
     let open = Streams::new(rt.alloc(), true);
-    assert!(rt; finish(&open, end) == status, "{text}");
-    open.told(rt, text);
     let closed = Streams::new(rt.alloc(), false);
-    assert!(rt; finish(&closed, end) == status, "{text}");
+    let found = (finish(&open, end), finish(&closed, end));
+    assert!(rt; open.has_told(text) && found == (status, status), "{text}");
 }
 
 /// Status and standard error of each end.
@@ -144,8 +143,8 @@ fn statuses_and_fault_lines(rt: HostRuntime) {
 /// Words that could not be had for this reason end so, and this is told of it.
 fn is_without_words<H: Abort + AllocGlobal>(rt: &H, kind: ErrorKind, wanted: End, text: &str) {
     let streams = Streams::new(rt.alloc(), true);
-    assert!(rt; without_words(&streams, kind) == wanted, "{text}");
-    streams.told(rt, text);
+    let end = without_words(&streams, kind);
+    assert!(rt; streams.has_told(text) && end == wanted, "{text}");
 }
 
 #[test]
@@ -170,9 +169,9 @@ fn is_refused<H: Abort + AllocGlobal>(
         return Err(Fail::from("a line that asks for nothing"));
     };
     let streams = Streams::new(rt.alloc(), open);
-    assert!(rt; refuse(&streams, &error) == wanted, "{line} {open}");
+    let end = refuse(&streams, &error);
     assert!(rt;
-        streams.told.into_inner().is_empty() != open,
+        streams.has_told("") != open && end == wanted,
         "{line} {open}"
     );
     Ok(())
@@ -201,6 +200,5 @@ fn help_not_written(rt: HostRuntime) -> Result<(), Fail> {
 fn no_memory_for_words(rt: HostRuntime) {
     let streams = Streams::new(rt.alloc(), true);
     let end = refuse(&streams, &clap::Error::from(AllocError));
-    assert!(rt; end == End::Faulted(Fault::OutOfMemory));
-    streams.told(&rt, "");
+    assert!(rt; streams.has_told("") && end == End::Faulted(Fault::OutOfMemory));
 }

@@ -1,5 +1,5 @@
 //! `extract --stage` as it is called.
-use super::calls::{Step, each_fails, take_all};
+use super::calls::{Step, each_fails, follow_all, take_all};
 use crate::end::End;
 use crate::fault::{FileFault, ToolFault};
 use std::fs::File;
@@ -58,11 +58,6 @@ const DAYS: &[Step<'_>] = &[
     Step::HasLength("days_again.txt", 2025),
 ];
 
-#[test]
-fn a_file_over_two_days(rt: HostRuntime) -> Result<(), Fail> {
-    take_all(&rt, DAYS)
-}
-
 /// A reel that lost a block, before a good one and alone: the stage keeps nothing of it.
 const IN_DOUBT: &[Step<'_>] = &[
     Step::PutLost("doubt.tap"),
@@ -82,11 +77,6 @@ const IN_DOUBT: &[Step<'_>] = &[
     Step::HasLength("doubt.txt", 2025),
     Step::HasText("doubt.txt", 810, b"0011  "),
 ];
-
-#[test]
-fn a_reel_in_doubt_before_a_good_one(rt: HostRuntime) -> Result<(), Fail> {
-    take_all(&rt, IN_DOUBT)
-}
 
 /// A stage of file 1 of the set ABC001, and what is no stage and stays.
 const REFUSED: &[Step<'_>] = &[
@@ -141,7 +131,13 @@ const REFUSED: &[Step<'_>] = &[
     Step::IsMissing("new.stage"),
 ];
 
+const SCRIPTS: &[(&str, &[Step<'_>])] = &[
+    ("a file over two days", DAYS),
+    ("a reel in doubt before a good one", IN_DOUBT),
+    ("stages that are refused", REFUSED),
+];
+
 #[test]
-fn stages_that_are_refused(rt: HostRuntime) -> Result<(), Fail> {
-    take_all(&rt, REFUSED)
+fn stages_and_outputs(rt: HostRuntime) -> Result<(), Fail> {
+    follow_all(&rt, SCRIPTS)
 }

@@ -47,14 +47,6 @@ fn close(image: &mut Image, texts: &[&str]) -> Result<(), AllocError> {
     end(image)
 }
 
-/// The volume ABC001 without files.
-pub fn blank(alloc: Global) -> Result<Image, AllocError> {
-    let mut image = Image::new(alloc);
-    labels(&mut image, &[VOL1])?;
-    end(&mut image)?;
-    Ok(image)
-}
-
 /// A volume with one section: its header labels, data blocks of 400 characters with these high
 /// bytes in their words, so that 0x80 is a bad one, and its trailer labels.
 fn reel(

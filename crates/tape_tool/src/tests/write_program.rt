@@ -1,5 +1,7 @@
 //! `write` with files. Each test has a prefix of its own.
-use super::calls::{Step, each_fails, each_is_wrong, end_of, ends, holds, put, take_all};
+use super::calls::{
+    Step, each_fails, each_is_wrong, end_of, ends, follow_all, holds, put, take_all,
+};
 use crate::end::End;
 use crate::fault::{Fault, FileFault, ToolFault};
 use crate::host::Host;
@@ -16,6 +18,7 @@ const EXISTS: ToolFault = ToolFault::File(FileFault::Exists);
 const WRITE: &str = "write worked ABC 100000 PAYROLL=payroll.bin \
     --format F --block 800 --record 80 --form raw";
 
+/// The worked image; over a blank volume; and not over what was written.
 const WORKED_VOLUME: &[Step<'_>] = &[
     Step::PutRecords("payroll.bin"),
     Step::Folder("worked"),
@@ -31,12 +34,6 @@ const WORKED_VOLUME: &[Step<'_>] = &[
     Step::Ends("list worked/ABC001.tap", End::Done),
 ];
 
-/// The worked image; over a blank volume; and not over what was written.
-#[test]
-fn the_worked_volume_as_a_file(rt: HostRuntime) -> Result<(), Fail> {
-    take_all(&rt, WORKED_VOLUME)
-}
-
 /// The image with so many of its bytes, and zeros behind them.
 fn changed(alloc: Global, image: &[u8], kept: usize, zeros: u8) -> Result<Vec<u8>, AllocError> {
     let mut bytes = Vec::from_slice(alloc, image)?;
@@ -51,12 +48,12 @@ fn changed(alloc: Global, image: &[u8], kept: usize, zeros: u8) -> Result<Vec<u8
 fn is_left_alone<H: Host + Abort>(rt: &H, image: &[u8]) -> Result<(), Fail> {
     put(rt, "THR001.tap", image)?;
     let end = end_of(rt, "write . THR 100000 A=there.txt")?;
+    let stays = holds(rt, "THR001.tap", image)?;
     assert!(rt;
-        end == End::Faulted(Fault::Tool(EXISTS)),
+        stays && end == End::Faulted(Fault::Tool(EXISTS)),
         "{} bytes",
         image.len()
     );
-    assert!(rt; holds(rt, "THR001.tap", image)?, "{} bytes", image.len());
     Ok(())
 }
 
@@ -73,6 +70,7 @@ fn images_that_are_there(rt: HostRuntime) -> Result<(), Fail> {
     Ok(())
 }
 
+/// What cannot be read as a file is no image that could be written over.
 const FOLDER: &[Step<'_>] = &[
     Step::Put("beside.txt", b"AB\n"),
     Step::Folder("TFF001.tap"),
@@ -81,12 +79,6 @@ const FOLDER: &[Step<'_>] = &[
         ToolFault::File(FileFault::NotOpened),
     ),
 ];
-
-/// What cannot be read as a file is no image that could be written over.
-#[test]
-fn a_folder_that_is_there(rt: HostRuntime) -> Result<(), Fail> {
-    take_all(&rt, FOLDER)
-}
 
 /// What would be lost by a slip, or is no file, and is found before anything is written.
 const UNFIT: &[Step<'_>] = &[
@@ -118,11 +110,7 @@ const UNFIT: &[Step<'_>] = &[
     Step::IsMissing("UNO001.tap"),
 ];
 
-#[test]
-fn inputs_and_images_that_do_not_fit(rt: HostRuntime) -> Result<(), Fail> {
-    take_all(&rt, UNFIT)
-}
-
+/// A second volume that is no blank one: the first one stands.
 const SECOND: &[Step<'_>] = &[
     Step::PutRecords("second.bin"),
     Step::Put("SND002.tap", b"kept"),
@@ -134,12 +122,7 @@ const SECOND: &[Step<'_>] = &[
     Step::Holds("SND002.tap", b"kept"),
 ];
 
-/// A second volume that is no blank one: the first one stands.
-#[test]
-fn a_second_image_that_is_there(rt: HostRuntime) -> Result<(), Fail> {
-    take_all(&rt, SECOND)
-}
-
+/// All inputs are looked for before anything is written: one that is missing, and a folder.
 const LOOKED_FOR: &[Step<'_>] = &[
     Step::Put("here.txt", b"AB\n"),
     Step::Fails(
@@ -153,10 +136,17 @@ const LOOKED_FOR: &[Step<'_>] = &[
     Step::IsMissing("LKD001.tap"),
 ];
 
-/// All inputs are looked for before anything is written: one that is missing, and a folder.
+const SCRIPTS: &[(&str, &[Step<'_>])] = &[
+    ("the worked volume as a file", WORKED_VOLUME),
+    ("a folder that is there", FOLDER),
+    ("inputs and images that do not fit", UNFIT),
+    ("a second image that is there", SECOND),
+    ("inputs are looked for first", LOOKED_FOR),
+];
+
 #[test]
-fn inputs_are_looked_for_first(rt: HostRuntime) -> Result<(), Fail> {
-    take_all(&rt, LOOKED_FOR)
+fn files_are_written(rt: HostRuntime) -> Result<(), Fail> {
+    follow_all(&rt, SCRIPTS)
 }
 
 /// Lines that are no call of `write`.

@@ -14,7 +14,7 @@ use tape_run::{flush, write_text};
 type Line = ArrayVec<u8, 64>;
 
 /// A volume that was written.
-#[derive(Clone, Copy, Debug, PartialEq, Eq)]
+#[derive(Clone, Copy)]
 pub struct Ended {
     pub volume: Field<6>,
     /// How many bytes its image has, its end word included.
