@@ -1,7 +1,8 @@
 #!/usr/bin/env python3
 """Times `tape write`, `tape extract`, its `--stage` and `tape check` on 1 GB. By hand; the gate does not run it.
 
-    ./commands.py [--program PATH] [--folder FOLDER] [--memory FOLDER] [--count N] [--runs N] [--c-only] [COMMAND]..
+    ./commands.py [--program PATH] [--folder FOLDER] [--memory FOLDER] [--count N] [--runs N] [--c-only]
+                  [--instructions] [COMMAND]..
 
 COMMAND is write, extract, stage or check; all of them where none is named.
 
@@ -13,6 +14,9 @@ check: the images, against `tape list` of each of them; the output goes to /dev/
 What is timed is written in a folder of memory (/dev/shm), and removed. The lines and the images that
 extract and check read lie in a temporary folder (under TMPDIR), or in --folder, where they are kept
 and used again; each is read once before, so that it lies in the system's cache.
+
+With --instructions each program runs once more by valgrind, which counts its instructions: some fifty times
+as long, so take a small --count. Seconds differ on a machine that has other work, these figures do not.
 """
 
 import argparse
@@ -42,6 +46,7 @@ def arguments():
     parser.add_argument("--count", type=int, default=12_500_000, help="how many lines of 80 characters")
     parser.add_argument("--runs", type=int, default=5, help="how often each program runs")
     parser.add_argument("--c-only", action="store_true", help="without `tape`")
+    parser.add_argument("--instructions", action="store_true", help="count instructions too, by valgrind")
     parser.add_argument("commands", nargs="*", metavar="COMMAND", help="write, extract, stage, check")
     return parser.parse_args()
 
@@ -62,7 +67,8 @@ class Bench:
 
     def time(self, front, base, commands, before=None):
         outputs = dict.fromkeys(commands, os.devnull)
-        print_rows(front, base, in_turn(self.build, commands, outputs, self.options.runs, before))
+        options = self.options
+        print_rows(front, base, in_turn(self.build, commands, outputs, options.runs, before, options.instructions))
 
     def with_tape(self, words, others):
         return others if self.options.c_only else {f"`tape {words[0]}`": [self.options.program, *words]} | others
@@ -191,7 +197,7 @@ def time_all(bench):
     parts = {"write": time_write, "extract": time_extract, "stage": time_stage, "check": time_check}
     asked = [command for command in parts if bench.has(command)]
     print_load()
-    print_head(["Command", "Format", "Block"])
+    print_head(["Command", "Format", "Block"], bench.options.instructions)
     for shape in SHAPES:
         make_images(bench, shape)
         for command in asked:

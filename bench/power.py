@@ -11,7 +11,8 @@ From each file two runs follow, one that reads no reel and one over all volumes.
 - the first awaits what was saved last, or what was just being saved;
 - a reader of the stage's format, written here, finds a front of the file's records in it;
 - the second run completes the file, byte for byte;
-- what was printed as AWAITS or COMPLETE stood on the disk when it was printed, and the folder was synced before.
+- what was printed as AWAITS or COMPLETE stood on the disk when it was printed, and the folder was synced before;
+- OUT got its name when its bytes were synced, and the folder was synced behind that and before COMPLETE.
 
 Runs that go on from such a file are noted and cut in the same way. A power cut before the first checkpoint was kept may
 leave no stage: these files are counted by themselves.
@@ -20,12 +21,12 @@ leave no stage: these files are counted by themselves.
 import hashlib
 import os
 import random
-import struct
 import subprocess
 from dataclasses import dataclass, field
 from pathlib import Path
 
 import fail
+from noted import is_misnamed, notes, told_by
 
 SECTOR = 512
 SLOT = 128
@@ -120,14 +121,6 @@ def records_of(content):
     return b"".join(text)
 
 
-def told_by(line):
-    """The position that a last line of `extract` tells, or None."""
-    words = line.split()
-    if words[:1] == [b"COMPLETE"]:
-        return "whole"
-    return (int(words[2]), int(words[3]), int(words[4]) if len(words) > 4 else 0) if words[:1] == [b"AWAITS"] else None
-
-
 def put(content, place, data):
     """Writes the data; what lies between the end and the place is a hole."""
     content.extend(bytes(max(0, place - len(content))))
@@ -215,16 +208,6 @@ def left_by(rng, disk, count):
     return sorted(found)
 
 
-def notes(path):
-    """The records of record.c."""
-    log, at, found = path.read_bytes() if path.exists() else b"", 0, []
-    while at < len(log):
-        place, length = struct.unpack("<QQ", log[at + 1:at + 17])
-        found.append((log[at:at + 1], place, log[at + 17:at + 17 + length]))
-        at += 17 + length
-    return found
-
-
 @dataclass
 class Trial:
     """The runs over one plan."""
@@ -292,6 +275,8 @@ class Trial:
         disk = Disk(bytearray(content), bytearray(content))
         first = position_of(content)
         named = bool(content)
+        if is_misnamed(log):
+            self.fails("OUT got its name too early, or COMPLETE was told before")
         for letter, place, data in log:
             if letter == b"P":
                 for position in filter(None, map(told_by, data.splitlines())):

@@ -6,6 +6,7 @@
    The log has a record for each call that was answered with success: a letter, a place and a length (8 bytes each,
    least byte first), and so many bytes. W: these bytes were written at the place. T: the file was cut to the place.
    Y: it was synced. F: a sync of it failed. D: a folder was synced. P: these bytes went to standard output.
+   N: a file got this name; the place is 1 where it had bytes then that were not synced, and else 0.
 
    RECORD_FAIL=N: the N-th sync of the file fails, and no other one. 0: none does. */
 #define _GNU_SOURCE
@@ -13,6 +14,7 @@
 #include <fcntl.h>
 #include <stdarg.h>
 #include <stdint.h>
+#include <stdio.h>
 #include <stdlib.h>
 #include <string.h>
 #include <sys/stat.h>
@@ -27,6 +29,8 @@
 static int is_open_log;
 static char is_noted[FILES];
 static long syncs;
+/* plain files with bytes that were not synced, closed ones too */
+static ino_t unsynced[FILES];
 
 static void note(char letter, uint64_t place, const void *bytes, uint64_t length)
 {
@@ -99,8 +103,31 @@ int close(int file)
     return (int)syscall(SYS_close, file);
 }
 
+/* Where the file stands among those with bytes that were not synced, or where there is room for it. */
+static int place_of(ino_t inode)
+{
+    int at = 0;
+    while (at < FILES - 1 && unsynced[at] && unsynced[at] != inode)
+        at++;
+    return at;
+}
+
+static void mark(int file, int is_unsynced)
+{
+    struct stat is;
+    if (fstat(file, &is) != 0 || !S_ISREG(is.st_mode))
+        return;
+    int at = place_of(is.st_ino), last = place_of(0);
+    if (is_unsynced)
+        unsynced[at] = is.st_ino;
+    else if (unsynced[at])
+        unsynced[at] = unsynced[last - 1], unsynced[last - 1] = 0;
+}
+
 static ssize_t written(int file, uint64_t place, const void *bytes, ssize_t done)
 {
+    if (done > 0)
+        mark(file, 1);
     if (done > 0 && noted(file))
         note('W', place, bytes, (uint64_t)done);
     else if (done > 0 && file == STDOUT_FILENO)
@@ -150,6 +177,8 @@ static int synced(int file, long call)
         return -1;
     }
     int done = (int)syscall(call, file);
+    if (done == 0)
+        mark(file, 0);
     if (done == 0 && noted(file))
         note('Y', 0, NULL, 0);
     else if (done == 0 && fstat(file, &is) == 0 && S_ISDIR(is.st_mode))
@@ -165,4 +194,13 @@ int fsync(int file)
 int fdatasync(int file)
 {
     return synced(file, SYS_fdatasync);
+}
+
+int rename(const char *from, const char *to)
+{
+    int done = (int)syscall(SYS_renameat2, AT_FDCWD, from, AT_FDCWD, to, 0);
+    struct stat is;
+    if (done == 0 && stat(to, &is) == 0)
+        note('N', unsynced[place_of(is.st_ino)] != 0, to, strlen(to));
+    return done;
 }

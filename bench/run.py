@@ -1,7 +1,7 @@
 #!/usr/bin/env python3
 """Times `tape list` against plain C programs. By hand; the gate does not run it.
 
-    ./run.py [--program PATH] [--folder FOLDER] [--bytes N] [--runs N] [--c-only]
+    ./run.py [--program PATH] [--folder FOLDER] [--bytes N] [--runs N] [--c-only] [--instructions]
 
 Builds the C programs with `cc -O2`, makes the two images of make_images.c, and runs each program
 several times in turn, the output going to /dev/null and to a file in memory (/dev/shm). Compares
@@ -37,6 +37,7 @@ def arguments():
     parser.add_argument("--bytes", type=int, default=1_000_000_000, help="the greatest size of an image")
     parser.add_argument("--runs", type=int, default=5, help="how often each program runs")
     parser.add_argument("--c-only", action="store_true", help="without `tape list`")
+    parser.add_argument("--instructions", action="store_true", help="count instructions too, by valgrind")
     return parser.parse_args()
 
 
@@ -67,7 +68,7 @@ def compare_outputs(options, folder, image):
     with tempfile.TemporaryDirectory(dir="/dev/shm") as memory_folder:
         commands = programs(options, folder, image)
         outputs = {name: os.path.join(memory_folder, str(i)) for i, name in enumerate(commands)}
-        times = in_turn(folder, commands, outputs, options.runs)
+        times = in_turn(folder, commands, outputs, options.runs, counted=options.instructions)
         files = list(outputs.values())
         same = all(filecmp.cmp(files[0], other, shallow=False) for other in files[1:])
         print_rows([image.name, "file in memory"], "C lister", times)
@@ -78,7 +79,7 @@ def compare_outputs(options, folder, image):
 def time_image(options, folder, image):
     read_once(image)
     commands = programs(options, folder, image) | others(folder, image)
-    times = in_turn(folder, commands, dict.fromkeys(commands, os.devnull), options.runs)
+    times = in_turn(folder, commands, dict.fromkeys(commands, os.devnull), options.runs, counted=options.instructions)
     print_rows([image.name, "/dev/null"], "C lister", times)
     compare_outputs(options, folder, image)
 
@@ -86,7 +87,7 @@ def time_image(options, folder, image):
 def time_all(options, build_folder, folder):
     make_images(build_folder, folder, options.bytes)
     print_load()
-    print_head(["Image", "Output to"])
+    print_head(["Image", "Output to"], options.instructions)
     for name in IMAGES:
         time_image(options, build_folder, folder / name)
     same = "" if options.c_only else " The two listings of each image are the same, byte for byte."

@@ -1,10 +1,12 @@
 """What the benchmarks have in common: C programs built, programs run in turn, rows of the tables."""
 
 import os
+import re
 import shutil
 import statistics
 import subprocess
 import sys
+import tempfile
 from dataclasses import dataclass, field
 from pathlib import Path
 
@@ -12,15 +14,18 @@ HERE = Path(__file__).resolve().parent
 ROOT = HERE.parent
 # The columns of `print_rows`, behind those of a table's own.
 COLUMNS = ("Program", "Best, s", "Median, s", "Processor, s", "Ratio, best", "Ratio, median", "Ratio, processor", "Memory, MB")
+# And where instructions are counted too.
+COUNTED = (*COLUMNS, "Instructions, millions", "Ratio, instructions")
 
 
 @dataclass
 class Times:
-    """Of the runs of one program: seconds, seconds of processors, and the greatest memory in MB."""
+    """Of the runs of one program: seconds, seconds of processors, the greatest memory in MB, and instructions."""
 
     taken: list = field(default_factory=list)
     worked: list = field(default_factory=list)
     memory: float = 0.0
+    instructions: int = 0
 
 
 def build(folder, names):
@@ -62,23 +67,36 @@ def run(build_folder, command, output, times):
     times.memory = max(times.memory, int(kilobytes) / 1024)
 
 
-def in_turn(build_folder, commands, outputs, runs, before=None):
-    """Each program once, then each once more, and so on: times by name.
+def instructions(build_folder, command):
+    """How many instructions the command takes, its children too, as valgrind counts them: other work on the
+    machine changes nothing. What the system does for it is not among them."""
+    with tempfile.TemporaryDirectory(dir=build_folder) as logs:
+        valgrind = ["valgrind", "--tool=callgrind", "--trace-children=yes", "--callgrind-out-file=/dev/null", f"--log-file={logs}/%p"]
+        subprocess.run([*valgrind, *command], check=True, stdout=subprocess.DEVNULL, stdin=subprocess.DEVNULL)
+        return sum(int(re.search(r"Collected : (\d+)", log.read_text())[1]) for log in Path(logs).iterdir())
+
+
+def in_turn(build_folder, commands, outputs, runs, before=None, counted=False):
+    """Each program once, then each once more, and so on: times by name; at the end its instructions, if counted.
 
     What `before` does stands in front of each run, and is not timed."""
     times = {name: Times() for name in commands}
-    for _ in range(runs):
+    for number in range(runs + counted):
         for name, command in commands.items():
             if before:
                 before()
-            run(build_folder, command, outputs[name], times[name])
+            if number < runs:
+                run(build_folder, command, outputs[name], times[name])
+            else:
+                times[name].instructions = instructions(build_folder, command)
     return times
 
 
-def print_head(columns):
+def print_head(columns, counted=False):
     """The head of a table, its own columns first."""
-    print(f"| {' | '.join([*columns, *COLUMNS])} |")
-    print("|" + "---|" * (len(columns) + len(COLUMNS)))
+    columns = [*columns, *(COUNTED if counted else COLUMNS)]
+    print(f"| {' | '.join(columns)} |")
+    print("|" + "---|" * len(columns))
 
 
 def print_rows(front, base, times):
@@ -89,7 +107,10 @@ def print_rows(front, base, times):
             own, other = best(getattr(each, of_base)), best(getattr(times[base], of_base))
             figures.append(f"{own:.3f}")
             ratios.append(f"{own / other:.2f}")
-        print(f"| {' | '.join([*front, name, *figures, *ratios, f'{each.memory:.1f}'])} |", flush=True)
+        row = [*front, name, *figures, *ratios, f"{each.memory:.1f}"]
+        if each.instructions:
+            row += [f"{each.instructions / 1e6:.1f}", f"{each.instructions / times[base].instructions:.2f}"]
+        print(f"| {' | '.join(row)} |", flush=True)
 
 
 def print_load():
