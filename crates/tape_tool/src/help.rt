@@ -1,8 +1,7 @@
 //! The texts of help, and of mistakes in words that the program finds itself.
 
 /// What the program does.
-pub const ABOUT: &str =
-    "Reads and writes labelled magnetic tape volumes (ECMA-13) as SIMH .tap images";
+pub const ABOUT: &str = "Reads and writes ANSI-labelled tape volumes (ECMA-13) as SIMH .tap images";
 
 /// What `--explain` does.
 pub const EXPLAIN: &str = "Tells a fault in words too: what stands now, and what to do next";

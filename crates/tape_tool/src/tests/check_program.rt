@@ -1,7 +1,7 @@
 //! `check` as the program runs it.
-use super::calls::{each_ends, ends, put, with_images};
+use super::calls::{each_ends, put, with_images};
 use super::volumes::{first_of_two, second_of_two};
-use super::words::words_of;
+use super::words::{is_answered, words_of};
 use crate::end::{End, finish};
 use crate::fault::{Fault, ToolFault};
 use crate::telling::fault_line;
@@ -46,10 +46,12 @@ fn at_most_256_images(rt: HostRuntime) -> Result<(), Fail> {
     Ok(())
 }
 
+/// One more, and what to do is said.
 #[test]
 fn not_257_images(rt: HostRuntime) -> Result<(), Fail> {
     let line = with_images(rt.alloc(), "check", 257)?;
-    ends(&rt, line.as_str(), End::WrongWords)
+    let text = "check takes up to 256 images: name those of a set together";
+    is_answered(&rt, line.as_str(), 2, text)
 }
 
 #[test]
