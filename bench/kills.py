@@ -25,6 +25,7 @@ from pathlib import Path
 
 sys.dont_write_bytecode = True
 import fail
+from timing import build
 
 RECORDS = 30_000
 SHAPE = ["--format", "F", "--block", "800", "--record", "80", "--form", "raw"]
@@ -164,20 +165,19 @@ def fill_disks(options, content):
     return counts
 
 
-def memory(folder, line):
+def memory(measure, folder, line):
     """The most memory of a run with 64 open files, in KB, or nothing where it failed."""
-    process = subprocess.Popen(line, cwd=folder, stdout=subprocess.DEVNULL, stderr=subprocess.PIPE,
-        preexec_fn=lambda: resource.setrlimit(resource.RLIMIT_NOFILE, (FILES, FILES)))
-    told = process.stderr.read()
-    _, status, usage = os.wait4(process.pid, 0)
-    process.returncode = os.waitstatus_to_exitcode(status)
-    if process.returncode:
-        print(f"{' '.join(line[:6])}: status {process.returncode}, {told!r}")
+    report = folder / "report"
+    told = subprocess.run([measure, report, *line], cwd=folder, stdout=subprocess.DEVNULL, stderr=subprocess.PIPE, check=False,
+        preexec_fn=lambda: resource.setrlimit(resource.RLIMIT_NOFILE, (FILES, FILES))).stderr
+    *_, kilobytes, status = report.read_text().split()
+    if status != "0":
+        print(f"{' '.join(line[:6])}: status {status}, {told!r}")
         return None
-    return usage.ru_maxrss
+    return int(kilobytes)
 
 
-def many(options):
+def many(options, measure):
     """The most memory of a run with one input and one volume, with 9,999 inputs, and with 256 volumes."""
     answers = []
     for inputs, records, capacity in ((1, 10, 4_000_000), (9_999, 1, 100_000_000), (1, 256 * 20, 2_500)):
@@ -186,7 +186,7 @@ def many(options):
             for number in range(inputs):
                 (folder / f"f{number}").write_bytes(b"7" * 80 * records)
             files = [f"F{number}=f{number}" for number in range(inputs)]
-            answers.append(memory(folder, words(options, capacity, *files, *SHAPE)))
+            answers.append(memory(measure, folder, words(options, capacity, *files, *SHAPE)))
             answers.append(len(list(folder.glob("KIL*.tap"))))
     return answers
 
@@ -211,7 +211,9 @@ def main():
         counts = step(options, content)
         failed += counts[2]
         print(f"| {name} | " + " | ".join(str(count) for count in counts) + " |", flush=True)
-    small, one, inputs, of_inputs, volumes, of_volumes = many(options)
+    with tempfile.TemporaryDirectory(prefix="tape-kills-") as place:
+        build(Path(place), ["measure"])
+        small, one, inputs, of_inputs, volumes, of_volumes = many(options, Path(place) / "measure")
     print(f"one input, {one} volume: {small} KB; 9,999 inputs, {of_inputs} volumes: {inputs} KB; {of_volumes} volumes: {volumes} KB")
     return 1 if failed or None in (small, inputs, volumes) else 0
 
