@@ -19,13 +19,13 @@ use Rattle.tape_run.specs.RecordText.{output_of}
 use Rattle.tape_run.specs.ReelLine.{reel_lines, last_line}
 use Rattle.tape_run.specs.Reeling.{Turn, answer_of, TakesAll, StopsReading, Follows, goes_back}
 use Rattle.tape_run.specs.Reeling.{AreSure, Mounting}
-use Rattle.tape_run.specs.Extracting.{IsWritten, Extracts, Stops}
+use Rattle.tape_run.specs.Extracting.{Ends, Extracts, Stops, EndsFile, StopsAtEnd}
 use Rattle.tape_run.proofs.Fitting.{front_more, front_then}
 use Rattle.tape_run.proofs.Turns.{gathers, sure_follows}
 use Rattle.tape_run.proofs.TurnSteps.{are_steps}
 
 -- A session without a note, or one that met no reel in doubt, never went back.
-stayed : (notes : List Point) (core : State) (old : Seen) (turns : List Turn) (last : State)
+pub stayed : (notes : List Point) (core : State) (old : Seen) (turns : List Turn) (last : State)
     (new : Seen) → (notes ≡ []) ⊎ AreSure turns → Follows (goes_back notes) core old turns last new
     → Follows false core old turns last new
 stayed notes core old turns last new (inl none) f =
@@ -33,54 +33,62 @@ stayed notes core old turns last new (inl none) f =
 stayed notes core old turns last new (inr sure) f =
     sure_follows (goes_back notes) core old turns last new sure f
 
+-- A session that ended its file came to what its images lead to.
+abbrev pub ended : {S : Type 0} (holds : S → List Portion → Type 0) (refusals : S → ℕ) (mid : Story S)
+    (core : State) (old : Seen) (turns : List Turn) (form : Form)
+    (out written said says : Option (List ℕ)) (want : Option Want) (now : List Portion)
+    (e : EndsFile holds mid form out written said says want)
+    → holds mid.sink now
+    → Follows (goes_back old.notes) core old turns mid.core (seen refusals mid now)
+    → Ends core old turns want e.records form out written
+ended holds refusals mid core old turns form out written said says want now e has f =
+    record {
+      last = mid.core;
+      now = seen refusals mid now;
+      follows = f;
+      gathers = λ never. gathers core old turns mid.core (seen refusals mid now)
+          (stayed old.notes core old turns mid.core (seen refusals mid now) never f);
+      are_steps = are_steps (goes_back old.notes) core old turns mid.core (seen refusals mid now) f;
+      wanted = e.wanted;
+      is_written = e.is_written now has;
+    }
+
 pub extracted : {S L R : Type 0} (holds : S → List Portion → Type 0) (refusals : S → ℕ)
     (size : L → ℕ) (gives : Mounting L R) (remaining : R → Option (List ℕ)) (old mid : Story S)
     (shelf left : L) (form : Form)
-    (out written said between says : Option (List ℕ)) (want : Option Want) (records : ℕ)
+    (out written said between says : Option (List ℕ)) (want : Option Want)
     (back : Bool) → back ≡ goes_back old.notes
-    → TakesAll holds refusals size gives remaining back old mid shelf left said between
-    → want ≡ want_at mid.core.file mid.core.position → Appends between says (last_line want records)
-    → ((held : List Portion) → holds mid.sink held → IsWritten want records form out written held)
+    → TakesAll holds refusals (size shelf) 0 gives remaining back old mid shelf left said between
+    → EndsFile holds mid form out written between says want
     → Extracts holds refusals size gives remaining old shelf left form out written said says want
 extracted holds refusals size gives remaining old mid shelf left form out written said between says
-    want records back same took is last wrote =
-    let t = subst (λ b. TakesAll holds refusals size gives remaining b old mid shelf left said
-    between) same took in
+    want back same took e =
+    let t = subst (λ b. TakesAll holds refusals (size shelf) 0 gives remaining b old mid shelf left
+    said between) same took in
     record {
       turns = t.turns;
       are_turns = t.are_turns;
       most = t.most;
-      all = λ less. is ∙ ap (want_at mid.core.file) (t.all less);
-      records = records;
-      lines = Appends-trans said between says _ _ t.lines last;
+      all = λ less. e.wanted ∙ ap (want_at mid.core.file) (t.all less);
+      records = e.records;
+      lines = Appends-trans said between says _ _ t.lines e.line;
       ends = λ held was kept.
           let (now, has, still, f) = t.follows held was kept in
-          record {
-            last = mid.core;
-            now = seen refusals mid now;
-            follows = f;
-            gathers = λ never. gathers old.core (seen refusals old held) t.turns mid.core
-                (seen refusals mid now) (stayed old.notes old.core (seen refusals old held) t.turns
-                mid.core (seen refusals mid now) never f);
-            are_steps = are_steps (goes_back old.notes) old.core (seen refusals old held) t.turns
-                mid.core (seen refusals mid now) f;
-            wanted = is;
-            is_written = wrote now has;
-          };
+          ended holds refusals mid old.core (seen refusals old held) t.turns form out written between
+          says want now e has f;
     }
 
 pub stops_reading : {S L R W : Type 0} (holds : S → List Portion → Type 0)
     (refusals : S → ℕ) (size : L → ℕ) (gives : Mounting L R) (remaining : R → Option (List ℕ))
     (old : Story S) (shelf left : L) (form : Form) (contents : W → Option (List ℕ))
     (out : W) (said says : Option (List ℕ)) (back : Bool) → back ≡ goes_back old.notes
-    → StopsReading holds refusals size gives remaining back old shelf left said says
+    → StopsReading holds refusals (size shelf) 0 gives remaining back old shelf left said says
     → Stops holds refusals size gives remaining old shelf left form contents out out said says
 stops_reading holds refusals size gives remaining old shelf left form contents out said says back
     same
     stopped =
-    let s = subst (λ b. StopsReading holds refusals size gives remaining b old shelf left said
-    says) same
-    stopped in
+    let s = subst (λ b. StopsReading holds refusals (size shelf) 0 gives remaining b old shelf left
+    said says) same stopped in
     record {
       turns = s.turns;
       are_turns = s.are_turns;
@@ -99,31 +107,41 @@ pub stops_at_end : {S L R W : Type 0} (holds : S → List Portion → Type 0) (r
     (size : L → ℕ) (gives : Mounting L R) (remaining : R → Option (List ℕ)) (old mid : Story S)
     (shelf left : L) (form : Form)
     (contents : W → Option (List ℕ)) (out written : W) (said between says : Option (List ℕ))
-    (want : Option Want) (records : ℕ) (back : Bool) → back ≡ goes_back old.notes
-    → TakesAll holds refusals size gives remaining back old mid shelf left said between
-    → AppendsFront between says (last_line want records)
-    → ((held : List Portion) → holds mid.sink held → (written ≡ out) ⊎ ((mid.core.position
-    ≡ Finished) × AppendsFront (contents out) (contents written) (output_of form held)))
+    (back : Bool) → back ≡ goes_back old.notes
+    → TakesAll holds refusals (size shelf) 0 gives remaining back old mid shelf left said between
+    → StopsAtEnd holds mid form contents out written between says
     → Stops holds refusals size gives remaining old shelf left form contents out written said says
 stops_at_end holds refusals size gives remaining old mid shelf left form contents out written said
-    between says want records back same took last wrote =
-    let t = subst (λ b. TakesAll holds refusals size gives remaining b old mid shelf left said
-    between) same took in
+    between says back same took e =
+    let t = subst (λ b. TakesAll holds refusals (size shelf) 0 gives remaining b old mid shelf left
+    said between) same took in
     record {
       turns = t.turns;
       are_turns = (left, t.are_turns, inl refl);
       most = t.most;
       more = [];
       few = omega arith;
-      want = want;
-      records = records;
-      lines = front_then said between says _ (last_line want records)
+      want = e.want;
+      records = e.records;
+      lines = front_then said between says _ (last_line e.want e.records)
           (subst (λ l. Appends said between (reel_lines 1 l))
-          (sym (append-nil (map answer_of t.turns))) t.lines) last;
+          (sym (append-nil (map answer_of t.turns))) t.lines) e.line;
       follows = λ held was kept.
           let (now, has, still, f) = t.follows held was kept in
-          (mid.core, seen refusals mid now, f, wrote now has);
+          (mid.core, seen refusals mid now, f, e.is_written now has);
     }
+
+-- the last line, or the output, was written in part
+pub ends_in_part : {S W : Type 0} (holds : S → List Portion → Type 0) (session : Story S)
+    (form : Form) (contents : W → Option (List ℕ)) (out written : W)
+    (said says : Option (List ℕ)) (want : Option Want) (records : ℕ)
+    → AppendsFront said says (last_line want records)
+    → ((held : List Portion) → holds session.sink held → (written ≡ out)
+    ⊎ ((session.core.position ≡ Finished)
+    × AppendsFront (contents out) (contents written) (output_of form held)))
+    → StopsAtEnd holds session form contents out written said says
+ends_in_part holds session form contents out written said says want records line wrote =
+    record { want = want; records = records; line = line; is_written = wrote }
 
 -- no more was written
 pub nothing_more : (old : Option (List ℕ)) (text : List ℕ) → AppendsFront old old text

@@ -41,7 +41,9 @@ mod WholeReports
 mod Streams
 mod Turns
 mod TurnSteps
+mod Rounds
 mod Extracted
+mod Again
 mod OutSinks
 mod Now
 mod OneEntry
@@ -49,6 +51,7 @@ mod Examples
 mod ExamplesOfReels
 mod ExamplesOfCatalogues
 mod ExamplesOfExtracts
+mod ExamplesOfRounds
 mod ExamplesOfLaws
 mod Mistakes
 mod MistakesOfCatalogues

@@ -22,7 +22,7 @@ pub extracted_now : {S L R : Type 0} (holds : S → List Portion → Type 0) (re
     (size : L → ℕ) (gives : Mounting L R) (remaining : R → Option (List ℕ)) (old mid : Story S)
     (shelf left : L) (form : Form) (tells : Type 0)
     (stands said between says : Option (List ℕ)) (want : Option Want) (records : ℕ)
-    → TakesAll holds refusals size gives remaining false old mid shelf left said between
+    → TakesAll holds refusals (size shelf) 0 gives remaining false old mid shelf left said between
     → want ≡ want_at mid.core.file mid.core.position → Appends between says (last_line want records)
     → ((held : List Portion) → holds mid.sink held → IsPut want tells records form stands held)
     → ExtractsNow holds refusals size gives remaining old shelf left form tells stands said says
@@ -53,7 +53,7 @@ pub stops_reading_now : {S L R O : Type 0} (holds : S → List Portion → Type 
     (refusals : S → ℕ) (size : L → ℕ) (gives : Mounting L R) (remaining : R → Option (List ℕ))
     (old : Story S) (shelf left : L) (form : Form) (tells : Type 0)
     (stands : O → Option (List ℕ)) (out : O) (said says : Option (List ℕ))
-    → StopsReading holds refusals size gives remaining false old shelf left said says
+    → StopsReading holds refusals (size shelf) 0 gives remaining false old shelf left said says
     → StopsNow holds refusals size gives remaining old shelf left form tells stands out out said
     says
 stops_reading_now holds refusals size gives remaining old shelf left form tells stands out said
@@ -75,7 +75,7 @@ pub stops_at_end_now : {S L R O : Type 0} (holds : S → List Portion → Type 0
     (shelf left : L) (form : Form) (tells : Type 0)
     (stands : O → Option (List ℕ)) (out put : O) (said between says : Option (List ℕ))
     (want : Option Want) (records : ℕ)
-    → TakesAll holds refusals size gives remaining false old mid shelf left said between
+    → TakesAll holds refusals (size shelf) 0 gives remaining false old mid shelf left said between
     → AppendsFront between says (last_line want records)
     → ((held : List Portion) → holds mid.sink held → (put ≡ out) ⊎ ((mid.core.position
     ≡ Finished) × ((stands put ≡ stands out)

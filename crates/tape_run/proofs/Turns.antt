@@ -1,6 +1,6 @@
 -- Images that were read one after another.
-use Rattle.std.proofs.Common.{◌≡◌, Bool, ℕ, zero, suc, ◌+◌, ◌<◌, ◌≤◌, List, [], ◌∷◌, ◌++◌}
-use Rattle.std.proofs.Common.{length, map, get_or, Option, Some, None, IfSome, IsSome, refl, sym}
+use Rattle.std.proofs.Common.{◌≡◌, Bool, ℕ, ◌+◌, List, [], ◌∷◌, ◌++◌}
+use Rattle.std.proofs.Common.{length, map, Option, Some, None, IfSome, IsSome, refl, sym}
 use Rattle.std.proofs.Common.{ap, subst, ◌∙◌, arith, append_assoc, append-nil, true, false}
 use Rattle.std.proofs.Math.ListN.{set}
 use Rattle.std.specs.Io.KnownBytes.{Appends}
@@ -48,31 +48,33 @@ map_push [] t = refl
 map_push (u ∷ turns) t = ap (λ l. answer_of u ∷ l) (map_push turns t)
 
 -- the line of one more image behind those before it
-pub line_behind : (old mid new : Option (List ℕ)) (turns : List Turn) (t : Turn) (number : ℕ)
-    → number ≡ 1 + length turns → Appends old mid (reel_lines 1 (map answer_of turns))
+pub line_behind : (from : ℕ) (old mid new : Option (List ℕ)) (turns : List Turn) (t : Turn)
+    (number : ℕ) → number ≡ from + length turns
+    → Appends old mid (reel_lines from (map answer_of turns))
     → Appends mid new (reel_line number (answer_of t))
-    → Appends old new (reel_lines 1 (map answer_of (turns ++ t ∷ [])))
-line_behind old mid new turns t number e first then =
-    let text : reel_lines 1 (map answer_of (turns ++ t ∷ []))
-    ≡ reel_lines 1 (map answer_of turns) ++ reel_line number (answer_of t) =
-    ap (reel_lines 1) (map_push turns t) ∙ lines_more 1 turns (answer_of t ∷ [])
-    ∙ ap (λ l. reel_lines 1 (map answer_of turns) ++ l) (append-nil (reel_line (1 + length turns)
-    (answer_of t)) ∙ ap (λ m. reel_line m (answer_of t)) (sym e)) in
+    → Appends old new (reel_lines from (map answer_of (turns ++ t ∷ [])))
+line_behind from old mid new turns t number e first then =
+    let text : reel_lines from (map answer_of (turns ++ t ∷ []))
+    ≡ reel_lines from (map answer_of turns) ++ reel_line number (answer_of t) =
+    ap (reel_lines from) (map_push turns t) ∙ lines_more from turns (answer_of t ∷ [])
+    ∙ ap (λ l. reel_lines from (map answer_of turns) ++ l)
+    (append-nil (reel_line (from + length turns) (answer_of t))
+    ∙ ap (λ m. reel_line m (answer_of t)) (sym e)) in
     subst (Appends old new) (sym text) (Appends-trans old mid new _ _ first then)
 
 -- a front of the line of one more image behind those before it
-pub front_behind : (old mid new : Option (List ℕ)) (turns : List Turn)
-    (more : List (Option ReelAnswer)) (number : ℕ) → number ≡ 1 + length turns
-    → Appends old mid (reel_lines 1 (map answer_of turns))
+pub front_behind : (from : ℕ) (old mid new : Option (List ℕ)) (turns : List Turn)
+    (more : List (Option ReelAnswer)) (number : ℕ) → number ≡ from + length turns
+    → Appends old mid (reel_lines from (map answer_of turns))
     → AppendsFront mid new (reel_lines number more)
-    → AppendsFront old new (reel_lines 1 (map answer_of turns ++ more))
-front_behind old mid new turns more number e first (front, rest, wrote, all) = (
-  reel_lines 1 (map answer_of turns) ++ front,
+    → AppendsFront old new (reel_lines from (map answer_of turns ++ more))
+front_behind from old mid new turns more number e first (front, rest, wrote, all) = (
+  reel_lines from (map answer_of turns) ++ front,
   rest,
   Appends-trans old mid new _ front first wrote,
-  lines_more 1 turns more
-      ∙ ap (λ l. reel_lines 1 (map answer_of turns) ++ l) (ap (λ m. reel_lines m more) (sym e)
-      ∙ all) ∙ sym (append_assoc (reel_lines 1 (map answer_of turns)) front rest),
+  lines_more from turns more
+      ∙ ap (λ l. reel_lines from (map answer_of turns) ++ l) (ap (λ m. reel_lines m more) (sym e)
+      ∙ all) ∙ sym (append_assoc (reel_lines from (map answer_of turns)) front rest),
 )
 
 -- ---- images

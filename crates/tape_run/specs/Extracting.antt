@@ -40,6 +40,28 @@ pub record Ends (first : State) (old : Seen) (turns : List Turn) (want : Option 
   pub wanted : want ≡ want_at now.place.file now.place.position
   pub is_written : IsWritten want records form out written now.parts
 
+-- The last line was reported, with what is wanted or how many records the file has; and where
+-- nothing is wanted the records of the parts that the sink holds were written.
+pub record EndsFile {S : Type 0} (holds : S → List Portion → Type 0) (session : Story S)
+    (form : Form) (out written said says : Option (List ℕ)) (want : Option Want) : Type 0 where
+  pub wanted : want ≡ want_at session.core.file session.core.position
+  pub records : ℕ
+  pub line : Appends said says (last_line want records)
+  pub is_written : (held : List Portion) → holds session.sink held
+      → IsWritten want records form out written held
+
+-- A fault ended that: a front of the line was reported, and nothing was done to the output, or the
+-- file is complete and a front of its records was written.
+pub record StopsAtEnd {S W : Type 0} (holds : S → List Portion → Type 0) (session : Story S)
+    (form : Form) (contents : W → Option (List ℕ)) (out written : W) (said says : Option (List ℕ))
+    : Type 0 where
+  pub want : Option Want
+  pub records : ℕ
+  pub line : AppendsFront said says (last_line want records)
+  pub is_written : (held : List Portion) → holds session.sink held → (written ≡ out)
+      ⊎ ((session.core.position ≡ Finished)
+      × AppendsFront (contents out) (contents written) (output_of form held))
+
 -- Images were read in their order, all of them or up to the one that completed the file; a line was
 -- reported for each, and a last one with what is wanted or how many records the file has; and the
 -- session that the sink's parts belong to ended so.

@@ -52,6 +52,8 @@ pub mod RecordText
 pub mod OutSinks
 pub mod Reeling
 pub mod Extracting
+pub mod Rounds
+pub mod ExtractingAgain
 pub mod ExtractingNow
 pub mod ExtractExamples
 -- Cases, which hold the definitions from below.
@@ -59,4 +61,5 @@ pub mod Cases
 pub mod CasesOfReels
 pub mod CasesOfCatalogues
 pub mod CasesOfExtracts
+pub mod CasesOfRounds
 pub mod CasesOfLaws

@@ -249,16 +249,17 @@ pub record Takes {S R : Type 0} (holds : S → List Portion → Type 0) (refusal
       × holds new.sink now × IsKeptFor back (seen refusals new now)
       × Follows back old.core (seen refusals old held) (turn ∷ []) new.core (seen refusals new now)
 
--- Images were read in their order, all of them or up to the one that completed the file, and a line
--- was reported for each.
+-- Images, of which there are so many, were read in their order, all of them or up to the one that
+-- completed the file, and a line was reported for each, behind so many lines that were there.
 pub record TakesAll {S L R : Type 0} (holds : S → List Portion → Type 0) (refusals : S → ℕ)
-    (size : L → ℕ) (gives : Mounting L R) (remaining : R → Option (List ℕ)) (back : Bool)
+    (size before : ℕ) (gives : Mounting L R) (remaining : R → Option (List ℕ)) (back : Bool)
     (old new : Story S) (shelf left : L) (said says : Option (List ℕ)) : Type 0 where
   pub turns : List Turn
   pub are_turns : AreTurns gives remaining shelf 0 turns left
-  pub lines : Appends said says (reel_lines 1 (map answer_of turns))
-  pub most : length turns ≤ size shelf
-  pub all : length turns < size shelf → new.core.position ≡ Finished
+  pub lines : Appends said says (reel_lines (before + 1) (map answer_of turns))
+  pub most : length turns ≤ size
+  pub all : length turns < size → new.core.position ≡ Finished
+  pub none : size ≡ 0 → new ≡ old
   pub follows : (held : List Portion) → holds old.sink held
       → IsKeptFor back (seen refusals old held) → (now : List Portion)
       × holds new.sink now × IsKeptFor back (seen refusals new now)
@@ -272,14 +273,14 @@ IsReported number said says = (more : List (Option ReelAnswer)) × (length more 
 -- Images were read in their order, and a fault ended that: a line was reported for each of them,
 -- and a front of one for one more. Those behind that one were not mounted.
 pub record StopsReading {S L R : Type 0} (holds : S → List Portion → Type 0) (refusals : S → ℕ)
-    (size : L → ℕ) (gives : Mounting L R) (remaining : R → Option (List ℕ)) (back : Bool)
+    (size before : ℕ) (gives : Mounting L R) (remaining : R → Option (List ℕ)) (back : Bool)
     (old : Story S) (shelf left : L) (said says : Option (List ℕ)) : Type 0 where
   pub turns : List Turn
   pub are_turns : AreFirstTurns gives remaining shelf turns left
-  pub fewer : length turns < size shelf
+  pub fewer : length turns < size
   pub more : List (Option ReelAnswer)
   pub few : length more ≤ 1
-  pub lines : AppendsFront said says (reel_lines 1 (map answer_of turns ++ more))
+  pub lines : AppendsFront said says (reel_lines (before + 1) (map answer_of turns ++ more))
   pub follows : (held : List Portion) → holds old.sink held
       → IsKeptFor back (seen refusals old held) → (core : State) × (now : Seen)
       × Follows back old.core (seen refusals old held) turns core now

@@ -3,11 +3,12 @@ ghost use Rattle.std.specs.Prelude.{◌≡◌, ◌≢◌, None, List, OnOk, IfOk
 ghost use Rattle.std.specs.Io.KnownBytes.{Appends};
 ghost use Rattle.tape_blocks.specs.Block.{Portion};
 ghost use Rattle.tape_run.specs.Output.{AppendsFront};
-ghost use Rattle.tape_run.specs.Extracting.{Extracts, Stops, IsWritten};
+ghost use Rattle.tape_run.specs.Extracting.{Extracts, Stops, EndsFile, StopsAtEnd, IsWritten};
 ghost use Rattle.tape_run.specs.RecordText.{output_of};
 ghost use Rattle.tape_run.specs.Reeling.{goes_back};
 ghost use Rattle.tape_run.specs.ReelLine.{last_line};
 
+mod again;
 mod images;
 pub mod line;
 mod now;
@@ -18,6 +19,7 @@ use crate::fault::EngineFault;
 use crate::output::{flush, write_text};
 use crate::session::Session;
 use crate::shelf::Shelf;
+pub use again::extract_again;
 use images::read_images;
 pub use line::{ReportLine, last_line, reel_line};
 pub use now::{Place, extract_now};
@@ -70,6 +72,22 @@ pub fn extract_to<S: PartWalk + Drop, R: Read + Drop, L: Shelf<R>, W: Write, P: 
     let mut session = session;
     let back = has_note(&session);
     read_images(&mut session, images, back, report)?;
+    end_file(session, form, out, report)
+}
+
+/// Reports what is wanted of the session's file, or writes the file and reports that.
+fn end_file<S: PartWalk + Drop, W: Write, P: Write>(
+    session: Session<S>,
+    form: Form,
+    out: &mut W,
+    report: &mut P,
+) -> Result<Option<Want>, EngineFault>
+    ensures ok { IfOk result (EndsFile S.holds session form (W.contents out.old)
+        (W.contents out.new) (P.contents report.old) (P.contents report.new)) }
+    ensures untouched { IfOk result (λ want. want ≢ None → out.new ≡ out.old) }
+    ensures err { OnErr result (StopsAtEnd S.holds session form W.contents out.old out.new
+        (P.contents report.old) (P.contents report.new)) }
+{
     if let Some(want) = session.want() {
         end_report(report, Some(want), 0)?;
         return Ok(Some(want));

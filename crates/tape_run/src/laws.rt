@@ -7,6 +7,7 @@ ghost use Rattle.tape_run.specs.CasesOfReels.{CasesOfAnswers, CasesOfTable, Case
 ghost use Rattle.tape_run.specs.CasesOfCatalogues.{CasesOfCatalogues, CasesOfImages};
 ghost use Rattle.tape_run.specs.CasesOfCatalogues.{CasesOfCopies, CasesOfReports};
 ghost use Rattle.tape_run.specs.CasesOfExtracts.{CasesOfTurns, CasesOfOutputs};
+ghost use Rattle.tape_run.specs.CasesOfRounds.{CasesOfRounds};
 ghost use Rattle.tape_run.specs.CasesOfLaws.{CasesOfRunLaws, CasesOfCatalogueLaws};
 ghost use Rattle.tape_run.specs.Fronts.{FrontsAreMounts, GivenIsHistory};
 ghost use Rattle.tape_run.specs.Lead.{ItemsAreThere};
@@ -72,6 +73,7 @@ pub fn cases()
     ensures reports { CasesOfReports }
     ensures turns { CasesOfTurns }
     ensures outputs { CasesOfOutputs }
+    ensures rounds { CasesOfRounds }
     ensures run_laws { CasesOfRunLaws }
     ensures catalogue_laws { CasesOfCatalogueLaws }
 {}

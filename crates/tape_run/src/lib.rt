@@ -37,7 +37,8 @@ pub use answer::ReelAnswer;
 pub use catalogue::Catalogue;
 pub use check::check_to;
 pub use extract::{
-    OutSink, Place, ReportLine, extract_now, extract_to, last_line, reel_line, write_file,
+    OutSink, Place, ReportLine, extract_again, extract_now, extract_to, last_line, reel_line,
+    write_file,
 };
 pub use fault::{EngineFault, ListFault, RunFault, WriteFailed};
 pub use identifier::printed;

@@ -12,7 +12,7 @@ use tape_set::Want;
 
 /// The worked volume's labels around these blocks: each with the numbers of its records, and
 /// whether it can be read.
-fn volume(alloc: Global, blocks: &[(u8, u8, bool)]) -> Result<Image, AllocError> {
+pub fn volume(alloc: Global, blocks: &[(u8, u8, bool)]) -> Result<Image, AllocError> {
     let mut image = Image::new(alloc);
     image.headers(&[VOL1, HDR1, HDR2])?;
     for (from, to, good) in blocks {
@@ -54,7 +54,7 @@ fn from_block(block: u32) -> Option<Want> {
 }
 
 /// Its second block was lost, and it tells so.
-fn lost(alloc: Global) -> Result<Image, AllocError> {
+pub fn lost(alloc: Global) -> Result<Image, AllocError> {
     volume(alloc, &[(0, 10, true), (20, 25, true)])
 }
 

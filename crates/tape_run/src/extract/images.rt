@@ -1,5 +1,5 @@
 //! Images read one after another, and a line reported for each.
-ghost use Rattle.std.specs.Prelude.{◌≡◌, ◌≢◌, Some, List, OnOk, OnErr, true, false};
+ghost use Rattle.std.specs.Prelude.{◌≡◌, ◌≢◌, ◌≤◌, ◌+◌, Some, List, OnOk, OnErr, true, false};
 ghost use Rattle.tape_set.specs.declared.position.Position.TheVariants.{Finished};
 ghost use Rattle.tape_blocks.specs.Block.{Portion};
 ghost use Rattle.tape_run.specs.Seen.{seen, IsKept};
@@ -23,20 +23,41 @@ pub fn read_images<S: PartSink, R: Read + Drop, L: Shelf<R>, P: Write>(
     back: bool,
     report: &mut P,
 ) -> Result<(), EngineFault>
-    ensures ok { OnOk result (TakesAll S.holds S.refusals L.size L.gives R.remaining back
+    ensures ok { OnOk result (TakesAll S.holds S.refusals (L.size images.old) 0 L.gives R.remaining
+        back session.old session.new images.old images.new
+        (P.contents report.old) (P.contents report.new)) }
+    ensures err { OnErr result (StopsReading S.holds S.refusals (L.size images.old) 0 L.gives
+        R.remaining back session.old images.old images.new
+        (P.contents report.old) (P.contents report.new)) }
+{
+    let count = images.count();
+    read_round(session, images, count, 0, back, report)
+}
+
+/// The same of so many images. Before their lines there are so many.
+pub fn read_round<S: PartSink, R: Read + Drop, L: Shelf<R>, P: Write>(
+    session: &mut Session<S>,
+    images: &mut L,
+    count: usize,
+    lines: u64,
+    back: bool,
+    report: &mut P,
+) -> Result<(), EngineFault>
+    requires room { lines + count ≤ 18446744073709551615 }
+    ensures ok { OnOk result (TakesAll S.holds S.refusals count lines L.gives R.remaining back
         session.old session.new images.old images.new
         (P.contents report.old) (P.contents report.new)) }
-    ensures err { OnErr result (StopsReading S.holds S.refusals L.size L.gives R.remaining back
+    ensures err { OnErr result (StopsReading S.holds S.refusals count lines L.gives R.remaining back
         session.old images.old images.new (P.contents report.old) (P.contents report.new)) }
 {
-    for number in 0..images.count() {
+    for number in 0..count {
         if session.want().is_none() {
             return Ok(());
         }
         let Ok(image) = images.mount(number) else {
             return Err(EngineFault::Run(RunFault::OutOfMemory));
         };
-        take_image(session, image, number as u64 + 1, back, report)?;
+        take_image(session, image, lines + number as u64 + 1, back, report)?;
     }
     Ok(())
 }

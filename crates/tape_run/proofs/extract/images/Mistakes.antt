@@ -1,15 +1,23 @@
--- Answers that the contracts of what is done behind a reel exclude: each is what a wrong body would
--- give.
+-- Answers that the contracts of a round, and of what is done behind a reel, exclude: each is what a
+-- wrong body would give.
 use Rattle.std.proofs.Common.{◌≡◌, ◌+◌, length, ap, ◌∙◌, sym, arith, subst, true, Bool}
-use Rattle.std.specs.Prelude.{Ok}
+use Rattle.std.proofs.Common.{ℕ, List, [], ◌∷◌, ◌++◌, refl, codes}
+use Rattle.std.specs.Prelude.{Ok, Option, Some, None, map, slice_index, ◌<◌}
+use Rattle.std.specs.Fmt.{digits}
+use Rattle.std.specs.Io.KnownBytes.{Appends}
+use Rattle.tape_set.specs.declared.position.Position.{Position}
+use Rattle.tape_set.specs.declared.position.Position.TheVariants.{Finished}
 use Rattle.tape_core.specs.declared.answer.Answer.TheVariants.{Useless}
 use Rattle.tape_core.specs.declared.answer.Reason.TheVariants.{BlockCount}
 use Rattle.tape_core.specs.declared.phase.Phase.TheVariants.{Broken, Over}
 use Rattle.tape_core.specs.Place.{resting}
 use Rattle.tape_run.specs.Seen.{Seen, seen, IsKept}
+use Rattle.tape_run.specs.ReelLine.{reel_lines}
 use Rattle.tape_run.specs.Reeling.{is_doubtful, IsNoted, IsKeptFor, WentToLast}
+use Rattle.tape_run.specs.Reeling.{Turn, answer_of, AreTurns, IsTurn, Mounting}
 use Rattle.tape_run.proofs.Headline.{took_so_many}
 use Rattle.tape_run.proofs.extract.images.note.Reads as note
+use Rattle.tape_run.proofs.extract.images.read_round.Reads as read_round
 use Rattle.tape_run.proofs.extract.images.settle.Reads as settle
 
 -- saved_behind_a_wrong_count: behind a reel whose trailer counts other blocks a note is made
@@ -61,3 +69,38 @@ taken_back_to_the_beginning S L g d κs a s label count held l told back was kep
       ap length w.notes,
       took_so_many n old.notes (omega (arith, one)),
     ))
+
+-- of the one image of a round, which is not there, the line is told
+one_line : {L R : Type 0} (gives : Mounting L R) (remaining : R → Option (List ℕ)) (shelf left : L)
+    (turns : List Turn) (p : Position) → AreTurns gives remaining shelf 0 turns left
+    → ((image : Option R) (next : L) → gives shelf 0 image next → image ≡ None)
+    → (length turns < 1 → p ≡ Finished) → (p ≡ Finished → ⊥)
+    → (more : List Turn) × (map answer_of turns ≡ None ∷ map answer_of more)
+one_line gives remaining shelf left [] p are none all waits = absurd (waits (all (omega arith)))
+one_line gives remaining shelf left (None ∷ turns) p are none all waits = (turns, refl)
+one_line gives remaining shelf left (Some o ∷ turns) p (image, next, gave, turn, are) none all
+    waits = absurd (subst (λ z. IsTurn remaining z (Some o)) (none image next gave) turn)
+
+-- numbers_begin_anew: behind one line the first image, which is not there, is told as reel 1
+numbers_begin_anew : (S : _) (R : _) (L : _) (P : _) (LS : _) (LR : _) (LL : _) (LP : _) (g : _)
+    (d : _) (h : _) (e : _) (m : _) (n : _) (p : _) (i : _) (k : _) (κs : _) (a : _) (s : _)
+    (text : List ℕ)
+    → read_round.Learnt-named S R L P LS LR LL LP g d h e m n p i k κs a (Ok tt) s
+    → a.1.1.0 ≡ 1 → a.1.1.1.0 ≡ 1
+    → ((image : Option _) (next : _) → m.gives a.1.0.now 0 image next → image ≡ None)
+    → (s.0.now.core.position ≡ Finished → ⊥) → p.contents a.1.1.1.1.1.0.now ≡ Some []
+    → p.contents s.1.1.1.1.1.0.now ≡ Some (codes "REEL 1 NOT OPENED\n" ++ text) → ⊥
+unfolding digits
+numbers_begin_anew S R L P LS LR LL LP g d h e m n p i k κs a s text l one behind none waits old
+    new =
+    let (more, answers) = one_line m.gives h.remaining a.1.0.now s.1.0.now l.ok.turns
+    s.0.now.core.position l.ok.are_turns none
+    (subst (λ v. length l.ok.turns < v → s.0.now.core.position ≡ Finished) one l.ok.all) waits in
+    let lines : List ℕ = reel_lines 2 (map answer_of l.ok.turns) in
+    let told = subst (λ v. Appends (p.contents a.1.1.1.1.1.0.now) (p.contents s.1.1.1.1.1.0.now)
+    (reel_lines (v + 1) (map answer_of l.ok.turns))) behind l.ok.lines in
+    let r : Appends (Some []) (Some (codes "REEL 1 NOT OPENED\n" ++ text)) lines
+    = subst (λ v. Appends (Some []) v lines) new
+    (subst (λ v. Appends v (p.contents s.1.1.1.1.1.0.now) lines) old told) in
+    absurd (let n : 49 ≡ 50 = ap (λ v. slice_index v 5) (r ∙ ap (reel_lines 2) answers) in
+    omega arith)

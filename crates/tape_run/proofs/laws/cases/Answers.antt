@@ -5,6 +5,7 @@ use Rattle.tape_run.proofs.ExamplesOfReels.{cases_of_answers, cases_of_table, ca
 use Rattle.tape_run.proofs.ExamplesOfCatalogues.{cases_of_catalogues, cases_of_images}
 use Rattle.tape_run.proofs.ExamplesOfCatalogues.{cases_of_copies, cases_of_reports}
 use Rattle.tape_run.proofs.ExamplesOfExtracts.{cases_of_turns, cases_of_outputs}
+use Rattle.tape_run.proofs.ExamplesOfRounds.{cases_of_rounds}
 use Rattle.tape_run.proofs.ExamplesOfLaws.{cases_of_run_laws, cases_of_catalogue_laws}
 use Rattle.tape_run.proofs.laws.cases.Goals as goal
 
@@ -58,6 +59,9 @@ returns-clause-turns c = cases_of_turns
 
 pub returns-clause-outputs : goal.returns-clause-outputs
 returns-clause-outputs c = cases_of_outputs
+
+pub returns-clause-rounds : goal.returns-clause-rounds
+returns-clause-rounds c = cases_of_rounds
 
 pub returns-clause-run_laws : goal.returns-clause-run_laws
 returns-clause-run_laws c = cases_of_run_laws

@@ -1,0 +1,160 @@
+-- What is left where images were read round by round, or a fault ended that.
+use Rattle.std.proofs.Common.{◌≡◌, Bool, ℕ, List, ◌++◌, map, Option, length}
+use Rattle.std.proofs.Common.{[], None, refl, sym, ap, subst, ◌∙◌, inl, arith, append-nil}
+use Rattle.std.specs.Io.KnownBytes.{Appends}
+use Rattle.std.proofs.KnownBytes.{Appends-trans}
+use Rattle.tape_blocks.specs.Block.{Portion}
+use Rattle.tape_blocks.specs.declared.form.Form.{Form}
+use Rattle.tape_set.specs.declared.position.Want.{Want}
+use Rattle.tape_set.specs.Position.{want_at}
+use Rattle.tape_core.specs.State.{State}
+use Rattle.tape_run.specs.Seen.{Seen, seen}
+use Rattle.tape_run.specs.Story.{Story}
+use Rattle.tape_run.specs.ReelLine.{reel_lines, last_line}
+use Rattle.tape_run.specs.Reeling.{Turn, answer_of, Follows, goes_back, Mounting}
+use Rattle.tape_run.specs.Rounds.{Round, turns_of, core_behind, wanted, IsEnough}
+use Rattle.tape_run.specs.Rounds.{FollowsRounds, TakesRounds, StopsInRound}
+use Rattle.tape_run.specs.Extracting.{EndsFile, StopsAtEnd}
+use Rattle.tape_run.specs.ExtractingAgain.{ExtractsAgain, StopsAgain}
+use Rattle.tape_run.proofs.Fitting.{front_more, front_then}
+use Rattle.tape_run.proofs.Extracted.{ended}
+use Rattle.tape_run.proofs.Turns.{follows_then}
+use Rattle.tape_run.proofs.Rounds.{all_turns, lines_of_all, front_of_all}
+
+-- whole rounds and the turns of a last one, as one row of turns
+in_a_row : (back : Bool) (core : State) (old : Seen) (rounds : List Round) (mid : Seen)
+    (turns : List Turn) (last : State) (new : Seen) → FollowsRounds back core old rounds mid
+    → Follows back (core_behind core rounds) mid turns last new
+    → Follows back core old (turns_of rounds ++ turns) last new
+in_a_row back core old rounds mid turns last new f g =
+    follows_then back core old (turns_of rounds) (core_behind core rounds) mid turns last new
+    (all_turns back core old rounds mid f) g
+
+pub extracted_again : {S L R : Type 0} (holds : S → List Portion → Type 0) (refusals : S → ℕ)
+    (size : L → ℕ) (gives : Mounting L R) (remaining : R → Option (List ℕ)) (old new : Story S)
+    (shelf left : L) (form : Form)
+    (out written said between says : Option (List ℕ)) (want : Option Want)
+    (back : Bool) → back ≡ goes_back old.notes
+    → TakesRounds holds refusals (size shelf) gives remaining back old new shelf left said between
+    → EndsFile holds new form out written between says want
+    → ExtractsAgain holds refusals size gives remaining old shelf left form out written said says
+    want
+extracted_again holds refusals size gives remaining old new shelf left form out written said between
+    says want back same took e =
+    let t = subst (λ b. TakesRounds holds refusals (size shelf) gives remaining b old new shelf left
+    said between) same took in
+    record {
+      rounds = t.rounds;
+      between = t.between;
+      are_rounds = t.gone.are_rounds;
+      brought = t.gone.brought;
+      turns = t.last.turns;
+      are_turns = t.last.are_turns;
+      most = t.last.most;
+      all = λ less. e.wanted ∙ ap (want_at new.core.file) (t.last.all less);
+      enough = subst (λ w. IsEnough (size shelf) (length (turns_of t.rounds))
+          (wanted (core_behind old.core t.rounds)) w) (sym e.wanted)
+          (subst (λ c. IsEnough (size shelf) (length (turns_of t.rounds)) (wanted c)
+          (wanted new.core)) t.gone.at t.enough);
+      records = e.records;
+      lines = Appends-trans said between says _ _
+          (lines_of_all said t.told between (turns_of t.rounds) t.last.turns t.gone.lines
+          t.last.lines) e.line;
+      ends = λ held was kept.
+          let (mid, has, still, f) = t.gone.follows held was kept in
+          let (now, has_now, then, one) = t.last.follows mid has still in
+          let first = seen refusals old held in
+          let g = subst (λ c. Follows (goes_back old.notes) c (seen refusals t.mid mid) t.last.turns
+          new.core (seen refusals new now)) t.gone.at one in (
+            ended holds refusals new old.core first (turns_of t.rounds ++ t.last.turns) form out
+                written between says want now e has_now
+                (in_a_row (goes_back old.notes) old.core first t.rounds (seen refusals t.mid mid)
+                t.last.turns new.core (seen refusals new now) f g),
+            (seen refusals t.mid mid, f, g),
+          );
+    }
+
+pub stops_in_round : {S L R W : Type 0} (holds : S → List Portion → Type 0)
+    (refusals : S → ℕ) (size : L → ℕ) (gives : Mounting L R) (remaining : R → Option (List ℕ))
+    (old : Story S) (shelf left : L) (form : Form) (contents : W → Option (List ℕ))
+    (out : W) (said says : Option (List ℕ)) (back : Bool) → back ≡ goes_back old.notes
+    → StopsInRound holds refusals (size shelf) gives remaining back old shelf left said says
+    → StopsAgain holds refusals size gives remaining old shelf left form contents out out said says
+stops_in_round holds refusals size gives remaining old shelf left form contents out said says back
+    same stopped =
+    let s = subst (λ b. StopsInRound holds refusals (size shelf) gives remaining b old shelf left
+    said says) same stopped in
+    record {
+      rounds = s.rounds;
+      between = s.between;
+      are_rounds = s.gone.are_rounds;
+      brought = s.gone.brought;
+      turns = s.last.turns;
+      are_turns = s.last.are_turns;
+      most = omega (arith, s.last.fewer);
+      more = s.last.more;
+      few = s.last.few;
+      want = None;
+      records = 0;
+      lines = front_more said says _ (last_line None 0)
+          (front_of_all said s.told says (turns_of s.rounds) s.last.turns s.last.more s.gone.lines
+          s.last.lines);
+      follows = λ held was kept.
+          let (mid, has, still, f) = s.gone.follows held was kept in
+          let (core, now, one) = s.last.follows mid has still in (
+            core,
+            now,
+            (
+              seen refusals s.mid mid,
+              f,
+              subst (λ c. Follows (goes_back old.notes) c (seen refusals s.mid mid) s.last.turns
+                  core now) s.gone.at one,
+            ),
+            inl refl,
+          );
+    }
+
+pub stops_at_end_again : {S L R W : Type 0} (holds : S → List Portion → Type 0) (refusals : S → ℕ)
+    (size : L → ℕ) (gives : Mounting L R) (remaining : R → Option (List ℕ)) (old new : Story S)
+    (shelf left : L) (form : Form)
+    (contents : W → Option (List ℕ)) (out written : W) (said between says : Option (List ℕ))
+    (back : Bool) → back ≡ goes_back old.notes
+    → TakesRounds holds refusals (size shelf) gives remaining back old new shelf left said between
+    → StopsAtEnd holds new form contents out written between says
+    → StopsAgain holds refusals size gives remaining old shelf left form contents out written said
+    says
+stops_at_end_again holds refusals size gives remaining old new shelf left form contents out written
+    said between says back same took e =
+    let t = subst (λ b. TakesRounds holds refusals (size shelf) gives remaining b old new shelf left
+    said between) same took in
+    record {
+      rounds = t.rounds;
+      between = t.between;
+      are_rounds = t.gone.are_rounds;
+      brought = t.gone.brought;
+      turns = t.last.turns;
+      are_turns = (left, t.last.are_turns, inl refl);
+      most = t.last.most;
+      more = [];
+      few = omega arith;
+      want = e.want;
+      records = e.records;
+      lines = front_then said between says _ (last_line e.want e.records)
+          (subst (λ l. Appends said between (reel_lines 1 l))
+          (sym (append-nil (map answer_of (turns_of t.rounds ++ t.last.turns))))
+          (lines_of_all said t.told between (turns_of t.rounds) t.last.turns t.gone.lines
+          t.last.lines)) e.line;
+      follows = λ held was kept.
+          let (mid, has, still, f) = t.gone.follows held was kept in
+          let (now, has_now, then, one) = t.last.follows mid has still in (
+            new.core,
+            seen refusals new now,
+            (
+              seen refusals t.mid mid,
+              f,
+              subst (λ c. Follows (goes_back old.notes) c (seen refusals t.mid mid) t.last.turns
+                  new.core (seen refusals new now)) t.gone.at one,
+            ),
+            e.is_written now has_now,
+          );
+    }

@@ -1,0 +1,249 @@
+-- Images that were read round by round.
+use Rattle.std.proofs.Common.{◌≡◌, ◌⊎◌, inl, inr, Bool, ℕ, ◌+◌, ◌<◌, ◌≤◌, List, [], ◌∷◌, ◌++◌}
+use Rattle.std.proofs.Common.{length, map, Option, None, refl, sym, ap, subst, ◌∙◌, arith}
+use Rattle.std.proofs.Common.{append_assoc, append-nil, length-append}
+use Rattle.std.specs.Prelude.{◌≢◌}
+use Rattle.std.proofs.lemmas.Bool.{cases_lt}
+use Rattle.std.proofs.lemmas.List.{map-append}
+use Rattle.std.specs.Io.KnownBytes.{Appends}
+use Rattle.std.proofs.KnownBytes.{Appends-trans, Appends-nil}
+use Rattle.tape_blocks.specs.Block.{Portion}
+use Rattle.tape_set.specs.declared.position.Position.TheVariants.{Finished}
+use Rattle.tape_set.specs.declared.position.Want.{Want}
+use Rattle.tape_set.specs.Position.{want_at}
+use Rattle.tape_core.specs.State.{State}
+use Rattle.tape_run.specs.Seen.{Seen, seen}
+use Rattle.tape_run.specs.Story.{Story}
+use Rattle.tape_run.specs.ReelLine.{reel_lines}
+use Rattle.tape_run.specs.Output.{AppendsFront}
+use Rattle.tape_run.specs.declared.answer.ReelAnswer.{ReelAnswer}
+use Rattle.tape_run.specs.Reeling.{Turn, answer_of, AreTurns, Follows, Mounting, TakesAll}
+use Rattle.tape_run.specs.Reeling.{StopsReading}
+use Rattle.tape_run.specs.Rounds.{Round, turns_of, core_behind, wanted, AreRounds, IsEnough}
+use Rattle.tape_run.specs.Rounds.{BroughtSomething, FollowsRounds, HasGone, TakesRounds}
+use Rattle.tape_run.specs.Rounds.{StopsInRound}
+use Rattle.tape_run.proofs.Fitting.{front_then}
+use Rattle.tape_run.proofs.Turns.{lines_more, follows_then}
+
+-- ---- one more round
+
+turns_push : (rounds : List Round) (r : Round)
+    → turns_of (rounds ++ r ∷ []) ≡ turns_of rounds ++ r.turns
+turns_push [] r = append-nil r.turns
+turns_push (q ∷ rounds) r = ap (λ l. q.turns ++ l) (turns_push rounds r)
+    ∙ sym (append_assoc q.turns (turns_of rounds) r.turns)
+
+state_push : (core : State) (rounds : List Round) (r : Round)
+    → core_behind core (rounds ++ r ∷ []) ≡ r.behind
+state_push core [] r = refl
+state_push core (q ∷ rounds) r = state_push q.behind rounds r
+
+rounds_push : {L R : Type 0} (gives : Mounting L R) (remaining : R → Option (List ℕ)) (shelf : L)
+    (rounds : List Round) (mid : L) (r : Round) (last : L)
+    → AreRounds gives remaining shelf rounds mid → AreTurns gives remaining mid 0 r.turns last
+    → AreRounds gives remaining shelf (rounds ++ r ∷ []) last
+rounds_push gives remaining shelf [] mid r last same are =
+    (last, subst (λ z. AreTurns gives remaining z 0 r.turns last) same are, refl)
+rounds_push gives remaining shelf (q ∷ rounds) mid r last (z, first, rest) are =
+    (z, first, rounds_push gives remaining z rounds mid r last rest are)
+
+brought_push : (size : ℕ) (core : State) (rounds : List Round) (r : Round)
+    → BroughtSomething size core rounds → length r.turns ≡ size → wanted r.behind ≢ None
+    → wanted r.behind ≢ wanted (core_behind core rounds)
+    → BroughtSomething size core (rounds ++ r ∷ [])
+brought_push size core [] r brought whole some other = (whole, some, other, tt)
+brought_push size core (q ∷ rounds) r (a, b, c, brought) whole some other =
+    (a, b, c, brought_push size q.behind rounds r brought whole some other)
+
+follows_push : (back : Bool) (core : State) (old : Seen) (rounds : List Round) (mid : Seen)
+    (r : Round) (new : Seen) → FollowsRounds back core old rounds mid
+    → Follows back (core_behind core rounds) mid r.turns r.behind new
+    → FollowsRounds back core old (rounds ++ r ∷ []) new
+follows_push back core old [] mid r new same f =
+    (new, subst (λ z. Follows back core z r.turns r.behind new) same f, refl)
+follows_push back core old (q ∷ rounds) mid r new (z, first, rest) f =
+    (z, first, follows_push back q.behind z rounds mid r new rest f)
+
+-- ---- over all rounds
+
+-- Rounds are turns, one behind another.
+pub all_turns : (back : Bool) (core : State) (old : Seen) (rounds : List Round) (mid : Seen)
+    → FollowsRounds back core old rounds mid
+    → Follows back core old (turns_of rounds) (core_behind core rounds) mid
+all_turns back core old [] mid same = (refl, same)
+all_turns back core old (r ∷ rounds) mid (z, first, rest) =
+    follows_then back core old r.turns r.behind z (turns_of rounds)
+    (core_behind r.behind rounds) mid first (all_turns back r.behind z rounds mid rest)
+
+-- the lines of rounds, and of what stands behind them
+pub lines_then : (turns : List Turn) (others : List Turn) (more : List (Option ReelAnswer))
+    → reel_lines 1 (map answer_of (turns ++ others) ++ more)
+    ≡ reel_lines 1 (map answer_of turns)
+    ++ reel_lines (length turns + 1) (map answer_of others ++ more)
+lines_then turns others more =
+    let number : 1 + length turns ≡ length turns + 1 = omega arith in
+    ap (λ l. reel_lines 1 (l ++ more)) (map-append answer_of turns others)
+    ∙ ap (reel_lines 1) (append_assoc (map answer_of turns) (map answer_of others) more)
+    ∙ lines_more 1 turns (map answer_of others ++ more)
+    ∙ ap (λ n. reel_lines 1 (map answer_of turns)
+    ++ reel_lines n (map answer_of others ++ more)) number
+
+pub lines_of_all : (old mid new : Option (List ℕ)) (turns others : List Turn)
+    → Appends old mid (reel_lines 1 (map answer_of turns))
+    → Appends mid new (reel_lines (length turns + 1) (map answer_of others))
+    → Appends old new (reel_lines 1 (map answer_of (turns ++ others)))
+lines_of_all old mid new turns others first then =
+    let text : reel_lines 1 (map answer_of (turns ++ others)) ≡ reel_lines 1 (map answer_of turns)
+    ++ reel_lines (length turns + 1) (map answer_of others) =
+    ap (reel_lines 1) (sym (append-nil (map answer_of (turns ++ others))))
+    ∙ lines_then turns others []
+    ∙ ap (λ l. reel_lines 1 (map answer_of turns) ++ reel_lines (length turns + 1) l)
+    (append-nil (map answer_of others)) in
+    subst (Appends old new) (sym text) (Appends-trans old mid new _ _ first then)
+
+pub front_of_all : (old mid new : Option (List ℕ)) (turns others : List Turn)
+    (more : List (Option ReelAnswer)) → Appends old mid (reel_lines 1 (map answer_of turns))
+    → AppendsFront mid new (reel_lines (length turns + 1) (map answer_of others ++ more))
+    → AppendsFront old new (reel_lines 1 (map answer_of (turns ++ others) ++ more))
+front_of_all old mid new turns others more first then =
+    subst (AppendsFront old new) (sym (lines_then turns others more))
+    (front_then old mid new _ _ first then)
+
+-- ---- calls
+
+-- a round behind which something is wanted had all images
+whole_round : (turns : List Turn) (size : ℕ) (core : State) → length turns ≤ size
+    → (length turns < size → core.position ≡ Finished) → wanted core ≢ None → length turns ≡ size
+whole_round turns size core most all some = elim (cases_lt (length turns) size) [
+  | inl less ↦ absurd (some (ap (want_at core.file) (all less)))
+  | inr no_less ↦ omega (arith, most, no_less)
+]
+
+-- nothing has come yet
+pub none_gone : {S L R : Type 0} (holds : S → List Portion → Type 0) (refusals : S → ℕ)
+    (size : ℕ) (gives : Mounting L R) (remaining : R → Option (List ℕ)) (back : Bool)
+    (old : Story S) (shelf : L) (said : Option (List ℕ))
+    → HasGone holds refusals size gives remaining back old old shelf shelf said said []
+none_gone holds refusals size gives remaining back old shelf said = record {
+  are_rounds = refl;
+  brought = tt;
+  at = refl;
+  lines = Appends-nil said;
+  follows = λ held was kept. (held, was, kept, refl);
+}
+
+-- one more round was made, and it was not enough
+pub gone_on : {S L R : Type 0} (holds : S → List Portion → Type 0) (refusals : S → ℕ)
+    (size before : ℕ) (gives : Mounting L R) (remaining : R → Option (List ℕ)) (back : Bool)
+    (old mid new : Story S) (shelf between left : L) (said told says : Option (List ℕ))
+    (rounds : List Round)
+    → HasGone holds refusals size gives remaining back old mid shelf between said told rounds
+    → before ≡ length (turns_of rounds)
+    → TakesAll holds refusals size before gives remaining back mid new between left told says
+    → wanted new.core ≢ None → wanted new.core ≢ wanted mid.core
+    → (more : List Round) × (before + size ≡ length (turns_of more))
+    × HasGone holds refusals size gives remaining back old new shelf left said says more
+gone_on holds refusals size before gives remaining back old mid new shelf between left said told
+    says rounds h count took some other =
+    let t = subst (λ n. TakesAll holds refusals size n gives remaining back mid new between left
+    told says) count took in
+    let whole = whole_round t.turns size new.core t.most t.all some in
+    let r : Round = record { turns = t.turns; behind = new.core } in (
+      rounds ++ r ∷ [],
+      omega (
+        arith,
+        count,
+        whole,
+        length-append (turns_of rounds) t.turns,
+        ap length (turns_push rounds r),
+      ),
+      record {
+        are_rounds = rounds_push gives remaining shelf rounds between r left h.are_rounds
+            t.are_turns;
+        brought = brought_push size old.core rounds r h.brought whole some
+            (subst (λ c. wanted new.core ≢ wanted c) h.at other);
+        at = sym (state_push old.core rounds r);
+        lines = subst (λ l. Appends said says (reel_lines 1 (map answer_of l)))
+            (sym (turns_push rounds r))
+            (lines_of_all said told says (turns_of rounds) t.turns h.lines t.lines);
+        follows = λ held was kept.
+            let (between, has, still, f) = h.follows held was kept in
+            let (now, has_now, then, one) = t.follows between has still in (
+              now,
+              has_now,
+              then,
+              follows_push back old.core (seen refusals old held) rounds (seen refusals mid between)
+                  r (seen refusals new now) f
+                  (subst (λ c. Follows back c (seen refusals mid between) t.turns new.core
+                  (seen refusals new now)) h.at one),
+            );
+      },
+    )
+
+-- where a round brought something there are images
+pub some_images : {S L R : Type 0} (holds : S → List Portion → Type 0) (refusals : S → ℕ)
+    (size before : ℕ) (gives : Mounting L R) (remaining : R → Option (List ℕ)) (back : Bool)
+    (mid new : Story S) (between left : L) (told says : Option (List ℕ))
+    → TakesAll holds refusals size before gives remaining back mid new between left told says
+    → wanted new.core ≢ wanted mid.core → 0 < size
+some_images {S} holds refusals size before gives remaining back mid new between left told says t
+    other = elim (cases_lt 0 size) [
+      | inl some ↦ some
+      | inr none ↦ absurd (other (ap (λ (s : Story S). wanted s.core) (t.none (omega (arith, none)))))
+    ]
+
+-- one more round was made, and it was enough
+pub takes_rounds : {S L R : Type 0} (holds : S → List Portion → Type 0) (refusals : S → ℕ)
+    (size count before : ℕ) (gives : Mounting L R) (remaining : R → Option (List ℕ)) (back : Bool)
+    (old mid new : Story S) (shelf between left : L) (said told says : Option (List ℕ))
+    (rounds : List Round) → count ≡ size → before ≡ length (turns_of rounds)
+    → HasGone holds refusals count gives remaining back old mid shelf between said told rounds
+    → TakesAll holds refusals count before gives remaining back mid new between left told says
+    → IsEnough count before (wanted mid.core) (wanted new.core)
+    → TakesRounds holds refusals size gives remaining back old new shelf left said says
+takes_rounds holds refusals size count before gives remaining back old mid new shelf between left
+    said told says rounds all lines h took enough =
+    subst (λ n. TakesRounds holds refusals n gives remaining back old new shelf left said says) all
+    (record {
+      rounds = rounds;
+      mid = mid;
+      between = between;
+      told = told;
+      gone = h;
+      last = subst (λ n. TakesAll holds refusals count n gives remaining back mid new between left
+          told says) lines took;
+      enough = subst (λ n. IsEnough count n (wanted mid.core) (wanted new.core)) lines enough;
+    })
+
+-- a fault ended one more round
+pub stops_round : {S L R : Type 0} (holds : S → List Portion → Type 0) (refusals : S → ℕ)
+    (size count before : ℕ) (gives : Mounting L R) (remaining : R → Option (List ℕ)) (back : Bool)
+    (old mid : Story S) (shelf between left : L) (said told says : Option (List ℕ))
+    (rounds : List Round) → count ≡ size → before ≡ length (turns_of rounds)
+    → HasGone holds refusals count gives remaining back old mid shelf between said told rounds
+    → StopsReading holds refusals count before gives remaining back mid between left told says
+    → StopsInRound holds refusals size gives remaining back old shelf left said says
+stops_round holds refusals size count before gives remaining back old mid shelf between left said
+    told says rounds all lines h stopped =
+    subst (λ n. StopsInRound holds refusals n gives remaining back old shelf left said says) all
+    (record {
+      rounds = rounds;
+      mid = mid;
+      between = between;
+      told = told;
+      gone = h;
+      last = subst (λ n. StopsReading holds refusals count n gives remaining back mid between left
+          told says) lines stopped;
+    })
+
+-- what is enough, by what was answered of what was wanted
+pub enough_by : (size lines : ℕ) (before want b w : Option Want) → b ≡ before → w ≡ want
+    → (w ≡ None) ⊎ (w ≡ b) → IsEnough size lines before want
+enough_by size lines before want b w is_b is_w (inl none) = inl (sym is_w ∙ none)
+enough_by size lines before want b w is_b is_w (inr same) = inr (inl (sym is_w ∙ same ∙ is_b))
+
+pub not_none : (want w : Option Want) → w ≡ want → w ≢ None → want ≢ None
+not_none want w is some none = some (is ∙ none)
+
+pub not_same : (before want b w : Option Want) → b ≡ before → w ≡ want → w ≢ b → want ≢ before
+not_same before want b w is_b is_w other same = other (is_w ∙ same ∙ sym is_b)

@@ -1,0 +1,75 @@
+use Rattle.std.proofs.Common.{◌+◌, ◌-◌, ◌<◌, [], refl, inr, arith}
+use Rattle.tape_run.proofs.Fitting.{on_err}
+use Rattle.tape_run.proofs.Rounds.{none_gone, gone_on, takes_rounds, stops_round, enough_by}
+use Rattle.tape_run.proofs.Rounds.{not_none, not_same, some_images}
+use Rattle.tape_run.proofs.extract.again.read_rounds.Goals as goal
+
+pub rounds-init : goal.rounds-init
+rounds-init g c = (
+  [],
+  refl,
+  omega (arith, c.count-count.type_inv),
+  none_gone g.S.PartSink.holds g.S.PartSink.refusals c.count-count.result g.L.Shelf.gives
+      g.R.Read.remaining c.args.back c.args.session.now c.args.images.now
+      (g.P.Write.contents c.args.report.now),
+)
+
+pub rounds-preserved : goal.rounds-preserved
+rounds-preserved g c =
+    let (rounds, e, room, h) = c.rounds.invariant in
+    let (some, other) = c.if-is_enough.ensures.no in
+    let (more, count, gone) = gone_on g.S.PartSink.holds g.S.PartSink.refusals
+    c.count-count.result c.rounds.lines g.L.Shelf.gives g.R.Read.remaining c.args.back
+    c.args.session.now c.rounds.session c.read_round.new.session c.args.images.now c.rounds.images
+    c.read_round.new.images (g.P.Write.contents c.args.report.now)
+    (g.P.Write.contents c.rounds.report) (g.P.Write.contents c.read_round.new.report) rounds h e
+    c.in_ok-read_round.ensures.ok (not_none _ _ c.want.ensures some)
+    (not_same _ _ _ _ c.want-before.ensures c.want.ensures other) in
+    (more, count, omega (arith, room, c.if-lines-count.false), gone)
+
+pub rounds-smaller : goal.rounds-smaller
+rounds-smaller g c =
+    let (rounds, e, room, h) = c.rounds.invariant in
+    let other = not_same _ _ _ _ c.want-before.ensures c.want.ensures
+    c.if-is_enough.ensures.no.1 in
+    let some = some_images g.S.PartSink.holds g.S.PartSink.refusals c.count-count.result
+    c.rounds.lines g.L.Shelf.gives g.R.Read.remaining c.args.back c.rounds.session
+    c.read_round.new.session c.rounds.images c.read_round.new.images
+    (g.P.Write.contents c.rounds.report) (g.P.Write.contents c.read_round.new.report)
+    c.in_ok-read_round.ensures.ok other in
+    let less : 18446744073709551615 - (c.rounds.lines + c.count-count.result)
+    < 18446744073709551615 - c.rounds.lines = omega (arith, room, some) in
+    less
+
+pub returns-in_err-read_round-clause-err : goal.returns-in_err-read_round-clause-err
+returns-in_err-read_round-clause-err g c =
+    let (rounds, e, room, h) = c.rounds.invariant in
+    on_err c.from_residual.result _ (stops_round g.S.PartSink.holds g.S.PartSink.refusals
+    (g.L.Shelf.size c.args.images.now)
+    c.count-count.result c.rounds.lines g.L.Shelf.gives g.R.Read.remaining c.args.back
+    c.args.session.now c.rounds.session c.args.images.now c.rounds.images
+    c.read_round.new.images (g.P.Write.contents c.args.report.now)
+    (g.P.Write.contents c.rounds.report) (g.P.Write.contents c.read_round.new.report) rounds
+    c.count-count.ensures e h c.in_err-read_round.ensures.err)
+
+pub returns-then-is_enough-clause-ok : goal.returns-then-is_enough-clause-ok
+returns-then-is_enough-clause-ok g c =
+    let (rounds, e, room, h) = c.rounds.invariant in
+    takes_rounds g.S.PartSink.holds g.S.PartSink.refusals (g.L.Shelf.size c.args.images.now)
+    c.count-count.result c.rounds.lines g.L.Shelf.gives g.R.Read.remaining c.args.back
+    c.args.session.now c.rounds.session c.read_round.new.session c.args.images.now c.rounds.images
+    c.read_round.new.images (g.P.Write.contents c.args.report.now)
+    (g.P.Write.contents c.rounds.report) (g.P.Write.contents c.read_round.new.report) rounds
+    c.count-count.ensures e h c.in_ok-read_round.ensures.ok
+    (enough_by _ _ _ _ _ _ c.want-before.ensures c.want.ensures c.if-is_enough.ensures.yes)
+
+pub returns-then-lines-count-clause-ok : goal.returns-then-lines-count-clause-ok
+returns-then-lines-count-clause-ok g c =
+    let (rounds, e, room, h) = c.rounds.invariant in
+    takes_rounds g.S.PartSink.holds g.S.PartSink.refusals (g.L.Shelf.size c.args.images.now)
+    c.count-count.result c.rounds.lines g.L.Shelf.gives g.R.Read.remaining c.args.back
+    c.args.session.now c.rounds.session c.read_round.new.session c.args.images.now c.rounds.images
+    c.read_round.new.images (g.P.Write.contents c.args.report.now)
+    (g.P.Write.contents c.rounds.report) (g.P.Write.contents c.read_round.new.report) rounds
+    c.count-count.ensures e h c.in_ok-read_round.ensures.ok
+    (inr (inr (omega (arith, room, c.if-lines-count.true))))

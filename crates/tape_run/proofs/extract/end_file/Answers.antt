@@ -1,0 +1,53 @@
+use Rattle.std.proofs.Common.{rules, ◌≡◌, Some, None, refl, sym, subst, ◌∙◌, inl, inr}
+use Rattle.tape_set.specs.Position.{want_at}
+use Rattle.tape_run.proofs.Fitting.{on_err}
+use Rattle.tape_run.proofs.Extracted.{ends_in_part, nothing_more, all_of_it, none_finished}
+use Rattle.tape_run.proofs.extract.end_file.Goals as goal
+
+pub returns-in_err-end_report-clause-err : goal.returns-in_err-end_report-clause-err
+returns-in_err-end_report-clause-err g c =
+    on_err _ _ (ends_in_part g.S.PartSink.holds c.args.session c.args.form g.W.Write.contents
+    c.args.out.now c.args.out.now _ _ (Some c.in-Some.want) 0 c.in_err-end_report.ensures.err
+    (λ held was. inl refl))
+
+pub returns-in-Some-clause-ok : goal.returns-in-Some-clause-ok
+returns-in-Some-clause-ok g c = record {
+  wanted = sym c.in-Some.is ∙ c.want.ensures;
+  records = 0;
+  line = c.in_ok-end_report.ensures.ok;
+  is_written = λ held was. tt;
+}
+
+pub returns-in_err-records-clause-err : goal.returns-in_err-records-clause-err
+returns-in_err-records-clause-err g c =
+    let none : None ≡ want_at c.args.session.core.file c.args.session.core.position =
+    search rules in
+    on_err _ _ (ends_in_part g.S.PartSink.holds c.args.session c.args.form g.W.Write.contents
+    c.args.out.now c.write_file.new.out _ _ None 0 (nothing_more _ _)
+    (λ held was. inr (
+      none_finished c.args.session.core.file c.args.session.core.position none,
+      c.in_err-records.ensures.err held
+          (subst (λ s. g.S.PartSink.holds s held) (sym c.into_sink-sink.ensures) was),
+    )))
+
+pub returns-in_err-end_report-2-clause-err : goal.returns-in_err-end_report-2-clause-err
+returns-in_err-end_report-2-clause-err g c =
+    let none : None ≡ want_at c.args.session.core.file c.args.session.core.position =
+    search rules in
+    on_err _ _ (ends_in_part g.S.PartSink.holds c.args.session c.args.form g.W.Write.contents
+    c.args.out.now c.write_file.new.out _ _ None c.in_ok-records.records
+    c.in_err-end_report-2.ensures.err
+    (λ held was. inr (
+      none_finished c.args.session.core.file c.args.session.core.position none,
+      all_of_it _ _ _ (c.in_ok-records.ensures.ok held
+          (subst (λ s. g.S.PartSink.holds s held) (sym c.into_sink-sink.ensures) was)).1,
+    )))
+
+pub returns-clause-ok : goal.returns-clause-ok
+returns-clause-ok g c = record {
+  wanted = search rules;
+  records = c.in_ok-records.records;
+  line = c.in_ok-end_report-2.ensures.ok;
+  is_written = λ held was. c.in_ok-records.ensures.ok held
+      (subst (λ s. g.S.PartSink.holds s held) (sym c.into_sink-sink.ensures) was);
+}

@@ -1,0 +1,86 @@
+use Rattle.std.proofs.Common.{◌≡◌, ◌+◌, [], ◌∷◌, ◌++◌, length, refl, sym, ap, subst, ◌∙◌}
+use Rattle.std.proofs.Common.{arith, rules, length-append, append-nil, map, inl, inr}
+use Rattle.std.proofs.KnownBytes.{Appends-nil}
+use Rattle.std.specs.Io.KnownBytes.{Appends}
+use Rattle.tape_run.specs.ReelLine.{reel_lines}
+use Rattle.tape_run.specs.Reeling.{answer_of}
+use Rattle.tape_run.specs.Seen.{seen}
+use Rattle.tape_run.proofs.Extracted.{all_of_it}
+use Rattle.tape_run.proofs.Fitting.{on_err}
+use Rattle.tape_run.proofs.Turns.{front_behind, line_behind, one_turn}
+use Rattle.tape_run.proofs.Turns.{follows_then}
+use Rattle.tape_run.proofs.extract.images.read_round.Goals as goal
+
+pub returns-in_err-take_image-clause-err : goal.returns-in_err-take_image-clause-err
+returns-in_err-take_image-clause-err g c =
+    let (turns, e, are, lines, none, f) = c.loop-number.invariant in
+    let (more, few, part) = c.in_err-take_image.ensures.err in
+    let number : c.args.lines + c.loop-number.number + 1 ≡ c.args.lines + 1 + length turns =
+    omega (arith, e) in
+    let mounted = subst (λ n. g.L.Shelf.gives c.loop-number.images n c.in-Ok.image
+    c.mount.new.self) (sym e) c.in-Ok.ensures.ok in
+    on_err c.from_residual.result _ (record {
+      turns = turns;
+      are_turns = (c.loop-number.images, are, inr (c.in-Ok.image, mounted));
+      fewer = omega (arith, e, c.loop-number-test.true);
+      more = more;
+      few = few;
+      lines = front_behind (c.args.lines + 1) _ _ _ turns more _ number lines part;
+      follows = λ held was kept.
+          let (now, has, still, follows) = f held was kept in (
+            c.loop-number.session.core,
+            seen g.S.PartSink.refusals c.loop-number.session now,
+            follows,
+          );
+    })
+
+pub returns-in_default-clause-err : goal.returns-in_default-clause-err
+returns-in_default-clause-err g c =
+    let (turns, e, are, lines, none, f) = c.loop-number.invariant in
+    let stays : c.mount.new.self ≡ c.loop-number.images = search rules in
+    record {
+      turns = turns;
+      are_turns = (c.loop-number.images, are, inl stays);
+      fewer = omega (arith, e, c.loop-number-test.true);
+      more = [];
+      few = omega arith;
+      lines = all_of_it _ _ (reel_lines (c.args.lines + 1) (map answer_of turns ++ []))
+          (subst (λ l. Appends (g.P.Write.contents c.args.report.now)
+          (g.P.Write.contents c.loop-number.report) (reel_lines (c.args.lines + 1) l))
+          (sym (append-nil (map answer_of turns))) lines);
+      follows = λ held was kept.
+          let (now, has, still, follows) = f held was kept in (
+            c.loop-number.session.core,
+            seen g.S.PartSink.refusals c.loop-number.session now,
+            follows,
+          );
+    }
+
+pub loop-number-init : goal.loop-number-init
+loop-number-init g c =
+    ([], refl, refl, Appends-nil _, λ zero. refl, λ held was kept. (held, was, kept, (refl, refl)))
+
+pub loop-number-preserved : goal.loop-number-preserved
+loop-number-preserved g c =
+    let (turns, e, are, lines, none, f) = c.loop-number.invariant in
+    let n = c.loop-number.number in
+    let taken = c.in_ok-take_image.ensures.ok in
+    let number : c.args.lines + n + 1 ≡ c.args.lines + 1 + length turns = omega (arith, e) in
+    let at : n ≡ 0 + length turns = omega (arith, e) in
+    let mounted = subst (λ m. g.L.Shelf.gives c.loop-number.images m c.in-Ok.image
+    c.mount.new.self) at c.in-Ok.ensures.ok in (
+      turns ++ taken.turn ∷ [],
+      length-append turns (taken.turn ∷ []) ∙ ap (λ m. m + 1) e,
+      one_turn g.L.Shelf.gives g.R.Read.remaining c.args.images.now 0 turns c.loop-number.images
+          taken.turn c.in-Ok.image c.mount.new.self are mounted taken.is_turn,
+      line_behind (c.args.lines + 1) _ _ _ turns taken.turn _ number lines taken.line,
+      λ zero. absurd (omega (arith, zero)),
+      λ held was kept.
+          let (now, has, still, follows) = f held was kept in
+          let (next, has_next, then, one) = taken.follows now has still in (
+            next,
+            has_next,
+            then,
+            follows_then c.args.back _ _ turns _ _ (taken.turn ∷ []) _ _ follows one,
+          ),
+    )

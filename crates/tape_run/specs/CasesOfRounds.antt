@@ -1,0 +1,114 @@
+-- What the definitions of rounds say of cases. The call `laws::cases` has them as its contract.
+use Rattle.std.specs.Prelude.{◌≡◌, ◌≢◌, ◌⊎◌, ◌<◌, ◌≤◌, List, [], ◌∷◌, ◌++◌, length, map}
+use Rattle.std.specs.Prelude.{Option, Some, None, Bool}
+use Rattle.std.specs.Io.KnownBytes.{Appends}
+use Rattle.tape_blocks.specs.Block.{Portion}
+use Rattle.tape_blocks.specs.declared.form.Form.{Form}
+use Rattle.tape_set.specs.declared.position.Position.TheVariants.{Awaits, Finished}
+use Rattle.tape_set.specs.declared.position.Want.{Want}
+use Rattle.tape_core.specs.State.{State}
+use Rattle.tape_run.specs.CasesOfExtracts.{Listed, Known, Readers}
+use Rattle.tape_run.specs.Extracting.{Ends, EndsFile, StopsAtEnd, IsWritten}
+use Rattle.tape_run.specs.ExtractingAgain.{ExtractsAgain, StopsAgain}
+use Rattle.tape_run.specs.Output.{AppendsFront}
+use Rattle.tape_run.specs.RecordText.{output_of}
+use Rattle.tape_run.specs.ReelLine.{reel_lines, last_line}
+use Rattle.tape_run.specs.Reeling.{Turn, answer_of, AreTurns, AreFirstTurns, Follows, Took}
+use Rattle.tape_run.specs.Reeling.{IsKeptFor, goes_back}
+use Rattle.tape_run.specs.Rounds.{Round, turns_of, core_behind, wanted, AreRounds}
+use Rattle.tape_run.specs.Rounds.{BroughtSomething, IsEnough, FollowsRounds, GoesRound}
+use Rattle.tape_run.specs.Seen.{Seen, seen}
+
+-- what `extract` says where it goes round readers in a list
+abbrev pub AgainListed : Listed → Readers → Readers → Form → Known → Known → Known → Known
+    → Option Want → Type 0
+AgainListed session shelf left form out written said says want =
+    ExtractsAgain (λ s ps. s ≡ ps) (λ s. 0) length Took (λ r. r) session shelf left form out
+    written said says want
+
+abbrev pub StopsAgainListed : Listed → Readers → Readers → Form → Known → Known → Known → Known
+    → Type 0
+StopsAgainListed session shelf left form out written said says =
+    StopsAgain (λ s ps. s ≡ ps) (λ s. 0) length Took (λ r. r) session shelf left form (λ w. w) out
+    written said says
+
+-- of rounds
+pub record CasesOfRounds : Type 0 where
+  -- two rounds are one row of turns, and lead where the second one ends
+  pub two_rounds : (a b : List Turn) (p q core : State)
+      → (turns_of (record { turns = a; behind = p } ∷ record { turns = b; behind = q } ∷ [])
+      ≡ a ++ (b ++ []))
+      × (core_behind core (record { turns = a; behind = p } ∷ record { turns = b; behind = q }
+      ∷ []) ≡ q)
+  pub none_made : (core : State) → (turns_of [] ≡ []) × (core_behind core [] ≡ core)
+  pub is_wanted : (core : State) → core.position ≡ Awaits 1 2 0
+      → wanted core ≡ Some (record { file = core.file; sect = 1; block = 2; part = 0 })
+  pub nothing_wanted : (core : State) → core.position ≡ Finished → wanted core ≡ None
+  -- each round begins with the first image, on the shelf that the one before it left
+  pub each_from_the_first : (a b : Option Known) (s t : Turn) (p q : State)
+      (left : Readers)
+      → AreRounds Took (λ r. r) (a ∷ b ∷ []) (record { turns = s ∷ []; behind = p }
+      ∷ record { turns = t ∷ []; behind = q } ∷ []) left
+      → (mid : Readers) × AreTurns Took (λ r. r) (a ∷ b ∷ []) 0 (s ∷ []) mid
+      × AreTurns Took (λ r. r) mid 0 (t ∷ []) left
+  -- a round that is followed had all images, and brought something, but not the last of the file
+  pub brought : (turns : List Turn) (core behind : State)
+      → BroughtSomething 3 core (record { turns = turns; behind = behind } ∷ [])
+      → (length turns ≡ 3) × (wanted behind ≢ None) × (wanted behind ≢ wanted core)
+  pub brought_twice : (a b : List Turn) (core p q : State)
+      → BroughtSomething 3 core (record { turns = a; behind = p }
+      ∷ record { turns = b; behind = q } ∷ []) → (length b ≡ 3) × (wanted q ≢ wanted p)
+  -- rounds end where nothing is wanted or nothing came
+  pub enough : (before want : Option Want) → IsEnough 3 6 before want
+      → (want ≡ None) ⊎ (want ≡ before)
+  pub complete_is_enough : (before : Option Want) → IsEnough 3 6 before None
+  pub nothing_new_is_enough : (want : Option Want) → IsEnough 3 6 want want
+  pub goes_two_rounds : (back : Bool) (core last : State) (old new : Seen) (r : Round)
+      (turns : List Turn) → GoesRound back core old (r ∷ []) turns last new
+      → (mid : Seen) × Follows back core old r.turns r.behind mid
+      × Follows back r.behind mid turns last new
+  pub follows_none : (back : Bool) (core : State) (old new : Seen)
+      → FollowsRounds back core old [] new → new ≡ old
+  -- the last line, and what is written, are those of the session
+  pub file_ended : (session : Listed) (form : Form) (out now said says : Known)
+      (want : Option Want) (e : EndsFile (λ s ps. s ≡ ps) session form out now said says want)
+      → (want ≡ wanted session.core) × Appends said says (last_line want e.records)
+      × IsWritten want e.records form out now session.sink
+  pub file_stopped : (session : Listed) (form : Form) (out now said says : Known)
+      (s : StopsAtEnd (λ s ps. s ≡ ps) session form (λ w. w) out now said says)
+      → AppendsFront said says (last_line s.want s.records) × ((now ≡ out)
+      ⊎ ((session.core.position ≡ Finished) × AppendsFront out now (output_of form session.sink)))
+  -- the lines are those of all rounds, counted on
+  pub again : (session : Listed) (shelf left : Readers) (form : Form)
+      (out now said says : Known) (want : Option Want)
+      (e : AgainListed session shelf left form out now said says want)
+      → Appends said says
+      (reel_lines 1 (map answer_of (turns_of e.rounds ++ e.turns)) ++ last_line want e.records)
+      × AreRounds Took (λ r. r) shelf e.rounds e.between
+      × AreTurns Took (λ r. r) e.between 0 e.turns left
+      × BroughtSomething (length shelf) session.core e.rounds
+  pub again_left : (session : Listed) (shelf left : Readers) (form : Form)
+      (out now said says : Known) (want : Option Want)
+      (e : AgainListed session shelf left form out now said says want)
+      → (length e.turns ≤ length shelf) × (length e.turns < length shelf → want ≡ None)
+      × IsEnough (length shelf) (length (turns_of e.rounds))
+      (wanted (core_behind session.core e.rounds)) want
+  -- over all rounds the session ended as over one row of images
+  pub again_ends : (session : Listed) (shelf left : Readers) (form : Form)
+      (out now said says : Known) (want : Option Want)
+      (e : AgainListed session shelf left form out now said says want)
+      → IsKeptFor (goes_back session.notes)
+      (seen {S = List Portion} (λ s. 0) session session.sink)
+      → (x : Ends session.core (seen {S = List Portion} (λ s. 0) session session.sink)
+      (turns_of e.rounds ++ e.turns) want e.records form out now)
+      × GoesRound (goes_back session.notes) session.core
+      (seen {S = List Portion} (λ s. 0) session session.sink) e.rounds e.turns x.last x.now
+  pub again_stopped : (session : Listed) (shelf left : Readers) (form : Form)
+      (out now said says : Known)
+      (s : StopsAgainListed session shelf left form out now said says) → (length s.more ≤ 1)
+      × (length s.turns ≤ length shelf) × AreRounds Took (λ r. r) shelf s.rounds s.between
+      × AreFirstTurns Took (λ r. r) s.between s.turns left
+      × BroughtSomething (length shelf) session.core s.rounds
+      × AppendsFront said says
+      (reel_lines 1 (map answer_of (turns_of s.rounds ++ s.turns) ++ s.more)
+      ++ last_line s.want s.records)

@@ -1,0 +1,76 @@
+-- What `extract` leaves where it goes round the images.
+use Rattle.std.specs.Prelude.{◌≡◌, ◌⊎◌, ℕ, ◌<◌, ◌≤◌, List, ◌++◌, length, map, Option, None}
+use Rattle.std.specs.Io.KnownBytes.{Appends}
+use Rattle.tape_blocks.specs.Block.{Portion}
+use Rattle.tape_blocks.specs.declared.form.Form.{Form}
+use Rattle.tape_set.specs.declared.position.Position.TheVariants.{Finished}
+use Rattle.tape_set.specs.declared.position.Want.{Want}
+use Rattle.tape_core.specs.State.{State}
+use Rattle.tape_run.specs.declared.answer.ReelAnswer.{ReelAnswer}
+use Rattle.tape_run.specs.Extracting.{Ends}
+use Rattle.tape_run.specs.Output.{AppendsFront}
+use Rattle.tape_run.specs.RecordText.{output_of}
+use Rattle.tape_run.specs.ReelLine.{reel_lines, last_line}
+use Rattle.tape_run.specs.Reeling.{Turn, answer_of, AreTurns, AreFirstTurns, Mounting, goes_back}
+use Rattle.tape_run.specs.Reeling.{IsKeptFor}
+use Rattle.tape_run.specs.Rounds.{Round, turns_of, core_behind, wanted, AreRounds}
+use Rattle.tape_run.specs.Rounds.{BroughtSomething, IsEnough, GoesRound}
+use Rattle.tape_run.specs.Seen.{Seen, seen}
+use Rattle.tape_run.specs.Story.{Story}
+
+-- Images were read round by round: whole rounds that brought something, and a last one, of all
+-- images or up to the one that completed the file, which was enough. A line was reported for each
+-- image of each round, numbered on and on, and a last one with what is wanted or how many records
+-- the file has; and over all rounds the session ended as over images that are named so often.
+pub record ExtractsAgain {S L R : Type 0} (holds : S → List Portion → Type 0) (refusals : S → ℕ)
+    (size : L → ℕ) (gives : Mounting L R) (remaining : R → Option (List ℕ)) (session : Story S)
+    (shelf left : L) (form : Form) (out written said says : Option (List ℕ)) (want : Option Want)
+    : Type 0 where
+  pub rounds : List Round
+  pub between : L
+  pub are_rounds : AreRounds gives remaining shelf rounds between
+  pub brought : BroughtSomething (size shelf) session.core rounds
+  pub turns : List Turn
+  pub are_turns : AreTurns gives remaining between 0 turns left
+  pub most : length turns ≤ size shelf
+  pub all : length turns < size shelf → want ≡ None
+  pub enough : IsEnough (size shelf) (length (turns_of rounds))
+      (wanted (core_behind session.core rounds)) want
+  pub records : ℕ
+  pub lines : Appends said says
+      (reel_lines 1 (map answer_of (turns_of rounds ++ turns)) ++ last_line want records)
+  pub ends : (held : List Portion) → holds session.sink held
+      → IsKeptFor (goes_back session.notes) (seen refusals session held)
+      → (e : Ends session.core (seen refusals session held) (turns_of rounds ++ turns) want records
+      form out written)
+      × GoesRound (goes_back session.notes) session.core (seen refusals session held) rounds turns
+      e.last e.now
+
+-- A fault ended it: what was reported is a front of such a report, with the line of at most one
+-- image more than those that were read and noted, which are those of whole rounds that brought
+-- something and the first of the images once more; and nothing was done to the output, or the file
+-- is complete and a front of its records was written.
+pub record StopsAgain {S L R W : Type 0} (holds : S → List Portion → Type 0) (refusals : S → ℕ)
+    (size : L → ℕ) (gives : Mounting L R) (remaining : R → Option (List ℕ)) (session : Story S)
+    (shelf left : L) (form : Form) (contents : W → Option (List ℕ)) (out written : W)
+    (said says : Option (List ℕ)) : Type 0 where
+  pub rounds : List Round
+  pub between : L
+  pub are_rounds : AreRounds gives remaining shelf rounds between
+  pub brought : BroughtSomething (size shelf) session.core rounds
+  pub turns : List Turn
+  pub are_turns : AreFirstTurns gives remaining between turns left
+  pub most : length turns ≤ size shelf
+  pub more : List (Option ReelAnswer)
+  pub few : length more ≤ 1
+  pub want : Option Want
+  pub records : ℕ
+  pub lines : AppendsFront said says (reel_lines 1 (map answer_of (turns_of rounds ++ turns) ++ more)
+      ++ last_line want records)
+  pub follows : (held : List Portion) → holds session.sink held
+      → IsKeptFor (goes_back session.notes) (seen refusals session held)
+      → (last : State) × (now : Seen)
+      × GoesRound (goes_back session.notes) session.core (seen refusals session held) rounds turns
+      last now
+      × ((written ≡ out) ⊎ ((now.place.position ≡ Finished)
+      × AppendsFront (contents out) (contents written) (output_of form now.parts)))

@@ -1,0 +1,106 @@
+-- What `extract` makes of images, round by round.
+use Rattle.std.specs.Prelude.{◌≡◌, ◌≢◌, ◌⊎◌, ℕ, ◌+◌, ◌<◌, List, [], ◌∷◌, ◌++◌, length, map, Option}
+use Rattle.std.specs.Prelude.{None, ⊤, Bool}
+use Rattle.std.specs.Io.KnownBytes.{Appends}
+use Rattle.tape_blocks.specs.Block.{Portion}
+use Rattle.tape_set.specs.declared.position.Want.{Want}
+use Rattle.tape_set.specs.Position.{want_at}
+use Rattle.tape_core.specs.State.{State}
+use Rattle.tape_run.specs.ReelLine.{reel_lines}
+use Rattle.tape_run.specs.Reeling.{Turn, answer_of, AreTurns, Follows, Mounting, IsKeptFor}
+use Rattle.tape_run.specs.Reeling.{TakesAll, StopsReading}
+use Rattle.tape_run.specs.Seen.{Seen, seen}
+use Rattle.tape_run.specs.Story.{Story}
+
+-- A round over the images: what became of each, and the reader's state behind the last one.
+pub record Round : Type 0 where
+  pub turns : List Turn
+  pub behind : State
+
+-- the turns of rounds, one behind another
+abbrev pub turns_of : List Round → List Turn
+turns_of [] = []
+turns_of (r ∷ rounds) = r.turns ++ turns_of rounds
+
+-- the reader's state behind rounds, from this one on
+abbrev pub core_behind : State → List Round → State
+core_behind core [] = core
+core_behind core (r ∷ rounds) = core_behind r.behind rounds
+
+-- what is wanted of a file where its reader is in this state
+abbrev pub wanted : State → Option Want
+wanted core = want_at core.file core.position
+
+-- Each round mounted the images of a shelf from the first one on.
+abbrev pub AreRounds : {L R : Type 0} → Mounting L R → (R → Option (List ℕ)) → L → List Round → L
+    → Type 0
+AreRounds gives remaining shelf [] last = last ≡ shelf
+AreRounds gives remaining shelf (r ∷ rounds) last = (mid : _)
+    × AreTurns gives remaining shelf 0 r.turns mid × AreRounds gives remaining mid rounds last
+
+-- Each round had all images, of which there are so many, and brought something: behind it something
+-- is wanted, and that is something else than before.
+abbrev pub BroughtSomething : ℕ → State → List Round → Type 0
+BroughtSomething size core [] = ⊤
+BroughtSomething size core (r ∷ rounds) = (length r.turns ≡ size) × (wanted r.behind ≢ None)
+    × (wanted r.behind ≢ wanted core) × BroughtSomething size r.behind rounds
+
+-- Behind a round there is no other one: nothing is wanted, or just what was wanted before it, or
+-- the lines of another one have no numbers in 64 bits. So many lines stand before the round.
+abbrev pub IsEnough : ℕ → ℕ → Option Want → Option Want → Type 0
+IsEnough size lines before want = (want ≡ None) ⊎ ((want ≡ before)
+    ⊎ (18446744073709551615 < lines + size + size))
+
+-- The rounds, one behind another, took a session from one state to another, each to the state that
+-- it tells.
+abbrev pub FollowsRounds : Bool → State → Seen → List Round → Seen → Type 0
+FollowsRounds back core old [] new = new ≡ old
+FollowsRounds back core old (r ∷ rounds) new = (mid : Seen)
+    × Follows back core old r.turns r.behind mid × FollowsRounds back r.behind mid rounds new
+
+-- Rounds, and a last one with these turns, took a session from one state to another.
+abbrev pub GoesRound : Bool → State → Seen → List Round → List Turn → State → Seen → Type 0
+GoesRound back core old rounds turns last new = (mid : Seen)
+    × FollowsRounds back core old rounds mid
+    × Follows back (core_behind core rounds) mid turns last new
+
+-- ---- calls
+
+-- Whole rounds were made, each brought something, and a line was reported for each image of each.
+pub record HasGone {S L R : Type 0} (holds : S → List Portion → Type 0) (refusals : S → ℕ)
+    (size : ℕ) (gives : Mounting L R) (remaining : R → Option (List ℕ)) (back : Bool)
+    (old new : Story S) (shelf left : L) (said says : Option (List ℕ)) (rounds : List Round)
+    : Type 0 where
+  pub are_rounds : AreRounds gives remaining shelf rounds left
+  pub brought : BroughtSomething size old.core rounds
+  pub at : new.core ≡ core_behind old.core rounds
+  pub lines : Appends said says (reel_lines 1 (map answer_of (turns_of rounds)))
+  pub follows : (held : List Portion) → holds old.sink held
+      → IsKeptFor back (seen refusals old held) → (now : List Portion)
+      × holds new.sink now × IsKeptFor back (seen refusals new now)
+      × FollowsRounds back old.core (seen refusals old held) rounds (seen refusals new now)
+
+-- Rounds were made until one was enough.
+pub record TakesRounds {S L R : Type 0} (holds : S → List Portion → Type 0) (refusals : S → ℕ)
+    (size : ℕ) (gives : Mounting L R) (remaining : R → Option (List ℕ)) (back : Bool)
+    (old new : Story S) (shelf left : L) (said says : Option (List ℕ)) : Type 0 where
+  pub rounds : List Round
+  pub mid : Story S
+  pub between : L
+  pub told : Option (List ℕ)
+  pub gone : HasGone holds refusals size gives remaining back old mid shelf between said told rounds
+  pub last : TakesAll holds refusals size (length (turns_of rounds)) gives remaining back mid new
+      between left told says
+  pub enough : IsEnough size (length (turns_of rounds)) (wanted mid.core) (wanted new.core)
+
+-- Rounds were made, and a fault ended the one behind them.
+pub record StopsInRound {S L R : Type 0} (holds : S → List Portion → Type 0) (refusals : S → ℕ)
+    (size : ℕ) (gives : Mounting L R) (remaining : R → Option (List ℕ)) (back : Bool)
+    (old : Story S) (shelf left : L) (said says : Option (List ℕ)) : Type 0 where
+  pub rounds : List Round
+  pub mid : Story S
+  pub between : L
+  pub told : Option (List ℕ)
+  pub gone : HasGone holds refusals size gives remaining back old mid shelf between said told rounds
+  pub last : StopsReading holds refusals size (length (turns_of rounds)) gives remaining back mid
+      between left told says

@@ -1,0 +1,87 @@
+//! `extract` that goes round its images.
+ghost use Rattle.std.specs.Prelude.{◌≡◌, ◌≢◌, ◌⊎◌, None, OnOk, IfOk, OnErr};
+ghost use Rattle.std.specs.Bool.{OnTrue, OnFalse};
+ghost use Rattle.tape_run.specs.ExtractingAgain.{ExtractsAgain, StopsAgain};
+ghost use Rattle.tape_run.specs.Rounds.{TakesRounds, StopsInRound};
+
+use super::images::read_round;
+use super::{end_file, has_note};
+use crate::fault::EngineFault;
+use crate::session::Session;
+use crate::shelf::Shelf;
+use std::io::{Read, Write};
+use tape_blocks::Form;
+use tape_core::{PartSink, PartWalk};
+use tape_set::Want;
+
+/// As `extract_to`, but the images are read once more, from the first one on, wherever a round of
+/// all of them brought something: something is wanted behind it, and something else than before. So
+/// a file is complete whatever the order of the images is, and damaged copies mend each other. The
+/// lines are numbered on from round to round.
+///
+/// Each image is mounted again in each round. A shelf that gives an image once gives none then,
+/// and it is reported as not opened.
+///
+/// # Errors
+///
+/// As those of `extract_to`.
+pub fn extract_again<S: PartWalk + Drop, R: Read + Drop, L: Shelf<R>, W: Write, P: Write>(
+    session: Session<S>,
+    images: &mut L,
+    form: Form,
+    out: &mut W,
+    report: &mut P,
+) -> Result<Option<Want>, EngineFault>
+    ensures ok { IfOk result (ExtractsAgain S.holds S.refusals L.size L.gives R.remaining session
+        images.old images.new form (W.contents out.old) (W.contents out.new)
+        (P.contents report.old) (P.contents report.new)) }
+    // While something of the file is wanted `out` is not touched at all.
+    ensures untouched { IfOk result (λ want. want ≢ None → out.new ≡ out.old) }
+    ensures err { OnErr result (StopsAgain S.holds S.refusals L.size L.gives R.remaining session
+        images.old images.new form W.contents out.old out.new
+        (P.contents report.old) (P.contents report.new)) }
+{
+    let mut session = session;
+    let back = has_note(&session);
+    read_rounds(&mut session, images, back, report)?;
+    end_file(session, form, out, report)
+}
+
+/// Mounts the images in their order, round by round, until one was enough. `back` says whether the
+/// session goes back behind a reel that is in doubt.
+fn read_rounds<S: PartSink, R: Read + Drop, L: Shelf<R>, P: Write>(
+    session: &mut Session<S>,
+    images: &mut L,
+    back: bool,
+    report: &mut P,
+) -> Result<(), EngineFault>
+    ensures ok { OnOk result (TakesRounds S.holds S.refusals (L.size images.old) L.gives
+        R.remaining back session.old session.new images.old images.new
+        (P.contents report.old) (P.contents report.new)) }
+    ensures err { OnErr result (StopsInRound S.holds S.refusals (L.size images.old) L.gives
+        R.remaining back session.old images.old images.new
+        (P.contents report.old) (P.contents report.new)) }
+{
+    let count = images.count();
+    let mut lines = 0u64;
+    'rounds: loop {
+        let before = session.want();
+        read_round(session, images, count, lines, back, report)?;
+        if is_enough(before, session.want()) {
+            return Ok(());
+        }
+        lines += count as u64;
+        // The lines of another round would have no numbers.
+        if u64::MAX - lines < count as u64 {
+            return Ok(());
+        }
+    }
+}
+
+/// Whether a round was enough: nothing is wanted behind it, or just what was wanted before.
+fn is_enough(before: Option<Want>, want: Option<Want>) -> bool
+    ensures yes { OnTrue result ((want ≡ None) ⊎ (want ≡ before)) }
+    ensures no { OnFalse result ((want ≢ None) × (want ≢ before)) }
+{
+    want.is_none() || want == before
+}

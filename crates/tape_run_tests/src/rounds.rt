@@ -1,0 +1,97 @@
+//! Files got back by going round the images.
+ghost use Rattle.std.specs.Prelude.{⊤, length};
+
+use crate::extract::shelf_of;
+use crate::image::{Image, long_first, long_second, set_id};
+use crate::taken_back::{lost, volume};
+use std::alloc::{AllocError, Global};
+use std::process::Abort;
+use std::test::Fail;
+use tape_blocks::Form;
+use tape_core::MemorySink;
+use tape_run::{Session, Shelf, extract_again};
+
+/// Reels of which each is given as often as it is mounted.
+#[derive(Drop)]
+struct Kept<'a> {
+    reels: &'a [&'a [u8]],
+}
+
+impl<'a> Shelf<&'a [u8]> for Kept<'a> {
+    ghost size = { λ kept. length kept.reels.now };
+
+    ghost gives = { λ _ _ _ _. ⊤ };
+
+    fn count(&self) -> usize {
+        self.reels.len()
+    }
+
+    fn mount(&mut self, number: usize) -> Result<Option<&'a [u8]>, AllocError> {
+        match self.reels.get(number) {
+            Some(reel) => Ok(Some(*reel)),
+            None => Ok(None),
+        }
+    }
+}
+
+/// The worked volume, of which the first or the second block cannot be read.
+fn bad_at(alloc: Global, bad: u8) -> Result<Image, AllocError> {
+    volume(
+        alloc,
+        &[(0, 10, bad != 1), (10, 20, bad != 2), (20, 25, true)],
+    )
+}
+
+/// What a session with a note reports over these reels, and how many bytes it writes.
+fn gives<H: Abort + AllocGlobal>(
+    rt: &H,
+    reels: &[&[u8]],
+    lines: &str,
+    length: usize,
+) -> Result<(), Fail> {
+    let (mut report, mut out) = (Vec::new(rt.alloc()), Vec::new(rt.alloc()));
+    let mut session = Session::new(rt.alloc(), set_id(), 1, MemorySink::new(rt.alloc()))?;
+    session.note()?;
+    let mut shelf = Kept { reels };
+    extract_again(session, &mut shelf, Form::Raw, &mut out, &mut report)?;
+    assert_eq!(rt; report.as_slice(), lines.as_bytes(), "{lines}");
+    assert!(rt; out.len() == length, "{lines}");
+    Ok(())
+}
+
+const COPIES: &str = "REEL 1 BAD ITEM\nREEL 2 BAD ITEM\nREEL 3 COMPLETE\nCOMPLETE 25\n";
+
+const VOLUMES: &str = "REEL 1 LATER SECTION\nREEL 2 SECTION DONE\nREEL 3 COMPLETE\nCOMPLETE 1\n";
+
+const ALONE: &str = "REEL 1 BAD ITEM\nREEL 2 BAD ITEM\nAWAITS 1 1 1\n";
+
+/// The second one has a block less, and is taken back in each round.
+const DOUBT: &str = "REEL 1 BAD ITEM\nREEL 2 BLOCK COUNT 3 2\nREEL 3 BAD ITEM
+REEL 4 BLOCK COUNT 3 2\nAWAITS 1 1 1\n";
+
+#[test]
+fn rounds_until_nothing_comes(rt: HostRuntime) -> Result<(), Fail> {
+    let alloc = rt.alloc();
+    let (one, two, lost) = (bad_at(alloc, 1)?, bad_at(alloc, 2)?, lost(alloc)?);
+    let (one, two) = (one.bytes.as_slice(), two.bytes.as_slice());
+    let (first, second) = (long_first(alloc)?, long_second(alloc)?);
+    let (first, second) = (first.bytes.as_slice(), second.bytes.as_slice());
+    gives(&rt, &[one, two], COPIES, 2000)?;
+    gives(&rt, &[second, first], VOLUMES, 290)?;
+    gives(&rt, &[two], ALONE, 0)?;
+    gives(&rt, &[two, lost.bytes.as_slice()], DOUBT, 0)?;
+    gives(&rt, &[], "AWAITS 1 1 0\n", 0)
+}
+
+/// A shelf that gives each reel once has none in the second round.
+#[test]
+fn reels_that_are_given_once(rt: HostRuntime) -> Result<(), Fail> {
+    let two = bad_at(rt.alloc(), 2)?;
+    let (mut report, mut out) = (Vec::new(rt.alloc()), Vec::new(rt.alloc()));
+    let session = Session::new(rt.alloc(), set_id(), 1, MemorySink::new(rt.alloc()))?;
+    let mut shelf = shelf_of(rt.alloc(), &mut [Some(two.bytes.as_slice())])?;
+    extract_again(session, &mut shelf, Form::Raw, &mut out, &mut report)?;
+    let lines = "REEL 1 BAD ITEM\nREEL 2 NOT OPENED\nAWAITS 1 1 1\n";
+    assert_eq!(rt; report.as_slice(), lines.as_bytes(), "{lines}");
+    Ok(())
+}
