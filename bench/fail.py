@@ -150,6 +150,8 @@ def trials():
             reports=EXTRACT_REPORTS),
         Trial("extract, OUT is there", ["extract", "ABC001", "1", "OUT", "two.tap", "one.tap", "two.tap"], EXTRACT,
             reels | {"OUT": b"older\n"}, result="OUT", reports=EXTRACT_REPORTS),
+        Trial("extract, round by round", ["extract", "ABC001", "1", "OUT", "two.tap", "one.tap", "--again"], EXTRACT, reels,
+            result="OUT", reports=EXTRACT_REPORTS),
         Trial("check, two reels", ["check", "one.tap", "two.tap"], CHECK, reels, reports=CHECK_REPORTS),
     ]
 

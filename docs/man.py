@@ -22,9 +22,10 @@ COMPLETION = os.path.join(TOP, "docs", "tape.bash")
 COMMANDS = {
     "list": ("[IMAGE]", [("IMAGE", "IMAGE")]),
     "check": ("IMAGE...", [("IMAGE", "IMAGES")]),
-    "extract": ("[--form FORM] [--stage PATH] SET FILE OUT IMAGE...", [
+    "extract": ("[--form FORM] [--stage PATH] [--again] SET FILE OUT IMAGE...", [
         ("SET", "SET"), ("FILE", "FILE"), ("OUT", "OUT"), ("IMAGE", "REELS"),
-        ("--form lines|raw", "FORM_OF_OUT"), ("--stage PATH", "STAGE")]),
+        ("--form lines|raw", "FORM_OF_OUT"), ("--stage PATH", "STAGE"),
+        ("--again", "AGAIN")]),
     "init": ("DIR PRE COUNT", [("DIR", "FOLDER"), ("PRE", "PREFIX"), ("COUNT", "COUNT")]),
     "write": ("[OPTIONS] DIR PRE CAPACITY ID=PATH...", [
         ("DIR", "FOLDER"), ("PRE", "PREFIX"), ("CAPACITY", "CAPACITY"), ("ID=PATH", "FILES"),

@@ -16,7 +16,7 @@ _tape() {
     esac
     case $command:$cur in
     help:*) COMPREPLY=($(compgen -W 'list check extract init write' -- "$cur")); return ;;
-    extract:-*) COMPREPLY=($(compgen -W '--form --stage --explain --help' -- "$cur")); return ;;
+    extract:-*) COMPREPLY=($(compgen -W '--form --stage --again --explain --help' -- "$cur")); return ;;
     write:-*)
         COMPREPLY=($(compgen -W \
             '--format --block --record --offset --pad-full --form --explain --help' -- "$cur"))

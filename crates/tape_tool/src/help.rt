@@ -238,6 +238,9 @@ pub const FORM_OF_OUT: &str = "How records stand in OUT: each with a line feed, 
 /// What the stage is.
 pub const STAGE: &str = "Keeps what was gathered in this file, and goes on there another day";
 
+/// What `--again` does.
+pub const AGAIN: &str = "Reads the images once more wherever a round brought something";
+
 /// SET is none.
 pub const WRONG_SET: &str = "SET has 1 to 6 bytes, as 'ABC001'";
 
@@ -293,6 +296,15 @@ the causes). The last line is 'COMPLETE n', with the number of records, or what 
 Damaged copies: each reading goes on at the block that is wanted, so name several copies of a reel
 one behind another, and one of them again behind the others. What is bad in one comes from another:
   tape extract ABC001 1 payroll.txt copy1.tap copy2.tap copy1.tap
+
+Round by round: with --again the images are read once more, from the first one
+on, wherever a round of all of them brought something, until the file is
+complete. Then their order does not matter, and each copy is named once:
+  tape extract ABC001 1 payroll.txt *.tap --again
+The numbers of the lines go on: the second round of three images is REEL 4 to
+REEL 6. Where a round brings nothing it ends with AWAITS. What a reel gave that
+answers BLOCK COUNT is taken back, as with --stage, and the next one goes on.
+Without --stage the records are then held in memory until the file is complete.
 
 Over several days: --stage keeps what was gathered in a file of its own, after each reel, and
 another day's run goes on there. It is made where there is none. A stop at any moment, in the

@@ -1,4 +1,5 @@
 //! The program: command lines, files, and what is told.
+mod again_program;
 mod calls;
 mod check_program;
 mod explain;

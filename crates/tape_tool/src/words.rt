@@ -56,6 +56,8 @@ pub struct Extract<'a> {
     pub form: Form,
     /// Where what was gathered is kept.
     pub stage: Option<&'a str>,
+    /// Whether the images are read round by round.
+    pub again: bool,
 }
 
 /// `list`. It takes any number of images, so that a second one is answered with a loop.
@@ -96,6 +98,7 @@ pub const EXTRACT: Outline = Outline {
             help::FORM_OF_OUT,
         ),
         Word("stage", Kind::TextOption("PATH"), help::STAGE),
+        Word("again", Kind::Flag, help::AGAIN),
     ],
 };
 
@@ -226,6 +229,7 @@ fn extract_order<'a>(alloc: Global, matches: &ArgMatches<'a>) -> Result<Order<'a
         images,
         form: form_of(matches),
         stage: matches.get_str("stage"),
+        again: matches.get_flag("again"),
     }))
 }
 

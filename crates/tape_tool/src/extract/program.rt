@@ -15,7 +15,7 @@ use std::io;
 use std::io::{BufWriter, Write};
 use std::rt::Runtime;
 use tape_core::{MemorySink, PartWalk, SinkFault};
-use tape_run::{EngineFault, OutSink, RunFault, Session, extract_now, extract_to};
+use tape_run::{EngineFault, OutSink, RunFault, Session, extract_again, extract_now, extract_to};
 
 /// How many bytes of the output are held before they are written, at most.
 const HELD: usize = 65_536;
@@ -29,7 +29,11 @@ pub fn extract<'a, R: Host>(rt: &R, order: &Extract<'a>, site: &mut Site<'a>) ->
         Err(Unfit::Words(text)) => return refuse_words(rt, &EXTRACT, text),
     };
     let Some(path) = order.stage else {
-        return at_once(rt, order, way);
+        return if order.again {
+            in_memory(rt, order, way)
+        } else {
+            at_once(rt, order, way)
+        };
     };
     let end = match session_in(rt, path, order.set_id, order.file) {
         Ok(session) => gather(rt, order, way, session),
@@ -57,6 +61,19 @@ fn draft_of<'a, R: Runtime + AllocGlobal>(
             Ok(drafted) => Ok(drafted),
             Err(_) => Err(End::Faulted(Fault::OutOfMemory)),
         },
+    }
+}
+
+/// Gets the file back without a stage: it is gathered in memory, where what a reel in doubt gave can
+/// be taken back, since the session has a note where it begins.
+fn in_memory<'a, R: Runtime + AllocGlobal>(rt: &'a R, order: &Extract<'a>, way: Way) -> End {
+    let sink = MemorySink::new(rt.alloc());
+    let Ok(mut session) = Session::new(rt.alloc(), order.set_id, order.file, sink) else {
+        return End::WrongWords;
+    };
+    match session.note() {
+        Ok(()) => gather(rt, order, way, session),
+        Err(_) => End::Faulted(Fault::OutOfMemory),
     }
 }
 
@@ -158,5 +175,10 @@ fn written_to<R: Runtime + AllocGlobal, S: PartWalk + Drop, W: Write>(
     out: &mut W,
 ) -> End {
     let (mut images, mut report) = (Images::new(rt, order.images.as_slice()), io::writer(rt));
-    extract_end(extract_to(session, &mut images, order.form, out, &mut report))
+    let answer = if order.again {
+        extract_again(session, &mut images, order.form, out, &mut report)
+    } else {
+        extract_to(session, &mut images, order.form, out, &mut report)
+    };
+    extract_end(answer)
 }

@@ -1,0 +1,54 @@
+//! `extract --again` as it is called.
+use super::calls::{Step, take_all};
+use crate::end::End;
+use std::test::Fail;
+
+/// Two copies that mend each other, each named once, and one that counts wrong before a good one.
+const AGAIN: &[Step<'_>] = &[
+    Step::PutDamaged("first_bad.tap", 1),
+    Step::PutDamaged("second_bad.tap", 2),
+    Step::Ends(
+        "extract ABC001 1 mended.txt first_bad.tap second_bad.tap",
+        End::Incomplete,
+    ),
+    Step::Ends(
+        "extract ABC001 1 mended.txt second_bad.tap --again",
+        End::Incomplete,
+    ),
+    Step::IsMissing("mended.txt"),
+    Step::Ends(
+        "extract ABC001 1 mended.txt first_bad.tap second_bad.tap --again",
+        End::Done,
+    ),
+    Step::HasLength("mended.txt", 2025),
+    Step::HasText("mended.txt", 1944, b"0025  "),
+    Step::Remove("mended.stage"),
+    Step::Ends(
+        "extract ABC001 1 mended.txt --form raw --again --stage mended.stage first_bad.tap second_bad.tap",
+        End::Done,
+    ),
+    Step::HasLength("mended.txt", 2000),
+    Step::HasLength("mended.stage", 2381),
+    // Taken back without a stage too.
+    Step::PutLost("miscounted.tap"),
+    Step::PutWorked("counted.tap", 2484),
+    Step::Ends(
+        "extract ABC001 1 counted.txt miscounted.tap counted.tap",
+        End::Incomplete,
+    ),
+    Step::Ends(
+        "extract ABC001 1 counted.txt miscounted.tap --again",
+        End::Incomplete,
+    ),
+    Step::IsMissing("counted.txt"),
+    Step::Ends(
+        "extract ABC001 1 counted.txt miscounted.tap counted.tap --again",
+        End::Done,
+    ),
+    Step::HasText("counted.txt", 810, b"0011  "),
+];
+
+#[test]
+fn images_are_read_again(rt: HostRuntime) -> Result<(), Fail> {
+    take_all(&rt, AGAIN)
+}
