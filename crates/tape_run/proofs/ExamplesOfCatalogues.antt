@@ -1,17 +1,19 @@
 -- The cases of a catalogue, and of reports of what is on reels.
 use Rattle.std.proofs.Common.{◌≡◌, ℕ, zero, suc, List, [], ◌∷◌, ◌++◌, length}
-use Rattle.std.proofs.Common.{true, refl, ap, inl, inr, arith}
-use Rattle.std.specs.Prelude.{slice_index}
+use Rattle.std.proofs.Common.{true, refl, ap, inl, inr, arith, ◌∙◌, Some, None, option_map}
+use Rattle.std.specs.Prelude.{slice_index, get_or}
 use Rattle.tape_set.specs.Layout.{Volume, Section}
 use Rattle.tape_run.specs.declared.fault.EngineFault.TheVariants.{Run}
 use Rattle.tape_run.specs.declared.fault.RunFault.TheVariants.{NoSuchPoint}
 use Rattle.tape_run.specs.declared.section.SectionKey.{SectionKey}
 use Rattle.tape_run.specs.declared.section.SectionState.TheVariants.{Good}
 use Rattle.tape_run.specs.Cases.{on_one_volume}
-use Rattle.tape_run.specs.Checked.{IsCheckFault}
+use Rattle.tape_run.specs.Checked.{IsCheckFault, IsReel, Reel}
 use Rattle.tape_run.specs.Lacks.{IsFirstLack, lack_of}
 use Rattle.tape_run.specs.Noted.{KeepsPlaces, GoodIsShown}
 use Rattle.tape_run.specs.Passing.{Told}
+use Rattle.tape_run.specs.Reeling.{Took}
+use Rattle.tape_run.specs.Shelves.{AreMounted}
 use Rattle.tape_run.specs.Shown.{Shown}
 use Rattle.tape_run.specs.WholeSet.{HasEach}
 use Rattle.tape_run.specs.CasesOfCatalogues.{CasesOfCatalogues, CasesOfImages, CasesOfCopies}
@@ -131,6 +133,27 @@ other_fault : IsCheckFault (Run NoSuchPoint) → ⊥
 other_fault (inl e) = absurd (cc e)
 other_fault (inr e) = absurd (cc e)
 
+same_reel : (reel : Reel) → option_map (λ x. x) reel ≡ reel
+same_reel None = refl
+same_reel (Some x) = refl
+
+two_reels : (a b x y : Reel) → x ≡ a → y ≡ b → x ∷ y ∷ [] ≡ a ∷ b ∷ []
+two_reels a b x y p q = ap (λ r. r ∷ y ∷ []) p ∙ ap (λ r. a ∷ r ∷ []) q
+
+two_mounted : (a b : Reel) (reels left : List Reel)
+    → AreMounted Took (IsReel (λ x. x)) (a ∷ b ∷ []) 0 reels left → length reels ≡ 2
+    → reels ≡ a ∷ b ∷ []
+two_mounted a b [] left are e = absurd (omega (arith, e))
+two_mounted a b (x ∷ []) left are e = absurd (omega (arith, e))
+two_mounted a b (x ∷ y ∷ []) left (i, s, (at, then), is, (j, t, (next, last), one, same)) e =
+    two_reels a b x y (is ∙ same_reel i ∙ at)
+    (one ∙ same_reel j ∙ next ∙ ap (λ l. get_or l 1 None) then)
+two_mounted a b (x ∷ y ∷ z ∷ reels) left are e = absurd (omega (arith, e))
+
+first_mounted : (a b : Reel) (left : List Reel)
+    → AreMounted Took (IsReel (λ x. x)) (a ∷ b ∷ []) 0 (a ∷ []) left → left ≡ None ∷ b ∷ []
+first_mounted a b left (i, s, (at, then), is, same) = same ∙ then
+
 pub cases_of_reports : CasesOfReports
 cases_of_reports = record {
   report = λ reels text found r. (r.read, r.told, r.all);
@@ -140,9 +163,12 @@ cases_of_reports = record {
   opened = λ before c d is. is;
   unopened_adds_none = λ c d is. is;
   tells = λ reel c d old new t. (t.1, t.2);
-  no_summary_before = λ reel d. refl;
+  all_mounted = λ a b left old new found r.
+      (two_mounted a b r.reels left r.mounted r.all, r.report, r.wrote);
+  no_summary_before = λ left d. refl;
   summary_last = λ d. refl;
-  in_part = λ reels old new r. (r.split, r.read);
+  in_part = λ a b left old new r. (r.counted, r.few.0, r.few.1, r.read);
+  first_mounted = first_mounted;
   other_fault = other_fault;
   faults = (inl refl, inr refl);
 }

@@ -13,10 +13,11 @@ use Rattle.tape_run.specs.declared.section.ImageLine.{ImageLine}
 use Rattle.tape_run.specs.Lacks.{found_all}
 use Rattle.tape_run.specs.Passing.{Told}
 use Rattle.tape_run.specs.CheckLine.{image_lines}
-use Rattle.tape_run.specs.Checked.{AreRead, Reports, IsReport, summary}
+use Rattle.tape_run.specs.Checked.{Reel, IsReel, AreRead, Reports, IsReport, summary}
 use Rattle.tape_run.specs.ReelLine.{reel_lines, last_line}
 use Rattle.tape_run.specs.Reeling.{Turn, answer_of, AreTurns, Follows, IsKeptFor, goes_back}
 use Rattle.tape_run.specs.Reeling.{Mounting, IsTurn}
+use Rattle.tape_run.specs.Shelves.{AreMounted}
 use Rattle.tape_run.proofs.check.check_to.Reads as check_to
 use Rattle.tape_run.proofs.extract.extract_to.Reads as extract_to
 
@@ -150,52 +151,90 @@ report_of_none (None ∷ []) sections h = (refl, h.2 ∙ h.1)
 report_of_none (None ∷ line ∷ lines) sections h = absurd h.2
 report_of_none (Some line ∷ lines) sections h = absurd h.1
 
+-- of one image, which is not there
+one_absent : {L R : Type 0} (gives : Mounting L R) (remaining : R → Option (List ℕ)) (shelf left : L)
+    (reels : List Reel) → AreMounted gives (IsReel remaining) shelf 0 reels left
+    → length reels ≡ 1 → ((image : _) (next : _) → gives shelf 0 image next → image ≡ None)
+    → reels ≡ None ∷ []
+one_absent gives remaining shelf left [] are one absent = absurd (omega (arith, one))
+one_absent gives remaining shelf left (r ∷ []) (image, next, gave, is, rest) one absent =
+    ap (λ x. x ∷ []) (is ∙ ap (option_map remaining) (absent image next gave))
+one_absent gives remaining shelf left (r ∷ s ∷ rest) are one absent = absurd (omega (arith, one))
+
 -- the text of that report
-text_of_none : {R : Type 0} (remaining : R → Option (List ℕ)) (images : List (Option R)) (old : _)
-    (new text : List ℕ) (contents : Option (List ℕ)) (found : _)
-    → Reports (map (option_map remaining) images) old contents found → images ≡ None ∷ []
+text_of_none : {L R : Type 0} (size : L → ℕ) (gives : Mounting L R)
+    (remaining : R → Option (List ℕ)) (shelf left : L) (old contents : Option (List ℕ))
+    (text : List ℕ) (found : _) → Reports size gives remaining shelf left old contents found
+    → size shelf ≡ 1 → ((image : _) (next : _) → gives shelf 0 image next → image ≡ None)
     → old ≡ Some [] → contents ≡ Some text
     → (text ≡ codes "IMAGE 1 0 NOT OPENED\n") × (found ≡ false)
 unfolding digits
-text_of_none remaining images old new text contents found h one first last =
-    let rep : IsReport (None ∷ []) h.0 found
-    = subst (λ v. IsReport (map (option_map remaining) v) h.0 found) one h.1 in
+text_of_none size gives remaining shelf left old contents text found h one absent first last =
+    let reels = one_absent gives remaining shelf left h.reels h.mounted (h.all ∙ one) absent in
+    let rep : IsReport (None ∷ []) h.text found
+    = subst (λ v. IsReport v h.text found) reels h.report in
     let two = report_of_none rep.lines rep.sections rep.read in
-    let t : text ≡ h.0 = subst (λ v. Appends (Some []) v h.0) last
-    (subst (λ v. Appends v contents h.0) first h.2) in (
+    let t : text ≡ h.text = subst (λ v. Appends (Some []) v h.text) last
+    (subst (λ v. Appends v contents h.text) first h.wrote) in (
       t ∙ rep.told ∙ ap (λ v. image_lines 1 v ++ summary rep.sections) two.0
           ∙ ap (λ v. image_lines 1 (None ∷ []) ++ summary v) two.1,
       rep.all ∙ ap found_all two.1,
     )
 
--- images_left_unread: an image is named, and the report has no line for it
-images_left_unread : (R : _) (P : _) (LR : _) (LP : _) (g : _) (d : _) (h : _) (i : _) (j : _) (κs
-    : _)
-    (a : _) (found : _) (s : _)
-    → check_to.Learnt-named R P LR LP g d h i j κs a (Ok found) s → a.1.0.now ≡ None ∷ []
-    → h.contents a.1.1.0.now ≡ Some [] → h.contents s.1.1.0.now ≡ Some [] → ⊥
-images_left_unread R P LR LP g d h i j κs a found s l one old new =
+-- of one image, which is mounted
+first_stays : {L R : Type 0} (gives : Mounting L R) (remaining : R → Option (List ℕ))
+    (shelf left : L) (reels : List Reel) → AreMounted gives (IsReel remaining) shelf 0 reels left
+    → length reels ≡ 1
+    → ((image : _) (next : _) → gives shelf 0 image next → next ≡ left → ⊥) → ⊥
+first_stays gives remaining shelf left [] are one other = absurd (omega (arith, one))
+first_stays gives remaining shelf left (r ∷ []) (image, next, gave, is, rest) one other =
+    other image next gave (sym rest)
+first_stays gives remaining shelf left (r ∷ s ∷ rest) are one other = absurd (omega (arith, one))
+
+-- images_left_unread: an image is on the shelf, and the report has no line for it
+images_left_unread : (R : _) (L : _) (P : _) (LR : _) (LL : _) (LP : _) (g : _) (d : _) (h : _)
+    (i : _) (m : _) (n : _) (j : _) (κs : _) (a : _) (found : _) (s : _)
+    → check_to.Learnt-named R L P LR LL LP g d h i m n j κs a (Ok found) s
+    → h.size a.1.0.now ≡ 1
+    → ((image : _) (next : _) → h.gives a.1.0.now 0 image next → image ≡ None)
+    → m.contents a.1.1.0.now ≡ Some [] → m.contents s.1.1.0.now ≡ Some [] → ⊥
+images_left_unread R L P LR LL LP g d h i m n j κs a found s l one absent old new =
     absurd (let n : 0 ≡ 21 = ap length
-    (text_of_none g.remaining a.1.0.now _ [] [] _ found l.ok one old new).0 in omega arith)
+    (text_of_none h.size h.gives g.remaining a.1.0.now _ _ _ [] found l.ok one absent old new).0 in
+    omega arith)
 
 -- images_numbered_from_0: the first image is told as image 0
-images_numbered_from_0 : (R : _) (P : _) (LR : _) (LP : _) (g : _) (d : _) (h : _) (i : _) (j : _)
-    (κs : _) (a : _) (found : _) (s : _)
-    → check_to.Learnt-named R P LR LP g d h i j κs a (Ok found) s → a.1.0.now ≡ None ∷ []
-    → h.contents a.1.1.0.now ≡ Some []
-    → h.contents s.1.1.0.now ≡ Some (codes "IMAGE 0 0 NOT OPENED\n") → ⊥
-images_numbered_from_0 R P LR LP g d h i j κs a found s l one old new =
+images_numbered_from_0 : (R : _) (L : _) (P : _) (LR : _) (LL : _) (LP : _) (g : _) (d : _) (h : _)
+    (i : _) (m : _) (n : _) (j : _) (κs : _) (a : _) (found : _) (s : _)
+    → check_to.Learnt-named R L P LR LL LP g d h i m n j κs a (Ok found) s
+    → h.size a.1.0.now ≡ 1
+    → ((image : _) (next : _) → h.gives a.1.0.now 0 image next → image ≡ None)
+    → m.contents a.1.1.0.now ≡ Some []
+    → m.contents s.1.1.0.now ≡ Some (codes "IMAGE 0 0 NOT OPENED\n") → ⊥
+images_numbered_from_0 R L P LR LL LP g d h i m n j κs a found s l one absent old new =
     absurd (let n : 48 ≡ 49 = ap (λ v. slice_index v 6)
-    (text_of_none g.remaining a.1.0.now _ [] (codes "IMAGE 0 0 NOT OPENED\n") _ found l.ok one old
-    new).0
-    in omega arith)
+    (text_of_none h.size h.gives g.remaining a.1.0.now _ _ _ (codes "IMAGE 0 0 NOT OPENED\n") found
+    l.ok one absent old new).0 in
+    omega arith)
 
 -- nothing_met_is_all_found: no image was opened, and it is answered that nothing lacks
-nothing_met_is_all_found : (R : _) (P : _) (LR : _) (LP : _) (g : _) (d : _) (h : _) (i : _) (j : _)
-    (κs : _) (a : _) (s : _) (text : List ℕ)
-    → check_to.Learnt-named R P LR LP g d h i j κs a (Ok true) s → a.1.0.now ≡ None ∷ []
-    → h.contents a.1.1.0.now ≡ Some [] → h.contents s.1.1.0.now ≡ Some text → ⊥
-nothing_met_is_all_found R P LR LP g d h i j κs a s text l one old new =
-    let n : true ≡ false
-    = (text_of_none g.remaining a.1.0.now _ [] text _ true l.ok one old new).1 in
+nothing_met_is_all_found : (R : _) (L : _) (P : _) (LR : _) (LL : _) (LP : _) (g : _) (d : _)
+    (h : _) (i : _) (m : _) (n : _) (j : _) (κs : _) (a : _) (s : _) (text : List ℕ)
+    → check_to.Learnt-named R L P LR LL LP g d h i m n j κs a (Ok true) s
+    → h.size a.1.0.now ≡ 1
+    → ((image : _) (next : _) → h.gives a.1.0.now 0 image next → image ≡ None)
+    → m.contents a.1.1.0.now ≡ Some [] → m.contents s.1.1.0.now ≡ Some text → ⊥
+nothing_met_is_all_found R L P LR LL LP g d h i m n j κs a s text l one absent old new =
+    let n : true ≡ false = (text_of_none h.size h.gives g.remaining a.1.0.now _ _ _ text true l.ok
+    one absent old new).1 in
     absurd (cc)
+
+-- images_checked_from_1: there is one image, and another was mounted: something is not as it was
+images_checked_from_1 : (R : _) (L : _) (P : _) (LR : _) (LL : _) (LP : _) (g : _) (d : _) (h : _)
+    (i : _) (m : _) (n : _) (j : _) (κs : _) (a : _) (found : _) (s : _)
+    → check_to.Learnt-named R L P LR LL LP g d h i m n j κs a (Ok found) s
+    → h.size a.1.0.now ≡ 1
+    → ((image : _) (next : _) → h.gives a.1.0.now 0 image next → next ≡ s.1.0.now → ⊥) → ⊥
+images_checked_from_1 R L P LR LL LP g d h i m n j κs a found s l one other =
+    first_stays h.gives g.remaining a.1.0.now s.1.0.now l.ok.reels l.ok.mounted (l.ok.all ∙ one)
+    other

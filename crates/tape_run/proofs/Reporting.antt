@@ -1,12 +1,11 @@
 -- What of a report was written, and what of it comes next.
-use Rattle.std.proofs.Common.{◌≡◌, inl, inr, ℕ, ◌+◌, ◌<◌, suc, Bool, List}
-use Rattle.std.proofs.Common.{[], ◌∷◌, ◌++◌, length, map, take, drop, get_or, slice_set, Option}
+use Rattle.std.proofs.Common.{◌≡◌, inl, inr, ℕ, ◌+◌, ◌-◌, ◌<◌, suc, Bool, List}
+use Rattle.std.proofs.Common.{[], ◌∷◌, ◌++◌, length, map, take, drop, get_or, Option, option_map}
 use Rattle.std.proofs.Common.{Result, Ok, Err, IfOk, OnErr, refl, sym, ap, subst, ◌∙◌}
 use Rattle.std.proofs.Common.{arith, append_assoc, append-nil, length-append}
 use Rattle.std.specs.List.{flat_map}
 use Rattle.std.specs.Io.KnownBytes.{Appends}
 use Rattle.std.proofs.KnownBytes.{Appends-trans, Appends-nil}
-use Rattle.std.proofs.lemmas.List.{drop_more, drop-set-lt, map-append, length-map}
 use Rattle.std.proofs.lemmas.List.{take_more, take-append-drop}
 use Rattle.std.proofs.lemmas.List.Concat.{flat_map-append}
 use Rattle.tape_run.specs.declared.section.ImageLine.{ImageLine}
@@ -15,9 +14,11 @@ use Rattle.tape_run.specs.declared.section.Lack.{Lack}
 use Rattle.tape_run.specs.Passing.{Told}
 use Rattle.tape_run.specs.Lacks.{line_of, lacks, found_all}
 use Rattle.tape_run.specs.CheckLine.{image_line, image_lines}
-use Rattle.tape_run.specs.Checked.{Reel, IsRead, AreRead, summary, summary_of, Reports}
+use Rattle.tape_run.specs.Checked.{Reel, IsReel, IsRead, AreRead, summary, summary_of, Reports}
 use Rattle.tape_run.specs.Checked.{summary_behind, ReportsInPart, Tells, TellsAll, StopsAt}
 use Rattle.tape_run.specs.Output.{AppendsFront}
+use Rattle.tape_run.specs.Reeling.{Mounting}
+use Rattle.tape_run.specs.Shelves.{AreMounted}
 
 -- all of one text was written, and a front of the next
 pub front_then : (old mid new : Option (List ℕ)) (a b more all : List ℕ) → Appends old mid a
@@ -59,22 +60,36 @@ as_many [] (l ∷ lines) c d read = absurd read
 as_many (r ∷ reels) [] c d read = absurd read
 as_many (r ∷ reels) (l ∷ lines) c d read = ap suc (as_many reels lines read.0 d read.2)
 
--- the images up to a place were read and their lines written; the others are as they were
-pub record ReadSoFar (X : Type 0) (view : X → Reel) (first now : List X) (place : ℕ) (d : List Told)
-    (old new : Option (List ℕ)) : Type 0 where
-  pub done : List X
-  pub split : first ≡ done ++ drop place now
-  pub counted : length done ≡ place
+-- one more image was mounted, the first of those that were not
+pub one_mounted : {L R T : Type 0} (gives : Mounting L R) (is : Option R → T → Type 0) (shelf : L)
+    (number : ℕ) (ts : List T) (mid : L) (t : T) (image : Option R) (next : L)
+    → AreMounted gives is shelf number ts mid → gives mid (number + length ts) image next
+    → is image t → AreMounted gives is shelf number (ts ++ t ∷ []) next
+one_mounted gives is shelf number [] mid t image next same g one =
+    let at : number + 0 ≡ number = omega arith in
+    let given = subst (λ n. gives mid n image next) at g in
+    (image, next, subst (λ z. gives z number image next) same given, one, refl)
+one_mounted gives is shelf number (u ∷ ts) mid t image next (i, z, gave, was, are) g one =
+    let at : number + length (u ∷ ts) ≡ number + 1 + length ts = omega arith in
+    let given = subst (λ n. gives mid n image next) at g in
+    (i, z, gave, was, one_mounted gives is z (number + 1) ts mid t image next are given one)
+
+-- the first images of a shelf, up to this number, were mounted and read, and their lines written
+pub record ReadSoFar {L R : Type 0} (gives : Mounting L R) (remaining : R → Option (List ℕ))
+    (shelf now : L) (number : ℕ) (d : List Told) (old new : Option (List ℕ)) : Type 0 where
+  pub reels : List Reel
+  pub counted : length reels ≡ number
+  pub mounted : AreMounted gives (IsReel remaining) shelf 0 reels now
   pub lines : List (Option ImageLine)
-  pub read : AreRead (map view done) lines [] d
+  pub read : AreRead reels lines [] d
   pub wrote : Appends old new (image_lines 1 lines)
 
-pub starts : (X : Type 0) (view : X → Reel) (first : List X) (d : List Told) (w : Option (List ℕ))
-    → d ≡ [] → ReadSoFar X view first first 0 d w w
-starts X view first d w none = record {
-  done = [];
-  split = refl;
+pub starts : {L R : Type 0} (gives : Mounting L R) (remaining : R → Option (List ℕ)) (shelf : L)
+    (d : List Told) (w : Option (List ℕ)) → d ≡ [] → ReadSoFar gives remaining shelf shelf 0 d w w
+starts gives remaining shelf d w none = record {
+  reels = [];
   counted = refl;
+  mounted = refl;
   lines = [];
   read = none;
   wrote = Appends-nil w;
@@ -89,109 +104,153 @@ one_line reels lines line place d read counted =
     omega (arith, as_many reels lines [] d read, counted) in
     image_lines-more 1 lines line ∙ ap (λ n. image_lines 1 lines ++ image_line n line) number
 
--- the images behind a place
-behind : (X : Type 0) (first now done : List X) (place : ℕ) (x d : X) → place < length now
-    → x ≡ get_or now place d → first ≡ done ++ drop place now
-    → first ≡ (done ++ x ∷ []) ++ drop (place + 1) now
-behind X first now done place x d within is split =
-    split ∙ ap (λ l. done ++ l) (drop_more now place d within
-    ∙ ap (λ z. z ∷ drop (place + 1) now) (sym is))
-    ∙ sym (append_assoc done (x ∷ []) (drop (place + 1) now))
+-- the image with this number was mounted
+mounted_next : {L R : Type 0} (gives : Mounting L R) (remaining : R → Option (List ℕ))
+    (shelf now next : L) (number : ℕ) (reels : List Reel) (image : Option R)
+    → AreMounted gives (IsReel remaining) shelf 0 reels now → length reels ≡ number
+    → gives now number image next
+    → AreMounted gives (IsReel remaining) shelf 0 (reels ++ option_map remaining image ∷ []) next
+mounted_next gives remaining shelf now next number reels image are counted gave =
+    let at : number ≡ 0 + length reels = omega (arith, counted) in
+    one_mounted gives (IsReel remaining) shelf 0 reels now (option_map remaining image) image next
+    are (subst (λ n. gives now n image next) at gave) refl
 
-read_one : (X : Type 0) (view : X → Reel) (done : List X) (x : X) (lines : List (Option ImageLine))
-    (line : Option ImageLine) (mid d : List Told) → AreRead (map view done) lines [] mid
-    → IsRead (view x) line mid d
-    → AreRead (map view (done ++ x ∷ [])) (lines ++ line ∷ []) [] d
-read_one X view done x lines line mid d read one =
-    subst (λ l. AreRead l (lines ++ line ∷ []) [] d) (sym (map-append view done (x ∷ [])))
-    (read_more (map view done) lines [] mid d (view x) line read one)
-
-pub one_more : (X : Type 0) (view : X → Reel) (first now : List X) (place : ℕ) (mid d : List Told)
-    (old w new : Option (List ℕ)) (x y z : X) → place < length now → x ≡ get_or now place z
-    → ReadSoFar X view first now place mid old w → Tells (view x) (place + 1) mid d w new
-    → ReadSoFar X view first (slice_set now place y) (place + 1) d old new
-one_more X view first now place mid d old w new x y z within is s told =
-    let same : drop (place + 1) (slice_set now place y) ≡ drop (place + 1) now =
-    drop-set-lt (place + 1) now place y (omega arith) in
+pub one_more : {L R : Type 0} (gives : Mounting L R) (remaining : R → Option (List ℕ))
+    (shelf now next : L) (number : ℕ) (mid d : List Told) (old w new : Option (List ℕ))
+    (image : Option R) → ReadSoFar gives remaining shelf now number mid old w
+    → gives now number image next → Tells (option_map remaining image) (number + 1) mid d w new
+    → ReadSoFar gives remaining shelf next (number + 1) d old new
+one_more gives remaining shelf now next number mid d old w new image s gave told =
     let line = told.0 in
+    let reel = option_map remaining image in
     record {
-      done = s.done ++ x ∷ [];
-      split = behind X first now s.done place x z within is s.split
-          ∙ ap (λ l. (s.done ++ x ∷ []) ++ l) (sym same);
-      counted = length-append s.done (x ∷ []) ∙ ap (λ n. n + 1) s.counted;
+      reels = s.reels ++ reel ∷ [];
+      counted = length-append s.reels (reel ∷ []) ∙ ap (λ n. n + 1) s.counted;
+      mounted =
+          mounted_next gives remaining shelf now next number s.reels image s.mounted s.counted gave;
       lines = s.lines ++ line ∷ [];
-      read = read_one X view s.done x s.lines line mid d s.read told.1;
-      wrote = subst (Appends old new) (sym (one_line (map view s.done) s.lines line place mid s.read
-          (length-map s.done view ∙ s.counted)))
-          (Appends-trans old w new (image_lines 1 s.lines)
-          (image_line (place + 1) line) s.wrote told.2);
+      read = read_more s.reels s.lines [] mid d reel line s.read told.1;
+      wrote = subst (Appends old new) (sym (one_line s.reels s.lines line number mid s.read
+          s.counted)) (Appends-trans old w new (image_lines 1 s.lines)
+          (image_line (number + 1) line) s.wrote told.2);
     }
 
--- a fault came at the image at a place
-pub stops_at : (X : Type 0) (view : X → Reel) (first now : List X) (place : ℕ) (mid : List Told)
-    (old w new : Option (List ℕ)) (x z : X) → place < length now → x ≡ get_or now place z
-    → ReadSoFar X view first now place mid old w → StopsAt (view x) (place + 1) mid w new
-    → ReportsInPart (map view first) old new
-stops_at X view first now place mid old w new x z within is s (inl none) =
-    let lines = image_lines 1 s.lines in
-    let left = map view (drop place now) in
+-- a fault came where an image was mounted: nothing more was written
+pub not_mounted : {L R : Type 0} (size : L → ℕ) (gives : Mounting L R)
+    (remaining : R → Option (List ℕ)) (shelf now left : L) (number : ℕ) (mid : List Told)
+    (old w : Option (List ℕ)) → number < size shelf → left ≡ now
+    → ReadSoFar gives remaining shelf now number mid old w
+    → ReportsInPart size gives remaining shelf left old w
+not_mounted size gives remaining shelf now left number mid old w within same s =
+    let unread = size shelf - number in
     record {
-      first = map view s.done;
-      left = left;
-      split = ap (map view) s.split ∙ map-append view s.done (drop place now);
+      first = s.reels;
+      more = [];
+      mounted = subst (λ r. AreMounted gives (IsReel remaining) shelf 0 r left)
+          (sym (append-nil s.reels))
+          (subst (AreMounted gives (IsReel remaining) shelf 0 s.reels) (sym same) s.mounted);
+      unread = unread;
+      counted = omega (arith, s.counted, within);
+      few = (omega arith, omega arith);
+      lines = s.lines;
+      sections = mid;
+      read = s.read;
+      wrote = (image_lines 1 s.lines, summary_behind unread mid, s.wrote, refl);
+    }
+
+-- a fault came at the image with this number
+pub stops_at : {L R : Type 0} (size : L → ℕ) (gives : Mounting L R)
+    (remaining : R → Option (List ℕ)) (shelf now next : L) (number : ℕ) (mid : List Told)
+    (old w new : Option (List ℕ)) (image : Option R) → number < size shelf
+    → ReadSoFar gives remaining shelf now number mid old w → gives now number image next
+    → StopsAt (option_map remaining image) (number + 1) mid w new
+    → ReportsInPart size gives remaining shelf next old new
+stops_at size gives remaining shelf now next number mid old w new image within s gave (inl none) =
+    let lines = image_lines 1 s.lines in
+    let unread = size shelf - number in
+    record {
+      first = s.reels;
+      more = option_map remaining image ∷ [];
+      mounted =
+          mounted_next gives remaining shelf now next number s.reels image s.mounted s.counted gave;
+      unread = unread;
+      counted = omega (arith, s.counted, within);
+      few = (omega arith, omega (arith, within));
       lines = s.lines;
       sections = mid;
       read = s.read;
       wrote = (
         lines ++ [],
-        summary_behind left mid,
+        summary_behind unread mid,
         Appends-trans old w new lines [] s.wrote none,
-        ap (λ l. l ++ summary_behind left mid) (sym (append-nil lines)),
+        ap (λ l. l ++ summary_behind unread mid) (sym (append-nil lines)),
       );
     }
-stops_at X view first now place mid old w new x z within is s (inr part) =
+stops_at size gives remaining shelf now next number mid old w new image within s gave (inr part) =
     let line = part.0 in
     let d = part.1 in
-    let left = map view (drop (place + 1) now) in
-    let told =
-    one_line (map view s.done) s.lines line place mid s.read (length-map s.done view ∙ s.counted) in
+    let reel = option_map remaining image in
+    let unread = size shelf - (number + 1) in
+    let first = s.reels ++ reel ∷ [] in
+    let many : length first ≡ number + 1 =
+    length-append s.reels (reel ∷ []) ∙ ap (λ n. n + 1) s.counted in
+    let told = one_line s.reels s.lines line number mid s.read s.counted in
     record {
-      first = map view (s.done ++ x ∷ []);
-      left = left;
-      split = ap (map view) (behind X first now s.done place x z within is s.split)
-          ∙ map-append view (s.done ++ x ∷ []) (drop (place + 1) now);
+      first = first;
+      more = [];
+      mounted = subst (λ r. AreMounted gives (IsReel remaining) shelf 0 r next)
+          (sym (append-nil first))
+          (mounted_next gives remaining shelf now next number s.reels image s.mounted s.counted
+          gave);
+      unread = unread;
+      counted = omega (arith, many, within);
+      few = (omega arith, omega arith);
       lines = s.lines ++ line ∷ [];
       sections = d;
-      read = read_one X view s.done x s.lines line mid d s.read part.2;
+      read = read_more s.reels s.lines [] mid d reel line s.read part.2;
       wrote = front_then old w new (image_lines 1 s.lines)
-          (image_line (place + 1) line) (summary_behind left d)
-          (image_lines 1 (s.lines ++ line ∷ []) ++ summary_behind left d) s.wrote part.3
-          (ap (λ l. l ++ summary_behind left d) told);
+          (image_line (number + 1) line) (summary_behind unread d)
+          (image_lines 1 (s.lines ++ line ∷ []) ++ summary_behind unread d) s.wrote part.3
+          (ap (λ l. l ++ summary_behind unread d) told);
     }
 
 -- the summary was written behind the lines of all images
-pub reported : (reels : List Reel) (d : List Told) (old mid new : Option (List ℕ)) (found : Bool)
-    → TellsAll reels d old mid → found ≡ found_all d → Appends mid new (summary d)
-    → Reports reels old new found
-reported reels d old mid new found told is wrote = (
-  image_lines 1 told.0 ++ summary d,
-  record { lines = told.0; sections = d; read = told.1; told = refl; all = is },
-  Appends-trans old mid new (image_lines 1 told.0) (summary d) told.2 wrote,
-)
+pub reported : {L R : Type 0} (size : L → ℕ) (gives : Mounting L R)
+    (remaining : R → Option (List ℕ)) (shelf left : L) (d : List Told)
+    (old mid new : Option (List ℕ)) (found : Bool)
+    → TellsAll size gives remaining shelf left d old mid → found ≡ found_all d
+    → Appends mid new (summary d) → Reports size gives remaining shelf left old new found
+reported size gives remaining shelf left d old mid new found told is wrote = record {
+  reels = told.reels;
+  mounted = told.mounted;
+  all = told.all;
+  text = image_lines 1 told.lines ++ summary d;
+  report =
+      record { lines = told.lines; sections = d; read = told.read; told = refl; all = is };
+  wrote = Appends-trans old mid new (image_lines 1 told.lines) (summary d) told.wrote wrote;
+}
 
 -- a front of the summary was
-pub reported_in_part : (reels : List Reel) (d : List Told) (old mid new : Option (List ℕ))
-    → TellsAll reels d old mid → AppendsFront mid new (summary d) → ReportsInPart reels old new
-reported_in_part reels d old mid new told part = record {
-  first = reels;
-  left = [];
-  split = sym (append-nil reels);
-  lines = told.0;
-  sections = d;
-  read = told.1;
-  wrote = front_then old mid new (image_lines 1 told.0) (summary d) [] (image_lines 1 told.0
-      ++ summary d) told.2 part (sym (append-nil (image_lines 1 told.0 ++ summary d)));
-}
+pub reported_in_part : {L R : Type 0} (size : L → ℕ) (gives : Mounting L R)
+    (remaining : R → Option (List ℕ)) (shelf left : L) (d : List Told)
+    (old mid new : Option (List ℕ)) → TellsAll size gives remaining shelf left d old mid
+    → AppendsFront mid new (summary d) → ReportsInPart size gives remaining shelf left old new
+reported_in_part size gives remaining shelf left d old mid new told part =
+    let lines = image_lines 1 told.lines in
+    record {
+      first = told.reels;
+      more = [];
+      mounted = subst (λ r. AreMounted gives (IsReel remaining) shelf 0 r left)
+          (sym (append-nil told.reels)) told.mounted;
+      unread = 0;
+      counted = omega (arith, told.all);
+      few = (omega arith, omega arith);
+      lines = told.lines;
+      sections = d;
+      read = told.read;
+      wrote = front_then old mid new lines (summary d) [] (lines ++ summary d) told.wrote part
+          (sym (append-nil (lines ++ summary d)));
+    }
 
 -- the texts of the elements up to a place and of the next
 pub one_text : (X : Type 0) (f : X → List ℕ) (xs : List X) (place : ℕ) (x z : X) → place < length xs

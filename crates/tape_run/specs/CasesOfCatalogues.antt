@@ -1,7 +1,7 @@
 -- What the definitions of a catalogue, and of reports of what is on reels, say of cases. The call
 -- `laws::cases` has them as its contract.
-use Rattle.std.specs.Prelude.{◌≡◌, ◌<◌, ℕ, Bool, true, false, List, [], ◌∷◌, ◌++◌, length}
-use Rattle.std.specs.Prelude.{map, Option, Some, None, codes}
+use Rattle.std.specs.Prelude.{◌≡◌, ◌<◌, ◌≤◌, ◌+◌, ℕ, zero, suc, Bool, true, false, List, [], ◌∷◌}
+use Rattle.std.specs.Prelude.{◌++◌, length, map, Option, Some, None, codes}
 use Rattle.std.specs.List.{AllByRecursion, flat_map}
 use Rattle.std.specs.Io.KnownBytes.{Appends}
 use Rattle.tape_image.specs.declared.item.Ending.{Ending}
@@ -27,12 +27,14 @@ use Rattle.tape_run.specs.declared.section.SectionState.TheVariants.{Good, Bad, 
 use Rattle.tape_run.specs.Added.{Adds, StopsBehind}
 use Rattle.tape_run.specs.Cases.{on_one_volume}
 use Rattle.tape_run.specs.CheckLine.{image_line, image_lines, section_line, found_line}
-use Rattle.tape_run.specs.Checked.{Reel, IsRead, AreRead, IsReport, ReportsInPart, IsCheckFault}
-use Rattle.tape_run.specs.Checked.{summary, summary_behind, Tells}
+use Rattle.tape_run.specs.Checked.{Reel, IsReel, IsRead, AreRead, IsReport, ReportsInPart}
+use Rattle.tape_run.specs.Checked.{IsCheckFault, summary, summary_behind, Tells, Reports}
 use Rattle.tape_run.specs.Lacks.{IsFirstLack, IsFoundWhole, IsGoodAt, lacks, found_all, key_at}
 use Rattle.tape_run.specs.Lacks.{line_of, good_end, entry_at}
 use Rattle.tape_run.specs.Noted.{noted, noted_all, KeepsPlaces, GoodIsShown}
 use Rattle.tape_run.specs.Passing.{Told, met_in}
+use Rattle.tape_run.specs.Reeling.{Took}
+use Rattle.tape_run.specs.Shelves.{AreMounted}
 use Rattle.tape_run.specs.Shown.{Shown, BeginsVolume, HeadsSection, EndsSection}
 use Rattle.tape_run.specs.WholeReels.{AreWholeCopies, IsToldWhole, IsShownOn, IsListedGood}
 use Rattle.tape_run.specs.WholeSet.{HasEach, IsWholeCopy, IsNoDevice, key_in}
@@ -169,11 +171,22 @@ pub record CasesOfReports : Type 0 where
   pub unopened_adds_none : (c d : List Told) → IsRead None None c d → d ≡ c
   pub tells : (reel : Reel) (c d : List Told) (old new : Option (List ℕ))
       (t : Tells reel 2 c d old new) → IsRead reel t.0 c d × Appends old new (image_line 2 t.0)
+  -- readers in a list are the images, each in its place
+  pub all_mounted : (a b : Option (Option (List ℕ))) (left : List (Option (Option (List ℕ))))
+      (old new : Option (List ℕ)) (found : Bool)
+      (r : Reports length Took (λ x. x) (a ∷ b ∷ []) left old new found)
+      → (r.reels ≡ a ∷ b ∷ []) × IsReport r.reels r.text found × Appends old new r.text
   -- a front of a report ends with a summary only where no image is left
-  pub no_summary_before : (reel : Reel) (d : List Told) → summary_behind (reel ∷ []) d ≡ []
-  pub summary_last : (d : List Told) → summary_behind [] d ≡ summary d
-  pub in_part : (reels : List Reel) (old new : Option (List ℕ)) (r : ReportsInPart reels old new)
-      → (reels ≡ r.first ++ r.left) × AreRead r.first r.lines [] r.sections
+  pub no_summary_before : (left : ℕ) (d : List Told) → summary_behind (suc left) d ≡ []
+  pub summary_last : (d : List Told) → summary_behind zero d ≡ summary d
+  -- and at most one image was mounted that was not read
+  pub in_part : (a b : Option (Option (List ℕ))) (left : List (Option (Option (List ℕ))))
+      (old new : Option (List ℕ))
+      (r : ReportsInPart length Took (λ x. x) (a ∷ b ∷ []) left old new)
+      → (length r.first + r.unread ≡ 2) × (length r.more ≤ 1) × (length r.more ≤ r.unread)
+      × AreRead r.first r.lines [] r.sections
+  pub first_mounted : (a b : Option (Option (List ℕ))) (left : List (Option (Option (List ℕ))))
+      → AreMounted Took (IsReel (λ x. x)) (a ∷ b ∷ []) 0 (a ∷ []) left → left ≡ None ∷ b ∷ []
   -- no other fault than a failed write, or want of memory
   pub other_fault : IsCheckFault (Run NoSuchPoint) → ⊥
   pub faults : IsCheckFault WriteFailed × IsCheckFault (Run OutOfMemory)

@@ -1,6 +1,6 @@
 -- What `check` reports of images.
-use Rattle.std.specs.Prelude.{◌≡◌, ◌⊎◌, ℕ, Bool, if◌then◌else◌, List, [], ◌∷◌, ◌++◌, map, Option}
-use Rattle.std.specs.Prelude.{Some, None}
+use Rattle.std.specs.Prelude.{◌≡◌, ◌⊎◌, ℕ, zero, suc, ◌+◌, ◌≤◌, Bool, if◌then◌else◌, List, [], ◌∷◌}
+use Rattle.std.specs.Prelude.{◌++◌, map, length, Option, option_map, Some, None}
 use Rattle.std.specs.List.{flat_map}
 use Rattle.std.specs.Io.KnownBytes.{Appends}
 use Rattle.tape_run.specs.declared.section.ImageLine.{ImageLine}
@@ -14,11 +14,17 @@ use Rattle.tape_run.specs.declared.fault.EngineFault.{EngineFault}
 use Rattle.tape_run.specs.declared.fault.EngineFault.TheVariants.{Run, WriteFailed}
 use Rattle.tape_run.specs.CheckLine.{image_line, image_lines, section_line, lack_line, found_line}
 use Rattle.tape_run.specs.Output.{AppendsFront}
+use Rattle.tape_run.specs.Reeling.{Mounting}
+use Rattle.tape_run.specs.Shelves.{AreMounted}
 
 -- an image: none where it was not opened, or else the bytes that its reader has, where it tells
 -- them
 abbrev pub Reel : Type 0
 Reel = Option (Option (List ℕ))
+
+-- an image that was mounted, or was not there, is this one
+abbrev pub IsReel : {R : Type 0} → (R → Option (List ℕ)) → Option R → Reel → Type 0
+IsReel remaining image reel = reel ≡ option_map remaining image
 
 -- An image was read to its end, or to a fault, and its sections were noted in a catalogue; or it
 -- was not opened.
@@ -53,11 +59,17 @@ abbrev pub Tells : Reel → ℕ → List Told → List Told → Option (List ℕ
 Tells reel n c d old new =
     (line : Option ImageLine) × IsRead reel line c d × Appends old new (image_line n line)
 
--- the images were read, and their lines were written
-abbrev pub TellsAll : List Reel → List Told → Option (List ℕ) → Option (List ℕ) → Type 0
-TellsAll reels d old new =
-    (lines : List (Option ImageLine)) × AreRead reels lines [] d
-    × Appends old new (image_lines 1 lines)
+-- All images of a shelf were mounted and read, one after another, and their lines were written.
+-- Behind them the catalogue has these sections.
+pub record TellsAll {L R : Type 0} (size : L → ℕ) (gives : Mounting L R)
+    (remaining : R → Option (List ℕ)) (shelf left : L) (sections : List Told)
+    (old new : Option (List ℕ)) : Type 0 where
+  pub reels : List Reel
+  pub mounted : AreMounted gives (IsReel remaining) shelf 0 reels left
+  pub all : length reels ≡ size shelf
+  pub lines : List (Option ImageLine)
+  pub read : AreRead reels lines [] sections
+  pub wrote : Appends old new (image_lines 1 lines)
 
 -- At the image with this number a fault came: nothing more was written, or the image was read and a
 -- front of its line was written.
@@ -74,25 +86,37 @@ pub record IsReport (reels : List Reel) (text : List ℕ) (found : Bool) : Type 
   pub told : text ≡ image_lines 1 lines ++ summary sections
   pub all : found ≡ found_all sections
 
--- the report was written
-abbrev pub Reports : List Reel → Option (List ℕ) → Option (List ℕ) → Bool → Type 0
-Reports reels old new found = (text : List ℕ) × IsReport reels text found × Appends old new text
+-- All images of a shelf were mounted, one after another, and their report was written.
+pub record Reports {L R : Type 0} (size : L → ℕ) (gives : Mounting L R)
+    (remaining : R → Option (List ℕ)) (shelf left : L) (old new : Option (List ℕ)) (found : Bool)
+    : Type 0 where
+  pub reels : List Reel
+  pub mounted : AreMounted gives (IsReel remaining) shelf 0 reels left
+  pub all : length reels ≡ size shelf
+  pub text : List ℕ
+  pub report : IsReport reels text found
+  pub wrote : Appends old new text
 
 -- the summary follows where no image is left
-abbrev pub summary_behind : List Reel → List Told → List ℕ
-summary_behind [] d = summary d
-summary_behind (_ ∷ _) d = []
+abbrev pub summary_behind : ℕ → List Told → List ℕ
+summary_behind zero d = summary d
+summary_behind (suc left) d = []
 
--- The first images were read, and a front of their report was written; its summary follows the
--- line of the last.
-pub record ReportsInPart (reels : List Reel) (old new : Option (List ℕ)) : Type 0 where
+-- The first images of a shelf were mounted and read, and a front of their report was written; its
+-- summary follows the line of the last image. Of those that were not read one may have been
+-- mounted, and no more.
+pub record ReportsInPart {L R : Type 0} (size : L → ℕ) (gives : Mounting L R)
+    (remaining : R → Option (List ℕ)) (shelf left : L) (old new : Option (List ℕ)) : Type 0 where
   pub first : List Reel
-  pub left : List Reel
-  pub split : reels ≡ first ++ left
+  pub more : List Reel
+  pub mounted : AreMounted gives (IsReel remaining) shelf 0 (first ++ more) left
+  pub unread : ℕ
+  pub counted : length first + unread ≡ size shelf
+  pub few : (length more ≤ 1) × (length more ≤ unread)
   pub lines : List (Option ImageLine)
   pub sections : List Told
   pub read : AreRead first lines [] sections
-  pub wrote : AppendsFront old new (image_lines 1 lines ++ summary_behind left sections)
+  pub wrote : AppendsFront old new (image_lines 1 lines ++ summary_behind unread sections)
 
 -- a write failed, or there was no memory
 abbrev pub IsCheckFault : EngineFault → Type 0

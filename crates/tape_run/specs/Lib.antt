@@ -42,6 +42,7 @@ pub mod Listed
 pub mod ListExamples
 -- Reports of what is on reels: to be believed, in this order.
 pub mod CheckLine
+pub mod Shelves
 pub mod Checked
 pub mod WholeReels
 pub mod OneEntry

@@ -15,80 +15,80 @@ use crate::fault::{EngineFault, RunFault, WriteFailed};
 use crate::output::{flush, write_text};
 use crate::report::check_set;
 use crate::section::{ImageLine, Lack, SectionLine};
+use crate::shelf::Shelf;
 use std::alloc::{AllocError, Global};
-use std::io::{BufReader, Read, Write};
+use std::io::{Read, Write};
 
 /// There was no memory.
 const NO_MEMORY: EngineFault = EngineFault::Run(RunFault::OutOfMemory);
 
-/// Reports what is on the images, each of which is a reader, or was not opened: a line for each
-/// image, a line for each section in the order in which they were met first, a line for each file
-/// that lacks a section, and a last line where something was met and nothing lacks. It answers
-/// whether that is so.
+/// Reports what is on the images of a shelf: a line for each image, a line for each section in the
+/// order in which they were met first, a line for each file that lacks a section, and a last line
+/// where something was met and nothing lacks. It answers whether that is so.
 ///
-/// Each image is read to its end or to a fault, through a buffer, and then let go. It takes memory
-/// for the buffers of one image, and else for the sections alone. The line of an image is passed on
-/// before the next one is read, and the rest of the report at the end; no contract can tell that of
-/// a writer: tests show it.
+/// An image is mounted when its turn comes, read to its end or to a fault, and given up then. One
+/// that is not there is told as not opened, and passed. It takes memory for the buffer of one
+/// image, what mounting takes, and else for the sections alone. The line of an image is passed on
+/// before the next one is mounted, and the rest of the report at the end; no contract can tell that
+/// of a writer: tests show it.
 ///
 /// # Errors
 ///
 /// `WriteFailed` where the report could not be written, and `Run(OutOfMemory)`.
-pub fn check_to<R: Read + Drop, P: Write>(
+pub fn check_to<R: Read + Drop, L: Shelf<R>, P: Write>(
     alloc: Global,
-    images: &mut [Option<R>],
+    images: &mut L,
     report: &mut P,
 ) -> Result<bool, EngineFault>
     // Success is the whole report, and tells whether all was found.
-    ensures ok { IfOk result (Reports (map (option_map R.remaining) images.old)
+    ensures ok { IfOk result (Reports L.size L.gives R.remaining images.old images.new
         (P.contents report.old) (P.contents report.new)) }
     // Whatever the fault, a front of a report was written: of the images that were read.
-    ensures front { OnErr result (ReportsInPart (map (option_map R.remaining) images.old)
+    ensures front { OnErr result (ReportsInPart L.size L.gives R.remaining images.old images.new
         (P.contents report.old) (P.contents report.new)) }
     ensures fault { IfErr result IsCheckFault }
 {
     let mut catalogue = Catalogue::new(alloc);
-    check_images(alloc, &mut catalogue, images, report)?;
+    check_images(&mut catalogue, images, report)?;
     summarize(alloc, &catalogue, report)
 }
 
-/// Notes what is on the images, and writes a line for each.
-fn check_images<R: Read + Drop, P: Write>(
-    alloc: Global,
+/// Mounts the images in their order, notes what is on each, and writes a line for it.
+fn check_images<R: Read + Drop, L: Shelf<R>, P: Write>(
     catalogue: &mut Catalogue,
-    images: &mut [Option<R>],
+    images: &mut L,
     report: &mut P,
 ) -> Result<(), EngineFault>
     requires { catalogue.old ≡ [] }
-    ensures ok { OnOk result (TellsAll (map (option_map R.remaining) images.old) catalogue.new
-        (P.contents report.old) (P.contents report.new)) }
-    ensures front { OnErr result (ReportsInPart (map (option_map R.remaining) images.old)
+    ensures ok { OnOk result (TellsAll L.size L.gives R.remaining images.old images.new
+        catalogue.new (P.contents report.old) (P.contents report.new)) }
+    ensures front { OnErr result (ReportsInPart L.size L.gives R.remaining images.old images.new
         (P.contents report.old) (P.contents report.new)) }
     ensures fault { IfErr result IsCheckFault }
 {
-    let mut place = 0;
-    'images: while place < images.len() {
-        check_image(alloc, catalogue, &mut images[place], place + 1, report)?;
-        place += 1;
+    for number in 0..images.count() {
+        let Ok(image) = images.mount(number) else {
+            return Err(NO_MEMORY);
+        };
+        check_image(catalogue, image, number + 1, report)?;
     }
     Ok(())
 }
 
 /// Notes what is on an image, writes its line, and has it passed on.
 fn check_image<R: Read + Drop, P: Write>(
-    alloc: Global,
     catalogue: &mut Catalogue,
-    image: &mut Option<R>,
+    image: Option<R>,
     number: usize,
     report: &mut P,
 ) -> Result<(), EngineFault>
-    ensures ok { OnOk result (Tells (option_map R.remaining image.old) number
+    ensures ok { OnOk result (Tells (option_map R.remaining image) number
         catalogue.old catalogue.new (P.contents report.old) (P.contents report.new)) }
-    ensures front { OnErr result (StopsAt (option_map R.remaining image.old) number
+    ensures front { OnErr result (StopsAt (option_map R.remaining image) number
         catalogue.old (P.contents report.old) (P.contents report.new)) }
     ensures fault { IfErr result IsCheckFault }
 {
-    let Ok(met) = read_image(alloc, catalogue, image.take()) else {
+    let Ok(met) = read_image(catalogue, image) else {
         return Err(NO_MEMORY);
     };
     pass_on(report, &image_line(number, &met))?;
@@ -97,20 +97,16 @@ fn check_image<R: Read + Drop, P: Write>(
 
 /// Notes what is on an image, if it was opened.
 fn read_image<R: Read + Drop>(
-    alloc: Global,
     catalogue: &mut Catalogue,
     image: Option<R>,
 ) -> Result<Option<ImageLine>, AllocError>
     ensures { IfOk result (λ met.
         IsRead (option_map R.remaining image) met catalogue.old catalogue.new) }
 {
-    let Some(image) = image else {
+    let Some(mut device) = image else {
         return Ok(None);
     };
-    let Ok(mut reader) = BufReader::new(alloc, image) else {
-        return Err(AllocError);
-    };
-    match catalogue.add(&mut reader) {
+    match catalogue.add(&mut device) {
         Ok(met) => Ok(Some(met)),
         Err(_) => Err(AllocError),
     }

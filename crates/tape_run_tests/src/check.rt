@@ -1,5 +1,6 @@
 //! Reports of what is on reels.
 use crate::devices::{Dribble, Tail};
+use crate::extract::shelf_of;
 use crate::image::{EOF_FIVE, EOF_THREE, HDR1, Image, blank, five_blocks, front, payroll};
 use crate::sections::{first_of_two, of_blocks, one_section, second_of_two};
 use crate::volumes::{EOF_FOUR, all_sections, cut, unprinted, with_items_behind};
@@ -17,7 +18,8 @@ fn check<H: Abort + AllocGlobal, R: Read + Drop>(
     lines: &str,
 ) -> Result<(), Fail> {
     let mut report = Vec::new(rt.alloc());
-    let answer = check_to(rt.alloc(), images, &mut report)?;
+    let mut shelf = shelf_of(rt.alloc(), images)?;
+    let answer = check_to(rt.alloc(), &mut shelf, &mut report)?;
     assert_eq!(rt; report.as_slice(), lines.as_bytes(), "{lines}");
     assert!(rt; answer == found, "{lines}");
     Ok(())
@@ -205,8 +207,8 @@ LACKS ABC001 1 2
 fn the_last_section_number(rt: HostRuntime) -> Result<(), Fail> {
     let image = all_sections(rt.alloc())?;
     let mut report = Tail::new(rt.alloc());
-    let images = &mut [Some(image.bytes.as_slice())];
-    let found = check_to(rt.alloc(), images, &mut report)?;
+    let mut images = shelf_of(rt.alloc(), &mut [Some(image.bytes.as_slice())])?;
+    let found = check_to(rt.alloc(), &mut images, &mut report)?;
     let line = b"SECTION ABC001 1 9999 ABC001 0 GOOD\n".as_slice();
     assert!(rt; !found);
     assert!(rt; report.line.as_slice() == line);

@@ -1,5 +1,6 @@
 //! Reports of `check` that could not be written.
 use crate::devices::{FailsOnce, Narrow};
+use crate::extract::shelf_of;
 use crate::image::payroll;
 use std::alloc::{AllocError, Global};
 use std::io;
@@ -22,7 +23,8 @@ fn check_worked<W: Write>(
     writer: &mut W,
 ) -> Result<Result<bool, EngineFault>, AllocError> {
     let image = payroll(alloc)?;
-    Ok(check_to(alloc, &mut [Some(image.bytes.as_slice())], writer))
+    let mut images = shelf_of(alloc, &mut [Some(image.bytes.as_slice())])?;
+    Ok(check_to(alloc, &mut images, writer))
 }
 
 /// Where the writer takes so many bytes and fails, these are a front of the report.
@@ -80,12 +82,13 @@ impl Write for Flushed {
 #[test]
 fn lines_are_passed_on_one_by_one(rt: HostRuntime) -> Result<(), Fail> {
     let image = payroll(rt.alloc())?;
-    let images = &mut [Some(image.bytes.as_slice()), Some(image.bytes.as_slice())];
+    let bytes = image.bytes.as_slice();
+    let mut images = shelf_of(rt.alloc(), &mut [Some(bytes), Some(bytes)])?;
     let mut report = Flushed {
         taken: 0,
         at: Vec::new(rt.alloc()),
     };
-    let answer = check_to(rt.alloc(), images, &mut report);
+    let answer = check_to(rt.alloc(), &mut images, &mut report);
     assert!(rt; answer == Ok(true));
     assert_eq!(rt; report.at.as_slice(), [18, 36, 88].as_slice());
     Ok(())

@@ -1,19 +1,30 @@
-use Rattle.std.proofs.Common.{rules, get_or, option_map, refl}
+use Rattle.std.proofs.Common.{◌≡◌, ◌<◌, rules, arith}
 use Rattle.tape_run.proofs.Fitting.{on_err}
-use Rattle.tape_run.proofs.Reporting.{one_more, stops_at}
+use Rattle.tape_run.proofs.Reporting.{starts, one_more, stops_at, not_mounted}
 use Rattle.tape_run.proofs.check.check_images.Goals as goal
 
 pub returns-in_err-check_image-clause-front : goal.returns-in_err-check_image-clause-front
 returns-in_err-check_image-clause-front g c =
-    let image = get_or c.images.images c.images.place c.index-images-place.result in
+    let within : c.loop-number.number < g.L.Shelf.size c.args.images.now =
+    omega (arith, c.loop-number-test.true, c.count-number-end.ensures) in
     on_err c.from_residual.result _
-    (stops_at _ (option_map g.R.Read.remaining) c.args.images.now c.images.images c.images.place
-    c.images.catalogue _ _ _ image c.index-images-place.result
-    (search rules) refl c.images.invariant c.in_err-check_image.ensures.front)
+    (stops_at g.L.Shelf.size g.L.Shelf.gives g.R.Read.remaining _ _ _ c.loop-number.number _ _ _ _
+    c.in-Ok.image within c.loop-number.invariant c.in-Ok.ensures.ok
+    c.in_err-check_image.ensures.front)
 
-pub images-preserved : goal.images-preserved
-images-preserved g c =
-    let image = get_or c.images.images c.images.place c.index-images-place.result in
-    one_more _ (option_map g.R.Read.remaining) c.args.images.now c.images.images c.images.place
-    c.images.catalogue _ _ _ _ image _ c.index-images-place.result
-    (search rules) refl c.images.invariant c.in_ok-check_image.ensures.ok
+pub returns-in_default-clause-front : goal.returns-in_default-clause-front
+returns-in_default-clause-front g c =
+    let within : c.loop-number.number < g.L.Shelf.size c.args.images.now =
+    omega (arith, c.loop-number-test.true, c.count-number-end.ensures) in
+    let stays : c.mount.new.self ≡ c.loop-number.images = search rules in
+    not_mounted g.L.Shelf.size g.L.Shelf.gives g.R.Read.remaining _ c.loop-number.images _
+    c.loop-number.number _ _ _ within stays c.loop-number.invariant
+
+pub loop-number-init : goal.loop-number-init
+loop-number-init g c =
+    starts g.L.Shelf.gives g.R.Read.remaining _ _ _ (search rules)
+
+pub loop-number-preserved : goal.loop-number-preserved
+loop-number-preserved g c =
+    one_more g.L.Shelf.gives g.R.Read.remaining _ _ _ c.loop-number.number _ _ _ _ _ c.in-Ok.image
+    c.loop-number.invariant c.in-Ok.ensures.ok c.in_ok-check_image.ensures.ok
