@@ -124,6 +124,8 @@ EXTRACT_REPORTS = {
     kind: {0: REELS + line + REELS + r"COMPLETE \d+\n", 3: REELS + line + REELS + r"AWAITS .*\n"} for kind, line in UNREAD.items()
 }
 CHECK = {"a": NO_MEMORY, "w": {"file fault 4"}}
+# the list itself, which is opened and read before the images
+CHECK_LIST = CHECK | {"o": {"file fault 2"}, "r": {"file fault 3"}}
 IMAGES = r"(IMAGE .*\n)*"
 SECTIONS = r"(SECTION .*\n)*(LACKS .*\n|ALL SECTIONS FOUND\n)*"
 CHECK_REPORTS = {
@@ -153,6 +155,10 @@ def trials():
         Trial("extract, round by round", ["extract", "ABC001", "1", "OUT", "two.tap", "one.tap", "--again"], EXTRACT, reels,
             result="OUT", reports=EXTRACT_REPORTS),
         Trial("check, two reels", ["check", "one.tap", "two.tap"], CHECK, reels, reports=CHECK_REPORTS),
+        Trial("check, names in a list", ["check", "one.tap", "--from", "names"], CHECK_LIST, reels | {"names": b"two.tap\n"},
+            reports=CHECK_REPORTS),
+        Trial("extract, names on standard input", ["extract", "ABC001", "1", "OUT", "--from", "-", "--null"], EXTRACT, reels,
+            stdin=b"one.tap\0two.tap\0", result="OUT", reports=EXTRACT_REPORTS),
     ]
 
 

@@ -21,9 +21,11 @@ COMPLETION = os.path.join(TOP, "docs", "tape.bash")
 # For each command its usage, and its words with the name of what they say in help.rt.
 COMMANDS = {
     "list": ("[IMAGE]", [("IMAGE", "IMAGE")]),
-    "check": ("IMAGE...", [("IMAGE", "IMAGES")]),
-    "extract": ("[--form FORM] [--stage PATH] [--again] SET FILE OUT IMAGE...", [
+    "check": ("[--from LIST [--null]] [IMAGE]...", [
+        ("IMAGE", "IMAGES"), ("--from LIST", "FROM"), ("--null", "NULL")]),
+    "extract": ("[OPTIONS] SET FILE OUT [IMAGE]...", [
         ("SET", "SET"), ("FILE", "FILE"), ("OUT", "OUT"), ("IMAGE", "REELS"),
+        ("--from LIST", "FROM"), ("--null", "NULL"),
         ("--form lines|raw", "FORM_OF_OUT"), ("--stage PATH", "STAGE"),
         ("--again", "AGAIN")]),
     "init": ("DIR PRE COUNT", [("DIR", "FOLDER"), ("PRE", "PREFIX"), ("COUNT", "COUNT")]),
@@ -186,8 +188,8 @@ def words_of_source():
     """Each word of the commands with the name of its text, as the sources pair them."""
     source = read(SOURCE, "words.rt") + read(SOURCE, "write", "words.rt")
     rows = re.findall(r'Word\(\s*"([^"]+)",\s*Kind::(\w+).*?help::(\w+)', source, re.S)
-    pairs = {("--" + name if kind in ("Flag", "TextOption", "NumberOption", "NameOption") else name,
-              text) for name, kind, text in rows}
+    options = ("Flag", "FlagOf", "TextOption", "NumberOption", "NameOption")
+    pairs = {("--" + name if kind in options else name, text) for name, kind, text in rows}
     for one in re.findall(r"Arg::new\(alloc, \"[^;{}]*", source):
         name = re.search(r'\.long\("([\w-]+)"\)', one)
         text = re.search(r"help\(help::(\w+)\)", one)

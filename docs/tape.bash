@@ -16,7 +16,10 @@ _tape() {
     esac
     case $command:$cur in
     help:*) COMPREPLY=($(compgen -W 'list check extract init write' -- "$cur")); return ;;
-    extract:-*) COMPREPLY=($(compgen -W '--form --stage --again --explain --help' -- "$cur")); return ;;
+    check:-*) COMPREPLY=($(compgen -W '--from --null --explain --help' -- "$cur")); return ;;
+    extract:-*)
+        COMPREPLY=($(compgen -W '--from --null --form --stage --again --explain --help' -- "$cur"))
+        return ;;
     write:-*)
         COMPREPLY=($(compgen -W \
             '--format --block --record --offset --pad-full --form --explain --help' -- "$cur"))
@@ -27,7 +30,7 @@ _tape() {
     for ((at = 2; at < COMP_CWORD; at++)); do
         word=${COMP_WORDS[at]}
         case $word in
-        --form | --stage | --format | --block | --record | --offset) at=$((at + 1)) ;;
+        --from | --form | --stage | --format | --block | --record | --offset) at=$((at + 1)) ;;
         -*) ;;
         *) place=$((place + 1)) ;;
         esac
@@ -35,10 +38,12 @@ _tape() {
     compopt -o filenames 2>/dev/null
     local IFS=$'\n'
     case $command:$place in
-    extract:1 | extract:2 | init:2 | init:3 | write:2 | write:3) [ "$prev" = --stage ] || return ;;
+    extract:1 | extract:2 | init:2 | init:3 | write:2 | write:3)
+        case $prev in --from | --stage) ;; *) return ;; esac ;;
     esac
     case $command:$place:$prev in
     init:1:* | write:1:*) COMPREPLY=($(compgen -d -- "$cur")) ;;
+    *:--from) COMPREPLY=($(compgen -f -- "$cur")) ;;
     # No image is offered for OUT, which would be written over.
     extract:3:* | *:--stage) COMPREPLY=($(compgen -f -X '*.[tT][aA][pP]' -- "$cur")) ;;
     *) COMPREPLY=($(compgen -f -- "$cur")) ;;

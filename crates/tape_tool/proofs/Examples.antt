@@ -1,8 +1,11 @@
--- The cases of ends, faults, lines and sessions over stages.
-use Rattle.std.proofs.Common.{◌≡◌, refl, ap, get_or, arith}
+-- The cases of ends, faults, lines, names and sessions over stages.
+use Rattle.std.proofs.Common.{◌≡◌, refl, ap, get_or, arith, Bool, true, false, []}
 use Rattle.std.specs.Fmt.{digits}
 use Rattle.tape_stage.specs.declared.disk.Disk.{Ghosts}
-use Rattle.tape_tool.specs.Cases.{CasesOfEnds, CasesOfFaults, CasesOfLines, CasesOfStaging}
+use Rattle.std.proofs.lemmas.List.Splits.{join_with_byte-slice_split}
+use Rattle.tape_tool.specs.Cases.{CasesOfEnds, CasesOfFaults, CasesOfLines, CasesOfNames}
+use Rattle.tape_tool.specs.Cases.{CasesOfStaging}
+use Rattle.tape_tool.specs.Names.{end_byte, names_in}
 
 pub cases_of_ends : CasesOfEnds
 cases_of_ends = record {
@@ -40,6 +43,19 @@ cases_of_lines = record {
   no_memory = refl;
   volumes = refl;
   none_written = refl;
+}
+
+no_name : (null : Bool) → names_in null [] ≡ []
+no_name true = refl
+no_name false = refl
+
+pub cases_of_names : CasesOfNames
+cases_of_names = record {
+  joined = λ null text. join_with_byte-slice_split (end_byte null) text;
+  lines = refl;
+  ended = refl;
+  nulls = refl;
+  none = no_name;
 }
 
 pub cases_of_staging : {D : Type 0} (disk : Ghosts D) → CasesOfStaging disk

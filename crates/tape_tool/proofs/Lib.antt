@@ -1,4 +1,6 @@
 mod Sessions
 mod LinesOfVolumes
+mod ListedNames
 mod Mistakes
+mod MistakesOfNames
 mod Examples

@@ -1,7 +1,8 @@
--- What the definitions of ends, faults, lines and sessions over stages say of cases, so that none
--- of them says less, or asks more, than it should. The call `laws::cases` has them as its contract.
+-- What the definitions of ends, faults, lines, names and sessions over stages say of cases, so that
+-- none of them says less, or asks more, than it should. The call `laws::cases` has them as its contract.
 use Rattle.std.specs.Prelude.{◌≡◌, ℕ, Bool, true, false, List, [], ◌∷◌, map, replicate}
 use Rattle.std.specs.Prelude.{codes, Some, None, Ok, Err}
+use Rattle.std.specs.List.{join_with_byte}
 use Rattle.clap.specs.declared.error.kind.ErrorKind.TheVariants as kinds
 use Rattle.std.specs.declared.io.ErrorKind.TheVariants as io_kinds
 use Rattle.tape_image.specs.declared.fault.ImageFault.{ImageFault}
@@ -37,6 +38,7 @@ use Rattle.tape_tool.specs.declared.staging.StagingFault.TheVariants as staging
 use Rattle.tape_tool.specs.Ends.{exit_status, end_of, check_end, extract_end, help_end, words_end}
 use Rattle.tape_tool.specs.Ends.{no_words_end}
 use Rattle.tape_tool.specs.Fault.{file_number, write_number, of_set, of_engine, of_list}
+use Rattle.tape_tool.specs.Names.{end_byte, pieces_of, names_in}
 use Rattle.tape_tool.specs.Report.{report}
 use Rattle.tape_tool.specs.Staging.{IsOfFile, first_point, StandsAt, GoesOn, Says, IsUnopened}
 use Rattle.tape_tool.specs.Telling.{fault_line}
@@ -79,6 +81,18 @@ pub record CasesOfEnds : Type 0 where
   -- words that are no text, or that could not be had
   pub no_words : map no_words_end (io_kinds.InvalidData ∷ io_kinds.InvalidInput ∷ io_kinds.Other
       ∷ []) ≡ replicate 3 WrongWords
+
+-- the names in a list
+pub record CasesOfNames : Type 0 where
+  -- nothing of a text is left out, and nothing stands in it twice
+  pub joined : (null : Bool) (text : List ℕ)
+      → join_with_byte (end_byte null) (pieces_of null text) ≡ text
+  -- spaces are in a name, an empty line is none, and the last line counts without an end too
+  pub lines : names_in false (codes "a b\n\nc") ≡ codes "a b" ∷ codes "c" ∷ []
+  pub ended : names_in false (codes "a b\nc\n") ≡ codes "a b" ∷ codes "c" ∷ []
+  -- what ends with a NUL may hold line feeds
+  pub nulls : names_in true (97 ∷ 10 ∷ 98 ∷ 0 ∷ 0 ∷ 99 ∷ []) ≡ codes "a\nb" ∷ codes "c" ∷ []
+  pub none : (null : Bool) → names_in null [] ≡ []
 
 -- the numbers of faults, and what the faults of engines are told as
 pub record CasesOfFaults : Type 0 where

@@ -4,3 +4,4 @@ pub mod Ends
 pub mod Cases
 pub mod Staging
 pub mod Report
+pub mod Names

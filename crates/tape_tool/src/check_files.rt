@@ -3,17 +3,26 @@ ghost use Rattle.std.specs.Prelude.{◌≡◌};
 ghost use Rattle.tape_tool.specs.Ends.{check_end};
 
 use crate::end::End;
+use crate::explain::Site;
 use crate::fault::{Fault, ToolFault};
-use std::alloc::AllocError;
-use std::fs::File;
+use crate::images::Images;
+use crate::names::{Named, names_of};
+use crate::program::refuse_unfit;
+use crate::words::CHECK;
 use std::io;
 use std::io::BufWriter;
 use std::rt::Runtime;
 use tape_run::{EngineFault, RunFault, check_to};
 
-/// Reports what is on the images at these paths.
-pub fn check<R: Runtime + AllocGlobal>(rt: &R, paths: &[&str]) -> End {
-    check_end(check_files(rt, paths))
+/// Reports what is on the images that are named. At a fault the site is where it came.
+pub fn check<'a, R: Runtime + AllocGlobal>(rt: &R, named: &Named<'a>, site: &mut Site<'a>) -> End {
+    let mut text = String::new(rt.alloc());
+    let names = match names_of(rt, named, &mut text, site) {
+        Ok(names) => names,
+        Err(unfit) => return refuse_unfit(rt, &CHECK, unfit),
+    };
+    *site = Site::Lines;
+    check_end(check_files(rt, names.as_slice()))
 }
 
 /// How a check ends, which found all or did not.
@@ -27,26 +36,10 @@ pub fn check_end(checked: Result<bool, EngineFault>) -> End
     }
 }
 
-/// The same, and whether all was found.
-fn check_files<R: Runtime + AllocGlobal>(rt: &R, paths: &[&str]) -> Result<bool, EngineFault> {
-    let no_memory = EngineFault::Run(RunFault::OutOfMemory);
-    let Ok(mut images) = open_all(rt, paths) else {
-        return Err(no_memory);
-    };
+/// Reports what is on the images of these names, and answers whether all was found.
+fn check_files<R: Runtime + AllocGlobal>(rt: &R, names: &[&str]) -> Result<bool, EngineFault> {
     let Ok(mut report) = BufWriter::new(rt.alloc(), io::writer(rt)) else {
-        return Err(no_memory);
+        return Err(EngineFault::Run(RunFault::OutOfMemory));
     };
-    check_to(rt.alloc(), images.as_mut_slice(), &mut report)
-}
-
-/// The files at these paths, each where it could be opened.
-fn open_all<R: Runtime + AllocGlobal>(
-    rt: &R,
-    paths: &[&str],
-) -> Result<Vec<Option<R::File>>, AllocError> {
-    let mut images = Vec::with_capacity(rt.alloc(), paths.len())?;
-    for path in paths {
-        images.push(File::open(rt, path).ok())?;
-    }
-    Ok(images)
+    check_to(rt.alloc(), &mut Images::new(rt, names), &mut report)
 }

@@ -19,6 +19,8 @@ pub enum Site<'a> {
     Volume(Prefix, u16),
     /// The file that this word of `write` names.
     File(&'a str),
+    /// The list of images in this file, or on standard input.
+    List(Option<&'a str>),
     /// Where the records of a file go.
     Out(&'a str),
     /// Where what was gathered is kept.
@@ -37,6 +39,8 @@ impl fmt::Display for Site<'_> {
                 writeln!(f, "  Image: {a}{b}{c}{number:03}.tap")
             }
             Site::File(word) => writeln!(f, "  File: {word}"),
+            Site::List(None) => f.write_str("  List: standard input\n"),
+            Site::List(Some(path)) => writeln!(f, "  List: {path}"),
             Site::Out(path) => writeln!(f, "  OUT: {path}"),
             Site::Stage(path) => writeln!(f, "  Stage: {path}"),
         }
@@ -101,6 +105,7 @@ fn files_at(site: Site<'_>) -> &'static [&'static str] {
     match site {
         Site::Input | Site::Image(_) => FILE_OF_IMAGE,
         Site::Volume(_, _) => FILE_OF_VOLUME,
+        Site::List(_) => FILE_OF_LIST,
         Site::Out(_) => FILE_OF_OUT,
         Site::Stage(_) => FILE_OF_STAGE,
         Site::Lines => FILE_OF_LINES,
@@ -242,6 +247,16 @@ const FILE_OF_VOLUME: &[&str] = &[
 ",
 ];
 
+const FILE_OF_LIST: &[&str] = &[
+    NEVER,
+    "  It could not be opened. No image was read.
+  Is the name right, and may you read it?
+",
+    "  Reading it failed: it is a folder, or the disk fails. No image was read.
+",
+    NEVER,
+];
+
 const FILE_OF_OUT: &[&str] = &[
     "  It may keep a tape, and was left as it is: an image, compressed, or a stage.
   OUT stands before the images: tape extract SET FILE OUT IMAGE..
@@ -311,6 +326,7 @@ pub const TEXTS: &[&[&str]] = &[
     FILE_OF_LINES,
     FILE_OF_IMAGE,
     FILE_OF_VOLUME,
+    FILE_OF_LIST,
     FILE_OF_OUT,
     FILE_OF_STAGE,
     RUN,

@@ -2,7 +2,6 @@
 mod draft;
 pub mod folder;
 mod guard;
-mod images;
 mod out_file;
 mod program;
 mod stage_file;

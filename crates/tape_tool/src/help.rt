@@ -86,8 +86,12 @@ pub const ABOUT_CHECK: &str =
 pub const IMAGES: &str = "SIMH .tap images, up to 256, in any order";
 
 /// Help behind the words of `check`.
-pub const AFTER_CHECK: &str = "Example:
+pub const AFTER_CHECK: &str = "Examples:
   tape check *.tap
+  find . -name '*.tap' -print0 | tape check --from - --null
+
+LIST has any number of names, which come behind the IMAGEs. Empty lines are
+passed over. An image is opened when it is read, one at a time.
 
 A line for each image, in the order named: its number, how many items it has, and how it stops.
   IMAGE 1 12 MARKED                    by an end word; PHYSICAL where its bytes end between items
@@ -112,8 +116,26 @@ Exit status: 0 all sections found, 1 a fault, 2 a wrong command line, 3 somethin
 was met.";
 
 /// `check` was given too many images.
-pub const TOO_MANY_TO_CHECK: &str = "check takes up to 256 images: name those of a set together,
-set by set";
+pub const TOO_MANY_TO_CHECK: &str = "check takes up to 256 images as words, and any number from \
+a list:
+  find . -name '*.tap' -print0 | tape check --from - --null";
+
+/// What LIST is.
+pub const FROM: &str = "Further images, a name on each line; '-': standard input";
+
+/// What `--null` says.
+pub const NULL: &str = "Each name in LIST ends with NUL, as of 'find -print0'";
+
+/// No image is named, and the list is empty.
+pub const NO_IMAGE: &str = "the list names no image";
+
+/// A line of a list holds a NUL, which no name of a file does.
+pub const NUL_IN_LINES: &str = "the names in the list end with NUL: give --null too";
+
+/// A name in a list is no text; before it stands which one.
+pub const NO_TEXT_IN_LIST: &str = "of the list is not UTF-8 text: find the file by
+  find . | grep -axv '.*'
+and rename it";
 
 /// `list` was given the word '-'.
 pub const DASH: &str = "'-' is no image: leave IMAGE out to list standard input,
@@ -230,7 +252,7 @@ pub const FILE: &str = "The number of the file in its set, 1 to 9999";
 pub const OUT: &str = "Where its records go, written anew once the file is complete";
 
 /// What IMAGE is, where there are several.
-pub const REELS: &str = "SIMH .tap images, 1 to 256, read in this order";
+pub const REELS: &str = "SIMH .tap images, up to 256, read in this order";
 
 /// What the form is.
 pub const FORM_OF_OUT: &str = "How records stand in OUT: each with a line feed, or just joined";
@@ -245,8 +267,9 @@ pub const AGAIN: &str = "Reads the images once more wherever a round brought som
 pub const WRONG_SET: &str = "SET has 1 to 6 bytes, as 'ABC001'";
 
 /// Too many images.
-pub const TOO_MANY_IMAGES: &str = "extract takes up to 256 images: name those of this set, or use
---stage and name the others in a second run";
+pub const TOO_MANY_IMAGES: &str = "extract takes up to 256 images as words, and any number from \
+a list:
+  find . -name '*.tap' -print0 | tape extract SET FILE OUT --from - --null";
 
 /// The words are no text.
 pub const NO_TEXT: &str = "error: a name on the command line is not UTF-8 text: find it by
@@ -261,13 +284,21 @@ write './-' for a file of that name, or /dev/stdout to have both";
 pub const OUT_IS_STAGE: &str = "OUT is the stage itself, and would be lost: give OUT a name of \
 its own, as 'payroll.txt'";
 
+/// OUT is the list.
+pub const OUT_IS_LIST: &str = "OUT is the list of images itself, and would be lost: give OUT a \
+name of its own, as 'payroll.txt'";
+
 /// OUT is one of the images.
 pub const OUT_IS_IMAGE: &str = "OUT is one of the images, and would be lost: it stands before them,
 as 'tape extract ABC001 1 payroll.txt *.tap'";
 
 /// Help behind the words of `extract`.
-pub const AFTER_EXTRACT: &str = "Example:
+pub const AFTER_EXTRACT: &str = "Examples:
   tape extract ABC001 1 payroll.txt *.tap
+  find . -name '*.tap' | tape extract ABC001 1 payroll.txt --from -
+
+LIST has any number of names, which come behind the IMAGEs. Empty lines are
+passed over. An image is opened when it is read, one at a time.
 
 SET and FILE are the set identifier and the sequence number of HDR1: 'tape list reel.tap' shows
 them. Name all images at hand, in any order, damaged copies and second readings too: reels of other

@@ -1,4 +1,4 @@
-//! The images of a run.
+//! The images of a run, for `check` and `extract`.
 ghost use Rattle.std.specs.Prelude.{⊤, length};
 
 use std::alloc::AllocError;

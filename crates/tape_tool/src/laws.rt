@@ -1,14 +1,16 @@
 //! What the definitions say of cases, as the contract of a call that does nothing.
 
-ghost use Rattle.tape_tool.specs.Cases.{CasesOfEnds, CasesOfFaults, CasesOfLines, CasesOfStaging};
+ghost use Rattle.tape_tool.specs.Cases.{CasesOfEnds, CasesOfFaults, CasesOfLines, CasesOfNames};
+ghost use Rattle.tape_tool.specs.Cases.{CasesOfStaging};
 
 use tape_stage::Disk;
 
 /// What the definitions of the program say of cases: how runs end, the numbers of faults, the lines
-/// that are printed, and what a session over a stage is.
+/// that are printed, the names in a list, and what a session over a stage is.
 pub fn cases<D: Disk>()
     ensures ends { CasesOfEnds }
     ensures faults { CasesOfFaults }
     ensures lines { CasesOfLines }
+    ensures names { CasesOfNames }
     ensures staging { CasesOfStaging D.Disk }
 {}

@@ -28,10 +28,14 @@ pub enum Kind {
     Number(u64, u64),
     /// Texts, of which one at least has to be there.
     Texts,
+    /// Texts, of which one at least has to be there, or this option.
+    TextsOr(&'static str),
     /// Any number of texts.
     AnyTexts,
     /// An option by itself.
     Flag,
+    /// An option by itself, which goes with this one alone.
+    FlagOf(&'static str),
     /// An option with a text, which help calls so.
     TextOption(&'static str),
     /// An option with a number, up to this one, and the number where it is left out.
@@ -47,7 +51,7 @@ pub fn command_of<'a>(alloc: Global, outline: &Outline) -> Result<Command<'a>, A
         .about(outline.about)
         .after_help(outline.after_help);
     for word in outline.words {
-        command = command.arg(argument(alloc, word))?;
+        command = command.arg(argument(alloc, word)?)?;
     }
     match outline.usage {
         Some(usage) => Ok(command.override_usage(usage)),
@@ -56,19 +60,25 @@ pub fn command_of<'a>(alloc: Global, outline: &Outline) -> Result<Command<'a>, A
 }
 
 /// The argument of a word or an option.
-fn argument<'a>(alloc: Global, word: &Word) -> Arg<'a> {
+fn argument<'a>(alloc: Global, word: &Word) -> Result<Arg<'a>, AllocError> {
     let Word(name, kind, help) = word;
     let arg = Arg::new(alloc, *name).help(*help);
-    match *kind {
+    Ok(match *kind {
         Kind::Text => arg.required(true),
         Kind::Number(least, most) => {
             arg.required(true)
                 .value_parser(ValueParser::Unsigned(least, most))
         }
         Kind::Texts => arg.required(true).num_args(1..),
+        Kind::TextsOr(option) => arg.required_unless_present(option)?.num_args(1..),
         Kind::AnyTexts => arg.num_args(..),
+        Kind::FlagOf(option) => {
+            arg.long(*name)
+                .action(ArgAction::SetTrue)
+                .requires_arg(option)?
+        }
         option => option_argument(arg.long(*name), option),
-    }
+    })
 }
 
 /// The argument of an option.

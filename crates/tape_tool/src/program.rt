@@ -82,10 +82,7 @@ fn obey<'a, R: Host>(rt: &R, order: &Order<'a>, site: &mut Site<'a>) -> End {
     match order {
         Order::List { image } => list(rt, *image, site),
         Order::Init(order) => init(rt, order, site),
-        Order::Check { images } => {
-            *site = Site::Lines;
-            check(rt, images.as_slice())
-        }
+        Order::Check(named) => check(rt, named, site),
         Order::Write(order) => write_files(rt, order, site),
         Order::Extract(order) => extract(rt, order, site),
     }
@@ -114,13 +111,30 @@ fn write_files<'a, R: Runtime + AllocGlobal>(
             }
             end_of(written)
         }
-        Err(Unfit::Faulted(fault)) => End::Faulted(fault),
-        Err(Unfit::Words(text)) => refuse_words(rt, &WRITE, text),
+        Err(unfit) => refuse_unfit(rt, &WRITE, unfit),
+    }
+}
+
+/// Ends a command that is not begun, for this reason.
+pub fn refuse_unfit<R>(rt: &R, outline: &Outline, unfit: Unfit) -> End
+where
+    R: Print + Eprint + AllocGlobal,
+{
+    match unfit {
+        Unfit::Faulted(fault) => End::Faulted(fault),
+        Unfit::Words(text) => refuse_words(rt, outline, text),
+        Unfit::NoText(null, number) => {
+            let what = if null { "name" } else { "line" };
+            match format!(in rt.alloc(); "{what} {number} {}", help::NO_TEXT_IN_LIST) {
+                Ok(text) => refuse_words(rt, outline, text.as_str()),
+                Err(_) => End::Faulted(Fault::OutOfMemory),
+            }
+        }
     }
 }
 
 /// Tells a mistake in words that was found behind them.
-pub fn refuse_words<R: Print + Eprint + AllocGlobal>(rt: &R, outline: &Outline, text: &str) -> End {
+fn refuse_words<R: Print + Eprint + AllocGlobal>(rt: &R, outline: &Outline, text: &str) -> End {
     match mistake(rt.alloc(), outline, text) {
         Ok(error) => refuse(rt, &error),
         Err(_) => End::Faulted(Fault::OutOfMemory),

@@ -1,4 +1,4 @@
-//! Why a command is not begun: its words name files that would be lost by it.
+//! Why a command is not begun: its words name files that would be lost by it, or no files.
 use crate::fault::{Fault, FileFault, ToolFault};
 use std::fs::Metadata;
 use std::os::unix::fs::MetadataExt;
@@ -6,8 +6,10 @@ use std::os::unix::fs::MetadataExt;
 /// Why files may not be used as the words ask for.
 #[derive(Clone, Copy)]
 pub enum Unfit {
-    /// The words ask for what would be lost by it.
+    /// The words ask for what would be lost by it, or for nothing that there is.
     Words(&'static str),
+    /// The name with this number, from 1, in a list is no text. It ends with a NUL, or is a line.
+    NoText(bool, usize),
     /// What stands there is of no use, or can't be looked at.
     Faulted(Fault),
 }

@@ -1,8 +1,8 @@
 //! What the words of a command line ask for.
 use crate::help;
+use crate::names::{List, Named};
 use crate::outline::{Kind, Outline, Word, command_of, mistake};
 use crate::write::words::{WRITE, WriteOrder, write_order};
-use arrayvec::ArrayVec;
 use clap::{Arg, ArgAction, ArgMatches, Command, Error};
 use std::alloc::{AllocError, Global};
 use tape_blocks::Form;
@@ -24,8 +24,8 @@ pub enum Order<'a> {
     List { image: Option<&'a str> },
     /// Make images of volumes without files.
     Init(Init<'a>),
-    /// Tell which sections are on the images at these paths.
-    Check { images: Vec<&'a str> },
+    /// Tell which sections are on images.
+    Check(Named<'a>),
     /// Write files on volumes.
     Write(WriteOrder<'a>),
     /// Get a file back from images.
@@ -40,11 +40,8 @@ pub struct Init<'a> {
     pub count: u16,
 }
 
-/// How many images a run takes, at most.
+/// How many images a run takes from its words, at most.
 const MOST_IMAGES: usize = 256;
-
-/// The names of images.
-pub type Names<'a> = ArrayVec<&'a str, MOST_IMAGES>;
 
 /// What `extract` gets back, and from what: a file of a set, from images in their order.
 #[derive(Drop)]
@@ -52,7 +49,7 @@ pub struct Extract<'a> {
     pub set_id: Field<6>,
     pub file: u16,
     pub out: &'a str,
-    pub images: Names<'a>,
+    pub images: Named<'a>,
     pub form: Form,
     /// Where what was gathered is kept.
     pub stage: Option<&'a str>,
@@ -71,13 +68,17 @@ const LIST: Outline = Outline {
 };
 
 /// `check`.
-const CHECK: Outline = Outline {
+pub const CHECK: Outline = Outline {
     name: "check",
     called: "tape check",
     about: help::ABOUT_CHECK,
     after_help: help::AFTER_CHECK,
     usage: None,
-    words: &[Word("IMAGE", Kind::Texts, help::IMAGES)],
+    words: &[
+        Word("IMAGE", Kind::TextsOr("from"), help::IMAGES),
+        Word("from", Kind::TextOption("LIST"), help::FROM),
+        Word("null", Kind::FlagOf("from"), help::NULL),
+    ],
 };
 
 /// `extract`.
@@ -91,7 +92,9 @@ pub const EXTRACT: Outline = Outline {
         Word("SET", Kind::Text, help::SET),
         Word("FILE", Kind::Number(1, 9_999), help::FILE),
         Word("OUT", Kind::Text, help::OUT),
-        Word("IMAGE", Kind::Texts, help::REELS),
+        Word("IMAGE", Kind::TextsOr("from"), help::REELS),
+        Word("from", Kind::TextOption("LIST"), help::FROM),
+        Word("null", Kind::FlagOf("from"), help::NULL),
         Word(
             "form",
             Kind::NameOption("FORM", FORMS, "lines"),
@@ -199,15 +202,27 @@ fn init_order<'a>(alloc: Global, matches: &ArgMatches<'a>) -> Result<Order<'a>, 
     }
 }
 
-/// What the words behind `check` ask for. The parser has seen to it that an image is named.
+/// What the words behind `check` ask for.
 fn check_order<'a>(alloc: Global, matches: &ArgMatches<'a>) -> Result<Order<'a>, Error> {
-    let named = matches.get_strs("IMAGE").unwrap_or(&[]);
-    if named.len() > MOST_IMAGES {
-        return Err(mistake(alloc, &CHECK, help::TOO_MANY_TO_CHECK)?);
+    match named(alloc, matches)? {
+        Some(images) => Ok(Order::Check(images)),
+        None => Err(mistake(alloc, &CHECK, help::TOO_MANY_TO_CHECK)?),
     }
-    Ok(Order::Check {
-        images: Vec::from_slice(alloc, named)?,
-    })
+}
+
+/// What names the images, if there are not too many words. The parser has seen to it that there are
+/// some, or a list.
+fn named<'a>(alloc: Global, matches: &ArgMatches<'a>) -> Result<Option<Named<'a>>, AllocError> {
+    let words = matches.get_strs("IMAGE").unwrap_or(&[]);
+    if words.len() > MOST_IMAGES {
+        return Ok(None);
+    }
+    let words = Vec::from_slice(alloc, words)?;
+    let list = matches.get_str("from").map(|path| List {
+        file: if path == "-" { None } else { Some(path) },
+        null: matches.get_flag("null"),
+    });
+    Ok(Some(Named { words, list }))
 }
 
 /// What the words behind `extract` ask for. The parser has seen to it that all of them are there.
@@ -215,7 +230,7 @@ fn extract_order<'a>(alloc: Global, matches: &ArgMatches<'a>) -> Result<Order<'a
     let Some(set_id) = set_id_of(matches.get_str("SET").unwrap_or("")) else {
         return Err(mistake(alloc, &EXTRACT, help::WRONG_SET)?);
     };
-    let Some(images) = names_of(matches.get_strs("IMAGE").unwrap_or(&[])) else {
+    let Some(images) = named(alloc, matches)? else {
         return Err(mistake(alloc, &EXTRACT, help::TOO_MANY_IMAGES)?);
     };
     let out = matches.get_str("OUT").unwrap_or("");
@@ -244,15 +259,6 @@ fn set_id_of(text: &str) -> Option<Field<6>> {
         *slot = *byte;
     }
     Some(Field::of_bytes(padded))
-}
-
-/// The names, if there are not too many.
-fn names_of<'a>(words: &[&'a str]) -> Option<Names<'a>> {
-    let mut names = Names::new();
-    for word in words {
-        names.try_push(*word).ok()?;
-    }
-    Some(names)
 }
 
 /// The form that was asked for.

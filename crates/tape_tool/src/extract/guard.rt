@@ -38,22 +38,30 @@ pub enum Way {
     InPlace,
 }
 
-/// How the output of this order is to be written. Nothing is made or changed.
+/// How the output of this order is to be written, over images of these names. Nothing is made or
+/// changed.
 ///
 /// # Errors
 ///
-/// `Words` where the output is the stage, also one that is not made yet, or one of the images: the
-/// file itself, whatever name or link leads there. `Faulted` with `Exists` where it may keep a
+/// `Words` where the output is the stage, also one that is not made yet, the list or one of the
+/// images: the file itself, whatever name or link leads there. `Faulted` with `Exists` where it may keep a
 /// tape: it holds something, and is named `.tap`, begins as an image does, or is compressed, an
 /// archive or a stage. With `NotOpened` or `ReadFailed` where that can't be seen.
-pub fn way_of<R: Runtime + AllocGlobal>(rt: &R, order: &Extract<'_>) -> Result<Way, Unfit> {
+pub fn way_of<R: Runtime + AllocGlobal>(
+    rt: &R,
+    order: &Extract<'_>,
+    images: &[&str],
+) -> Result<Way, Unfit> {
     let Ok(found) = fs::metadata(rt, order.out) else {
         return way_to_new(rt, order);
     };
     if let Some(stage) = order.stage {
         differs(rt, &found, stage, help::OUT_IS_STAGE)?;
     }
-    for image in &order.images {
+    if let Some(list) = order.images.list.and_then(|list| list.file) {
+        differs(rt, &found, list, help::OUT_IS_LIST)?;
+    }
+    for image in images {
         differs(rt, &found, *image, help::OUT_IS_IMAGE)?;
     }
     if found.is_file() && found.len() > 0 {

@@ -1,15 +1,15 @@
 //! The program around the engines of `extract`: images, memory, the file.
 use super::draft::{Draft, DraftFile, Drafted, OutName};
 use super::guard::{Way, way_of};
-use super::images::Images;
 use super::out_file::OutFile;
 use super::stage_file::session_in;
 use crate::end::{End, end_of, extract_end};
 use crate::explain::Site;
 use crate::fault::{Fault, FileFault, ToolFault};
 use crate::host::Host;
-use crate::program::refuse_words;
-use crate::unfit::Unfit;
+use crate::images::Images;
+use crate::names::names_of;
+use crate::program::refuse_unfit;
 use crate::words::{EXTRACT, Extract};
 use std::io;
 use std::io::{BufWriter, Write};
@@ -22,21 +22,35 @@ const HELD: usize = 65_536;
 
 /// Gets the file back that the words name. At a fault the site is where it came.
 pub fn extract<'a, R: Host>(rt: &R, order: &Extract<'a>, site: &mut Site<'a>) -> End {
+    let mut text = String::new(rt.alloc());
+    let names = match names_of(rt, &order.images, &mut text, site) {
+        Ok(names) => names,
+        Err(unfit) => return refuse_unfit(rt, &EXTRACT, unfit),
+    };
     *site = Site::Out(order.out);
-    let way = match way_of(rt, order) {
+    let way = match way_of(rt, order, names.as_slice()) {
         Ok(way) => way,
-        Err(Unfit::Faulted(fault)) => return End::Faulted(fault),
-        Err(Unfit::Words(text)) => return refuse_words(rt, &EXTRACT, text),
+        Err(unfit) => return refuse_unfit(rt, &EXTRACT, unfit),
     };
-    let Some(path) = order.stage else {
-        return if order.again {
-            in_memory(rt, order, way)
-        } else {
-            at_once(rt, order, way)
-        };
-    };
+    let mut images = Images::new(rt, names.as_slice());
+    match order.stage {
+        Some(path) => on_stage(rt, order, &mut images, way, path, site),
+        None if order.again => in_memory(rt, order, &mut images, way),
+        None => at_once(rt, order, &mut images, way),
+    }
+}
+
+/// Gets the file back over the stage at this path.
+fn on_stage<'a, R: Host>(
+    rt: &R,
+    order: &Extract<'a>,
+    images: &mut Images<'_, R>,
+    way: Way,
+    path: &'a str,
+    site: &mut Site<'a>,
+) -> End {
     let end = match session_in(rt, path, order.set_id, order.file) {
-        Ok(session) => gather(rt, order, way, session),
+        Ok(session) => gather(rt, order, images, way, session),
         Err(fault) => {
             *site = Site::Stage(path);
             return end_of(Err(fault));
@@ -66,22 +80,32 @@ fn draft_of<'a, R: Runtime + AllocGlobal>(
 
 /// Gets the file back without a stage: it is gathered in memory, where what a reel in doubt gave can
 /// be taken back, since the session has a note where it begins.
-fn in_memory<'a, R: Runtime + AllocGlobal>(rt: &'a R, order: &Extract<'a>, way: Way) -> End {
+fn in_memory<'a, R: Runtime + AllocGlobal>(
+    rt: &'a R,
+    order: &Extract<'a>,
+    images: &mut Images<'_, R>,
+    way: Way,
+) -> End {
     let sink = MemorySink::new(rt.alloc());
     let Ok(mut session) = Session::new(rt.alloc(), order.set_id, order.file, sink) else {
         return End::WrongWords;
     };
     match session.note() {
-        Ok(()) => gather(rt, order, way, session),
+        Ok(()) => gather(rt, order, images, way, session),
         Err(_) => End::Faulted(Fault::OutOfMemory),
     }
 }
 
 /// Gets the file back without a stage: its records are written as they come where there is a draft,
 /// and else gathered in memory.
-fn at_once<'a, R: Runtime + AllocGlobal>(rt: &'a R, order: &Extract<'a>, way: Way) -> End {
+fn at_once<'a, R: Runtime + AllocGlobal>(
+    rt: &'a R,
+    order: &Extract<'a>,
+    images: &mut Images<'_, R>,
+    way: Way,
+) -> End {
     match draft_of(rt, order, way) {
-        Ok(Some((name, file))) => into_draft(rt, order, name, file),
+        Ok(Some((name, file))) => into_draft(rt, order, images, name, file),
         Ok(None) => {
             let Ok(session) = Session::new(
                 rt.alloc(),
@@ -91,7 +115,7 @@ fn at_once<'a, R: Runtime + AllocGlobal>(rt: &'a R, order: &Extract<'a>, way: Wa
             ) else {
                 return End::WrongWords;
             };
-            in_place(rt, order, session)
+            in_place(rt, order, images, session)
         }
         Err(end) => end,
     }
@@ -101,6 +125,7 @@ fn at_once<'a, R: Runtime + AllocGlobal>(rt: &'a R, order: &Extract<'a>, way: Wa
 fn into_draft<R: Runtime + AllocGlobal>(
     rt: &R,
     order: &Extract<'_>,
+    images: &mut Images<'_, R>,
     name: OutName<'_, R>,
     file: DraftFile<R::File>,
 ) -> End {
@@ -113,8 +138,7 @@ fn into_draft<R: Runtime + AllocGlobal>(
     let Ok(session) = Session::new(rt.alloc(), order.set_id, order.file, sink) else {
         return End::WrongWords;
     };
-    let (mut images, mut report) = (Images::new(rt, order.images.as_slice()), io::writer(rt));
-    let answer = extract_now(session, &mut images, order.form, &mut name, &mut report);
+    let answer = extract_now(session, images, order.form, &mut name, &mut io::writer(rt));
     name.clear();
     match answer {
         Err(fault) => extract_end(Err(as_written(fault))),
@@ -135,18 +159,19 @@ fn as_written(fault: EngineFault) -> EngineFault {
 fn gather<'a, R: Runtime + AllocGlobal, S: PartWalk + Drop>(
     rt: &'a R,
     order: &Extract<'a>,
+    images: &mut Images<'_, R>,
     way: Way,
     session: Session<S>,
 ) -> End {
     let (name, file) = match draft_of(rt, order, way) {
         Ok(Some(drafted)) => drafted,
-        Ok(None) => return in_place(rt, order, session),
+        Ok(None) => return in_place(rt, order, images, session),
         Err(end) => return end,
     };
     let Ok(mut out) = BufWriter::with_capacity(rt.alloc(), HELD, Draft { name, file }) else {
         return End::Faulted(Fault::OutOfMemory);
     };
-    let end = written_to(rt, order, session, &mut out);
+    let end = written_to(rt, order, images, session, &mut out);
     out.get_ref().name.clear();
     end
 }
@@ -155,12 +180,13 @@ fn gather<'a, R: Runtime + AllocGlobal, S: PartWalk + Drop>(
 fn in_place<R: Runtime + AllocGlobal, S: PartWalk + Drop>(
     rt: &R,
     order: &Extract<'_>,
+    images: &mut Images<'_, R>,
     session: Session<S>,
 ) -> End {
     let Ok(mut out) = BufWriter::with_capacity(rt.alloc(), HELD, OutFile::new(rt, order.out)) else {
         return End::Faulted(Fault::OutOfMemory);
     };
-    let end = written_to(rt, order, session, &mut out);
+    let end = written_to(rt, order, images, session, &mut out);
     if out.get_ref().is_refused() {
         return End::Faulted(Fault::Tool(ToolFault::File(FileFault::NotOpened)));
     }
@@ -171,14 +197,15 @@ fn in_place<R: Runtime + AllocGlobal, S: PartWalk + Drop>(
 fn written_to<R: Runtime + AllocGlobal, S: PartWalk + Drop, W: Write>(
     rt: &R,
     order: &Extract<'_>,
+    images: &mut Images<'_, R>,
     session: Session<S>,
     out: &mut W,
 ) -> End {
-    let (mut images, mut report) = (Images::new(rt, order.images.as_slice()), io::writer(rt));
+    let report = &mut io::writer(rt);
     let answer = if order.again {
-        extract_again(session, &mut images, order.form, out, &mut report)
+        extract_again(session, images, order.form, out, report)
     } else {
-        extract_to(session, &mut images, order.form, out, &mut report)
+        extract_to(session, images, order.form, out, report)
     };
     extract_end(answer)
 }

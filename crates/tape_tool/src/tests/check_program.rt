@@ -1,9 +1,9 @@
 //! `check` as the program runs it.
-use super::calls::{each_ends, put, with_images};
+use super::calls::{Step, each_ends, ends, put, take_all, with_images};
 use super::volumes::{first_of_two, second_of_two};
 use super::words::{is_answered, words_of};
 use crate::end::{End, finish};
-use crate::fault::{Fault, ToolFault};
+use crate::fault::{Fault, FileFault, ToolFault};
 use crate::telling::fault_line;
 use crate::words::{Order, call_of};
 use std::test::Fail;
@@ -20,6 +20,30 @@ const LINES: &[(&str, End)] = &[
     ("check --help", End::Done),
 ];
 
+/// A list's last line counts without an end, and an empty line is passed over.
+const LISTS: &[Step<'_>] = &[
+    Step::Put("check.names", b"check1.tap\n\ncheck2.tap"),
+    Step::Put("check.nulls", b"check2.tap\0"),
+    Step::Put("empty.names", b"\n\n"),
+    Step::Put("no_text.names", b"check1.tap\n\xff\n"),
+    Step::Ends("check --from check.names", End::Done),
+    Step::Ends("check check1.tap --null --from check.nulls", End::Done),
+    Step::Ends("check --from check.nulls --null", End::Incomplete),
+    Step::Ends("check check1.tap --from empty.names", End::Incomplete),
+    Step::Ends("check --from empty.names", End::WrongWords),
+    Step::Ends("check check1.tap --from check.nulls", End::WrongWords),
+    Step::Ends("check check1.tap --from no_text.names", End::WrongWords),
+    Step::Ends("check check1.tap --null", End::WrongWords),
+    Step::Fails(
+        "check check1.tap --from lost.names",
+        ToolFault::File(FileFault::NotOpened),
+    ),
+    Step::Fails(
+        "check check1.tap --from .",
+        ToolFault::File(FileFault::ReadFailed),
+    ),
+];
+
 #[test]
 fn files(rt: HostRuntime) -> Result<(), Fail> {
     put(
@@ -32,7 +56,8 @@ fn files(rt: HostRuntime) -> Result<(), Fail> {
         "check2.tap",
         second_of_two(rt.alloc())?.bytes.as_slice(),
     )?;
-    each_ends(&rt, LINES)
+    each_ends(&rt, LINES)?;
+    take_all(&rt, LISTS)
 }
 
 #[test]
@@ -40,7 +65,7 @@ fn at_most_256_images(rt: HostRuntime) -> Result<(), Fail> {
     let line = with_images(rt.alloc(), "check", 256)?;
     let words = words_of(rt.alloc(), line.as_str())?;
     match call_of(rt.alloc(), words.as_slice())?.order {
-        Order::Check { images } => assert_eq!(rt; images.len(), 256),
+        Order::Check(named) => assert_eq!(rt; named.words.len(), 256),
         _ => return Err(Fail::from("an order to check")),
     }
     Ok(())

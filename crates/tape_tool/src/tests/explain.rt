@@ -61,6 +61,14 @@ const SITES: &[(&str, Option<Site<'_>>)] = &[
         Some(Site::Out("told.tap")),
     ),
     (
+        "check told.tap --from lost.names --explain",
+        Some(Site::List(Some("lost.names"))),
+    ),
+    (
+        "extract ABC001 1 told.txt --from . --explain",
+        Some(Site::List(Some("."))),
+    ),
+    (
         "extract ABC001 1 told.txt told.tap --stage told.stage --explain",
         Some(Site::Stage("told.stage")),
     ),

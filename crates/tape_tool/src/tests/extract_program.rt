@@ -75,6 +75,17 @@ const NEVER_OUT: &[Step<'_>] = &[
     Step::Ends("extract ABC001 1 linked.tap only.tap", End::WrongWords),
     Step::Ends("extract ABC001 1 only.tap linked.tap", End::WrongWords),
     Step::Ends("extract ABC001 1 named.tap only.tap", End::WrongWords),
+    // The same where a list names it, and the list itself.
+    Step::Put("only.names", b"other.tap\nonly.tap"),
+    Step::Ends(
+        "extract ABC001 1 linked.tap --from only.names",
+        End::WrongWords,
+    ),
+    Step::Ends(
+        "extract ABC001 1 ./only.names other.tap --from only.names",
+        End::WrongWords,
+    ),
+    Step::Holds("only.names", b"other.tap\nonly.tap"),
     // OUT forgotten.
     Step::Fails(
         "extract ABC001 1 only.tap other.tap",
@@ -217,7 +228,7 @@ fn is_order<A: Abort>(rt: &A, order: &Extract<'_>) {
     assert!(rt; order.set_id.bytes() == b"AB    ".as_slice());
     assert!(rt; order.file == 9999 && order.form == Form::Lines);
     assert!(rt; order.out == "out.txt");
-    assert!(rt; matches!(order.images.as_slice(), ["a.tap", "b.tap"]));
+    assert!(rt; matches!(order.images.words.as_slice(), ["a.tap", "b.tap"]));
 }
 
 #[test]

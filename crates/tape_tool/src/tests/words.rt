@@ -59,6 +59,8 @@ const SAID: &[(&str, i32, &str)] = &[
     ("help list", 0, "zcat reel.tap.gz | tape list"),
     ("init '' ABC 2", 2, "DIR is empty: write '.'"),
     ("write '' ABC 100000 A=B", 2, "DIR is empty: write '.'"),
+    ("check --null a.tap", 2, "--from <LIST>"),
+    ("extract ABC001 1 a.txt", 2, "<IMAGE>..."),
     (
         "extract ABC001 1 - a.tap",
         2,

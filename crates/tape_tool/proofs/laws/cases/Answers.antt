@@ -1,5 +1,5 @@
 use Rattle.tape_tool.proofs.Examples.{cases_of_ends, cases_of_faults, cases_of_lines}
-use Rattle.tape_tool.proofs.Examples.{cases_of_staging}
+use Rattle.tape_tool.proofs.Examples.{cases_of_names, cases_of_staging}
 use Rattle.tape_tool.proofs.laws.cases.Goals as goal
 
 pub returns-clause-ends : goal.returns-clause-ends
@@ -10,6 +10,9 @@ returns-clause-faults g c = cases_of_faults
 
 pub returns-clause-lines : goal.returns-clause-lines
 returns-clause-lines g c = cases_of_lines
+
+pub returns-clause-names : goal.returns-clause-names
+returns-clause-names g c = cases_of_names
 
 pub returns-clause-staging : goal.returns-clause-staging
 returns-clause-staging g c = cases_of_staging g.D.Disk
