@@ -37,6 +37,13 @@ mod ListedSoFar
 mod ListFronts
 mod ListExamples
 mod Reporting
+mod SurveyJoins
+mod SurveyLooks
+mod SurveyTexts
+mod SurveyOrder
+mod SurveyStands
+mod SurveyVolumes
+mod ExamplesOfSurveys
 mod WholeReports
 mod Streams
 mod Turns

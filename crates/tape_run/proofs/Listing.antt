@@ -17,7 +17,7 @@ use Rattle.tape_run.specs.Lacks.{line_of, SetFiles, greatest, with_file, sets_fr
 use Rattle.tape_run.specs.Lacks.{one_lack, file_lacks, set_lacks}
 
 -- one place more
-take_get : {A : Type 0} (xs : List A) (i : ℕ) (x : A) → Some x ≡ slice_get xs i
+pub take_get : {A : Type 0} (xs : List A) (i : ℕ) (x : A) → Some x ≡ slice_get xs i
     → take (i + 1) xs ≡ take i xs ++ x ∷ []
 take_get xs i x at =
     let more : suc i ≡ i + 1 = omega arith in

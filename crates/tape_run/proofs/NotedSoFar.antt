@@ -46,7 +46,7 @@ pub record SoFar (all left : Option (List ℕ)) (place count : ℕ) (old : List 
   pub stands : phase ≡ phase_after Volume items
   pub noted : new ≡ noted_all old (told_from Volume items)
 
-pub starts : (all left : Option (List ℕ)) (place : ℕ) (old : List Told) → place ≡ 0 → left ≡ all
+abbrev pub starts : (all left : Option (List ℕ)) (place : ℕ) (old : List Told) → place ≡ 0 → left ≡ all
     → SoFar all left place 0 old Volume old
 starts all left place old first same =
     let P : ℕ → Type 0 = λ p. IfKnown all left (λ xs ys. Walks 0 xs [] p ys) in
@@ -71,7 +71,7 @@ told_from-append p (x ∷ xs) ys =
     ∙ sym (append_assoc (in_list (step p x).1) (told_from (step p x).0 xs)
     (told_from (phase_after (step p x).0 xs) ys))
 
-pub one_more : (all left next : Option (List ℕ)) (p q count : ℕ) (item : TapeItem) (old : List Told)
+abbrev pub one_more : (all left next : Option (List ℕ)) (p q count : ℕ) (item : TapeItem) (old : List Told)
     (phase after : Phase) (mid new : List Told)
     → SoFar all left p count old phase mid
     → IfKnown left next (TakesItem p item q) → after ≡ (step phase item).0
@@ -96,7 +96,7 @@ one_more all left next p q count item old phase after mid new s takes goes notes
 }
 
 -- what was noted at the end
-all_noted : (all left : Option (List ℕ)) (p count : ℕ) (old : List Told)
+pub all_noted : (all left : Option (List ℕ)) (p count : ℕ) (old : List Told)
     (phase : Phase) (mid new : List Told)
     → (s : SoFar all left p count old phase mid)
     → new ≡ noted_all mid (in_list (under_way phase)) → new ≡ noted_all old (met_in s.items)
@@ -123,7 +123,7 @@ adds before after old items line new counted stop notes = record {
       (good_is_shown items old);
 }
 
-by_ending : (items : List TapeItem) (ending : Ending) (q : ℕ) (xs ys : List ℕ)
+pub by_ending : (items : List TapeItem) (ending : Ending) (q : ℕ) (xs ys : List ℕ)
     → TakesEnd 0 items ending q xs ys → StopsBehind items (stop_at ending) xs ys
 by_ending items endings.Marked q xs ys t = (q, t)
 by_ending items endings.Physical q xs ys t = (q, t)

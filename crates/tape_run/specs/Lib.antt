@@ -47,6 +47,14 @@ pub mod Checked
 pub mod WholeReels
 pub mod OneEntry
 pub mod CheckExamples
+-- Surveys of images: to be believed, in this order.
+pub mod SurveyGlance
+pub mod SurveyFiles
+pub mod SurveyRead
+pub mod SurveyLine
+pub mod SurveySets
+pub mod Survey
+pub mod SurveyLaws
 -- Files got back, and reports of that: to be believed, in this order.
 pub mod ReelLine
 pub mod RecordText
@@ -64,3 +72,4 @@ pub mod CasesOfCatalogues
 pub mod CasesOfExtracts
 pub mod CasesOfRounds
 pub mod CasesOfLaws
+pub mod CasesOfSurveys

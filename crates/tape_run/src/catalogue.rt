@@ -113,7 +113,7 @@ fn add_items<R: Read>(
 }
 
 /// The end of medium as a stop.
-fn stop_at(ending: Ending) -> ImageStop
+pub(crate) fn stop_at(ending: Ending) -> ImageStop
     ensures { result ≡ stop_at ending }
 {
     match ending {

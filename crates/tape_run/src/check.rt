@@ -134,7 +134,7 @@ fn summarize<P: Write>(
 }
 
 /// Something was met, and nothing lacks.
-fn is_found(listed: &[SectionLine], lacking: &[Lack]) -> bool
+pub(crate) fn is_found(listed: &[SectionLine], lacking: &[Lack]) -> bool
     ensures { (met : List Told) → listed.now ≡ map line_of met → lacking.now ≡ lacks met
         → result ≡ found_all met }
 {
@@ -200,7 +200,7 @@ fn write_last<P: Write>(report: &mut P, found: bool) -> Result<(), WriteFailed>
 }
 
 /// Writes a text, and has the writer pass it on at once.
-fn pass_on<P: Write>(report: &mut P, text: &[u8]) -> Result<(), WriteFailed>
+pub(crate) fn pass_on<P: Write>(report: &mut P, text: &[u8]) -> Result<(), WriteFailed>
     ensures ok { OnOk result
         (Appends (P.contents report.old) (P.contents report.new) text.now) }
     ensures err { OnErr result

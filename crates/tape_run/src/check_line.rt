@@ -119,7 +119,7 @@ fn put_section(line: &mut CheckLine, set_id: &Field<6>, file: u16, sect: u16)
 }
 
 /// How a section was met.
-fn state_text(state: SectionState) -> &'static [u8]
+pub(crate) fn state_text(state: SectionState) -> &'static [u8]
     ensures text { result.now ≡ state_text state }
     ensures short { length result.now ≤ 5 }
 {

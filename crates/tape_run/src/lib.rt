@@ -31,6 +31,8 @@ mod section;
 mod sections;
 mod session;
 mod shelf;
+mod survey;
+pub mod survey_laws;
 mod whole;
 
 pub use answer::ReelAnswer;
@@ -50,4 +52,5 @@ pub use script::{Step, run};
 pub use section::{Entry, ImageLine, ImageStop, Lack, SectionKey, SectionLine, SectionState};
 pub use session::Session;
 pub use shelf::Shelf;
+pub use survey::survey_to;
 pub use whole::{go_on, read_file};

@@ -29,7 +29,7 @@ pub struct Report {
 }
 
 /// The file sets of a catalogue, each with the greatest number of a file.
-type Sets = IndexMap<Field<6>, u16>;
+pub(crate) type Sets = IndexMap<Field<6>, u16>;
 
 /// A section's line.
 fn line_of(key: &SectionKey, entry: &Entry) -> SectionLine
@@ -110,7 +110,7 @@ fn note_place(sets: &mut Sets, sections: &Sections, place: usize) -> Result<(), 
 }
 
 /// The sets in the order in which they were met first, each with the greatest number of a file.
-fn sets_of(alloc: Global, sections: &Sections) -> Result<Sets, AllocError>
+pub(crate) fn sets_of(alloc: Global, sections: &Sections) -> Result<Sets, AllocError>
     ensures { IfOk result (λ sets. sets.entries ≡ sets_from [] sections.now.entries) }
 {
     let mut sets = Sets::new(alloc);
@@ -187,7 +187,7 @@ fn lacks_of(alloc: Global, sections: &Sections, sets: &Sets) -> Result<Vec<Lack>
 }
 
 /// The report of these sections.
-fn report_of(alloc: Global, sections: &Sections) -> Result<Report, AllocError>
+pub(crate) fn report_of(alloc: Global, sections: &Sections) -> Result<Report, AllocError>
     ensures lines { IfOk result (λ report. report.lines ≡ map line_of sections.now.entries) }
     ensures lacks { IfOk result (λ report. report.lacks ≡ lacks sections.now.entries) }
 {

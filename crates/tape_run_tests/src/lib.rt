@@ -45,6 +45,8 @@ mod sections;
 #[cfg(test)]
 mod sessions;
 #[cfg(test)]
+mod survey;
+#[cfg(test)]
 mod taken_back;
 #[cfg(test)]
 mod volumes;

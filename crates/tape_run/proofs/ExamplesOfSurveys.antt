@@ -1,0 +1,99 @@
+-- The cases of surveys.
+use Rattle.std.proofs.Common.{◌≡◌, List, [], ◌∷◌, ◌++◌, refl, sym, ap, ◌∙◌}
+use Rattle.std.specs.Prelude.{map}
+use Rattle.std.specs.List.{flat_map}
+use Rattle.tape_image.specs.Tape.{TapeItem, block, mark}
+use Rattle.tape_label.specs.Kinds.{kind_at}
+use Rattle.tape_label.specs.Reading.{vol1_at}
+use Rattle.tape_run.specs.Lacks.{lack_of}
+use Rattle.tape_run.specs.SurveyGlance.{is_ebcdic}
+use Rattle.tape_run.specs.SurveyLaws.{IsVolumeInOrder, end_marks}
+use Rattle.tape_run.specs.CasesOfSurveys.{CasesOfGlances, CasesOfWholes, CasesOfSurveys}
+
+pub cases_of_glances : CasesOfGlances
+unfolding is_ebcdic kind_at vol1_at
+cases_of_glances = record {
+  nothing = refl;
+  noise = refl;
+  begins_bad = refl;
+  begins_mark = refl;
+  ebcdic = refl;
+  short_ebcdic = refl;
+  late = refl;
+  late_stays = λ x. refl;
+  other_kind = refl;
+  unread = λ f. refl;
+  read = λ h. refl;
+  no_second_label = λ b. refl;
+  mark_first = refl;
+  bad_first = refl;
+  blank = λ v. refl;
+  blank_ends = refl;
+  one_mark = λ b. refl;
+  ends = λ v. refl;
+  behind_the_end = λ x. refl;
+  no_section = λ v. refl;
+  no_second = λ m. refl;
+  bad_header = λ m. refl;
+  no_trailer = λ m. refl;
+  no_next = λ v. refl;
+  goes_on = λ m. refl;
+  first_stays = λ p next x. refl;
+  followed = (refl, refl);
+  marks = refl;
+}
+
+pub cases_of_wholes : CasesOfWholes
+unfolding lack_of
+cases_of_wholes = record {
+  whole = refl;
+  whole_too = refl;
+  faulty = λ f. refl;
+  unread = refl;
+  early = refl;
+  one_mark = refl;
+  left = λ w. refl;
+  other_name = refl;
+  other_date = refl;
+  other_generation = refl;
+  same = refl;
+  first_kept = refl;
+  noted = refl;
+  not_noted = refl;
+  complete = refl;
+  damaged = refl;
+  behind = refl;
+  missing = refl;
+  all = refl;
+  not_whole = refl;
+  nothing_met = refl;
+  mixed = refl;
+  trimmed = refl;
+  all_spaces = refl;
+  names = refl;
+}
+
+-- a volume begins with a block
+no_volume : IsVolumeInOrder (mark ∷ []) → ⊥
+no_volume v =
+    let b = v.begun in
+    let e : mark ∷ [] ≡ (block b.vol1 ∷ map block b.labels ++ flat_map (λ s. s) v.sections)
+    ++ end_marks v.sections =
+    v.stands ∙ ap (λ (r : List TapeItem). r ++ end_marks v.sections) b.stands in
+    absurd (cc e)
+
+pub cases_of_surveys : CasesOfSurveys
+cases_of_surveys = record {
+  section = λ items s. (s.is_head, s.second, s.is_trail, s.sect, s.file, s.no_mark);
+  begun = λ items sections b. (b.is_label, b.further, b.each);
+  no_volume = no_volume;
+  astray = λ items n a. (a.stands, a.number, a.follow, a.leaves);
+  line = λ name s. refl;
+  not_opened = λ c d v. v;
+  unopened = λ s c d v. v;
+  opened = λ before c d v. v;
+  viewed = λ before s c d v. (v.1.glance, v.1.noted, v.1.named, v.2);
+  tells = λ reel name c d old new t. (t.1, t.2);
+  summary_last = λ d. refl;
+  no_summary_before = λ d. refl;
+}

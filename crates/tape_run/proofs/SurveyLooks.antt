@@ -1,0 +1,135 @@
+-- What of an image was looked at so far.
+use Rattle.std.proofs.Common.{◌≡◌, ℕ, ◌+◌, List, [], ◌∷◌, ◌++◌, length, Option, Some, None}
+use Rattle.std.proofs.Common.{refl, sym, ap, subst, ◌∙◌}
+use Rattle.tape_image.specs.declared.item.Ending.{Ending}
+use Rattle.tape_image.specs.declared.fault.ImageFault.{ImageFault}
+use Rattle.tape_image.specs.Tape.{TapeItem}
+use Rattle.tape_image.specs.Reader.{IfKnown}
+use Rattle.tape_image.specs.Step.{TakesItem, TakesEnd, TakesFault}
+use Rattle.tape_image.proofs.Walks.{known_end, known_fault, IfKnown-map}
+use Rattle.tape_label.specs.declared.values.Head1.{Head1}
+use Rattle.tape_run.specs.declared.passing.Phase.{Phase}
+use Rattle.tape_run.specs.declared.passing.Phase.TheVariants.{Volume}
+use Rattle.tape_run.specs.declared.section.ImageStop.{ImageStop}
+use Rattle.tape_run.specs.declared.section.ImageStop.TheVariants.{Fault}
+use Rattle.tape_run.specs.declared.survey.glance.Glance.{Glance}
+use Rattle.tape_run.specs.declared.survey.view.Sight.{Sight}
+use Rattle.tape_run.specs.Added.{StopsBehind, stop_at}
+use Rattle.tape_run.specs.Noted.{noted_all}
+use Rattle.tape_run.specs.Passing.{Told, step, in_list, phase_after, under_way}
+use Rattle.tape_run.specs.SurveyFiles.{Filed, with_met, with_all, filed_in}
+use Rattle.tape_run.specs.SurveyGlance.{blank_glance, head_in, look_to, look_all, glance_of}
+use Rattle.std.specs.Prelude.{◌&&◌, Bool}
+use Rattle.tape_run.specs.SurveyRead.{Found, ViewsItems, Views, IsViewed, is_whole_sight}
+use Rattle.tape_run.proofs.NotedSoFar.{SoFar, starts, one_more, by_ending, all_noted}
+
+-- one more item was looked at
+pub look_all-append : (g : Glance) (p : Phase) (xs : List TapeItem) (x : TapeItem)
+    → look_all g p (xs ++ x ∷ [])
+    ≡ look_to (look_all g p xs) (phase_after p xs) x (step (phase_after p xs) x).0
+look_all-append g p [] x = refl
+look_all-append g p (y ∷ ys) x = look_all-append (look_to g p y (step p y).0) (step p y).0 ys x
+
+-- and its header label noted
+pub with_all-append : (files : List Filed) (p : Phase) (xs : List TapeItem) (x : TapeItem)
+    → with_all files p (xs ++ x ∷ [])
+    ≡ with_met (with_all files p xs) (head_in (phase_after p xs) x)
+with_all-append files p [] x = refl
+with_all-append files p (y ∷ ys) x =
+    with_all-append (with_met files (head_in p y)) (step p y).0 ys x
+
+-- Of the bytes `all` the items up to a place were looked at, and what they tell was noted.
+pub record LookedSoFar (all left : Option (List ℕ)) (place : ℕ) (sections : List Told)
+    (files : List Filed) (phase : Phase) (g : Glance) (told : List Told) (filed : List Filed) :
+    Type 0 where
+  pub count : ℕ
+  pub so_far : SoFar all left place count sections phase told
+  pub counted : g.items ≡ count
+  pub glance : g ≡ glance_of so_far.items
+  pub named : filed ≡ filed_in files so_far.items
+
+pub looks_start : (all left : Option (List ℕ)) (place : ℕ) (sections : List Told)
+    (files : List Filed) (g : Glance) → place ≡ 0 → left ≡ all → g ≡ blank_glance
+    → LookedSoFar all left place sections files Volume g sections files
+looks_start all left place sections files g first same none = record {
+  count = 0;
+  so_far = starts all left place sections first same;
+  counted = ap (λ (h : Glance). h.items) none;
+  glance = none;
+  named = refl;
+}
+
+pub looks_more : (all left next : Option (List ℕ)) (p q : ℕ) (item : TapeItem)
+    (sections : List Told) (files : List Filed) (phase after : Phase) (g h : Glance)
+    (mid told : List Told) (named filed : List Filed)
+    → LookedSoFar all left p sections files phase g mid named
+    → IfKnown left next (TakesItem p item q) → after ≡ (step phase item).0
+    → told ≡ noted_all mid (in_list (step phase item).1)
+    → filed ≡ with_met named (head_in phase item) → h ≡ look_to g phase item after
+    → LookedSoFar all next q sections files after h told filed
+looks_more all left next p q item sections files phase after g h mid told named filed s takes goes
+    notes names looks =
+    let items = s.so_far.items in
+    let stands : phase ≡ phase_after Volume items = s.so_far.stands in
+    let behind = phase_after Volume items in
+    record {
+      count = s.count + 1;
+      so_far = one_more all left next p q s.count item sections phase after mid told s.so_far takes
+          goes notes;
+      counted = ap (λ (f : Glance). f.items) looks ∙ ap (λ n. n + 1) s.counted;
+      glance = looks ∙ ap (λ (r : Phase). look_to g phase item r) goes
+          ∙ ap (λ (r : Phase). look_to g r item (step r item).0) stands
+          ∙ ap (λ (f : Glance). look_to f behind item (step behind item).0) s.glance
+          ∙ sym (look_all-append blank_glance Volume items item);
+      named = names ∙ ap (λ (r : Phase). with_met named (head_in r item)) stands
+          ∙ ap (λ (r : List Filed). with_met r (head_in behind item)) s.named
+          ∙ sym (with_all-append files Volume items item);
+    }
+
+pub viewed_end : (all left next : Option (List ℕ)) (p q : ℕ) (ending : Ending)
+    (sections : List Told) (files : List Filed) (phase : Phase) (sight : Sight)
+    (mid told : List Told) (filed : List Filed)
+    → LookedSoFar all left p sections files phase sight.glance mid filed
+    → IfKnown left next (TakesEnd p [] ending q)
+    → told ≡ noted_all mid (in_list (under_way phase)) → sight.stop ≡ stop_at ending
+    → ViewsItems all next sections files sight told filed
+viewed_end all left next p q ending sections files phase sight mid told filed s takes notes stop =
+    let items = s.so_far.items in
+    record {
+      items = items;
+      stop = subst (λ (r : ImageStop). IfKnown all next (StopsBehind items r)) (sym stop)
+          (IfKnown-map all next (TakesEnd 0 items ending q) (StopsBehind items (stop_at ending))
+          (by_ending items ending q)
+          (known_end all left next 0 p q items ending s.so_far.known takes));
+      glance = s.glance;
+      noted = all_noted all left p s.count sections phase mid told s.so_far notes;
+      named = s.named;
+    }
+
+pub viewed_fault : (all left next : Option (List ℕ)) (p : ℕ) (fault : ImageFault)
+    (sections : List Told) (files : List Filed) (phase : Phase) (sight : Sight)
+    (mid told : List Told) (filed : List Filed)
+    → LookedSoFar all left p sections files phase sight.glance mid filed
+    → IfKnown left next (TakesFault p [] fault)
+    → told ≡ noted_all mid (in_list (under_way phase)) → sight.stop ≡ Fault fault
+    → ViewsItems all next sections files sight told filed
+viewed_fault all left next p fault sections files phase sight mid told filed s takes notes stop =
+    let items = s.so_far.items in
+    record {
+      items = items;
+      stop = subst (λ (r : ImageStop). IfKnown all next (StopsBehind items r)) (sym stop)
+          (known_fault all left next 0 p items fault s.so_far.known takes);
+      glance = s.glance;
+      noted = all_noted all left p s.count sections phase mid told s.so_far notes;
+      named = s.named;
+    }
+
+-- an image was read, and what it leaves over noted
+pub viewed_one : (before after : Option (List ℕ)) (c mid : Found) (sight : Sight) (w : Bool)
+    → Views before after c sight mid → w ≡ is_whole_sight sight
+    → IsViewed (Some before) (Some sight) c (record mid { whole = mid.whole && w })
+viewed_one before after c mid sight w v is = (
+  after,
+  v.viewed,
+  ap (λ (b : Bool). b && w) v.same ∙ ap (λ (b : Bool). c.whole && b) is,
+)

@@ -1,0 +1,143 @@
+-- Where the items of an image leave the order of a volume.
+use Rattle.std.proofs.Common.{◌≡◌, ℕ, ◌+◌, Bool, true, false, List, [], ◌∷◌, ◌++◌, length}
+use Rattle.std.proofs.Common.{refl, sym, ap, subst, ◌∙◌, arith, append_assoc, length-append}
+use Rattle.tape_image.specs.Tape.{TapeItem, block, bad, mark}
+use Rattle.tape_run.specs.declared.passing.Phase.{Phase}
+use Rattle.tape_run.specs.declared.passing.Phase.TheVariants.{Volume, Labels, Second, Headers, Data}
+use Rattle.tape_run.specs.declared.passing.Phase.TheVariants.{Trailer, Trailers, Next, Over}
+use Rattle.tape_run.specs.declared.survey.course.Wanted.{Wanted}
+use Rattle.tape_run.specs.declared.survey.course.Course.{Course}
+use Rattle.tape_run.specs.declared.survey.course.Course.TheVariants.{Follows, Blank, Ended, Leaves}
+use Rattle.tape_run.specs.declared.survey.glance.Glance.{Glance}
+use Rattle.tape_run.specs.Passing.{step, phase_after}
+use Rattle.tape_run.specs.SurveyGlance.{blank_glance, look_to, look_all, glance_of}
+use Rattle.tape_run.specs.SurveyGlance.{left_by, behind_mark, behind, course_with}
+use Rattle.tape_run.specs.SurveyLaws.{course_of, has_left, IsFirstAstray, LeavesThere}
+use Rattle.tape_run.proofs.NotedSoFar.{phase_after-append}
+use Rattle.tape_run.proofs.SurveyLooks.{look_all-append}
+
+-- the glance counts the items
+counts : (g : Glance) (p : Phase) (xs : List TapeItem)
+    → (look_all g p xs).items ≡ g.items + length xs
+counts g p [] = omega arith
+counts g p (x ∷ xs) =
+    let next = (step p x).0 in
+    let rest = counts (look_to g p x next) next xs in
+    omega (arith, rest)
+
+-- once they have left the order that stays so
+stays : (g : Glance) (p : Phase) (xs : List TapeItem) (n : ℕ) (w : Wanted) → g.course ≡ Leaves n w
+    → (look_all g p xs).course ≡ Leaves n w
+stays g p [] n w e = e
+stays g p (x ∷ xs) n w e =
+    let next = (step p x).0 in
+    stays (look_to g p x next) next xs n w
+    (ap (λ (c : Course). course_with c (g.items + 1) p x next) e)
+
+-- the number of an item that leaves the order is its own
+number_left : (number : ℕ) (p next : Phase) (n : ℕ) (w : Wanted)
+    → left_by number p next ≡ Leaves n w → n ≡ number
+number_left number p Over n w e = cc e
+number_left number p Volume n w e = absurd (cc e)
+number_left number p (Labels v) n w e = absurd (cc e)
+number_left number p (Second met) n w e = absurd (cc e)
+number_left number p (Headers met) n w e = absurd (cc e)
+number_left number p (Data met) n w e = absurd (cc e)
+number_left number p (Trailer met) n w e = absurd (cc e)
+number_left number p (Trailers v) n w e = absurd (cc e)
+number_left number p (Next v) n w e = absurd (cc e)
+
+number_mark : (number : ℕ) (p next : Phase) (n : ℕ) (w : Wanted)
+    → behind_mark number p next ≡ Leaves n w → n ≡ number
+number_mark number (Labels v) next n w e = absurd (cc e)
+number_mark number (Next v) next n w e = absurd (cc e)
+number_mark number Volume next n w e = number_left number Volume next n w e
+number_mark number (Second met) next n w e = number_left number (Second met) next n w e
+number_mark number (Headers met) next n w e = number_left number (Headers met) next n w e
+number_mark number (Data met) next n w e = number_left number (Data met) next n w e
+number_mark number (Trailer met) next n w e = number_left number (Trailer met) next n w e
+number_mark number (Trailers v) next n w e = number_left number (Trailers v) next n w e
+number_mark number Over next n w e = number_left number Over next n w e
+
+number_behind : (number : ℕ) (p : Phase) (x : TapeItem) (next : Phase) (n : ℕ) (w : Wanted)
+    → behind number p x next ≡ Leaves n w → n ≡ number
+number_behind number p mark next n w e = number_mark number p next n w e
+number_behind number p bad next n w e = number_left number p next n w e
+number_behind number p (block b) next n w e = number_left number p next n w e
+
+its_number : (c : Course) (number : ℕ) (p : Phase) (x : TapeItem) (next : Phase) (n : ℕ)
+    (w : Wanted) → has_left c ≡ false → course_with c number p x next ≡ Leaves n w → n ≡ number
+its_number Follows number p x next n w still e = number_behind number p x next n w e
+its_number Blank number p mark next n w still e = absurd (cc e)
+its_number Blank number p bad next n w still e = cc e
+its_number Blank number p (block b) next n w still e = cc e
+its_number Ended number p x next n w still e = cc e
+its_number (Leaves m v) number p x next n w still e = absurd (cc still)
+
+-- what has left says where
+where_left : (c : Course) → has_left c ≡ true → (n : ℕ) × (w : Wanted) × (c ≡ Leaves n w)
+where_left Follows e = absurd (cc e)
+where_left Blank e = absurd (cc e)
+where_left Ended e = absurd (cc e)
+where_left (Leaves n w) e = (n, w, refl)
+
+abbrev number_of : Course → ℕ → ℕ
+number_of (Leaves n w) other = n
+number_of _ other = other
+
+-- the items behind `before` were looked at from where these lead
+from_there : (before xs : List TapeItem) (x : TapeItem)
+    → look_all (glance_of before) (phase_after Volume before) (x ∷ xs)
+    ≡ look_all (glance_of (before ++ x ∷ [])) (phase_after Volume (before ++ x ∷ [])) xs
+from_there before xs x =
+    ap (λ (g : Glance). look_all g (step (phase_after Volume before) x).0 xs)
+    (sym (look_all-append blank_glance Volume before x))
+    ∙ ap (λ (p : Phase). look_all (glance_of (before ++ x ∷ [])) p xs)
+    (sym (phase_after-append Volume before (x ∷ [])))
+
+-- the item x leaves the order, or does not
+leaves_at : (before xs : List TapeItem) (x : TapeItem) (n : ℕ) (w : Wanted) (b : Bool)
+    → has_left (course_of (before ++ x ∷ [])) ≡ b → has_left (course_of before) ≡ false
+    → (look_all (glance_of before) (phase_after Volume before) (x ∷ xs)).course ≡ Leaves n w
+    → (has_left (course_of (before ++ x ∷ [])) ≡ false
+    → (look_all (glance_of (before ++ x ∷ [])) (phase_after Volume (before ++ x ∷ [])) xs).course
+    ≡ Leaves n w → IsFirstAstray ((before ++ x ∷ []) ++ xs) n)
+    → IsFirstAstray (before ++ x ∷ xs) n
+leaves_at before xs x n w true is still e more =
+    let mid = before ++ x ∷ [] in
+    let (m, v, there) = where_left (course_of mid) is in
+    let p = phase_after Volume before in
+    let same : Leaves m v ≡ Leaves n w =
+    sym (stays (glance_of mid) (phase_after Volume mid) xs m v there)
+    ∙ ap (λ (g : Glance). g.course) (sym (from_there before xs x)) ∙ e in
+    let here : course_with (course_of before) ((glance_of before).items + 1) p x (step p x).0
+    ≡ Leaves m v =
+    ap (λ (g : Glance). g.course) (sym (look_all-append blank_glance Volume before x)) ∙ there in
+    let number = its_number (course_of before) ((glance_of before).items + 1) p x (step p x).0 m v
+    still here in
+    let one : m ≡ n = ap (λ (c : Course). number_of c 0) same in
+    record {
+      before = before;
+      item = x;
+      behind = xs;
+      stands = refl;
+      number = omega (arith, one, number, counts blank_glance Volume before);
+      follow = still;
+      leaves = is;
+    }
+leaves_at before xs x n w false is still e more =
+    subst (λ (l : List TapeItem). IsFirstAstray l n) (append_assoc before (x ∷ []) xs)
+    (more is (ap (λ (g : Glance). g.course) (sym (from_there before xs x)) ∙ e))
+
+leaves_behind : (before rest : List TapeItem) (n : ℕ) (w : Wanted)
+    → has_left (course_of before) ≡ false
+    → (look_all (glance_of before) (phase_after Volume before) rest).course ≡ Leaves n w
+    → IsFirstAstray (before ++ rest) n
+leaves_behind before [] n w still e =
+    absurd (let same : true ≡ false = ap has_left (sym e) ∙ still in cc same)
+leaves_behind before (x ∷ xs) n w still e =
+    leaves_at before xs x n w (has_left (course_of (before ++ x ∷ []))) refl still e
+    (λ stays_on goes. leaves_behind (before ++ x ∷ []) xs n w stays_on goes)
+
+pub leaves_there : LeavesThere
+leaves_there items n w e = leaves_behind [] items n w refl e

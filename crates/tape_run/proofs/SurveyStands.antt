@@ -1,0 +1,208 @@
+-- What the items of an image are, by how far they follow the order of a volume.
+use Rattle.std.proofs.Common.{◌≡◌, ℕ, ◌+◌, Bool, true, false, List, [], ◌∷◌, ◌++◌, Option, Some}
+use Rattle.std.proofs.Common.{None, Result, Ok, Err, refl, sym, ap, ◌∙◌, append_assoc}
+use Rattle.std.proofs.Common.{append-nil}
+use Rattle.std.specs.Prelude.{⊤, ◌≢◌, map, if◌then◌else◌}
+use Rattle.std.specs.List.{AllByRecursion, flat_map}
+use Rattle.std.proofs.lemmas.Grind.{flat_map-append}
+use Rattle.tape_image.specs.Tape.{TapeItem, block, mark}
+use Rattle.tape_label.specs.declared.fault.LabelFault.{LabelFault}
+use Rattle.tape_label.specs.declared.values.Kind.{Kind}
+use Rattle.tape_label.specs.declared.values.Kind.TheVariants as kinds
+use Rattle.tape_label.specs.declared.values.Vol1.{Vol1}
+use Rattle.tape_label.specs.declared.values.Head1.{Head1}
+use Rattle.tape_label.specs.Kinds.{HasKind, kind_at}
+use Rattle.tape_label.specs.Head1.{IsHead1}
+use Rattle.tape_label.specs.Reading.{vol1_at, head1_at}
+use Rattle.tape_label.specs.VolumeLabels.{is_volume_label}
+use Rattle.tape_label.proofs.First.{vol1_found, head1_found}
+use Rattle.tape_label.proofs.Apart.{kind_found}
+use Rattle.tape_run.specs.declared.met.Met.{Met}
+use Rattle.tape_run.specs.declared.passing.Phase.{Phase}
+use Rattle.tape_run.specs.declared.passing.Phase.TheVariants.{Volume, Labels, Second, Headers, Data}
+use Rattle.tape_run.specs.declared.passing.Phase.TheVariants.{Trailer, Trailers, Next, Over}
+use Rattle.tape_run.specs.declared.survey.course.Course.{Course}
+use Rattle.tape_run.specs.declared.survey.course.Course.TheVariants.{Follows, Blank, Ended, Leaves}
+use Rattle.tape_run.specs.Passing.{volume_with, header_with, second_with}
+use Rattle.tape_run.specs.SurveyGlance.{left_by}
+use Rattle.tape_run.specs.SurveyLaws.{IsSectionInOrder, IsBegun, IsVolumeInOrder}
+use Rattle.tape_run.specs.SurveyLaws.{end_marks}
+
+-- ---- what stands before each item
+
+-- a section's first label behind what was begun
+pub record Head (items : List TapeItem) (met : Met) (behind : List ℕ → List TapeItem) : Type 0 where
+  pub before : List TapeItem
+  pub sections : List (List TapeItem)
+  pub begun : IsBegun before sections
+  pub hdr1 : List ℕ
+  pub head : Head1
+  pub is_head : IsHead1 hdr1 head
+  pub sect : met.key.sect ≡ head.sect
+  pub file : met.key.file ≡ head.sequence
+  pub stands : items ≡ before ++ behind hdr1
+
+-- its labels
+pub record Heads (items : List TapeItem) (met : Met) (behind : List TapeItem) : Type 0 where
+  pub before : List TapeItem
+  pub sections : List (List TapeItem)
+  pub begun : IsBegun before sections
+  pub hdr1 : List ℕ
+  pub head : Head1
+  pub is_head : IsHead1 hdr1 head
+  pub sect : met.key.sect ≡ head.sect
+  pub file : met.key.file ≡ head.sequence
+  pub hdr2 : List ℕ
+  pub second : HasKind hdr2 kinds.Hdr2
+  pub headers : List (List ℕ)
+  pub stands : items ≡ before ++ block hdr1 ∷ block hdr2 ∷ map block headers ++ behind
+
+-- its labels and its blocks
+pub record Fills (items : List TapeItem) (met : Met) (behind : List TapeItem) : Type 0 where
+  pub content : List TapeItem
+  pub no_mark : AllByRecursion (λ x. x ≢ mark) content
+  pub heads : Heads items met (mark ∷ content ++ behind)
+
+-- a section without its last mark behind what was begun
+pub record Closes (items : List TapeItem) : Type 0 where
+  pub before : List TapeItem
+  pub sections : List (List TapeItem)
+  pub begun : IsBegun before sections
+  pub part : List TapeItem
+  pub more : List (List ℕ)
+  pub whole : (trailers : List (List ℕ))
+      → IsSectionInOrder (part ++ map block trailers ++ mark ∷ [])
+  pub stands : items ≡ before ++ part ++ map block more
+
+-- one section at least was begun
+pub record Follow (items : List TapeItem) : Type 0 where
+  pub sections : List (List TapeItem)
+  pub last : List TapeItem
+  pub begun : IsBegun items (sections ++ last ∷ [])
+
+-- a mark behind volume labels alone
+pub record Marked (items : List TapeItem) : Type 0 where
+  pub before : List TapeItem
+  pub begun : IsBegun before []
+  pub stands : items ≡ before ++ mark ∷ []
+
+-- what the items are in this phase, on this course
+abbrev pub At : Phase → Course → List TapeItem → Type 0
+At p (Leaves n w) items = ⊤
+At Volume Follows items = items ≡ []
+At (Labels v) Follows items = IsBegun items []
+At (Second met) Follows items = Head items met (λ b. block b ∷ [])
+At (Headers met) Follows items = Heads items met []
+At (Data met) Follows items = Fills items met []
+At (Trailer met) Follows items = Fills items met (mark ∷ [])
+At (Trailers v) Follows items = Closes items
+At (Next v) Follows items = Follow items
+At Over Blank items = Marked items
+At Over Ended items = IsVolumeInOrder items
+At _ _ items = ⊥
+
+-- ---- lists
+
+pub all_more : {A : Type 0} (P : A → Type 0) (xs : List A) (x : A) → AllByRecursion P xs → P x
+    → AllByRecursion P (xs ++ x ∷ [])
+all_more P [] x a p = (p, tt)
+all_more P (y ∷ ys) x (q, a) p = (q, all_more P ys x a p)
+
+pub map_push : (xs : List (List ℕ)) (b : List ℕ)
+    → map block xs ++ block b ∷ [] ≡ map block (xs ++ b ∷ [])
+map_push [] b = refl
+map_push (x ∷ xs) b = ap (λ (r : List TapeItem). block x ∷ r) (map_push xs b)
+
+pub joined_push : (ss : List (List TapeItem)) (s : List TapeItem)
+    → flat_map (λ x. x) (ss ++ s ∷ []) ≡ flat_map (λ x. x) ss ++ s
+joined_push ss s = flat_map-append (λ x. x) ss (s ∷ [])
+    ∙ ap (λ (r : List TapeItem). flat_map (λ x. x) ss ++ r) (append-nil s)
+
+-- one mark ends a volume that has a section
+pub one_mark : (ss : List (List TapeItem)) (s : List TapeItem)
+    → end_marks (ss ++ s ∷ []) ≡ mark ∷ []
+one_mark [] s = refl
+one_mark (x ∷ ss) s = refl
+
+-- ---- one item more
+
+pub begun_label : (items : List TapeItem) (b : List ℕ) → is_volume_label b ≡ true → IsBegun items []
+    → IsBegun (items ++ block b ∷ []) []
+begun_label items b is h = record {
+  vol1 = h.vol1;
+  label = h.label;
+  labels = h.labels ++ b ∷ [];
+  stands = ap (λ (r : List TapeItem). r ++ block b ∷ []) (h.stands ∙ ap (λ (r : List TapeItem).
+      block h.vol1 ∷ r) (append-nil (map block h.labels)))
+      ∙ ap (λ (r : List TapeItem). block h.vol1 ∷ r) (map_push h.labels b
+      ∙ sym (append-nil (map block (h.labels ++ b ∷ []))));
+  is_label = h.is_label;
+  further = all_more (λ l. is_volume_label l ≡ true) h.labels b h.further is;
+  each = tt;
+}
+
+pub first_label : (b : List ℕ) (number : ℕ) (r : Result Vol1 LabelFault) → vol1_at b ≡ r
+    → At (volume_with r) (left_by number Volume (volume_with r)) (block b ∷ [])
+first_label b number (Ok label) e = record {
+  vol1 = b;
+  label = label;
+  labels = [];
+  stands = refl;
+  is_label = vol1_found b label e;
+  further = tt;
+  each = tt;
+}
+first_label b number (Err f) e = tt
+
+pub head_read : (items : List TapeItem) (sections : List (List TapeItem)) (p : Phase) (number : ℕ)
+    (v b : List ℕ) (r : Result Head1 LabelFault) → head1_at b ≡ r → IsBegun items sections
+    → At (header_with v r Over) (left_by number p (header_with v r Over)) (items ++ block b ∷ [])
+head_read items sections p number v b (Ok head) e begun = record {
+  before = items;
+  sections = sections;
+  begun = begun;
+  hdr1 = b;
+  head = head;
+  is_head = head1_found b head e;
+  sect = refl;
+  file = refl;
+  stands = refl;
+}
+head_read items sections p number v b (Err f) e begun = tt
+
+pub label_read : (items : List TapeItem) (number : ℕ) (v b : List ℕ) (is : Bool)
+    → is_volume_label b ≡ is → IsBegun items []
+    → At (if is then Labels v else header_with v (head1_at b) Over)
+    (left_by number (Labels v) (if is then Labels v else header_with v (head1_at b) Over))
+    (items ++ block b ∷ [])
+label_read items number v b true e begun = begun_label items b e begun
+label_read items number v b false e begun =
+    head_read items [] (Labels v) number v b (head1_at b) refl begun
+
+pub second_read : (items : List TapeItem) (met : Met) (number : ℕ) (b : List ℕ) (k : Option Kind)
+    → kind_at b ≡ k → Head items met (λ c. block c ∷ [])
+    → At (second_with met k) (left_by number (Second met) (second_with met k))
+    (items ++ block b ∷ [])
+second_read items met number b None e h = tt
+second_read items met number b (Some kinds.Hdr2) e h = record {
+  before = h.before;
+  sections = h.sections;
+  begun = h.begun;
+  hdr1 = h.hdr1;
+  head = h.head;
+  is_head = h.is_head;
+  sect = h.sect;
+  file = h.file;
+  hdr2 = b;
+  second = kind_found b kinds.Hdr2 e;
+  headers = [];
+  stands = ap (λ (r : List TapeItem). r ++ block b ∷ []) h.stands
+      ∙ append_assoc h.before (block h.hdr1 ∷ []) (block b ∷ [])
+      ∙ sym (append-nil (h.before ++ block h.hdr1 ∷ block b ∷ []));
+}
+second_read items met number b (Some kinds.Vol1) e h = tt
+second_read items met number b (Some kinds.Hdr1) e h = tt
+second_read items met number b (Some kinds.Eof1) e h = tt
+second_read items met number b (Some kinds.Eof2) e h = tt
+second_read items met number b (Some kinds.Eov1) e h = tt
+second_read items met number b (Some kinds.Eov2) e h = tt

@@ -1,0 +1,317 @@
+-- The items behind which a volume ended are a volume.
+use Rattle.std.proofs.Common.{◌≡◌, ℕ, ◌+◌, Bool, true, false, List, [], ◌∷◌, ◌++◌}
+use Rattle.std.proofs.Common.{Result, Ok, Err, refl, sym, ap, subst, ◌∙◌, append_assoc}
+use Rattle.std.proofs.Common.{append-nil, arith}
+use Rattle.std.specs.Prelude.{◌≢◌, map}
+use Rattle.std.specs.List.{flat_map}
+use Rattle.std.proofs.lemmas.Bool.Decides.{nat_tests}
+use Rattle.tape_image.specs.Tape.{TapeItem, block, bad, mark}
+use Rattle.tape_label.specs.declared.fault.LabelFault.{LabelFault}
+use Rattle.tape_label.specs.declared.values.Kind.TheVariants as kinds
+use Rattle.tape_label.specs.declared.values.Trail1.{Trail1}
+use Rattle.tape_label.specs.Kinds.{kind_at}
+use Rattle.tape_label.specs.Trail1.{IsTrail1}
+use Rattle.tape_label.specs.Reading.{vol1_at, head1_at, trail1_at}
+use Rattle.tape_label.specs.VolumeLabels.{is_volume_label}
+use Rattle.tape_label.proofs.First.{trail1_found}
+use Rattle.tape_run.specs.declared.met.Met.{Met}
+use Rattle.tape_run.specs.declared.passing.Phase.{Phase}
+use Rattle.tape_run.specs.declared.passing.Phase.TheVariants.{Volume, Labels, Second, Headers, Data}
+use Rattle.tape_run.specs.declared.passing.Phase.TheVariants.{Trailer, Trailers, Next, Over}
+use Rattle.tape_run.specs.declared.survey.course.Course.{Course}
+use Rattle.tape_run.specs.declared.survey.course.Course.TheVariants.{Follows, Blank, Ended, Leaves}
+use Rattle.tape_run.specs.declared.survey.glance.Glance.{Glance}
+use Rattle.tape_run.specs.Passing.{step, volume_with, header_with, told_with, closes}
+use Rattle.tape_run.specs.SurveyGlance.{blank_glance, look_to, look_all, left_by, course_with}
+use Rattle.tape_run.proofs.ShownSections.{told_if}
+use Rattle.tape_run.specs.SurveyLaws.{IsSectionInOrder, IsVolumeInOrder, EndedIsVolume}
+use Rattle.tape_run.proofs.SurveyStands.{Heads, Fills, Closes, Follow, Marked, At, all_more}
+use Rattle.tape_run.proofs.SurveyStands.{map_push, joined_push, one_mark, first_label}
+use Rattle.tape_run.proofs.SurveyStands.{head_read, label_read, second_read}
+
+-- the same labels, and something else behind them
+heads_then : (items : List TapeItem) (met met2 : Met) (behind more : List TapeItem)
+    → met2.key ≡ met.key → Heads items met behind → Heads (items ++ more) met2 (behind ++ more)
+heads_then items met met2 behind more same h = record {
+  before = h.before;
+  sections = h.sections;
+  begun = h.begun;
+  hdr1 = h.hdr1;
+  head = h.head;
+  is_head = h.is_head;
+  sect = ap (λ (k : Rattle.tape_run.specs.declared.section.SectionKey.SectionKey). k.sect) same
+      ∙ h.sect;
+  file = ap (λ (k : Rattle.tape_run.specs.declared.section.SectionKey.SectionKey). k.file) same
+      ∙ h.file;
+  hdr2 = h.hdr2;
+  second = h.second;
+  headers = h.headers;
+  stands = ap (λ (r : List TapeItem). r ++ more) h.stands ∙ simp append_assoc;
+}
+
+heads_more : (items : List TapeItem) (met : Met) (b : List ℕ) → Heads items met []
+    → Heads (items ++ block b ∷ []) met []
+heads_more items met b h = record {
+  before = h.before;
+  sections = h.sections;
+  begun = h.begun;
+  hdr1 = h.hdr1;
+  head = h.head;
+  is_head = h.is_head;
+  sect = h.sect;
+  file = h.file;
+  hdr2 = h.hdr2;
+  second = h.second;
+  headers = h.headers ++ b ∷ [];
+  stands =
+      let labels : List TapeItem = block h.hdr1 ∷ block h.hdr2 ∷ [] in
+      let front : List TapeItem = h.before ++ (labels ++ map block h.headers) in
+      ap (λ (r : List TapeItem). r ++ block b ∷ []) (h.stands ∙ append-nil front)
+      ∙ append_assoc h.before (labels ++ map block h.headers) (block b ∷ [])
+      ∙ ap (λ (r : List TapeItem). h.before ++ (labels ++ r)) (map_push h.headers b)
+      ∙ sym (append-nil (h.before ++ (labels ++ map block (h.headers ++ b ∷ []))));
+}
+
+fills_none : (items : List TapeItem) (met : Met) → Heads items met []
+    → Fills (items ++ mark ∷ []) met []
+fills_none items met h = record {
+  content = [];
+  no_mark = tt;
+  heads = heads_then items met met [] (mark ∷ []) refl h;
+}
+
+fills_more : (items : List TapeItem) (met met2 : Met) (x : TapeItem) → met2.key ≡ met.key
+    → x ≢ mark → Fills items met [] → Fills (items ++ x ∷ []) met2 []
+fills_more items met met2 x same other h =
+    let P : List TapeItem → Type 0 = λ r. Heads (items ++ x ∷ []) met2 r in
+    let again : (mark ∷ h.content ++ []) ++ x ∷ [] ≡ mark ∷ (h.content ++ x ∷ []) ++ [] =
+    ap (λ (r : List TapeItem). (mark ∷ r) ++ x ∷ []) (append-nil h.content)
+    ∙ sym (ap (λ (r : List TapeItem). mark ∷ r) (append-nil (h.content ++ x ∷ []))) in
+    record {
+      content = h.content ++ x ∷ [];
+      no_mark = all_more (λ y. y ≢ mark) h.content x h.no_mark other;
+      heads = subst P again
+          (heads_then items met met2 (mark ∷ h.content ++ []) (x ∷ []) same h.heads);
+    }
+
+fills_closed : (items : List TapeItem) (met : Met) → Fills items met []
+    → Fills (items ++ mark ∷ []) met (mark ∷ [])
+fills_closed items met h =
+    let P : List TapeItem → Type 0 = λ r. Heads (items ++ mark ∷ []) met r in
+    let again : (mark ∷ h.content ++ []) ++ mark ∷ [] ≡ mark ∷ h.content ++ mark ∷ [] =
+    ap (λ (r : List TapeItem). (mark ∷ r) ++ mark ∷ []) (append-nil h.content) in
+    record {
+      content = h.content;
+      no_mark = h.no_mark;
+      heads = subst P again
+          (heads_then items met met (mark ∷ h.content ++ []) (mark ∷ []) refl h.heads);
+    }
+
+-- a trailer label with its numbers closes a section
+closed : (items : List TapeItem) (met : Met) (b : List ℕ) (trail : Trail1) → IsTrail1 b trail
+    → trail.head.sect ≡ met.key.sect → trail.head.sequence ≡ met.key.file
+    → Fills items met (mark ∷ []) → Closes (items ++ block b ∷ [])
+closed items met b trail is sect file h =
+    let s = h.heads in
+    let front = block s.hdr1 ∷ block s.hdr2 ∷ map block s.headers in
+    let part = front ++ mark ∷ h.content ++ mark ∷ block b ∷ [] in
+    record {
+      before = s.before;
+      sections = s.sections;
+      begun = s.begun;
+      part = part;
+      more = [];
+      whole = λ trailers. record {
+        hdr1 = s.hdr1;
+        hdr2 = s.hdr2;
+        headers = s.headers;
+        content = h.content;
+        trailer = b;
+        trailers = trailers;
+        head = s.head;
+        trail = trail;
+        stands = simp append_assoc;
+        is_head = s.is_head;
+        second = s.second;
+        no_mark = h.no_mark;
+        is_trail = is;
+        sect = sect ∙ s.sect;
+        file = file ∙ s.file;
+      };
+      stands = ap (λ (r : List TapeItem). r ++ block b ∷ []) s.stands
+          ∙ simp (append_assoc, append-nil);
+    }
+
+trailer_closes : (items : List TapeItem) (met : Met) (number : ℕ) (b : List ℕ) (trail : Trail1)
+    (c : Bool) → IsTrail1 b trail → closes met trail ≡ c → Fills items met (mark ∷ [])
+    → At (told_if met trail c).0 (left_by number (Trailer met) (told_if met trail c).0)
+    (items ++ block b ∷ [])
+trailer_closes items met number b trail true is c h =
+    closed items met b trail is (grind (arith, nat_tests, c)) (grind (arith, nat_tests, c)) h
+trailer_closes items met number b trail false is c h = tt
+
+trailer_read : (items : List TapeItem) (met : Met) (number : ℕ) (b : List ℕ)
+    (r : Result Trail1 LabelFault) → trail1_at b ≡ r → Fills items met (mark ∷ [])
+    → At (told_with met r).0 (left_by number (Trailer met) (told_with met r).0)
+    (items ++ block b ∷ [])
+trailer_read items met number b (Ok trail) e h =
+    trailer_closes items met number b trail (closes met trail) (trail1_found b trail e) refl h
+trailer_read items met number b (Err f) e h = tt
+
+closes_more : (items : List TapeItem) (b : List ℕ) → Closes items
+    → Closes (items ++ block b ∷ [])
+closes_more items b h = record {
+  before = h.before;
+  sections = h.sections;
+  begun = h.begun;
+  part = h.part;
+  more = h.more ++ b ∷ [];
+  whole = h.whole;
+  stands =
+      let again : (h.before ++ h.part ++ map block h.more) ++ block b ∷ []
+      ≡ h.before ++ h.part ++ (map block h.more ++ block b ∷ []) = simp append_assoc in
+      ap (λ (r : List TapeItem). r ++ block b ∷ []) h.stands ∙ again
+      ∙ ap (λ (r : List TapeItem). h.before ++ h.part ++ r) (map_push h.more b);
+}
+
+-- the mark behind its trailer labels ends a section
+section_ends : (items : List TapeItem) → Closes items → Follow (items ++ mark ∷ [])
+section_ends items h =
+    let section = h.part ++ map block h.more ++ mark ∷ [] in
+    let b = h.begun in
+    record {
+      sections = h.sections;
+      last = section;
+      begun = record {
+        vol1 = b.vol1;
+        label = b.label;
+        labels = b.labels;
+        stands =
+            let labels : List TapeItem = block b.vol1 ∷ map block b.labels in
+            let flat : List TapeItem = flat_map (λ s. s) h.sections in
+            let again : ((labels ++ flat) ++ h.part ++ map block h.more) ++ mark ∷ []
+            ≡ labels ++ (flat ++ section) = simp append_assoc in
+            ap (λ (r : List TapeItem). r ++ mark ∷ []) (h.stands
+            ∙ ap (λ (r : List TapeItem). r ++ h.part ++ map block h.more) b.stands)
+            ∙ again
+            ∙ ap (λ (r : List TapeItem). labels ++ r) (sym (joined_push h.sections section));
+        is_label = b.is_label;
+        further = b.further;
+        each = all_more IsSectionInOrder h.sections section b.each (h.whole h.more);
+      };
+    }
+
+-- the mark behind that ends the volume
+volume_ends : (items : List TapeItem) → Follow items → IsVolumeInOrder (items ++ mark ∷ [])
+volume_ends items h = record {
+  front = items;
+  sections = h.sections ++ h.last ∷ [];
+  begun = h.begun;
+  stands = ap (λ (r : List TapeItem). items ++ r) (sym (one_mark h.sections h.last));
+}
+
+blank_ends : (items : List TapeItem) → Marked items → IsVolumeInOrder (items ++ mark ∷ [])
+blank_ends items h = record {
+  front = h.before;
+  sections = [];
+  begun = h.begun;
+  stands = ap (λ (r : List TapeItem). r ++ mark ∷ []) h.stands
+      ∙ append_assoc h.before (mark ∷ []) (mark ∷ []);
+}
+
+next_read : (items : List TapeItem) (number : ℕ) (v b : List ℕ) → Follow items
+    → At (header_with v (head1_at b) Over)
+    (left_by number (Next v) (header_with v (head1_at b) Over)) (items ++ block b ∷ [])
+next_read items number v b h =
+    head_read items (h.sections ++ h.last ∷ []) (Next v) number v b (head1_at b) refl h.begun
+
+no_mark_block : (b : List ℕ) → block b ≢ mark
+no_mark_block b e = absurd (cc e)
+
+no_mark_bad : bad ≢ mark
+no_mark_bad e = absurd (cc e)
+
+-- one item more, while the items follow the order
+follows_on : (p : Phase) (items : List TapeItem) (x : TapeItem) (number : ℕ) → At p Follows items
+    → At (step p x).0 (course_with Follows number p x (step p x).0) (items ++ x ∷ [])
+follows_on Volume items (block b) number e =
+    subst (λ (r : List TapeItem). At (volume_with (vol1_at b))
+    (left_by number Volume (volume_with (vol1_at b))) (r ++ block b ∷ [])) (sym e)
+    (first_label b number (vol1_at b) refl)
+follows_on Volume items bad number e = tt
+follows_on Volume items mark number e = tt
+follows_on (Labels v) items (block b) number h =
+    label_read items number v b (is_volume_label b) refl h
+follows_on (Labels v) items bad number h = tt
+follows_on (Labels v) items mark number h = record { before = items; begun = h; stands = refl }
+follows_on (Second met) items (block b) number h = second_read items met number b (kind_at b) refl h
+follows_on (Second met) items bad number h = tt
+follows_on (Second met) items mark number h = tt
+follows_on (Headers met) items (block b) number h = heads_more items met b h
+follows_on (Headers met) items bad number h = tt
+follows_on (Headers met) items mark number h = fills_none items met h
+follows_on (Data met) items (block b) number h =
+    fills_more items met (Rattle.tape_run.specs.Passing.with_block met false) (block b) refl
+    (no_mark_block b) h
+follows_on (Data met) items bad number h =
+    fills_more items met (Rattle.tape_run.specs.Passing.with_block met true) bad refl no_mark_bad h
+follows_on (Data met) items mark number h = fills_closed items met h
+follows_on (Trailer met) items (block b) number h =
+    trailer_read items met number b (trail1_at b) refl h
+follows_on (Trailer met) items bad number h = tt
+follows_on (Trailer met) items mark number h = tt
+follows_on (Trailers v) items (block b) number h = closes_more items b h
+follows_on (Trailers v) items bad number h = tt
+follows_on (Trailers v) items mark number h = section_ends items h
+follows_on (Next v) items (block b) number h = next_read items number v b h
+follows_on (Next v) items bad number h = tt
+follows_on (Next v) items mark number h = volume_ends items h
+follows_on Over items x number h = absurd h
+
+-- whatever the course is
+goes_on : (p : Phase) (c : Course) (items : List TapeItem) (x : TapeItem) (number : ℕ)
+    → At p c items → At (step p x).0 (course_with c number p x (step p x).0) (items ++ x ∷ [])
+goes_on p Follows items x number h = follows_on p items x number h
+goes_on Over Blank items mark number h = blank_ends items h
+goes_on Over Blank items bad number h = tt
+goes_on Over Blank items (block b) number h = tt
+goes_on Volume Blank items x number h = absurd h
+goes_on (Labels v) Blank items x number h = absurd h
+goes_on (Second met) Blank items x number h = absurd h
+goes_on (Headers met) Blank items x number h = absurd h
+goes_on (Data met) Blank items x number h = absurd h
+goes_on (Trailer met) Blank items x number h = absurd h
+goes_on (Trailers v) Blank items x number h = absurd h
+goes_on (Next v) Blank items x number h = absurd h
+goes_on p Ended items x number h = tt
+goes_on p (Leaves n w) items x number h = tt
+
+all_stand : (g : Glance) (p : Phase) (before rest : List TapeItem) → At p g.course before
+    → (q : Phase) × At q (look_all g p rest).course (before ++ rest)
+all_stand g p before [] h =
+    (p, subst (λ (r : List TapeItem). At p g.course r) (sym (append-nil before)) h)
+all_stand g p before (x ∷ xs) h =
+    let next = (step p x).0 in
+    let rest = all_stand (look_to g p x next) next (before ++ x ∷ []) xs
+    (goes_on p g.course before x (g.items + 1) h) in (
+      rest.0,
+      subst (λ (r : List TapeItem). At rest.0 (look_all g p (x ∷ xs)).course r)
+          (append_assoc before (x ∷ []) xs) rest.1,
+    )
+
+-- where the course is Ended the items are a volume
+ended_at : (p : Phase) (items : List TapeItem) → At p Ended items → IsVolumeInOrder items
+ended_at Over items h = h
+ended_at Volume items h = absurd h
+ended_at (Labels v) items h = absurd h
+ended_at (Second met) items h = absurd h
+ended_at (Headers met) items h = absurd h
+ended_at (Data met) items h = absurd h
+ended_at (Trailer met) items h = absurd h
+ended_at (Trailers v) items h = absurd h
+ended_at (Next v) items h = absurd h
+
+pub ended_is_volume : EndedIsVolume
+ended_is_volume items e =
+    let (q, at) = all_stand blank_glance Volume [] items refl in
+    ended_at q items (subst (λ (c : Course). At q c items) e at)

@@ -1,0 +1,12 @@
+use Rattle.std.proofs.Common.{◌∙◌, inr, subst}
+use Rattle.tape_run.specs.Output.{AppendsFront}
+use Rattle.tape_run.proofs.Fitting.{on_err}
+use Rattle.tape_run.proofs.survey.survey_image.Goals as goal
+
+pub returns-in_err-pass_on-clause-front : goal.returns-in_err-pass_on-clause-front
+returns-in_err-pass_on-clause-front g c =
+    let part = subst (AppendsFront (g.P.Write.contents c.args.report.now)
+    (g.P.Write.contents c.pass_on.new.report)) (c.as_slice.ensures.value
+    ∙ c.in-Ok-image_line.ensures) c.in_err-pass_on.ensures.err in
+    on_err c.from_residual.result _
+    (inr (c.in-Ok.sight, c.read.new.self, c.in-Ok.ensures.ok, part))

@@ -1,0 +1,10 @@
+use Rattle.std.proofs.Common.{arith, rules}
+use Rattle.std.proofs.lemmas.List.{take_all}
+use Rattle.std.proofs.lemmas.List.Sums.{suffix_len-take_yes, suffix_len-take_no}
+use Rattle.tape_run.proofs.survey.text.trimmed_len.Goals as goal
+
+pub spaces-init : goal.spaces-init
+spaces-init c = search (rules, take_all)
+
+pub spaces-preserved : goal.spaces-preserved
+spaces-preserved c = grind (arith, suffix_len-take_yes)

@@ -1,0 +1,76 @@
+use Rattle.std.proofs.Common.{◌≡◌, ◌+◌, Ok, ap, ◌∙◌, arith, refl, Option}
+use Rattle.tape_image.specs.Reader.{tape_item, ending_of}
+use Rattle.tape_image.proofs.Callers.{gave, met_end, met_fault}
+use Rattle.tape_label.specs.declared.values.Head1.{Head1}
+use Rattle.tape_run.specs.declared.survey.glance.Glance.{Glance}
+use Rattle.tape_run.specs.Added.{stop_at}
+use Rattle.tape_run.specs.Passing.{blocks_of}
+use Rattle.tape_run.specs.SurveyFiles.{with_met}
+use Rattle.tape_run.proofs.NotedSoFar.{one_block, same_some, least_four}
+use Rattle.tape_run.proofs.SurveyLooks.{looks_start, looks_more, viewed_end, viewed_fault}
+use Rattle.tape_run.proofs.survey.view.view_items.Goals as goal
+
+pub items-init : goal.items-init
+items-init g c =
+    let e = c.blank_glance-glance.ensures in
+    record {
+      on = c.requires.going;
+      limit = omega (arith, c.requires.first);
+      few = omega (arith, ap (λ (h : Glance). h.items) e);
+      files = omega (arith, ap (λ (h : Glance). h.files) e);
+      bad = omega (arith, ap (λ (h : Glance). h.bad) e);
+      blocks = omega arith;
+      same_device = refl;
+      looked = looks_start _ _ _ _ _ _ c.requires.first refl e;
+    }
+
+pub items-preserved : goal.items-preserved
+items-preserved g c =
+    let next = c.next.follows.lender-at-none in
+    let item = tape_item c.in-Ok-Some.item in
+    let step = gave c.items.image _ next c.in-Ok-Some.item c.next.follows.holds-at-none
+    c.items.invariant.on (c.in-Ok-Some.is ∙ ap Ok c.in-Ok-Some.field-0-is) in
+    let phase = c.in_ok-behind-in-Ok-Some.ensures.phase in
+    let looks = c.look-glance.ensures.exact in
+    let count : c.look-glance.result.items ≡ c.items.glance.items + 1 =
+    ap (λ (h : Glance). h.items) looks in
+    record {
+      on = step.goes_on;
+      limit = step.within;
+      few = omega (arith, count, step.extent, c.items.invariant.few, least_four item);
+      files = c.look-glance.ensures.files;
+      bad = c.look-glance.ensures.bad;
+      blocks = omega (
+        arith,
+        count,
+        ap blocks_of phase,
+        one_block c.items.phase item,
+        c.items.invariant.blocks,
+      );
+      same_device = c.next.follows.holds-at-none.same_device ∙ c.items.invariant.same_device;
+      looked = looks_more _ c.items.image.left next.left c.items.image.place next.place item _ _
+          c.items.phase _ c.items.glance _ _ _ _ _ c.items.invariant.looked step.takes phase
+          c.in_ok-behind-in-Ok-Some.ensures.ok
+          (c.in_ok-note_met-in-Ok-Some.ensures.ok
+          ∙ ap (λ (h : Option Head1). with_met c.items.files.entries h) c.head_in.ensures) looks;
+    }
+
+pub returns-in-Ok-None-clause-ok : goal.returns-in-Ok-None-clause-ok
+returns-in-Ok-None-clause-ok g c =
+    let next = c.next.follows.lender-at-none in
+    let met = met_end c.items.image _ next c.next.follows.holds-at-none c.items.invariant.on
+    (c.in-Ok-None.is ∙ ap Ok c.in-Ok-None.field-0-is) in
+    let ending = same_some c.in-Some.ending met.ending c.ending.result c.in-Some.is
+    (c.ending.ensures ∙ ap ending_of met.ended) in
+    viewed_end _ c.items.image.left next.left c.items.image.place next.place met.ending _ _
+    c.items.phase _ _ _ _ c.items.invariant.looked met.takes
+    c.in_ok-close_behind-in-Ok-None.ensures.ok (c.stop_at-stop.ensures ∙ ap stop_at ending)
+
+pub returns-in-Err-clause-ok : goal.returns-in-Err-clause-ok
+returns-in-Err-clause-ok g c =
+    let next = c.next.follows.lender-at-none in
+    let met = met_fault c.items.image _ next c.in-Err.fault c.next.follows.holds-at-none
+    c.items.invariant.on c.in-Err.is in
+    viewed_fault _ c.items.image.left next.left c.items.image.place c.in-Err.fault _ _
+    c.items.phase _ _ _ _ c.items.invariant.looked met.takes
+    c.in_ok-close_behind-in-Err.ensures.ok refl

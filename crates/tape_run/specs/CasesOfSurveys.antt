@@ -1,0 +1,198 @@
+-- What the definitions of surveys say of cases. The call `survey_laws::cases` has them as its
+-- contract.
+use Rattle.std.specs.Prelude.{◌≡◌, ◌≢◌, ◌++◌, ◌+◌, ◌&&◌, length, ℕ, Bool, true, false, List, []}
+use Rattle.std.specs.Prelude.{◌∷◌, replicate, Option}
+use Rattle.std.specs.Prelude.{Some}
+use Rattle.std.specs.Prelude.{None, Ok, Err, codes}
+use Rattle.std.specs.List.{AllByRecursion}
+use Rattle.std.specs.Io.KnownBytes.{Appends}
+use Rattle.tape_image.specs.declared.fault.ImageFault.{ImageFault}
+use Rattle.tape_image.specs.Tape.{TapeItem, block, bad, mark}
+use Rattle.tape_label.specs.declared.fault.LabelFault.{LabelFault}
+use Rattle.tape_label.specs.declared.values.Kind.TheVariants as kinds
+use Rattle.tape_label.specs.declared.values.Head1.{Head1}
+use Rattle.tape_label.specs.declared.values.Head2.{Head2}
+use Rattle.tape_label.specs.Kinds.{HasKind}
+use Rattle.tape_label.specs.Vol1.{IsVol1}
+use Rattle.tape_label.specs.Head1.{IsHead1}
+use Rattle.tape_label.specs.Trail1.{IsTrail1}
+use Rattle.tape_label.specs.VolumeLabels.{is_volume_label}
+use Rattle.tape_run.specs.declared.met.Met.{Met}
+use Rattle.tape_run.specs.declared.passing.Phase.{Phase}
+use Rattle.tape_run.specs.declared.passing.Phase.TheVariants as phases
+use Rattle.tape_run.specs.declared.section.ImageStop.{ImageStop}
+use Rattle.tape_run.specs.declared.section.ImageStop.TheVariants.{Marked, Physical, Fault}
+use Rattle.tape_run.specs.declared.section.SectionState.TheVariants.{Good, Bad}
+use Rattle.tape_run.specs.declared.survey.glance.First.TheVariants as firsts
+use Rattle.tape_run.specs.declared.survey.course.Wanted.{Wanted}
+use Rattle.tape_run.specs.declared.survey.course.Wanted.TheVariants as wanted
+use Rattle.tape_run.specs.declared.survey.course.Course.{Course}
+use Rattle.tape_run.specs.declared.survey.course.Course.TheVariants.{Follows, Blank, Ended, Leaves}
+use Rattle.tape_run.specs.declared.survey.sets.Standing.TheVariants.{Complete, Damaged, Behind}
+use Rattle.tape_run.specs.declared.survey.sets.Standing.TheVariants.{Missing}
+use Rattle.tape_run.specs.declared.survey.view.Sight.{Sight}
+use Rattle.tape_run.specs.CasesOfCatalogues.{met}
+use Rattle.tape_run.specs.Checked.{Reel}
+use Rattle.tape_run.specs.Noted.{noted_all}
+use Rattle.tape_run.specs.Passing.{met_in}
+use Rattle.tape_run.specs.SurveyFiles.{filed_in, Filed, is_other, with_head, note_at, file_key}
+use Rattle.tape_run.specs.SurveyFiles.{any_differs}
+use Rattle.tape_run.specs.SurveyGlance.{glance_of, blank_glance, first_of, is_ebcdic, course_with}
+use Rattle.tape_run.specs.SurveyGlance.{late_with, unread_with, unread_by, or_else, is_kind_vol1}
+use Rattle.tape_run.specs.SurveyLaws.{course_of, has_left, end_marks, IsSectionInOrder, IsBegun}
+use Rattle.tape_run.specs.SurveyLaws.{IsVolumeInOrder, IsFirstAstray}
+use Rattle.tape_run.specs.SurveyLine.{trimmed_text, named, image_line}
+use Rattle.tape_run.specs.SurveyRead.{Found, nothing_found, is_whole_sight, IsViewed}
+use Rattle.tape_run.specs.SurveySets.{standing_of, is_all, summary}
+use Rattle.tape_run.specs.Survey.{image_lines, Tells, summary_at}
+
+-- an image that went so far and stopped so, with a file that is not read or without one
+abbrev pub sight : Course → Option ℕ → ImageStop → Sight
+sight course unread stop =
+    record { glance = record blank_glance { course = course; unread = unread }; stop = stop }
+
+-- the header label of the first file of BCK001, with these
+abbrev pub label : List ℕ → List ℕ → List ℕ → Head1
+label file_id created generation = record {
+  file_id = file_id;
+  set_id = codes "BCK001";
+  sect = 1;
+  sequence = 1;
+  generation = generation;
+  gen_version = codes "00";
+  created = created;
+  expires = codes " 00000";
+  access = 32;
+  implementation = codes "             ";
+}
+
+-- the first backup
+abbrev pub first_week : Head1
+first_week = label (codes "WEEKLY.BCK       ") (codes " 85100") (codes "0001")
+
+-- what was found, where all images are whole and this was met
+abbrev pub found : Bool → List Filed → Found
+found whole files =
+    record { sections = met 1 1 true Good ∷ []; files = files; whole = whole }
+
+-- of images at a glance
+pub record CasesOfGlances : Type 0 where
+  -- what images begin with
+  pub nothing : glance_of [] ≡ blank_glance
+  pub noise : first_of (block (7 ∷ 8 ∷ [])) ≡ firsts.Block 2
+  pub begins_bad : first_of bad ≡ firsts.Bad
+  pub begins_mark : first_of mark ≡ firsts.Mark
+  pub ebcdic : is_ebcdic (229 ∷ 214 ∷ 211 ∷ 241 ∷ replicate 76 64) ≡ true
+  pub short_ebcdic : is_ebcdic (229 ∷ 214 ∷ 211 ∷ 241 ∷ []) ≡ false
+  -- a volume label behind something else, the first of several
+  pub late : late_with None 1 bad ≡ None
+  pub late_stays : (x : TapeItem) → or_else {T = ℕ} (Some 2) (Some 9) ≡ Some 2
+  pub other_kind : is_kind_vol1 (Some kinds.Hdr1) ≡ false
+  -- an HDR2 that does not read is told by its file; one that does, or another label, is not
+  pub unread : (f : LabelFault) → unread_with 2 (Err f) ≡ Some 2
+  pub read : (h : Head2) → unread_with 2 (Ok h) ≡ None
+  pub no_second_label : (b : List ℕ) → unread_by 2 None b ≡ None
+  -- a mark first leaves the order at once
+  pub mark_first : course_of (mark ∷ []) ≡ Leaves 1 wanted.Volume
+  pub bad_first : course_of (bad ∷ mark ∷ []) ≡ Leaves 1 wanted.Volume
+  -- a volume of its label and two marks is blank; with one mark it is not ended
+  pub blank : (v : List ℕ) → course_with Follows 2 (phases.Labels v) mark phases.Over ≡ Blank
+  pub blank_ends : course_with Blank 3 phases.Over mark phases.Over ≡ Ended
+  pub one_mark : (b : List ℕ)
+      → course_with Blank 3 phases.Over (block b) phases.Over ≡ Leaves 3 wanted.SecondMark
+  -- a second mark behind a section ends the volume, and nothing stands behind that
+  pub ends : (v : List ℕ) → course_with Follows 12 (phases.Next v) mark phases.Over ≡ Ended
+  pub behind_the_end : (x : TapeItem)
+      → course_with Ended 13 phases.Over x phases.Over ≡ Leaves 13 wanted.End
+  -- what is wanted where the order is left
+  pub no_section : (v : List ℕ)
+      → course_with Follows 2 (phases.Labels v) bad phases.Over ≡ Leaves 2 wanted.Section
+  pub no_second : (m : Met)
+      → course_with Follows 3 (phases.Second m) mark phases.Over ≡ Leaves 3 wanted.Second
+  pub bad_header : (m : Met)
+      → course_with Follows 4 (phases.Headers m) bad phases.Over ≡ Leaves 4 wanted.Mark
+  pub no_trailer : (m : Met)
+      → course_with Follows 9 (phases.Trailer m) bad phases.Over ≡ Leaves 9 wanted.Trailer
+  pub no_next : (v : List ℕ)
+      → course_with Follows 12 (phases.Next v) bad phases.Over ≡ Leaves 12 wanted.Next
+  pub goes_on : (m : Met) → course_with Follows 5 (phases.Data m) bad (phases.Data m) ≡ Follows
+  pub first_stays : (p next : Phase) (x : TapeItem)
+      → course_with (Leaves 3 wanted.Second) 4 p x next ≡ Leaves 3 wanted.Second
+  pub followed : (has_left Ended ≡ false) × (has_left Blank ≡ false)
+  pub marks : end_marks [] ≡ mark ∷ mark ∷ []
+
+-- of what is whole, and of all
+pub record CasesOfWholes : Type 0 where
+  pub whole : is_whole_sight (sight Ended None Marked) ≡ true
+  pub whole_too : is_whole_sight (sight Ended None Physical) ≡ true
+  pub faulty : (f : ImageFault) → is_whole_sight (sight Ended None (Fault f)) ≡ false
+  pub unread : is_whole_sight (sight Ended (Some 1) Marked) ≡ false
+  pub early : is_whole_sight (sight Follows None Marked) ≡ false
+  pub one_mark : is_whole_sight (sight Blank None Marked) ≡ false
+  pub left : (w : Wanted) → is_whole_sight (sight (Leaves 9 w) None Marked) ≡ false
+  -- other files under one number: by identifier, date or generation
+  pub other_name : is_other first_week
+      (label (codes "DAILY.BCK        ") (codes " 85100") (codes "0001")) ≡ true
+  pub other_date : is_other first_week
+      (label (codes "WEEKLY.BCK       ") (codes " 85107") (codes "0001")) ≡ true
+  pub other_generation : is_other first_week
+      (label (codes "WEEKLY.BCK       ") (codes " 85100") (codes "0002")) ≡ true
+  pub same : is_other first_week first_week ≡ false
+  -- the label met first is kept, and that another was met is not forgotten
+  pub first_kept : with_head (with_head (with_head [] first_week)
+      (label (codes "DAILY.BCK        ") (codes " 85100") (codes "0001"))) first_week
+      ≡ (file_key (codes "BCK001") 1, record { head = first_week; differs = true }) ∷ []
+  pub noted : note_at (with_head [] first_week) (file_key (codes "BCK001") 1)
+      ≡ Some (record { head = first_week; differs = false })
+  pub not_noted : note_at (with_head [] first_week) (file_key (codes "BCK001") 2) ≡ None
+  -- what is said of a file
+  pub complete : standing_of (met 1 1 true Good ∷ []) (codes "ABC001") 1 ≡ Complete
+  pub damaged : standing_of (met 1 1 true Bad ∷ []) (codes "ABC001") 1
+      ≡ Damaged 1 (met 1 1 true Bad).1
+  pub behind : standing_of (met 1 1 false Good ∷ []) (codes "ABC001") 1
+      ≡ Behind 2 (codes "ABC001")
+  pub missing : standing_of (met 2 1 true Good ∷ []) (codes "ABC001") 1 ≡ Missing 1
+  -- all is there only where images are whole, something was met, and labels do not differ
+  pub all : is_all (found true []) ≡ true
+  pub not_whole : is_all (found false []) ≡ false
+  pub nothing_met : is_all nothing_found ≡ false
+  pub mixed : is_all (found true
+      ((file_key (codes "ABC001") 1, record { head = first_week; differs = true }) ∷ [])) ≡ false
+  -- spaces at the end are left out, and nothing in a name moves the line
+  pub trimmed : trimmed_text (codes "A B   ") ≡ codes "A B"
+  pub all_spaces : trimmed_text (codes "      ") ≡ []
+  pub names : named 9 ∷ named 10 ∷ named 32 ∷ named 127 ∷ named 195 ∷ []
+      ≡ 63 ∷ 63 ∷ 32 ∷ 63 ∷ 195 ∷ []
+
+-- of the order of a volume, and of what is told
+pub record CasesOfSurveys : Type 0 where
+  -- a section has its labels, of one section, and a volume its label and its sections
+  pub section : (items : List TapeItem) (s : IsSectionInOrder items) → IsHead1 s.hdr1 s.head
+      × HasKind s.hdr2 kinds.Hdr2 × IsTrail1 s.trailer s.trail
+      × (s.trail.head.sect ≡ s.head.sect) × (s.trail.head.sequence ≡ s.head.sequence)
+      × AllByRecursion (λ x. x ≢ mark) s.content
+  pub begun : (items : List TapeItem) (sections : List (List TapeItem)) (b : IsBegun items sections)
+      → IsVol1 b.vol1 b.label × AllByRecursion (λ l. is_volume_label l ≡ true) b.labels
+      × AllByRecursion IsSectionInOrder sections
+  pub no_volume : IsVolumeInOrder (mark ∷ []) → ⊥
+  -- the first item astray stands there, behind those that follow the order
+  pub astray : (items : List TapeItem) (n : ℕ) (a : IsFirstAstray items n)
+      → (items ≡ a.before ++ a.item ∷ a.behind) × (n ≡ length a.before + 1)
+      × (has_left (course_of a.before) ≡ false)
+      × (has_left (course_of (a.before ++ a.item ∷ [])) ≡ true)
+  -- an image has a line by its name, and one that was not opened is left over
+  pub line : (name : List ℕ) (s : Option Sight)
+      → image_lines (name ∷ name ∷ []) (s ∷ []) ≡ image_line name s ++ []
+  pub not_opened : (c d : Found) → IsViewed None None c d → d ≡ record c { whole = false }
+  pub unopened : (s : Sight) (c d : Found) → IsViewed None (Some s) c d → ⊥
+  pub opened : (before : Option (List ℕ)) (c d : Found) → IsViewed (Some before) None c d → ⊥
+  pub viewed : (before : Option (List ℕ)) (s : Sight) (c d : Found)
+      (v : IsViewed (Some before) (Some s) c d) → (s.glance ≡ glance_of v.1.items)
+      × (d.sections ≡ noted_all c.sections (met_in v.1.items))
+      × (d.files ≡ filed_in c.files v.1.items) × (d.whole ≡ (c.whole && is_whole_sight s))
+  pub tells : (reel : Reel) (name : List ℕ) (c d : Found) (old new : Option (List ℕ))
+      (t : Tells reel name c d old new) → IsViewed reel t.0 c d
+      × Appends old new (image_line name t.0)
+  -- what stands behind the images follows where none is left
+  pub summary_last : (d : Found) → summary_at true d ≡ summary d
+  pub no_summary_before : (d : Found) → summary_at false d ≡ []

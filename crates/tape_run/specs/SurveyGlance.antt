@@ -1,0 +1,213 @@
+-- What an image is, at a glance over its items.
+use Rattle.std.specs.Prelude.{ℕ, ◌+◌, ◌==◌, ◌&&◌, not, Bool, true, false, if◌then◌else◌}
+use Rattle.std.specs.Prelude.{List, [], ◌∷◌, length, Option, Some, None, Result, Ok, Err}
+use Rattle.std.specs.Str.{bytes_eq}
+use Rattle.tape_image.specs.Tape.{TapeItem, block, bad, mark}
+use Rattle.tape_label.specs.declared.fault.LabelFault.{LabelFault}
+use Rattle.tape_label.specs.declared.values.Kind.{Kind}
+use Rattle.tape_label.specs.declared.values.Kind.TheVariants as kinds
+use Rattle.tape_label.specs.declared.values.Vol1.{Vol1}
+use Rattle.tape_label.specs.declared.values.Head1.{Head1}
+use Rattle.tape_label.specs.declared.values.Head2.{Head2}
+use Rattle.tape_label.specs.Kinds.{kind_at}
+use Rattle.tape_label.specs.Positions.{positions}
+use Rattle.tape_label.specs.Reading.{vol1_at, head1_at, head2_at}
+use Rattle.tape_run.specs.declared.passing.Phase.{Phase}
+use Rattle.tape_run.specs.declared.passing.Phase.TheVariants as phases
+use Rattle.tape_run.specs.declared.survey.glance.First.{First}
+use Rattle.tape_run.specs.declared.survey.glance.First.TheVariants as firsts
+use Rattle.tape_run.specs.declared.survey.course.Wanted.{Wanted}
+use Rattle.tape_run.specs.declared.survey.course.Wanted.TheVariants as wanted
+use Rattle.tape_run.specs.declared.survey.course.Course.{Course}
+use Rattle.tape_run.specs.declared.survey.course.Course.TheVariants.{Follows, Blank, Ended, Leaves}
+use Rattle.tape_run.specs.declared.survey.glance.Glance.{Glance}
+use Rattle.tape_run.specs.Passing.{step}
+
+-- 80 bytes that begin VOL1 in EBCDIC
+unfoldable pub is_ebcdic : List ℕ → Bool
+is_ebcdic b = (length b == 80) && bytes_eq (positions b 1 4) (229 ∷ 214 ∷ 211 ∷ 241 ∷ [])
+
+-- a first block that is no VOL1 that is read
+abbrev pub first_other : List ℕ → First
+first_other b = if is_ebcdic b then firsts.Ebcdic else firsts.Block (length b)
+
+-- a first block that was read as a volume label, or could not be
+abbrev pub first_by : List ℕ → Result Vol1 LabelFault → First
+first_by b (Ok label) = firsts.Volume label
+first_by b (Err _) = first_other b
+
+-- a first block
+abbrev pub first_block : List ℕ → First
+first_block b = first_by b (vol1_at b)
+
+-- what an image begins with whose first item this is
+abbrev pub first_of : TapeItem → First
+first_of (block b) = first_block b
+first_of bad = firsts.Bad
+first_of mark = firsts.Mark
+
+-- the same, of an item with this number
+abbrev pub first_with : First → ℕ → TapeItem → First
+first_with first number x = if number == 1 then first_of x else first
+
+-- a block of this kind is a volume label
+abbrev pub is_kind_vol1 : Option Kind → Bool
+is_kind_vol1 (Some kinds.Vol1) = true
+is_kind_vol1 _ = false
+
+-- an item is a volume label
+abbrev pub is_vol1 : TapeItem → Bool
+is_vol1 (block b) = is_kind_vol1 (kind_at b)
+is_vol1 bad = false
+is_vol1 mark = false
+
+-- the first of two that is there
+abbrev pub or_else : {T : Type 0} → Option T → Option T → Option T
+or_else (Some x) second = Some x
+or_else None second = second
+
+-- the number of the first volume label behind the first item
+abbrev pub late_with : Option ℕ → ℕ → TapeItem → Option ℕ
+late_with late number x =
+    if not (number == 1) && is_vol1 x then or_else late (Some number) else late
+
+-- what was read, where it could be
+abbrev pub head_by : Result Head1 LabelFault → Option Head1
+head_by (Ok head) = Some head
+head_by (Err _) = None
+
+-- the header label that a block is
+abbrev pub head_of : List ℕ → Option Head1
+head_of b = head_by (head1_at b)
+
+-- the header label that a block is, where a section may begin
+abbrev pub head_at : Phase → List ℕ → Option Head1
+head_at (phases.Labels v) b = head_of b
+head_at (phases.Next v) b = head_of b
+head_at _ b = None
+
+-- the same of an item
+abbrev pub head_in : Phase → TapeItem → Option Head1
+head_in p (block b) = head_at p b
+head_in p bad = None
+head_in p mark = None
+
+-- the file, where this is what its HDR2 reads as and that is nothing
+abbrev pub unread_with : ℕ → Result Head2 LabelFault → Option ℕ
+unread_with file (Ok head) = None
+unread_with file (Err _) = Some file
+
+-- the file of which a block of this kind is an HDR2 that is none that is read
+abbrev pub unread_by : ℕ → Option Kind → List ℕ → Option ℕ
+unread_by file (Some kinds.Hdr2) b = unread_with file (head2_at b)
+unread_by file _ b = None
+
+-- the same of a block, where a second label is wanted
+abbrev pub unread_at : Phase → List ℕ → Option ℕ
+unread_at (phases.Second met) b = unread_by met.key.file (kind_at b) b
+unread_at _ b = None
+
+-- the same of an item
+abbrev pub unread_in : Phase → TapeItem → Option ℕ
+unread_in p (block b) = unread_at p b
+unread_in p bad = None
+unread_in p mark = None
+
+-- what is wanted in each phase
+abbrev pub wanted_in : Phase → Wanted
+wanted_in phases.Volume = wanted.Volume
+wanted_in (phases.Labels v) = wanted.Section
+wanted_in (phases.Second met) = wanted.Second
+wanted_in (phases.Headers met) = wanted.Mark
+wanted_in (phases.Data met) = wanted.Mark
+wanted_in (phases.Trailer met) = wanted.Trailer
+wanted_in (phases.Trailers v) = wanted.Mark
+wanted_in (phases.Next v) = wanted.Next
+wanted_in phases.Over = wanted.End
+
+-- an item left the order where nothing is expected behind it
+abbrev pub left_by : ℕ → Phase → Phase → Course
+left_by number p phases.Over = Leaves number (wanted_in p)
+left_by number p _ = Follows
+
+-- The course behind a tape mark, where all before it follow the order and the volume goes on:
+-- behind the volume labels it may be that of a blank volume, and one more behind a section ends the
+-- volume.
+abbrev pub behind_mark : ℕ → Phase → Phase → Course
+behind_mark number (phases.Labels v) next = Blank
+behind_mark number (phases.Next v) next = Ended
+behind_mark number p next = left_by number p next
+
+-- the same of an item
+abbrev pub behind : ℕ → Phase → TapeItem → Phase → Course
+behind number p mark next = behind_mark number p next
+behind number p bad next = left_by number p next
+behind number p (block b) next = left_by number p next
+
+-- the course behind an item where a second tape mark is wanted
+abbrev pub behind_blank : ℕ → TapeItem → Course
+behind_blank number mark = Ended
+behind_blank number bad = Leaves number wanted.SecondMark
+behind_blank number (block b) = Leaves number wanted.SecondMark
+
+-- the course behind an item
+abbrev pub course_with : Course → ℕ → Phase → TapeItem → Phase → Course
+course_with Follows number p x next = behind number p x next
+course_with Blank number p x next = behind_blank number x
+course_with Ended number p x next = Leaves number wanted.End
+course_with (Leaves n w) number p x next = Leaves n w
+
+-- an item is a block that could not be read
+abbrev pub is_bad : TapeItem → Bool
+is_bad (block b) = false
+is_bad bad = true
+is_bad mark = false
+
+-- one, where it is so
+abbrev pub one_if : Bool → ℕ
+one_if b = if b then 1 else 0
+
+-- a header label counts one
+abbrev pub one_head : Option Head1 → ℕ
+one_head None = 0
+one_head (Some head) = 1
+
+-- the system that wrote a header label
+abbrev pub system_of : Option Head1 → Option (List ℕ)
+system_of None = None
+system_of (Some head) = Some head.implementation
+
+-- nothing was looked at
+abbrev pub blank_glance : Glance
+blank_glance = record {
+  items = 0;
+  first = firsts.Nothing;
+  late = None;
+  system = None;
+  files = 0;
+  bad = 0;
+  unread = None;
+  course = Follows;
+}
+
+-- the glance behind one more item, with this phase before it and behind it
+abbrev pub look_to : Glance → Phase → TapeItem → Phase → Glance
+look_to g p x next = record {
+  items = g.items + 1;
+  first = first_with g.first (g.items + 1) x;
+  late = late_with g.late (g.items + 1) x;
+  system = or_else g.system (system_of (head_in p x));
+  files = g.files + one_head (head_in p x);
+  bad = g.bad + one_if (is_bad x);
+  unread = or_else g.unread (unread_in p x);
+  course = course_with g.course (g.items + 1) p x next;
+}
+
+-- the glance behind these items, in this phase
+abbrev pub look_all : Glance → Phase → List TapeItem → Glance
+look_all g p [] = g
+look_all g p (x ∷ xs) = let next = (step p x).0 in look_all (look_to g p x next) next xs
+
+-- an image at a glance
+abbrev pub glance_of : List TapeItem → Glance
+glance_of items = look_all blank_glance phases.Volume items

@@ -1,0 +1,92 @@
+-- What a glance at an image tells of its items.
+use Rattle.std.specs.Prelude.{◌≡◌, ◌≢◌, ℕ, ◌+◌, Bool, true, false, List, [], ◌∷◌, ◌++◌, length, map}
+use Rattle.std.specs.List.{AllByRecursion, flat_map}
+use Rattle.tape_image.specs.Tape.{TapeItem, block, mark}
+use Rattle.tape_label.specs.declared.values.Kind.TheVariants as kinds
+use Rattle.tape_label.specs.declared.values.Vol1.{Vol1}
+use Rattle.tape_label.specs.declared.values.Head1.{Head1}
+use Rattle.tape_label.specs.declared.values.Trail1.{Trail1}
+use Rattle.tape_label.specs.Kinds.{HasKind}
+use Rattle.tape_label.specs.Vol1.{IsVol1}
+use Rattle.tape_label.specs.Head1.{IsHead1}
+use Rattle.tape_label.specs.Trail1.{IsTrail1}
+use Rattle.tape_label.specs.VolumeLabels.{is_volume_label}
+use Rattle.tape_run.specs.declared.survey.course.Wanted.{Wanted}
+use Rattle.tape_run.specs.declared.survey.course.Course.{Course}
+use Rattle.tape_run.specs.declared.survey.course.Course.TheVariants.{Ended, Leaves}
+use Rattle.tape_run.specs.SurveyGlance.{glance_of}
+
+-- ---- the order of a volume
+
+-- A section: two header labels and further ones, a mark, its blocks, a mark, a trailer label with
+-- the numbers of its first one and further ones, a mark.
+pub record IsSectionInOrder (items : List TapeItem) : Type 0 where
+  pub hdr1 : List ℕ
+  pub hdr2 : List ℕ
+  pub headers : List (List ℕ)
+  pub content : List TapeItem
+  pub trailer : List ℕ
+  pub trailers : List (List ℕ)
+  pub head : Head1
+  pub trail : Trail1
+  pub stands : items ≡ block hdr1 ∷ block hdr2 ∷ map block headers
+      ++ mark ∷ content ++ mark ∷ block trailer ∷ map block trailers ++ mark ∷ []
+  pub is_head : IsHead1 hdr1 head
+  pub second : HasKind hdr2 kinds.Hdr2
+  pub no_mark : AllByRecursion (λ x. x ≢ mark) content
+  pub is_trail : IsTrail1 trailer trail
+  pub sect : trail.head.sect ≡ head.sect
+  pub file : trail.head.sequence ≡ head.sequence
+
+-- A volume up to here: its label, further volume labels, and these sections.
+pub record IsBegun (items : List TapeItem) (sections : List (List TapeItem)) : Type 0 where
+  pub vol1 : List ℕ
+  pub label : Vol1
+  pub labels : List (List ℕ)
+  pub stands : items ≡ block vol1 ∷ map block labels ++ flat_map (λ s. s) sections
+  pub is_label : IsVol1 vol1 label
+  pub further : AllByRecursion (λ b. is_volume_label b ≡ true) labels
+  pub each : AllByRecursion IsSectionInOrder sections
+
+-- what ends a volume of these sections: a mark, and one more where it has none
+abbrev pub end_marks : List (List TapeItem) → List TapeItem
+end_marks [] = mark ∷ mark ∷ []
+end_marks (section ∷ sections) = mark ∷ []
+
+-- The items are a volume, from its label to its end.
+pub record IsVolumeInOrder (items : List TapeItem) : Type 0 where
+  pub front : List TapeItem
+  pub sections : List (List TapeItem)
+  pub begun : IsBegun front sections
+  pub stands : items ≡ front ++ end_marks sections
+
+-- ---- what a glance tells
+
+-- how far items follow the order of a volume
+abbrev pub course_of : List TapeItem → Course
+course_of items = (glance_of items).course
+
+-- they left it
+abbrev pub has_left : Course → Bool
+has_left (Leaves n w) = true
+has_left _ = false
+
+-- The item with this number, counted from 1, is the first that is not in the order of a volume:
+-- those before it follow the order, and with it they do not.
+pub record IsFirstAstray (items : List TapeItem) (n : ℕ) : Type 0 where
+  pub before : List TapeItem
+  pub item : TapeItem
+  pub behind : List TapeItem
+  pub stands : items ≡ before ++ item ∷ behind
+  pub number : n ≡ length before + 1
+  pub follow : has_left (course_of before) ≡ false
+  pub leaves : has_left (course_of (before ++ item ∷ [])) ≡ true
+
+-- Where a glance says that an item leaves the order, it is the first that does.
+abbrev pub LeavesThere : Type 0
+LeavesThere = (items : List TapeItem) (n : ℕ) (w : Wanted) → course_of items ≡ Leaves n w
+    → IsFirstAstray items n
+
+-- Where a glance says that the volume ended, the items are a volume, and nothing stands behind it.
+abbrev pub EndedIsVolume : Type 0
+EndedIsVolume = (items : List TapeItem) → course_of items ≡ Ended → IsVolumeInOrder items

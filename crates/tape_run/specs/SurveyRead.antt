@@ -1,0 +1,81 @@
+-- What of images was read for a survey.
+use Rattle.std.specs.Prelude.{◌≡◌, ℕ, ◌+◌, ◌&&◌, Bool, true, false, List, [], ◌∷◌, Option, Some}
+use Rattle.std.specs.Prelude.{None}
+use Rattle.tape_image.specs.Tape.{TapeItem}
+use Rattle.tape_image.specs.Reader.{IfKnown}
+use Rattle.tape_run.specs.declared.section.ImageStop.{ImageStop}
+use Rattle.tape_run.specs.declared.section.ImageStop.TheVariants.{Marked, Physical, Fault}
+use Rattle.tape_run.specs.declared.survey.course.Course.{Course}
+use Rattle.tape_run.specs.declared.survey.course.Course.TheVariants.{Ended}
+use Rattle.tape_run.specs.declared.survey.glance.Glance.{Glance}
+use Rattle.tape_run.specs.declared.survey.view.Sight.{Sight}
+use Rattle.tape_run.specs.Added.{StopsBehind}
+use Rattle.tape_run.specs.Checked.{Reel}
+use Rattle.tape_run.specs.Noted.{noted_all}
+use Rattle.tape_run.specs.Passing.{Told, met_in}
+use Rattle.tape_run.specs.Reeling.{Mounting}
+use Rattle.tape_run.specs.SurveyFiles.{Filed, filed_in}
+use Rattle.tape_run.specs.SurveyGlance.{glance_of}
+
+-- what is known of sections and of files, and whether nothing on the images is left over
+pub record Found : Type 0 where
+  pub sections : List Told
+  pub files : List Filed
+  pub whole : Bool
+
+-- nothing was met
+abbrev pub nothing_found : Found
+nothing_found = record { sections = []; files = []; whole = true }
+
+-- the image does not stop by a fault
+abbrev pub is_end : ImageStop → Bool
+is_end Marked = true
+is_end Physical = true
+is_end (Fault fault) = false
+
+-- the volume ended
+abbrev pub is_ended : Course → Bool
+is_ended Ended = true
+is_ended _ = false
+
+-- nothing is there
+abbrev pub is_none : Option ℕ → Bool
+is_none None = true
+is_none (Some n) = false
+
+-- The items are a volume in its order, all of them, and each second header label reads.
+abbrev pub is_whole_sight : Sight → Bool
+is_whole_sight s = is_ended s.glance.course && (is_none s.glance.unread && is_end s.stop)
+
+-- All items that a reader gave were looked at, and the sections and the header labels that they
+-- tell were noted. Before the call the reader had the bytes `before`, and then the bytes `after`.
+pub record ViewsItems (before after : Option (List ℕ)) (sections : List Told) (files : List Filed)
+    (sight : Sight) (told : List Told) (filed : List Filed) : Type 0 where
+  pub items : List TapeItem
+  pub stop : IfKnown before after (StopsBehind items sight.stop)
+  pub glance : sight.glance ≡ glance_of items
+  pub noted : told ≡ noted_all sections (met_in items)
+  pub named : filed ≡ filed_in files items
+
+-- the same of what was found
+pub record Views (before after : Option (List ℕ)) (old : Found) (sight : Sight) (new : Found) :
+    Type 0 where
+  pub viewed : ViewsItems before after old.sections old.files sight new.sections new.files
+  pub same : new.whole ≡ old.whole
+
+-- An image was read, and nothing is left over on it where it is whole; or it was not opened.
+abbrev pub IsViewed : Reel → Option Sight → Found → Found → Type 0
+IsViewed None None c d = d ≡ record c { whole = false }
+IsViewed (Some before) (Some sight) c d = (after : Option (List ℕ))
+    × ViewsItems before after c.sections c.files sight d.sections d.files
+    × (d.whole ≡ (c.whole && is_whole_sight sight))
+IsViewed _ _ c d = ⊥
+
+-- Images of a shelf from this number on, mounted one after another, were read.
+abbrev pub AreViewed : {L R : Type 0} → Mounting L R → (R → Option (List ℕ)) → L → ℕ
+    → List (Option Sight) → Found → L → Found → Type 0
+AreViewed gives remaining shelf number [] c last d = (last ≡ shelf) × (d ≡ c)
+AreViewed gives remaining shelf number (sight ∷ sights) c last d = (image : Option _)
+    × (next : _) × (mid : Found) × gives shelf number image next
+    × IsViewed (Rattle.std.specs.Prelude.option_map remaining image) sight c mid
+    × AreViewed gives remaining next (number + 1) sights mid last d

@@ -1,0 +1,179 @@
+//! `survey`: what images are, by their names, and what is known of the sets and files on them.
+ghost use Rattle.std.specs.Prelude.{◌≡◌, map, option_map, IfOk, OnOk, OnErr, IfErr};
+ghost use Rattle.std.specs.Io.KnownBytes.{Appends};
+ghost use Rattle.tape_run.specs.Checked.{IsCheckFault};
+ghost use Rattle.tape_run.specs.Output.{AppendsFront};
+ghost use Rattle.tape_run.specs.SurveyLine.{named, name_text, image_line};
+ghost use Rattle.tape_run.specs.SurveyRead.{nothing_found};
+ghost use Rattle.tape_run.specs.SurveySets.{is_all, last_text, summary};
+ghost use Rattle.tape_run.specs.Survey.{Tells, TellsAll, StopsAt, Surveys, SurveysInPart};
+
+mod course;
+mod files;
+mod glance;
+mod line;
+mod sets;
+mod text;
+mod view;
+
+use crate::check::pass_on;
+use crate::fault::{EngineFault, RunFault};
+use crate::shelf::Shelf;
+use line::sight_text;
+use sets::{is_all, sets_text};
+use std::alloc::{AllocError, Global};
+use std::io::{Read, Write};
+use view::{Findings, Sight};
+
+/// There was no memory.
+const NO_MEMORY: EngineFault = EngineFault::Run(RunFault::OutOfMemory);
+
+/// Tells what the images of a shelf are, by their names: a line for each, as soon as it was read;
+/// then each set that was met, with its files, and a last line where nothing lacks and nothing on
+/// the images is left over. It answers whether that is so.
+///
+/// Images are mounted in the order of their names, each read to its end or to a fault, and then let
+/// go. It takes memory for the reader of one image and for a line, and else for the sections and
+/// files that were met alone.
+///
+/// # Errors
+///
+/// `WriteFailed` where the report could not be written, and `Run(OutOfMemory)`.
+pub fn survey_to<R: Read + Drop, L: Shelf<R>, P: Write>(
+    alloc: Global,
+    images: &mut L,
+    names: &[&str],
+    report: &mut P,
+) -> Result<bool, EngineFault>
+    // Success is the whole survey, and tells whether nothing lacks and nothing is left over.
+    ensures ok { IfOk result (Surveys L.gives R.remaining (map (λ n. n.now) names.now)
+        images.old images.new (P.contents report.old) (P.contents report.new)) }
+    // Whatever the fault, a front of a survey was written: of the images that were read.
+    ensures front { OnErr result (SurveysInPart L.gives R.remaining (map (λ n. n.now) names.now)
+        images.old (P.contents report.old) (P.contents report.new)) }
+    ensures fault { IfErr result IsCheckFault }
+{
+    let mut findings = Findings::new(alloc);
+    survey_images(alloc, &mut findings, images, names, report)?;
+    sum_up(alloc, &findings, report)
+}
+
+/// Reads the images of these names, and writes a line for each.
+fn survey_images<R: Read + Drop, L: Shelf<R>, P: Write>(
+    alloc: Global,
+    findings: &mut Findings,
+    images: &mut L,
+    names: &[&str],
+    report: &mut P,
+) -> Result<(), EngineFault>
+    requires { findings.old ≡ nothing_found }
+    ensures ok { OnOk result (TellsAll L.gives R.remaining (map (λ n. n.now) names.now)
+        images.old images.new findings.new (P.contents report.old) (P.contents report.new)) }
+    ensures front { OnErr result (SurveysInPart L.gives R.remaining (map (λ n. n.now) names.now)
+        images.old (P.contents report.old) (P.contents report.new)) }
+    ensures fault { IfErr result IsCheckFault }
+{
+    for number in 0..names.len() {
+        let Ok(image) = images.mount(number) else {
+            return Err(NO_MEMORY);
+        };
+        survey_image(alloc, findings, image, names[number], report)?;
+    }
+    Ok(())
+}
+
+/// Reads the image of this name, if it was opened, and writes its line.
+fn survey_image<R: Read + Drop, P: Write>(
+    alloc: Global,
+    findings: &mut Findings,
+    image: Option<R>,
+    name: &str,
+    report: &mut P,
+) -> Result<(), EngineFault>
+    ensures ok { OnOk result (Tells (option_map R.remaining image) name.now
+        findings.old findings.new (P.contents report.old) (P.contents report.new)) }
+    ensures front { OnErr result (StopsAt (option_map R.remaining image) name.now
+        findings.old (P.contents report.old) (P.contents report.new)) }
+    ensures fault { IfErr result IsCheckFault }
+{
+    let Ok(sight) = findings.read(image) else {
+        return Err(NO_MEMORY);
+    };
+    let Ok(line) = image_line(alloc, name, &sight) else {
+        return Err(NO_MEMORY);
+    };
+    pass_on(report, line.as_slice())?;
+    Ok(())
+}
+
+/// The line of the image of this name.
+fn image_line(alloc: Global, name: &str, sight: &Option<Sight>) -> Result<Vec<u8>, AllocError>
+    ensures { IfOk result (λ line. line.items ≡ image_line name.now sight.now) }
+{
+    let mut line = name_text(alloc, name)?;
+    let behind = sight_text(sight);
+    line.extend_from_slice(&behind)?;
+    Ok(line)
+}
+
+/// A name.
+fn name_text(alloc: Global, name: &str) -> Result<Vec<u8>, AllocError>
+    ensures { IfOk result (λ line. line.items ≡ name_text name.now) }
+{
+    let mut line = Vec::new(alloc);
+    for byte in name.as_bytes() {
+        line.push(named(*byte))?;
+    }
+    Ok(line)
+}
+
+/// A byte of a name: a question mark stands for one that moves the line.
+fn named(byte: u8) -> u8
+    ensures { result ≡ named byte }
+{
+    if byte < b' ' || byte == 127 {
+        b'?'
+    } else {
+        byte
+    }
+}
+
+/// Writes what stands behind the lines of the images, and answers whether nothing lacks and nothing
+/// is left over.
+fn sum_up<P: Write>(alloc: Global, findings: &Findings, report: &mut P) -> Result<bool, EngineFault>
+    ensures ok { IfOk result (λ all. (all ≡ is_all findings.now)
+        × Appends (P.contents report.old) (P.contents report.new) (summary findings.now)) }
+    ensures front { OnErr result (AppendsFront (P.contents report.old) (P.contents report.new)
+        (summary findings.now)) }
+    ensures fault { IfErr result IsCheckFault }
+{
+    let Ok(all) = is_all(alloc, findings) else {
+        return Err(NO_MEMORY);
+    };
+    let Ok(text) = summary(alloc, findings, all) else {
+        return Err(NO_MEMORY);
+    };
+    pass_on(report, text.as_slice())?;
+    Ok(all)
+}
+
+/// What stands behind the lines of the images.
+fn summary(alloc: Global, findings: &Findings, all: bool) -> Result<Vec<u8>, AllocError>
+    requires { all ≡ is_all findings.now }
+    ensures { IfOk result (λ text. text.items ≡ summary findings.now) }
+{
+    let mut text = sets_text(alloc, findings)?;
+    text.extend_from_slice(last_text(all))?;
+    Ok(text)
+}
+
+/// The last line.
+fn last_text(all: bool) -> &'static [u8]
+    ensures { result.now ≡ last_text all }
+{
+    if all {
+        b"Nothing lacks, and nothing on the images is left over.\n"
+    } else {
+        b""
+    }
+}

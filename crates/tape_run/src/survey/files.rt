@@ -1,0 +1,107 @@
+//! The files whose header labels were met, by the numbers of these.
+ghost use Rattle.std.specs.Result.{IsOkUnless};
+ghost use Rattle.std.specs.Prelude.{◌≡◌, ◌<◌, ◌+◌, ◌||◌, OnOk, length, take};
+ghost use Rattle.std.specs.Map.{lookup};
+ghost use Rattle.tape_run.specs.SurveyFiles.{same_file, is_other, note_of, with_head, with_met};
+ghost use Rattle.tape_run.specs.SurveyFiles.{any_differs};
+ghost use Rattle.tape_run.specs.declared.fault.RunFault.TheVariants as faults;
+
+use crate::fault::RunFault;
+use indexmap::IndexMap;
+use tape_label::{Field, Head1};
+
+/// Which file it is: its file set, and its number there.
+#[derive(Clone, Copy, Debug, PartialEq, Eq, Hash)]
+pub struct FileKey {
+    pub set_id: Field<6>,
+    pub file: u16,
+}
+
+/// What header labels tell of a file.
+#[derive(Clone, Copy, Debug, PartialEq, Eq)]
+pub struct FileNote {
+    /// The label that was met first.
+    pub head: Head1,
+    /// Whether one was met of another file.
+    pub differs: bool,
+}
+
+/// What is known of each file.
+pub(crate) type Files = IndexMap<FileKey, FileNote>;
+
+/// Whether header labels of one number are those of different files: by the file identifier, the
+/// creation date and the generation.
+fn is_other(first: &Head1, second: &Head1) -> bool
+    ensures { result ≡ is_other first.now second.now }
+{
+    first.file_id != second.file_id
+        || first.created != second.created
+        || first.generation != second.generation
+}
+
+/// What is known of a file behind one more label of it.
+fn note_of(files: &Files, key: &FileKey, head: Head1) -> FileNote
+    ensures { result ≡ note_of (lookup (same_file key.now) files.now.entries) head }
+{
+    match files.get(key) {
+        Some(note) => FileNote {
+            head: note.head,
+            differs: note.differs || is_other(&note.head, &head),
+        },
+        None => FileNote {
+            head,
+            differs: false,
+        },
+    }
+}
+
+/// Notes a header label.
+fn note_head(files: &mut Files, head: Head1) -> Result<(), RunFault>
+    ensures fault { IsOkUnless result faults.OutOfMemory }
+    ensures ok { OnOk result (files.new.entries ≡ with_head files.old.entries head) }
+{
+    let key = FileKey {
+        set_id: head.set_id,
+        file: head.sequence,
+    };
+    let note = note_of(files, &key, head);
+    match files.insert(key, note) {
+        Ok(_) => Ok(()),
+        Err(_) => Err(RunFault::OutOfMemory),
+    }
+}
+
+/// Notes the header label that was met, if one was.
+pub(crate) fn note_met(files: &mut Files, head: Option<Head1>) -> Result<(), RunFault>
+    ensures fault { IsOkUnless result faults.OutOfMemory }
+    ensures ok { OnOk result (files.new.entries ≡ with_met files.old.entries head) }
+{
+    match head {
+        Some(head) => note_head(files, head),
+        None => Ok(()),
+    }
+}
+
+/// Whether the file at a place was met with labels of different files.
+fn differs_at(files: &Files, place: usize) -> bool
+    requires { place < length files.now.entries }
+    ensures { any_differs (take (place + 1) files.now.entries)
+        ≡ (any_differs (take place files.now.entries) || result) }
+{
+    let Some((_, note)) = files.get_index(place) else {
+        unreachable!()
+    };
+    note.differs
+}
+
+/// Whether labels of different files were met under the numbers of one.
+pub(crate) fn any_differs(files: &Files) -> bool
+    ensures { result ≡ any_differs files.now.entries }
+{
+    let mut any = false;
+    for place in 0..files.len() {
+        let differs = differs_at(files, place);
+        any = any || differs;
+    }
+    any
+}

@@ -1,0 +1,300 @@
+//! What an image is, at a glance over its items.
+ghost use Rattle.std.specs.Prelude.{◌≡◌, ◌<◌, ◌≤◌};
+ghost use Rattle.tape_image.specs.Reader.{tape_item};
+ghost use Rattle.tape_run.specs.SurveyGlance.{blank_glance, is_ebcdic, first_of, first_with};
+ghost use Rattle.tape_run.specs.SurveyGlance.{first_other, first_block, is_vol1, is_kind_vol1};
+ghost use Rattle.tape_run.specs.SurveyGlance.{late_with, head_in, head_at, head_of, unread_in};
+ghost use Rattle.tape_run.specs.SurveyGlance.{unread_at, unread_by, unread_with, is_bad, one_if};
+ghost use Rattle.tape_run.specs.SurveyGlance.{one_head, or_else, system_of, look_to};
+ghost use Rattle.tape_label.specs.Kinds.{kind_at};
+ghost use Rattle.tape_label.specs.Reading.{head2_at};
+
+use super::course::{Course, course_with};
+use crate::passing::Phase;
+use tape_image::Item;
+use tape_label::{Field, Head1, Kind, Vol1, kind, read_head1, read_head2, read_vol1};
+
+/// What an image begins with.
+#[derive(Clone, Copy, Debug, PartialEq, Eq)]
+pub enum First {
+    /// It has no item.
+    Nothing,
+    /// A volume label.
+    Volume(Vol1),
+    /// A volume label in EBCDIC.
+    Ebcdic,
+    /// Another block, of this length.
+    Block(u64),
+    /// A block that could not be read.
+    Bad,
+    /// A tape mark.
+    Mark,
+}
+
+/// What an image is, at a glance.
+#[derive(Clone, Copy, Debug, PartialEq, Eq)]
+pub struct Glance {
+    /// How many items it has.
+    pub items: u32,
+    /// What it begins with.
+    pub first: First,
+    /// The number of the first item behind the first that is a volume label.
+    pub late: Option<u32>,
+    /// The system that wrote the first section's `HDR1`.
+    pub system: Option<Field<13>>,
+    /// How many sections begin in it.
+    pub files: u32,
+    /// How many blocks could not be read.
+    pub bad: u32,
+    /// The number of the first file whose `HDR2` is none that is read.
+    pub unread: Option<u16>,
+    /// How far it follows the order of a volume.
+    pub course: Course,
+}
+
+/// Nothing was looked at yet.
+pub(crate) fn blank_glance() -> Glance
+    ensures { result ≡ blank_glance }
+{
+    Glance {
+        items: 0,
+        first: First::Nothing,
+        late: None,
+        system: None,
+        files: 0,
+        bad: 0,
+        unread: None,
+        course: Course::Follows,
+    }
+}
+
+/// Whether a block is a volume label in EBCDIC, by its length and its first four bytes.
+#[tactic(auto, unfolding(crate::specs::SurveyGlance::is_ebcdic))]
+fn is_ebcdic(block: &[u8]) -> bool
+    ensures { result ≡ is_ebcdic block.now }
+{
+    block.len() == 80 && &block[..4] == b"\xE5\xD6\xD3\xF1".as_slice()
+}
+
+/// What an image begins with whose first item this is.
+fn first_of(item: Item<'_>) -> First
+    ensures { result ≡ first_of (tape_item item.entry) }
+{
+    match item {
+        Item::Block(bytes) => first_block(bytes),
+        Item::Bad => First::Bad,
+        Item::Mark => First::Mark,
+    }
+}
+
+/// What an image begins with whose first block this is.
+fn first_block(bytes: &[u8]) -> First
+    ensures { result ≡ first_block bytes.now }
+{
+    match read_vol1(bytes) {
+        Ok(label) => First::Volume(label),
+        Err(_) => first_other(bytes),
+    }
+}
+
+/// The same of a block that is no volume label that is read.
+fn first_other(bytes: &[u8]) -> First
+    ensures { result ≡ first_other bytes.now }
+{
+    if is_ebcdic(bytes) {
+        return First::Ebcdic;
+    }
+    First::Block(bytes.len() as u64)
+}
+
+/// What an image begins with, where this item has this number.
+fn first_with(first: &First, number: u32, item: Item<'_>) -> First
+    ensures { result ≡ first_with first.now number (tape_item item.entry) }
+{
+    if number == 1 {
+        return first_of(item);
+    }
+    *first
+}
+
+/// Whether an item is a volume label.
+fn is_vol1(item: Item<'_>) -> bool
+    ensures { result ≡ is_vol1 (tape_item item.entry) }
+{
+    match item {
+        Item::Block(bytes) => begins_volume(bytes),
+        Item::Bad | Item::Mark => false,
+    }
+}
+
+/// Whether a block is a volume label.
+fn begins_volume(bytes: &[u8]) -> bool
+    ensures { result ≡ is_kind_vol1 (kind_at bytes.now) }
+{
+    match kind(bytes) {
+        Some(Kind::Vol1) => true,
+        _ => false,
+    }
+}
+
+/// The header label that an item is, where a section may begin.
+pub(crate) fn head_in(phase: &Phase, item: Item<'_>) -> Option<Head1>
+    ensures { result ≡ head_in phase.now (tape_item item.entry) }
+{
+    match item {
+        Item::Block(bytes) => head_at(phase, bytes),
+        Item::Bad | Item::Mark => None,
+    }
+}
+
+/// The header label that a block is, where a section may begin.
+fn head_at(phase: &Phase, bytes: &[u8]) -> Option<Head1>
+    ensures { result ≡ head_at phase.now bytes.now }
+{
+    match phase {
+        Phase::Labels(_) | Phase::Next(_) => head_of(bytes),
+        _ => None,
+    }
+}
+
+/// The header label that a block is, if it is one.
+fn head_of(bytes: &[u8]) -> Option<Head1>
+    ensures { result ≡ head_of bytes.now }
+{
+    match read_head1(bytes) {
+        Ok(head) => Some(head),
+        Err(_) => None,
+    }
+}
+
+/// The file of which this item is an `HDR2` that is none that is read.
+fn unread_in(phase: &Phase, item: Item<'_>) -> Option<u16>
+    ensures { result ≡ unread_in phase.now (tape_item item.entry) }
+{
+    match item {
+        Item::Block(bytes) => unread_at(phase, bytes),
+        Item::Bad | Item::Mark => None,
+    }
+}
+
+/// The file of which this block is an `HDR2` that is none that is read.
+fn unread_at(phase: &Phase, bytes: &[u8]) -> Option<u16>
+    ensures { result ≡ unread_at phase.now bytes.now }
+{
+    match phase {
+        Phase::Second(met) => unread_by(met.key.file, bytes),
+        _ => None,
+    }
+}
+
+/// The same, where a second label of this file is wanted.
+fn unread_by(file: u16, bytes: &[u8]) -> Option<u16>
+    ensures { result ≡ unread_by file (kind_at bytes.now) bytes.now }
+{
+    match kind(bytes) {
+        Some(Kind::Hdr2) => unread_head(file, bytes),
+        _ => None,
+    }
+}
+
+/// The file, if this `HDR2` of it is none that is read.
+fn unread_head(file: u16, bytes: &[u8]) -> Option<u16>
+    ensures { result ≡ unread_with file (head2_at bytes.now) }
+{
+    match read_head2(bytes) {
+        Ok(_) => None,
+        Err(_) => Some(file),
+    }
+}
+
+/// Whether an item is a block that could not be read.
+fn is_bad(item: Item<'_>) -> bool
+    ensures { result ≡ is_bad (tape_item item.entry) }
+{
+    match item {
+        Item::Bad => true,
+        Item::Block(_) | Item::Mark => false,
+    }
+}
+
+/// One, where it is so.
+fn one_if(so: bool) -> u32
+    ensures exact { result ≡ one_if so }
+    ensures most { result ≤ 1 }
+{
+    if so { 1 } else { 0 }
+}
+
+/// How many sections a header label begins, if there is one.
+fn one_head(head: &Option<Head1>) -> u32
+    ensures exact { result ≡ one_head head.now }
+    ensures most { result ≤ 1 }
+{
+    match head {
+        Some(_) => 1,
+        None => 0,
+    }
+}
+
+/// The first of two that is there.
+fn or_else<T: Copy>(first: Option<T>, second: Option<T>) -> Option<T>
+    ensures { result ≡ or_else first second }
+{
+    match first {
+        Some(value) => Some(value),
+        None => second,
+    }
+}
+
+/// The system that wrote a header label, if there is one.
+fn system_of(head: &Option<Head1>) -> Option<Field<13>>
+    ensures { result ≡ system_of head.now }
+{
+    match head {
+        Some(head) => Some(head.implementation),
+        None => None,
+    }
+}
+
+/// The system of the first section, behind a header label, if there is one.
+fn system_with(system: &Option<Field<13>>, head: &Option<Head1>) -> Option<Field<13>>
+    ensures { result ≡ or_else system.now (system_of head.now) }
+{
+    match system {
+        Some(system) => Some(*system),
+        None => system_of(head),
+    }
+}
+
+/// The glance behind one more item, with this phase before it and behind it.
+pub(crate) fn look(glance: &Glance, phase: &Phase, item: Item<'_>, next: &Phase) -> Glance
+    requires items { glance.now.items < 4294967295 }
+    requires files { glance.now.files ≤ glance.now.items }
+    requires bad { glance.now.bad ≤ glance.now.items }
+    ensures exact { result ≡ look_to glance.now phase.now (tape_item item.entry) next.now }
+    ensures files { result.files ≤ result.items }
+    ensures bad { result.bad ≤ result.items }
+{
+    let number = glance.items + 1;
+    let head = head_in(phase, item);
+    Glance {
+        items: number,
+        first: first_with(&glance.first, number, item),
+        late: late_with(glance.late, number, item),
+        system: system_with(&glance.system, &head),
+        files: glance.files + one_head(&head),
+        bad: glance.bad + one_if(is_bad(item)),
+        unread: or_else(glance.unread, unread_in(phase, item)),
+        course: course_with(glance.course, number, *phase, item, *next),
+    }
+}
+
+/// The number of the first volume label behind the first item, behind the item with this number.
+fn late_with(late: Option<u32>, number: u32, item: Item<'_>) -> Option<u32>
+    ensures { result ≡ late_with late number (tape_item item.entry) }
+{
+    if number != 1 && is_vol1(item) {
+        return or_else(late, Some(number));
+    }
+    late
+}

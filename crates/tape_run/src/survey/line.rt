@@ -1,0 +1,307 @@
+//! What a survey says of an image.
+ghost use Rattle.std.specs.Prelude.{◌≡◌, ◌≤◌, ◌+◌, ◌++◌, length};
+ghost use Rattle.arrayvec.specs.ArrayVec.{array_vec_len};
+ghost use Rattle.tape_run.specs.SurveyLine.{first_text, late_text, system_text, files_text};
+ghost use Rattle.tape_run.specs.SurveyLine.{bad_text, unread_text, wanted_text, left_text};
+ghost use Rattle.tape_run.specs.SurveyLine.{course_text, stop_text, guess_text, glance_text};
+ghost use Rattle.tape_run.specs.SurveyLine.{seen_text};
+ghost use Rattle.tape_run.specs.SurveyLine.{sight_text, written_text, early_text, is_told};
+ghost use Rattle.tape_run.specs.SurveyLine.{is_no_image, fault_text, many_bad_text, writer_text};
+ghost use Rattle.tape_run.specs.SurveyLine.{late_number_text, unread_file_text};
+
+use super::course::{Course, Wanted};
+use super::glance::{First, Glance};
+use super::text::{Text, put, put_number, put_trimmed, trimmed_len};
+use super::view::Sight;
+use crate::section::ImageStop;
+use tape_image::ImageFault;
+use tape_label::Field;
+
+/// What an image is, or that it was not opened, behind its name.
+pub(crate) fn sight_text(sight: &Option<Sight>) -> Text
+    ensures { result.items ≡ sight_text sight.now }
+{
+    let mut text = Text::new();
+    match sight {
+        Some(sight) => put_sight(&mut text, sight),
+        None => put(&mut text, b": not opened"),
+    }
+    put(&mut text, b"\n");
+    text
+}
+
+/// What an image is.
+fn put_sight(text: &mut Text, sight: &Sight)
+    requires room { array_vec_len text.old ≤ 0 }
+    ensures items { text.new.items ≡ text.old.items ++ seen_text sight.now }
+    ensures len { array_vec_len text.new ≤ 900 }
+{
+    put(text, b": ");
+    put_glance(text, &sight.glance);
+    put_course(text, &sight.glance.course, &sight.stop);
+    put_stop(text, &sight.stop);
+}
+
+/// What an image holds.
+fn put_glance(text: &mut Text, glance: &Glance)
+    requires room { array_vec_len text.old ≤ 2 }
+    ensures items { text.new.items ≡ text.old.items ++ glance_text glance.now }
+    ensures len { array_vec_len text.new ≤ 500 }
+{
+    put_first(text, &glance.first);
+    put_system(text, &glance.system);
+    put_files(text, glance.files);
+    put_bad(text, glance.bad);
+    put_late(text, glance.late);
+    put_unread(text, glance.unread);
+}
+
+/// What it begins with.
+fn put_first(text: &mut Text, first: &First)
+    requires room { array_vec_len text.old ≤ 2 }
+    ensures items { text.new.items ≡ text.old.items ++ first_text first.now }
+    ensures len { array_vec_len text.new ≤ 90 }
+{
+    match first {
+        First::Nothing => put(text, b"no items"),
+        First::Volume(label) => {
+            put(text, b"volume ");
+            put_trimmed(text, &label.volume);
+        }
+        First::Ebcdic => put(text, b"labels in EBCDIC, which are not read"),
+        First::Block(length) => {
+            put(text, b"no labels; its first block has ");
+            put_number(text, *length);
+            put(text, b" bytes");
+        }
+        First::Bad => put(text, b"does not begin with a label"),
+        First::Mark => put(text, b"begins with a tape mark"),
+    }
+}
+
+/// What wrote it.
+fn put_system(text: &mut Text, system: &Option<Field<13>>)
+    requires room { array_vec_len text.old ≤ 90 }
+    ensures items { text.new.items ≡ text.old.items ++ system_text system.now }
+    ensures len { array_vec_len text.new ≤ 120 }
+{
+    match system {
+        Some(system) => put_written(text, system),
+        None => {}
+    }
+}
+
+/// What wrote it, unless that is spaces.
+fn put_written(text: &mut Text, system: &Field<13>)
+    requires room { array_vec_len text.old ≤ 90 }
+    ensures items { text.new.items ≡ text.old.items ++ written_text system.now }
+    ensures len { array_vec_len text.new ≤ 120 }
+{
+    if trimmed_len(system.bytes()) > 0 {
+        put_writer(text, system);
+    }
+}
+
+/// The system that wrote it.
+fn put_writer(text: &mut Text, system: &Field<13>)
+    requires room { array_vec_len text.old ≤ 90 }
+    ensures items { text.new.items ≡ text.old.items ++ writer_text system.now }
+    ensures len { array_vec_len text.new ≤ 120 }
+{
+    put(text, b", written by ");
+    put_trimmed(text, system);
+}
+
+/// How many sections it has.
+fn put_files(text: &mut Text, files: u32)
+    requires room { array_vec_len text.old ≤ 120 }
+    ensures items { text.new.items ≡ text.old.items ++ files_text files }
+    ensures len { array_vec_len text.new ≤ 170 }
+{
+    match files {
+        0 => {}
+        1 => put(text, b", 1 file"),
+        _ => {
+            put(text, b", ");
+            put_number(text, u64::from(files));
+            put(text, b" files");
+        }
+    }
+}
+
+/// How many blocks could not be read.
+fn put_bad(text: &mut Text, bad: u32)
+    requires room { array_vec_len text.old ≤ 170 }
+    ensures items { text.new.items ≡ text.old.items ++ bad_text bad }
+    ensures len { array_vec_len text.new ≤ 250 }
+{
+    match bad {
+        0 => {}
+        1 => put(text, b", 1 block that cannot be read"),
+        _ => put_many_bad(text, bad),
+    }
+}
+
+/// More than one that could not be read.
+fn put_many_bad(text: &mut Text, bad: u32)
+    requires room { array_vec_len text.old ≤ 170 }
+    ensures items { text.new.items ≡ text.old.items ++ many_bad_text bad }
+    ensures len { array_vec_len text.new ≤ 250 }
+{
+    put(text, b", ");
+    put_number(text, u64::from(bad));
+    put(text, b" blocks that cannot be read");
+}
+
+/// Where a volume label stands behind something else.
+fn put_late(text: &mut Text, late: Option<u32>)
+    requires room { array_vec_len text.old ≤ 250 }
+    ensures items { text.new.items ≡ text.old.items ++ late_text late }
+    ensures len { array_vec_len text.new ≤ 330 }
+{
+    match late {
+        Some(number) => put_late_number(text, number),
+        None => {}
+    }
+}
+
+/// The item that is a volume label.
+fn put_late_number(text: &mut Text, number: u32)
+    requires room { array_vec_len text.old ≤ 250 }
+    ensures items { text.new.items ≡ text.old.items ++ late_number_text number }
+    ensures len { array_vec_len text.new ≤ 330 }
+{
+    put(text, b"; a VOL1 at item ");
+    put_number(text, u64::from(number));
+}
+
+/// A file whose records cannot be read.
+fn put_unread(text: &mut Text, unread: Option<u16>)
+    requires room { array_vec_len text.old ≤ 330 }
+    ensures items { text.new.items ≡ text.old.items ++ unread_text unread }
+    ensures len { array_vec_len text.new ≤ 430 }
+{
+    match unread {
+        Some(file) => put_unread_file(text, file),
+        None => {}
+    }
+}
+
+/// The file.
+fn put_unread_file(text: &mut Text, file: u16)
+    requires room { array_vec_len text.old ≤ 330 }
+    ensures items { text.new.items ≡ text.old.items ++ unread_file_text file }
+    ensures len { array_vec_len text.new ≤ 430 }
+{
+    put(text, b"; file ");
+    put_number(text, u64::from(file));
+    put(text, b" has a record format that is not read");
+}
+
+/// How far it follows the order of a volume.
+fn put_course(text: &mut Text, course: &Course, stop: &ImageStop)
+    requires room { array_vec_len text.old ≤ 500 }
+    ensures items { text.new.items ≡ text.old.items ++ course_text course.now stop.now }
+    ensures len { array_vec_len text.new ≤ 700 }
+{
+    match course {
+        Course::Ended => {}
+        Course::Leaves(number, wanted) => put_left(text, *number, *wanted),
+        Course::Follows | Course::Blank => put_early(text, stop),
+    }
+}
+
+/// That the items end before the volume does; a fault says so itself.
+fn put_early(text: &mut Text, stop: &ImageStop)
+    requires room { array_vec_len text.old ≤ 500 }
+    ensures items { text.new.items ≡ text.old.items ++ early_text stop.now }
+    ensures len { array_vec_len text.new ≤ 700 }
+{
+    match stop {
+        ImageStop::Fault(_) => {}
+        ImageStop::Marked | ImageStop::Physical => put(text, b"; ends before its volume does"),
+    }
+}
+
+/// Where it leaves the order.
+fn put_left(text: &mut Text, number: u32, wanted: Wanted)
+    requires room { array_vec_len text.old ≤ 500 }
+    ensures items { text.new.items ≡ text.old.items ++ left_text number wanted }
+    ensures len { array_vec_len text.new ≤ 700 }
+{
+    if is_told(wanted) {
+        put(text, b"; item ");
+        put_number(text, u64::from(number));
+        put(text, wanted_text(wanted));
+    }
+}
+
+/// Whether it is to be said what was wanted; that no volume label was met is said before.
+fn is_told(wanted: Wanted) -> bool
+    ensures { result ≡ is_told wanted }
+{
+    match wanted {
+        Wanted::Volume => false,
+        _ => true,
+    }
+}
+
+/// What the item is not that leaves the order.
+fn wanted_text(wanted: Wanted) -> &'static [u8]
+    ensures text { result.now ≡ wanted_text wanted }
+    ensures short { length result.now ≤ 100 }
+{
+    match wanted {
+        Wanted::Volume => b"",
+        Wanted::Section => b" is no HDR1: not read further",
+        Wanted::Second => b" is no HDR2: not read further",
+        Wanted::Mark => b" is no label and no tape mark: not read further",
+        Wanted::Trailer => b" is no EOF1 or EOV1 of its section: not read further",
+        Wanted::Next => b" is no HDR1 and no tape mark: not read further",
+        Wanted::SecondMark => b" is no second tape mark: not read further",
+        Wanted::End => b" stands behind the end of the volume: not read further",
+    }
+}
+
+/// By which fault it stops.
+fn put_stop(text: &mut Text, stop: &ImageStop)
+    requires room { array_vec_len text.old ≤ 700 }
+    ensures items { text.new.items ≡ text.old.items ++ stop_text stop.now }
+    ensures len { array_vec_len text.new ≤ 900 }
+{
+    match stop {
+        ImageStop::Fault(fault) => put_fault(text, fault),
+        ImageStop::Marked | ImageStop::Physical => {}
+    }
+}
+
+/// A fault, with its place.
+fn put_fault(text: &mut Text, fault: &ImageFault)
+    requires room { array_vec_len text.old ≤ 700 }
+    ensures items { text.new.items ≡ text.old.items ++ fault_text fault.now }
+    ensures len { array_vec_len text.new ≤ 900 }
+{
+    put(text, b"; image fault ");
+    put_number(text, u64::from(fault.cause.number()));
+    put(text, b" at ");
+    put_number(text, fault.place);
+    put_guess(text, fault);
+}
+
+/// Whether nothing of it reads as an image.
+fn is_no_image(fault: &ImageFault) -> bool
+    ensures { result ≡ is_no_image fault.now }
+{
+    fault.place == 0 && fault.cause.number() <= 3
+}
+
+/// What an image is likely to be that stops before its first item.
+fn put_guess(text: &mut Text, fault: &ImageFault)
+    requires room { array_vec_len text.old ≤ 840 }
+    ensures items { text.new.items ≡ text.old.items ++ guess_text fault.now }
+    ensures len { array_vec_len text.new ≤ 900 }
+{
+    if is_no_image(fault) {
+        put(text, b": no SIMH image, or a compressed one (zcat)");
+    }
+}

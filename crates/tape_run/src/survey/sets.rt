@@ -1,0 +1,294 @@
+//! What a survey says of sets and their files.
+ghost use Rattle.std.specs.Prelude.{◌≡◌, ◌≤◌, ◌<◌, ◌+◌, ◌++◌, [], length, take, IfOk, OnOk};
+ghost use Rattle.std.specs.Prelude.{option_map};
+ghost use Rattle.arrayvec.specs.ArrayVec.{array_vec_len};
+ghost use Rattle.tape_run.specs.Lacks.{entry_at, found_all};
+ghost use Rattle.tape_run.specs.SurveySets.{wanted_at, standing_of, known_text, standing_text};
+ghost use Rattle.tape_run.specs.SurveySets.{wanted_text, damaged_text, differs_text, file_line};
+ghost use Rattle.tape_run.specs.SurveySets.{set_line, file_lines, set_text, set_texts, sets_text};
+ghost use Rattle.tape_run.specs.SurveySets.{is_all, behind_by, is_mixed, missing_text};
+
+use super::files::{FileKey, FileNote, any_differs};
+use super::text::{Text, put, put_field, put_number, put_trimmed};
+use super::view::Findings;
+use crate::check::is_found;
+use crate::check_line::state_text;
+use crate::lacks::lack_of;
+use crate::report::{Sets, report_of, sets_of};
+use crate::section::{Entry, SectionKey};
+use crate::sections::Sections;
+use std::alloc::{AllocError, Global};
+use tape_label::Field;
+
+/// What is to be said of a file.
+#[derive(Clone, Copy, Debug, PartialEq, Eq)]
+pub(crate) enum Standing {
+    /// All its sections are there whole.
+    Complete,
+    /// This section is there, and no copy of it is whole.
+    Damaged(u16, Entry),
+    /// This section is not there; the one before it is on this volume.
+    Behind(u16, Field<6>),
+    /// This section is not there, and the one before it is not known.
+    Missing(u16),
+}
+
+/// What is wanted of a file that lacks this section.
+fn wanted_at(sections: &Sections, set_id: Field<6>, file: u16, sect: u16) -> Standing
+    ensures { result ≡ wanted_at sections.now.entries set_id file sect }
+{
+    let key = SectionKey { set_id, file, sect };
+    let before = SectionKey {
+        set_id,
+        file,
+        sect: sect.saturating_sub(1),
+    };
+    match sections.get(&key) {
+        Some(entry) => Standing::Damaged(sect, *entry),
+        None => behind_at(sections, &before, sect),
+    }
+}
+
+/// Where to look for a section that is not there, behind the one before it.
+fn behind_at(sections: &Sections, before: &SectionKey, sect: u16) -> Standing
+    ensures { result ≡ behind_by sect (entry_at sections.now.entries before.now) }
+{
+    match sections.get(before) {
+        Some(entry) => Standing::Behind(sect, entry.volume),
+        None => Standing::Missing(sect),
+    }
+}
+
+/// What is to be said of a file.
+fn standing_of(sections: &Sections, set_id: Field<6>, file: u16) -> Standing
+    ensures { result ≡ standing_of sections.now.entries set_id file }
+{
+    match lack_of(sections, set_id, file) {
+        None => Standing::Complete,
+        Some(sect) => wanted_at(sections, set_id, file, sect),
+    }
+}
+
+/// What is known of a file by its labels.
+fn put_known(text: &mut Text, note: Option<&FileNote>)
+    requires room { array_vec_len text.old ≤ 60 }
+    ensures items { text.new.items ≡ text.old.items ++ known_text (option_map (λ n. n.now) note.entry) }
+    ensures len { array_vec_len text.new ≤ 100 }
+{
+    match note {
+        Some(note) => {
+            put_field(text, &note.head.file_id);
+            put(text, b"  ");
+            put_field(text, &note.head.created);
+        }
+        None => put(text, b"(no label was met)"),
+    }
+}
+
+/// What is to be said of a file.
+fn put_standing(text: &mut Text, standing: &Standing)
+    requires room { array_vec_len text.old ≤ 110 }
+    ensures items { text.new.items ≡ text.old.items ++ standing_text standing.now }
+    ensures len { array_vec_len text.new ≤ 300 }
+{
+    match standing {
+        Standing::Complete => put(text, b"complete"),
+        Standing::Damaged(sect, entry) => put_damaged(text, *sect, entry),
+        Standing::Behind(sect, volume) => {
+            put_wanted(text, *sect);
+            put(text, b", on the volume behind ");
+            put_trimmed(text, volume);
+        }
+        Standing::Missing(sect) => put_missing(text, *sect),
+    }
+}
+
+/// A section of which nothing is known.
+fn put_missing(text: &mut Text, sect: u16)
+    requires room { array_vec_len text.old ≤ 110 }
+    ensures items { text.new.items ≡ text.old.items ++ missing_text sect }
+    ensures len { array_vec_len text.new ≤ 300 }
+{
+    put_wanted(text, sect);
+    put(text, b", of which nothing was met");
+}
+
+/// A section that is wanted.
+fn put_wanted(text: &mut Text, sect: u16)
+    requires room { array_vec_len text.old ≤ 110 }
+    ensures items { text.new.items ≡ text.old.items ++ wanted_text sect }
+    ensures len { array_vec_len text.new ≤ 180 }
+{
+    put(text, b"wants section ");
+    put_number(text, u64::from(sect));
+}
+
+/// A section of which no copy is whole.
+fn put_damaged(text: &mut Text, sect: u16, entry: &Entry)
+    requires room { array_vec_len text.old ≤ 110 }
+    ensures items { text.new.items ≡ text.old.items ++ damaged_text sect entry.now }
+    ensures len { array_vec_len text.new ≤ 300 }
+{
+    put(text, b"section ");
+    put_number(text, u64::from(sect));
+    put(text, b" is ");
+    put(text, state_text(entry.state));
+    put(text, b" on ");
+    put_trimmed(text, &entry.volume);
+    put(text, b"; damaged copies together may have it: try extract");
+}
+
+/// That header labels of different files were met.
+fn put_differs(text: &mut Text, note: Option<&FileNote>)
+    requires room { array_vec_len text.old ≤ 300 }
+    ensures items { text.new.items ≡ text.old.items ++ differs_text (option_map (λ n. n.now) note.entry) }
+    ensures len { array_vec_len text.new ≤ 400 }
+{
+    if is_mixed(note) {
+        put(
+            text,
+            b"; labels of different files were met under its number",
+        );
+    }
+}
+
+/// Whether header labels of different files were met.
+fn is_mixed(note: Option<&FileNote>) -> bool
+    ensures { result ≡ is_mixed (option_map (λ n. n.now) note.entry) }
+{
+    match note {
+        Some(note) => note.differs,
+        None => false,
+    }
+}
+
+/// The line of a file.
+fn file_line(findings: &Findings, set_id: Field<6>, file: u16) -> Text
+    ensures { result.items ≡ file_line findings.now set_id file }
+{
+    let mut text = Text::new();
+    let key = FileKey { set_id, file };
+    let note = findings.files.get(&key);
+    put(&mut text, b"  ");
+    put_number(&mut text, u64::from(file));
+    put(&mut text, b" ");
+    put_known(&mut text, note);
+    put(&mut text, b"  ");
+    put_standing(&mut text, &standing_of(&findings.sections, set_id, file));
+    put_differs(&mut text, note);
+    put(&mut text, b"\n");
+    text
+}
+
+/// The line of a set.
+fn set_line(set_id: Field<6>) -> Text
+    ensures { result.items ≡ set_line set_id }
+{
+    let mut text = Text::new();
+    put(&mut text, b"Set ");
+    put_trimmed(&mut text, &set_id);
+    put(&mut text, b"\n");
+    text
+}
+
+/// Adds the line of a file to those before it.
+fn add_file(
+    lines: &mut Vec<u8>,
+    findings: &Findings,
+    set_id: Field<6>,
+    file: u16,
+) -> Result<(), AllocError>
+    ensures { OnOk result (lines.new.items
+        ≡ lines.old.items ++ file_line findings.now set_id file) }
+{
+    let line = file_line(findings, set_id, file);
+    lines.extend_from_slice(&line)
+}
+
+/// Adds the lines of the files of a set, up to the greatest number of a file.
+fn add_files(
+    lines: &mut Vec<u8>,
+    findings: &Findings,
+    set_id: Field<6>,
+    greatest: u16,
+) -> Result<(), AllocError>
+    ensures { OnOk result (lines.new.items
+        ≡ lines.old.items ++ file_lines findings.now set_id 1 greatest) }
+{
+    for before in 0..greatest {
+        add_file(lines, findings, set_id, before + 1)?;
+    }
+    Ok(())
+}
+
+/// Adds the line of a set, and those of its files.
+fn add_set(
+    lines: &mut Vec<u8>,
+    findings: &Findings,
+    set_id: Field<6>,
+    greatest: u16,
+) -> Result<(), AllocError>
+    ensures { OnOk result (lines.new.items
+        ≡ lines.old.items ++ set_text findings.now (set_id, greatest)) }
+{
+    let line = set_line(set_id);
+    lines.extend_from_slice(&line)?;
+    add_files(lines, findings, set_id, greatest)?;
+    Ok(())
+}
+
+/// Adds what is said of the set at a place to what is said of those before it.
+fn add_place(
+    lines: &mut Vec<u8>,
+    findings: &Findings,
+    sets: &Sets,
+    place: usize,
+) -> Result<(), AllocError>
+    requires { place < length sets.now.entries }
+    ensures { OnOk result (lines.old.items ≡ set_texts findings.now (take place sets.now.entries)
+        → lines.new.items ≡ set_texts findings.now (take (place + 1) sets.now.entries)) }
+{
+    let Some((set_id, greatest)) = sets.get_index(place) else {
+        unreachable!()
+    };
+    add_set(lines, findings, *set_id, *greatest)?;
+    Ok(())
+}
+
+/// What is said of sets, in the order in which they were met first.
+fn texts_of(alloc: Global, findings: &Findings, sets: &Sets) -> Result<Vec<u8>, AllocError>
+    ensures { IfOk result (λ lines. lines.items ≡ set_texts findings.now sets.now.entries) }
+{
+    let mut lines = Vec::new(alloc);
+    for place in 0..sets.len() {
+        add_place(&mut lines, findings, sets, place)?;
+    }
+    Ok(lines)
+}
+
+/// Whether something was met, and nothing lacks.
+fn is_complete(alloc: Global, sections: &Sections) -> Result<bool, AllocError>
+    ensures { IfOk result (λ found. found ≡ found_all sections.now.entries) }
+{
+    let report = report_of(alloc, sections)?;
+    let (listed, lacking) = (report.lines.as_slice(), report.lacks.as_slice());
+    let found = is_found(listed, lacking);
+    Ok(found)
+}
+
+/// Whether nothing lacks, and nothing on the images is left over.
+pub(crate) fn is_all(alloc: Global, findings: &Findings) -> Result<bool, AllocError>
+    ensures { IfOk result (λ all. all ≡ is_all findings.now) }
+{
+    let found = is_complete(alloc, &findings.sections)?;
+    Ok(findings.whole && found && !any_differs(&findings.files))
+}
+
+/// What is said of all sets that were met.
+pub(crate) fn sets_text(alloc: Global, findings: &Findings) -> Result<Vec<u8>, AllocError>
+    ensures { IfOk result (λ lines. lines.items ≡ sets_text findings.now) }
+{
+    let sets = sets_of(alloc, &findings.sections)?;
+    let lines = texts_of(alloc, findings, &sets)?;
+    Ok(lines)
+}

@@ -1,0 +1,199 @@
+//! Reading one image of a survey.
+ghost use Rattle.std.specs.Result.{IsOkUnless};
+ghost use Rattle.std.specs.Prelude.{◌≡◌, ◌<◌, IfOk, OnOk, option_map};
+ghost use Rattle.tape_image.specs.Reader.{going, tape_item};
+ghost use Rattle.tape_run.specs.Noted.{noted_all};
+ghost use Rattle.tape_run.specs.Passing.{step, in_list, under_way, blocks_of};
+ghost use Rattle.tape_run.specs.declared.fault.RunFault.TheVariants as faults;
+ghost use Rattle.tape_run.specs.SurveyRead.{Views, ViewsItems, IsViewed, is_whole_sight};
+ghost use Rattle.tape_run.specs.SurveyRead.{nothing_found, is_ended, is_none, is_end};
+
+use super::course::Course;
+use super::files::{Files, note_met};
+use super::glance::{Glance, blank_glance, head_in, look};
+use crate::catalogue::stop_at;
+use crate::fault::RunFault;
+use crate::passing::Phase;
+use crate::section::ImageStop;
+use crate::sections::{Sections, close, take};
+use std::alloc::Global;
+use std::io::Read;
+use std::marker::Model;
+use tape_image::{ImageReader, Item};
+
+/// What an image is: what its items are at a glance, and how they stop.
+#[derive(Clone, Copy, Debug, PartialEq, Eq)]
+pub struct Sight {
+    pub glance: Glance,
+    pub stop: ImageStop,
+}
+
+/// What was met on the images of a survey.
+#[derive(Drop)]
+pub(crate) struct Findings {
+    pub(crate) alloc: Global,
+    pub(crate) sections: Sections,
+    pub(crate) files: Files,
+    /// Whether nothing on the images is left over.
+    pub(crate) whole: bool,
+}
+
+// In contracts findings are what is known of sections and files, and whether all images are whole.
+impl Model for Findings {
+    ghost use Rattle.tape_run.specs.SurveyRead.{Found};
+
+    ghost Value = { Found };
+
+    ghost view = { λ f. record {
+      sections = f.sections.entries;
+      files = f.files.entries;
+      whole = f.whole;
+    } };
+}
+
+/// Whether the volume ended.
+fn is_ended(course: Course) -> bool
+    ensures { result ≡ is_ended course }
+{
+    match course {
+        Course::Ended => true,
+        _ => false,
+    }
+}
+
+/// Whether nothing is there.
+fn is_none(file: Option<u16>) -> bool
+    ensures { result ≡ is_none file }
+{
+    match file {
+        Some(_) => false,
+        None => true,
+    }
+}
+
+/// Whether the image does not stop by a fault.
+fn is_end(stop: ImageStop) -> bool
+    ensures { result ≡ is_end stop }
+{
+    match stop {
+        ImageStop::Marked | ImageStop::Physical => true,
+        ImageStop::Fault(_) => false,
+    }
+}
+
+impl Sight {
+    /// Whether the items are a volume in its order, all of them, whose files can be read.
+    pub(crate) fn is_whole(&self) -> bool
+        ensures { result ≡ is_whole_sight self.now }
+    {
+        is_ended(self.glance.course) && is_none(self.glance.unread) && is_end(self.stop)
+    }
+}
+
+impl Findings {
+    /// Nothing was met. It takes no memory.
+    pub(crate) fn new(alloc: Global) -> Findings
+        ensures { result ≡ nothing_found }
+    {
+        Findings {
+            alloc,
+            sections: Sections::new(alloc),
+            files: Files::new(alloc),
+            whole: true,
+        }
+    }
+
+    /// Reads an image to its end or to a fault, if it was opened, and notes what it tells.
+    pub(crate) fn read<R: Read + Drop>(
+        &mut self,
+        image: Option<R>,
+    ) -> Result<Option<Sight>, RunFault>
+        ensures fault { IsOkUnless result faults.OutOfMemory }
+        ensures ok { IfOk result (λ sight.
+            IsViewed (option_map R.remaining image) sight self.old self.new) }
+    {
+        let Some(mut reader) = image else {
+            self.whole = false;
+            return Ok(None);
+        };
+        let sight = self.read_items(&mut reader)?;
+        let whole = sight.is_whole();
+        self.whole = self.whole && whole;
+        Ok(Some(sight))
+    }
+
+    /// The same of one that was opened, whatever is left over on it.
+    fn read_items<R: Read>(&mut self, reader: &mut R) -> Result<Sight, RunFault>
+        ensures fault { IsOkUnless result faults.OutOfMemory }
+        ensures ok { IfOk result (λ sight. Views (R.remaining reader.old) (R.remaining reader.new)
+            self.old sight self.new) }
+    {
+        let Ok(mut image) = ImageReader::new(self.alloc, reader) else {
+            return Err(RunFault::OutOfMemory);
+        };
+        let viewed = view_items(&mut self.sections, &mut self.files, &mut image);
+        // What the reader has left is its caller's again.
+        image.into_device();
+        viewed
+    }
+}
+
+/// Looks at the items of an image of which nothing was read yet, and notes what they tell.
+fn view_items<R: Read>(
+    sections: &mut Sections,
+    files: &mut Files,
+    image: &mut ImageReader<'_, R>,
+) -> Result<Sight, RunFault>
+    requires going { image.old.status ≡ going }
+    requires first { image.old.place ≡ 0 }
+    ensures same_device { image.new.device ≡ image.old.device }
+    ensures fault { IsOkUnless result faults.OutOfMemory }
+    ensures ok { IfOk result (λ sight. ViewsItems image.old.left image.new.left
+        sections.old.entries files.old.entries sight sections.new.entries files.new.entries) }
+{
+    let mut phase = Phase::Volume;
+    let mut glance = blank_glance();
+    'items: loop {
+        match image.next() {
+            Ok(Some(item)) => {
+                note_met(files, head_in(&phase, item))?;
+                let behind = take_behind(sections, &phase, item)?;
+                glance = look(&glance, &phase, item, &behind);
+                phase = behind;
+            }
+            Ok(None) => {
+                let Some(ending) = image.ending() else {
+                    unreachable!()
+                };
+                close_behind(sections, &phase)?;
+                let stop = stop_at(ending);
+                return Ok(Sight { glance, stop });
+            }
+            Err(fault) => {
+                close_behind(sections, &phase)?;
+                let stop = ImageStop::Fault(fault);
+                return Ok(Sight { glance, stop });
+            }
+        }
+    }
+}
+
+/// Notes what an item tells, and says what is expected behind it.
+fn take_behind(sections: &mut Sections, phase: &Phase, item: Item<'_>) -> Result<Phase, RunFault>
+    requires { blocks_of phase.now < 4294967295 }
+    ensures fault { IsOkUnless result faults.OutOfMemory }
+    ensures phase { IfOk result (λ next. next ≡ (step phase.now (tape_item item.entry)).0) }
+    ensures ok { OnOk result (sections.new.entries
+        ≡ noted_all sections.old.entries (in_list (step phase.now (tape_item item.entry)).1)) }
+{
+    take(sections, *phase, item)
+}
+
+/// Notes the section that is under way where the items end, if one is.
+fn close_behind(sections: &mut Sections, phase: &Phase) -> Result<(), RunFault>
+    ensures fault { IsOkUnless result faults.OutOfMemory }
+    ensures ok { OnOk result (sections.new.entries
+        ≡ noted_all sections.old.entries (in_list (under_way phase.now))) }
+{
+    close(sections, *phase)
+}

@@ -1,0 +1,244 @@
+//! Surveys of images: the lines that each gives.
+use crate::image::{HDR1, HDR2, Image, VOL1, blank, five_blocks, payroll};
+use crate::sections::{first_of_two, one_section, second_of_two};
+use crate::volumes::{EOF_FOUR, EOF_ONE, cut, with_items_behind};
+use std::alloc::{AllocError, Global};
+use std::process::Abort;
+use std::test::Fail;
+use tape_run::survey_to;
+
+/// The survey of images of these names.
+fn survey<H: Abort + AllocGlobal>(
+    rt: &H,
+    images: &[Option<&[u8]>],
+    names: &[&str],
+    all: bool,
+    lines: &str,
+) -> Result<(), Fail> {
+    let mut shelf = Vec::from_slice(rt.alloc(), images)?;
+    let mut report = Vec::new(rt.alloc());
+    let answer = survey_to(rt.alloc(), &mut shelf, names, &mut report)?;
+    assert_eq!(rt; report.as_slice(), lines.as_bytes(), "{lines}");
+    assert!(rt; answer == all, "{lines}");
+    Ok(())
+}
+
+/// The survey of one image, which is not all that is wanted.
+fn one<H: Abort + AllocGlobal>(rt: &H, image: &Image, lines: &str) -> Result<(), Fail> {
+    survey(
+        rt,
+        &[Some(image.bytes.as_slice())],
+        &["one.tap"],
+        false,
+        lines,
+    )
+}
+
+/// An image whose first block this is.
+fn begun(alloc: Global, block: &[u8]) -> Result<Image, AllocError> {
+    let mut image = Image::new(alloc);
+    image.block(block)?;
+    image.end()?;
+    Ok(image)
+}
+
+/// The labels of the worked volume without its `HDR2`, as some systems wrote them.
+fn without_second(alloc: Global) -> Result<Image, AllocError> {
+    let mut image = Image::new(alloc);
+    image.headers(&[VOL1, HDR1])?;
+    image.block(b"x")?;
+    image.trailers(&[EOF_ONE])?;
+    image.end()?;
+    Ok(image)
+}
+
+/// A block that could not be read before the volume label.
+fn behind_noise(alloc: Global) -> Result<Image, AllocError> {
+    let mut image = Image::new(alloc);
+    image.bad(b"x")?;
+    image.headers(&[VOL1, HDR1, HDR2])?;
+    image.end()?;
+    Ok(image)
+}
+
+/// A file, and where the next one begins a block that could not be read.
+fn second_unread(alloc: Global) -> Result<Image, AllocError> {
+    let mut image = Image::new(alloc);
+    image.headers(&[VOL1, HDR1, HDR2])?;
+    image.block(b"x")?;
+    image.trailers(&[EOF_ONE])?;
+    image.bad(b"y")?;
+    image.end()?;
+    Ok(image)
+}
+
+/// A file in a format that is not read.
+fn undefined(alloc: Global) -> Result<Image, AllocError> {
+    let mut image = Image::new(alloc);
+    image.headers(&[
+        VOL1,
+        HDR1,
+        "HDR2U0080000000                                   00",
+    ])?;
+    image.block(b"x")?;
+    image.trailers(&[EOF_ONE])?;
+    image.end()?;
+    Ok(image)
+}
+
+#[test]
+fn whole_reels(rt: HostRuntime) -> Result<(), Fail> {
+    let first = first_of_two(rt.alloc())?;
+    let second = second_of_two(rt.alloc())?;
+    let lines = "2.tap: volume ABC002, 1 file
+1?.tap: volume ABC001, 1 file
+Set ABC001
+  1 PAYROLL             00000  complete
+Nothing lacks, and nothing on the images is left over.
+";
+    survey(
+        &rt,
+        &[Some(second.bytes.as_slice()), Some(first.bytes.as_slice())],
+        &["2.tap", "1\t.tap"],
+        true,
+        lines,
+    )?;
+    one(
+        &rt,
+        &first,
+        "one.tap: volume ABC001, 1 file
+Set ABC001
+  1 PAYROLL             00000  wants section 2, on the volume behind ABC001
+",
+    )?;
+    one(
+        &rt,
+        &second,
+        "one.tap: volume ABC002, 1 file
+Set ABC001
+  1 PAYROLL             00000  wants section 1, of which nothing was met
+",
+    )
+}
+
+#[test]
+fn no_labelled_volumes(rt: HostRuntime) -> Result<(), Fail> {
+    let alloc = rt.alloc();
+    one(&rt, &blank(alloc)?, "one.tap: volume ABC001\n")?;
+    one(
+        &rt,
+        &begun(alloc, &[7u8; 300])?,
+        "one.tap: no labels; its first block has 300 bytes\n",
+    )?;
+    let mut ebcdic = [0x40u8; 80];
+    ebcdic[..4].copy_from_slice(b"\xE5\xD6\xD3\xF1");
+    one(
+        &rt,
+        &begun(alloc, &ebcdic)?,
+        "one.tap: labels in EBCDIC, which are not read\n",
+    )?;
+    one(
+        &rt,
+        &behind_noise(alloc)?,
+        "one.tap: does not begin with a label, 1 block that cannot be read; a VOL1 at item 2\n",
+    )?;
+    let lines = "empty.tap: no items; ends before its volume does
+lost.tap: not opened
+text.tap: no items; image fault 3 at 0: no SIMH image, or a compressed one (zcat)
+";
+    survey(
+        &rt,
+        &[Some(b"".as_slice()), None, Some(b"text".as_slice())],
+        &["empty.tap", "lost.tap", "text.tap"],
+        false,
+        lines,
+    )
+}
+
+#[test]
+fn left_over(rt: HostRuntime) -> Result<(), Fail> {
+    let alloc = rt.alloc();
+    one(
+        &rt,
+        &without_second(alloc)?,
+        "one.tap: volume ABC001, 1 file; item 3 is no HDR2: not read further\n",
+    )?;
+    let whole = "Set ABC001
+  1 PAYROLL             00000  complete
+";
+    let lines = "one.tap: volume ABC001, 1 file, 1 block that cannot be read; item 9 is no HDR1 \
+                 and no tape mark: not read further\n";
+    one(
+        &rt,
+        &second_unread(alloc)?,
+        joined(alloc, lines, whole)?.as_str(),
+    )?;
+    let lines = "one.tap: volume ABC001, 1 file; item 13 stands behind the end of the volume: \
+                 not read further\n";
+    one(
+        &rt,
+        &with_items_behind(alloc)?,
+        joined(alloc, lines, whole)?.as_str(),
+    )?;
+    let lines = "one.tap: volume ABC001, 1 file; ends before its volume does\n";
+    one(
+        &rt,
+        &cut(alloc, 2476)?,
+        joined(alloc, lines, whole)?.as_str(),
+    )?;
+    let lines = "one.tap: volume ABC001, 1 file; file 1 has a record format that is not read\n";
+    one(
+        &rt,
+        &undefined(alloc)?,
+        joined(alloc, lines, whole)?.as_str(),
+    )
+}
+
+/// One text behind the other.
+fn joined(alloc: Global, first: &str, second: &str) -> Result<String, AllocError> {
+    let mut text = String::new(alloc);
+    text.push_str(first)?;
+    text.push_str(second)?;
+    Ok(text)
+}
+
+#[test]
+fn damaged_and_mixed(rt: HostRuntime) -> Result<(), Fail> {
+    let alloc = rt.alloc();
+    one(
+        &rt,
+        &five_blocks(alloc, 3, EOF_FOUR)?,
+        "one.tap: volume ABC001, 1 file, 1 block that cannot be read
+Set ABC001
+  1 PAYROLL             00000  section 1 is COUNT on ABC001; damaged copies together may have \
+         it: try extract
+",
+    )?;
+    one(
+        &rt,
+        &cut(alloc, 2000)?,
+        "one.tap: volume ABC001, 1 file; image fault 1 at 1884
+Set ABC001
+  1 PAYROLL             00000  section 1 is CUT on ABC001; damaged copies together may have it: \
+         try extract
+",
+    )?;
+    let first = payroll(alloc)?;
+    let other = one_section(
+        alloc,
+        "HDR1LEDGER           ABC00100010001000100 00000 00000 000000",
+        EOF_ONE,
+    )?;
+    let lines = "one.tap: volume ABC001, 1 file
+two.tap: volume ABC001, 1 file
+Set ABC001
+  1 PAYROLL             00000  complete; labels of different files were met under its number
+";
+    survey(
+        &rt,
+        &[Some(first.bytes.as_slice()), Some(other.bytes.as_slice())],
+        &["one.tap", "two.tap"],
+        false,
+        lines,
+    )
+}
