@@ -132,6 +132,12 @@ CHECK_REPORTS = {
     "o": dict.fromkeys((0, 3), IMAGES + r"IMAGE \d+ 0 NOT OPENED\n" + IMAGES + SECTIONS),
     "r": dict.fromkeys((0, 3), IMAGES + r"IMAGE \d+ \d+ FAULT 5 \d+\n" + IMAGES + SECTIONS),
 }
+SIGHTS = r"(\w+\.tap: .*\n)*"
+SETS = r"(Set .*\n(  .*\n)*)*(Nothing lacks.*\n)?"
+SURVEY_REPORTS = {
+    "o": {3: SIGHTS + r"\w+\.tap: not opened\n" + SIGHTS + SETS},
+    "r": {3: SIGHTS + r"\w+\.tap: .*; image fault 5 at \d+.*\n" + SIGHTS + SETS},
+}
 
 
 def trials():
@@ -159,6 +165,7 @@ def trials():
             reports=CHECK_REPORTS),
         Trial("extract, names on standard input", ["extract", "ABC001", "1", "OUT", "--from", "-", "--null"], EXTRACT, reels,
             stdin=b"one.tap\0two.tap\0", result="OUT", reports=EXTRACT_REPORTS),
+        Trial("survey, two reels", ["survey", "one.tap", "two.tap"], CHECK, reels, reports=SURVEY_REPORTS),
     ]
 
 

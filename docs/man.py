@@ -23,6 +23,8 @@ COMMANDS = {
     "list": ("[IMAGE]", [("IMAGE", "IMAGE")]),
     "check": ("[--from LIST [--null]] [IMAGE]...", [
         ("IMAGE", "IMAGES"), ("--from LIST", "FROM"), ("--null", "NULL")]),
+    "survey": ("[--from LIST [--null]] [IMAGE]...", [
+        ("IMAGE", "SHELF"), ("--from LIST", "FROM"), ("--null", "NULL")]),
     "extract": ("[OPTIONS] SET FILE OUT [IMAGE]...", [
         ("SET", "SET"), ("FILE", "FILE"), ("OUT", "OUT"), ("IMAGE", "REELS"),
         ("--from LIST", "FROM"), ("--null", "NULL"),

@@ -3,7 +3,7 @@ _tape() {
     local cur=${COMP_WORDS[COMP_CWORD]} prev=${COMP_WORDS[COMP_CWORD-1]} command=${COMP_WORDS[1]}
     local word at place=1
     if [ "$COMP_CWORD" -eq 1 ]; then
-        COMPREPLY=($(compgen -W 'list check extract init write help --help --version' -- "$cur"))
+        COMPREPLY=($(compgen -W 'list check survey extract init write help --help --version' -- "$cur"))
         return
     fi
     # Bash takes '=' for a word of its own.
@@ -15,8 +15,8 @@ _tape() {
     --block | --record | --offset) return ;;
     esac
     case $command:$cur in
-    help:*) COMPREPLY=($(compgen -W 'list check extract init write' -- "$cur")); return ;;
-    check:-*) COMPREPLY=($(compgen -W '--from --null --explain --help' -- "$cur")); return ;;
+    help:*) COMPREPLY=($(compgen -W 'list check survey extract init write' -- "$cur")); return ;;
+    check:-*|survey:-*) COMPREPLY=($(compgen -W '--from --null --explain --help' -- "$cur")); return ;;
     extract:-*)
         COMPREPLY=($(compgen -W '--from --null --form --stage --again --explain --help' -- "$cur"))
         return ;;

@@ -6,4 +6,5 @@ mod out_file;
 mod program;
 mod stage_file;
 
+pub use images::Images;
 pub use program::extract;

@@ -115,10 +115,56 @@ no label tells.
 Exit status: 0 all sections found, 1 a fault, 2 a wrong command line, 3 something lacks or nothing
 was met.";
 
+/// What `survey` does.
+pub const ABOUT_SURVEY: &str = "Tells in words what images are, and what is wanted of each set";
+
+/// What the IMAGEs of `survey` are.
+pub const SHELF: &str = "SIMH .tap images, up to 256, in any order";
+
+/// Help behind the words of `survey`.
+pub const AFTER_SURVEY: &str = "Example:
+  tape survey *.tap
+
+A line for each image, as soon as it was read: its name, and what it is.
+  one.tap: volume ABC001, written by DECFILE11A, 2 files
+  two.tap: volume ABC002, 1 file, 1 block that cannot be read
+  cut.tap: volume ABC001, 1 file; image fault 1 at 1884
+  hdr.tap: volume ABC003, 1 file; item 11 is no HDR1 and no tape mark:
+           not read further
+  fmt.tap: volume VMS001, 1 file; file 1 has a record format that is not read
+  raw.tap: no labels; its first block has 10240 bytes
+  ibm.tap: labels in EBCDIC, which are not read
+  zip.tap: no items; image fault 3 at 0: no SIMH image, or a compressed one
+           (zcat)
+Then each set that was met, with its files: number, file identifier and
+creation date of HDR1, and whether all sections are there.
+  Set ABC001
+    1 PAYROLL             85113  complete
+    2 LEDGER              85113  wants section 2, on the volume behind ABC002
+    3 TAXES               85113  section 1 is BAD on ABC002; damaged copies
+                                 together may have it: try extract
+Where labels of different files were met under one number that is said too: two
+sets have one identifier, and tape takes them for one. Keep the images of each
+in a folder of its own.
+
+The last line tells where nothing lacks and nothing is left over: each image is
+a volume from its label to its end, and nothing else, in formats that are read;
+each file is complete; and no two files have one number. Whether files follow
+behind the last one that was met, no label tells. The text is for people, and
+may change; the exit status stays.
+
+Exit status: 0 nothing lacks and nothing is left over, 1 a fault, 2 a wrong
+command line, 3 something lacks, is left over, or is mixed.";
+
 /// `check` was given too many images.
 pub const TOO_MANY_TO_CHECK: &str = "check takes up to 256 images as words, and any number from \
 a list:
   find . -name '*.tap' -print0 | tape check --from - --null";
+
+/// Too many images for a survey, and what to write for more.
+pub const TOO_MANY_TO_SURVEY: &str = "survey takes up to 256 images as words, and any number from \
+a list:
+  find . -name '*.tap' -print0 | tape survey --from - --null";
 
 /// What LIST is.
 pub const FROM: &str = "Further images, a name on each line; '-': standard input";

@@ -15,6 +15,7 @@ mod names;
 mod outline;
 mod program;
 mod staging;
+mod survey_files;
 mod telling;
 #[cfg(test)]
 mod tests;

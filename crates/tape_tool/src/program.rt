@@ -8,6 +8,7 @@ use crate::help;
 use crate::host::Host;
 use crate::init::init;
 use crate::outline::{Outline, mistake};
+use crate::survey_files::survey;
 use crate::unfit::Unfit;
 use crate::words::{Order, call_of};
 use crate::write::command::write;
@@ -83,6 +84,7 @@ fn obey<'a, R: Host>(rt: &R, order: &Order<'a>, site: &mut Site<'a>) -> End {
         Order::List { image } => list(rt, *image, site),
         Order::Init(order) => init(rt, order, site),
         Order::Check(named) => check(rt, named, site),
+        Order::Survey(named) => survey(rt, named, site),
         Order::Write(order) => write_files(rt, order, site),
         Order::Extract(order) => extract(rt, order, site),
     }

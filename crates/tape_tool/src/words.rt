@@ -26,6 +26,8 @@ pub enum Order<'a> {
     Init(Init<'a>),
     /// Tell which sections are on images.
     Check(Named<'a>),
+    /// Tell what images are.
+    Survey(Named<'a>),
     /// Write files on volumes.
     Write(WriteOrder<'a>),
     /// Get a file back from images.
@@ -81,6 +83,20 @@ pub const CHECK: Outline = Outline {
     ],
 };
 
+/// `survey`.
+pub const SURVEY: Outline = Outline {
+    name: "survey",
+    called: "tape survey",
+    about: help::ABOUT_SURVEY,
+    after_help: help::AFTER_SURVEY,
+    usage: None,
+    words: &[
+        Word("IMAGE", Kind::TextsOr("from"), help::SHELF),
+        Word("from", Kind::TextOption("LIST"), help::FROM),
+        Word("null", Kind::FlagOf("from"), help::NULL),
+    ],
+};
+
 /// `extract`.
 pub const EXTRACT: Outline = Outline {
     name: "extract",
@@ -125,7 +141,7 @@ pub const FORMS: &[&str] = &["lines", "raw"];
 /// The commands and their words.
 fn command<'a>(alloc: Global) -> Result<Command<'a>, AllocError> {
     let mut command = tape_command(alloc)?.arg(explain_option(alloc))?;
-    for outline in [&LIST, &CHECK, &EXTRACT, &INIT, &WRITE] {
+    for outline in [&LIST, &CHECK, &SURVEY, &EXTRACT, &INIT, &WRITE] {
         command = command.subcommand(command_of(alloc, outline)?)?;
     }
     Ok(command)
@@ -172,6 +188,9 @@ fn order_of<'a>(alloc: Global, matches: &ArgMatches<'a>) -> Result<Order<'a>, Er
     }
     if let Some(check) = matches.subcommand_matches("check") {
         return check_order(alloc, check);
+    }
+    if let Some(survey) = matches.subcommand_matches("survey") {
+        return survey_order(alloc, survey);
     }
     if let Some(write) = matches.subcommand_matches("write") {
         return write_order(alloc, write);
@@ -223,6 +242,14 @@ fn named<'a>(alloc: Global, matches: &ArgMatches<'a>) -> Result<Option<Named<'a>
         null: matches.get_flag("null"),
     });
     Ok(Some(Named { words, list }))
+}
+
+/// What the words behind `survey` ask for.
+fn survey_order<'a>(alloc: Global, matches: &ArgMatches<'a>) -> Result<Order<'a>, Error> {
+    match named(alloc, matches)? {
+        Some(images) => Ok(Order::Survey(images)),
+        None => Err(mistake(alloc, &SURVEY, help::TOO_MANY_TO_SURVEY)?),
+    }
 }
 
 /// What the words behind `extract` ask for. The parser has seen to it that all of them are there.
