@@ -1,4 +1,4 @@
--- What the definitions of surveys say of cases. The call `survey_laws::cases` has them as its
+-- What the definitions of surveys say of cases. The call `laws::cases` has them as its
 -- contract.
 use Rattle.std.specs.Prelude.{◌≡◌, ◌≢◌, ◌++◌, ◌+◌, ◌&&◌, length, ℕ, Bool, true, false, List, []}
 use Rattle.std.specs.Prelude.{◌∷◌, replicate, Option}
@@ -126,9 +126,9 @@ pub record CasesOfWholes : Type 0 where
   pub whole : is_whole_sight (sight Ended None Marked) ≡ true
   pub whole_too : is_whole_sight (sight Ended None Physical) ≡ true
   pub faulty : (f : ImageFault) → is_whole_sight (sight Ended None (Fault f)) ≡ false
-  pub unread : is_whole_sight (sight Ended (Some 1) Marked) ≡ false
+  pub unread_file : is_whole_sight (sight Ended (Some 1) Marked) ≡ false
   pub early : is_whole_sight (sight Follows None Marked) ≡ false
-  pub one_mark : is_whole_sight (sight Blank None Marked) ≡ false
+  pub half_blank : is_whole_sight (sight Blank None Marked) ≡ false
   pub left : (w : Wanted) → is_whole_sight (sight (Leaves 9 w) None Marked) ≡ false
   -- other files under one number: by identifier, date or generation
   pub other_name : is_other first_week
@@ -183,7 +183,7 @@ pub record CasesOfSurveys : Type 0 where
   -- an image has a line by its name, and one that was not opened is left over
   pub line : (name : List ℕ) (s : Option Sight)
       → image_lines (name ∷ name ∷ []) (s ∷ []) ≡ image_line name s ++ []
-  pub not_opened : (c d : Found) → IsViewed None None c d → d ≡ record c { whole = false }
+  pub left_unopened : (c d : Found) → IsViewed None None c d → d ≡ record c { whole = false }
   pub unopened : (s : Sight) (c d : Found) → IsViewed None (Some s) c d → ⊥
   pub opened : (before : Option (List ℕ)) (c d : Found) → IsViewed (Some before) None c d → ⊥
   pub viewed : (before : Option (List ℕ)) (s : Sight) (c d : Found)

@@ -9,6 +9,7 @@ ghost use Rattle.tape_run.specs.CasesOfCatalogues.{CasesOfCopies, CasesOfReports
 ghost use Rattle.tape_run.specs.CasesOfExtracts.{CasesOfTurns, CasesOfOutputs};
 ghost use Rattle.tape_run.specs.CasesOfRounds.{CasesOfRounds};
 ghost use Rattle.tape_run.specs.CasesOfLaws.{CasesOfRunLaws, CasesOfCatalogueLaws};
+ghost use Rattle.tape_run.specs.CasesOfSurveys.{CasesOfGlances, CasesOfWholes, CasesOfSurveys};
 ghost use Rattle.tape_run.specs.Fronts.{FrontsAreMounts, GivenIsHistory};
 ghost use Rattle.tape_run.specs.Lead.{ItemsAreThere};
 ghost use Rattle.tape_run.specs.Lives.{StoodComesBack, StandsAcrossCrashes};
@@ -54,7 +55,7 @@ pub fn items_are_there()
 {}
 
 /// What the definitions say of cases: of histories and runs, of a reel's answer and the table, of
-/// catalogues and reports, of files got back, and of the laws.
+/// catalogues and reports, of surveys, of files got back, and of the laws.
 pub fn cases()
     ensures mounts { CasesOfMounts }
     ensures histories { CasesOfHistories }
@@ -71,6 +72,9 @@ pub fn cases()
     ensures images { CasesOfImages }
     ensures copies { CasesOfCopies }
     ensures reports { CasesOfReports }
+    ensures glances { CasesOfGlances }
+    ensures wholes { CasesOfWholes }
+    ensures surveys { CasesOfSurveys }
     ensures turns { CasesOfTurns }
     ensures outputs { CasesOfOutputs }
     ensures rounds { CasesOfRounds }

@@ -1,7 +1,6 @@
 //! Laws of what `survey` tells of images: calls that do nothing, whose contract is the law.
 
 ghost use Rattle.tape_run.specs.SurveyLaws.{LeavesThere, EndedIsVolume};
-ghost use Rattle.tape_run.specs.CasesOfSurveys.{CasesOfGlances, CasesOfWholes, CasesOfSurveys};
 
 /// Where an item is told to leave the order of a volume, those before it follow the order, and with
 /// it they do not.
@@ -13,12 +12,4 @@ pub fn leaves_there()
 /// their order, and the marks of its end, with nothing behind them.
 pub fn ended_is_volume()
     ensures { EndedIsVolume }
-{}
-
-/// What the definitions say of cases: of images at a glance, of what is whole, of the order of a
-/// volume, and of what is told.
-pub fn cases()
-    ensures glances { CasesOfGlances }
-    ensures wholes { CasesOfWholes }
-    ensures surveys { CasesOfSurveys }
 {}

@@ -4,6 +4,7 @@ use Rattle.tape_run.proofs.Examples.{cases_of_stops, cases_of_crashes}
 use Rattle.tape_run.proofs.ExamplesOfReels.{cases_of_answers, cases_of_table, cases_of_leads}
 use Rattle.tape_run.proofs.ExamplesOfCatalogues.{cases_of_catalogues, cases_of_images}
 use Rattle.tape_run.proofs.ExamplesOfCatalogues.{cases_of_copies, cases_of_reports}
+use Rattle.tape_run.proofs.ExamplesOfSurveys.{cases_of_glances, cases_of_wholes, cases_of_surveys}
 use Rattle.tape_run.proofs.ExamplesOfExtracts.{cases_of_turns, cases_of_outputs}
 use Rattle.tape_run.proofs.ExamplesOfRounds.{cases_of_rounds}
 use Rattle.tape_run.proofs.ExamplesOfLaws.{cases_of_run_laws, cases_of_catalogue_laws}
@@ -53,6 +54,15 @@ returns-clause-copies c = cases_of_copies
 
 pub returns-clause-reports : goal.returns-clause-reports
 returns-clause-reports c = cases_of_reports
+
+pub returns-clause-glances : goal.returns-clause-glances
+returns-clause-glances c = cases_of_glances
+
+pub returns-clause-wholes : goal.returns-clause-wholes
+returns-clause-wholes c = cases_of_wholes
+
+pub returns-clause-surveys : goal.returns-clause-surveys
+returns-clause-surveys c = cases_of_surveys
 
 pub returns-clause-turns : goal.returns-clause-turns
 returns-clause-turns c = cases_of_turns
