@@ -6,5 +6,4 @@ mod out_file;
 mod program;
 mod stage_file;
 
-pub use images::Images;
 pub use program::extract;

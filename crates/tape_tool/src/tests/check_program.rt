@@ -1,5 +1,5 @@
-//! `check` as the program runs it.
-use super::calls::{Step, each_ends, ends, put, take_all, with_images};
+//! `check` and `survey` as the program runs them.
+use super::calls::{Step, each_ends, put, take_all, with_images};
 use super::volumes::{first_of_two, second_of_two};
 use super::words::{is_answered, words_of};
 use crate::end::{End, finish};
@@ -18,6 +18,11 @@ const LINES: &[(&str, End)] = &[
     ("check", End::WrongWords),
     ("check --all", End::WrongWords),
     ("check --help", End::Done),
+    ("survey check2.tap check1.tap", End::Done),
+    ("survey check2.tap lost.tap check1.tap", End::Incomplete),
+    ("survey check1.tap", End::Incomplete),
+    ("survey", End::WrongWords),
+    ("survey --help", End::Done),
 ];
 
 /// A list's last line counts without an end, and an empty line is passed over.
@@ -75,7 +80,7 @@ fn at_most_256_images(rt: HostRuntime) -> Result<(), Fail> {
 #[test]
 fn not_257_images(rt: HostRuntime) -> Result<(), Fail> {
     let line = with_images(rt.alloc(), "check", 257)?;
-    let text = "check takes up to 256 images: name those of a set together";
+    let text = "check takes up to 256 images as words";
     is_answered(&rt, line.as_str(), 2, text)
 }
 
