@@ -22,7 +22,7 @@ use Rattle.tape_writer.specs.Inside.{IsInside, IsFiling, IsBetween, IsWaiting, I
 use Rattle.tape_writer.specs.State.{SetState, Stands, IsFilingLast, IsWriting, Leaves, IfFiling}
 use Rattle.tape_writer.specs.State.{IsOutOfVolumes}
 
-with_last : (past : List Told) (t : Told) (r : List ℕ) → with_record (past ++ t ∷ []) r
+pub with_last : (past : List Told) (t : Told) (r : List ℕ) → with_record (past ++ t ∷ []) r
     ≡ past ++ record { file = t.file; records = t.records ++ r ∷ [] } ∷ []
 with_last [] t r = refl
 with_last (u ∷ []) t r = refl
@@ -39,7 +39,7 @@ not_nil [] x e = cc
 not_nil (y ∷ xs) x e = cc
 
 -- the file under way is the last one told
-last_told : {T : Type 0} (H : Tapes → Type 0) (w : SetState T) (o : OpenFile) (told : List Told)
+pub last_told : {T : Type 0} (H : Tapes → Type 0) (w : SetState T) (o : OpenFile) (told : List Told)
     → w.phase ≡ Filing o → IsWriting H w told
     → IsFilingLast H w.volumes w.capacity w.set_id w.course o told
 last_told H w o told is k =

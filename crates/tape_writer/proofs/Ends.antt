@@ -29,6 +29,24 @@ use Rattle.tape_writer.proofs.Held.{label_at, in_range}
 use Rattle.tape_writer.proofs.Filed.{filed, filed_push, filed_many}
 use Rattle.tape_writer.proofs.Finish.{written_set}
 
+pub between_with : (H H' : Tapes → Type 0) (vs : List Vol1) (cap : ℕ) (set_id : List ℕ)
+    (file : Opened) (course course' : Course) (told : List Told) (fs : List (List Section))
+    (records : List (List ℕ)) → least_capacity file.shape ≤ cap → AreFiled cap told fs
+    → (k : IsFlat H vs cap set_id file course fs records)
+    → Closed H' vs cap set_id file course' k.draft
+    → IsBetween H' vs cap set_id course' (told ++ record { file = file; records = records } ∷ [])
+between_with H H' vs cap set_id file course course' told fs records room a k c =
+    let t : Told = record { file = file; records = records } in
+    record {
+      draft = c.draft;
+      resting = c.resting;
+      filed = subst (λ z. AreFiled cap (told ++ t ∷ []) z)
+          (ap (λ z. z ++ (c.sects ++ c.last.section ∷ []) ∷ []) (sym k.files) ∙ sym c.files)
+          (filed_push cap told fs t (c.sects ++ c.last.section ∷ []) a
+          (filed cap file records (open_blocks k.draft) c.sects c.last c.ready room k.lengths
+          k.tight c.number c.going c.of_file c.ends c.blocks));
+    }
+
 pub between_closed : (H H' : Tapes → Type 0) (vs : List Vol1) (cap : ℕ) (set_id : List ℕ)
     (file : Opened) (course course' : Course) (told : List Told) (fs : List (List Section))
     (records : List (List ℕ)) (r : Result (Unit {0}) WriteFault)
@@ -40,17 +58,8 @@ pub between_closed : (H H' : Tapes → Type 0) (vs : List Vol1) (cap : ℕ) (set
     (told ++ record { file = file; records = records } ∷ []))
 between_closed H H' vs cap set_id file course course' told fs records (Err x) room a k f = tt
 between_closed H H' vs cap set_id file course course' told fs records (Ok x) room a k f =
-    let c = f k.draft k.is_open in
-    let t : Told = record { file = file; records = records } in
-    record {
-      draft = c.draft;
-      resting = c.resting;
-      filed = subst (λ z. AreFiled cap (told ++ t ∷ []) z)
-          (ap (λ z. z ++ (c.sects ++ c.last.section ∷ []) ∷ []) (sym k.files) ∙ sym c.files)
-          (filed_push cap told fs t (c.sects ++ c.last.section ∷ []) a
-          (filed cap file records (open_blocks k.draft) c.sects c.last c.ready room k.lengths
-          k.tight c.number c.going c.of_file c.ends c.blocks));
-    }
+    between_with H H' vs cap set_id file course course' told fs records room a k
+    (f k.draft k.is_open)
 
 abbrev pub no_draft : Draft
 no_draft = record { files = []; sects = []; blocks = []; past = 0 }

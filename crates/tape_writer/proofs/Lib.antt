@@ -1,5 +1,6 @@
 pub mod LabelLaws
 pub mod Last
+pub mod Fronts
 pub mod Asked
 pub mod Lists
 pub mod Volumes
@@ -14,14 +15,18 @@ pub mod Filed
 pub mod Finish
 pub mod Ends
 pub mod Calls
+pub mod Standing
+pub mod Left
 pub mod Closing
 pub mod Written
 pub mod Fitting
 pub mod Examples
 pub mod ExamplesOfInputs
+pub mod ExamplesOfFronts
 mod Mistakes
 mod MistakesOfBlanks
 mod MistakesOfRecords
 mod MistakesOfTapes
 mod MistakesOnVolumes
 mod MistakesOfCauses
+mod MistakesOfFronts

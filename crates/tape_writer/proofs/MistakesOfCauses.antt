@@ -18,6 +18,7 @@ use Rattle.tape_writer.specs.Told.{Told}
 use Rattle.tape_writer.proofs.Lists.{all_back}
 use Rattle.tape_writer.proofs.Steps.{end_taken}
 use Rattle.tape_writer.proofs.images.ImageTapes.has_next.Reads as has_next
+use Rattle.tape_writer.proofs.set.SetWriter.begin_file.Reads as begin_file
 use Rattle.tape_writer.proofs.set.SetWriter.put.Reads as put
 use Rattle.tape_writer.proofs.set.SetWriter.end_file.Reads as end_file
 
@@ -107,3 +108,17 @@ empty_record_passed_over T L g d e κs a s l same =
     let less : room_left a.0.now < room_left a.0.now
     = subst (λ w. room_left w < room_left a.0.now) same l.room in
     absurd (omega (arith, less))
+
+-- place_taken_behind_the_labels: a file is refused for want of memory, and the tapes, which were
+-- refused no growth, are not as they were
+place_taken_behind_the_labels : (T : _) (L : _) (g : _) (d : _) (e : _) (κs : _) (a : _) (s : _)
+    (before now : Failures) → begin_file.Learnt-named T L g d e κs a (Err faults.OutOfMemory) s
+    → g.failures a.0.now.out ≡ before → g.failures s.0.now.out ≡ now
+    → before.memory ≡ 3 → now.memory ≡ 3 → (s.0.now.out ≡ a.0.now.out → ⊥) → ⊥
+place_taken_behind_the_labels T L g d e κs a s before now l was is three same changed =
+    elim (l.memory refl) [
+      | inl kept ↦ changed kept
+      | inr grew ↦ not_rose (subst (λ n. Rose 3 n) same (subst (λ n. Rose n now.memory) three
+          (subst (λ f. Rose before.memory f.memory) is
+          (subst (λ f. Rose f.memory (g.failures s.0.now.out).memory) was grew))))
+    ]

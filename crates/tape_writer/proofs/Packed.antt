@@ -49,17 +49,16 @@ packing_first H vs cap set_id file course p fs records whole k = record {
   lengths = k.lengths;
 }
 
-pub packing_next : (H H' : Tapes → Type 0) (vs : List Vol1) (cap : ℕ) (set_id : List ℕ)
+-- the block that is ready was written
+pub packing_with : (H H' : Tapes → Type 0) (vs : List Vol1) (cap : ℕ) (set_id : List ℕ)
     (file : Opened) (course course' : Course) (old new left : Packing) (fs : List (List Section))
     (records : List (List ℕ)) (whole rest : List ℕ) (n : ℕ)
     → IsJudged old rest → Offers old rest (BlockReady n) new → left ≡ emptied new
-    → ((d : Draft) → IsOpen H vs cap set_id file course d
-    → Flushed H' vs cap set_id file course' d new)
-    → IsPacking H vs cap set_id file course old fs records whole rest
+    → (k : IsPacking H vs cap set_id file course old fs records whole rest)
+    → Flushed H' vs cap set_id file course' k.draft new
     → IsPacking H' vs cap set_id file course' left fs records whole (drop n rest)
-packing_next H H' vs cap set_id file course course' old new left fs
-    records whole rest n judged offers is f k =
-    let flushed = f k.draft k.is_open in
+packing_with H H' vs cap set_id file course course' old new left fs
+    records whole rest n judged offers is k flushed =
     let next = going_block (open_blocks k.draft) old new
     records whole rest flushed.text n k.going judged offers flushed.given in
     subst (λ (z : Packing). IsPacking H' vs cap set_id file course' z fs records whole (drop n
@@ -93,6 +92,19 @@ packing_last H vs cap set_id file course old new fs records whole rest judged of
           (subst (λ (s : Shape). HasRecordLength s.format s.rec_len (length whole)) k.shape fits);
     }
 
+pub packing_next : (H H' : Tapes → Type 0) (vs : List Vol1) (cap : ℕ) (set_id : List ℕ)
+    (file : Opened) (course course' : Course) (old new left : Packing) (fs : List (List Section))
+    (records : List (List ℕ)) (whole rest : List ℕ) (n : ℕ)
+    → IsJudged old rest → Offers old rest (BlockReady n) new → left ≡ emptied new
+    → ((d : Draft) → IsOpen H vs cap set_id file course d
+    → Flushed H' vs cap set_id file course' d new)
+    → IsPacking H vs cap set_id file course old fs records whole rest
+    → IsPacking H' vs cap set_id file course' left fs records whole (drop n rest)
+packing_next H H' vs cap set_id file course course' old new left fs
+    records whole rest n judged offers is f k =
+    packing_with H H' vs cap set_id file course course' old new left fs records whole rest n
+    judged offers is k (f k.draft k.is_open)
+
 -- ---- the last block of a file
 
 pub flat_none : (H : Tapes → Type 0) (vs : List Vol1) (cap : ℕ) (set_id : List ℕ) (file : Opened)
@@ -108,14 +120,12 @@ flat_none H vs cap set_id file course p fs records e k = record {
   lengths = k.lengths;
 }
 
-pub flat_some : (H H' : Tapes → Type 0) (vs : List Vol1) (cap : ℕ) (set_id : List ℕ) (file : Opened)
+pub flat_with : (H H' : Tapes → Type 0) (vs : List Vol1) (cap : ℕ) (set_id : List ℕ) (file : Opened)
     (course course' : Course) (p : Packing) (fs : List (List Section)) (records : List (List ℕ))
-    → ((d : Draft) → IsOpen H vs cap set_id file course d
-    → Flushed H' vs cap set_id file course' d p)
-    → IsInside H vs cap set_id file course p fs records
+    → (k : IsInside H vs cap set_id file course p fs records)
+    → Flushed H' vs cap set_id file course' k.draft p
     → IsFlat H' vs cap set_id file course' fs records
-flat_some H H' vs cap set_id file course course' p fs records f k =
-    let q = f k.draft k.is_open in
+flat_with H H' vs cap set_id file course course' p fs records k q =
     let tight = run_last (open_blocks k.draft) p records q.text 0 (k.run 0) q.given k.ended in
     record {
       draft = q.draft;
@@ -126,6 +136,15 @@ flat_some H H' vs cap set_id file course course' p fs records f k =
           ++ filled_of p q.text ∷ [])) k.shape tight);
       lengths = k.lengths;
     }
+
+pub flat_some : (H H' : Tapes → Type 0) (vs : List Vol1) (cap : ℕ) (set_id : List ℕ) (file : Opened)
+    (course course' : Course) (p : Packing) (fs : List (List Section)) (records : List (List ℕ))
+    → ((d : Draft) → IsOpen H vs cap set_id file course d
+    → Flushed H' vs cap set_id file course' d p)
+    → IsInside H vs cap set_id file course p fs records
+    → IsFlat H' vs cap set_id file course' fs records
+flat_some H H' vs cap set_id file course course' p fs records f k =
+    flat_with H H' vs cap set_id file course course' p fs records k (f k.draft k.is_open)
 
 -- ---- what is judged
 

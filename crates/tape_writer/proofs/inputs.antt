@@ -7,5 +7,6 @@ mod Filing
 mod Refusing
 mod Finished
 mod Stopping
+mod Leaving
 mod Mistakes
 mod MistakesOfVolumes

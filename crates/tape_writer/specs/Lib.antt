@@ -16,12 +16,15 @@ pub mod RecordLaws
 pub mod ToldFiles
 pub mod WriteSet
 pub mod NoVolume
+pub mod LeftOf
 pub mod WriteFaults
 -- volumes without files:
 pub mod Blank
 -- what these say of cases:
 pub mod Cases
 pub mod CasesOfInputs
+pub mod CasesOfFronts
 -- what is written so far, in the proofs' own words:
 pub mod Draft
 pub mod Inside
+pub mod Front

@@ -1,12 +1,14 @@
 //! What is written where the volume has room for it, and else on the next one.
 
-ghost use Rattle.std.specs.Prelude.{◌≡◌, ◌<◌, ◌≤◌, ◌+◌, List, ℕ, length, OnOk, IfErr, Err, true};
-ghost use Rattle.std.specs.Prelude.{false};
+ghost use Rattle.std.specs.Prelude.{◌≡◌, ◌≢◌, ◌<◌, ◌≤◌, ◌+◌, List, ℕ, length, OnOk, IfErr, Err};
+ghost use Rattle.std.specs.Prelude.{true, false};
 ghost use Rattle.std.specs.List.{AllByRecursion};
 ghost use Rattle.tape_image.specs.Tape.{block as block_item};
 ghost use Rattle.tape_blocks.specs.Tight.{Filled};
 ghost use Rattle.tape_set.specs.Sizes.{item_size};
+ghost use Rattle.tape_writer.specs.declared.course.Course.{Course};
 ghost use Rattle.tape_writer.specs.Tapes.{WasAsked};
+ghost use Rattle.tape_writer.specs.Front.{HoldsFront};
 ghost use Rattle.tape_writer.specs.Lasting.{Lasting};
 ghost use Rattle.tape_writer.specs.Faults.{FailsWith, IsOfTape};
 ghost use Rattle.tape_label.specs.Widths.{IsWideVolume};
@@ -79,6 +81,13 @@ impl<T: TapeOut> Tape<T> {
             self.old.course d
             → OnOk result (Grew (T.holds self.new.out) volumes.now capacity set_id file.now
             self.new.course d b) }
+        // So far as no volume was wanted that is not there: what is held is a front of the same.
+        ensures front { (set_id : List ℕ) (d : Draft) (b : Filled) → b.bytes ≡ bytes.now
+            → IsOpen (T.holds self.old.out) volumes.now capacity set_id file.now
+            self.old.course d
+            → IfErr result (λ fault. fault ≢ WriteFault.OutOfVolumes
+            → (course : Course) × Grew (HoldsFront (T.holds self.new.out)) volumes.now capacity
+            set_id file.now course d b) }
         ensures none { IfErr result (λ fault. fault ≡ WriteFault.OutOfVolumes
             → (self.new ≡ self.old) × (length volumes.now ≤ self.old.course.volume)
             × (capacity < self.old.course.used + item_size (block_item bytes.now) + 192)) }
@@ -125,6 +134,12 @@ impl<T: TapeOut> Tape<T> {
             self.old.course d
             → OnOk result (Closed (T.holds self.new.out) volumes.now capacity set_id file.now
             self.new.course d) }
+        ensures front { (set_id : List ℕ) (d : Draft)
+            → IsOpen (T.holds self.old.out) volumes.now capacity set_id file.now
+            self.old.course d
+            → IfErr result (λ fault. fault ≢ WriteFault.OutOfVolumes
+            → (course : Course) × Closed (HoldsFront (T.holds self.new.out)) volumes.now capacity
+            set_id file.now course d) }
         ensures none { IfErr result (λ fault. fault ≡ WriteFault.OutOfVolumes
             → (self.new ≡ self.old) × (length volumes.now ≤ self.old.course.volume)
             × (capacity < self.old.course.used + 184 + 372)) }

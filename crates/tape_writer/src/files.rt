@@ -7,7 +7,9 @@ ghost use Rattle.tape_image.specs.Tape.{TapeItem, mark as mark_item};
 ghost use Rattle.tape_blocks.specs.Packing.{Packing};
 ghost use Rattle.tape_set.specs.Layout.{Section};
 ghost use Rattle.tape_set.specs.Tight.{least_capacity};
+ghost use Rattle.tape_writer.specs.declared.course.Course.{Course};
 ghost use Rattle.tape_writer.specs.Tapes.{Ended, UnderWay, Grows, WasAsked};
+ghost use Rattle.tape_writer.specs.Front.{HoldsFront, IsEndingLast};
 ghost use Rattle.tape_writer.specs.Lasting.{Lasting};
 ghost use Rattle.tape_writer.specs.Faults.{FailsWith, IsOfTape, IsOfOut};
 ghost use Rattle.tape_label.specs.Widths.{IsWideVolume};
@@ -47,6 +49,11 @@ pub(crate) fn close_file<T: TapeOut>(
         tape.old.course packer.old past records
         → OnOk result (IsBetween (T.holds tape.new.out) volumes.now capacity set_id
         tape.new.course (past ++ record { file = file.now; records = records } ∷ [])) }
+    ensures front { (set_id : List ℕ) (past : List Told) (records : List (List ℕ))
+        → IsFiling (T.holds tape.old.out) volumes.now capacity set_id file.now
+        tape.old.course packer.old past records
+        → IfErr result (λ _. IsEndingLast (HoldsFront (T.holds tape.new.out)) volumes.now capacity
+        set_id (past ++ record { file = file.now; records = records } ∷ [])) }
     ensures asked { WasAsked (T.asked tape.old.out) volumes.now tape.old.course.volume
         → OnOk result (WasAsked (T.asked tape.new.out) volumes.now tape.new.course.volume) }
     ensures of_tape { IfErr result IsOfTape }
@@ -81,6 +88,9 @@ fn begin_first<T: TapeOut>(
     ensures resting { (set_id : List ℕ) → T.holds tape.old.out (Ended [])
         → OnOk result (IsBetween (T.holds tape.new.out) volumes.now capacity set_id
         tape.new.course []) }
+    ensures front { (set_id : List ℕ) → T.holds tape.old.out (Ended [])
+        → (course : Course) × IsBetween (HoldsFront (T.holds tape.new.out)) volumes.now capacity
+        set_id course [] }
     ensures asked { WasAsked (T.asked tape.old.out) volumes.now tape.old.course.volume
         → OnOk result (WasAsked (T.asked tape.new.out) volumes.now tape.new.course.volume) }
     ensures out { IfErr result IsOfOut }
@@ -111,6 +121,12 @@ fn open_file<T: TapeOut>(
         → IsBetween (T.holds tape.old.out) volumes.now capacity set_id tape.old.course told
         → OnOk result (IsFiling (T.holds tape.new.out) volumes.now capacity set_id file.now
         tape.new.course p told []) }
+    ensures front { (set_id : List ℕ) (told : List Told) (p : Packing)
+        → file.now.head.set_id ≡ set_id → file.now.head.sequence ≡ length told + 1
+        → p ≡ record { shape = file.now.shape; parts = []; begun = false; closed = false }
+        → IsBetween (T.holds tape.old.out) volumes.now capacity set_id tape.old.course told
+        → (course : Course) × IsFiling (HoldsFront (T.holds tape.new.out)) volumes.now capacity
+        set_id file.now course p told [] }
     ensures asked { WasAsked (T.asked tape.old.out) volumes.now tape.old.course.volume
         → OnOk result (WasAsked (T.asked tape.new.out) volumes.now tape.new.course.volume) }
     ensures out { IfErr result IsOfOut }
@@ -135,6 +151,10 @@ fn start<T: TapeOut>(tape: &mut Tape<T>, volumes: &[Vol1], capacity: u32) -> Res
         → IsWaiting (T.holds tape.old.out) volumes.now capacity set_id tape.old.course told
         → OnOk result (IsBetween (T.holds tape.new.out) volumes.now capacity set_id
         tape.new.course told) }
+    ensures front { (set_id : List ℕ) (told : List Told)
+        → IsWaiting (T.holds tape.old.out) volumes.now capacity set_id tape.old.course told
+        → IfErr result (λ _. (course : Course) × IsBetween (HoldsFront (T.holds tape.new.out))
+        volumes.now capacity set_id course told) }
     ensures asked { WasAsked (T.asked tape.old.out) volumes.now tape.old.course.volume
         → OnOk result (WasAsked (T.asked tape.new.out) volumes.now tape.new.course.volume) }
     ensures out { IfErr result IsOfOut }
@@ -169,6 +189,12 @@ pub(crate) fn begin<T: TapeOut>(
         → IsWaiting (T.holds tape.old.out) volumes.now capacity set_id tape.old.course told
         → OnOk result (IsFiling (T.holds tape.new.out) volumes.now capacity set_id file.now
         tape.new.course p told []) }
+    ensures front { (set_id : List ℕ) (told : List Told) (p : Packing)
+        → file.now.head.set_id ≡ set_id → file.now.head.sequence ≡ length told + 1
+        → p ≡ record { shape = file.now.shape; parts = []; begun = false; closed = false }
+        → IsWaiting (T.holds tape.old.out) volumes.now capacity set_id tape.old.course told
+        → IfErr result (λ _. (course : Course) × IsFiling (HoldsFront (T.holds tape.new.out))
+        volumes.now capacity set_id file.now course p told []) }
     ensures asked { WasAsked (T.asked tape.old.out) volumes.now tape.old.course.volume
         → OnOk result (WasAsked (T.asked tape.new.out) volumes.now tape.new.course.volume) }
     ensures out { IfErr result IsOfOut }
@@ -193,6 +219,9 @@ pub(crate) fn end_set<T: TapeOut>(
     ensures written { (set_id : List ℕ) (told : List Told) → told ≢ []
         → IsBetween (T.holds tape.old.out) volumes.now capacity set_id tape.old.course told
         → OnOk result (IsWrittenSet (T.holds tape.new.out) volumes.now capacity set_id told) }
+    ensures front { (set_id : List ℕ) (told : List Told) → told ≢ []
+        → IsBetween (T.holds tape.old.out) volumes.now capacity set_id tape.old.course told
+        → IsWrittenSet (HoldsFront (T.holds tape.new.out)) volumes.now capacity set_id told }
     ensures closes { (past : List (List TapeItem)) (items : List TapeItem)
         → T.holds tape.old.out (UnderWay past items)
         → OnOk result (T.holds tape.new.out

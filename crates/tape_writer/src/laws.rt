@@ -4,9 +4,10 @@
 ghost use Rattle.tape_writer.specs.Cases.{CasesOfTapes, CasesOfImages, CasesOfSets};
 ghost use Rattle.tape_writer.specs.Cases.{CasesOfRefusals};
 ghost use Rattle.tape_writer.specs.CasesOfInputs.{CasesOfInputs, CasesOfSetFaults};
+ghost use Rattle.tape_writer.specs.CasesOfFronts.{CasesOfFronts};
 
-/// What the definitions of tapes and images, of what was told and written, of refusals and of
-/// inputs say of cases: each says all that it should.
+/// What the definitions of tapes and images, of what was told and written, of refusals, of inputs
+/// and of what is left say of cases: each says all that it should.
 pub fn cases()
     ensures tapes { CasesOfTapes }
     ensures images { CasesOfImages }
@@ -14,4 +15,5 @@ pub fn cases()
     ensures refusals { CasesOfRefusals }
     ensures inputs { CasesOfInputs }
     ensures set_faults { CasesOfSetFaults }
+    ensures fronts { CasesOfFronts }
 {}

@@ -7,7 +7,9 @@ ghost use Rattle.std.specs.List.{AllByRecursion};
 ghost use Rattle.tape_blocks.specs.Packing.{emptied, HasRecordLength};
 ghost use Rattle.tape_set.specs.Layout.{Section};
 ghost use Rattle.tape_set.specs.Tight.{least_capacity};
+ghost use Rattle.tape_writer.specs.declared.course.Course.{Course};
 ghost use Rattle.tape_writer.specs.Tapes.{WasAsked};
+ghost use Rattle.tape_writer.specs.Front.{HoldsFront, IsMidRecord, IsPartly};
 ghost use Rattle.tape_writer.specs.Lasting.{Lasting};
 ghost use Rattle.tape_writer.specs.Faults.{FailsWith, IsOfTape, IsEnding};
 ghost use Rattle.tape_label.specs.Widths.{IsWideVolume};
@@ -50,6 +52,11 @@ fn flush<T: TapeOut>(
         → IsOpen (T.holds tape.old.out) volumes.now capacity set_id file.now tape.old.course d
         → OnOk result (Flushed (T.holds tape.new.out) volumes.now capacity set_id file.now
         tape.new.course d packer.old) }
+    ensures front { packer.old.parts ≢ [] → (set_id : List ℕ) (d : Draft)
+        → IsOpen (T.holds tape.old.out) volumes.now capacity set_id file.now tape.old.course d
+        → IfErr result (λ fault. fault ≢ WriteFault.OutOfVolumes
+        → (course : Course) × Flushed (HoldsFront (T.holds tape.new.out)) volumes.now capacity
+        set_id file.now course d packer.old) }
     ensures asked { WasAsked (T.asked tape.old.out) volumes.now tape.old.course.volume
         → OnOk result (WasAsked (T.asked tape.new.out) volumes.now tape.new.course.volume) }
     ensures of_tape { IfErr result IsOfTape }
@@ -104,6 +111,13 @@ pub(crate) fn put_record<T: TapeOut>(
         tape.old.course packer.old fs records
         → IsStuck (T.holds tape.new.out) volumes.now capacity set_id file.now
         tape.new.course fs (records ++ whole.now ∷ [])) }
+    // Whatever the fault: what is held is a front of the record's writing.
+    ensures front { (set_id : List ℕ) (fs : List (List Section)) (records : List (List ℕ))
+        → IsInside (T.holds tape.old.out) volumes.now capacity set_id file.now
+        tape.old.course packer.old fs records
+        → IfErr result (λ fault. IsEnding fault
+        → (course : Course) × IsMidRecord (HoldsFront (T.holds tape.new.out)) volumes.now capacity
+        set_id file.now course fs (records ++ whole.now ∷ [])) }
     // So no input keeps a writer for ever.
     ensures room { OnOk result (room_of (length volumes.now) capacity tape.new.course packer.new
         < room_of (length volumes.now) capacity tape.old.course packer.old) }
@@ -149,6 +163,11 @@ pub(crate) fn flush_last<T: TapeOut>(
         tape.old.course packer.old fs records
         → OnOk result (IsFlat (T.holds tape.new.out) volumes.now capacity set_id file.now
         tape.new.course fs records) }
+    ensures front { (set_id : List ℕ) (fs : List (List Section)) (records : List (List ℕ))
+        → IsInside (T.holds tape.old.out) volumes.now capacity set_id file.now
+        tape.old.course packer.old fs records
+        → IfErr result (λ _. (course : Course) × IsPartly (HoldsFront (T.holds tape.new.out))
+        volumes.now capacity set_id file.now course fs records) }
     ensures asked { WasAsked (T.asked tape.old.out) volumes.now tape.old.course.volume
         → OnOk result (WasAsked (T.asked tape.new.out) volumes.now tape.new.course.volume) }
     ensures of_tape { IfErr result IsOfTape }

@@ -1,8 +1,10 @@
 //! Sections begun and ended.
 
-ghost use Rattle.std.specs.Prelude.{◌≡◌, ◌≤◌, ◌+◌, OnOk, IfErr};
-ghost use Rattle.tape_writer.specs.Tapes.{Takes};
+ghost use Rattle.std.specs.Prelude.{◌≡◌, ◌≤◌, ◌+◌, ◌++◌, List, OnOk, IfErr};
+ghost use Rattle.tape_image.specs.Tape.{TapeItem};
+ghost use Rattle.tape_writer.specs.Tapes.{Takes, UnderWay};
 ghost use Rattle.tape_label.specs.declared.values.Vol1.{Vol1};
+ghost use Rattle.tape_writer.specs.Front.{HoldsFront};
 ghost use Rattle.tape_writer.specs.Lasting.{Lasting};
 ghost use Rattle.tape_writer.specs.Faults.{FailsWith, IsOfOut};
 ghost use Rattle.tape_writer.specs.Labels.{IsReady, header_items, trailer_items};
@@ -24,6 +26,10 @@ impl<T: TapeOut> Tape<T> {
         requires room { self.old.course.used + 180 ≤ 4294967295 }
         ensures ok { Takes (header_items file.now sect)
             (T.holds self.old.out) result (T.holds self.new.out) }
+        ensures front { (volumes : List (List TapeItem)) (items : List TapeItem)
+            → T.holds self.old.out (UnderWay volumes items)
+            → HoldsFront (T.holds self.new.out) (UnderWay volumes (items
+            ++ header_items file.now sect)) }
         ensures course { OnOk result (self.new.course ≡ record {
           volume = self.old.course.volume;
           sect = sect;
@@ -55,6 +61,10 @@ impl<T: TapeOut> Tape<T> {
         ensures ok { Takes
             (trailer_items file.now self.old.course.sect self.old.course.count eof)
             (T.holds self.old.out) result (T.holds self.new.out) }
+        ensures front { (volumes : List (List TapeItem)) (items : List TapeItem)
+            → T.holds self.old.out (UnderWay volumes items)
+            → HoldsFront (T.holds self.new.out) (UnderWay volumes (items
+            ++ trailer_items file.now self.old.course.sect self.old.course.count eof)) }
         ensures course { OnOk result (self.new.course
             ≡ record self.old.course { used = self.old.course.used + 184 }) }
         ensures lasting { Lasting

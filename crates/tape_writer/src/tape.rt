@@ -3,7 +3,7 @@
 ghost use Rattle.std.specs.Prelude.{◌≡◌, ◌<◌, ◌≤◌, ◌+◌, ◌∷◌, [], length, OnOk, IfErr};
 ghost use Rattle.tape_image.specs.Tape.{block as block_item, mark as mark_item};
 ghost use Rattle.tape_set.specs.Sizes.{item_size};
-ghost use Rattle.tape_writer.specs.Tapes.{Takes, Closes, Grows};
+ghost use Rattle.tape_writer.specs.Tapes.{Takes, Closes, Keeps, Grows};
 ghost use Rattle.tape_label.specs.declared.values.Vol1.{Vol1};
 ghost use Rattle.tape_writer.specs.Lasting.{Lasting};
 ghost use Rattle.tape_writer.specs.Draft.{added_course};
@@ -27,6 +27,7 @@ impl<T: TapeOut> Tape<T> {
         requires room { self.old.course.used + item_size (block_item bytes.now) ≤ 4294967295 }
         ensures ok { Takes (block_item bytes.now ∷ [])
             (T.holds self.old.out) result (T.holds self.new.out) }
+        ensures err { Keeps (T.holds self.old.out) result (T.holds self.new.out) }
         ensures course { OnOk result (self.new.course ≡ record self.old.course {
           used = self.old.course.used + item_size (block_item bytes.now);
         }) }
@@ -50,6 +51,7 @@ impl<T: TapeOut> Tape<T> {
     pub(crate) fn mark(&mut self) -> Result<(), WriteFault>
         requires room { self.old.course.used + 4 ≤ 4294967295 }
         ensures ok { Takes (mark_item ∷ []) (T.holds self.old.out) result (T.holds self.new.out) }
+        ensures err { Keeps (T.holds self.old.out) result (T.holds self.new.out) }
         ensures course { OnOk result (self.new.course
             ≡ record self.old.course { used = self.old.course.used + 4 }) }
         ensures lasting { Lasting
@@ -74,6 +76,7 @@ impl<T: TapeOut> Tape<T> {
         requires room { self.old.course.used + 88 ≤ 4294967295 }
         ensures ok { Takes (block_item label ∷ [])
             (T.holds self.old.out) result (T.holds self.new.out) }
+        ensures err { Keeps (T.holds self.old.out) result (T.holds self.new.out) }
         ensures course { OnOk result (self.new.course
             ≡ record self.old.course { used = self.old.course.used + 88 }) }
         ensures lasting { Lasting
@@ -95,6 +98,7 @@ impl<T: TapeOut> Tape<T> {
         requires count { self.old.course.count ≤ self.old.course.used }
         ensures ok { Takes (block_item bytes.now ∷ [])
             (T.holds self.old.out) result (T.holds self.new.out) }
+        ensures err { Keeps (T.holds self.old.out) result (T.holds self.new.out) }
         ensures course { OnOk result (self.new.course
             ≡ added_course self.old.course (item_size (block_item bytes.now))) }
         ensures lasting { Lasting
@@ -113,6 +117,7 @@ impl<T: TapeOut> Tape<T> {
     pub(crate) fn close(&mut self) -> Result<(), WriteFault>
         requires room { self.old.course.used + 4 ≤ 4294967295 }
         ensures ok { Closes (T.holds self.old.out) result (T.holds self.new.out) }
+        ensures err { Keeps (T.holds self.old.out) result (T.holds self.new.out) }
         ensures course { OnOk result (self.new.course
             ≡ record self.old.course { used = self.old.course.used + 4 }) }
         ensures lasting { IfErr result (λ _. Lasting

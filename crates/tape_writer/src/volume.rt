@@ -2,7 +2,8 @@
 
 ghost use Rattle.std.specs.Prelude.{◌≡◌, ◌<◌, ◌≤◌, ◌+◌, ◌++◌, ◌∷◌, [], List, OnOk, IfErr, false};
 ghost use Rattle.tape_image.specs.Tape.{TapeItem, block as block_item, mark as mark_item};
-ghost use Rattle.tape_writer.specs.Tapes.{UnderWay, Changes};
+ghost use Rattle.tape_writer.specs.Tapes.{Tapes, UnderWay, Changes, Keeps, all_volumes};
+ghost use Rattle.tape_writer.specs.Front.{HoldsFront};
 ghost use Rattle.tape_writer.specs.Lasting.{Lasting};
 ghost use Rattle.tape_writer.specs.Faults.{FailsWith, IsOfOut};
 ghost use Rattle.tape_writer.specs.Labels.{IsReady, header_items, trailer_items};
@@ -21,6 +22,7 @@ impl<T: TapeOut> Tape<T> {
     fn next_volume(&mut self, volume: &Vol1) -> Result<(), WriteFault>
         requires few { self.old.course.volume < 65535 }
         ensures ok { Changes [] (T.holds self.old.out) result (T.holds self.new.out) }
+        ensures err { Keeps (T.holds self.old.out) result (T.holds self.new.out) }
         ensures course { OnOk result (self.new.course
             ≡ record self.old.course { volume = self.old.course.volume + 1; used = 0 }) }
         ensures lasting { Lasting
@@ -46,6 +48,9 @@ impl<T: TapeOut> Tape<T> {
         requires few { self.old.course.volume < 65535 }
         ensures ok { Changes (block_item (volume_text volume.now) ∷ [])
             (T.holds self.old.out) result (T.holds self.new.out) }
+        ensures front { (tapes : Tapes) → T.holds self.old.out tapes
+            → HoldsFront (T.holds self.new.out)
+            (UnderWay (all_volumes tapes) (block_item (volume_text volume.now) ∷ [])) }
         ensures course { OnOk result (self.new.course
             ≡ record self.old.course { volume = self.old.course.volume + 1; used = 88 }) }
         ensures lasting { Lasting
@@ -75,6 +80,14 @@ impl<T: TapeOut> Tape<T> {
             ++ mark_item ∷ []) ∷ [])
             (block_item (volume_text volume.now)
             ∷ header_items file.now (self.old.course.sect + 1)))) }
+        ensures front { (volumes : List (List TapeItem)) (items : List TapeItem)
+            → T.holds self.old.out (UnderWay volumes items)
+            → HoldsFront (T.holds self.new.out) (UnderWay
+            (volumes ++ (items
+            ++ trailer_items file.now self.old.course.sect self.old.course.count false
+            ++ mark_item ∷ []) ∷ [])
+            (block_item (volume_text volume.now)
+            ∷ header_items file.now (self.old.course.sect + 1))) }
         ensures course { OnOk result (self.new.course ≡ changed_course self.old.course) }
         ensures lasting { Lasting
             (T.holds self.old.out) (T.failures self.old.out) self.old.course.used

@@ -1,6 +1,6 @@
 //! Files written from inputs.
 ghost use Rattle.std.specs.Prelude.{◌≡◌, ◌<◌, ◌++◌, ◌+◌, ◌∷◌, [], List, length, map, OnOk, IfErr};
-ghost use Rattle.std.specs.Prelude.{IfSome};
+ghost use Rattle.std.specs.Prelude.{◌⊎◌, OnErr, IfSome};
 ghost use Rattle.tape_image.specs.Reader.{IfKnown};
 ghost use Rattle.tape_writer.specs.Tapes.{Grows};
 ghost use Rattle.tape_writer.specs.Told.{Told, opened_by};
@@ -11,6 +11,8 @@ ghost use Rattle.tape_writer.specs.declared.phase.Phase.TheVariants.{Between};
 ghost use Rattle.tape_writer.specs.Records.{records_of, to_come, left_of, longest as longest_of};
 ghost use Rattle.tape_writer.specs.ToldFiles.{with_records, with_file, told_files, IfAllKnown};
 ghost use Rattle.tape_writer.specs.NoVolume.{GaveUp, GaveUpIn};
+ghost use Rattle.tape_writer.specs.Front.{IsLeftBehind};
+ghost use Rattle.tape_writer.specs.LeftOf.{IsLeftOf, IsLeftIn};
 ghost use Rattle.tape_writer.specs.WriteFaults.{OneIsOther, IsInputFault, IsFileFault};
 ghost use Rattle.tape_writer.specs.WriteFaults.{IsFilesFault, told_as, StopsByDevice};
 
@@ -62,6 +64,11 @@ pub fn write_files<T: TapeOut + Drop, R: Read>(
         → (told : List Told) → IsWriting (T.holds writer.old.out) writer.old told
         → GaveUpIn (T.holds writer.new.out) writer.new writer.old.set_id told shape cut
         (map (λ f. (f.head, R.remaining f.reader)) files.old)) }
+    // Whatever the fault: the tapes hold a front of what is written of the files told so far.
+    ensures front { writer.old.phase ≡ Between
+        → (told : List Told) → IsWriting (T.holds writer.old.out) writer.old told
+        → OnErr result (IsLeftIn (T.holds writer.new.out) writer.new writer.old.set_id told shape
+        cut (map (λ f. (f.head, R.remaining f.reader)) files.old)) }
     ensures count { Grows (T.failures writer.old.out) (T.failures writer.new.out) }
     ensures cause { StopsByDevice (T.failures writer.old.out) result (T.failures writer.new.out) }
     ensures stands { writer.old.phase ≡ Between → OnOk result ((writer.new.phase ≡ Between)
@@ -100,6 +107,12 @@ fn write_file<T: TapeOut + Drop, R: Read>(
         → (told : List Told) → IsWriting (T.holds writer.old.out) writer.old told
         → IfSome (R.remaining input.old) (λ bytes. GaveUp (T.holds writer.new.out) writer.new
         (with_file writer.old.set_id told head shape) (records_of cut bytes))) }
+    ensures front { writer.old.phase ≡ Between
+        → (told : List Told) → IsWriting (T.holds writer.old.out) writer.old told
+        → OnErr result (IfSome (R.remaining input.old) (λ bytes.
+        IsLeftBehind (T.holds writer.new.out) writer.new told
+        ⊎ IsLeftOf (T.holds writer.new.out) writer.new
+        (with_file writer.old.set_id told head shape) (records_of cut bytes))) }
     ensures count { Grows (T.failures writer.old.out) (T.failures writer.new.out) }
     ensures cause { StopsByDevice (T.failures writer.old.out) result (T.failures writer.new.out) }
     ensures stands { OnOk result ((writer.new.phase ≡ Between) × (0 < writer.new.course.volume)
@@ -137,6 +150,11 @@ fn put_records<T: TapeOut + Drop, R: Read + Drop>(
         → (told : List Told) → IsWriting (T.holds writer.old.out) writer.old told
         → IfSome (left_of R.remaining records.old) (λ xs.
         GaveUp (T.holds writer.new.out) writer.new told
+        (to_come records.old.cut records.old.over xs))) }
+    ensures front { (file : Opened) → IsInFile file writer.old.phase
+        → (told : List Told) → IsWriting (T.holds writer.old.out) writer.old told
+        → OnErr result (IfSome (left_of R.remaining records.old) (λ xs.
+        IsLeftOf (T.holds writer.new.out) writer.new told
         (to_come records.old.cut records.old.over xs))) }
     ensures count { Grows (T.failures writer.old.out) (T.failures writer.new.out) }
     ensures cause { StopsByDevice (T.failures writer.old.out) result (T.failures writer.new.out) }

@@ -1,6 +1,6 @@
 //! A set written as images.
 ghost use Rattle.std.specs.Prelude.{◌≡◌, ◌≢◌, ◌++◌, ◌+◌, [], List, length, map, None, IfOk, IfErr};
-ghost use Rattle.std.specs.Prelude.{◌⊎◌, IfSome, OnOk, false};
+ghost use Rattle.std.specs.Prelude.{◌⊎◌, IfSome, OnOk, OnErr, false};
 ghost use Rattle.std.specs.List.{AllByRecursion};
 ghost use Rattle.tape_writer.specs.Fields.{IsText, IsTextVolume};
 ghost use Rattle.tape_writer.specs.Images.{Holds};
@@ -9,6 +9,7 @@ ghost use Rattle.tape_writer.specs.State.{IsWriting};
 ghost use Rattle.tape_writer.specs.declared.phase.Phase.TheVariants.{Between, Finished};
 ghost use Rattle.tape_writer.specs.ToldFiles.{IfAllKnown, told_files};
 ghost use Rattle.tape_writer.specs.NoVolume.{GaveUpIn, HasNoVolume};
+ghost use Rattle.tape_writer.specs.LeftOf.{IsLeftOfAll, IsLeftSet};
 ghost use Rattle.tape_writer.specs.WriteSet.{IsSetOfImages, cut_of as cut_by};
 ghost use Rattle.tape_writer.specs.WriteFaults.{IsSetFault, IsWholeFault, StopsByDevice};
 
@@ -90,6 +91,13 @@ pub fn write_set<R: Read, S: ImageStore + Drop>(
         → HasNoVolume (Holds S.holds)
         (λ tapes. (tapes.store ≡ refused.images) × (tapes.image ≡ refused.under_way)) plan
         (map (λ f. (f.head, R.remaining f.reader)) files.old)) }
+    // Whatever the fault: nothing was written; or the images that were handed on are whole, and
+    // with the one under way a front of what is written of the files told so far, and no more.
+    ensures front { S.holds images false [] → IfErr result (λ refused.
+        ((refused.images ≡ images) × (refused.under_way ≡ None))
+        ⊎ IfSome (cut_by plan.form plan.shape) (λ cut. IsLeftSet (Holds S.holds)
+        (λ tapes. (tapes.store ≡ refused.images) × (tapes.image ≡ refused.under_way)) plan cut
+        (map (λ f. (f.head, R.remaining f.reader)) files.old))) }
     ensures raw { OnOk result (cut_by plan.form plan.shape ≢ None) }
     // Where raw inputs are no records of the format, or the set or its volumes can't be labelled,
     // nothing was written.
@@ -183,6 +191,10 @@ fn write_whole<T: TapeOut + Drop, R: Read>(
         → (told : List Told) → IsWriting (T.holds writer.old.out) writer.old told
         → GaveUpIn (T.holds writer.new.out) writer.new writer.old.set_id told shape cut
         (map (λ f. (f.head, R.remaining f.reader)) files.old)) }
+    ensures front { writer.old.phase ≡ Between
+        → (told : List Told) → IsWriting (T.holds writer.old.out) writer.old told
+        → OnErr result (IsLeftOfAll (T.holds writer.new.out) writer.new writer.old.set_id told
+        shape cut (map (λ f. (f.head, R.remaining f.reader)) files.old)) }
     ensures cause { StopsByDevice (T.failures writer.old.out) result (T.failures writer.new.out) }
 {
     write_files(alloc, writer, files, shape, cut)?;

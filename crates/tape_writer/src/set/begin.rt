@@ -1,13 +1,14 @@
 //! Files begun.
 
 ghost use Rattle.std.specs.Prelude.{◌≡◌, ◌≢◌, ◌<◌, ◌≤◌, ◌+◌, ◌++◌, ◌∷◌, [], List, length, OnOk};
-ghost use Rattle.std.specs.Prelude.{IfErr, Err, false};
+ghost use Rattle.std.specs.Prelude.{◌⊎◌, IfErr, Err, false};
 ghost use Rattle.tape_blocks.specs.Packing.{IsWritable};
 ghost use Rattle.tape_set.specs.Tight.{least_capacity};
 ghost use Rattle.tape_writer.specs.Fields.{IsTextHead};
-ghost use Rattle.tape_writer.specs.Tapes.{WasAsked};
+ghost use Rattle.tape_writer.specs.Tapes.{Rose, WasAsked};
 ghost use Rattle.tape_writer.specs.Lasting.{Lasting};
-ghost use Rattle.tape_writer.specs.Faults.{FailsByDevice, IsOfOut};
+ghost use Rattle.tape_writer.specs.Faults.{FailsByDevice, IsEnding, IsOfOut};
+ghost use Rattle.tape_writer.specs.Front.{IsLeftBehind, IsLeftInside};
 ghost use Rattle.tape_writer.specs.Told.{Told, opened_by};
 ghost use Rattle.tape_writer.specs.State.{IsWriting, Leaves, Refuses, IfFiling};
 ghost use Rattle.tape_writer.specs.Refusals.{IsBeginFault, IsInFile};
@@ -73,6 +74,15 @@ impl<T: TapeOut + Drop> SetWriter<T> {
               file = opened_by self.old.set_id (length told + 1) head shape;
               records = [];
             } ∷ [])) }
+        // Whatever fault ends the writer: the tapes hold a front of what is written up to the end
+        // of the files told, or of this file's beginning.
+        ensures front { (told : List Told) → IsWriting (T.holds self.old.out) self.old told
+            → IfErr result (λ fault. IsEnding fault
+            → IsLeftBehind (T.holds self.new.out) self.new told
+            ⊎ IsLeftInside (T.holds self.new.out) self.new (told ++ record {
+              file = opened_by self.old.set_id (length told + 1) head shape;
+              records = [];
+            } ∷ [])) }
         ensures lasting { Lasting
             (T.holds self.old.out) (T.failures self.old.out) self.old.course.used
             (T.holds self.new.out) (T.failures self.new.out) self.new.course.used }
@@ -81,6 +91,10 @@ impl<T: TapeOut + Drop> SetWriter<T> {
             self.new.course.volume) }
         ensures leaves { IfErr result (Leaves self.old self.new) }
         ensures cause { FailsByDevice (T.failures self.old.out) result (T.failures self.new.out) }
+        // Memory of its own is taken before anything is written.
+        ensures memory { IfErr result (λ fault. fault ≡ WriteFault.OutOfMemory
+            → (self.new.out ≡ self.old.out)
+            ⊎ Rose (T.failures self.old.out).memory (T.failures self.new.out).memory) }
     {
         if let Err(fault) = self.judge_file(&head, &shape) {
             return Err(fault);
@@ -114,6 +128,7 @@ impl<T: TapeOut + Drop> SetWriter<T> {
             (IsBeginFault self.now.capacity (length self.now.files) head.now shape.now) }
         ensures leaves { IfErr result (λ fault. Leaves self.now self.now fault) }
         ensures cause { IfErr result (λ fault. fault ≢ WriteFault.Device) }
+        ensures ending { IfErr result (λ fault. IsEnding fault → ⊥) }
     {
         match self.phase {
             Phase::Between => {}
@@ -172,6 +187,13 @@ impl<T: TapeOut + Drop> SetWriter<T> {
               file = opened_by self.old.set_id (length told + 1) head shape;
               records = [];
             } ∷ [])) }
+        ensures front { (told : List Told) → IsWriting (T.holds self.old.out) self.old told
+            → IfErr result (λ fault. IsEnding fault
+            → IsLeftBehind (T.holds self.new.out) self.new told
+            ⊎ IsLeftInside (T.holds self.new.out) self.new (told ++ record {
+              file = opened_by self.old.set_id (length told + 1) head shape;
+              records = [];
+            } ∷ [])) }
         ensures lasting { Lasting
             (T.holds self.old.out) (T.failures self.old.out) self.old.course.used
             (T.holds self.new.out) (T.failures self.new.out) self.new.course.used }
@@ -180,6 +202,10 @@ impl<T: TapeOut + Drop> SetWriter<T> {
             self.new.course.volume) }
         ensures leaves { IfErr result (Leaves self.old self.new) }
         ensures cause { FailsByDevice (T.failures self.old.out) result (T.failures self.new.out) }
+        // Memory of its own is taken before anything is written.
+        ensures memory { IfErr result (λ fault. fault ≡ WriteFault.OutOfMemory
+            → (self.new.out ≡ self.old.out)
+            ⊎ Rose (T.failures self.old.out).memory (T.failures self.new.out).memory) }
     {
         let file = self.next_file(head, shape);
         widths(&file.head);

@@ -1,8 +1,9 @@
 //! Records put, files and the set ended.
 
-ghost use Rattle.std.specs.Prelude.{◌≡◌, ◌<◌, ◌+◌, ◌++◌, ◌∷◌, [], List, OnOk, IfErr};
+ghost use Rattle.std.specs.Prelude.{◌≡◌, ◌⊎◌, ◌<◌, ◌+◌, ◌++◌, ◌∷◌, [], List, OnOk, IfErr};
 ghost use Rattle.tape_image.specs.Tape.{TapeItem, mark as mark_item};
 ghost use Rattle.tape_writer.specs.Tapes.{Ended, UnderWay, WasAsked};
+ghost use Rattle.tape_writer.specs.Front.{IsLeftInside, IsLeftBehind, IsLeftWhole};
 ghost use Rattle.tape_writer.specs.Lasting.{Lasting};
 ghost use Rattle.tape_writer.specs.Faults.{FailsWith, IsEnding};
 ghost use Rattle.tape_writer.specs.Told.{Told, with_record};
@@ -55,6 +56,11 @@ impl<T: TapeOut + Drop> SetWriter<T> {
         ensures stuck { (told : List Told) → IsWriting (T.holds self.old.out) self.old told
             → IfErr result (λ fault. fault ≡ WriteFault.OutOfVolumes
             → IsOutOfVolumes (T.holds self.new.out) self.new (with_record told bytes.now)) }
+        // Whatever fault ends the writer: the tapes hold a front of what is written of the records
+        // told, this one with them.
+        ensures front { (told : List Told) → IsWriting (T.holds self.old.out) self.old told
+            → IfErr result (λ fault. IsEnding fault
+            → IsLeftInside (T.holds self.new.out) self.new (with_record told bytes.now)) }
         // Whatever the call answers.
         ensures lasting { Lasting
             (T.holds self.old.out) (T.failures self.old.out) self.old.course.used
@@ -116,6 +122,10 @@ impl<T: TapeOut + Drop> SetWriter<T> {
         ensures stuck { (told : List Told) → IsWriting (T.holds self.old.out) self.old told
             → IfErr result (λ fault. fault ≡ WriteFault.OutOfVolumes
             → IsOutOfVolumes (T.holds self.new.out) self.new told) }
+        ensures front { (told : List Told) → IsWriting (T.holds self.old.out) self.old told
+            → IfErr result (λ fault. IsEnding fault
+            → IsLeftInside (T.holds self.new.out) self.new told
+            ⊎ IsLeftBehind (T.holds self.new.out) self.new told) }
         ensures lasting { Lasting
             (T.holds self.old.out) (T.failures self.old.out) self.old.course.used
             (T.holds self.new.out) (T.failures self.new.out) self.new.course.used }
@@ -180,6 +190,9 @@ impl<T: TapeOut + Drop> SetWriter<T> {
             (Ended (volumes ++ (items ++ mark_item ∷ []) ∷ []))) }
         // The mark and the end word.
         ensures used { OnOk result (self.new.course.used ≡ self.old.course.used + 8) }
+        ensures front { (told : List Told) → IsWriting (T.holds self.old.out) self.old told
+            → IfErr result (λ fault. IsEnding fault
+            → IsLeftWhole (T.holds self.new.out) self.new told) }
         ensures lasting { IfErr result (λ _. Lasting
             (T.holds self.old.out) (T.failures self.old.out) self.old.course.used
             (T.holds self.new.out) (T.failures self.new.out) self.new.course.used) }

@@ -1,4 +1,7 @@
-use Rattle.std.proofs.Common.{refl, arith}
+use Rattle.std.proofs.Common.{refl, arith, ◌+◌}
+use Rattle.std.specs.Prelude.{Ok}
+use Rattle.tape_writer.specs.declared.course.Course.{Course}
+use Rattle.tape_writer.specs.Front.{HoldsFront}
 use Rattle.tape_set.proofs.Everywhere.{every_at}
 use Rattle.tape_writer.specs.Tapes.{Ended}
 use Rattle.tape_label.specs.Widths.{IsWideVolume}
@@ -16,3 +19,17 @@ returns-clause-resting g c = λ set_id h.
     c.requires.fresh c.requires.capacity there
     (every_at IsWideVolume c.args.volumes.now 0 c.index-volumes-0.result c.requires.wide there)
     c.begin_volume.ensures.course (c.begin_volume.ensures.ok (Ended _) h)
+
+pub returns-clause-front : goal.returns-clause-front
+returns-clause-front g c = λ set_id h.
+    let there = got c.args.volumes.now 0 0 c.index-volumes-0.result refl
+    (omega (arith, c.requires.some)) c.index-volumes-0.is in
+    let old = c.args.tape.now.course in
+    let new : Course = record old { volume = old.volume + 1; used = 88 } in (
+      new,
+      between_first (HoldsFront (g.T.TapeOut.holds c.begin_volume.new.self.out))
+          c.args.volumes.now c.args.capacity set_id old new c.index-volumes-0.result (Ok tt)
+          c.requires.fresh c.requires.capacity there
+          (every_at IsWideVolume c.args.volumes.now 0 c.index-volumes-0.result c.requires.wide
+          there) refl (c.begin_volume.ensures.front (Ended _) h),
+    )

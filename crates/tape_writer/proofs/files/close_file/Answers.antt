@@ -1,8 +1,9 @@
-use Rattle.std.proofs.Common.{sym, subst}
+use Rattle.std.proofs.Common.{refl, sym, subst, inl}
 use Rattle.std.proofs.lemmas.Result.{err_from_is_err_and}
 use Rattle.tape_writer.specs.Inside.{IsStuck}
 use Rattle.tape_writer.proofs.Packed.{err_map}
 use Rattle.tape_writer.proofs.Stuck.{stuck_end}
+use Rattle.tape_writer.proofs.Left.{end_left}
 use Rattle.tape_writer.proofs.Ends.{between_closed}
 use Rattle.tape_writer.proofs.Last.{lasting_then}
 use Rattle.tape_writer.proofs.files.close_file.Goals as goal
@@ -35,3 +36,29 @@ returns-clause-stuck g c =
 pub returns-clause-lasting : goal.returns-clause-lasting
 returns-clause-lasting g c =
     lasting_then _ _ _ _ _ _ _ _ _ c.flush_last.ensures.lasting c.end_file.ensures.lasting
+
+pub returns-in_err-flush_last-clause-front : goal.returns-in_err-flush_last-clause-front
+returns-in_err-flush_last-clause-front g c =
+    let p = err_from_is_err_and c.from_residual.result c.from_residual.ensures.1 in
+    rw p.1 (λ set_id past records k.
+    let q = c.in_err-flush_last.ensures.front set_id k.files records k.inside in
+    inl record {
+      past = past;
+      last = record { file = c.args.file.now; records = records };
+      is_told = refl;
+      files = k.files;
+      filed = k.filed;
+      course = q.0;
+      partly = q.1;
+    })
+
+pub returns-clause-front : goal.returns-clause-front
+returns-clause-front g c = λ set_id past records k.
+    end_left (g.T.TapeOut.holds c.flush_last.new.tape.out)
+    (g.T.TapeOut.holds c.end_file.new.self.out) c.args.volumes.now c.args.capacity set_id
+    c.args.file.now c.flush_last.new.tape.course past k.files records c.end_file.result
+    c.requires.capacity
+    (err_map c.end_file.result _ _ (λ f p e t h.
+    subst (λ z. g.T.TapeOut.holds z.out t) (sym (p e).0) h) c.end_file.ensures.none)
+    (λ d o. c.end_file.ensures.front set_id d o) k.filed
+    (c.in_ok-flush_last.ensures.flat set_id k.files records k.inside)

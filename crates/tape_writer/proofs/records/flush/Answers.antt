@@ -1,6 +1,9 @@
 -- The block under way is written.
 use Rattle.std.proofs.Common.{refl, sym, subst, length}
+use Rattle.std.specs.Prelude.{Ok}
+use Rattle.tape_blocks.specs.Tight.{Filled}
 use Rattle.tape_blocks.specs.Packing.{IsWritable}
+use Rattle.tape_writer.specs.Front.{HoldsFront}
 use Rattle.tape_writer.proofs.Last.{lasting_self}
 use Rattle.tape_writer.proofs.Packed.{given_sized, flushed_by, err_map}
 use Rattle.tape_writer.proofs.Stuck.{left_out}
@@ -41,3 +44,15 @@ pub returns-in-None-clause-room : goal.returns-in-None-clause-room
 returns-in-None-clause-room g c = none_room (length c.args.volumes.now) c.args.capacity
     c.args.tape.now.course c.args.packer.now _ c.in-None.ensures.none
     c.take_block.follows.holds-at-none
+
+pub returns-in-Some-clause-front : goal.returns-in-Some-clause-front
+returns-in-Some-clause-front g c = λ some set_id d o.
+    let block : Filled = record { bytes = c.in-Some.block.now; parts = c.args.packer.now.parts } in
+    err_map c.write_block.result _ _ (λ f p not.
+    let q = p not in (
+      q.0,
+      flushed_by (HoldsFront (g.T.TapeOut.holds c.write_block.new.self.out)) c.args.volumes.now
+          c.args.capacity set_id c.args.file.now q.0 d c.args.packer.now c.in-Some.block.now
+          (Ok tt) c.in-Some.ensures.found q.1,
+    ))
+    (c.write_block.ensures.front set_id d block refl o)

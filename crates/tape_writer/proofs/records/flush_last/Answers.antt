@@ -2,6 +2,7 @@ use Rattle.std.proofs.Common.{refl, sym, subst}
 use Rattle.tape_writer.specs.Inside.{IsInside, IsStuck}
 use Rattle.tape_writer.proofs.Packed.{flat_by, err_map}
 use Rattle.tape_writer.proofs.Stuck.{stuck_last}
+use Rattle.tape_writer.proofs.Left.{last_left}
 use Rattle.tape_writer.proofs.records.flush_last.Goals as goal
 
 pub returns-clause-flat : goal.returns-clause-flat
@@ -23,3 +24,13 @@ returns-clause-stuck g c =
     (stuck_last (g.T.TapeOut.holds c.args.tape.now.out) c.args.volumes.now c.args.capacity set_id
     c.args.file.now c.args.tape.now.course c.args.packer.now fs records k q.1))
     c.flush.ensures.stuck
+
+pub returns-clause-front : goal.returns-clause-front
+returns-clause-front g c = λ set_id fs records k.
+    last_left (g.T.TapeOut.holds c.args.tape.now.out) (g.T.TapeOut.holds c.flush.new.tape.out)
+    c.args.volumes.now c.args.capacity set_id c.args.file.now c.args.tape.now.course
+    c.args.packer.now fs records c.flush.result c.args.packer.now.parts refl
+    (λ e. (c.flush.ensures.none e).0)
+    (err_map c.flush.result _ _ (λ f p e t h.
+    subst (λ z. g.T.TapeOut.holds z.out t) (sym (p e).0) h) c.flush.ensures.stuck)
+    (λ some d o. c.flush.ensures.front some set_id d o) k

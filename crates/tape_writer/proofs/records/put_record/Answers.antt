@@ -10,6 +10,7 @@ use Rattle.tape_blocks.proofs.RunLaws.{offers_shape}
 use Rattle.tape_writer.proofs.Packed.{packing_first, packing_last, packing_next, judged_next}
 use Rattle.tape_writer.proofs.Packed.{judged_more}
 use Rattle.tape_writer.proofs.Stuck.{stuck_put}
+use Rattle.tape_writer.proofs.Left.{mid_left}
 use Rattle.tape_writer.proofs.Room.{begun_spanned, offered_room, taken_room}
 use Rattle.tape_blocks.specs.Packing.{IsWritable}
 use Rattle.tape_label.specs.declared.values.Format.TheVariants.{Spanned}
@@ -112,3 +113,19 @@ returns-in-Ok-Taken-clause-room g c =
           (λ e. subst (λ s. s.format ≡ Spanned) shape (c.offers.invariant.begun e))
           c.in-Ok-Taken.ensures.judged offers,
     )
+
+pub returns-in_err-flush-in-Ok-BlockReady-clause-front :
+    goal.returns-in_err-flush-in-Ok-BlockReady-clause-front
+returns-in_err-flush-in-Ok-BlockReady-clause-front g c =
+    let offers : Offers c.offers.packer c.offers.rest.now (BlockReady c.in-Ok-BlockReady.taken)
+    c.offer.new.self = rw c.in-Ok-BlockReady.field-0-is at c.in-Ok-BlockReady.ensures.ok in
+    let p = err_from_is_err_and c.from_residual.result c.from_residual.ensures.1 in
+    rw (p.1, p.2) (λ set_id fs records k not.
+    mid_left (g.T.TapeOut.holds c.offers.tape.out) (g.T.TapeOut.holds c.flush.new.tape.out)
+    c.args.volumes.now c.args.capacity set_id c.args.file.now c.offers.tape.course
+    c.offers.packer c.offer.new.self fs records c.args.whole.now c.offers.rest.now
+    c.in-Ok-BlockReady.taken _ c.in-Ok-BlockReady.ensures.judged offers
+    (λ e t h. subst (λ z. g.T.TapeOut.holds z.out t)
+    (sym (c.in_err-flush-in-Ok-BlockReady.ensures.stuck e).0) h)
+    (λ d o other. c.in_err-flush-in-Ok-BlockReady.ensures.front offers.0 set_id d o other)
+    (c.offers.invariant.packing set_id fs records k))

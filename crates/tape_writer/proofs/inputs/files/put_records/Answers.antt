@@ -6,6 +6,8 @@ use Rattle.tape_writer.proofs.inputs.Putting.{put_none, put_one, given_cut, same
 use Rattle.tape_writer.proofs.inputs.Stopping.{gave_up, grows_self, grows_then, stops}
 use Rattle.tape_writer.proofs.inputs.Refusing.{not_told, put_fault, put_other, next_fault}
 use Rattle.tape_writer.proofs.inputs.Refusing.{next_long}
+use Rattle.tape_writer.specs.Front.{IsLeftInside}
+use Rattle.tape_writer.proofs.inputs.Leaving.{read_left, put_left}
 use Rattle.tape_writer.proofs.inputs.files.put_records.Goals as goal
 
 pub records-preserved : goal.records-preserved
@@ -78,3 +80,18 @@ returns-in-Err-put-clause-cause g c =
 pub returns-in-Err-put-clause-count : goal.returns-in-Err-put-clause-count
 returns-in-Err-put-clause-count g c =
     grows_then _ _ _ c.records.invariant.grew c.put.ensures.lasting.count
+
+pub returns-in-Err-put-clause-front : goal.returns-in-Err-put-clause-front
+returns-in-Err-put-clause-front g c = λ file is told held.
+    let r = c.next.new.self.record.items in
+    put_left (λ out. g.T.TapeOut.holds out) c.records.writer c.put.new.self file _ _ _ _ _ _ _ _ r
+    c.in-Err-put.fault c.records.invariant.put (c.records.invariant.stays file is)
+    (given_cut _ _ _ _ _ c.in-Ok-true.field-0 _ _ _ _ c.records.invariant.cut c.next.ensures.cut
+    c.in-Ok-true.field-0-test c.in-Ok-true.ensures.given) c.in-Err-put.ensures.leaves
+    (λ t h e. subst (λ z. IsLeftInside (g.T.TapeOut.holds c.put.new.self.out) c.put.new.self
+    (with_record t z)) c.record.ensures (c.in-Err-put.ensures.front t h e)) told held
+
+pub returns-in-Err-clause-front : goal.returns-in-Err-clause-front
+returns-in-Err-clause-front g c = λ file is told held.
+    read_left (g.T.TapeOut.holds c.records.writer.out) c.records.writer file _ _ _ _ _ _
+    c.records.invariant.put (c.records.invariant.stays file is) told held

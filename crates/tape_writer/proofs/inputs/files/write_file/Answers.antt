@@ -1,4 +1,4 @@
-use Rattle.std.proofs.Common.{◌≡◌, ◌+◌, ◌∙◌, length, ap, inr}
+use Rattle.std.proofs.Common.{◌≡◌, ◌+◌, ◌∙◌, length, ap, inl, inr}
 use Rattle.tape_writer.specs.declared.fault.WriteFault.TheVariants.{OutOfVolumes}
 use Rattle.std.proofs.lemmas.Result.{err_from_is_err_and}
 use Rattle.std.specs.Io.KnownBytes.{prepend_known}
@@ -10,6 +10,13 @@ use Rattle.tape_writer.proofs.inputs.Putting.{file_told}
 use Rattle.tape_writer.specs.ToldFiles.{with_file}
 use Rattle.tape_writer.proofs.inputs.Refusing.{input_fault, end_fault}
 use Rattle.tape_writer.proofs.inputs.Stopping.{file_out, end_out}
+use Rattle.std.proofs.Common.{subst, sym}
+use Rattle.std.specs.Prelude.{◌⊎◌}
+use Rattle.tape_writer.specs.Refusals.{IsInFile}
+use Rattle.tape_writer.specs.Front.{IsLeftInside, IsLeftBehind}
+use Rattle.tape_writer.proofs.Standing.{inside_writing, behind_writing}
+use Rattle.tape_writer.proofs.inputs.Leaving.{refused_left, none_left, if_any, file_left}
+use Rattle.tape_writer.proofs.inputs.Leaving.{end_left}
 use Rattle.tape_writer.proofs.inputs.files.write_file.Goals as goal
 
 pub returns-in-Ok-end_file-clause-told : goal.returns-in-Ok-end_file-clause-told
@@ -73,3 +80,59 @@ returns-in_err-put_records-clause-cause g c =
     let p = err_from_is_err_and c.from_residual.result c.from_residual.ensures.1 in
     rw (p.1, p.2) (λ e. rose_from _ _ _ c.begin_file.ensures.lasting.count.0
     (c.in_err-put_records.ensures.cause e))
+
+pub returns-in-Err-clause-front : goal.returns-in-Err-clause-front
+returns-in-Err-clause-front g c = λ between told held.
+    if_any (g.R.Read.remaining c.args.input.now) _ (λ bytes.
+    refused_left (λ out. g.T.TapeOut.holds out) c.args.writer.now c.begin_file.new.self
+    c.in-Err.fault _ told c.in-Err.ensures.leaves held
+    (λ same writing. inl (behind_writing (g.T.TapeOut.holds c.begin_file.new.self.out)
+    c.begin_file.new.self told (ap (λ w. w.phase) same ∙ between) writing))
+    (λ e. elim (c.in-Err.ensures.front told held e) [
+      | inl same ↦ inl same
+      | inr begun ↦ inr (none_left (g.T.TapeOut.holds c.begin_file.new.self.out)
+          c.begin_file.new.self
+          (with_file c.args.writer.now.set_id told c.args.head c.args.shape) _ begun)
+    ]))
+
+pub returns-in_default-new-clause-front : goal.returns-in_default-new-clause-front
+returns-in_default-new-clause-front g c = λ between told held.
+    if_any (g.R.Read.remaining c.args.input.now) _ (λ bytes.
+    inr (none_left (g.T.TapeOut.holds c.begin_file.new.self.out) c.begin_file.new.self
+    (with_file c.args.writer.now.set_id told c.args.head c.args.shape) _
+    (inside_writing (g.T.TapeOut.holds c.begin_file.new.self.out) c.begin_file.new.self _ _
+    c.in_default.ensures.opened (c.in_default.ensures.told told held))))
+
+pub returns-in_err-put_records-clause-front : goal.returns-in_err-put_records-clause-front
+returns-in_err-put_records-clause-front g c =
+    let p = err_from_is_err_and c.from_residual.result c.from_residual.ensures.1 in
+    let made = c.in-Ok.ensures in
+    let known = g.R.Read.remaining c.args.input.now in
+    rw p.1 (λ between told held.
+    file_left (g.T.TapeOut.holds c.put_records.new.writer.out) c.put_records.new.writer told
+    (with_file c.args.writer.now.set_id told c.args.head c.args.shape) c.args.cut _ _ known _
+    (ap (λ a. prepend_known a (g.R.Read.remaining c.in-Ok.records.device.now)) made.3
+    ∙ prepend_known-nil _ ∙ ap (λ d. g.R.Read.remaining d.now) made.0) made.1 made.2
+    (c.in_err-put_records.ensures.front _ c.in_default.ensures.opened _
+    (c.in_default.ensures.told told held)))
+
+pub returns-clause-front : goal.returns-clause-front
+returns-clause-front g c = λ between told held.
+    let made = c.in-Ok.ensures in
+    let known = g.R.Read.remaining c.args.input.now in
+    let H = g.T.TapeOut.holds c.end_file.new.self.out in
+    end_left H c.end_file.new.self told
+    (with_file c.args.writer.now.set_id told c.args.head c.args.shape) c.args.cut _ _ known _ _
+    (IsWriting (g.T.TapeOut.holds c.put_records.new.writer.out) c.put_records.new.writer)
+    (ap (λ a. prepend_known a (g.R.Read.remaining c.in-Ok.records.device.now)) made.3
+    ∙ prepend_known-nil _ ∙ ap (λ d. g.R.Read.remaining d.now) made.0) made.1 made.2
+    (c.in_ok-put_records.ensures.told _ (c.in_default.ensures.told told held))
+    (λ t h. refused_left (λ out. g.T.TapeOut.holds out) c.put_records.new.writer
+    c.end_file.new.self c.in-Err-end_file.fault
+    (IsLeftInside H c.end_file.new.self t ⊎ IsLeftBehind H c.end_file.new.self t) t
+    c.in-Err-end_file.ensures.leaves h
+    (λ same writing. inl (inside_writing H c.end_file.new.self _ t
+    (subst (λ z. IsInFile (opened_by c.args.writer.now.set_id
+    (length c.args.writer.now.files + 1) c.args.head c.args.shape) z.phase) (sym same)
+    (c.in_ok-put_records.ensures.stays _ c.in_default.ensures.opened)) writing))
+    (c.in-Err-end_file.ensures.front t h))

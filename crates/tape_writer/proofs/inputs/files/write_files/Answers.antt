@@ -7,6 +7,7 @@ use Rattle.tape_writer.specs.Records.{records_of}
 use Rattle.tape_writer.proofs.inputs.Filing.{wrote_none, wrote_one}
 use Rattle.tape_writer.proofs.inputs.Refusing.{wrote_fault}
 use Rattle.tape_writer.proofs.inputs.Stopping.{wrote_out, grows_self, grows_then}
+use Rattle.tape_writer.proofs.inputs.Leaving.{wrote_left}
 use Rattle.tape_writer.proofs.inputs.files.write_files.Goals as goal
 
 pub files-init : goal.files-init
@@ -71,3 +72,16 @@ returns-in_err-write_file-clause-stuck g c =
     (IsWriting (g.T.TapeOut.holds c.files.writer.out) c.files.writer) c.files.writer.set_id x
     c.index-files-at.result (search rules) refl c.files.invariant.wrote c.files.invariant.set_id
     (c.in_err-write_file.ensures.stuck e) told held)
+
+pub returns-in_err-write_file-clause-front : goal.returns-in_err-write_file-clause-front
+returns-in_err-write_file-clause-front g c =
+    let p = err_from_is_err_and c.from_residual.result c.from_residual.ensures.1 in
+    let x = get_or c.files.files c.files.at c.index-files-at.result in
+    rw p.1 (λ between told held.
+    wrote_left (g.T.TapeOut.holds c.write_file.new.writer.out) c.write_file.new.writer _
+    (λ f. (f.head, g.R.Read.remaining f.reader)) c.args.writer.now.set_id c.args.shape c.args.cut
+    c.args.files.now c.files.files c.files.at
+    (IsWriting (g.T.TapeOut.holds c.args.writer.now.out) c.args.writer.now)
+    (IsWriting (g.T.TapeOut.holds c.files.writer.out) c.files.writer) c.files.writer.set_id x
+    c.index-files-at.result (search rules) refl c.files.invariant.wrote c.files.invariant.set_id
+    (c.in_err-write_file.ensures.front (c.files.invariant.stands between).0) told held)

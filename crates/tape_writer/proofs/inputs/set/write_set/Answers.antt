@@ -2,6 +2,7 @@ use Rattle.std.proofs.Common.{◌≡◌, [], ap, sym, subst, ◌∙◌, map, inr
 use Rattle.tape_writer.specs.Images.{Holds}
 use Rattle.tape_writer.specs.NoVolume.{GaveUpIn, GaveUpSet}
 use Rattle.tape_writer.specs.ToldFiles.{IfAllKnown, told_files}
+use Rattle.tape_writer.specs.LeftOf.{IsLeftOfAll, IsLeftSet}
 use Rattle.tape_writer.specs.WriteSet.{IsSetOfImages}
 use Rattle.tape_writer.proofs.inputs.Finished.{set_of_images, if_cut, all_known}
 use Rattle.tape_writer.proofs.inputs.set.write_set.Goals as goal
@@ -48,5 +49,27 @@ returns-in-Err-write_whole-clause-stuck g c fresh = λ e.
       capacity = c.write_whole.ensures.same.1 ∙ ap (λ w. w.capacity) made;
       set_id = c.write_whole.ensures.same.2 ∙ ap (λ w. w.set_id) made;
       stuck = subst (λ s. GaveUpIn (Holds H whole.out) whole s [] plan.shape c.in-Some.cut inputs)
+          (ap (λ w. w.set_id) made) out;
+    })
+
+pub returns-in-Err-write_whole-clause-front : goal.returns-in-Err-write_whole-clause-front
+returns-in-Err-write_whole-clause-front g c fresh =
+    let plan = c.args.plan in
+    let inputs = map (λ f. (f.head, g.R.Read.remaining f.reader)) c.args.files.now in
+    let begun = c.judged-writer.ensures.told (c.new.ensures.held fresh) in
+    let made = c.judged-writer.ensures.made in
+    let whole = c.write_whole.new.writer in
+    let H = g.S.ImageStore.holds in
+    let out = c.in-Err-write_whole.ensures.front (ap (λ w. w.phase) made) [] begun in
+    inr (if_cut (λ cut.
+    IsLeftSet (Holds H) (λ t. (t.store ≡ c.left.result.images)
+    × (t.image ≡ c.left.result.under_way)) plan cut inputs) _ _ c.in-Some.cut
+    c.in-Some.is c.cut_of.ensures record {
+      writer = whole;
+      on_tapes = (sym c.left.ensures.images, sym c.left.ensures.under_way);
+      on_volumes = c.write_whole.ensures.same.0 ∙ ap (λ w. w.volumes) made;
+      capacity = c.write_whole.ensures.same.1 ∙ ap (λ w. w.capacity) made;
+      set_id = c.write_whole.ensures.same.2 ∙ ap (λ w. w.set_id) made;
+      left = subst (λ s. IsLeftOfAll (Holds H whole.out) whole s [] plan.shape c.in-Some.cut inputs)
           (ap (λ w. w.set_id) made) out;
     })

@@ -1,8 +1,11 @@
-use Rattle.std.proofs.Common.{rules, ap, ◌∙◌}
+use Rattle.std.proofs.Common.{rules, ap, ◌∙◌, refl, inl, inr}
 use Rattle.tape_writer.specs.State.{SetState}
 use Rattle.tape_writer.proofs.Asked.{asked_of}
 use Rattle.tape_writer.proofs.Last.{lasting_self}
 use Rattle.tape_writer.proofs.Calls.{begin_told}
+use Rattle.tape_writer.specs.declared.phase.Phase.TheVariants.{Failed}
+use Rattle.tape_writer.proofs.Standing.{behind_writing}
+use Rattle.tape_writer.proofs.Left.{left_begin}
 use Rattle.tape_writer.proofs.set.SetWriter.begin_with.Goals as goal
 
 pub returns-then-is_err-clause-lasting : goal.returns-then-is_err-clause-lasting
@@ -37,3 +40,46 @@ returns-in-Ok-clause-asked g c =
     (g.T.TapeOut.asked c.begin.new.tape.out) c.deref.result.now c.self.inside.volumes.items
     c.self.inside.tape.course.volume c.begin.new.tape.course.volume (search rules)
     c.in-Ok.ensures.asked w)
+
+pub returns-then-is_err-clause-front : goal.returns-then-is_err-clause-front
+returns-then-is_err-clause-front g c =
+    let old : SetState g.row.T.Denot = record {
+      out = c.self.inside.tape.out;
+      volumes = c.self.inside.volumes.items;
+      capacity = c.self.inside.capacity;
+      set_id = c.self.inside.set_id;
+      files = c.self.inside.files.items;
+      course = c.self.inside.tape.course;
+      phase = c.self.inside.phase;
+    } in
+    let between = ap (λ (z : SetState g.row.T.Denot). z.phase) c.self.view_is
+    ∙ c.requires.between in
+    rw (← c.self.view_is) (λ told k ends.
+    inl (behind_writing (g.T.TapeOut.holds c.self.inside.tape.out) old told between k))
+
+pub returns-in-Err-clause-front : goal.returns-in-Err-clause-front
+returns-in-Err-clause-front g c =
+    let old : SetState g.row.T.Denot = record {
+      out = c.self.inside.tape.out;
+      volumes = c.self.inside.volumes.items;
+      capacity = c.self.inside.capacity;
+      set_id = c.self.inside.set_id;
+      files = c.self.inside.files.items;
+      course = c.self.inside.tape.course;
+      phase = c.self.inside.phase;
+    } in
+    let between = ap (λ (z : SetState g.row.T.Denot). z.phase) c.self.view_is
+    ∙ c.requires.between in
+    rw (← c.self.view_is) (λ told k ends.
+    inr (left_begin (g.T.TapeOut.holds c.self.inside.tape.out)
+    (g.T.TapeOut.holds c.begin.new.tape.out) old (record old { phase = Failed })
+    c.deref.result.now c.next_file-file.result c.args.packer told c.args.head c.args.shape
+    between (search rules) (refl, refl, refl) (search rules)
+    (λ s f x. c.in-Err.ensures.front c.self.inside.set_id told c.args.packer s f (search rules)
+    x) k))
+
+pub returns-then-is_err-clause-memory : goal.returns-then-is_err-clause-memory
+returns-then-is_err-clause-memory g c = rw (← c.self.view_is) (λ e. inl refl)
+
+pub returns-in-Err-clause-memory : goal.returns-in-Err-clause-memory
+returns-in-Err-clause-memory g c = rw (← c.self.view_is) (λ e. inr (c.in-Err.ensures.cause.1 e))

@@ -3,6 +3,7 @@ use Rattle.tape_writer.specs.State.{SetState}
 use Rattle.tape_writer.proofs.Asked.{asked_of}
 use Rattle.tape_writer.proofs.Last.{lasting_self}
 use Rattle.tape_writer.proofs.Calls.{end_told, stuck_told}
+use Rattle.tape_writer.proofs.Left.{left_end}
 use Rattle.tape_writer.proofs.set.SetWriter.end_file.Goals as goal
 
 pub returns-in-Between-clause-lasting : goal.returns-in-Between-clause-lasting
@@ -58,3 +59,29 @@ returns-in-Ok-clause-asked g c =
     (g.T.TapeOut.asked c.close_file.new.tape.out) c.deref.result.now c.self.inside.volumes.items
     c.self.inside.tape.course.volume c.close_file.new.tape.course.volume (search rules)
     c.in-Ok.ensures.asked w)
+
+pub returns-in-Err-clause-front : goal.returns-in-Err-clause-front
+returns-in-Err-clause-front g c =
+    let old : SetState g.row.T.Denot = record {
+      out = c.self.inside.tape.out;
+      volumes = c.self.inside.volumes.items;
+      capacity = c.self.inside.capacity;
+      set_id = c.self.inside.set_id;
+      files = c.self.inside.files.items;
+      course = c.self.inside.tape.course;
+      phase = c.self.inside.phase;
+    } in
+    rw (← c.self.view_is) (λ told k ends.
+    left_end (g.T.TapeOut.holds c.self.inside.tape.out)
+    (g.T.TapeOut.holds c.close_file.new.tape.out) old c.deref.result.now c.in-Filing.file told
+    c.in-Filing.is (search rules)
+    (λ past records x. c.in-Err.ensures.front c.self.inside.set_id past records x) k)
+
+pub returns-in-Between-clause-front : goal.returns-in-Between-clause-front
+returns-in-Between-clause-front g c = λ told k ends. absurd ends
+
+pub returns-in-Failed-clause-front : goal.returns-in-Failed-clause-front
+returns-in-Failed-clause-front g c = λ told k ends. absurd ends
+
+pub returns-in-Finished-clause-front : goal.returns-in-Finished-clause-front
+returns-in-Finished-clause-front g c = λ told k ends. absurd ends

@@ -1,5 +1,7 @@
 use Rattle.std.proofs.Common.{rules}
+use Rattle.tape_writer.specs.State.{SetState}
 use Rattle.tape_writer.proofs.Asked.{asked_of}
+use Rattle.tape_writer.proofs.Left.{left_finish}
 use Rattle.tape_writer.proofs.Last.{lasting_self}
 use Rattle.tape_writer.proofs.set.SetWriter.finish.Goals as goal
 
@@ -22,3 +24,32 @@ returns-in-Ok-clause-asked g c =
     (g.T.TapeOut.asked c.end_set.new.tape.out) c.deref.result.now c.self.inside.volumes.items
     c.self.inside.tape.course.volume c.end_set.new.tape.course.volume (search rules)
     c.in-Ok.ensures.asked w)
+
+pub returns-in-Err-clause-front : goal.returns-in-Err-clause-front
+returns-in-Err-clause-front g c =
+    let old : SetState g.row.T.Denot = record {
+      out = c.self.inside.tape.out;
+      volumes = c.self.inside.volumes.items;
+      capacity = c.self.inside.capacity;
+      set_id = c.self.inside.set_id;
+      files = c.self.inside.files.items;
+      course = c.self.inside.tape.course;
+      phase = c.self.inside.phase;
+    } in
+    rw (← c.self.view_is) (λ told k ends.
+    left_finish (g.T.TapeOut.holds c.self.inside.tape.out)
+    (g.T.TapeOut.holds c.end_set.new.tape.out) old c.deref.result.now told
+    (search rules) (search rules) (search rules)
+    (λ some x. c.end_set.ensures.front c.self.inside.set_id told some x) k)
+
+pub returns-in-Filing-clause-front : goal.returns-in-Filing-clause-front
+returns-in-Filing-clause-front g c = λ told k ends. absurd ends
+
+pub returns-in-Failed-clause-front : goal.returns-in-Failed-clause-front
+returns-in-Failed-clause-front g c = λ told k ends. absurd ends
+
+pub returns-in-Finished-clause-front : goal.returns-in-Finished-clause-front
+returns-in-Finished-clause-front g c = λ told k ends. absurd ends
+
+pub returns-then-self-eq0-clause-front : goal.returns-then-self-eq0-clause-front
+returns-then-self-eq0-clause-front g c = λ told k ends. absurd ends

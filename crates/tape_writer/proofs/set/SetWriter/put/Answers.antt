@@ -3,6 +3,7 @@ use Rattle.tape_writer.specs.State.{SetState}
 use Rattle.tape_writer.proofs.Asked.{asked_of}
 use Rattle.tape_writer.proofs.Last.{lasting_self}
 use Rattle.tape_writer.proofs.Calls.{put_told, stuck_put_told, if_filing}
+use Rattle.tape_writer.proofs.Left.{left_put}
 use Rattle.tape_writer.proofs.set.SetWriter.put.Goals as goal
 
 pub returns-in-Between-clause-lasting : goal.returns-in-Between-clause-lasting
@@ -66,3 +67,32 @@ returns-in-Ok-clause-asked g c =
     (g.T.TapeOut.asked c.put_record.new.tape.out) c.deref.result.now c.self.inside.volumes.items
     c.self.inside.tape.course.volume c.put_record.new.tape.course.volume (search rules)
     c.in-Ok.ensures.asked w)
+
+pub returns-in-Err-2-clause-front : goal.returns-in-Err-2-clause-front
+returns-in-Err-2-clause-front g c =
+    let old : SetState g.row.T.Denot = record {
+      out = c.self.inside.tape.out;
+      volumes = c.self.inside.volumes.items;
+      capacity = c.self.inside.capacity;
+      set_id = c.self.inside.set_id;
+      files = c.self.inside.files.items;
+      course = c.self.inside.tape.course;
+      phase = c.self.inside.phase;
+    } in
+    rw (← c.self.view_is) (λ told k ends.
+    left_put (g.T.TapeOut.holds c.self.inside.tape.out)
+    (g.T.TapeOut.holds c.put_record.new.tape.out) old
+    c.put_record.new.tape.out c.deref.result.now c.put_record.new.tape.course c.in-Filing.file told
+    c.args.bytes.now
+    c.in-Filing.is
+    (search rules)
+    (λ fs records x. c.in-Err.ensures.front c.self.inside.set_id fs records x ends) k)
+
+pub returns-in-Between-clause-front : goal.returns-in-Between-clause-front
+returns-in-Between-clause-front g c = λ told k ends. absurd ends
+
+pub returns-in-Failed-clause-front : goal.returns-in-Failed-clause-front
+returns-in-Failed-clause-front g c = λ told k ends. absurd ends
+
+pub returns-in-Finished-clause-front : goal.returns-in-Finished-clause-front
+returns-in-Finished-clause-front g c = λ told k ends. absurd ends

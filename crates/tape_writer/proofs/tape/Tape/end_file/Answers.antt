@@ -1,5 +1,11 @@
 -- A file's end in the section under way, and behind a change.
-use Rattle.std.proofs.Common.{rules, arith}
+use Rattle.std.proofs.Common.{rules, arith, refl, true}
+use Rattle.std.specs.Prelude.{Ok}
+use Rattle.tape_writer.specs.Draft.{ended_course, changed_course}
+use Rattle.tape_writer.specs.Labels.{trailer_items}
+use Rattle.tape_writer.specs.Front.{HoldsFront}
+use Rattle.tape_writer.proofs.Fronts.{front_items, err_any}
+use Rattle.std.proofs.lemmas.Result.{err_from_is_err_and}
 use Rattle.tape_set.proofs.Everywhere.{every_at}
 use Rattle.tape_label.specs.Widths.{IsWideVolume}
 use Rattle.tape_writer.proofs.Last.{lasting_self}
@@ -30,3 +36,56 @@ returns-clause-closed g c = λ set_id d o.
 
 pub returns-in_default-clause-lasting : goal.returns-in_default-clause-lasting
 returns-in_default-clause-lasting g c = lasting_self _ _ _
+
+pub returns-then-takes_end-clause-front : goal.returns-then-takes_end-clause-front
+returns-then-takes_end-clause-front g c = λ set_id d o.
+    err_any c.end_section.result _ (λ f not.
+    let new = ended_course c.args.self.now.course in (
+      new,
+      close_here (g.T.TapeOut.holds c.args.self.now.out)
+          (HoldsFront (g.T.TapeOut.holds c.end_section.new.self.out)) c.args.volumes.now
+          c.args.capacity set_id c.args.file.now c.args.self.now.course new d (Ok tt)
+          o c.requires.volumes (omega arith)
+          (let fits = c.takes_end.ensures.yes (search rules) in omega (arith, fits))
+          c.end_section.ensures.front refl,
+    ))
+
+pub returns-in_err-change_to-clause-front : goal.returns-in_err-change_to-clause-front
+returns-in_err-change_to-clause-front g c =
+    let p = err_from_is_err_and c.from_residual.result c.from_residual.ensures.1 in
+    rw (p.1, p.2) (λ set_id d o not.
+    let there = got c.args.volumes.now c.from.result c.args.self.now.course.volume
+    c.in-Some.volume.now (search rules) c.in-Some.ensures.lookup.3.0 c.in-Some.ensures.lookup.1 in
+    let K = HoldsFront (g.T.TapeOut.holds c.change_to.new.self.out) in
+    let one = changed_course c.args.self.now.course in
+    let two = ended_course one in (
+      two,
+      close_next (g.T.TapeOut.holds c.args.self.now.out) K K c.args.volumes.now c.args.capacity
+          set_id c.args.file.now c.args.self.now.course one two d c.in-Some.volume.now (Ok tt)
+          o (let due = c.takes_end.ensures.no (search rules) in omega (arith, due)) there
+          (every_at IsWideVolume c.args.volumes.now c.args.self.now.course.volume
+          c.in-Some.volume.now c.requires.wide there) c.requires.volumes c.requires.capacity
+          (omega arith) c.change_to.ensures.front refl
+          (λ vs items h. front_items (g.T.TapeOut.holds c.change_to.new.self.out) vs items
+          (trailer_items c.args.file.now one.sect one.count true) h) refl,
+    ))
+
+pub returns-clause-front : goal.returns-clause-front
+returns-clause-front g c = λ set_id d o.
+    err_any c.end_section-2.result _ (λ f not.
+    let there = got c.args.volumes.now c.from.result c.args.self.now.course.volume
+    c.in-Some.volume.now (search rules) c.in-Some.ensures.lookup.3.0 c.in-Some.ensures.lookup.1 in
+    let one = c.change_to.new.self.course in
+    let two = ended_course one in (
+      two,
+      close_next (g.T.TapeOut.holds c.args.self.now.out)
+          (g.T.TapeOut.holds c.change_to.new.self.out)
+          (HoldsFront (g.T.TapeOut.holds c.end_section-2.new.self.out)) c.args.volumes.now
+          c.args.capacity set_id c.args.file.now c.args.self.now.course one two d
+          c.in-Some.volume.now (Ok tt)
+          o (let due = c.takes_end.ensures.no (search rules) in omega (arith, due)) there
+          (every_at IsWideVolume c.args.volumes.now c.args.self.now.course.volume
+          c.in-Some.volume.now c.requires.wide there) c.requires.volumes c.requires.capacity
+          (omega arith) c.in_ok-change_to.ensures.ok c.in_ok-change_to.ensures.course
+          c.end_section-2.ensures.front refl,
+    ))

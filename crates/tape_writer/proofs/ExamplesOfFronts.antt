@@ -1,0 +1,69 @@
+-- The cases of what a refusal leaves on the tapes.
+use Rattle.std.proofs.Common.{◌≡◌, ◌⊎◌, ℕ, List, [], ◌∷◌, ◌++◌, Option, Some, IfSome, refl, subst}
+use Rattle.std.proofs.Common.{ap, ◌∙◌, inl, inr}
+use Rattle.tape_image.specs.Tape.{TapeItem}
+use Rattle.tape_label.specs.declared.values.Head1.{Head1}
+use Rattle.tape_blocks.specs.declared.shape.Shape.{Shape}
+use Rattle.tape_writer.specs.declared.inputs.cut.Cut.{Cut}
+use Rattle.tape_writer.specs.Records.{records_of}
+use Rattle.tape_writer.specs.State.{SetState}
+use Rattle.tape_writer.specs.Tapes.{Tapes, UnderWay}
+use Rattle.tape_writer.specs.ToldFiles.{told_files, with_file, IfAllKnown}
+use Rattle.tape_writer.specs.Front.{behind_steps, HoldsFront, IsLeftBehind, IsLeftWhole}
+use Rattle.tape_writer.specs.LeftOf.{IsLeftOf, IsLeftIn, IsLeftOfAll}
+use Rattle.tape_writer.specs.CasesOfFronts.{CasesOfFronts}
+use Rattle.tape_writer.proofs.Fronts.{front_begins}
+
+not_back : (u : TapeItem) → HoldsFront (λ t. t ≡ UnderWay [] (u ∷ [])) (UnderWay [] []) → ⊥
+not_back u f =
+    let b = front_begins (λ t. t ≡ UnderWay [] (u ∷ [])) (u ∷ []) (UnderWay [] []) (λ t h. h) f in
+    let same : [] ∷ [] ≡ (u ∷ b.more) ∷ b.rest = b.is in
+    absurd (cc)
+
+-- the one input of a set is the first of it
+first_of : (tapes : Tapes) (w : SetState ℕ) (id : List ℕ) (shape : Shape) (cut : Cut)
+    (x : Head1 × List ℕ) (before after : List (Head1 × Option (List ℕ)))
+    (input : Head1 × Option (List ℕ))
+    → (x.0, Some x.1) ∷ [] ≡ before ++ input ∷ after
+    → IfAllKnown before (λ fs. IfSome input.1 (λ bytes.
+    IsLeftBehind (λ t. t ≡ tapes) w ([] ++ told_files id shape cut 1 fs)
+    ⊎ IsLeftOf (λ t. t ≡ tapes) w (with_file id ([] ++ told_files id shape cut 1 fs) input.0 shape)
+    (records_of cut bytes)))
+    → IsLeftBehind (λ t. t ≡ tapes) w []
+    ⊎ IsLeftOf (λ t. t ≡ tapes) w (with_file id [] x.0 shape) (records_of cut x.1)
+first_of tapes w id shape cut x [] after input split left =
+    let head : input ≡ (x.0, Some x.1) = cc split in
+    subst (λ i. IfSome i.1 (λ bytes. IsLeftBehind (λ t. t ≡ tapes) w []
+    ⊎ IsLeftOf (λ t. t ≡ tapes) w (with_file id [] i.0 shape) (records_of cut bytes))) head left
+first_of tapes w id shape cut x (b ∷ []) after input split left = absurd (cc split)
+first_of tapes w id shape cut x (b ∷ c ∷ before) after input split left = absurd (cc split)
+
+none_split : (before after : List (Head1 × Option (List ℕ))) (input : Head1 × Option (List ℕ))
+    → [] ≡ before ++ input ∷ after → ⊥
+none_split [] after input e = cc
+none_split (b ∷ before) after input e = cc
+
+of_none : (tapes : Tapes) (w : SetState ℕ) (id : List ℕ) (shape : Shape) (cut : Cut)
+    → IsLeftOfAll (λ t. t ≡ tapes) w id [] shape cut []
+    → IsLeftBehind (λ t. t ≡ tapes) w [] ⊎ IsLeftWhole (λ t. t ≡ tapes) w []
+of_none tapes w id shape cut (inl g) = absurd (none_split g.before g.after g.input g.split)
+of_none tapes w id shape cut (inr h) = h
+
+pub cases_of_fronts : CasesOfFronts
+cases_of_fronts = record {
+  in_order = λ u v w. refl;
+  at_the_end = λ u. refl;
+  no_volume = λ u. refl;
+  leads_there = λ now whole f. subst (λ t. behind_steps f.steps t ≡ whole) f.held f.leads;
+  not_back = not_back;
+  mid_record = λ tapes volumes capacity id file course fs records m. (m.split, m.packing);
+  partly = λ tapes volumes capacity id file course fs records p. p;
+  in_last = λ tapes volumes capacity id told l. (l.is_told, l.filed, l.partly);
+  ending_last = λ tapes volumes capacity id told l. l;
+  left = λ tapes w told. (λ l. l, λ l. l, λ l. l);
+  left_of = λ tapes w told records g. (g.split, g.left);
+  left_in = λ tapes w id shape cut x g.
+      first_of tapes w id shape cut x g.before g.after g.input g.split g.left;
+  left_of_none = of_none;
+  left_set = λ plan cut given g. (g.on_tapes, g.on_volumes, g.capacity, g.set_id, g.left);
+}

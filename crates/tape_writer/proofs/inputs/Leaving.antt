@@ -1,0 +1,176 @@
+-- What is left of files from inputs, whatever fault stops them.
+use Rattle.std.proofs.Common.{◌≡◌, ℕ, ◌+◌, ◌<◌, List, [], ◌∷◌, ◌++◌, Bool, true, false, Option}
+use Rattle.std.proofs.Common.{Some, None, length, map, drop, get_or, refl, sym, ap, subst, ◌∙◌}
+use Rattle.std.proofs.Common.{append-nil, inl, inr}
+use Rattle.std.specs.Prelude.{◌⊎◌, IfSome}
+use Rattle.std.proofs.lemmas.List.{drop_more, map-append}
+use Rattle.tape_image.specs.Reader.{IfKnown}
+use Rattle.tape_label.specs.declared.values.Head1.{Head1}
+use Rattle.tape_blocks.specs.declared.shape.Shape.{Shape}
+use Rattle.tape_writer.specs.declared.course.Opened.{Opened}
+use Rattle.tape_writer.specs.declared.fault.WriteFault.{WriteFault}
+use Rattle.tape_writer.specs.declared.fault.WriteFault.TheVariants as faults
+use Rattle.tape_writer.specs.Tapes.{Tapes}
+use Rattle.tape_writer.specs.Faults.{IsEnding}
+use Rattle.tape_writer.specs.Told.{Told, with_record}
+use Rattle.tape_writer.specs.State.{SetState, IsWriting, Leaves}
+use Rattle.tape_writer.specs.Refusals.{IsInFile}
+use Rattle.tape_writer.specs.Front.{IsLeftInside, IsLeftBehind}
+use Rattle.tape_writer.specs.declared.inputs.cut.Cut.{Cut}
+use Rattle.tape_writer.specs.Records.{to_come, records_of, given}
+use Rattle.tape_writer.specs.ToldFiles.{with_records, with_file, told_files}
+use Rattle.tape_writer.specs.LeftOf.{IsLeftOf, IsLeftIn}
+use Rattle.tape_writer.proofs.Standing.{inside_writing}
+use Rattle.tape_writer.proofs.inputs.Putting.{Put, known_one, known_then, with_records-one}
+use Rattle.tape_writer.proofs.inputs.Filing.{Wrote}
+use Rattle.tape_writer.proofs.inputs.Finished.{all_known}
+
+-- a fault ends the writer, or leaves it as it was
+is_ending : {T : Type 0} (f : WriteFault)
+    → IsEnding f ⊎ ((old new : SetState T) → Leaves old new f → new ≡ old)
+is_ending faults.OutOfVolumes = inl tt
+is_ending faults.Device = inl tt
+is_ending faults.OutOfMemory = inl tt
+is_ending _ = inr (λ old new l. l)
+
+-- a call that was refused ended the writer, or left it as it was
+pub refused_left : {T : Type 0} (H : T → Tapes → Type 0) (old new : SetState T) (f : WriteFault)
+    (P : Type 0) (told : List Told) → Leaves old new f → IsWriting (H old.out) old told
+    → (new ≡ old → IsWriting (H new.out) new told → P) → (IsEnding f → P) → P
+refused_left H old new f P told leaves held stays ends = elim (is_ending f) [
+  | inl e ↦ ends e
+  | inr same ↦
+      let is = same old new leaves in
+      stays is (subst (λ z. IsWriting (H z.out) z told) (sym is) held)
+]
+
+-- ---- the records of an input
+
+known_left : {T : Type 0} (H : Tapes → Type 0) (w : SetState T) (told : List Told) (cut : Cut)
+    (a c : Bool) (rs : List (List ℕ)) (all next : Option (List ℕ))
+    → IfKnown all next (λ xs ys. to_come cut a xs ≡ rs ++ to_come cut c ys)
+    → IsLeftInside H w (with_records told rs)
+    → IfSome all (λ xs. IsLeftOf H w told (to_come cut a xs))
+known_left H w told cut a c rs None next k left = tt
+known_left H w told cut a c rs (Some xs) None k left = absurd k
+known_left H w told cut a c rs (Some xs) (Some ys) k left =
+    record { front = rs; back = to_come cut c ys; split = k; left = inl left }
+
+-- the next record was not read
+pub read_left : {T : Type 0} (H : Tapes → Type 0) (w : SetState T) (file : Opened) (cut : Cut)
+    (a b : Bool) (all left : Option (List ℕ)) (old : List Told → Type 0)
+    → Put cut a b all left old (IsWriting H w) → IsInFile file w.phase
+    → (told : List Told) → old told
+    → IfSome all (λ xs. IsLeftOf H w told (to_come cut a xs))
+read_left H w file cut a b all left old p is told h =
+    known_left H w told cut a b p.records all left p.known
+    (inside_writing H w file (with_records told p.records) is (p.told told h))
+
+-- the next record was not put
+pub put_left : {T : Type 0} (H : T → Tapes → Type 0) (mid w : SetState T) (file : Opened)
+    (cut : Cut) (a b c : Bool) (all left next : Option (List ℕ)) (old : List Told → Type 0)
+    (r : List ℕ) (f : WriteFault) → Put cut a b all left old (IsWriting (H mid.out) mid)
+    → IsInFile file mid.phase
+    → IfKnown left next (λ xs ys. to_come cut b xs ≡ given true r (to_come cut c ys))
+    → Leaves mid w f
+    → ((told : List Told) → IsWriting (H mid.out) mid told → IsEnding f
+    → IsLeftInside (H w.out) w (with_record told r))
+    → (told : List Told) → old told
+    → IfSome all (λ xs. IsLeftOf (H w.out) w told (to_come cut a xs))
+put_left H mid w file cut a b c all left next old r f p is k leaves ends told h =
+    let held = p.told told h in
+    refused_left H mid w f _ (with_records told p.records) leaves held
+    (λ same writing. known_left (H w.out) w told cut a b p.records all left p.known
+    (inside_writing (H w.out) w file (with_records told p.records)
+    (subst (λ z. IsInFile file z.phase) (sym same) is) writing))
+    (λ e. known_left (H w.out) w told cut a c (p.records ++ r ∷ []) all next
+    (known_one cut a c r p.records all next
+    (known_then cut a b c true r p.records all left next p.known k))
+    (subst (IsLeftInside (H w.out) w) (sym (with_records-one told p.records r))
+    (ends (with_records told p.records) held e)))
+
+-- ---- a file
+
+-- it was begun, and no record was told
+pub none_left : {T : Type 0} (H : Tapes → Type 0) (w : SetState T) (told : List Told)
+    (records : List (List ℕ)) → IsLeftInside H w told → IsLeftOf H w told records
+none_left H w told records left =
+    record { front = []; back = records; split = refl; left = inl left }
+
+pub if_any : (known : Option (List ℕ)) (P : List ℕ → Type 0) → ((bytes : List ℕ) → P bytes)
+    → IfSome known P
+if_any None P p = tt
+if_any (Some bytes) P p = p bytes
+
+-- its records were not all put
+pub file_left : {T : Type 0} (H : Tapes → Type 0) (w : SetState T) (first told : List Told)
+    (cut here : Cut) (over : Bool) (input all : Option (List ℕ)) → all ≡ input → here ≡ cut
+    → over ≡ false → IfSome all (λ xs. IsLeftOf H w told (to_come here over xs))
+    → IfSome input (λ bytes. IsLeftBehind H w first ⊎ IsLeftOf H w told (records_of cut bytes))
+file_left H w first told cut here over input all a e f p =
+    let one = subst (λ z. IfSome z (λ xs. IsLeftOf H w told (to_come here over xs))) a p in
+    let two = subst (λ z. IfSome input (λ xs. IsLeftOf H w told (to_come z over xs))) e one in
+    go input (subst (λ z. IfSome input (λ xs. IsLeftOf H w told (to_come cut z xs))) f two)
+  where
+    go : (known : Option (List ℕ)) → IfSome known (λ xs. IsLeftOf H w told (records_of cut xs))
+        → IfSome known (λ bytes. IsLeftBehind H w first ⊎ IsLeftOf H w told (records_of cut bytes))
+    go None h = tt
+    go (Some bytes) h = inr h
+
+all_left : {T : Type 0} (H : Tapes → Type 0) (w : SetState T) (told : List Told) (cut : Cut)
+    (over : Bool) (all next : Option (List ℕ)) (mid : List Told → Type 0)
+    → IfKnown all next (λ xs ys. mid (with_records told (to_come cut over xs)))
+    → ((t : List Told) → mid t → IsLeftInside H w t ⊎ IsLeftBehind H w t)
+    → IfSome all (λ xs. IsLeftOf H w told (to_come cut over xs))
+all_left H w told cut over None next mid put left = tt
+all_left H w told cut over (Some xs) None mid put left = absurd put
+all_left H w told cut over (Some xs) (Some ys) mid put left = record {
+  front = to_come cut over xs;
+  back = [];
+  split = sym (append-nil (to_come cut over xs));
+  left = elim (left _ put) [
+    | inl inside ↦ inl inside
+    | inr ended ↦ inr (refl, ended)
+  ];
+}
+
+-- all its records were put, and it was not ended
+pub end_left : {T : Type 0} (H : Tapes → Type 0) (w : SetState T) (first told : List Told)
+    (cut here : Cut) (over : Bool) (input all next : Option (List ℕ)) (mid : List Told → Type 0)
+    → all ≡ input → here ≡ cut → over ≡ false
+    → IfKnown all next (λ xs ys. mid (with_records told (to_come here over xs)))
+    → ((t : List Told) → mid t → IsLeftInside H w t ⊎ IsLeftBehind H w t)
+    → IfSome input (λ bytes. IsLeftBehind H w first ⊎ IsLeftOf H w told (records_of cut bytes))
+end_left H w first told cut here over input all next mid a e f put left =
+    file_left H w first told cut here over input all a e f
+    (all_left H w told here over all next mid put left)
+
+-- ---- one of the files
+
+-- the file that comes behind those that are written
+pub wrote_left : {T : Type 0} (H : Tapes → Type 0) (w : SetState T) (X : Type 0)
+    (view : X → Head1 × Option (List ℕ)) (set_id : List ℕ) (shape : Shape) (cut : Cut)
+    (first now : List X) (at : ℕ) (old mid : List Told → Type 0) (here : List ℕ) (x d : X)
+    → at < length now → x ≡ get_or now at d → Wrote X view set_id shape cut first now at old mid
+    → here ≡ set_id
+    → ((told : List Told) → mid told → IfSome (view x).1
+    (λ bytes. IsLeftBehind H w told
+    ⊎ IsLeftOf H w (with_file here told (view x).0 shape) (records_of cut bytes)))
+    → (told : List Told) → old told → IsLeftIn H w set_id told shape cut (map view first)
+wrote_left H w X view set_id shape cut first now at old mid here x d within is wrote same left
+    told held =
+    let next : drop at now ≡ x ∷ drop (at + 1) now =
+    drop_more now at d within ∙ ap (λ z. z ∷ drop (at + 1) now) (sym is) in
+    record {
+      before = map view wrote.done;
+      input = view x;
+      after = map view (drop (at + 1) now);
+      split = ap (map view) (wrote.split ∙ ap (λ l. wrote.done ++ l) next)
+          ∙ map-append view wrote.done (x ∷ drop (at + 1) now);
+      left = all_known (map view wrote.done) _ _ (wrote.told told held) (λ fs m.
+          subst (λ s. IfSome (view x).1 (λ bytes.
+          IsLeftBehind H w (told ++ told_files set_id shape cut (length told + 1) fs)
+          ⊎ IsLeftOf H w
+          (with_file s (told ++ told_files set_id shape cut (length told + 1) fs) (view x).0 shape)
+          (records_of cut bytes))) same (left _ m));
+    }

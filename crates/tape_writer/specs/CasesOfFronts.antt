@@ -1,0 +1,85 @@
+-- What the definitions of what a refusal leaves on the tapes say of cases. The call `laws::cases`
+-- has them as its contract, too.
+use Rattle.std.specs.Prelude.{◌≡◌, ◌⊎◌, ℕ, List, [], ◌∷◌, ◌++◌, Option, Some}
+use Rattle.tape_image.specs.Tape.{TapeItem}
+use Rattle.tape_label.specs.declared.values.Head1.{Head1}
+use Rattle.tape_label.specs.declared.values.Vol1.{Vol1}
+use Rattle.tape_blocks.specs.declared.shape.Shape.{Shape}
+use Rattle.tape_blocks.specs.Packing.{Packing}
+use Rattle.tape_set.specs.Layout.{Section}
+use Rattle.tape_writer.specs.declared.course.Course.{Course}
+use Rattle.tape_writer.specs.declared.course.Opened.{Opened}
+use Rattle.tape_writer.specs.declared.inputs.cut.Cut.{Cut}
+use Rattle.tape_writer.specs.declared.inputs.set.SetPlan.{SetPlan}
+use Rattle.tape_writer.specs.Inside.{IsInside, IsPacking, IsFlat, IsWaiting}
+use Rattle.tape_writer.specs.Records.{records_of}
+use Rattle.tape_writer.specs.State.{SetState}
+use Rattle.tape_writer.specs.Tapes.{Tapes, Ended, UnderWay}
+use Rattle.tape_writer.specs.Told.{Told, AreFiled, IsWrittenSet}
+use Rattle.tape_writer.specs.ToldFiles.{with_records, with_file}
+use Rattle.tape_writer.specs.Front.{Item, Change, Close, behind_steps, HoldsFront, IsMidRecord}
+use Rattle.tape_writer.specs.Front.{IsPartly, IsInLast, IsEndingLast, IsLeftInside, IsLeftBehind}
+use Rattle.tape_writer.specs.Front.{IsLeftWhole}
+use Rattle.tape_writer.specs.LeftOf.{IsLeftOf, IsLeftIn, IsLeftOfAll, IsLeftSet}
+
+-- of fronts, and of what is left
+pub record CasesOfFronts : Type 0 where
+  -- items go behind those of the volume under way, and a volume behind the others
+  pub in_order : (u v w : TapeItem)
+      → behind_steps (Change ∷ Item u ∷ Item v ∷ Change ∷ Item w ∷ []) (Ended [])
+      ≡ UnderWay ((u ∷ v ∷ []) ∷ []) (w ∷ [])
+  pub at_the_end : (u : TapeItem)
+      → behind_steps (Close ∷ []) (UnderWay [] (u ∷ [])) ≡ Ended ((u ∷ []) ∷ [])
+  pub no_volume : (u : TapeItem) → behind_steps (Item u ∷ []) (Ended []) ≡ Ended []
+  -- what is held leads to the whole, and nothing of it is taken back
+  pub leads_there : (now whole : Tapes) (f : HoldsFront (λ t. t ≡ now) whole)
+      → behind_steps f.steps now ≡ whole
+  pub not_back : (u : TapeItem) → HoldsFront (λ t. t ≡ UnderWay [] (u ∷ [])) (UnderWay [] []) → ⊥
+  pub mid_record : (tapes : Tapes) (volumes : List Vol1) (capacity : ℕ) (id : List ℕ)
+      (file : Opened) (course : Course) (fs : List (List Section)) (records : List (List ℕ))
+      (m : IsMidRecord (λ t. t ≡ tapes) volumes capacity id file course fs records)
+      → (records ≡ m.before ++ m.whole ∷ [])
+      × IsPacking (λ t. t ≡ tapes) volumes capacity id file course m.packer fs m.before m.whole
+      m.rest
+  pub partly : (tapes : Tapes) (volumes : List Vol1) (capacity : ℕ) (id : List ℕ)
+      (file : Opened) (course : Course) (fs : List (List Section)) (records : List (List ℕ))
+      → IsPartly (λ t. t ≡ tapes) volumes capacity id file course fs records
+      → ((p : Packing) × IsInside (λ t. t ≡ tapes) volumes capacity id file course p fs records)
+      ⊎ (IsMidRecord (λ t. t ≡ tapes) volumes capacity id file course fs records
+      ⊎ IsFlat (λ t. t ≡ tapes) volumes capacity id file course fs records)
+  -- the files before the last one stand whole
+  pub in_last : (tapes : Tapes) (volumes : List Vol1) (capacity : ℕ) (id : List ℕ)
+      (told : List Told) (l : IsInLast (λ t. t ≡ tapes) volumes capacity id told)
+      → (told ≡ l.past ++ l.last ∷ []) × AreFiled capacity l.past l.files
+      × IsPartly (λ t. t ≡ tapes) volumes capacity id l.last.file l.course l.files l.last.records
+  pub ending_last : (tapes : Tapes) (volumes : List Vol1) (capacity : ℕ) (id : List ℕ)
+      (told : List Told) → IsEndingLast (λ t. t ≡ tapes) volumes capacity id told
+      → IsInLast (λ t. t ≡ tapes) volumes capacity id told
+      ⊎ ((course : Course) × IsWaiting (λ t. t ≡ tapes) volumes capacity id course told)
+  -- a front of that is left
+  pub left : (tapes : Tapes) (w : SetState ℕ) (told : List Told)
+      → (IsLeftInside (λ t. t ≡ tapes) w told
+      → IsInLast (HoldsFront (λ t. t ≡ tapes)) w.volumes w.capacity w.set_id told)
+      × (IsLeftBehind (λ t. t ≡ tapes) w told → (course : Course)
+      × IsWaiting (HoldsFront (λ t. t ≡ tapes)) w.volumes w.capacity w.set_id course told)
+      × (IsLeftWhole (λ t. t ≡ tapes) w told
+      → IsWrittenSet (HoldsFront (λ t. t ≡ tapes)) w.volumes w.capacity w.set_id told)
+  -- of inputs: a front of the records was told, and a file ended only where that is all of them
+  pub left_of : (tapes : Tapes) (w : SetState ℕ) (told : List Told) (records : List (List ℕ))
+      (g : IsLeftOf (λ t. t ≡ tapes) w told records)
+      → (records ≡ g.front ++ g.back)
+      × (IsLeftInside (λ t. t ≡ tapes) w (with_records told g.front)
+      ⊎ ((g.back ≡ []) × IsLeftBehind (λ t. t ≡ tapes) w (with_records told g.front)))
+  pub left_in : (tapes : Tapes) (w : SetState ℕ) (id : List ℕ) (shape : Shape) (cut : Cut)
+      (x : Head1 × List ℕ)
+      → IsLeftIn (λ t. t ≡ tapes) w id [] shape cut ((x.0, Some x.1) ∷ [])
+      → IsLeftBehind (λ t. t ≡ tapes) w []
+      ⊎ IsLeftOf (λ t. t ≡ tapes) w (with_file id [] x.0 shape) (records_of cut x.1)
+  pub left_of_none : (tapes : Tapes) (w : SetState ℕ) (id : List ℕ) (shape : Shape) (cut : Cut)
+      → IsLeftOfAll (λ t. t ≡ tapes) w id [] shape cut []
+      → IsLeftBehind (λ t. t ≡ tapes) w [] ⊎ IsLeftWhole (λ t. t ≡ tapes) w []
+  pub left_set : (plan : SetPlan) (cut : Cut) (given : List (Head1 × Option (List ℕ)))
+      (g : IsLeftSet {T = ℕ} (λ n t. t ≡ Ended []) (λ n. n ≡ 7) plan cut given)
+      → (g.writer.out ≡ 7) × (g.writer.volumes ≡ plan.volumes.items)
+      × (g.writer.capacity ≡ plan.capacity) × (g.writer.set_id ≡ plan.set_id)
+      × IsLeftOfAll (λ t. t ≡ Ended []) g.writer plan.set_id [] plan.shape cut given
