@@ -212,6 +212,16 @@ device_lent_at_a_refusal : (R : _) (S : _) (D : _) (LR : _) (LS : _) (LD : _) (g
 device_lent_at_a_refusal R S D LR LS LD g d h e i f j k κs a refused s l none four three =
     absurd (let n : 3 ≡ 4 = sym three ∙ ap h.left (l.nothing (inl none)).0 ∙ four in omega arith)
 
+-- volume_begun_for_no_shape: a set of one file is refused, whose blocks are too large for the
+-- volumes, and an image is under way
+volume_begun_for_no_shape : (R : _) (S : _) (D : _) (LR : _) (LS : _) (LD : _) (g : _) (d : _)
+    (h : _) (e : _) (i : _) (f : _) (j : _) (k : _) (κs : _) (a : _) (refused : _) (s : _)
+    → write_set.Learnt-named R S D LR LS LD g d h e i f j k κs a (Err refused) s
+    → a.1.0.capacity ≡ 2000 → a.1.0.shape.block_len ≡ 2000 → length a.1.1.0.now ≡ 1
+    → (refused.under_way ≡ None → ⊥) → ⊥
+volume_begun_for_no_shape R S D LR LS LD g d h e i f j k κs a refused s l capacity block one begun =
+    begun (l.unfit (λ writable room. omega (arith, room, capacity, block)) (omega (arith, one))).1
+
 -- a set of one file has a file
 has_a_file : (plan : _) (input : Head1 × Option (List ℕ)) (cut : Option Cut)
     → IsFaultOfCut plan (input ∷ []) cut (sets.Write write_faults.NoFile) → ⊥

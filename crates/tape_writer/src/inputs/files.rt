@@ -1,7 +1,9 @@
 //! Files written from inputs.
-ghost use Rattle.std.specs.Prelude.{◌≡◌, ◌<◌, ◌++◌, ◌+◌, ◌∷◌, [], List, length, map, OnOk, IfErr};
+ghost use Rattle.std.specs.Prelude.{◌≡◌, ◌<◌, ◌≤◌, ◌++◌, ◌+◌, ◌∷◌, [], List, length, map, OnOk, IfErr};
 ghost use Rattle.std.specs.Prelude.{◌⊎◌, OnErr, IfSome};
 ghost use Rattle.tape_image.specs.Reader.{IfKnown};
+ghost use Rattle.tape_blocks.specs.Packing.{IsWritable};
+ghost use Rattle.tape_set.specs.Tight.{least_capacity};
 ghost use Rattle.tape_writer.specs.Tapes.{Grows};
 ghost use Rattle.tape_writer.specs.Told.{Told, opened_by};
 ghost use Rattle.tape_writer.specs.State.{IsWriting};
@@ -64,6 +66,10 @@ pub fn write_files<T: TapeOut + Drop, R: Read>(
         → (told : List Told) → IsWriting (T.holds writer.old.out) writer.old told
         → GaveUpIn (T.holds writer.new.out) writer.new writer.old.set_id told shape cut
         (map (λ f. (f.head, R.remaining f.reader)) files.old)) }
+    // Where no file of this shape can be written, nothing was.
+    ensures unfit { writer.old.phase ≡ Between
+        → (IsWritable shape → least_capacity shape ≤ writer.old.capacity → ⊥)
+        → 0 < length files.old → (writer.new ≡ writer.old) × OnOk result ⊥ }
     // Whatever the fault: the tapes hold a front of what is written of the files told so far.
     ensures front { writer.old.phase ≡ Between
         → (told : List Told) → IsWriting (T.holds writer.old.out) writer.old told
@@ -107,6 +113,9 @@ fn write_file<T: TapeOut + Drop, R: Read>(
         → (told : List Told) → IsWriting (T.holds writer.old.out) writer.old told
         → IfSome (R.remaining input.old) (λ bytes. GaveUp (T.holds writer.new.out) writer.new
         (with_file writer.old.set_id told head shape) (records_of cut bytes))) }
+    ensures unfit { writer.old.phase ≡ Between
+        → (IsWritable shape → least_capacity shape ≤ writer.old.capacity → ⊥)
+        → (writer.new ≡ writer.old) × OnOk result ⊥ }
     ensures front { writer.old.phase ≡ Between
         → (told : List Told) → IsWriting (T.holds writer.old.out) writer.old told
         → OnErr result (IfSome (R.remaining input.old) (λ bytes.

@@ -1,7 +1,9 @@
 //! A set written as images.
-ghost use Rattle.std.specs.Prelude.{◌≡◌, ◌≢◌, ◌++◌, ◌+◌, [], List, length, map, None, IfOk, IfErr};
+ghost use Rattle.std.specs.Prelude.{◌≡◌, ◌≢◌, ◌<◌, ◌≤◌, ◌++◌, ◌+◌, [], List, length, map, None, IfOk, IfErr};
 ghost use Rattle.std.specs.Prelude.{◌⊎◌, IfSome, OnOk, OnErr, false};
 ghost use Rattle.std.specs.List.{AllByRecursion};
+ghost use Rattle.tape_blocks.specs.Packing.{IsWritable};
+ghost use Rattle.tape_set.specs.Tight.{least_capacity};
 ghost use Rattle.tape_writer.specs.Fields.{IsText, IsTextVolume};
 ghost use Rattle.tape_writer.specs.Images.{Holds};
 ghost use Rattle.tape_writer.specs.Told.{Told};
@@ -98,6 +100,10 @@ pub fn write_set<R: Read, S: ImageStore + Drop>(
         ⊎ IfSome (cut_by plan.form plan.shape) (λ cut. IsLeftSet (Holds S.holds)
         (λ tapes. (tapes.store ≡ refused.images) × (tapes.image ≡ refused.under_way)) plan cut
         (map (λ f. (f.head, R.remaining f.reader)) files.old))) }
+    // Where no file of this shape can be written in this capacity, nothing was.
+    ensures unfit { (IsWritable plan.shape → least_capacity plan.shape ≤ plan.capacity → ⊥)
+        → 0 < length files.old
+        → IfErr result (λ refused. (refused.images ≡ images) × (refused.under_way ≡ None)) }
     ensures raw { OnOk result (cut_by plan.form plan.shape ≢ None) }
     // Where raw inputs are no records of the format, or the set or its volumes can't be labelled,
     // nothing was written.
@@ -195,6 +201,9 @@ fn write_whole<T: TapeOut + Drop, R: Read>(
         → (told : List Told) → IsWriting (T.holds writer.old.out) writer.old told
         → OnErr result (IsLeftOfAll (T.holds writer.new.out) writer.new writer.old.set_id told
         shape cut (map (λ f. (f.head, R.remaining f.reader)) files.old)) }
+    ensures unfit { writer.old.phase ≡ Between
+        → (IsWritable shape → least_capacity shape ≤ writer.old.capacity → ⊥)
+        → 0 < length files.old → (writer.new ≡ writer.old) × OnOk result ⊥ }
     ensures cause { StopsByDevice (T.failures writer.old.out) result (T.failures writer.new.out) }
 {
     write_files(alloc, writer, files, shape, cut)?;

@@ -136,3 +136,23 @@ returns-clause-front g c = λ between told held.
     (length c.args.writer.now.files + 1) c.args.head c.args.shape) z.phase) (sym same)
     (c.in_ok-put_records.ensures.stays _ c.in_default.ensures.opened)) writing))
     (c.in-Err-end_file.ensures.front t h))
+
+pub returns-in_default-new-clause-unfit : goal.returns-in_default-new-clause-unfit
+returns-in_default-new-clause-unfit g c = λ between unfit.
+    absurd (c.in_default.ensures.unfit between unfit).1
+
+pub returns-in_err-put_records-clause-unfit : goal.returns-in_err-put_records-clause-unfit
+returns-in_err-put_records-clause-unfit g c = λ between unfit.
+    absurd (c.in_default.ensures.unfit between unfit).1
+
+pub returns-in-Ok-end_file-clause-unfit : goal.returns-in-Ok-end_file-clause-unfit
+returns-in-Ok-end_file-clause-unfit g c = λ between unfit.
+    absurd (c.in_default.ensures.unfit between unfit).1
+
+pub returns-clause-unfit : goal.returns-clause-unfit
+returns-clause-unfit g c = λ between unfit.
+    absurd (c.in_default.ensures.unfit between unfit).1
+
+pub returns-in-Err-clause-unfit : goal.returns-in-Err-clause-unfit
+returns-in-Err-clause-unfit g c = λ between unfit.
+    ((c.in-Err.ensures.unfit between unfit).0, tt)

@@ -1,5 +1,6 @@
 use Rattle.std.proofs.Common.{rules, arith, get_or, ◌+◌, ◌++◌, ◌∷◌, [], length, refl, subst}
-use Rattle.std.proofs.Common.{◌∙◌, IfSome}
+use Rattle.std.proofs.Common.{◌∙◌, ◌≤◌, IfSome}
+use Rattle.tape_set.specs.Tight.{least_capacity}
 use Rattle.std.proofs.lemmas.Result.{err_from_is_err_and}
 use Rattle.tape_writer.specs.State.{IsWriting}
 use Rattle.tape_writer.specs.Told.{opened_by}
@@ -18,6 +19,7 @@ files-init g c = record {
   stands = λ is. (is, search rules);
   grew = grows_self _;
   begun = λ l. absurd (omega (arith, l));
+  unfit = λ between unfit. (refl, refl);
   wrote = wrote_none _ _ _ _ _ c.args.files.now _;
 }
 
@@ -35,6 +37,10 @@ files-preserved g c =
           (next.0, omega (arith, now.1, next.2));
       grew = grows_then _ _ _ c.files.invariant.grew c.in_ok-write_file.ensures.count;
       begun = λ l. next.1;
+      unfit = λ between unfit.
+          let now = c.files.invariant.stands between in
+          absurd (c.in_ok-write_file.ensures.unfit now.0 (λ writable room. unfit writable
+          (subst (λ d. least_capacity c.args.shape ≤ d) c.files.invariant.capacity room))).1;
       wrote = wrote_one _ (λ f. (f.head, g.R.Read.remaining f.reader)) c.args.writer.now.set_id
           c.args.shape c.args.cut c.args.files.now c.files.files c.files.at
           (IsWriting (g.T.TapeOut.holds c.args.writer.now.out) c.args.writer.now)
@@ -85,3 +91,12 @@ returns-in_err-write_file-clause-front g c =
     (IsWriting (g.T.TapeOut.holds c.files.writer.out) c.files.writer) c.files.writer.set_id x
     c.index-files-at.result (search rules) refl c.files.invariant.wrote c.files.invariant.set_id
     (c.in_err-write_file.ensures.front (c.files.invariant.stands between).0) told held)
+
+pub returns-in_err-write_file-clause-unfit : goal.returns-in_err-write_file-clause-unfit
+returns-in_err-write_file-clause-unfit g c =
+    let p = err_from_is_err_and c.from_residual.result c.from_residual.ensures.1 in
+    rw p.1 (λ between unfit some.
+    let now = c.files.invariant.stands between in
+    let kept = c.in_err-write_file.ensures.unfit now.0 (λ writable room. unfit writable
+    (subst (λ d. least_capacity c.args.shape ≤ d) c.files.invariant.capacity room)) in
+    (kept.0 ∙ (c.files.invariant.unfit between unfit).1, tt))

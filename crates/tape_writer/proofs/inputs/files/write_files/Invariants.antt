@@ -1,4 +1,6 @@
-use Rattle.std.proofs.Common.{◌≡◌, ◌<◌, ◌+◌, ◌-◌, length}
+use Rattle.std.proofs.Common.{◌≡◌, ◌<◌, ◌≤◌, ◌+◌, ◌-◌, length}
+use Rattle.tape_blocks.specs.Packing.{IsWritable}
+use Rattle.tape_set.specs.Tight.{least_capacity}
 use Rattle.tape_writer.specs.declared.phase.Phase.TheVariants.{Between}
 use Rattle.tape_writer.specs.State.{IsWriting}
 use Rattle.tape_writer.specs.Tapes.{Grows}
@@ -14,6 +16,9 @@ invariant-files g l = record {
       → (l.writer.phase ≡ Between) × (length l.writer.files ≡ length l.fn.writer.files + l.at);
   grew : Grows (g.T.TapeOut.failures l.fn.writer.out) (g.T.TapeOut.failures l.writer.out);
   begun : 0 < l.at → 0 < l.writer.course.volume;
+  unfit : l.fn.writer.phase ≡ Between
+      → (IsWritable l.shape → least_capacity l.shape ≤ l.fn.writer.capacity → ⊥)
+      → (l.at ≡ 0) × (l.writer ≡ l.fn.writer);
   wrote : Wrote _ (λ f. (f.head, g.R.Read.remaining f.reader)) l.fn.writer.set_id l.shape l.cut
       l.fn.files l.files l.at
       (IsWriting (g.T.TapeOut.holds l.fn.writer.out) l.fn.writer)

@@ -1,4 +1,5 @@
-use Rattle.std.proofs.Common.{◌≡◌, [], ap, sym, subst, ◌∙◌, map, inr}
+use Rattle.std.proofs.Common.{◌≡◌, ◌≤◌, [], ap, sym, subst, ◌∙◌, map, inr}
+use Rattle.tape_set.specs.Tight.{least_capacity}
 use Rattle.tape_writer.specs.Images.{Holds}
 use Rattle.tape_writer.specs.NoVolume.{GaveUpIn, GaveUpSet}
 use Rattle.tape_writer.specs.ToldFiles.{IfAllKnown, told_files}
@@ -73,3 +74,16 @@ returns-in-Err-write_whole-clause-front g c fresh =
       left = subst (λ s. IsLeftOfAll (Holds H whole.out) whole s [] plan.shape c.in-Some.cut inputs)
           (ap (λ w. w.set_id) made) out;
     })
+
+pub returns-in-Err-write_whole-clause-unfit : goal.returns-in-Err-write_whole-clause-unfit
+returns-in-Err-write_whole-clause-unfit g c unfit some =
+    let made = c.judged-writer.ensures.made in
+    let kept = (c.in-Err-write_whole.ensures.unfit (ap (λ w. w.phase) made)
+    (λ writable room. unfit writable
+    (subst (λ d. least_capacity c.args.plan.shape ≤ d) (ap (λ w. w.capacity) made) room)) some).0
+    in (
+      c.left.ensures.images ∙ (ap (λ w. w.out.store) kept
+          ∙ (ap (λ w. w.out.store) made ∙ c.new.ensures.store)),
+      c.left.ensures.under_way ∙ (ap (λ w. w.out.image) kept
+          ∙ (ap (λ w. w.out.image) made ∙ c.new.ensures.image)),
+    )

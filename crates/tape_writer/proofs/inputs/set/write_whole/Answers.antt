@@ -26,3 +26,17 @@ returns-in-Err-clause-front g c = λ between told held.
     c.finish.new.self _ (ap (λ w. w.phase) same
     ∙ (c.in_ok-write_files.ensures.stands between).0) writing))
     (λ e. inr (c.in-Err.ensures.front _ w e))))
+
+pub returns-in_err-write_files-clause-unfit : goal.returns-in_err-write_files-clause-unfit
+returns-in_err-write_files-clause-unfit g c =
+    let p = err_from_is_err_and c.from_residual.result c.from_residual.ensures.1 in
+    rw p.1 (λ between unfit some.
+    ((c.in_err-write_files.ensures.unfit between unfit some).0, tt))
+
+pub returns-in-Ok-clause-unfit : goal.returns-in-Ok-clause-unfit
+returns-in-Ok-clause-unfit g c = λ between unfit some.
+    absurd (c.in_ok-write_files.ensures.unfit between unfit some).1
+
+pub returns-in-Err-clause-unfit : goal.returns-in-Err-clause-unfit
+returns-in-Err-clause-unfit g c = λ between unfit some.
+    absurd (c.in_ok-write_files.ensures.unfit between unfit some).1

@@ -36,3 +36,11 @@ returns-in_default-new-clause-memory g c = rw (← c.self.view_is) (λ e. inl re
 pub returns-in-Err-clause-memory : goal.returns-in-Err-clause-memory
 returns-in-Err-clause-memory g c = λ e.
     absurd (c.in-Err.ensures.ending (subst IsEnding (sym e) tt))
+
+pub returns-in_default-new-clause-unfit : goal.returns-in_default-new-clause-unfit
+returns-in_default-new-clause-unfit g c = λ between unfit.
+    let fits = c.in_default.ensures.ok in absurd (unfit fits.2 fits.3)
+
+pub returns-clause-unfit : goal.returns-clause-unfit
+returns-clause-unfit g c = λ between unfit.
+    let fits = c.in_default.ensures.ok in absurd (unfit fits.2 fits.3)
