@@ -149,6 +149,7 @@ def trials():
         Trial("list, standard input", ["list"], LIST, stdin=ONE, image=ONE),
         Trial("list, a file", ["list", "one.tap"], LIST, reels, image=ONE),
         Trial("list, an image cut off", ["list", "cut.tap"], LIST, {"cut.tap": ONE[:20_000]}, image=ONE),
+        Trial("list, places", ["list", "--places", "one.tap"], LIST, reels, image=ONE),
         Trial("init, two volumes", ["init", ".", "ABC", "2"], INIT),
         Trial("write, F", ["write", ".", "ABC", "30000", "PAYROLL=lines", *shape], WRITE, lines),
         Trial("write, D", ["write", ".", "ABC", "100000", "PAYROLL=lines"], WRITE, lines),

@@ -20,7 +20,7 @@ COMPLETION = os.path.join(TOP, "docs", "tape.bash")
 
 # For each command its usage, and its words with the name of what they say in help.rt.
 COMMANDS = {
-    "list": ("[IMAGE]", [("IMAGE", "IMAGE")]),
+    "list": ("[--places] [IMAGE]", [("IMAGE", "IMAGE"), ("--places", "PLACES")]),
     "check": ("[--from LIST [--null]] [IMAGE]...", [
         ("IMAGE", "IMAGES"), ("--from LIST", "FROM"), ("--null", "NULL")]),
     "survey": ("[--from LIST [--null]] [IMAGE]...", [

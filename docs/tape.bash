@@ -16,6 +16,7 @@ _tape() {
     esac
     case $command:$cur in
     help:*) COMPREPLY=($(compgen -W 'list check survey extract init write' -- "$cur")); return ;;
+    list:-*) COMPREPLY=($(compgen -W '--places --explain --help' -- "$cur")); return ;;
     check:-*|survey:-*) COMPREPLY=($(compgen -W '--from --null --explain --help' -- "$cur")); return ;;
     extract:-*)
         COMPREPLY=($(compgen -W '--from --null --form --stage --again --explain --help' -- "$cur"))

@@ -36,6 +36,8 @@ mod ListLines
 mod ListedSoFar
 mod ListFronts
 mod ListExamples
+mod PlacedSoFar
+mod PlacedExamples
 mod Reporting
 mod SurveyJoins
 mod SurveyLooks
@@ -64,6 +66,7 @@ mod Mistakes
 mod MistakesOfCatalogues
 mod MistakesOfEngines
 mod MistakesOfListing
+mod MistakesOfPlaces
 mod MistakesOfReels
 mod MistakesOfReports
 mod MistakesOfRuns

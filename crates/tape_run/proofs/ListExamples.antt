@@ -8,7 +8,7 @@ use Rattle.tape_run.specs.Listing.{lines_from, end_line}
 use Rattle.tape_run.specs.Listed.{AppendsInto, at_item, at_end, at_fault}
 use Rattle.tape_run.specs.ListExamples.{StopSays}
 
-into_front : (old new : Option (List ℕ)) (all part : List ℕ) → AppendsInto old new all part
+pub into_front : (old new : Option (List ℕ)) (all part : List ℕ) → AppendsInto old new all part
     → AppendsFront old new (all ++ part)
 into_front old new all part a =
     (all ++ a.0, a.1, a.2, ap (λ l. all ++ l) a.3 ∙ sym (append_assoc all a.0 a.1))

@@ -136,7 +136,7 @@ least_four bad = omega arith
 least_four mark = omega arith
 
 -- more was written behind what was written
-into : (old mid new : Option (List ℕ)) (all part : List ℕ) → Appends old mid all
+pub into : (old mid new : Option (List ℕ)) (all part : List ℕ) → Appends old mid all
     → AppendsFront mid new part → AppendsInto old new all part
 into old mid new all part wrote front =
     (front.0, front.1, Appends-trans old mid new all front.0 wrote front.2, front.3)

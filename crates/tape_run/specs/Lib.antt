@@ -40,6 +40,8 @@ pub mod ListLine
 pub mod Listing
 pub mod Listed
 pub mod ListExamples
+pub mod Placed
+pub mod PlacedExamples
 -- Reports of what is on reels: to be believed, in this order.
 pub mod CheckLine
 pub mod Shelves

@@ -51,7 +51,7 @@ pub fn list_to<R: Read, W: Write>(
 }
 
 /// Reserves the image reader's buffer, before the reader is lent to it.
-fn reserve(alloc: Global) -> Result<ImageBuffer, ImageFault>
+pub fn reserve(alloc: Global) -> Result<ImageBuffer, ImageFault>
     ensures { IfErr result
         (λ fault. (fault.place ≡ 0) × (fault.cause ≡ ImageCause.OutOfMemory)) }
 {
@@ -112,7 +112,7 @@ fn write_end<W: Write>(writer: &mut W, ending: Ending) -> Result<(), WriteFailed
 }
 
 /// The line that tells the end of medium.
-fn last_line(ending: Ending) -> &'static [u8]
+pub fn last_line(ending: Ending) -> &'static [u8]
     ensures { result.now ≡ end_line ending }
 {
     match ending {

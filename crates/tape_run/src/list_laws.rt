@@ -2,6 +2,7 @@
 
 ghost use Rattle.tape_run.specs.ListExamples.{ListingIsWorked, OutcomesSay};
 ghost use Rattle.tape_run.specs.Listing.{OneListing};
+ghost use Rattle.tape_run.specs.PlacedExamples.{PlacesSay};
 
 /// Whatever the bytes of an image are, it has a listing, and no other.
 pub fn each_image_has_one_listing()
@@ -16,4 +17,10 @@ pub fn listings_are_worked()
 /// What each outcome of a listing says, clause by clause.
 pub fn outcomes_say()
     ensures { OutcomesSay }
+{}
+
+/// A listing with places, worked out; its items are those that the bytes begin with, and its places
+/// are the only ones, and those of the first words of blocks and marks.
+pub fn places_say()
+    ensures { PlacesSay }
 {}

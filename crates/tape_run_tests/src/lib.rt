@@ -31,6 +31,8 @@ mod long;
 #[cfg(test)]
 mod order;
 #[cfg(test)]
+mod placed;
+#[cfg(test)]
 mod points;
 #[cfg(test)]
 mod readers;

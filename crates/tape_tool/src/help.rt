@@ -54,6 +54,9 @@ pub const ABOUT_LIST: &str = "Lists an image, a line for each block, tape mark a
 /// What IMAGE is.
 pub const IMAGE: &str = "A SIMH .tap image, or standard input where none is given";
 
+/// What `--places` does.
+pub const PLACES: &str = "Tells the place and the size of each item before its line";
+
 /// Help behind the words of `list`.
 pub const AFTER_LIST: &str = "Examples:
   tape list reel.tap
@@ -71,6 +74,12 @@ A line: a number, the kind, and what the label says.
 EOV1 and EOV2 stand at the end of a volume whose file goes on on the next one.
 Identifiers may hold spaces: cut by column, as 'cut -c13-29' for the file of HDR1.
 Labels in other codes than that of ECMA-13, as EBCDIC, are listed as blocks.
+
+With --places two numbers stand before each line: the place of the item in
+the image, from 0, and how many bytes it takes there, its two lengths too.
+  268 808 000005 BLOCK 00800
+  1076 408 000006 BAD
+Erase gaps before a bad block count to it, since none tells its own length.
 
 The last line is 'END MARKED' where an end word stands, or 'END PHYSICAL' where the bytes end
 between two items. At a fault there is none: what was read before it is listed, and the fault is

@@ -10,7 +10,7 @@ use crate::init::init;
 use crate::outline::{Outline, mistake};
 use crate::survey_files::survey;
 use crate::unfit::Unfit;
-use crate::words::{Order, call_of};
+use crate::words::{List, Order, call_of};
 use crate::write::command::write;
 use crate::write::guard::{look_ahead, wrong_file};
 use crate::write::words::{WRITE, WriteOrder};
@@ -20,7 +20,7 @@ use std::io::{BufReader, BufWriter, Read};
 use std::rt::Runtime;
 use std::{env, io};
 use tape_image::{ImageCause, ImageFault};
-use tape_run::list_to;
+use tape_run::{list_places_to, list_to};
 
 /// Runs the program, tells a fault, and gives the exit status.
 pub fn run<R: Host>(rt: &R) -> u8 {
@@ -81,7 +81,7 @@ pub fn perform<'a, R: Host>(rt: &R, words: &'a [String]) -> Outcome<'a> {
 /// Does what is to be done. At a fault the site is where it came.
 fn obey<'a, R: Host>(rt: &R, order: &Order<'a>, site: &mut Site<'a>) -> End {
     match order {
-        Order::List { image } => list(rt, *image, site),
+        Order::List(order) => list(rt, *order, site),
         Order::Init(order) => init(rt, order, site),
         Order::Check(named) => check(rt, named, site),
         Order::Survey(named) => survey(rt, named, site),
@@ -144,10 +144,10 @@ fn refuse_words<R: Print + Eprint + AllocGlobal>(rt: &R, outline: &Outline, text
 }
 
 /// Lists the image at the path, or that on standard input.
-fn list<'a, R: Runtime + AllocGlobal>(rt: &R, image: Option<&'a str>, site: &mut Site<'a>) -> End {
-    let (listed, read) = match image {
-        None => (list_input(rt, rt.reader()), Site::Input),
-        Some(path) => (list_file(rt, path), Site::Image(path)),
+fn list<'a, R: Runtime + AllocGlobal>(rt: &R, order: List<'a>, site: &mut Site<'a>) -> End {
+    let (listed, read) = match order.image {
+        None => (list_input(rt, rt.reader(), order.places), Site::Input),
+        Some(path) => (list_file(rt, path, order.places), Site::Image(path)),
     };
     *site = match listed {
         Err(ToolFault::File(FileFault::WriteFailed)) => Site::Lines,
@@ -157,15 +157,19 @@ fn list<'a, R: Runtime + AllocGlobal>(rt: &R, image: Option<&'a str>, site: &mut
 }
 
 /// Lists the image at the path.
-fn list_file<R: Runtime + AllocGlobal>(rt: &R, path: &str) -> Result<(), ToolFault> {
+fn list_file<R: Runtime + AllocGlobal>(rt: &R, path: &str, places: bool) -> Result<(), ToolFault> {
     match File::open(rt, path) {
-        Ok(file) => list_input(rt, file),
+        Ok(file) => list_input(rt, file, places),
         Err(_) => Err(ToolFault::File(FileFault::NotOpened)),
     }
 }
 
 /// Lists to the standard output, both streams through buffers.
-fn list_input<R: Print + AllocGlobal, I: Read + Drop>(rt: &R, input: I) -> Result<(), ToolFault> {
+fn list_input<R: Print + AllocGlobal, I: Read + Drop>(
+    rt: &R,
+    input: I,
+    places: bool,
+) -> Result<(), ToolFault> {
     let no_memory = ToolFault::Image(ImageFault {
         place: 0,
         cause: ImageCause::OutOfMemory,
@@ -176,5 +180,8 @@ fn list_input<R: Print + AllocGlobal, I: Read + Drop>(rt: &R, input: I) -> Resul
     let Ok(mut writer) = BufWriter::new(rt.alloc(), io::writer(rt)) else {
         return Err(no_memory);
     };
+    if places {
+        return Ok(list_places_to(rt.alloc(), &mut reader, &mut writer)?);
+    }
     Ok(list_to(rt.alloc(), &mut reader, &mut writer)?)
 }

@@ -21,7 +21,7 @@ pub struct Call<'a> {
 #[derive(Drop)]
 pub enum Order<'a> {
     /// List the image at this path, or that on standard input.
-    List { image: Option<&'a str> },
+    List(List<'a>),
     /// Make images of volumes without files.
     Init(Init<'a>),
     /// Tell which sections are on images.
@@ -32,6 +32,14 @@ pub enum Order<'a> {
     Write(WriteOrder<'a>),
     /// Get a file back from images.
     Extract(Extract<'a>),
+}
+
+/// What `list` lists: the image at this path, or that on standard input.
+#[derive(Clone, Copy, Debug, PartialEq, Eq)]
+pub struct List<'a> {
+    pub image: Option<&'a str>,
+    /// Whether the place and the size of each item are told.
+    pub places: bool,
 }
 
 /// What `init` makes: images of the volumes from 1 to the count, in a folder.
@@ -65,8 +73,11 @@ const LIST: Outline = Outline {
     called: "tape list",
     about: help::ABOUT_LIST,
     after_help: help::AFTER_LIST,
-    usage: Some("tape list [IMAGE]"),
-    words: &[Word("IMAGE", Kind::AnyTexts, help::IMAGE)],
+    usage: Some("tape list [--places] [IMAGE]"),
+    words: &[
+        Word("IMAGE", Kind::AnyTexts, help::IMAGE),
+        Word("places", Kind::Flag, help::PLACES),
+    ],
 };
 
 /// `check`.
@@ -200,7 +211,10 @@ fn order_of<'a>(alloc: Global, matches: &ArgMatches<'a>) -> Result<Order<'a>, Er
     }
     match matches.subcommand_matches("list") {
         Some(list) => list_order(alloc, list),
-        None => Ok(Order::List { image: None }),
+        None => Ok(Order::List(List {
+            image: None,
+            places: false,
+        })),
     }
 }
 
@@ -298,15 +312,14 @@ pub fn form_of(matches: &ArgMatches<'_>) -> Form {
 
 /// What the words behind `list` ask for.
 fn list_order<'a>(alloc: Global, matches: &ArgMatches<'a>) -> Result<Order<'a>, Error> {
-    let Some(images) = matches.get_strs("IMAGE") else {
-        return Ok(Order::List { image: None });
+    let image = match matches.get_strs("IMAGE") {
+        None | Some([]) => None,
+        Some(["-"]) => return Err(mistake(alloc, &LIST, help::DASH)?),
+        Some([image]) => Some(*image),
+        Some(_) => return Err(mistake(alloc, &LIST, help::ONE_IMAGE)?),
     };
-    match images {
-        [] => Ok(Order::List { image: None }),
-        ["-"] => Err(mistake(alloc, &LIST, help::DASH)?),
-        [image] => Ok(Order::List {
-            image: Some(*image),
-        }),
-        _ => Err(mistake(alloc, &LIST, help::ONE_IMAGE)?),
-    }
+    Ok(Order::List(List {
+        image,
+        places: matches.get_flag("places"),
+    }))
 }

@@ -1,5 +1,5 @@
 //! Command lines.
-use crate::words::{Order, call_of};
+use crate::words::{List, Order, call_of};
 use std::alloc::{AllocError, Global};
 use std::process::Abort;
 use std::test::Fail;
@@ -19,19 +19,21 @@ fn push_word(alloc: Global, words: &mut Vec<String>, word: &str) -> Result<(), A
     Ok(())
 }
 
-const ORDERS: &[(&str, Option<&str>)] = &[
-    ("list", None),
-    ("list reel.tap", Some("reel.tap")),
-    ("list -- -odd.tap", Some("-odd.tap")),
+const ORDERS: &[(&str, Option<&str>, bool)] = &[
+    ("list", None, false),
+    ("list reel.tap", Some("reel.tap"), false),
+    ("list --places", None, true),
+    ("list -- -odd.tap", Some("-odd.tap"), false),
 ];
 
 #[test]
 fn orders(rt: HostRuntime) -> Result<(), Fail> {
-    for (line, image) in ORDERS {
+    for (line, image, told) in ORDERS {
         let words = words_of(rt.alloc(), line)?;
         let order = call_of(rt.alloc(), words.as_slice())?.order;
         assert!(rt;
-            matches!(order, Order::List { image: found } if found == *image),
+            matches!(order, Order::List(List { image: found, places })
+                if found == *image && places == *told),
             "{line}"
         );
     }
@@ -47,15 +49,15 @@ const SAID: &[(&str, i32, &str)] = &[
         2,
         "do echo \"$f\"; tape list \"$f\"; done",
     ),
-    ("list a.tap b.tap", 2, "Usage: tape list [IMAGE]"),
+    ("list a.tap b.tap", 2, "Usage: tape list [--places] [IMAGE]"),
     ("list -", 2, "leave IMAGE out to list standard input"),
     ("list -- -", 2, "write './-' for a file of that name"),
     ("list --all", 2, "unexpected argument '--all' found"),
     ("--help", 0, "Usage: tape [OPTIONS] <COMMAND>"),
     ("--version", 0, "tape 0.1.0"),
-    ("list --help", 0, "Usage: tape list [IMAGE]"),
+    ("list --help", 0, "Usage: tape list [--places] [IMAGE]"),
     ("check --help", 0, "--explain"),
-    ("list --all", 2, "Usage: tape list [IMAGE]"),
+    ("list --all", 2, "Usage: tape list [--places] [IMAGE]"),
     ("help list", 0, "zcat reel.tap.gz | tape list"),
     ("init '' ABC 2", 2, "DIR is empty: write '.'"),
     ("write '' ABC 100000 A=B", 2, "DIR is empty: write '.'"),

@@ -1,0 +1,126 @@
+use Rattle.std.proofs.Common.{◌≡◌, ◌+◌, ◌-◌, Ok, Err, ap, subst, ◌∙◌, arith, rules}
+use Rattle.std.specs.Prelude.{unwrap_or}
+use Rattle.std.specs.Io.KnownBytes.{Appends}
+use Rattle.tape_image.specs.Reader.{tape_item, ending_of}
+use Rattle.tape_image.proofs.Callers.{gave, met_end, met_fault}
+use Rattle.tape_run.specs.ListLine.{line_of}
+use Rattle.tape_run.specs.Placed.{told_at, placed_line, placed_end}
+use Rattle.tape_run.specs.Output.{AppendsFront}
+use Rattle.tape_run.specs.declared.fault.ListFault.TheVariants.{WriteFailed}
+use Rattle.tape_run.proofs.ListedSoFar.{same_some, least_four}
+use Rattle.tape_run.proofs.PlacedSoFar.{met, line_is, placed_more, placed_to_end}
+use Rattle.tape_run.proofs.PlacedSoFar.{placed_stop_item, placed_stop_end, placed_stop_fault}
+use Rattle.tape_run.proofs.PlacedSoFar.{places_not_written, places_cause, placed_to_fault}
+use Rattle.tape_run.proofs.list_places.list_items.Goals as goal
+
+pub items-preserved : goal.items-preserved
+items-preserved g c =
+    let next = c.next.follows.lender-at-none in
+    let item = tape_item c.in-Ok-Some.item in
+    let step = gave c.items.image _ next c.in-Ok-Some.item c.next.follows.holds-at-none
+    c.items.invariant.on (c.in-Ok-Some.is ∙ ap Ok c.in-Ok-Some.field-0-is) in
+    let size : c.unwrap_or-size.result
+    ≡ unwrap_or c.extent_of-extent.result (c.place-behind.result - c.items.from) = search rules in
+    let line : c.deref.result.now ≡ line_of (c.items.number + 1) item = search rules in
+    let told : c.deref-in-Ok-Some.result.now
+    ≡ told_at (c.place-behind.result - c.unwrap_or-size.result) c.unwrap_or-size.result
+    c.deref.result.now = search rules in
+    let text : c.deref-in-Ok-Some.result.now
+    ≡ placed_line (c.items.number + 1) (met item c.items.image.place next.place) =
+    line_is c.unwrap_or-size.result c.place-behind.result c.items.from c.items.image.place
+    next.place (c.items.number + 1) c.extent_of-extent.result item c.deref.result.now
+    c.deref-in-Ok-Some.result.now size c.extent_of-extent.ensures c.place-behind.ensures
+    c.items.invariant.here line told in
+    record {
+      on = step.goes_on;
+      limit = step.within;
+      few = omega (arith, step.extent, c.items.invariant.few, least_four item);
+      here = c.place-behind.ensures;
+      same_device = c.next.follows.holds-at-none.same_device ∙ c.items.invariant.same_device;
+      so_far = placed_more _ c.items.image.left next.left c.items.image.place next.place
+          c.items.number item _ _ _ c.items.invariant.so_far step.takes
+          (subst (Appends (g.W.Write.contents c.items.writer)
+          (g.W.Write.contents c.write_text.new.writer)) text
+          c.in_ok-write_text-in-Ok-Some.ensures.ok);
+    }
+
+pub returns-in_err-write_text-in-Ok-Some-clause-fault :
+    goal.returns-in_err-write_text-in-Ok-Some-clause-fault
+returns-in_err-write_text-in-Ok-Some-clause-fault g c =
+    let next = c.next.follows.lender-at-none in
+    let item = tape_item c.in-Ok-Some.item in
+    let step = gave c.items.image _ next c.in-Ok-Some.item c.next.follows.holds-at-none
+    c.items.invariant.on (c.in-Ok-Some.is ∙ ap Ok c.in-Ok-Some.field-0-is) in
+    let size : c.unwrap_or-size.result
+    ≡ unwrap_or c.extent_of-extent.result (c.place-behind.result - c.items.from) = search rules in
+    let line : c.deref.result.now ≡ line_of (c.items.number + 1) item = search rules in
+    let told : c.deref-in-Ok-Some.result.now
+    ≡ told_at (c.place-behind.result - c.unwrap_or-size.result) c.unwrap_or-size.result
+    c.deref.result.now = search rules in
+    let text : c.deref-in-Ok-Some.result.now
+    ≡ placed_line (c.items.number + 1) (met item c.items.image.place next.place) =
+    line_is c.unwrap_or-size.result c.place-behind.result c.items.from c.items.image.place
+    next.place (c.items.number + 1) c.extent_of-extent.result item c.deref.result.now
+    c.deref-in-Ok-Some.result.now size c.extent_of-extent.ensures c.place-behind.ensures
+    c.items.invariant.here line told in
+    let part = subst (AppendsFront (g.W.Write.contents c.items.writer)
+    (g.W.Write.contents c.write_text.new.writer)) text
+    c.in_err-write_text-in-Ok-Some.ensures.err in
+    let failed : c.from_residual.result ≡ Err WriteFailed = search rules in
+    places_not_written _ _ _ _ _ failed
+    (placed_stop_item _ c.items.image.left next.left c.items.image.place next.place c.items.number
+    item _ _ _ c.items.invariant.so_far step.takes part)
+
+pub returns-in_err-write_end-in-Ok-None-clause-fault :
+    goal.returns-in_err-write_end-in-Ok-None-clause-fault
+returns-in_err-write_end-in-Ok-None-clause-fault g c =
+    let next = c.next.follows.lender-at-none in
+    let met = met_end c.items.image _ next c.next.follows.holds-at-none c.items.invariant.on
+    (c.in-Ok-None.is ∙ ap Ok c.in-Ok-None.field-0-is) in
+    let ending = same_some c.in-Some.ending met.ending c.ending.result c.in-Some.is
+    (c.ending.ensures ∙ ap ending_of met.ended) in
+    let wrote = AppendsFront (g.W.Write.contents c.items.writer)
+    (g.W.Write.contents c.write_end.new.writer) in
+    let part = subst (λ e. wrote (placed_end e next.place)) ending
+    (subst (λ q. wrote (placed_end c.in-Some.ending q)) c.place.ensures
+    c.in_err-write_end-in-Ok-None.ensures.err) in
+    let failed : c.from_residual-in_err-write_end-in-Ok-None.result ≡ Err WriteFailed =
+    search rules in
+    places_not_written _ _ _ _ _ failed
+    (placed_stop_end _ c.items.image.left next.left c.items.image.place next.place c.items.number
+    met.ending _ _ _ c.items.invariant.so_far met.takes part)
+
+pub returns-in-Ok-None-clause-ok : goal.returns-in-Ok-None-clause-ok
+returns-in-Ok-None-clause-ok g c =
+    let next = c.next.follows.lender-at-none in
+    let met = met_end c.items.image _ next c.next.follows.holds-at-none c.items.invariant.on
+    (c.in-Ok-None.is ∙ ap Ok c.in-Ok-None.field-0-is) in
+    let ending = same_some c.in-Some.ending met.ending c.ending.result c.in-Some.is
+    (c.ending.ensures ∙ ap ending_of met.ended) in
+    let wrote = Appends (g.W.Write.contents c.items.writer)
+    (g.W.Write.contents c.write_end.new.writer) in
+    let line = subst (λ e. wrote (placed_end e next.place)) ending
+    (subst (λ q. wrote (placed_end c.in-Some.ending q)) c.place.ensures
+    c.in_ok-write_end-in-Ok-None.ensures.ok) in
+    placed_to_end _ c.items.image.left next.left c.items.image.place next.place c.items.number
+    met.ending _ _ _ c.items.invariant.so_far met.takes line
+
+pub returns-in_err-flush-in-Err-clause-fault : goal.returns-in_err-flush-in-Err-clause-fault
+returns-in_err-flush-in-Err-clause-fault g c =
+    let next = c.next.follows.lender-at-none in
+    let met = met_fault c.items.image _ next c.in-Err.fault c.next.follows.holds-at-none
+    c.items.invariant.on c.in-Err.is in
+    let failed : c.from_residual-in_err-flush-in-Err.result ≡ Err WriteFailed =
+    search rules in
+    places_not_written _ _ _ _ _ failed
+    (placed_stop_fault _ c.items.image.left next.left c.items.image.place c.items.number
+    c.in-Err.fault _ _ _ c.items.invariant.so_far met.takes c.flush.ensures.kept)
+
+pub returns-in-Err-clause-fault : goal.returns-in-Err-clause-fault
+returns-in-Err-clause-fault g c =
+    let next = c.next.follows.lender-at-none in
+    let met = met_fault c.items.image _ next c.in-Err.fault c.next.follows.holds-at-none
+    c.items.invariant.on c.in-Err.is in
+    places_cause c.in-Err.fault.cause c.in-Err.fault _ _ _ _ met.memory
+    (placed_to_fault _ c.items.image.left next.left c.items.image.place c.items.number
+    c.in-Err.fault _ _ _ c.items.invariant.so_far met.takes c.flush.ensures.kept)

@@ -1,0 +1,157 @@
+//! `list --places`: the listing of an image, with the place and the size of each item.
+ghost use Rattle.std.specs.Prelude.{◌≡◌, ◌≤◌, ◌+◌, ◌++◌, length, decimal};
+ghost use Rattle.std.specs.Prelude.{IfErr, OnOk, OnErr, codes};
+ghost use Rattle.std.specs.Io.KnownBytes.{Appends};
+ghost use Rattle.arrayvec.specs.ArrayVec.{array_vec_len};
+ghost use Rattle.tape_run.specs.Output.{AppendsFront};
+ghost use Rattle.tape_run.specs.Placed.{item_extent, told_at, placed_end, PlacesToEnd, FitsPlaces};
+ghost use Rattle.tape_image.specs.Reader.{IfKnown, going, tape_item};
+ghost use Rattle.tape_image.specs.Spelling.{end_len};
+ghost use Rattle.tape_image.specs.Tape.{IsTapeItem};
+
+use crate::fault::{ListFault, WriteFailed};
+use crate::list::{last_line, reserve};
+use crate::list_line::line_of;
+use crate::output::{flush, write_text};
+use arrayvec::ArrayVec;
+use std::alloc::Global;
+use std::io::{Read, Write};
+use tape_image::{Ending, ImageReader, Item};
+
+/// Lists the image that the reader gives, as `list_to` does, with two numbers before each line: the
+/// place where the item begins, and how many bytes of the image it takes. The place and the size of
+/// a bad block have the erase gaps before it with them, since no reader tells the length of one.
+///
+/// # Errors
+///
+/// Those of `list_to`, in the same cases.
+pub fn list_places_to<R: Read, W: Write>(
+    alloc: Global,
+    reader: &mut R,
+    writer: &mut W,
+) -> Result<(), ListFault>
+    // Success is the end of medium, and the lines of all items up to it.
+    ensures ok { OnOk result (IfKnown (R.remaining reader.old) (R.remaining reader.new)
+        (PlacesToEnd (W.contents writer.old) (W.contents writer.new))) }
+    // A fault of the image has its reason in the image, in its reader or in want of memory, with
+    // the lines of all items before it written; and where a write failed a front of the lines of
+    // what was read was, and nothing was read behind the item whose line it was.
+    ensures fault { IfErr result (FitsPlaces (R.remaining reader.old) (R.remaining reader.new)
+        (W.contents writer.old) (W.contents writer.new)) }
+{
+    let buffer = reserve(alloc)?;
+    let mut image = ImageReader::over(buffer, reader);
+    let listed = list_items(&mut image, writer);
+    // What the reader has left is its caller's again.
+    image.into_device();
+    listed
+}
+
+/// Lists the items of an image of which nothing was read yet.
+fn list_items<R: Read, W: Write>(
+    image: &mut ImageReader<'_, R>,
+    writer: &mut W,
+) -> Result<(), ListFault>
+    requires going { image.old.status ≡ going }
+    requires first { image.old.place ≡ 0 }
+    ensures same_device { image.new.device ≡ image.old.device }
+    ensures ok { OnOk result (IfKnown image.old.left image.new.left
+        (PlacesToEnd (W.contents writer.old) (W.contents writer.new))) }
+    ensures fault { IfErr result (FitsPlaces image.old.left image.new.left
+        (W.contents writer.old) (W.contents writer.new)) }
+{
+    let mut number = 0u64;
+    let mut from = 0u64;
+    'items: loop {
+        match image.next() {
+            Ok(Some(item)) => {
+                number += 1;
+                let line = line_of(number, item);
+                let extent = extent_of(item);
+                let behind = image.place();
+                let size = extent.unwrap_or(behind - from);
+                write_text(writer, &told_at(behind - size, size, &line))?;
+                from = behind;
+            }
+            Ok(None) => {
+                let Some(ending) = image.ending() else {
+                    unreachable!()
+                };
+                return Ok(write_end(writer, ending, image.place())?);
+            }
+            Err(fault) => {
+                flush(writer)?;
+                return Err(ListFault::Image(fault));
+            }
+        }
+    }
+}
+
+/// Writes the last line, of a medium that ended with this many bytes taken, and has the writer pass
+/// on all that it holds.
+fn write_end<W: Write>(writer: &mut W, ending: Ending, behind: u64) -> Result<(), WriteFailed>
+    requires { end_len ending ≤ behind }
+    ensures ok { OnOk result (Appends (W.contents writer.old) (W.contents writer.new)
+        (placed_end ending behind)) }
+    ensures err { OnErr result (AppendsFront (W.contents writer.old) (W.contents writer.new)
+        (placed_end ending behind)) }
+{
+    let size = match ending {
+        Ending::Marked => 4,
+        Ending::Physical => 0,
+    };
+    write_text(writer, &told_at(behind - size, size, last_line(ending)))?;
+    flush(writer)
+}
+
+/// How many bytes of an image the item takes, where it tells that.
+fn extent_of(item: Item<'_>) -> Option<u64>
+    requires { IsTapeItem (tape_item item) }
+    ensures { result ≡ item_extent (tape_item item.entry) }
+{
+    match item {
+        Item::Block(bytes) => {
+            let length = bytes.len() as u64;
+            Some(8 + length + length % 2)
+        }
+        Item::Bad => None,
+        Item::Mark => Some(4),
+    }
+}
+
+/// Room for the longest line, with its two numbers.
+type PlacedLine = ArrayVec<u8, 192>;
+
+/// The line, behind its place and its size.
+fn told_at(place: u64, size: u64, line: &[u8]) -> PlacedLine
+    requires { length line.now ≤ 64 }
+    ensures { result.items ≡ told_at place size line.now }
+{
+    let mut placed = PlacedLine::new();
+    put_number(&mut placed, place);
+    put_number(&mut placed, size);
+    put(&mut placed, line);
+    placed
+}
+
+/// A number in decimals, and a space.
+fn put_number(line: &mut PlacedLine, number: u64)
+    requires room { array_vec_len line.old ≤ 64 }
+    ensures items { line.new.items ≡ line.old.items ++ (decimal number ++ codes " ") }
+    ensures len { array_vec_len line.new ≤ array_vec_len line.old + 41 }
+{
+    put(line, itoa::Buffer::new().format(number).as_bytes());
+    put(line, b" ");
+}
+
+/// Any text that fits.
+fn put(line: &mut PlacedLine, text: &[u8])
+    requires { array_vec_len line.old + length text.now ≤ 192 }
+    ensures items { line.new.items ≡ line.old.items ++ text.now }
+    ensures len { array_vec_len line.new ≡ array_vec_len line.old + length text.now }
+{
+    match line.try_extend_from_slice(text) {
+        Ok(()) => {}
+        Err(_) => unreachable!(),
+    }
+}
