@@ -1,7 +1,7 @@
 //! `check` and `survey` as the program runs them.
 use super::calls::{Step, each_ends, put, take_all, with_images};
 use super::volumes::{first_of_two, second_of_two};
-use super::words::{is_answered, words_of};
+use super::words::words_of;
 use crate::end::{End, finish};
 use crate::fault::{Fault, FileFault, ToolFault};
 use crate::telling::fault_line;
@@ -76,7 +76,6 @@ fn at_most_256_images(rt: HostRuntime) -> Result<(), Fail> {
     Ok(())
 }
 
-/// One more, and what to do is said.
 #[test]
 fn not_257_images(rt: HostRuntime) -> Result<(), Fail> {
     let line = with_images(rt.alloc(), "check", 257)?;

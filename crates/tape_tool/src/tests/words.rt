@@ -71,7 +71,7 @@ const SAID: &[(&str, i32, &str)] = &[
 ];
 
 /// The line is answered with this status and text.
-pub fn is_answered<H: Abort + AllocGlobal>(
+fn is_answered<H: Abort + AllocGlobal>(
     rt: &H,
     line: &str,
     status: i32,
