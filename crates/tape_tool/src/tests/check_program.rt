@@ -1,5 +1,5 @@
 //! `check` and `survey` as the program runs them.
-use super::calls::{Step, each_ends, put, take_all, with_images};
+use super::calls::{Step, each_ends, ends, put, take_all, with_images};
 use super::volumes::{first_of_two, second_of_two};
 use super::words::words_of;
 use crate::end::{End, finish};
@@ -79,8 +79,7 @@ fn at_most_256_images(rt: HostRuntime) -> Result<(), Fail> {
 #[test]
 fn not_257_images(rt: HostRuntime) -> Result<(), Fail> {
     let line = with_images(rt.alloc(), "check", 257)?;
-    let text = "check takes up to 256 images as words";
-    is_answered(&rt, line.as_str(), 2, text)
+    ends(&rt, line.as_str(), End::WrongWords)
 }
 
 #[test]
