@@ -16,8 +16,8 @@ use tape_set::Want;
 
 /// As `extract_to`, but the images are read once more, from the first one on, wherever a round of
 /// all of them brought something: something is wanted behind it, and something else than before. So
-/// a file is complete whatever the order of the images is, and damaged copies mend each other. The
-/// lines are numbered on from round to round.
+/// the order of the images does not matter, and damaged copies mend each other. The lines are
+/// numbered on from round to round.
 ///
 /// Each image is mounted again in each round. A shelf that gives an image once gives none then,
 /// and it is reported as not opened.
