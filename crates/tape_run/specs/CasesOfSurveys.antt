@@ -36,7 +36,6 @@ use Rattle.tape_run.specs.Checked.{Reel}
 use Rattle.tape_run.specs.Noted.{noted_all}
 use Rattle.tape_run.specs.Passing.{met_in}
 use Rattle.tape_run.specs.SurveyFiles.{filed_in, Filed, is_other, with_head, note_at, file_key}
-use Rattle.tape_run.specs.SurveyFiles.{any_differs}
 use Rattle.tape_run.specs.SurveyGlance.{glance_of, blank_glance, first_of, is_ebcdic, course_with}
 use Rattle.tape_run.specs.SurveyGlance.{late_with, unread_with, unread_by, or_else, is_kind_vol1}
 use Rattle.tape_run.specs.SurveyLaws.{course_of, has_left, end_marks, IsSectionInOrder, IsBegun}

@@ -1,6 +1,6 @@
 -- What a survey says of an image. The text is for people, and may change.
 use Rattle.std.specs.Prelude.{Bool, true, false, ◌||◌, length, take, ◌-◌, ℕ, ◌==◌, ◌&&◌, nat_le}
-use Rattle.std.specs.Prelude.{nat_lt, map, if◌then◌else◌, List, [], ◌∷◌, ◌++◌, codes, decimal}
+use Rattle.std.specs.Prelude.{nat_lt, map, if◌then◌else◌, List, [], ◌++◌, codes, decimal}
 use Rattle.std.specs.Prelude.{Option, Some, None}
 use Rattle.tape_image.specs.declared.fault.ImageFault.{ImageFault}
 use Rattle.std.specs.List.{suffix_len}

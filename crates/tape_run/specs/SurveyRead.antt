@@ -7,7 +7,6 @@ use Rattle.tape_run.specs.declared.section.ImageStop.{ImageStop}
 use Rattle.tape_run.specs.declared.section.ImageStop.TheVariants.{Marked, Physical, Fault}
 use Rattle.tape_run.specs.declared.survey.course.Course.{Course}
 use Rattle.tape_run.specs.declared.survey.course.Course.TheVariants.{Ended}
-use Rattle.tape_run.specs.declared.survey.glance.Glance.{Glance}
 use Rattle.tape_run.specs.declared.survey.view.Sight.{Sight}
 use Rattle.tape_run.specs.Added.{StopsBehind}
 use Rattle.tape_run.specs.Checked.{Reel}

@@ -1,6 +1,6 @@
 -- An answer that the contract of how far items follow the order excludes: a wrong body would give
 -- it.
-use Rattle.std.proofs.Common.{◌≡◌, ℕ, List}
+use Rattle.std.proofs.Common.{ℕ, List}
 use Rattle.tape_run.specs.declared.passing.Phase.TheVariants.{Next, Over}
 use Rattle.tape_run.specs.declared.survey.course.Course.TheVariants.{Ended}
 use Rattle.tape_run.proofs.survey.course.left_by.Reads as left_by

@@ -1,4 +1,4 @@
-use Rattle.std.proofs.Common.{◌≡◌, ◌<◌, map, length, arith, rules}
+use Rattle.std.proofs.Common.{◌≡◌, ◌<◌, map, length, arith}
 use Rattle.std.proofs.lemmas.List.{length-map}
 use Rattle.tape_run.proofs.Fitting.{on_err}
 use Rattle.tape_run.proofs.SurveyTexts.{tells_none, tells_more, tells_all, stops_before, stops_at}

@@ -1,4 +1,3 @@
-use Rattle.std.proofs.Common.{map}
 use Rattle.tape_run.proofs.Reporting.{if_ok, if_err}
 use Rattle.tape_run.proofs.SurveyTexts.{surveyed, surveyed_in_part}
 use Rattle.tape_run.proofs.survey.survey_to.Goals as goal
