@@ -168,11 +168,12 @@ fn gather<'a, R: Runtime + AllocGlobal, S: PartWalk + Drop>(
         Ok(None) => return in_place(rt, order, images, session),
         Err(end) => return end,
     };
-    let Ok(mut out) = BufWriter::with_capacity(rt.alloc(), HELD, Draft { name, file }) else {
-        return End::Faulted(Fault::OutOfMemory);
+    let mut draft = Draft { name, file };
+    let end = match BufWriter::with_capacity(rt.alloc(), HELD, &mut draft) {
+        Ok(mut out) => written_to(rt, order, images, session, &mut out),
+        Err(_) => End::Faulted(Fault::OutOfMemory),
     };
-    let end = written_to(rt, order, images, session, &mut out);
-    out.get_ref().name.clear();
+    draft.name.clear();
     end
 }
 
