@@ -7,6 +7,7 @@ use std::alloc::{AllocError, Global};
 use std::io::{Error, ErrorKind, Result as IoResult, Write};
 use std::test::Fail;
 use tape_blocks::Form;
+use tape_image::ImageWriter;
 use tape_label::Vol1;
 use tape_writer::{ImageStore, Input, RefusedSet, SetFault, WriteFault, WrittenSet, write_set};
 
@@ -134,13 +135,16 @@ fn is_refused(
     let first = first_of_two(alloc, records)?;
     let images = &refused.images;
     let facts = (refused.fault, images.lent, images.images.len());
-    Ok(match refused.under_way {
-        Some(image) => {
-            facts == (SetFault::Write(WriteFault::Device), 1, 0)
-                && image.into_device().bytes.as_slice() == first.as_slice()
-        }
+    let is_first = has_bytes(refused.under_way, first.as_slice());
+    Ok(is_first && facts == (SetFault::Write(WriteFault::Device), 1, 0))
+}
+
+/// Whether there is an image, and its device has these bytes.
+fn has_bytes(image: Option<ImageWriter<Flushed>>, bytes: &[u8]) -> bool {
+    match image {
+        Some(image) => image.into_device().bytes.as_slice() == bytes,
         None => false,
-    })
+    }
 }
 
 /// A device that can't be flushed: no further volume begins.
