@@ -178,6 +178,7 @@ cases_of_outputs = record {
   stopped_turns = λ session shelf left form out now said says s. (s.most, s.are_turns);
   stopped_turns_now = λ session shelf left form out now said says s. (s.most, s.are_turns);
   taken = λ form out weight records begun failed parts t. (t.weighs, t.counted);
+  taken_text = λ form out weight records begun failed parts t. (t.begins, t.text);
   text = text;
   ended = (refl, refl);
 }

@@ -1,6 +1,6 @@
 -- The cases of the laws.
-use Rattle.std.proofs.Common.{◌≡◌, ◌≢◌, ℕ, List, [], ◌∷◌, Some, None, refl, ap}
-use Rattle.std.proofs.Common.{subst, arith, true, false}
+use Rattle.std.proofs.Common.{◌≡◌, ◌≢◌, ℕ, List, [], ◌∷◌, Some, None, refl, ap, sym, ◌∙◌}
+use Rattle.std.proofs.Common.{subst, arith, true, false, inr}
 use Rattle.std.specs.Prelude.{MatchOption}
 use Rattle.tape_run.specs.declared.section.SectionKey.{SectionKey}
 use Rattle.tape_run.specs.declared.section.SectionState.TheVariants.{Good, Cut}
@@ -23,6 +23,10 @@ cases_of_run_laws = record {
   one_crash = λ law set c back ps there life hs lawful stands outlives are.
       law set c ps (life ∷ []) (hs ∷ []) back there lawful stands outlives are;
   items_are = λ law bytes. let all = law (bytes ∷ []) in (all.0, all.1);
+  no_life = λ c ps. (refl, refl);
+  one_life = λ c back ps there life resumed came.
+      (resumed, (back, there, inr came, (refl, refl)));
+  read_life = λ set s bytes given h mount. ((mount, tt), refl);
 }
 
 none_lacks : LackIsFirst → (c : List Told) (id : List ℕ) (file : ℕ) → lack_of c id file ≡ None
@@ -58,6 +62,10 @@ cases_of_catalogue_laws = record {
       law set ks reels text found lawful each some report are;
   good_was_seen = λ law reels text found report t stands good.
       law reels text found report t stands good;
+  good_are_shown = λ law items. law items;
+  a_listing = λ law bytes. let all = law bytes in (all.0, all.1);
+  one_listing = λ law bytes text other one two.
+      let all = law bytes in all.2 text one ∙ sym (all.2 other two);
   two_entries = two_entries;
   twice = λ one. one.0.0 refl;
   one_entry = λ law before after new line adds. law.added before after [] new line tt adds;

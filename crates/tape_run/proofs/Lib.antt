@@ -59,6 +59,7 @@ mod OneEntry
 mod Examples
 mod ExamplesOfReels
 mod ExamplesOfCatalogues
+mod ExamplesOfSections
 mod ExamplesOfExtracts
 mod ExamplesOfRounds
 mod ExamplesOfLaws

@@ -1,7 +1,7 @@
 -- What the definitions of files got back say of cases. The call `laws::cases` has them as its
 -- contract.
 use Rattle.std.specs.Prelude.{◌≡◌, ◌≢◌, ◌<◌, ◌≤◌, ◌⊎◌, ℕ, List, [], ◌∷◌, ◌++◌, length, map, Option}
-use Rattle.std.specs.Prelude.{Some, None, Bool, true, false, ⊤}
+use Rattle.std.specs.Prelude.{Some, None, Bool, true, false, ⊤, is_some}
 use Rattle.std.specs.Io.KnownBytes.{Appends}
 use Rattle.tape_blocks.specs.declared.form.Form.{Form}
 use Rattle.tape_blocks.specs.Block.{Portion}
@@ -23,7 +23,7 @@ use Rattle.tape_run.specs.ExtractingNow.{IsPut, EndsNow, ExtractsNow, StopsNow}
 use Rattle.tape_run.specs.Lead.{Lead, over_reel}
 use Rattle.tape_run.specs.Mount.{Happening, IsMountOf, foreign_reel}
 use Rattle.tape_run.specs.Output.{AppendsFront}
-use Rattle.tape_run.specs.OutSinks.{HasTaken, IsText, with_end}
+use Rattle.tape_run.specs.OutSinks.{HasTaken, IsText, TellsAlways, text_so_far, with_end}
 use Rattle.tape_run.specs.RecordText.{output_of}
 use Rattle.tape_run.specs.ReelLine.{reel_lines, last_line}
 use Rattle.tape_run.specs.Reeling.{Opened, Turn, answer_of, AreTurns, IsTurn, Follows, AreGiven}
@@ -250,5 +250,10 @@ pub record CasesOfOutputs : Type 0 where
       (parts : List Portion)
       → HasTaken (λ (w : Known). w) form out weight records begun failed parts
       → (weight ≡ weight_of parts) × (records ≡ length (join parts).records)
+  pub taken_text : (form : Form) (out : Known) (weight records : ℕ) (begun failed : Bool)
+      (parts : List Portion)
+      → HasTaken (λ (w : Known). w) form out weight records begun failed parts
+      → (begun ≡ is_some (join parts).rest)
+      × (TellsAlways (λ (w : Known). w) → IsText failed (text_so_far form parts) out)
   pub text : (known : List ℕ) → IsText false (7 ∷ []) (Some known) → known ≡ 7 ∷ []
   pub ended : (with_end true 3 ≡ 3) × (with_end false 3 ≡ 4)

@@ -2,6 +2,7 @@
 -- `laws::cases` has them as its contract.
 use Rattle.std.specs.Prelude.{◌≡◌, ℕ, true, false, List, [], ◌∷◌, ◌++◌, length, map, Option, Some}
 use Rattle.std.specs.Prelude.{None, IsSome, Bool, Err}
+use Rattle.std.specs.List.{AllByRecursion}
 use Rattle.tape_image.specs.Tape.{TapeItem}
 use Rattle.tape_blocks.specs.Block.{Portion}
 use Rattle.tape_set.specs.Layout.{FileSet, nth, file_of, sections, items, on}
@@ -13,11 +14,13 @@ use Rattle.tape_run.specs.declared.fault.RunFault.{RunFault}
 use Rattle.tape_run.specs.declared.fault.RunFault.TheVariants.{Sink, NoSuchPoint, TooFewReels}
 use Rattle.tape_run.specs.declared.fault.RunFault.TheVariants.{OutOfMemory, OtherFile}
 use Rattle.tape_run.specs.declared.script.Step.{Step}
+use Rattle.tape_run.specs.declared.script.Step.TheVariants.{Reel}
 use Rattle.tape_run.specs.declared.section.ImageLine.{ImageLine}
 use Rattle.tape_run.specs.declared.section.SectionState.TheVariants.{Good, Cut}
 use Rattle.tape_run.specs.Added.{Adds}
 use Rattle.tape_run.specs.CasesOfCatalogues.{met}
-use Rattle.tape_run.specs.Checked.{Reel, IsReport}
+use Rattle.tape_run.specs.Checked.{IsReport}
+use Rattle.tape_run.specs.Checked as checked
 use Rattle.tape_run.specs.Crash.{StoodAt}
 use Rattle.tape_run.specs.Fronts.{FrontsAreMounts, GivenIsHistory}
 use Rattle.tape_run.specs.Given.{AreGiven}
@@ -25,13 +28,15 @@ use Rattle.tape_run.specs.History.{IsHistory}
 use Rattle.tape_run.specs.Lacks.{LackIsFirst, IsFoundWhole, IsFirstLack, lack_of, found_all}
 use Rattle.tape_run.specs.Lead.{AreItems, ItemsAreThere}
 use Rattle.tape_run.specs.Lives.{StoodComesBack, StandsAcrossCrashes, ComesBack, Life, Outlives}
-use Rattle.tape_run.specs.Lives.{AreHistories}
+use Rattle.tape_run.specs.Lives.{AreHistories, IsResumed}
+use Rattle.tape_run.specs.Listing.{OneListing, IsListing}
 use Rattle.tape_run.specs.Mount.{Happening, IsMountOf, cut}
 use Rattle.tape_run.specs.Noted.{noted_all, StandsIn}
 use Rattle.tape_run.specs.OneEntry.{HasOneEach, OneEntryASection}
 use Rattle.tape_run.specs.Passing.{Told, met_in}
 use Rattle.tape_run.specs.Runs.{Runs, OnlyRefusalsStop, IsRefusal}
 use Rattle.tape_run.specs.Seen.{Seen}
+use Rattle.tape_run.specs.Shown.{Shown, GoodAreShown}
 use Rattle.tape_run.specs.WholeReels.{WholeSetIsTold, GoodWasSeen, AreWholeCopies, IsToldWhole}
 use Rattle.tape_run.specs.WholeReels.{IsShownOn}
 use Rattle.tape_run.specs.WholeSet.{HasEach, AreAllGood, behind_copies, WholeVolumeIsGood}
@@ -62,6 +67,21 @@ pub record CasesOfRunLaws : Type 0 where
       → Stands set c.file back there
   pub items_are : ItemsAreThere → (bytes : List ℕ)
       → (reels : List (List TapeItem)) × AreItems (bytes ∷ []) reels
+  -- a life begins with what was there, ends with what comes back of it, and has the history of what
+  -- was given in it
+  pub no_life : (c : Point) (ps : List Portion) → Outlives c ps [] c ps
+  pub one_life : (c back : Point) (ps there : List Portion) (life : Life)
+      → IsResumed c ps life.began
+      → ComesBack life.began life.steps life.done life.bytes life.given back there
+      → Outlives c ps (life ∷ []) back there
+  pub read_life : (set : FileSet) (s : Seen) (bytes given : List ℕ) (h : Happening)
+      → IsMountOf set given h → AreHistories set (record {
+        began = s;
+        steps = Reel ∷ [];
+        bytes = bytes ∷ [];
+        done = Reel ∷ [];
+        given = given ∷ [];
+      } ∷ []) ((h ∷ []) ∷ [])
 
 -- of laws of catalogues and reports
 pub record CasesOfCatalogueLaws : Type 0 where
@@ -83,13 +103,18 @@ pub record CasesOfCatalogueLaws : Type 0 where
       (after : Option (List ℕ)) (line : ImageLine) (new : List Told) → IsWholeCopy set k xs
       → IsNoDevice line.stop → Adds (Some xs) after [] line new
       → new ≡ noted_all [] (met_in (items set k))
-  pub set_is_told : WholeSetIsTold → (set : FileSet) (ks : List ℕ) (reels : List Reel)
+  pub set_is_told : WholeSetIsTold → (set : FileSet) (ks : List ℕ) (reels : List checked.Reel)
       (text : List ℕ) (found : Bool) (report : IsReport reels text found) → IsLawful set
       → HasEach set ks → IsSome (file_of set 1) → AreWholeCopies set reels report.lines ks
       → IsToldWhole set report.lines text found
-  pub good_was_seen : GoodWasSeen → (reels : List Reel) (text : List ℕ) (found : Bool)
+  pub good_was_seen : GoodWasSeen → (reels : List checked.Reel) (text : List ℕ) (found : Bool)
       (report : IsReport reels text found) (t : Told) → StandsIn report.sections t
       → t.1.state ≡ Good → IsShownOn reels t
+  pub good_are_shown : GoodAreShown → (items : List TapeItem)
+      → AllByRecursion (λ t. t.1.state ≡ Good → Shown items t.0 t.1) (met_in items)
+  pub a_listing : OneListing → (bytes : List ℕ) → (text : List ℕ) × IsListing bytes text
+  pub one_listing : OneListing → (bytes text other : List ℕ) → IsListing bytes text
+      → IsListing bytes other → text ≡ other
   -- one entry a section: of two sections each, and not two of one
   pub two_entries : HasOneEach (met 1 1 false Good ∷ met 1 2 true Cut ∷ [])
   pub twice : HasOneEach (met 1 1 false Good ∷ met 1 1 false Cut ∷ []) → ⊥

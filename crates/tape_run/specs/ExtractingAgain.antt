@@ -65,8 +65,8 @@ pub record StopsAgain {S L R W : Type 0} (holds : S → List Portion → Type 0)
   pub few : length more ≤ 1
   pub want : Option Want
   pub records : ℕ
-  pub lines : AppendsFront said says (reel_lines 1 (map answer_of (turns_of rounds ++ turns) ++ more)
-      ++ last_line want records)
+  pub lines : AppendsFront said says
+      (reel_lines 1 (map answer_of (turns_of rounds ++ turns) ++ more) ++ last_line want records)
   pub follows : (held : List Portion) → holds session.sink held
       → IsKeptFor (goes_back session.notes) (seen refusals session held)
       → (last : State) × (now : Seen)

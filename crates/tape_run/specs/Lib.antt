@@ -71,6 +71,7 @@ pub mod ExtractExamples
 pub mod Cases
 pub mod CasesOfReels
 pub mod CasesOfCatalogues
+pub mod CasesOfSections
 pub mod CasesOfExtracts
 pub mod CasesOfRounds
 pub mod CasesOfLaws

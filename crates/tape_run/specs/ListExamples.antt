@@ -8,7 +8,7 @@ use Rattle.tape_image.specs.declared.fault.ImageFault.{ImageFault}
 use Rattle.tape_image.specs.Tape.{bad, mark}
 use Rattle.tape_image.specs.Begins.{ends}
 use Rattle.tape_image.specs.Reader.{IfKnown}
-use Rattle.tape_image.specs.Step.{TakesEnd}
+use Rattle.tape_image.specs.Step.{TakesEnd, TakesFault}
 use Rattle.tape_run.specs.declared.fault.ListFault.TheVariants.{WriteFailed}
 use Rattle.tape_run.specs.Listing.{lines_from, listing_of, IsListing}
 use Rattle.tape_run.specs.Output.{AppendsFront}
@@ -23,13 +23,16 @@ pub record ListingIsWorked : Type 0 where
 -- what a run of `list` that ended the medium says
 pub record EndSays (old new : Option (List ℕ)) (bytes left : List ℕ) : Type 0 where
   pub took : (l : ListsToEnd old new bytes left) → TakesEnd 0 l.items l.ending l.place bytes left
+  pub listed : (l : ListsToEnd old new bytes left)
+      → IsListing bytes (listing_of l.items (ends l.ending))
   pub wrote : (l : ListsToEnd old new bytes left)
       → Appends old new (listing_of l.items (ends l.ending))
 
 -- what a run that met a fault of the image says
 abbrev pub FaultSays : ImageFault → Option (List ℕ) → Option (List ℕ) → List ℕ → List ℕ → Type 0
 FaultSays fault old new bytes left = (l : ListsToFault fault old new bytes left)
-    → (fault.cause ≢ Device → IsListing bytes (lines_from 1 l.items))
+    → TakesFault 0 l.items fault bytes left
+    × (fault.cause ≢ Device → IsListing bytes (lines_from 1 l.items))
     × Appends old new (lines_from 1 l.items)
 
 -- what a run whose write failed says: a front of the bytes was read, and a front of what `list`

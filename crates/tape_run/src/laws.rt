@@ -6,6 +6,7 @@ ghost use Rattle.tape_run.specs.Cases.{CasesOfCrashes};
 ghost use Rattle.tape_run.specs.CasesOfReels.{CasesOfAnswers, CasesOfTable, CasesOfLeads};
 ghost use Rattle.tape_run.specs.CasesOfCatalogues.{CasesOfCatalogues, CasesOfImages};
 ghost use Rattle.tape_run.specs.CasesOfCatalogues.{CasesOfCopies, CasesOfReports};
+ghost use Rattle.tape_run.specs.CasesOfSections.{CasesOfSections};
 ghost use Rattle.tape_run.specs.CasesOfExtracts.{CasesOfTurns, CasesOfOutputs};
 ghost use Rattle.tape_run.specs.CasesOfRounds.{CasesOfRounds};
 ghost use Rattle.tape_run.specs.CasesOfLaws.{CasesOfRunLaws, CasesOfCatalogueLaws};
@@ -70,6 +71,7 @@ pub fn cases()
     ensures leads { CasesOfLeads }
     ensures catalogues { CasesOfCatalogues }
     ensures images { CasesOfImages }
+    ensures sections { CasesOfSections }
     ensures copies { CasesOfCopies }
     ensures reports { CasesOfReports }
     ensures glances { CasesOfGlances }

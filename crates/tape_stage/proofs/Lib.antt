@@ -5,6 +5,7 @@ pub mod Bodies
 pub mod CallLaws
 pub mod Did
 pub mod Examples
+pub mod ExamplesOfLaws
 pub mod FieldLaws
 pub mod Finds
 pub mod FrameLaws

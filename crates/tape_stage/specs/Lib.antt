@@ -1,6 +1,7 @@
 pub mod Body
 pub mod Calls
 pub mod Cases
+pub mod CasesOfLaws
 pub mod Disk
 pub mod Faults
 pub mod Fields

@@ -1,8 +1,8 @@
 //! A disk: what a read gives, what a crash may leave, and how often it failed.
 ghost use Rattle.std.specs.Prelude.{◌≡◌, ◌+◌, ◌≤◌, ℕ, List, length, take, max, slice_range, IfOk};
 ghost use Rattle.std.specs.Prelude.{OnOk, OnErr};
-ghost use Rattle.tape_stage.specs.Disk.{Holds, Torn, CutShort, Follows, NoMore, Only, Elapses, Allows};
-ghost use Rattle.tape_stage.specs.Disk.{SameFact};
+ghost use Rattle.tape_stage.specs.Disk.{Holds, Torn, CutShort, Follows, Allows, NoMore, Only};
+ghost use Rattle.tape_stage.specs.Disk.{Elapses, SameFact};
 ghost use Rattle.tape_core.specs.Weight.{Rose};
 
 /// The disk failed.

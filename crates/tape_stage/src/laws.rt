@@ -3,6 +3,7 @@
 ghost use Rattle.std.specs.Prelude.{◌≡◌, Ok, ℕ, List};
 ghost use Rattle.tape_stage.specs.Cases.{CasesOfCrashes, CasesOfMoments, CasesOfFiles};
 ghost use Rattle.tape_stage.specs.Cases.{CasesOfStages, CasesOfFaults};
+ghost use Rattle.tape_stage.specs.CasesOfLaws.{CasesOfLaws};
 ghost use Rattle.tape_stage.specs.Laws.{HasBothTexts, IsTextOfOne, IsTextOnce};
 ghost use Rattle.tape_stage.specs.StageLaws.{EitherStands, NamedStands, ReadsOneOf, StandsOnce};
 
@@ -55,11 +56,12 @@ pub fn reads_one_of()
 {}
 
 /// What the definitions of disks and stages say of cases: what a crash may leave, at which moments,
-/// what bytes stand for, what comes back of a stage, and what faults say.
+/// what bytes stand for, what comes back of a stage, what faults say, and what the laws are for.
 pub fn cases<D: Disk>()
     ensures crashes { CasesOfCrashes }
     ensures moments { CasesOfMoments }
     ensures files { CasesOfFiles }
     ensures stages { CasesOfStages D.Disk }
     ensures faults { CasesOfFaults }
+    ensures laws { CasesOfLaws }
 {}

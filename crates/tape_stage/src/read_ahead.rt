@@ -73,8 +73,8 @@ impl<D: Disk> ReadAhead<D> {
         self.start = 0;
     }
 
-    /// Reads ahead from a place on, as much as there is and has room. Where that fails it goes unseen:
-    /// nobody asked for all of these bytes.
+    /// Reads ahead from a place on, as much as there is and has room. Where that fails it goes
+    /// unseen: nobody asked for all of these bytes.
     fn look_ahead(&mut self, place: u64)
         requires there { place ≤ D.length_of self.old.disk }
         ensures same_length { D.length_of self.new.disk ≡ D.length_of self.old.disk }

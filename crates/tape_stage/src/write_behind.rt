@@ -2,7 +2,8 @@
 ghost use Rattle.std.specs.Prelude.{◌≡◌, ◌+◌, ◌<◌, ◌≤◌, ◌^◌, [], ◌++◌, length, max, ℕ, List};
 ghost use Rattle.std.specs.Prelude.{OnOk, OnErr};
 ghost use Rattle.std.specs.Bool.{OnTrue};
-ghost use Rattle.tape_stage.specs.Disk.{Holds, Torn, Follows, NoMore, Only, Elapses, SameFact, Allows};
+ghost use Rattle.tape_stage.specs.Disk.{Holds, Torn, Follows, Allows, NoMore, Only, Elapses};
+ghost use Rattle.tape_stage.specs.Disk.{SameFact};
 ghost use Rattle.tape_stage.specs.Holding.{with_held, LeftTorn, LeftSince};
 ghost use Rattle.tape_core.specs.Weight.{Rose};
 ghost use Rattle.tape_stage.specs.Holding.{held_long, held_over, held_counts, held_only};

@@ -1,5 +1,6 @@
 -- What the definitions of ends, faults, lines, names and sessions over stages say of cases, so that
--- none of them says less, or asks more, than it should. The call `laws::cases` has them as its contract.
+-- none of them says less, or asks more, than it should. The call `laws::cases` has them as its
+-- contract.
 use Rattle.std.specs.Prelude.{◌≡◌, ℕ, Bool, true, false, List, [], ◌∷◌, map, replicate}
 use Rattle.std.specs.Prelude.{codes, Some, None, Ok, Err}
 use Rattle.std.specs.List.{join_with_byte}

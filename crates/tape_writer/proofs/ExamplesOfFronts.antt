@@ -1,6 +1,6 @@
 -- The cases of what a refusal leaves on the tapes.
 use Rattle.std.proofs.Common.{◌≡◌, ◌⊎◌, ℕ, List, [], ◌∷◌, ◌++◌, Option, Some, IfSome, refl, subst}
-use Rattle.std.proofs.Common.{ap, ◌∙◌, inl, inr}
+use Rattle.std.proofs.Common.{inl, inr}
 use Rattle.tape_image.specs.Tape.{TapeItem}
 use Rattle.tape_label.specs.declared.values.Head1.{Head1}
 use Rattle.tape_blocks.specs.declared.shape.Shape.{Shape}
@@ -10,7 +10,7 @@ use Rattle.tape_writer.specs.State.{SetState}
 use Rattle.tape_writer.specs.Tapes.{Tapes, UnderWay}
 use Rattle.tape_writer.specs.ToldFiles.{told_files, with_file, IfAllKnown}
 use Rattle.tape_writer.specs.Front.{behind_steps, HoldsFront, IsLeftBehind, IsLeftWhole}
-use Rattle.tape_writer.specs.LeftOf.{IsLeftOf, IsLeftIn, IsLeftOfAll}
+use Rattle.tape_writer.specs.LeftOf.{IsLeftOf, IsLeftOfAll}
 use Rattle.tape_writer.specs.CasesOfFronts.{CasesOfFronts}
 use Rattle.tape_writer.proofs.Fronts.{front_begins}
 

@@ -1,5 +1,5 @@
 -- A front of what a call was to write is what it leaves.
-use Rattle.std.proofs.Common.{◌≡◌, ◌≢◌, ℕ, ◌+◌, List, [], ◌∷◌, ◌++◌, length, refl, sym, ap, ◌∙◌}
+use Rattle.std.proofs.Common.{◌≡◌, ◌≢◌, List, [], ◌∷◌, ◌++◌, refl, sym, ap, ◌∙◌}
 use Rattle.std.proofs.Common.{subst, append_assoc, inl, inr}
 use Rattle.std.specs.Prelude.{◌⊎◌, IfErr, Result, Ok, Err}
 use Rattle.std.proofs.lemmas.List.{append-nil}

@@ -22,6 +22,7 @@ pub mod Written
 pub mod Fitting
 pub mod Examples
 pub mod ExamplesOfInputs
+pub mod ExamplesOfWritten
 pub mod ExamplesOfFronts
 mod Mistakes
 mod MistakesOfBlanks

@@ -9,7 +9,7 @@ use Rattle.tape_set.specs.Layout.{Section, all_numbered, numbered, item_of}
 use Rattle.tape_writer.specs.declared.fault.WriteFault.TheVariants as faults
 use Rattle.tape_writer.specs.declared.course.Opened.{Opened}
 use Rattle.tape_writer.specs.declared.course.Course.{Course}
-use Rattle.tape_writer.specs.Tapes.{Tapes, Ended, UnderWay, all_volumes}
+use Rattle.tape_writer.specs.Tapes.{Tapes, UnderWay, all_volumes}
 use Rattle.tape_label.specs.declared.values.Kind.TheVariants as kinds
 use Rattle.tape_writer.specs.Labels.{volume_label, first_label, second_label, header_items}
 use Rattle.tape_writer.specs.Told.{Told, AreFiled, labelled}

@@ -1,5 +1,5 @@
 -- A writer that stands as it was: what the tapes hold is a front of itself.
-use Rattle.std.proofs.Common.{◌≡◌, ℕ, List, [], inl, inr, subst}
+use Rattle.std.proofs.Common.{◌≡◌, ℕ, List, inl, inr, subst}
 use Rattle.tape_label.specs.declared.values.Vol1.{Vol1}
 use Rattle.tape_blocks.specs.Packing.{Packing}
 use Rattle.tape_set.specs.Layout.{Section}

@@ -23,6 +23,7 @@ pub mod Blank
 -- what these say of cases:
 pub mod Cases
 pub mod CasesOfInputs
+pub mod CasesOfWritten
 pub mod CasesOfFronts
 -- what is written so far, in the proofs' own words:
 pub mod Draft

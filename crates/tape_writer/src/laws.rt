@@ -4,6 +4,7 @@
 ghost use Rattle.tape_writer.specs.Cases.{CasesOfTapes, CasesOfImages, CasesOfSets};
 ghost use Rattle.tape_writer.specs.Cases.{CasesOfRefusals};
 ghost use Rattle.tape_writer.specs.CasesOfInputs.{CasesOfInputs, CasesOfSetFaults};
+ghost use Rattle.tape_writer.specs.CasesOfWritten.{CasesOfWritten, CasesOfRecordLaws};
 ghost use Rattle.tape_writer.specs.CasesOfFronts.{CasesOfFronts};
 
 /// What the definitions of tapes and images, of what was told and written, of refusals, of inputs
@@ -15,5 +16,7 @@ pub fn cases()
     ensures refusals { CasesOfRefusals }
     ensures inputs { CasesOfInputs }
     ensures set_faults { CasesOfSetFaults }
+    ensures written { CasesOfWritten }
+    ensures record_laws { CasesOfRecordLaws }
     ensures fronts { CasesOfFronts }
 {}

@@ -72,7 +72,8 @@ fn standing_of(sections: &Sections, set_id: Field<6>, file: u16) -> Standing
 /// What is known of a file by its labels.
 fn put_known(text: &mut Text, note: Option<&FileNote>)
     requires room { array_vec_len text.old ≤ 60 }
-    ensures items { text.new.items ≡ text.old.items ++ known_text (option_map (λ n. n.now) note.entry) }
+    ensures items { text.new.items
+        ≡ text.old.items ++ known_text (option_map (λ n. n.now) note.entry) }
     ensures len { array_vec_len text.new ≤ 100 }
 {
     match note {
@@ -141,7 +142,8 @@ fn put_damaged(text: &mut Text, sect: u16, entry: &Entry)
 /// That header labels of different files were met.
 fn put_differs(text: &mut Text, note: Option<&FileNote>)
     requires room { array_vec_len text.old ≤ 300 }
-    ensures items { text.new.items ≡ text.old.items ++ differs_text (option_map (λ n. n.now) note.entry) }
+    ensures items { text.new.items
+        ≡ text.old.items ++ differs_text (option_map (λ n. n.now) note.entry) }
     ensures len { array_vec_len text.new ≤ 400 }
 {
     if is_mixed(note) {

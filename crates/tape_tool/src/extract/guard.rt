@@ -44,9 +44,9 @@ pub enum Way {
 /// # Errors
 ///
 /// `Words` where the output is the stage, also one that is not made yet, the list or one of the
-/// images: the file itself, whatever name or link leads there. `Faulted` with `Exists` where it may keep a
-/// tape: it holds something, and is named `.tap`, begins as an image does, or is compressed, an
-/// archive or a stage. With `NotOpened` or `ReadFailed` where that can't be seen.
+/// images: the file itself, whatever name or link leads there. `Faulted` with `Exists` where it may
+/// keep a tape: it holds something, and is named `.tap`, begins as an image does, or is compressed,
+/// an archive or a stage. With `NotOpened` or `ReadFailed` where that can't be seen.
 pub fn way_of<R: Runtime + AllocGlobal>(
     rt: &R,
     order: &Extract<'_>,

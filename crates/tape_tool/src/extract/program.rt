@@ -78,8 +78,8 @@ fn draft_of<'a, R: Runtime + AllocGlobal>(
     }
 }
 
-/// Gets the file back without a stage: it is gathered in memory, where what a reel in doubt gave can
-/// be taken back, since the session has a note where it begins.
+/// Gets the file back without a stage: it is gathered in memory, where what a reel in doubt gave
+/// can be taken back, since the session has a note where it begins.
 fn in_memory<'a, R: Runtime + AllocGlobal>(
     rt: &'a R,
     order: &Extract<'a>,

@@ -1,6 +1,6 @@
 //! Files written from inputs.
-ghost use Rattle.std.specs.Prelude.{◌≡◌, ◌<◌, ◌≤◌, ◌++◌, ◌+◌, ◌∷◌, [], List, length, map, OnOk, IfErr};
-ghost use Rattle.std.specs.Prelude.{◌⊎◌, OnErr, IfSome};
+ghost use Rattle.std.specs.Prelude.{◌≡◌, ◌<◌, ◌≤◌, ◌++◌, ◌+◌, ◌∷◌, [], List, length, map};
+ghost use Rattle.std.specs.Prelude.{◌⊎◌, OnOk, OnErr, IfErr, IfSome};
 ghost use Rattle.tape_image.specs.Reader.{IfKnown};
 ghost use Rattle.tape_blocks.specs.Packing.{IsWritable};
 ghost use Rattle.tape_set.specs.Tight.{least_capacity};

@@ -1,6 +1,6 @@
 //! A set written as images.
-ghost use Rattle.std.specs.Prelude.{◌≡◌, ◌≢◌, ◌<◌, ◌≤◌, ◌++◌, ◌+◌, [], List, length, map, None, IfOk, IfErr};
-ghost use Rattle.std.specs.Prelude.{◌⊎◌, IfSome, OnOk, OnErr, false};
+ghost use Rattle.std.specs.Prelude.{◌≡◌, ◌≢◌, ◌<◌, ◌≤◌, ◌++◌, ◌+◌, [], List, length, map, None};
+ghost use Rattle.std.specs.Prelude.{◌⊎◌, IfOk, IfErr, IfSome, OnOk, OnErr, false};
 ghost use Rattle.std.specs.List.{AllByRecursion};
 ghost use Rattle.tape_blocks.specs.Packing.{IsWritable};
 ghost use Rattle.tape_set.specs.Tight.{least_capacity};

@@ -62,7 +62,8 @@ impl<T: TapeOut + Drop> SetWriter<T> {
         ensures many { self.old.phase ≡ Between → IsTextHead head → IsWritable shape
             → least_capacity shape ≤ self.old.capacity → 9999 ≤ length self.old.files
             → Refuses self.old result self.new WriteFault.TooMany }
-        // Where blocks of this shape are not written, or the capacity is too small, all is as it was.
+        // Where blocks of this shape are not written, or the capacity is too small, all is as it
+        // was.
         ensures unfit { self.old.phase ≡ Between
             → (IsWritable shape → least_capacity shape ≤ self.old.capacity → ⊥)
             → (self.new ≡ self.old) × OnOk result ⊥ }

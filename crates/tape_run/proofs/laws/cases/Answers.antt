@@ -4,6 +4,7 @@ use Rattle.tape_run.proofs.Examples.{cases_of_stops, cases_of_crashes}
 use Rattle.tape_run.proofs.ExamplesOfReels.{cases_of_answers, cases_of_table, cases_of_leads}
 use Rattle.tape_run.proofs.ExamplesOfCatalogues.{cases_of_catalogues, cases_of_images}
 use Rattle.tape_run.proofs.ExamplesOfCatalogues.{cases_of_copies, cases_of_reports}
+use Rattle.tape_run.proofs.ExamplesOfSections.{cases_of_sections}
 use Rattle.tape_run.proofs.ExamplesOfSurveys.{cases_of_glances, cases_of_wholes, cases_of_surveys}
 use Rattle.tape_run.proofs.ExamplesOfExtracts.{cases_of_turns, cases_of_outputs}
 use Rattle.tape_run.proofs.ExamplesOfRounds.{cases_of_rounds}
@@ -48,6 +49,9 @@ returns-clause-catalogues c = cases_of_catalogues
 
 pub returns-clause-images : goal.returns-clause-images
 returns-clause-images c = cases_of_images
+
+pub returns-clause-sections : goal.returns-clause-sections
+returns-clause-sections c = cases_of_sections
 
 pub returns-clause-copies : goal.returns-clause-copies
 returns-clause-copies c = cases_of_copies

@@ -1,6 +1,7 @@
 use Rattle.tape_writer.proofs.Examples.{cases_of_tapes, cases_of_images, cases_of_sets}
 use Rattle.tape_writer.proofs.Examples.{cases_of_refusals}
 use Rattle.tape_writer.proofs.ExamplesOfInputs.{cases_of_inputs, cases_of_set_faults}
+use Rattle.tape_writer.proofs.ExamplesOfWritten.{cases_of_written, cases_of_record_laws}
 use Rattle.tape_writer.proofs.ExamplesOfFronts.{cases_of_fronts}
 use Rattle.tape_writer.proofs.laws.cases.Goals as goal
 
@@ -21,6 +22,12 @@ returns-clause-inputs c = cases_of_inputs
 
 pub returns-clause-set_faults : goal.returns-clause-set_faults
 returns-clause-set_faults c = cases_of_set_faults
+
+pub returns-clause-written : goal.returns-clause-written
+returns-clause-written c = cases_of_written
+
+pub returns-clause-record_laws : goal.returns-clause-record_laws
+returns-clause-record_laws c = cases_of_record_laws
 
 pub returns-clause-fronts : goal.returns-clause-fronts
 returns-clause-fronts c = cases_of_fronts

@@ -1,5 +1,5 @@
 -- A volume with its label, or a front of it.
-use Rattle.std.proofs.Common.{◌++◌, ◌∷◌, [], subst}
+use Rattle.std.proofs.Common.{◌∷◌, [], subst}
 use Rattle.tape_image.specs.Tape.{block}
 use Rattle.tape_writer.specs.Tapes.{UnderWay, all_volumes}
 use Rattle.tape_writer.proofs.Fronts.{front_here, front_changed, took}

@@ -1,5 +1,5 @@
 -- A block in the section under way, and one behind a change.
-use Rattle.std.proofs.Common.{rules, arith, refl, ◌+◌, ◌∷◌, []}
+use Rattle.std.proofs.Common.{rules, arith, refl, ◌∷◌, []}
 use Rattle.std.specs.Prelude.{Ok}
 use Rattle.tape_image.specs.Tape.{block}
 use Rattle.tape_set.specs.Sizes.{item_size}

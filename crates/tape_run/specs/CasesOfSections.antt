@@ -1,0 +1,40 @@
+-- What the definitions of sections, and of lines about them, say of cases, besides. The call
+-- `laws::cases` has them as its contract.
+use Rattle.std.specs.Prelude.{◌≡◌, ℕ, true, false, List, [], ◌∷◌, ◌++◌, Option, IfSome}
+use Rattle.std.specs.Io.KnownBytes.{Appends}
+use Rattle.tape_image.specs.Begins.{Walks}
+use Rattle.tape_set.specs.Layout.{FileSet, Placed}
+use Rattle.tape_run.specs.declared.passing.Phase.TheVariants.{Volume}
+use Rattle.tape_run.specs.declared.section.SectionKey.{SectionKey}
+use Rattle.tape_run.specs.declared.section.SectionLine.{SectionLine}
+use Rattle.tape_run.specs.declared.section.SectionState.TheVariants.{Good, Bad, Cut}
+use Rattle.tape_run.specs.Added.{AddsInPart}
+use Rattle.tape_run.specs.CasesOfCatalogues.{met, lack}
+use Rattle.tape_run.specs.Lacks.{IsGoodAt, lacks}
+use Rattle.tape_run.specs.Noted.{noted, noted_all}
+use Rattle.tape_run.specs.Output.{AppendsFront}
+use Rattle.tape_run.specs.Passing.{Told, told_from}
+use Rattle.tape_run.specs.WholeReels.{IsListedGood}
+use Rattle.tape_run.specs.WholeSet.{AreAllGood, key_in}
+
+-- of sections, one by one
+pub record CasesOfSections : Type 0 where
+  -- of two that are not good the one met first stays
+  pub first_stays : noted (met 1 1 false Cut ∷ []) (met 1 1 true Bad) ≡ met 1 1 false Cut ∷ []
+  -- each file up to the greatest number is asked for, whichever was met last
+  pub last_file : lacks (met 3 1 true Good ∷ met 1 1 true Good ∷ []) ≡ lack 2 1 ∷ []
+  -- where all of them are good this one is
+  pub all_good : (set : FileSet) (c : List Told) (x : Placed) → AreAllGood set c (x ∷ [])
+      → IsGoodAt c (key_in set x)
+  -- without memory the sections were noted that a front of the items tells
+  pub added_in_part : (before : Option (List ℕ)) (old new : List Told)
+      (a : AddsInPart before old new)
+      → IfSome before (λ xs. (place : ℕ) × (ys : List ℕ) × Walks 0 xs a.items place ys)
+      × (new ≡ noted_all old (told_from Volume a.items))
+  -- a section that is listed as good has its own line among the others, which says so
+  pub listed : (lines : List SectionLine) (key : SectionKey) (l : IsListedGood lines key)
+      → (lines ≡ l.front ++ l.line ∷ l.rest) × (l.line.set_id ≡ key.set_id)
+      × (l.line.file ≡ key.file) × (l.line.sect ≡ key.sect) × (l.line.state ≡ Good)
+  -- where a write failed a front of what was due is there
+  pub written_front : (old new : Option (List ℕ)) (all : List ℕ) (a : AppendsFront old new all)
+      → Appends old new a.0 × (all ≡ a.0 ++ a.1)
