@@ -3,6 +3,7 @@ use Rattle.std.proofs.Common.{◌≡◌, ℕ, List, [], ◌∷◌, ◌++◌, len
 use Rattle.std.proofs.Common.{ap, ◌∙◌, subst, arith, codes}
 use Rattle.std.proofs.lemmas.List.{length-map}
 use Rattle.std.specs.Prelude.{Some, Ok, slice_index}
+use Rattle.std.specs.Fmt.{digits}
 use Rattle.std.specs.Io.KnownBytes.{Appends}
 use Rattle.tape_image.specs.declared.item.Ending.TheVariants.{Physical}
 use Rattle.tape_image.specs.Tape.{TapeItem, mark}
@@ -34,6 +35,11 @@ same_items items x bytes rest ys left at q place end ending stand takes one begi
     sym (length-map items (λ (y : PlacedItem). y.item)) ∙ ap length same in
     one_places items (x ∷ []) 0 at q bytes rest ys stand one few
 
+-- its line begins with a 4
+its_first : (more : List ℕ) → slice_index (placed_lines 1 (behind_gap ∷ []) ++ more) 0 ≡ 52
+unfolding digits
+its_first more = refl
+
 -- the first number that is listed of a tape mark behind an erase gap is 4
 first_is_four : (R : _) (W : _) (LR : _) (LW : _) (g : _) (d : _) (h : _) (e : _) (κs : _) (a : _)
     (s : _) (bytes left text ys : List ℕ) (end : ℕ)
@@ -55,6 +61,7 @@ first_is_four R W LR LW g d h e κs a s bytes left text ys end l b q old new sta
     r.stand r.takes stand begins in
     ap (λ v. slice_index v 0) w
     ∙ ap (λ is. slice_index (placed_lines 1 is ++ placed_end r.ending r.place) 0) same
+    ∙ its_first (placed_end r.ending r.place)
 
 -- place_behind_the_item: the place where the item ends is told
 place_behind_the_item : (R : _) (W : _) (LR : _) (LW : _) (g : _) (d : _) (h : _) (e : _) (κs : _)

@@ -10,7 +10,7 @@ use crate::init::init;
 use crate::outline::{Outline, mistake};
 use crate::survey_files::survey;
 use crate::unfit::Unfit;
-use crate::words::{List, Order, call_of};
+use crate::words::{Listing, Order, call_of};
 use crate::write::command::write;
 use crate::write::guard::{look_ahead, wrong_file};
 use crate::write::words::{WRITE, WriteOrder};
@@ -144,7 +144,7 @@ fn refuse_words<R: Print + Eprint + AllocGlobal>(rt: &R, outline: &Outline, text
 }
 
 /// Lists the image at the path, or that on standard input.
-fn list<'a, R: Runtime + AllocGlobal>(rt: &R, order: List<'a>, site: &mut Site<'a>) -> End {
+fn list<'a, R: Runtime + AllocGlobal>(rt: &R, order: Listing<'a>, site: &mut Site<'a>) -> End {
     let (listed, read) = match order.image {
         None => (list_input(rt, rt.reader(), order.places), Site::Input),
         Some(path) => (list_file(rt, path, order.places), Site::Image(path)),

@@ -21,7 +21,7 @@ pub struct Call<'a> {
 #[derive(Drop)]
 pub enum Order<'a> {
     /// List the image at this path, or that on standard input.
-    List(List<'a>),
+    List(Listing<'a>),
     /// Make images of volumes without files.
     Init(Init<'a>),
     /// Tell which sections are on images.
@@ -35,8 +35,8 @@ pub enum Order<'a> {
 }
 
 /// What `list` lists: the image at this path, or that on standard input.
-#[derive(Clone, Copy, Debug, PartialEq, Eq)]
-pub struct List<'a> {
+#[derive(Clone, Copy)]
+pub struct Listing<'a> {
     pub image: Option<&'a str>,
     /// Whether the place and the size of each item are told.
     pub places: bool,
@@ -211,7 +211,7 @@ fn order_of<'a>(alloc: Global, matches: &ArgMatches<'a>) -> Result<Order<'a>, Er
     }
     match matches.subcommand_matches("list") {
         Some(list) => list_order(alloc, list),
-        None => Ok(Order::List(List {
+        None => Ok(Order::List(Listing {
             image: None,
             places: false,
         })),
@@ -318,7 +318,7 @@ fn list_order<'a>(alloc: Global, matches: &ArgMatches<'a>) -> Result<Order<'a>, 
         Some([image]) => Some(*image),
         Some(_) => return Err(mistake(alloc, &LIST, help::ONE_IMAGE)?),
     };
-    Ok(Order::List(List {
+    Ok(Order::List(Listing {
         image,
         places: matches.get_flag("places"),
     }))

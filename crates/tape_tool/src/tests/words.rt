@@ -1,5 +1,5 @@
 //! Command lines.
-use crate::words::{List, Order, call_of};
+use crate::words::{Listing, Order, call_of};
 use std::alloc::{AllocError, Global};
 use std::process::Abort;
 use std::test::Fail;
@@ -32,7 +32,7 @@ fn orders(rt: HostRuntime) -> Result<(), Fail> {
         let words = words_of(rt.alloc(), line)?;
         let order = call_of(rt.alloc(), words.as_slice())?.order;
         assert!(rt;
-            matches!(order, Order::List(List { image: found, places })
+            matches!(order, Order::List(Listing { image: found, places })
                 if found == *image && places == *told),
             "{line}"
         );
