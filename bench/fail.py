@@ -118,6 +118,14 @@ EXTRACT = {
     "y": {"file fault 4"},
     "n": {"file fault 4"},
 }
+STAGE = {
+    "a": NO_MEMORY | {"stage fault 4"},
+    "o": {"file fault 2"},
+    "r": {"stage fault 3"},
+    "w": {"file fault 4"},
+    "y": {"file fault 4"},
+    "n": {"file fault 4"},
+}
 REELS = r"(REEL \d+ .*\n)*"
 UNREAD = {"o": r"REEL \d+ NOT OPENED\n", "r": r"REEL \d+ (REEL ENDED|NOT LABELLED) IMAGE 5 \d+\n"}
 EXTRACT_REPORTS = {
@@ -140,7 +148,17 @@ SURVEY_REPORTS = {
 }
 
 
-def trials():
+def stage_of(program):
+    """A stage with the first volume's records, made by the program."""
+    with tempfile.TemporaryDirectory(prefix="tape-fail-") as folder:
+        Path(folder, "one.tap").write_bytes(ONE)
+        words = ["extract", "ABC001", "1", "OUT", "one.tap", "--stage", "kept.stage"]
+        subprocess.run([program, *words], cwd=folder, capture_output=True, check=False)
+        return Path(folder, "kept.stage").read_bytes()
+
+
+def trials(program):
+    stage = {"kept.stage": stage_of(program)}
     reels = {"one.tap": ONE, "two.tap": TWO}
     lines = {"lines": LINES}
     blanks = {f"ABC{number:03}.tap": volume_label(f"ABC{number:03}") + mark() + mark() + word(0xFFFFFFFF) for number in (1, 2)}
@@ -161,6 +179,8 @@ def trials():
             reels | {"OUT": b"older\n"}, result="OUT", reports=EXTRACT_REPORTS),
         Trial("extract, round by round", ["extract", "ABC001", "1", "OUT", "two.tap", "one.tap", "--again"], EXTRACT, reels,
             result="OUT", reports=EXTRACT_REPORTS),
+        Trial("stage", ["stage", "kept.stage"], STAGE, stage),
+        Trial("stage, with its records", ["stage", "kept.stage", "OUT"], STAGE, stage, result="OUT"),
         Trial("check, two reels", ["check", "one.tap", "two.tap"], CHECK, reels, reports=CHECK_REPORTS),
         Trial("check, names in a list", ["check", "one.tap", "--from", "names"], CHECK_LIST, reels | {"names": b"two.tap\n"},
             reports=CHECK_REPORTS),
@@ -308,7 +328,7 @@ def main():
     with tempfile.TemporaryDirectory(prefix="tape-fail-") as folder:
         library = Path(folder) / "fail.so"
         subprocess.run(["cc", "-O2", "-Wall", "-shared", "-fPIC", "-o", library, HERE / "fail.c"], check=True)
-        for trial in trials():
+        for trial in trials(options.program):
             name = trial.words[0]
             if (options.commands and name not in options.commands) or not has_command(options, name):
                 continue

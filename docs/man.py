@@ -30,6 +30,8 @@ COMMANDS = {
         ("--from LIST", "FROM"), ("--null", "NULL"),
         ("--form lines|raw", "FORM_OF_OUT"), ("--stage PATH", "STAGE"),
         ("--again", "AGAIN")]),
+    "stage": ("[--form FORM] PATH [OUT]", [
+        ("PATH", "STAGE_READ"), ("OUT", "OUT_OF_STAGE"), ("--form lines|raw", "FORM_OF_OUT")]),
     "init": ("DIR PRE COUNT", [("DIR", "FOLDER"), ("PRE", "PREFIX"), ("COUNT", "COUNT")]),
     "write": ("[OPTIONS] DIR PRE CAPACITY ID=PATH...", [
         ("DIR", "FOLDER"), ("PRE", "PREFIX"), ("CAPACITY", "CAPACITY"), ("ID=PATH", "FILES"),

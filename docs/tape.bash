@@ -3,7 +3,7 @@ _tape() {
     local cur=${COMP_WORDS[COMP_CWORD]} prev=${COMP_WORDS[COMP_CWORD-1]} command=${COMP_WORDS[1]}
     local word at place=1
     if [ "$COMP_CWORD" -eq 1 ]; then
-        COMPREPLY=($(compgen -W 'list check survey extract init write help --help --version' -- "$cur"))
+        COMPREPLY=($(compgen -W 'list check survey extract stage init write help --help --version' -- "$cur"))
         return
     fi
     # Bash takes '=' for a word of its own.
@@ -15,9 +15,10 @@ _tape() {
     --block | --record | --offset) return ;;
     esac
     case $command:$cur in
-    help:*) COMPREPLY=($(compgen -W 'list check survey extract init write' -- "$cur")); return ;;
+    help:*) COMPREPLY=($(compgen -W 'list check survey extract stage init write' -- "$cur")); return ;;
     list:-*) COMPREPLY=($(compgen -W '--places --explain --help' -- "$cur")); return ;;
     check:-*|survey:-*) COMPREPLY=($(compgen -W '--from --null --explain --help' -- "$cur")); return ;;
+    stage:-*) COMPREPLY=($(compgen -W '--form --explain --help' -- "$cur")); return ;;
     extract:-*)
         COMPREPLY=($(compgen -W '--from --null --form --stage --again --explain --help' -- "$cur"))
         return ;;
@@ -45,8 +46,8 @@ _tape() {
     case $command:$place:$prev in
     init:1:* | write:1:*) COMPREPLY=($(compgen -d -- "$cur")) ;;
     *:--from) COMPREPLY=($(compgen -f -- "$cur")) ;;
-    # No image is offered for OUT, which would be written over.
-    extract:3:* | *:--stage) COMPREPLY=($(compgen -f -X '*.[tT][aA][pP]' -- "$cur")) ;;
+    # No image is offered for OUT, which would be written over, nor for a stage.
+    extract:3:* | stage:[12]:* | *:--stage) COMPREPLY=($(compgen -f -X '*.[tT][aA][pP]' -- "$cur")) ;;
     *) COMPREPLY=($(compgen -f -- "$cur")) ;;
     esac
 }

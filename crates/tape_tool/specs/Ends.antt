@@ -38,6 +38,12 @@ extract_end (Ok None) = Done
 extract_end (Ok (Some want)) = Incomplete
 extract_end (Err fault) = Faulted (Tool (of_engine fault))
 
+-- how `stage` ends: that something of the file is wanted is no success
+abbrev pub stage_end : Result (Option Want) ToolFault → End
+stage_end (Ok None) = Done
+stage_end (Ok (Some want)) = Incomplete
+stage_end (Err fault) = Faulted (Tool fault)
+
 -- help is a success where it was printed
 abbrev pub help_end : Bool → End
 help_end true = Done

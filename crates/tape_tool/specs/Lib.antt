@@ -3,5 +3,7 @@ pub mod Telling
 pub mod Ends
 pub mod Cases
 pub mod Staging
+pub mod Showing
+pub mod CasesOfShowing
 pub mod Report
 pub mod Names

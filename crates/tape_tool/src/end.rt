@@ -1,7 +1,7 @@
 //! How a run of the program ends, and what its caller sees of that.
 ghost use Rattle.std.specs.Prelude.{◌≡◌};
 ghost use Rattle.tape_tool.specs.Ends.{exit_status, end_of, help_end, words_end, no_words_end};
-ghost use Rattle.tape_tool.specs.Ends.{extract_end};
+ghost use Rattle.tape_tool.specs.Ends.{extract_end, stage_end};
 
 use crate::fault::{Fault, FileFault, ToolFault};
 use crate::telling::fault_line;
@@ -55,6 +55,17 @@ pub fn extract_end(answer: Result<Option<Want>, EngineFault>) -> End
         Ok(None) => End::Done,
         Ok(Some(_)) => End::Incomplete,
         Err(fault) => end_of(Err(ToolFault::from(fault))),
+    }
+}
+
+/// How `stage` ends that answered this: what is wanted of the file, if something is.
+pub fn stage_end(answer: Result<Option<Want>, ToolFault>) -> End
+    ensures { result ≡ stage_end answer }
+{
+    match answer {
+        Ok(None) => End::Done,
+        Ok(Some(_)) => End::Incomplete,
+        Err(fault) => end_of(Err(fault)),
     }
 }
 

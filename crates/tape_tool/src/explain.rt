@@ -276,8 +276,8 @@ const FILE_OF_OUT: &[&str] = &[
 
 const FILE_OF_STAGE: &[&str] = &[
     NEVER,
-    "  It could not be opened to read and write, or not be made. No image was read.
-  Is its folder there, and may you write there?
+    "  It could not be opened, or not be made, and no image was read. Is the name
+  right, is its folder there, may you read there, and with 'extract' write?
 ",
     NEVER,
     NEVER,

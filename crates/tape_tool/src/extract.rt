@@ -6,4 +6,7 @@ mod out_file;
 mod program;
 mod stage_file;
 
+pub use draft::{Draft, OutName};
+pub use guard::{Way, way_to_out};
+pub use out_file::OutFile;
 pub use program::extract;

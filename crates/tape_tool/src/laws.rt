@@ -2,15 +2,17 @@
 
 ghost use Rattle.tape_tool.specs.Cases.{CasesOfEnds, CasesOfFaults, CasesOfLines, CasesOfNames};
 ghost use Rattle.tape_tool.specs.Cases.{CasesOfStaging};
+ghost use Rattle.tape_tool.specs.CasesOfShowing.{CasesOfShowing};
 
 use tape_stage::Disk;
 
 /// What the definitions of the program say of cases: how runs end, the numbers of faults, the lines
-/// that are printed, the names in a list, and what a session over a stage is.
+/// that are printed, the names in a list, what a session over a stage is, and what is shown of one.
 pub fn cases<D: Disk>()
     ensures ends { CasesOfEnds }
     ensures faults { CasesOfFaults }
     ensures lines { CasesOfLines }
     ensures names { CasesOfNames }
     ensures staging { CasesOfStaging D.Disk }
+    ensures showing { CasesOfShowing }
 {}

@@ -14,6 +14,7 @@ mod laws;
 mod names;
 mod outline;
 mod program;
+mod show;
 mod staging;
 mod survey_files;
 mod telling;

@@ -8,6 +8,7 @@ use crate::help;
 use crate::host::Host;
 use crate::init::init;
 use crate::outline::{Outline, mistake};
+use crate::show::show;
 use crate::survey_files::survey;
 use crate::unfit::Unfit;
 use crate::words::{Listing, Order, call_of};
@@ -87,6 +88,7 @@ fn obey<'a, R: Host>(rt: &R, order: &Order<'a>, site: &mut Site<'a>) -> End {
         Order::Survey(named) => survey(rt, named, site),
         Order::Write(order) => write_files(rt, order, site),
         Order::Extract(order) => extract(rt, order, site),
+        Order::Show(order) => show(rt, order, site),
     }
 }
 

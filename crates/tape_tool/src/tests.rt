@@ -8,6 +8,7 @@ mod faults;
 mod image;
 mod init;
 mod program;
+mod showing;
 mod staged_program;
 mod staging;
 mod volumes;

@@ -32,6 +32,8 @@ pub enum Order<'a> {
     Write(WriteOrder<'a>),
     /// Get a file back from images.
     Extract(Extract<'a>),
+    /// Tell what a stage holds.
+    Show(Show<'a>),
 }
 
 /// What `list` lists: the image at this path, or that on standard input.
@@ -65,6 +67,14 @@ pub struct Extract<'a> {
     pub stage: Option<&'a str>,
     /// Whether the images are read round by round.
     pub again: bool,
+}
+
+/// What `stage` tells of, and where the records go that are there.
+#[derive(Clone, Copy)]
+pub struct Show<'a> {
+    pub stage: &'a str,
+    pub out: Option<&'a str>,
+    pub form: Form,
 }
 
 /// `list`. It takes any number of images, so that a second one is answered with a loop.
@@ -132,6 +142,24 @@ pub const EXTRACT: Outline = Outline {
     ],
 };
 
+/// `stage`. It takes any number of outputs, so that a second one is answered in words.
+pub const STAGE: Outline = Outline {
+    name: "stage",
+    called: "tape stage",
+    about: help::ABOUT_STAGE,
+    after_help: help::AFTER_STAGE,
+    usage: Some("tape stage [--form FORM] <PATH> [OUT]"),
+    words: &[
+        Word("PATH", Kind::Text, help::STAGE_READ),
+        Word("OUT", Kind::AnyTexts, help::OUT_OF_STAGE),
+        Word(
+            "form",
+            Kind::NameOption("FORM", FORMS, "lines"),
+            help::FORM_OF_OUT,
+        ),
+    ],
+};
+
 /// `init`.
 const INIT: Outline = Outline {
     name: "init",
@@ -152,7 +180,7 @@ pub const FORMS: &[&str] = &["lines", "raw"];
 /// The commands and their words.
 fn command<'a>(alloc: Global) -> Result<Command<'a>, AllocError> {
     let mut command = tape_command(alloc)?.arg(explain_option(alloc))?;
-    for outline in [&LIST, &CHECK, &SURVEY, &EXTRACT, &INIT, &WRITE] {
+    for outline in [&LIST, &CHECK, &SURVEY, &EXTRACT, &STAGE, &INIT, &WRITE] {
         command = command.subcommand(command_of(alloc, outline)?)?;
     }
     Ok(command)
@@ -208,6 +236,9 @@ fn order_of<'a>(alloc: Global, matches: &ArgMatches<'a>) -> Result<Order<'a>, Er
     }
     if let Some(extract) = matches.subcommand_matches("extract") {
         return extract_order(alloc, extract);
+    }
+    if let Some(stage) = matches.subcommand_matches("stage") {
+        return stage_order(alloc, stage);
     }
     match matches.subcommand_matches("list") {
         Some(list) => list_order(alloc, list),
@@ -286,6 +317,21 @@ fn extract_order<'a>(alloc: Global, matches: &ArgMatches<'a>) -> Result<Order<'a
         form: form_of(matches),
         stage: matches.get_str("stage"),
         again: matches.get_flag("again"),
+    }))
+}
+
+/// What the words behind `stage` ask for. The parser has seen to it that a stage is named.
+fn stage_order<'a>(alloc: Global, matches: &ArgMatches<'a>) -> Result<Order<'a>, Error> {
+    let out = match matches.get_strs("OUT") {
+        None | Some([]) => None,
+        Some(["-"]) => return Err(mistake(alloc, &STAGE, help::OUT_IS_DASH)?),
+        Some([out]) => Some(*out),
+        Some(_) => return Err(mistake(alloc, &STAGE, help::ONE_OUT)?),
+    };
+    Ok(Order::Show(Show {
+        stage: matches.get_str("PATH").unwrap_or(""),
+        out,
+        form: form_of(matches),
     }))
 }
 

@@ -38,43 +38,58 @@ pub enum Way {
     InPlace,
 }
 
-/// How the output of this order is to be written, over images of these names. Nothing is made or
-/// changed.
+/// How the output of this order is to be written, over images of these names, see `way_to_out`.
 ///
 /// # Errors
 ///
-/// `Words` where the output is the stage, also one that is not made yet, the list or one of the
-/// images: the file itself, whatever name or link leads there. `Faulted` with `Exists` where it may
-/// keep a tape: it holds something, and is named `.tap`, begins as an image does, or is compressed,
-/// an archive or a stage. With `NotOpened` or `ReadFailed` where that can't be seen.
+/// Those of `way_to_out`, and `Words` where the output is the list.
 pub fn way_of<R: Runtime + AllocGlobal>(
     rt: &R,
     order: &Extract<'_>,
     images: &[&str],
 ) -> Result<Way, Unfit> {
-    let Ok(found) = fs::metadata(rt, order.out) else {
-        return way_to_new(rt, order);
-    };
-    if let Some(stage) = order.stage {
-        differs(rt, &found, stage, help::OUT_IS_STAGE)?;
-    }
-    if let Some(list) = order.images.list.and_then(|list| list.file) {
+    let list = order.images.list.and_then(|list| list.file);
+    if let (Some(list), Ok(found)) = (list, fs::metadata(rt, order.out)) {
         differs(rt, &found, list, help::OUT_IS_LIST)?;
+    }
+    way_to_out(rt, order.out, order.stage, images)
+}
+
+/// How an output of what the stage and the images hold is to be written. Nothing is made or
+/// changed.
+///
+/// # Errors
+///
+/// `Words` where the output is the stage, also one that is not made yet, or one of the images: the
+/// file itself, whatever name or link leads there. `Faulted` with `Exists` where it may keep a tape:
+/// it holds something, and is named `.tap`, begins as an image does, or is compressed, an archive or
+/// a stage. With `NotOpened` or `ReadFailed` where that can't be seen.
+pub fn way_to_out<R: Runtime + AllocGlobal>(
+    rt: &R,
+    out: &str,
+    stage: Option<&str>,
+    images: &[&str],
+) -> Result<Way, Unfit> {
+    let Ok(found) = fs::metadata(rt, out) else {
+        return way_to_new(rt, out, stage);
+    };
+    if let Some(stage) = stage {
+        differs(rt, &found, stage, help::OUT_IS_STAGE)?;
     }
     for image in images {
         differs(rt, &found, *image, help::OUT_IS_IMAGE)?;
     }
     if found.is_file() && found.len() > 0 {
-        keeps_no_tape(rt, order.out)?;
+        keeps_no_tape(rt, out)?;
     }
-    Ok(way_to(rt, order.out))
+    Ok(way_to(rt, out))
 }
 
 /// How to write to what is not there, or leads nowhere. A stage is made before the output is.
-fn way_to_new<R: Runtime>(rt: &R, order: &Extract<'_>) -> Result<Way, Unfit> {
-    match order.stage {
-        Some(stage) if is_one_name(rt, order.out, stage) => Err(Unfit::Words(help::OUT_IS_STAGE)),
-        _ => Ok(way_to(rt, order.out)),
+fn way_to_new<R: Runtime>(rt: &R, out: &str, stage: Option<&str>) -> Result<Way, Unfit> {
+    match stage {
+        Some(stage) if is_one_name(rt, out, stage) => Err(Unfit::Words(help::OUT_IS_STAGE)),
+        _ => Ok(way_to(rt, out)),
     }
 }
 

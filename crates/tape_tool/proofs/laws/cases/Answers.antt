@@ -1,5 +1,6 @@
 use Rattle.tape_tool.proofs.Examples.{cases_of_ends, cases_of_faults, cases_of_lines}
 use Rattle.tape_tool.proofs.Examples.{cases_of_names, cases_of_staging}
+use Rattle.tape_tool.proofs.ExamplesOfShowing.{cases_of_showing}
 use Rattle.tape_tool.proofs.laws.cases.Goals as goal
 
 pub returns-clause-ends : goal.returns-clause-ends
@@ -16,3 +17,6 @@ returns-clause-names g c = cases_of_names
 
 pub returns-clause-staging : goal.returns-clause-staging
 returns-clause-staging g c = cases_of_staging g.D.Disk
+
+pub returns-clause-showing : goal.returns-clause-showing
+returns-clause-showing g c = cases_of_showing

@@ -1,0 +1,100 @@
+-- What was written and told of a stage, put together.
+use Rattle.std.proofs.Common.{◌≡◌, ℕ, List, [], ◌++◌, length, Option, Some, None, Result, Ok, Err}
+use Rattle.std.proofs.Common.{OnOk, OnErr, IfOk, IfErr, refl, sym, ap, subst, ◌∙◌, append-nil}
+use Rattle.std.specs.Io.KnownBytes.{Appends, Keeps}
+use Rattle.std.proofs.KnownBytes.{Appends-nil}
+use Rattle.tape_blocks.specs.Block.{Portion}
+use Rattle.tape_blocks.specs.Spans.{join}
+use Rattle.tape_blocks.specs.declared.form.Form.{Form}
+use Rattle.tape_set.specs.declared.position.Want.{Want}
+use Rattle.tape_set.specs.Position.{want_at}
+use Rattle.tape_core.specs.Place.{place_of}
+use Rattle.tape_core.specs.Point.{Point}
+use Rattle.tape_core.specs.State.{State}
+use Rattle.tape_run.specs.Extracting.{IsWritten}
+use Rattle.tape_run.specs.Output.{AppendsFront}
+use Rattle.tape_run.specs.RecordText.{output_of}
+use Rattle.tape_stage.specs.Staged.{Staged}
+use Rattle.tape_tool.specs.declared.fault.ToolFault.{ToolFault}
+use Rattle.tape_tool.specs.Showing.{told_with, told_of, Gives, GivesFront, Shows, StopsShowing}
+use Rattle.tape_tool.specs.Showing.{in_part}
+
+-- what a session at a checkpoint wants is what the checkpoint does
+pub want_of : (core : State) (point : Point) → core ≡ place_of point
+    → want_at core.file core.position ≡ want_at point.file point.position
+want_of core point e = ap (λ (s : State). want_at s.file s.position) e
+
+-- so many records were written, and told
+pub gives_all : (point : Point) (want : Option Want) (records : ℕ) (form : Form)
+    (out written said says : Option (List ℕ)) (parts : List Portion)
+    → want ≡ want_at point.file point.position
+    → IsWritten None records form out written parts
+    → Appends said says (told_with point want records)
+    → Gives point form out written said says parts
+gives_all point want records form out written said says parts wants all told = record {
+  wrote = all.1;
+  told = subst (λ (n : ℕ). Appends said says (told_of point n)) all.0
+      (subst (λ (w : Option Want). Appends said says (told_with point w records)) wants told);
+}
+
+-- they were written, and a front of the lines
+pub gives_front : (point : Point) (want : Option Want) (records : ℕ) (form : Form)
+    (out written said says : Option (List ℕ)) (parts : List Portion)
+    → want ≡ want_at point.file point.position
+    → IsWritten None records form out written parts
+    → AppendsFront said says (told_with point want records)
+    → GivesFront point form out written said says parts
+gives_front point want records form out written said says parts wants all told = record {
+  wrote = (output_of form parts, [], all.1, sym (append-nil (output_of form parts)));
+  told = subst (λ (n : ℕ). AppendsFront said says (told_of point n)) all.0
+      (subst (λ (w : Option Want). AppendsFront said says (told_with point w records)) wants told);
+}
+
+-- a front of them was written, and nothing told
+pub gives_part : (point : Point) (form : Form) (out written said : Option (List ℕ))
+    (parts : List Portion) → AppendsFront out written (output_of form parts)
+    → GivesFront point form out written said said parts
+gives_part point form out written said parts front = record {
+  wrote = front;
+  told = ([], told_of point (length (join parts).records), Appends-nil said, refl);
+}
+
+-- what is told of a stage that was opened
+pub shows : (read : List ℕ) (generation : ℕ) (point : Point) (parts : List Portion) (form : Form)
+    (out written said says : Option (List ℕ)) (result : Result (Option Want) ToolFault)
+    → Staged read generation point parts
+    → IfOk result (λ want. want ≡ want_at point.file point.position)
+    → OnOk result (Gives point form out written said says parts)
+    → IfOk result (Shows read form out written said says)
+shows read generation point parts form out written said says (Ok want) staged wants gives = record {
+  generation = generation;
+  point = point;
+  parts = parts;
+  staged = staged;
+  wanted = wants;
+  gives = gives;
+}
+shows read generation point parts form out written said says (Err fault) staged wants gives = tt
+
+-- and where that ended by a fault
+pub stops_in_part : (read : List ℕ) (generation : ℕ) (point : Point) (parts : List Portion)
+    (form : Form) (out written said says : Option (List ℕ))
+    (result : Result (Option Want) ToolFault) → Staged read generation point parts
+    → OnErr result (GivesFront point form out written said says parts)
+    → IfErr result (StopsShowing read form out written said says)
+stops_in_part read generation point parts form out written said says (Ok want) staged front = tt
+stops_in_part read generation point parts form out written said says (Err fault) staged front =
+    in_part generation point parts staged front
+
+-- a fact that follows of each list of parts, for one that is held
+pub of_held : {T E : Type 0} (result : Result T E) (H P : List Portion → Type 0)
+    (parts : List Portion) → H parts → OnOk result ((ps : List Portion) → H ps → P ps)
+    → OnOk result (P parts)
+of_held (Ok x) H P parts h f = f parts h
+of_held (Err e) H P parts h f = tt
+
+pub of_held_err : {T E : Type 0} (result : Result T E) (H P : List Portion → Type 0)
+    (parts : List Portion) → H parts → OnErr result ((ps : List Portion) → H ps → P ps)
+    → OnErr result (P parts)
+of_held_err (Ok x) H P parts h f = tt
+of_held_err (Err e) H P parts h f = f parts h

@@ -1,0 +1,46 @@
+-- Answers that the contracts of the pieces of `stage` exclude: each is what a wrong body gives.
+use Rattle.std.proofs.Common.{◌≡◌, List, [], ◌∷◌, ◌++◌, length, ap, ◌∙◌, subst, sym, arith, codes}
+use Rattle.std.specs.Prelude.{Some, None, Ok, slice_index}
+use Rattle.std.specs.Io.KnownBytes.{Appends}
+use Rattle.tape_blocks.specs.declared.part.Span.TheVariants.{Whole}
+use Rattle.tape_blocks.specs.Block.{Portion}
+use Rattle.tape_blocks.specs.declared.form.Form.TheVariants.{Lines}
+use Rattle.tape_set.specs.Position.{want_at}
+use Rattle.tape_run.specs.RecordText.{output_of}
+use Rattle.tape_tool.specs.Showing.{stage_line}
+use Rattle.tape_tool.proofs.show.show_parts.Reads as show_parts
+use Rattle.tape_tool.proofs.show.show_opened.Reads as show_opened
+use Rattle.tape_tool.proofs.show.put_stage.Reads as put_stage
+
+-- a whole record
+abbrev whole : List Portion
+whole = record { span = Whole; bytes = codes "AB" } ∷ []
+
+-- stage_records_left_out: a record is there, and nothing is written
+stage_records_left_out : (S : _) (W : _) (P : _) (LS : _) (LW : _) (LP : _) (g : _) (d : _)
+    (g' : _) (d' : _) (h : _) (e : _) (i : _) (j : _) (κs : _) (a : _) (s : _)
+    → show_parts.Learnt-named S W P LS LW LP g d g' d' h e i j κs a (Ok tt) s
+    → g'.holds a.0.now whole → a.1.1.1.0 ≡ Lines
+    → h.contents a.1.1.1.1.0.now ≡ Some [] → h.contents s.1.1.1.1.0.now ≡ Some [] → ⊥
+stage_records_left_out S W P LS LW LP g d g' d' h e i j κs a s l holds form old new =
+    let r : Appends (Some []) (Some []) (output_of a.1.1.1.0 whole)
+    = subst (λ v. Appends (Some []) v (output_of a.1.1.1.0 whole)) new
+    (subst (λ v. Appends v (h.contents s.1.1.1.1.0.now) (output_of a.1.1.1.0 whole)) old
+    (l.ok whole holds).wrote) in
+    absurd (let n : 0 ≡ 3 = ap length (r ∙ ap (λ v. output_of v whole) form) in omega arith)
+
+-- shown_as_complete: something is wanted, and the file is told as complete
+shown_as_complete : (S : _) (W : _) (P : _) (LS : _) (LW : _) (LP : _) (g : _) (d : _) (g' : _)
+    (d' : _) (h : _) (e : _) (i : _) (j : _) (κs : _) (a : _) (s : _) (want : _)
+    → show_opened.Learnt-named S W P LS LW LP g d g' d' h e i j κs a (Ok None) s
+    → want_at a.1.1.0.now.file a.1.1.0.now.position ≡ Some want → ⊥
+shown_as_complete S W P LS LW LP g d g' d' h e i j κs a s want l wants =
+    absurd (let n = l.wanted ∙ wants in cc)
+
+-- records_told_as_the_file: file 1 with 25 records is told as file 25
+records_told_as_the_file : (κs : _) (a : _) (z : _) (s : _) → put_stage.Learnt-named κs a z s
+    → a.0.now.items ≡ [] → stage_line a.1.0.now a.1.1.0 ≡ codes "STAGE ABC001 1 25\n"
+    → s.0.now.items ≡ codes "STAGE ABC001 25 25\n" → ⊥
+records_told_as_the_file κs a z s l e is w =
+    absurd (let n : 50 ≡ 49 = ap (λ v. slice_index v 13)
+    (sym w ∙ l.items ∙ ap (λ v. v ++ stage_line a.1.0.now a.1.1.0) e ∙ is) in omega arith)

@@ -1,0 +1,65 @@
+-- What `stage` tells of a stage, and the records that it writes.
+use Rattle.std.specs.Prelude.{◌≡◌, ℕ, List, ◌++◌, length, Option, codes, decimal}
+use Rattle.std.specs.Io.KnownBytes.{Appends, Keeps}
+use Rattle.tape_blocks.specs.Block.{Portion}
+use Rattle.tape_blocks.specs.Spans.{join}
+use Rattle.tape_blocks.specs.declared.form.Form.{Form}
+use Rattle.tape_set.specs.declared.position.Want.{Want}
+use Rattle.tape_set.specs.Position.{want_at}
+use Rattle.tape_core.specs.Point.{Point}
+use Rattle.tape_run.specs.Identifier.{identifier_text}
+use Rattle.tape_run.specs.Output.{AppendsFront}
+use Rattle.tape_run.specs.RecordText.{output_of}
+use Rattle.tape_run.specs.ReelLine.{last_line}
+use Rattle.tape_stage.specs.Faults.{SaysNone}
+use Rattle.tape_stage.specs.Staged.{Staged, HoldsNone}
+use Rattle.tape_stage.specs.declared.stage.StageFault.{StageFault}
+use Rattle.tape_tool.specs.declared.fault.ToolFault.{ToolFault}
+use Rattle.tape_tool.specs.declared.fault.ToolFault.TheVariants.{Stage}
+
+-- the file of a checkpoint, and how many whole records are staged before it
+abbrev pub stage_line : Point → ℕ → List ℕ
+stage_line point records =
+    codes "STAGE " ++ identifier_text point.set_id ++ codes " " ++ decimal point.file ++ codes " "
+    ++ decimal records ++ codes "\n"
+
+-- that, and the last line that `extract` would give
+abbrev pub told_with : Point → Option Want → ℕ → List ℕ
+told_with point want records = stage_line point records ++ last_line want records
+
+-- the same, with what this checkpoint wants
+abbrev pub told_of : Point → ℕ → List ℕ
+told_of point records = told_with point (want_at point.file point.position) records
+
+-- The records that the parts join to were written, all of them and whole, and both lines.
+pub record Gives (point : Point) (form : Form)
+    (out written said says : Option (List ℕ)) (parts : List Portion) : Type 0 where
+  pub wrote : Appends out written (output_of form parts)
+  pub told : Appends said says (told_of point (length (join parts).records))
+
+-- A front of them was, and of the lines.
+pub record GivesFront (point : Point) (form : Form)
+    (out written said says : Option (List ℕ)) (parts : List Portion) : Type 0 where
+  pub wrote : AppendsFront out written (output_of form parts)
+  pub told : AppendsFront said says (told_of point (length (join parts).records))
+
+-- The bytes that were read stand for a checkpoint and its parts. What the checkpoint wants of its
+-- file is told, and the records of the parts were written.
+pub record Shows (read : List ℕ) (form : Form) (out written said says : Option (List ℕ))
+    (want : Option Want) : Type 0 where
+  pub generation : ℕ
+  pub point : Point
+  pub parts : List Portion
+  pub staged : Staged read generation point parts
+  pub wanted : want ≡ want_at point.file point.position
+  pub gives : Gives point form out written said says parts
+
+-- A fault ended it. No stage was opened, and nothing was written; that there is none is told only
+-- where there is none. Or a front of what was to be written was.
+pub data StopsShowing (read : List ℕ) (form : Form) (out written said says : Option (List ℕ))
+    (fault : ToolFault) : Type 0 where
+  unopened : (cause : StageFault) → fault ≡ Stage cause → (SaysNone cause → HoldsNone read)
+      → Keeps out written → Keeps said says → StopsShowing read form out written said says fault
+  in_part : (generation : ℕ) (point : Point) (parts : List Portion)
+      → Staged read generation point parts → GivesFront point form out written said says parts
+      → StopsShowing read form out written said says fault

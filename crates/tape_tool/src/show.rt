@@ -1,0 +1,190 @@
+//! `stage`: what a stage holds, and the records of it.
+ghost use Rattle.std.specs.Prelude.{◌≡◌, ◌≤◌, ◌+◌, ◌++◌, decimal, codes, length, List};
+ghost use Rattle.std.specs.Prelude.{IfOk, IfErr, OnOk, OnErr};
+ghost use Rattle.std.specs.Io.KnownBytes.{Appends};
+ghost use Rattle.arrayvec.specs.ArrayVec.{array_vec_len};
+ghost use Rattle.tape_blocks.specs.Block.{Portion};
+ghost use Rattle.tape_run.specs.Identifier.{identifier_text};
+ghost use Rattle.tape_run.specs.Output.{AppendsFront};
+ghost use Rattle.tape_set.specs.Position.{want_at};
+ghost use Rattle.tape_tool.specs.Showing.{stage_line, told_with, Gives, GivesFront};
+ghost use Rattle.tape_tool.specs.Showing.{Shows, StopsShowing};
+
+mod program;
+mod read_only;
+
+use crate::fault::{FileFault, ToolFault};
+use arrayvec::ArrayVec;
+pub use program::show;
+use std::alloc::Global;
+use std::io::Write;
+use tape_blocks::Form;
+use tape_core::{Checkpoint, PartWalk};
+use tape_label::Field;
+use tape_run::{
+    EngineFault, Session, WriteFailed, flush, last_line, printed, write_file, write_text,
+};
+use tape_set::Want;
+use tape_stage::{Disk, Stage, StageFault};
+
+/// Tells what the stage on this disk holds: its file and how many whole records, and then the last
+/// line that `extract` would give. The records, which are the first ones of the file, are written
+/// to `out` and passed on before anything is told. The answer is what is wanted of the file.
+///
+/// Opening a stage cuts what follows its staged end and syncs: where the stage is to stay as it is
+/// the disk has to be one that only seems to.
+///
+/// # Errors
+///
+/// `Stage` with the fault of opening the stage, and then nothing was written, or with `Device`
+/// where its parts could not be read again; `File` with `WriteFailed` where `out` or the report
+/// failed.
+pub fn show_stage<D: Disk + Drop, W: Write, P: Write>(
+    alloc: Global,
+    disk: D,
+    form: Form,
+    out: &mut W,
+    report: &mut P,
+) -> Result<Option<Want>, ToolFault>
+    ensures ok { D.is_honest disk → IfOk result (Shows (D.seen disk) form
+        (W.contents out.old) (W.contents out.new) (P.contents report.old) (P.contents report.new)) }
+    ensures err { D.is_honest disk → IfErr result (StopsShowing (D.seen disk) form
+        (W.contents out.old) (W.contents out.new) (P.contents report.old) (P.contents report.new)) }
+{
+    match Stage::open_disk(alloc, disk) {
+        Ok((stage, point)) => show_opened(alloc, stage, &point, form, out, report),
+        Err(refused) => Err(ToolFault::Stage(refused.fault)),
+    }
+}
+
+/// Tells what a sink holds that was kept up to this point, and writes its records.
+fn show_opened<S: PartWalk + Drop, W: Write, P: Write>(
+    alloc: Global,
+    sink: S,
+    point: &Checkpoint,
+    form: Form,
+    out: &mut W,
+    report: &mut P,
+) -> Result<Option<Want>, ToolFault>
+    ensures wanted { IfOk result (λ want. want ≡ want_at point.now.file point.now.position) }
+    ensures ok { OnOk result ((parts : List Portion) → S.holds sink parts
+        → Gives point.now form (W.contents out.old) (W.contents out.new)
+        (P.contents report.old) (P.contents report.new) parts) }
+    ensures err { OnErr result ((parts : List Portion) → S.holds sink parts
+        → GivesFront point.now form (W.contents out.old) (W.contents out.new)
+        (P.contents report.old) (P.contents report.new) parts) }
+{
+    let session = Session::resume(alloc, point, sink);
+    let want = session.want();
+    let mut sink = session.into_sink();
+    show_parts(&mut sink, point, want, form, out, report)?;
+    Ok(want)
+}
+
+/// Writes the records of the parts, and tells both lines.
+fn show_parts<S: PartWalk, W: Write, P: Write>(
+    sink: &mut S,
+    point: &Checkpoint,
+    want: Option<Want>,
+    form: Form,
+    out: &mut W,
+    report: &mut P,
+) -> Result<(), ToolFault>
+    requires { want ≡ want_at point.now.file point.now.position }
+    ensures ok { OnOk result ((parts : List Portion) → S.holds sink.old parts
+        → Gives point.now form (W.contents out.old) (W.contents out.new)
+        (P.contents report.old) (P.contents report.new) parts) }
+    ensures err { OnErr result ((parts : List Portion) → S.holds sink.old parts
+        → GivesFront point.now form (W.contents out.old) (W.contents out.new)
+        (P.contents report.old) (P.contents report.new) parts) }
+{
+    match write_file(sink, form, out) {
+        Ok(records) => Ok(tell(report, point, want, records)?),
+        Err(fault) => Err(as_read(fault)),
+    }
+}
+
+/// The fault of writing the records: parts that could not be walked over are a stage that could not
+/// be read.
+fn as_read(fault: EngineFault) -> ToolFault {
+    match fault {
+        EngineFault::WriteFailed => ToolFault::File(FileFault::WriteFailed),
+        EngineFault::Run(_) => ToolFault::Stage(StageFault::Device),
+    }
+}
+
+/// Tells the file of a stage, so many records, and what is wanted.
+fn tell<P: Write>(
+    report: &mut P,
+    point: &Checkpoint,
+    want: Option<Want>,
+    records: u64,
+) -> Result<(), WriteFailed>
+    ensures ok { OnOk result (Appends (P.contents report.old) (P.contents report.new)
+        (told_with point.now want records)) }
+    ensures err { OnErr result (AppendsFront (P.contents report.old) (P.contents report.new)
+        (told_with point.now want records)) }
+{
+    write_text(report, &lines_of(point, want, records))?;
+    flush(report)
+}
+
+/// Room for both lines.
+type Lines = ArrayVec<u8, 512>;
+
+/// The line of the stage, and what is wanted, or that the file is complete.
+fn lines_of(point: &Checkpoint, want: Option<Want>, records: u64) -> Lines
+    ensures { result.items ≡ told_with point.now want records }
+{
+    let mut lines = Lines::new();
+    put_stage(&mut lines, point, records);
+    put(&mut lines, last_line(want, records).as_bytes());
+    lines
+}
+
+/// The line of a stage: set, file, and how many whole records are there.
+fn put_stage(lines: &mut Lines, point: &Checkpoint, records: u64)
+    requires { array_vec_len lines.old ≡ 0 }
+    ensures items { lines.new.items ≡ lines.old.items ++ stage_line point.now records }
+    ensures len { array_vec_len lines.new ≤ 200 }
+{
+    put(lines, b"STAGE ");
+    put_identifier(lines, &point.set_id);
+    put(lines, b" ");
+    put_decimal(lines, u64::from(point.file));
+    put(lines, b" ");
+    put_decimal(lines, records);
+    put(lines, b"\n");
+}
+
+/// An identifier in its full width, with a question mark for each byte that can't be printed.
+fn put_identifier(lines: &mut Lines, field: &Field<6>)
+    requires { array_vec_len lines.old ≤ 100 }
+    ensures items { lines.new.items ≡ lines.old.items ++ identifier_text field.now }
+    ensures len { array_vec_len lines.new ≡ array_vec_len lines.old + 6 }
+{
+    for byte in field.bytes() {
+        lines.push(printed(*byte));
+    }
+}
+
+/// A number in decimals, without leading zeros.
+fn put_decimal(lines: &mut Lines, number: u64)
+    requires room { array_vec_len lines.old ≤ 100 }
+    ensures items { lines.new.items ≡ lines.old.items ++ decimal number }
+    ensures len { array_vec_len lines.new ≤ array_vec_len lines.old + 40 }
+{
+    put(lines, itoa::Buffer::new().format(number).as_bytes());
+}
+
+/// Any text that fits.
+fn put(lines: &mut Lines, text: &[u8])
+    requires { array_vec_len lines.old + length text.now ≤ 512 }
+    ensures items { lines.new.items ≡ lines.old.items ++ text.now }
+    ensures len { array_vec_len lines.new ≡ array_vec_len lines.old + length text.now }
+{
+    match lines.try_extend_from_slice(text) {
+        Ok(()) => {}
+        Err(_) => unreachable!(),
+    }
+}

@@ -1,0 +1,110 @@
+//! The program around the engine of `stage`: the file of the stage, and the output.
+use super::read_only::ReadOnly;
+use super::show_stage;
+use crate::end::{End, end_of, stage_end};
+use crate::explain::Site;
+use crate::extract::{Draft, OutFile, OutName, Way, way_to_out};
+use crate::fault::{Fault, FileFault, ToolFault};
+use crate::host::Host;
+use crate::program::refuse_unfit;
+use crate::unfit::Unfit;
+use crate::words::{STAGE, Show};
+use std::fs::{File, TryLockError};
+use std::io;
+use std::io::{BufWriter, Write};
+use tape_stage::{HeldFile, StageFault, held_file};
+
+/// The file of a stage, which is only read.
+type StageDisk = HeldFile<ReadOnly<File>>;
+
+/// How many bytes of the output are held before they are written, at most.
+const HELD: usize = 65_536;
+
+/// Tells what the stage that the words name holds. At a fault the site is where it came.
+pub fn show<'a, R: Host>(rt: &R, order: &Show<'a>, site: &mut Site<'a>) -> End {
+    let place = match order.out {
+        None => Site::Lines,
+        Some(out) => Site::Out(out),
+    };
+    *site = place;
+    let way = match way_of(rt, order) {
+        Ok(way) => way,
+        Err(unfit) => return refuse_unfit(rt, &STAGE, unfit),
+    };
+    let end = match disk_of(rt, order.stage) {
+        Ok(disk) => show_disk(rt, order, way, disk),
+        Err(fault) => {
+            *site = Site::Stage(order.stage);
+            return end_of(Err(fault));
+        }
+    };
+    if let End::Faulted(Fault::Tool(ToolFault::Stage(_))) = end {
+        *site = Site::Stage(order.stage);
+    }
+    end
+}
+
+/// How the output is to be written, where there is one.
+fn way_of<R: Host>(rt: &R, order: &Show<'_>) -> Result<Option<Way>, Unfit> {
+    match order.out {
+        None => Ok(None),
+        Some(out) => Ok(Some(way_to_out(rt, out, Some(order.stage), &[])?)),
+    }
+}
+
+/// The file of the stage at this path, opened for reading alone. While another run writes to it, it
+/// is not read; where the file system has no locks nobody is kept out.
+fn disk_of<R: Host>(rt: &R, path: &str) -> Result<StageDisk, ToolFault> {
+    let Ok(file) = File::open(rt, path) else {
+        return Err(ToolFault::File(FileFault::NotOpened));
+    };
+    if let Err(TryLockError::WouldBlock) = file.try_lock_shared() {
+        return Err(ToolFault::StageInUse);
+    }
+    match held_file(ReadOnly { file }) {
+        Ok(disk) => Ok(disk),
+        Err(_) => Err(ToolFault::Stage(StageFault::Device)),
+    }
+}
+
+/// Tells what the disk holds, and writes the records where there is an output.
+fn show_disk<R: Host>(rt: &R, order: &Show<'_>, way: Option<Way>, disk: StageDisk) -> End {
+    let (Some(out), Some(way)) = (order.out, way) else {
+        return show_to(rt, order, disk, &mut io::sink());
+    };
+    let drafted = match way {
+        Way::InPlace => Ok(None),
+        Way::Renamed => OutName::make(rt.alloc(), rt, out),
+    };
+    match drafted {
+        Ok(Some((name, file))) => {
+            let Ok(mut draft) = BufWriter::with_capacity(rt.alloc(), HELD, Draft { name, file })
+            else {
+                return End::Faulted(Fault::OutOfMemory);
+            };
+            let end = show_to(rt, order, disk, &mut draft);
+            draft.get_ref().name.clear();
+            end
+        }
+        Ok(None) => show_in_place(rt, order, disk, out),
+        Err(_) => End::Faulted(Fault::OutOfMemory),
+    }
+}
+
+/// The same, with the records written to what stands under the output's name.
+fn show_in_place<R: Host>(rt: &R, order: &Show<'_>, disk: StageDisk, out: &str) -> End {
+    let Ok(mut file) = BufWriter::with_capacity(rt.alloc(), HELD, OutFile::new(rt, out)) else {
+        return End::Faulted(Fault::OutOfMemory);
+    };
+    let end = show_to(rt, order, disk, &mut file);
+    if file.get_ref().is_refused() {
+        return End::Faulted(Fault::Tool(ToolFault::File(FileFault::NotOpened)));
+    }
+    end
+}
+
+/// Tells what the disk holds, with the records written to this writer.
+fn show_to<R: Host, W: Write>(rt: &R, order: &Show<'_>, disk: StageDisk, out: &mut W) -> End {
+    let mut report = io::writer(rt);
+    stage_end(show_stage(rt.alloc(), disk, order.form, out, &mut report))
+}

@@ -1,0 +1,103 @@
+//! `stage`: what a stage holds.
+use super::calls::{Step, take_all};
+use super::volumes::damaged;
+use crate::end::End;
+use crate::fault::{FileFault, ToolFault};
+use crate::show::show_stage;
+use crate::staging::open_session;
+use std::alloc::{AllocError, Global};
+use std::fs::File;
+use std::process::Abort;
+use std::test::Fail;
+use tape_blocks::Form;
+use tape_label::Field;
+use tape_stage::{MemoryDisk, StageFault};
+
+/// The stage of a volume of which this block of five records cannot be read; of 9 all can.
+fn staged(alloc: Global, bad: usize) -> Result<Option<MemoryDisk>, AllocError> {
+    let image = damaged(alloc, bad)?;
+    let disk = MemoryDisk::new(alloc);
+    let Ok(mut session) = open_session(alloc, disk, Field::of_bytes(*b"ABC001"), 1) else {
+        return Ok(None);
+    };
+    let mut reader = image.bytes.as_slice();
+    if session.reel(&mut reader).is_err() || session.save().is_err() {
+        return Ok(None);
+    }
+    Ok(Some(session.into_sink().into_disk()))
+}
+
+/// The block that is bad, what is told of the stage, and how many bytes its records have.
+const TOLD: &[(usize, &str, usize)] = &[
+    (3, "STAGE ABC001 1 15\nAWAITS 1 1 3\n", 1215),
+    (0, "STAGE ABC001 1 0\nAWAITS 1 1 0\n", 0),
+    (9, "STAGE ABC001 1 25\nCOMPLETE 25\n", 2025),
+];
+
+/// The stage is told so, and its records are the first ones.
+fn is_told<H: Abort + AllocGlobal>(
+    rt: &H,
+    bad: usize,
+    lines: &str,
+    length: usize,
+) -> Result<(), Fail> {
+    let Some(disk) = staged(rt.alloc(), bad)? else {
+        return Err(Fail::from("a stage"));
+    };
+    let (mut out, mut report) = (Vec::new(rt.alloc()), Vec::new(rt.alloc()));
+    let answer = show_stage(rt.alloc(), disk, Form::Lines, &mut out, &mut report);
+    let done = matches!(answer, Ok(want) if want.is_none() == (bad == 9));
+    let told = report.as_slice() == lines.as_bytes();
+    assert!(rt; done && told && out.len() == length, "{bad}: {answer:?}");
+    Ok(())
+}
+
+#[test]
+fn records_before_what_is_wanted(rt: HostRuntime) -> Result<(), Fail> {
+    for (bad, lines, length) in TOLD {
+        is_told(&rt, *bad, lines, *length)?;
+    }
+    Ok(())
+}
+
+const MADE: &[Step<'_>] = &[
+    Step::PutDamaged("shown.tap", 3),
+    Step::Remove("shown.stage"),
+    Step::Ends(
+        "extract ABC001 1 shown.txt shown.tap --stage shown.stage",
+        End::Incomplete,
+    ),
+    Step::Ends("stage shown.stage", End::Incomplete),
+    Step::Ends("stage shown.stage shown_first.txt", End::Incomplete),
+    Step::HasLength("shown_first.txt", 1215),
+    Step::HasText("shown_first.txt", 1134, b"0015  "),
+    Step::Ends(
+        "stage shown.stage shown_raw.txt --form raw",
+        End::Incomplete,
+    ),
+    Step::HasLength("shown_raw.txt", 1200),
+    // The stage stays, and what may keep a tape is never written over.
+    Step::HasLength("shown.stage", 1531),
+    Step::Ends("stage shown.stage shown.stage", End::WrongWords),
+    Step::Ends("stage shown.stage one.txt two.txt", End::WrongWords),
+    Step::Ends("stage shown.stage -", End::WrongWords),
+    Step::Fails(
+        "stage shown.stage shown.tap",
+        ToolFault::File(FileFault::Exists),
+    ),
+    Step::Fails("stage shown.tap", ToolFault::Stage(StageFault::NoPoint)),
+    Step::Fails("stage lost.stage", ToolFault::File(FileFault::NotOpened)),
+    Step::HasLength("shown.stage", 1531),
+    Step::IsMissing("lost.stage"),
+];
+
+#[test]
+fn a_stage_that_is_shown_stays(rt: HostRuntime) -> Result<(), Fail> {
+    take_all(&rt, MADE)?;
+    let other = File::open(&rt, "shown.stage")?;
+    other.lock()?;
+    take_all(
+        &rt,
+        &[Step::Fails("stage shown.stage", ToolFault::StageInUse)],
+    )
+}
