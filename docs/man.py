@@ -6,7 +6,7 @@
     docs/man.py --program PATH    says which of these texts the help of this program does not print
 
 The last two end with status 1 where something differs. The texts are those of
-crates/tape_tool/src/help.rt; which word of a command has which text stands below.
+crates/tape_tool/src/help.rt and help/; which word of a command has which text stands below.
 """
 import os
 import re
@@ -49,9 +49,10 @@ def read(*path):
 
 
 def texts():
-    """The texts of help.rt by their names."""
-    found = re.findall(r'pub const (\w+): &str =\s*"((?:[^"\\]|\\.)*)";', read(SOURCE, "help.rt"),
-                       re.S)
+    """The texts of help.rt and help/ by their names."""
+    parts = (("help.rt",), ("help", "lists.rt"), ("help", "volumes.rt"))
+    source = "".join(read(SOURCE, *part) for part in parts)
+    found = re.findall(r'pub const (\w+): &str =\s*"((?:[^"\\]|\\.)*)";', source, re.S)
     return {name: unescaped(text) for name, text in found}
 
 
@@ -190,7 +191,8 @@ def page():
 
 def words_of_source():
     """Each word of the commands with the name of its text, as the sources pair them."""
-    source = read(SOURCE, "words.rt") + read(SOURCE, "write", "words.rt")
+    parts = (("words.rt",), ("words", "outlines.rt"), ("write", "words.rt"))
+    source = "".join(read(SOURCE, *part) for part in parts)
     rows = re.findall(r'Word\(\s*"([^"]+)",\s*Kind::(\w+).*?help::(\w+)', source, re.S)
     options = ("Flag", "FlagOf", "TextOption", "NumberOption", "NameOption")
     pairs = {("--" + name if kind in options else name, text) for name, kind, text in rows}

@@ -1,9 +1,13 @@
 //! What the words of a command line ask for.
+mod outlines;
+
 use crate::help;
 use crate::names::{List, Named};
-use crate::outline::{Kind, Outline, Word, command_of, mistake};
+use crate::outline::{command_of, mistake};
 use crate::write::words::{WRITE, WriteOrder, write_order};
 use clap::{Arg, ArgAction, ArgMatches, Command, Error};
+use outlines::{INIT, LIST};
+pub use outlines::{CHECK, EXTRACT, FORMS, STAGE, SURVEY};
 use std::alloc::{AllocError, Global};
 use tape_blocks::Form;
 use tape_label::Field;
@@ -76,106 +80,6 @@ pub struct Show<'a> {
     pub out: Option<&'a str>,
     pub form: Form,
 }
-
-/// `list`. It takes any number of images, so that a second one is answered with a loop.
-const LIST: Outline = Outline {
-    name: "list",
-    called: "tape list",
-    about: help::ABOUT_LIST,
-    after_help: help::AFTER_LIST,
-    usage: Some("tape list [--places] [IMAGE]"),
-    words: &[
-        Word("IMAGE", Kind::AnyTexts, help::IMAGE),
-        Word("places", Kind::Flag, help::PLACES),
-    ],
-};
-
-/// `check`.
-pub const CHECK: Outline = Outline {
-    name: "check",
-    called: "tape check",
-    about: help::ABOUT_CHECK,
-    after_help: help::AFTER_CHECK,
-    usage: None,
-    words: &[
-        Word("IMAGE", Kind::TextsOr("from"), help::IMAGES),
-        Word("from", Kind::TextOption("LIST"), help::FROM),
-        Word("null", Kind::FlagOf("from"), help::NULL),
-    ],
-};
-
-/// `survey`.
-pub const SURVEY: Outline = Outline {
-    name: "survey",
-    called: "tape survey",
-    about: help::ABOUT_SURVEY,
-    after_help: help::AFTER_SURVEY,
-    usage: None,
-    words: &[
-        Word("IMAGE", Kind::TextsOr("from"), help::SHELF),
-        Word("from", Kind::TextOption("LIST"), help::FROM),
-        Word("null", Kind::FlagOf("from"), help::NULL),
-    ],
-};
-
-/// `extract`.
-pub const EXTRACT: Outline = Outline {
-    name: "extract",
-    called: "tape extract",
-    about: help::ABOUT_EXTRACT,
-    after_help: help::AFTER_EXTRACT,
-    usage: None,
-    words: &[
-        Word("SET", Kind::Text, help::SET),
-        Word("FILE", Kind::Number(1, 9_999), help::FILE),
-        Word("OUT", Kind::Text, help::OUT),
-        Word("IMAGE", Kind::TextsOr("from"), help::REELS),
-        Word("from", Kind::TextOption("LIST"), help::FROM),
-        Word("null", Kind::FlagOf("from"), help::NULL),
-        Word(
-            "form",
-            Kind::NameOption("FORM", FORMS, "lines"),
-            help::FORM_OF_OUT,
-        ),
-        Word("stage", Kind::TextOption("PATH"), help::STAGE),
-        Word("again", Kind::Flag, help::AGAIN),
-    ],
-};
-
-/// `stage`. It takes any number of outputs, so that a second one is answered in words.
-pub const STAGE: Outline = Outline {
-    name: "stage",
-    called: "tape stage",
-    about: help::ABOUT_STAGE,
-    after_help: help::AFTER_STAGE,
-    usage: Some("tape stage [--form FORM] <PATH> [OUT]"),
-    words: &[
-        Word("PATH", Kind::Text, help::STAGE_READ),
-        Word("OUT", Kind::AnyTexts, help::OUT_OF_STAGE),
-        Word(
-            "form",
-            Kind::NameOption("FORM", FORMS, "lines"),
-            help::FORM_OF_OUT,
-        ),
-    ],
-};
-
-/// `init`.
-const INIT: Outline = Outline {
-    name: "init",
-    called: "tape init",
-    about: help::ABOUT_INIT,
-    after_help: help::AFTER_INIT,
-    usage: None,
-    words: &[
-        Word("DIR", Kind::Text, help::FOLDER),
-        Word("PRE", Kind::Text, help::PREFIX),
-        Word("COUNT", Kind::Number(1, 999), help::COUNT),
-    ],
-};
-
-/// The names of forms.
-pub const FORMS: &[&str] = &["lines", "raw"];
 
 /// The commands and their words.
 fn command<'a>(alloc: Global) -> Result<Command<'a>, AllocError> {
