@@ -64,7 +64,7 @@ pub fn stage_end(answer: Result<Option<Want>, ToolFault>) -> End
 {
     match answer {
         Ok(None) => End::Done,
-        Ok(Some(_)) => End::Incomplete,
+        Ok(Some(_want)) => End::Incomplete,
         Err(fault) => end_of(Err(fault)),
     }
 }
