@@ -31,10 +31,10 @@ stage_records_left_out S W P LS LW LP g d g' d' h e i j κs a s l holds form old
 
 -- shown_as_complete: something is wanted, and the file is told as complete
 shown_as_complete : (S : _) (W : _) (P : _) (LS : _) (LW : _) (LP : _) (g : _) (d : _) (g' : _)
-    (d' : _) (h : _) (e : _) (i : _) (j : _) (κs : _) (a : _) (s : _) (want : _)
-    → show_opened.Learnt-named S W P LS LW LP g d g' d' h e i j κs a (Ok None) s
+    (d' : _) (h : _) (e : _) (i : _) (j : _) (k : _) (κs : _) (a : _) (s : _) (want : _)
+    → show_opened.Learnt-named S W P LS LW LP g d g' d' h e i j k κs a (Ok None) s
     → want_at a.1.1.0.now.file a.1.1.0.now.position ≡ Some want → ⊥
-shown_as_complete S W P LS LW LP g d g' d' h e i j κs a s want l wants =
+shown_as_complete S W P LS LW LP g d g' d' h e i j k κs a s want l wants =
     absurd (let n = l.wanted ∙ wants in cc)
 
 -- records_told_as_the_file: file 1 with 25 records is told as file 25

@@ -68,7 +68,7 @@ fn disk_of<R: Host>(rt: &R, path: &str) -> Result<StageDisk, ToolFault> {
 }
 
 /// Tells what the disk holds, and writes the records where there is an output.
-fn show_disk<R: Host>(rt: &R, order: &Show<'_>, way: Option<Way>, disk: StageDisk) -> End {
+fn show_disk<'a, R: Host>(rt: &'a R, order: &Show<'a>, way: Option<Way>, disk: StageDisk) -> End {
     let (Some(out), Some(way)) = (order.out, way) else {
         return show_to(rt, order, disk, &mut io::sink());
     };
