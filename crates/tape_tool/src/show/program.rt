@@ -32,7 +32,7 @@ pub fn show<'a, R: Host>(rt: &R, order: &Show<'a>, site: &mut Site<'a>) -> End {
         Err(unfit) => return refuse_unfit(rt, &STAGE, unfit),
     };
     let end = match disk_of(rt, order.stage) {
-        Ok(disk) => show_disk(rt, order, way, disk),
+        Ok(disk) => show_disk(rt, &*order, way, disk),
         Err(fault) => {
             *site = Site::Stage(order.stage);
             return end_of(Err(fault));
