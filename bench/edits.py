@@ -48,12 +48,18 @@ def text_of(path):
 
 
 def function_at(lines, line):
-    """The name, the first and the last line of the function that a line stands in."""
+    """The name, the first and the last line of the function that a line stands in.
+
+    Its attributes are a part of it: there the prover sees a goal of the whole function.
+    """
     first = next((k for k in range(line, 0, -1) if FUNCTION.match(lines[k - 1])), line)
     named = FUNCTION.match(lines[first - 1])
     indent = re.match(r"\s*", lines[first - 1]).group()
     ends = (k for k in range(first, len(lines) + 1) if lines[k - 1] == indent + "}")
-    return named and named.group(1), first, max(line, next(ends, first))
+    last = max(line, next(ends, first))
+    while first > 1 and lines[first - 2].startswith(f"{indent}#["):
+        first -= 1
+    return named and named.group(1), first, last
 
 
 class Edit:
@@ -134,7 +140,7 @@ def checked(crate, group):
                          stdout=subprocess.PIPE, stderr=subprocess.STDOUT, text=True)
     write(crate, kept)
     lines = ran.stdout.rstrip("\n").split("\n")
-    return lines, ran.returncode == 1 and lines[-1].startswith("logic=not-proved")
+    return lines, ran.returncode == 1 and any(it.startswith("logic=not-proved") for it in lines)
 
 
 def alone(crate, edit):
