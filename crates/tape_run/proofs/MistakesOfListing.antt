@@ -116,6 +116,23 @@ cut_off R W LR LW g d h e κs a s bytes left place l b q =
     subst (λ v. IfKnown (Some bytes) v k) q (subst (λ v. IfKnown v (g.remaining s.1.0.now) k) b
     l.fault)
 
+-- flush_failure_told_as_reading: an image that was read to its end is told to be cut off, since its
+-- listing could not be passed on
+flush_failure_told_as_reading : (R : _) (W : _) (LR : _) (LW : _) (g : _) (d : _) (h : _) (e : _)
+    (κs : _) (a : _) (s : _) (bytes left : List ℕ) (items : List TapeItem) (place end : ℕ)
+    (ending : _)
+    → list_to.Learnt-named R W LR LW g d h e κs a
+    (Err (list_faults.Image (record { place = place; cause = causes.Truncated }))) s
+    → g.remaining a.1.0.now ≡ Some bytes → g.remaining s.1.0.now ≡ Some left
+    → Begins 0 bytes items end (ends ending) → ⊥
+flush_failure_told_as_reading R W LR LW g d h e κs a s bytes left items place end ending l b q
+    begins =
+    let r = cut_off R W LR LW g d h e κs a s bytes left place l b q in
+    let c : ends ending ≡ faults causes.Truncated
+    = (Begins-one 0 bytes items r.items end place (ends ending) (faults causes.Truncated) begins
+    r.takes.cause.0).2 in
+    absurd (cc)
+
 -- fault_at_place_zero: an image is cut off at byte 1,884, and byte 0 is told
 fault_at_place_zero : (R : _) (W : _) (LR : _) (LW : _) (g : _) (d : _) (h : _) (e : _) (κs : _)
     (a : _) (s : _) (bytes left : List ℕ) (items : List TapeItem)

@@ -1,8 +1,9 @@
 -- Answers that the contracts of a run and of whole readings exclude: each is what a wrong body
 -- would give.
 use Rattle.std.proofs.Common.{◌≡◌, ◌⊎◌, inl, inr, ℕ, List, [], ◌∷◌, map, Bool, true, false, refl}
-use Rattle.std.proofs.Common.{sym, ap, ◌∙◌, subst, arith}
-use Rattle.std.specs.Prelude.{Option, Some, Ok, Err, IsSome}
+use Rattle.std.proofs.Common.{sym, ap, ◌∙◌, subst, arith, codes, length}
+use Rattle.std.specs.Prelude.{Option, Some, Ok, Err, IsSome, slice_get, option_map}
+use Rattle.tape_blocks.specs.declared.part.Span.TheVariants as spans
 use Rattle.tape_blocks.specs.Block.{Portion}
 use Rattle.tape_set.specs.declared.position.Position.TheVariants.{Awaits}
 use Rattle.tape_set.specs.Position.{part_of, start}
@@ -19,11 +20,13 @@ use Rattle.tape_run.specs.declared.fault.RunFault.TheVariants as run_faults
 use Rattle.tape_run.specs.declared.script.Step.{Step}
 use Rattle.tape_run.specs.declared.script.Step.TheVariants.{Reel}
 use Rattle.tape_run.specs.Given.{IsGiven, AreGiven}
-use Rattle.tape_run.specs.Headline.{begins}
+use Rattle.tape_run.specs.Headline.{begins, IsRead, IsStart}
 use Rattle.tape_run.specs.History.{IsHistory, course, after}
 use Rattle.tape_run.specs.Mount.{Happening, reads, foreign_reel, saves, restarts, IsMountOf}
 use Rattle.tape_run.specs.Runs.{Runs}
 use Rattle.tape_run.specs.Seen.{Seen, seen, KeepsNotes}
+use Rattle.tape_run.specs.WorkedHistory.{worked_steps, worked_reels, first, middle, last}
+use Rattle.tape_run.proofs.WorkedHistory.{is_worked}
 use Rattle.tape_run.proofs.script.run.Reads as run
 use Rattle.tape_run.proofs.whole.go_on.Reads as go_on
 use Rattle.tape_run.proofs.whole.read_file.Reads as read_file
@@ -78,6 +81,50 @@ same_reel_read_again S R LS LR g d h e κs a s held bytes l was fresh two one =
     let new : Seen = seen g.refusals s.0.now r.0 in
     second_reel old new bytes (subst (λ v. Runs old v (Some bytes ∷ []) (Ok tt) new) two
     (subst (λ v. Runs old a.1.0.now v (Ok tt) new) one r.2))
+
+-- ---- what is delivered
+
+-- the parts that a sink holds to which the worked reels were read, from the start of file 1 (as a
+-- new session stands), and of which none failed
+worked_parts : (S : _) (R : _) (LS : _) (LR : _) (g : _) (d : _) (h : _) (e : _) (κs : _) (a : _)
+    (s : _) (held : List Portion)
+    → run.Learnt-named S R LS LR g d h e κs a (Ok tt) s
+    → g.holds a.0.now.sink [] → IsStart (codes "ABC001") 1 (seen g.refusals a.0.now [])
+    → a.1.0.now ≡ worked_steps → map h.remaining a.1.1.0.now ≡ map Some worked_reels
+    → s.0.now.failures ≡ 0 → HoldsOne (g.holds s.0.now.sink) → g.holds s.0.now.sink held
+    → held ≡ first ∷ middle ∷ last ∷ []
+worked_parts S R LS LR g d h e κs a s held l empty fresh steps known none one there =
+    let r = l.start (codes "ABC001") 1 empty fresh in
+    let now : Seen = seen g.refusals s.0.now r.0 in
+    let read : IsRead (codes "ABC001") 1 worked_steps worked_reels now
+    = subst (λ v. IsRead (codes "ABC001") 1 v worked_reels now) steps (r.2 worked_reels known) in
+    one held r.0 there r.1 ∙ (is_worked.read now read none).0
+
+-- delivers_nothing: the worked reels, which hold the whole file, were read, and the sink holds no
+-- part.
+delivers_nothing : (S : _) (R : _) (LS : _) (LR : _) (g : _) (d : _) (h : _) (e : _) (κs : _)
+    (a : _) (s : _) → run.Learnt-named S R LS LR g d h e κs a (Ok tt) s
+    → g.holds a.0.now.sink [] → IsStart (codes "ABC001") 1 (seen g.refusals a.0.now [])
+    → a.1.0.now ≡ worked_steps → map h.remaining a.1.1.0.now ≡ map Some worked_reels
+    → s.0.now.failures ≡ 0 → HoldsOne (g.holds s.0.now.sink) → g.holds s.0.now.sink [] → ⊥
+delivers_nothing S R LS LR g d h e κs a s l empty fresh steps known none one there =
+    let n : 0 ≡ 3 = ap length (worked_parts S R LS LR g d h e κs a s [] l empty fresh steps known
+    none one there) in
+    absurd (omega (arith, n))
+
+-- section_delivered_twice: volume 1 was mounted four times, and the first part of its section was
+-- delivered once more at its second mount.
+section_delivered_twice : (S : _) (R : _) (LS : _) (LR : _) (g : _) (d : _) (h : _) (e : _) (κs : _)
+    (a : _) (s : _) (more : List Portion) → run.Learnt-named S R LS LR g d h e κs a (Ok tt) s
+    → g.holds a.0.now.sink [] → IsStart (codes "ABC001") 1 (seen g.refusals a.0.now [])
+    → a.1.0.now ≡ worked_steps → map h.remaining a.1.1.0.now ≡ map Some worked_reels
+    → s.0.now.failures ≡ 0 → HoldsOne (g.holds s.0.now.sink)
+    → g.holds s.0.now.sink (first ∷ first ∷ more) → ⊥
+section_delivered_twice S R LS LR g d h e κs a s more l empty fresh steps known none one there =
+    let second : Some spans.First ≡ Some spans.Middle
+    = ap (λ v. option_map (λ p. p.span) (slice_get v 1)) (worked_parts S R LS LR g d h e κs a s
+    (first ∷ first ∷ more) l empty fresh steps known none one there) in
+    absurd (cc second)
 
 -- ---- whole readings
 
