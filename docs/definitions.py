@@ -66,7 +66,7 @@ def definitions(path):
     found = []
     for at, line in enumerate(lines):
         met = DEFINED.match(line)
-        if met and not line.startswith("pub mod"):
+        if met and not line.startswith(("pub mod", "pub use")):
             name = met[2]
             words = parameters(lines, at) if met[1] else arguments(lines, at, name)
             found.append(Definition(name.strip("◌"), words, comment_above(lines, at)))

@@ -98,7 +98,6 @@ cases_of_places = record {
 
 pub cases_of_steps : CasesOfSteps
 cases_of_steps = record {
-  ended_stays = λ set core out e. (e.at, e.same_file, e.same_position, e.silent);
   idle_stays = λ set p k good core out i. (i.reads, i.same_file, i.same_position, i.silent);
   foreign_stays = λ set rest core out u. (u.at, u.same_file, u.same_position, u.silent);
   kept_reading = λ set p k good item core out kept.
@@ -110,7 +109,6 @@ cases_of_steps = record {
   passed_gives_none = λ set item old new gives. gives;
   checked_block = λ arrived old new c. (c.came, c.is_known, c.holds, c.order);
   checked_part = λ arrived old new c. (c.more, c.few, c.behind, c.waits);
-  went_there = λ set old point out w. (w.taken, w.at, w.same_file, w.position);
   shown_where_known = λ form shows. shows;
   none_shown_at_start = λ shape shows. shows;
   shape_of_form = λ form shape s. (s.format, s.rec_len, s.offset, s.block_len, s.pad_full);

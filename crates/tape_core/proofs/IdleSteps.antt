@@ -1,5 +1,5 @@
--- Items that change nothing: at the end of a reel, and behind a whole reading.
-use Rattle.std.proofs.Common.{◌≡◌, ℕ, List, length, Bool, true, false, Option, Some, None, refl}
+-- Items that change nothing, behind a whole reading.
+use Rattle.std.proofs.Common.{◌≡◌, ℕ, List, length, Bool, true, Option, Some, None, refl}
 use Rattle.std.proofs.Common.{sym, ap, ◌∙◌, subst}
 use Rattle.std.specs.Prelude.{IsSome}
 use Rattle.std.proofs.lemmas.List.{length-map}
@@ -11,91 +11,11 @@ use Rattle.tape_set.specs.Lawful.{IsLawful}
 use Rattle.tape_set.specs.Reach.{passes}
 use Rattle.tape_core.specs.declared.answer.Reason.{Reason}
 use Rattle.tape_core.specs.declared.answer.Reason.TheVariants.{ReelEnded}
-use Rattle.tape_core.specs.declared.phase.Phase.{Phase}
-use Rattle.tape_core.specs.declared.phase.Phase.TheVariants.{Over, Broken, Volume as AtVolume}
-use Rattle.tape_core.specs.declared.phase.Phase.TheVariants.{VolumeLabels, Header2, Headers}
-use Rattle.tape_core.specs.declared.phase.Phase.TheVariants.{DataPassed, DataWanted, TrailerPassed}
-use Rattle.tape_core.specs.declared.phase.Phase.TheVariants.{TrailerWanted, Trailers, NextFile}
-use Rattle.tape_core.specs.State.{State, is_broken}
-use Rattle.tape_core.specs.Table.{Outcome, useless, at_item, unless_complete, at_reel_end, step_of}
-use Rattle.tape_core.specs.Follows.{IsAt, Follows, IsReading, Ended, Idle}
+use Rattle.tape_core.specs.declared.phase.Phase.TheVariants.{Over}
+use Rattle.tape_core.specs.State.{State}
+use Rattle.tape_core.specs.Table.{Outcome, useless, at_item, unless_complete, step_of}
+use Rattle.tape_core.specs.Follows.{IsAt, Follows, IsReading, Idle}
 use Rattle.tape_core.proofs.PositionSteps.{whole_over}
-
-pub end_stays : (set : FileSet) (core : State) → IsAt set core → Ended set core (step_of core None)
-end_stays set core at = go core.position
-  where
-    over : (phase : Phase) → is_broken phase ≡ false → Ended set core (at_reel_end core phase)
-    over Broken n = absurd (cc)
-    over Over n = record {
-      at = record { of_set = at.of_set; sound = refl; stands = at.stands };
-      same_file = refl;
-      same_position = refl;
-      silent = λ e. cc;
-    }
-    over AtVolume n = record {
-      at = record { of_set = at.of_set; sound = refl; stands = at.stands };
-      same_file = refl;
-      same_position = refl;
-      silent = λ e. cc;
-    }
-    over VolumeLabels n = record {
-      at = record { of_set = at.of_set; sound = refl; stands = at.stands };
-      same_file = refl;
-      same_position = refl;
-      silent = λ e. cc;
-    }
-    over (Header2 heading wanted) n = record {
-      at = record { of_set = at.of_set; sound = refl; stands = at.stands };
-      same_file = refl;
-      same_position = refl;
-      silent = λ e. cc;
-    }
-    over (Headers heading form) n = record {
-      at = record { of_set = at.of_set; sound = refl; stands = at.stands };
-      same_file = refl;
-      same_position = refl;
-      silent = λ e. cc;
-    }
-    over (DataPassed heading) n = record {
-      at = record { of_set = at.of_set; sound = refl; stands = at.stands };
-      same_file = refl;
-      same_position = refl;
-      silent = λ e. cc;
-    }
-    over (DataWanted heading form seen) n = record {
-      at = record { of_set = at.of_set; sound = refl; stands = at.stands };
-      same_file = refl;
-      same_position = refl;
-      silent = λ e. cc;
-    }
-    over (TrailerPassed heading) n = record {
-      at = record { of_set = at.of_set; sound = refl; stands = at.stands };
-      same_file = refl;
-      same_position = refl;
-      silent = λ e. cc;
-    }
-    over (TrailerWanted heading form) n = record {
-      at = record { of_set = at.of_set; sound = refl; stands = at.stands };
-      same_file = refl;
-      same_position = refl;
-      silent = λ e. cc;
-    }
-    over Trailers n = record {
-      at = record { of_set = at.of_set; sound = refl; stands = at.stands };
-      same_file = refl;
-      same_position = refl;
-      silent = λ e. cc;
-    }
-    over NextFile n = record {
-      at = record { of_set = at.of_set; sound = refl; stands = at.stands };
-      same_file = refl;
-      same_position = refl;
-      silent = λ e. cc;
-    }
-
-    go : (q : Position) → Ended set core (unless_complete core q (at_reel_end core core.phase))
-    go Finished = record { at = at; same_file = refl; same_position = refl; silent = λ e. cc }
-    go (Awaits a b c) = over core.phase at.sound
 
 pub idle_whole : (core : State) (set : FileSet) (p : Position) (k : ℕ) (good : List Bool)
     (x : TapeItem)
@@ -146,12 +66,6 @@ idle_whole core set (Awaits sect block part) k good x l vol r n q = go core.posi
     go (Awaits u d c) =
         subst (λ z. Idle set (Awaits sect block part) k good core (at_item core z x))
         (sym over) (at_over x)
-
-pub end_reads : (core : State) (out : Outcome) (arrived : Option TapeItem)
-    → out ≡ step_of core arrived → (set : FileSet) → arrived ≡ None → IsAt set core
-    → Ended set core out
-end_reads core out arrived is set none at =
-    subst (λ z. Ended set core z) (sym (is ∙ ap (λ z. step_of core z) none)) (end_stays set core at)
 
 pub idle_reads : (core : State) (out : Outcome) (arrived : Option TapeItem)
     → out ≡ step_of core arrived

@@ -1,11 +1,9 @@
 -- Each step keeps how the state lies to the reading.
 use Rattle.std.proofs.Common.{◌≡◌, ℕ, zero, suc, List, [], ◌∷◌, ◌++◌, length, Bool, true, false}
-use Rattle.std.proofs.Common.{cond, Option, Some, None, Result, Ok, Err, refl, sym, ap, ◌∙◌, subst}
-use Rattle.std.proofs.Common.{append_assoc, eq-eqb}
-use Rattle.std.specs.Prelude.{slice_get, map, ◌==◌, IsSome}
-use Rattle.std.specs.Str.{bytes_eq}
+use Rattle.std.proofs.Common.{cond, Option, Some, None, refl, sym, ap, ◌∙◌, subst}
+use Rattle.std.proofs.Common.{append_assoc}
+use Rattle.std.specs.Prelude.{slice_get, map, IsSome}
 use Rattle.tape_image.specs.Tape.{TapeItem, bad}
-use Rattle.tape_blocks.specs.Block.{Portion}
 use Rattle.tape_set.specs.declared.position.Position.{Position}
 use Rattle.tape_set.specs.declared.position.Position.TheVariants.{Awaits, Finished}
 use Rattle.tape_set.specs.Layout.{FileSet, Volume, Entry, item_of, nth, entries, items}
@@ -18,14 +16,9 @@ use Rattle.tape_core.specs.declared.phase.Phase.TheVariants.{VolumeLabels, Heade
 use Rattle.tape_core.specs.declared.phase.Phase.TheVariants.{DataPassed, DataWanted, TrailerPassed}
 use Rattle.tape_core.specs.declared.phase.Phase.TheVariants.{TrailerWanted, Trailers, NextFile}
 use Rattle.tape_core.specs.State.{State, is_broken}
-use Rattle.tape_core.specs.Table.{Outcome, at_item, unless_complete, restarted, is_of_file}
-use Rattle.tape_core.specs.Table.{restart_of, step_of, mount_of, mounted}
+use Rattle.tape_core.specs.Table.{Outcome, at_item, unless_complete}
+use Rattle.tape_core.specs.Table.{step_of, mount_of, mounted}
 use Rattle.tape_core.specs.Follows.{IsAt, reading, Follows, FollowsFrom, IsReading, Kept}
-use Rattle.tape_core.specs.declared.fault.CoreFault.{CoreFault}
-use Rattle.tape_core.specs.declared.fault.CoreFault.TheVariants.{OtherFile}
-use Rattle.tape_core.specs.Point.{Point}
-use Rattle.tape_core.specs.Stands.{Stands, Went}
-use Rattle.tape_core.proofs.LabelLaws.{bytes_same}
 use Rattle.tape_core.proofs.Lists.{stopped_waits}
 use Rattle.tape_core.proofs.HeaderSteps.{Next}
 use Rattle.tape_core.proofs.BadSteps.{bad_next}
@@ -285,30 +278,3 @@ pub mounts : (core new : State) → new ≡ mount_of core → (set : FileSet) (k
     → IsReading set core.position k [] new
 mounts core new is set k at =
     subst (λ z. IsReading set core.position k [] z) (sym is) (mount_reads set k core at)
-
--- ---- going to a checkpoint
-
-pub went_there : (set : FileSet) (old : State) (point : Point)
-    (out : Result (Unit {0}) CoreFault × State) (parts : List Portion)
-    → out ≡ restart_of old point → old.set_id ≡ set.set_id → Stands set old.file point parts
-    → Went set old point out
-went_there set old point out parts is same st =
-    subst (λ z. Went set old point z) (sym is) (go (is_of_file old point) refl)
-  where
-    set_is : bytes_eq old.set_id point.set_id ≡ true
-    set_is =
-        subst (λ z. bytes_eq old.set_id z ≡ true) (same ∙ sym st.of_set) (bytes_same old.set_id)
-
-    file_is' : (old.file == point.file) ≡ true
-    file_is' = eq-eqb old.file point.file (sym st.of_file)
-
-    go : (t : Bool) → is_of_file old point ≡ t
-        → Went set old point (cond t (Ok tt, restarted old point) (Err OtherFile, old))
-    go true e = record {
-      taken = refl;
-      at = record { of_set = same; sound = refl; stands = st.there };
-      same_file = refl;
-      position = refl;
-    }
-    go false e = absurd (let q : is_of_file old point ≡ true = rw (set_is, file_is') refl in
-        let d = sym q ∙ e in cc)

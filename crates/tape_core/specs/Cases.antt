@@ -22,15 +22,14 @@ use Rattle.tape_core.specs.declared.answer.Answer.TheVariants.{Passed, Deliver, 
 use Rattle.tape_core.specs.declared.phase.Phase.TheVariants.{Over, Broken, Volume, VolumeLabels}
 use Rattle.tape_core.specs.declared.phase.Phase.TheVariants.{NextFile}
 use Rattle.tape_core.specs.declared.sink.SinkFault.{SinkFault}
-use Rattle.tape_core.specs.declared.fault.CoreFault.{CoreFault}
 use Rattle.tape_core.specs.Crash.{Returns, NoMore, OrThis, OnlyThis, AddsNothing, AddsOnly}
 use Rattle.tape_core.specs.Foreign.{starts_set, labels_of_set, IsForeignAt, Unmoved}
-use Rattle.tape_core.specs.Follows.{IsAt, StandsAt, KnownAt, FileTells, IsFinal, Ended, Delivers}
+use Rattle.tape_core.specs.Follows.{IsAt, StandsAt, KnownAt, FileTells, IsFinal, Delivers}
 use Rattle.tape_core.specs.Follows.{Gives, Checked, Idle, Kept, IsReading, reading}
 use Rattle.tape_core.specs.Known.{is_finished}
 use Rattle.tape_core.specs.Place.{rest_of, place_of, IsPlaced}
 use Rattle.tape_core.specs.Point.{Point}
-use Rattle.tape_core.specs.Stands.{Stands, Went, weight_of, inside_block}
+use Rattle.tape_core.specs.Stands.{Stands, weight_of, inside_block}
 use Rattle.tape_core.specs.State.{State, is_broken}
 use Rattle.tape_core.specs.Table.{Outcome, Shows}
 use Rattle.tape_core.specs.Walks.{GivesPart, Counts, Lends, HasGiven}
@@ -153,10 +152,7 @@ pub record CasesOfPlaces : Type 0 where
 
 -- of steps, restarts and shapes
 pub record CasesOfSteps : Type 0 where
-  -- the end of a reel leaves the position, and nothing is delivered
-  pub ended_stays : (set : FileSet) (core : State) (out : Outcome) → Ended set core out
-      → IsAt set out.1 × (out.1.file ≡ core.file) × (out.1.position ≡ core.position)
-      × (out.0 ≢ Deliver)
+  -- what changes nothing leaves the position, and delivers nothing
   pub idle_stays : (set : FileSet) (p : Position) (k : ℕ) (good : List Bool) (core : State)
       (out : Outcome) → Idle set p k good core out → IsReading set p k good out.1
       × (out.1.file ≡ core.file) × (out.1.position ≡ core.position) × (out.0 ≢ Deliver)
@@ -198,11 +194,6 @@ pub record CasesOfSteps : Type 0 where
       → ((part_of old.position ≡ 0) ⊎ (part_of old.position < length c.parts))
       × (length c.parts ≤ length c.bytes) × (new.position ≡ next_block old.position)
       × (is_finished old.position ≡ false)
-  -- the reader that went to a checkpoint is at its position, in the same file
-  pub went_there : (set : FileSet) (old : State) (point : Point)
-      (out : Result (Unit {0}) CoreFault × State) → Went set old point out
-      → (out.0 ≡ Ok tt) × IsAt set out.1 × (out.1.file ≡ old.file)
-      × (out.1.position ≡ point.position)
   pub shown_where_known : (form : FileForm) → Shows (Some form) None → ⊥
   pub none_shown_at_start : (shape : Shape) → Shows None (Some shape) → ⊥
   pub shape_of_form : (form : FileForm) (shape : Shape) → Shows (Some form) (Some shape)

@@ -294,13 +294,6 @@ pub record Kept (set : FileSet) (p : Position) (k : ℕ) (good : List Bool) (ite
   pub gives : Gives set item out.0 core out.1
   pub done : IsFinal out.0 → IsDone set p k good out.1
 
--- What the end of the reel leaves: all but what is expected.
-pub record Ended (set : FileSet) (core : State) (out : Outcome) : Type 0 where
-  pub at : IsAt set out.1
-  pub same_file : out.1.file ≡ core.file
-  pub same_position : out.1.position ≡ core.position
-  pub silent : out.0 ≢ Deliver
-
 -- A step that changes nothing but what is expected, behind a whole volume.
 pub record Idle (set : FileSet) (p : Position) (k : ℕ) (good : List Bool) (core : State)
     (out : Outcome) : Type 0 where

@@ -1,5 +1,5 @@
 -- Checkpoints that stand: what was delivered up to them.
-use Rattle.std.specs.Prelude.{◌≡◌, ℕ, ◌+◌, ◌&&◌, Bool, Result, Ok, List, [], ◌∷◌, length}
+use Rattle.std.specs.Prelude.{◌≡◌, ℕ, ◌+◌, ◌&&◌, Bool, List, [], ◌∷◌, length}
 use Rattle.tape_blocks.specs.Block.{Portion}
 use Rattle.tape_set.specs.declared.position.Position.{Position}
 use Rattle.tape_set.specs.Position.{at_part}
@@ -7,9 +7,7 @@ use Rattle.tape_set.specs.Layout.{FileSet}
 use Rattle.tape_set.specs.Before.{before}
 use Rattle.tape_core.specs.Known.{may_span}
 use Rattle.tape_core.specs.Point.{Point}
-use Rattle.tape_core.specs.Follows.{StandsAt, IsAt}
-use Rattle.tape_core.specs.State.{State}
-use Rattle.tape_core.specs.declared.fault.CoreFault.{CoreFault}
+use Rattle.tape_core.specs.Follows.{StandsAt}
 
 -- the weight of parts: 5 and its length for each
 abbrev pub weight_of : List Portion → ℕ
@@ -34,11 +32,3 @@ inside_block point p part begun staged =
       staged =
           staged;
     }
-
--- The reader went to where the checkpoint stands.
-pub record Went (set : FileSet) (old : State) (point : Point)
-    (out : Result (Unit {0}) CoreFault × State) : Type 0 where
-  pub taken : out.0 ≡ Ok tt
-  pub at : IsAt set out.1
-  pub same_file : out.1.file ≡ old.file
-  pub position : out.1.position ≡ point.position

@@ -67,11 +67,11 @@ impl Model for ReaderCore {
 impl ReaderCore {
     ghost use Rattle.tape_core.specs.Table as Table;
     ghost use Rattle.tape_core.specs.Arrive.{arrival};
-    ghost use Rattle.tape_core.specs.Follows.{reading, IsAt, IsReading, Kept, Ended, Idle, Checked};
+    ghost use Rattle.tape_core.specs.Follows.{reading, IsAt, IsReading, Kept, Idle, Checked};
     ghost use Rattle.tape_core.specs.Follows.{IsFinal};
     ghost use Rattle.tape_core.specs.Place.{rest_of, place_of};
     ghost use Rattle.tape_core.specs.Foreign.{starts_set, IsForeignAt, Unmoved};
-    ghost use Rattle.tape_core.specs.Stands.{Stands, weight_of, Went};
+    ghost use Rattle.tape_core.specs.Stands.{Stands, weight_of};
     ghost use Rattle.tape_core.specs.Known.{IsFileNumber, most_staged};
 
     /// A reader of this file of the set, at the file's start. Files are numbered from 1.
@@ -133,9 +133,6 @@ impl ReaderCore {
             → arrival event.entry ≡ Some (if g then item else bad)
             → IsReading set p k good self.old
             → Kept set p k (good ++ g ∷ []) (if g then item else bad) self.old (result, self.new) }
-        // The end of the reel leaves the position.
-        ensures end { (set : FileSet) → arrival event.entry ≡ None → IsAt set self.old
-            → Ended set self.old (result, self.new) }
         // What stands behind a whole volume changes nothing.
         ensures behind { (set : FileSet) (p : Position) (k : ℕ) (good : List Bool)
             (item : TapeItem) → IsLawful set → IsSome (nth set.volumes k)
@@ -224,10 +221,6 @@ impl ReaderCore {
     /// reading under way goes on.
     pub fn restart(&mut self, checkpoint: &Checkpoint) -> Result<(), CoreFault>
         ensures value { (result, self.new) ≡ Table.restart_of self.old checkpoint.now }
-        // A checkpoint that stands is taken, and the reader stands there.
-        ensures stands { (set : FileSet) (parts : List Portion) → self.old.set_id ≡ set.set_id
-            → Stands set self.old.file checkpoint.now parts
-            → Went set self.old checkpoint.now (result, self.new) }
         // Of its own set and file it takes every checkpoint.
         ensures taken { checkpoint.now.set_id ≡ self.old.set_id
             → checkpoint.now.file ≡ self.old.file → result ≡ Ok tt }

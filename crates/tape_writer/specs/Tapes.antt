@@ -1,8 +1,9 @@
 -- What is written: volumes of items, and how the calls of a `TapeOut` change them.
-use Rattle.std.specs.Prelude.{◌≡◌, ◌<◌, ◌≤◌, ◌⊎◌, ℕ, List, [], ◌∷◌, ◌++◌, Result, OnOk, OnErr}
+use Rattle.std.specs.Prelude.{◌≡◌, ◌≤◌, ℕ, List, [], ◌∷◌, ◌++◌, Result, OnOk, OnErr}
 use Rattle.std.specs.Prelude.{IfErr, slice_get, unwrap_or, ◌+◌, Some}
 use Rattle.tape_image.specs.Tape.{TapeItem}
 use Rattle.tape_label.specs.declared.values.Vol1.{Vol1}
+pub use Rattle.tape_set.specs.Counts.{Rose}
 use Rattle.tape_writer.specs.declared.fault.OutFault.{OutFault}
 use Rattle.tape_writer.specs.declared.fault.OutFault.TheVariants.{Device, OutOfMemory}
 
@@ -46,10 +47,6 @@ Keeps H result H' = (tapes : Tapes) → H tapes → OnErr result (H' tapes)
 abbrev pub WasAsked : (Vol1 → Type 0) → List Vol1 → ℕ → Type 0
 WasAsked asked volumes number = (k : ℕ) (volume : Vol1) → number ≡ k + 1
     → slice_get volumes k ≡ Some volume → asked volume
-
--- a count of failures rose, or stands where it stays: it is kept in 64 bits
-abbrev pub Rose : ℕ → ℕ → Type 0
-Rose old new = (old < new) ⊎ (18446744073709551615 ≤ new)
 
 -- How many calls the device failed, and how many growths were refused.
 pub record Failures : Type 0 where

@@ -1,10 +1,5 @@
-use Rattle.tape_core.proofs.Steps.{went_there}
 use Rattle.tape_core.proofs.Standing.{takes_own, went_to, stayed}
 use Rattle.tape_core.proofs.reader.ReaderCore.restart.Goals as goal
-
-pub returns-clause-stands : goal.returns-clause-stands
-returns-clause-stands c = λ set parts same st. went_there set c.args.self.now c.args.checkpoint.now
-    (c.go_to.result, c.go_to.new.self) parts c.go_to.ensures.value same st
 
 pub returns-clause-taken : goal.returns-clause-taken
 returns-clause-taken c = takes_own c.args.self.now c.args.checkpoint.now

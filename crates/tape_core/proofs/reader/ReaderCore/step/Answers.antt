@@ -1,7 +1,7 @@
 -- The table keeps how the state lies to the reading.
 use Rattle.tape_core.specs.Arrive.{arrival}
 use Rattle.tape_core.proofs.Steps.{step_reads}
-use Rattle.tape_core.proofs.IdleSteps.{end_reads, idle_reads}
+use Rattle.tape_core.proofs.IdleSteps.{idle_reads}
 use Rattle.tape_core.proofs.ForeignLaws.{foreign_step}
 use Rattle.tape_core.proofs.OneFile.{step_set_id, step_file}
 use Rattle.tape_core.proofs.Standing.{reel_left}
@@ -9,10 +9,6 @@ use Rattle.tape_core.proofs.reader.ReaderCore.step.Goals as goal
 
 pub returns-clause-item : goal.returns-clause-item
 returns-clause-item c = step_reads c.args.self.now
-    (c.advance.result, c.advance.new.self) (arrival c.args.event) c.advance.ensures.table
-
-pub returns-clause-end : goal.returns-clause-end
-returns-clause-end c = end_reads c.args.self.now
     (c.advance.result, c.advance.new.self) (arrival c.args.event) c.advance.ensures.table
 
 pub returns-clause-behind : goal.returns-clause-behind
