@@ -1,15 +1,11 @@
 -- The cases of tapes, of what a writer was told and of its refusals.
-use Rattle.std.proofs.Common.{◌≡◌, ℕ, List, [], refl, ap, ◌∙◌, inl, inr, arith, subst}
+use Rattle.std.proofs.Common.{◌≡◌, ℕ, List, [], refl, ap, ◌∙◌, arith, subst}
 use Rattle.tape_blocks.specs.Spans.{Joined}
 use Rattle.tape_writer.specs.State.{SetState, IsWriting, Stands}
-use Rattle.tape_writer.specs.Tapes.{Tapes, Rose}
+use Rattle.tape_writer.specs.Tapes.{Tapes}
 use Rattle.tape_writer.specs.Told.{Told}
 use Rattle.tape_writer.specs.declared.phase.Phase.TheVariants as phases
 use Rattle.tape_writer.specs.Cases.{CasesOfTapes, CasesOfImages, CasesOfSets, CasesOfRefusals}
-
-stands_still : Rose 3 3 → ⊥
-stands_still (inl h) = absurd (omega (arith, h))
-stands_still (inr h) = absurd (omega (arith, h))
 
 pub cases_of_tapes : CasesOfTapes
 cases_of_tapes = record {
@@ -19,8 +15,9 @@ cases_of_tapes = record {
   keeps = λ H h. h _ refl;
   asked_second = λ v w asked h. h 1 w refl refl;
   none_asked = λ volumes k v e there. absurd (omega (arith, e));
-  stands_still = stands_still;
-  rises = (inl (omega arith), inr (omega arith));
+  last_of_all = refl;
+  second = refl;
+  none_behind = refl;
   device_failed = λ old new h. h.0 refl;
   growth_refused = λ old new h. h.1 refl;
   writing_failed = λ old new h. h.0 refl;

@@ -36,7 +36,8 @@ use Rattle.tape_writer.specs.Lasting.{Lasts, Lasting}
 use Rattle.tape_writer.specs.Refusals.{IsNewFault, IsBeginFault, IsPutFault, IsFinishFault}
 use Rattle.tape_writer.specs.Refusals.{IsInFile}
 use Rattle.tape_writer.specs.State.{SetState, IsWriting, IsOutOfVolumes, Leaves, HasLength}
-use Rattle.tape_writer.specs.Tapes.{Tapes, Ended, UnderWay, Takes, Changes, Closes, Keeps, Rose}
+use Rattle.tape_writer.specs.Tapes.{Tapes, Ended, UnderWay, all_volumes, volume_at}
+use Rattle.tape_writer.specs.Tapes.{Takes, Changes, Closes, Keeps, Rose}
 use Rattle.tape_writer.specs.Tapes.{Failures, Grows, HasCause, WasAsked}
 use Rattle.tape_writer.specs.Told.{Told, opened_by, with_record, labelled, IsWithin, IsOfFile}
 use Rattle.tape_writer.specs.Told.{IsFiled, AreFiled, IsWrittenSet}
@@ -57,9 +58,11 @@ pub record CasesOfTapes : Type 0 where
   -- nothing was
   pub asked_second : (v w asked : Vol1) → WasAsked (λ u. u ≡ asked) (v ∷ w ∷ []) 2 → w ≡ asked
   pub none_asked : (volumes : List Vol1) → WasAsked (λ _. ⊥) volumes 0
-  -- a count that stands did not rise, but at its greatest value
-  pub stands_still : Rose 3 3 → ⊥
-  pub rises : Rose 3 4 × Rose 18446744073709551615 18446744073709551615
+  -- the volume under way is the last of all, and there is none behind it
+  pub last_of_all : all_volumes (UnderWay ((mark ∷ []) ∷ []) (bad ∷ []))
+      ≡ (mark ∷ []) ∷ (bad ∷ []) ∷ []
+  pub second : volume_at (UnderWay ((mark ∷ []) ∷ []) (bad ∷ [])) 1 ≡ bad ∷ []
+  pub none_behind : volume_at (Ended ((mark ∷ []) ∷ [])) 1 ≡ []
   -- each fault has its own count
   pub device_failed : (old new : Failures) → HasCause old (Err out.Device) new
       → Rose old.device new.device

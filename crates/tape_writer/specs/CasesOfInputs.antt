@@ -1,7 +1,7 @@
 -- What the definitions of sets written from inputs say of cases. The call `laws::cases` has them as
 -- its contract, too.
 use Rattle.std.specs.Prelude.{◌≡◌, ◌⊎◌, ◌≤◌, ◌<◌, ℕ, List, [], ◌∷◌, ◌++◌, length, Option, Some}
-use Rattle.std.specs.Prelude.{None}
+use Rattle.std.specs.Prelude.{None, true, false}
 use Rattle.tape_label.specs.declared.values.Format.TheVariants.{Fixed, Counted, Spanned}
 use Rattle.tape_label.specs.declared.values.Head1.{Head1}
 use Rattle.tape_blocks.specs.declared.form.Form.TheVariants as forms
@@ -16,7 +16,7 @@ use Rattle.tape_writer.specs.declared.inputs.cut.Cut.TheVariants.{Lines, Length,
 use Rattle.tape_writer.specs.declared.inputs.records.InputFault.TheVariants as inputs
 use Rattle.tape_writer.specs.declared.inputs.set.SetPlan.{SetPlan}
 use Rattle.tape_writer.specs.Records.{records_of, records_from, longest_by, longest}
-use Rattle.tape_writer.specs.Records.{IsFirstLong, GrowsLong}
+use Rattle.tape_writer.specs.Records.{IsFirstLong, GrowsLong, Adds, given, to_come}
 use Rattle.tape_writer.specs.Refusals.{IsNewFault}
 use Rattle.tape_writer.specs.State.{SetState, IsOutOfVolumes}
 use Rattle.tape_writer.specs.Tapes.{Tapes, Ended}
@@ -58,6 +58,16 @@ pub record CasesOfInputs : Type 0 where
       → IsFirstLong most (r ∷ rs) → most < length r
   pub grows_long : (most : ℕ) (cut : Cut) (r bytes : List ℕ) → GrowsLong most cut r bytes
       → (more : List ℕ) → IsFirstLong most (records_from cut r (bytes ++ more))
+  -- what is to come of an input that is over is nothing, and a record that was given comes first
+  pub over : (cut : Cut) (bytes : List ℕ) → to_come cut true bytes ≡ []
+  pub not_over : (cut : Cut) (bytes : List ℕ) → to_come cut false bytes ≡ records_of cut bytes
+  pub given_first : (r : List ℕ) (rs : List (List ℕ)) → (given true r rs ≡ r ∷ rs)
+      × (given false r rs ≡ rs)
+  -- bytes are more of a record, or end it, whatever stands behind them
+  pub more_of_it : (cut : Cut) (old bytes new more : List ℕ) → Adds cut old bytes new false
+      → records_from cut old (bytes ++ more) ≡ records_from cut new more
+  pub ends_it : (cut : Cut) (old bytes new more : List ℕ) → Adds cut old bytes new true
+      → records_from cut old (bytes ++ more) ≡ new ∷ records_from cut [] more
   -- the files told are those of the inputs, numbered in their order, each with its own records
   pub told_in_order : (id : List ℕ) (shape : Shape) (cut : Cut) (h k : Head1) (a b : List ℕ)
       → told_files id shape cut 1 ((h, a) ∷ (k, b) ∷ [])
@@ -104,6 +114,7 @@ pub record CasesOfSetFaults : Type 0 where
       × (IsPuttingFault (Unit {0}) faults.TooMany → ⊥)
       × (IsPuttingFault (Unit {0}) faults.FileBegun → ⊥)
   pub input_length_so : IsInputFault ⊥ (Write faults.RecordLength) → ⊥
+  pub read_failed : (shape : Shape) → IsInputFault (OneIsOther shape []) ReadFailed
   pub of_no_file : (capacity : ℕ) (shape : Shape) (cut : Cut) (fault : SetFault)
       → IsFilesFault capacity shape cut 0 [] fault → ⊥
   -- the second file has one before it
