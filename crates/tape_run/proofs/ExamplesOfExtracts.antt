@@ -99,6 +99,7 @@ cases_of_turns = record {
   tape_by = λ o bytes xs end stop had b. ((rw had refl), (end, stop, b), tt);
   is_there = λ t s place parts. record { place = place; parts = parts };
   over_two = λ t xs ys. refl;
+  reached_by_two = λ set p h i. refl;
   no_turns = no_turns;
   gathers = λ turns old new set hs g lawful mounts placed.
       let a = g.arrives set hs lawful mounts placed in (a.at, a.same_file, a.position);
@@ -178,6 +179,7 @@ cases_of_outputs = record {
   stopped_turns = λ session shelf left form out now said says s. (s.most, s.are_turns);
   stopped_turns_now = λ session shelf left form out now said says s. (s.most, s.are_turns);
   taken = λ form out weight records begun failed parts t. (t.weighs, t.counted);
+  sink_takes = λ s parts t. (t.weighs, t.counted, t.begins);
   taken_text = λ form out weight records begun failed parts t. (t.begins, t.text);
   text = text;
   ended = (refl, refl);

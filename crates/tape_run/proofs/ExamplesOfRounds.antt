@@ -54,4 +54,6 @@ cases_of_rounds = record {
   again_left = λ session shelf left form out now said says want e. (e.most, e.all, e.enough);
   again_stopped = λ session shelf left form out now said says s.
       (s.few, s.most, s.are_rounds, s.are_turns, s.brought, s.lines);
+  again_output = λ session shelf left form out now said says s kept.
+      s.follows session.sink refl kept;
 }

@@ -96,4 +96,9 @@ cases_of_surveys = record {
   tells = λ reel name c d old new t. (t.1, t.2);
   summary_last = λ d. refl;
   no_summary_before = λ d. refl;
+  surveyed = λ names shelf left old new all s.
+      (s.1.each, s.1.viewed, s.1.told, s.1.is_so, s.2);
+  surveyed_in_part = λ names shelf old new s. (s.few, s.viewed, s.wrote);
+  left_there = λ law items n w h. law items n w h;
+  ended_there = λ law items h. law items h;
 }

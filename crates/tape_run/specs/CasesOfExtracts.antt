@@ -9,6 +9,7 @@ use Rattle.tape_blocks.specs.Spans.{join}
 use Rattle.tape_image.specs.Reader.{IfKnown}
 use Rattle.tape_image.specs.Tape.{TapeItem}
 use Rattle.tape_image.specs.Begins.{Stop, Begins}
+use Rattle.tape_set.specs.declared.position.Position.{Position}
 use Rattle.tape_set.specs.declared.position.Position.TheVariants.{Finished}
 use Rattle.tape_set.specs.declared.position.Want.{Want}
 use Rattle.tape_set.specs.Position.{want_at}
@@ -19,9 +20,9 @@ use Rattle.tape_core.specs.declared.answer.Reason.TheVariants.{BlockCount, Broke
 use Rattle.tape_core.specs.Place.{IsPlaced, rest_of}
 use Rattle.tape_core.specs.State.{State}
 use Rattle.tape_run.specs.Extracting.{IsWritten, Ends, Extracts, Stops}
-use Rattle.tape_run.specs.ExtractingNow.{IsPut, EndsNow, ExtractsNow, StopsNow}
+use Rattle.tape_run.specs.ExtractingNow.{IsPut, EndsNow, ExtractsNow, StopsNow, Takes}
 use Rattle.tape_run.specs.Lead.{Lead, over_reel}
-use Rattle.tape_run.specs.Mount.{Happening, IsMountOf, foreign_reel}
+use Rattle.tape_run.specs.Mount.{Happening, IsMountOf, foreign_reel, after_mount}
 use Rattle.tape_run.specs.Output.{AppendsFront}
 use Rattle.tape_run.specs.OutSinks.{HasTaken, IsText, TellsAlways, text_so_far, with_end}
 use Rattle.tape_run.specs.RecordText.{output_of}
@@ -35,6 +36,7 @@ use Rattle.tape_run.specs.Reeling.{step_behind, notes_behind, steps_of, AreTold,
 use Rattle.tape_run.specs.Reels.{Reads}
 use Rattle.tape_run.specs.Seen.{Seen, IsKept}
 use Rattle.tape_run.specs.Steps.{Saved, WentBack}
+use Rattle.tape_run.specs.declared.extract.out_sink.OutSink.{OutSink}
 use Rattle.tape_run.specs.declared.script.Step.TheVariants.{Reel, Save, Restart}
 use Rattle.tape_core.specs.Point.{Point}
 use Rattle.tape_run.specs.Story.{Story}
@@ -85,6 +87,8 @@ pub record CasesOfTurns : Type 0 where
   pub is_there : (t : Lead) (s : Seen) → s.place ≡ t.place → s.parts ≡ t.parts → IsThere t s
   pub over_two : (t : Lead) (xs ys : List TapeItem)
       → over_tapes t (xs ∷ ys ∷ []) ≡ over_reel (over_reel t xs) ys
+  pub reached_by_two : (set : FileSet) (p : Position) (h i : Happening)
+      → reached set 1 p (h ∷ i ∷ []) ≡ after_mount set 1 (after_mount set 1 p h) i
   -- no image leads nowhere but where the session was
   pub no_turns : (old new : Seen) (set : FileSet) → Gathers [] old new → IsLawful set
       → IsPlaced set old.place old.parts
@@ -255,5 +259,8 @@ pub record CasesOfOutputs : Type 0 where
       → HasTaken (λ (w : Known). w) form out weight records begun failed parts
       → (begun ≡ is_some (join parts).rest)
       × (TellsAlways (λ (w : Known). w) → IsText failed (text_so_far form parts) out)
+  pub sink_takes : (s : OutSink Known) (parts : List Portion) → Takes (λ w. w) s parts
+      → (s.weight ≡ weight_of parts) × (s.records ≡ length (join parts).records)
+      × (s.begun ≡ is_some (join parts).rest)
   pub text : (known : List ℕ) → IsText false (7 ∷ []) (Some known) → known ≡ 7 ∷ []
   pub ended : (with_end true 3 ≡ 3) × (with_end false 3 ≡ 4)

@@ -112,3 +112,13 @@ pub record CasesOfRounds : Type 0 where
       × AppendsFront said says
       (reel_lines 1 (map answer_of (turns_of s.rounds ++ s.turns) ++ s.more)
       ++ last_line s.want s.records)
+  -- and nothing was done to the output, or the file is complete and a front of it was written
+  pub again_output : (session : Listed) (shelf left : Readers) (form : Form)
+      (out now said says : Known)
+      (s : StopsAgainListed session shelf left form out now said says)
+      → IsKeptFor (goes_back session.notes)
+      (seen {S = List Portion} (λ s. 0) session session.sink)
+      → (last : State) × (x : Seen) × GoesRound (goes_back session.notes) session.core
+      (seen {S = List Portion} (λ s. 0) session session.sink) s.rounds s.turns last x
+      × ((now ≡ out) ⊎ ((x.place.position ≡ Finished)
+      × AppendsFront out now (output_of form x.parts)))

@@ -1,7 +1,7 @@
 -- What the definitions of surveys say of cases. The call `laws::cases` has them as its
 -- contract.
-use Rattle.std.specs.Prelude.{◌≡◌, ◌≢◌, ◌++◌, ◌+◌, ◌&&◌, length, ℕ, Bool, true, false, List, []}
-use Rattle.std.specs.Prelude.{◌∷◌, replicate, Option}
+use Rattle.std.specs.Prelude.{◌≡◌, ◌≢◌, ◌++◌, ◌+◌, ◌==◌, ◌≤◌, ◌&&◌, length, ℕ, Bool, true, false}
+use Rattle.std.specs.Prelude.{List, [], ◌∷◌, replicate, Option}
 use Rattle.std.specs.Prelude.{Some}
 use Rattle.std.specs.Prelude.{None, Ok, Err, codes}
 use Rattle.std.specs.List.{AllByRecursion}
@@ -32,18 +32,22 @@ use Rattle.tape_run.specs.declared.survey.sets.Standing.TheVariants.{Complete, D
 use Rattle.tape_run.specs.declared.survey.sets.Standing.TheVariants.{Missing}
 use Rattle.tape_run.specs.declared.survey.view.Sight.{Sight}
 use Rattle.tape_run.specs.CasesOfCatalogues.{met}
+use Rattle.tape_run.specs.CasesOfExtracts.{Known, Readers}
 use Rattle.tape_run.specs.Checked.{Reel}
 use Rattle.tape_run.specs.Noted.{noted_all}
+use Rattle.tape_run.specs.Output.{AppendsFront}
 use Rattle.tape_run.specs.Passing.{met_in}
+use Rattle.tape_run.specs.Reeling.{Took}
 use Rattle.tape_run.specs.SurveyFiles.{filed_in, Filed, is_other, with_head, note_at, file_key}
 use Rattle.tape_run.specs.SurveyGlance.{glance_of, blank_glance, first_of, is_ebcdic, course_with}
 use Rattle.tape_run.specs.SurveyGlance.{late_with, unread_with, unread_by, or_else, is_kind_vol1}
 use Rattle.tape_run.specs.SurveyLaws.{course_of, has_left, end_marks, IsSectionInOrder, IsBegun}
-use Rattle.tape_run.specs.SurveyLaws.{IsVolumeInOrder, IsFirstAstray}
+use Rattle.tape_run.specs.SurveyLaws.{IsVolumeInOrder, IsFirstAstray, LeavesThere, EndedIsVolume}
 use Rattle.tape_run.specs.SurveyLine.{trimmed_text, named, image_line}
 use Rattle.tape_run.specs.SurveyRead.{Found, nothing_found, is_whole_sight, IsViewed}
+use Rattle.tape_run.specs.SurveyRead.{AreViewed}
 use Rattle.tape_run.specs.SurveySets.{standing_of, is_all, summary}
-use Rattle.tape_run.specs.Survey.{image_lines, Tells, summary_at}
+use Rattle.tape_run.specs.Survey.{image_lines, Tells, Surveys, SurveysInPart, summary_at}
 
 -- an image that went so far and stopped so, with a file that is not read or without one
 abbrev pub sight : Course → Option ℕ → ImageStop → Sight
@@ -195,3 +199,22 @@ pub record CasesOfSurveys : Type 0 where
   -- what stands behind the images follows where none is left
   pub summary_last : (d : Found) → summary_at true d ≡ summary d
   pub no_summary_before : (d : Found) → summary_at false d ≡ []
+  -- the survey that is written is that of the images viewed, each of them in its place
+  pub surveyed : (names : List (List ℕ)) (shelf left : Readers) (old new : Known) (all : Bool)
+      (s : Surveys Took (λ r. r) names shelf left old new all)
+      → (length s.1.sights ≡ length names)
+      × AreViewed Took (λ r. r) shelf 0 s.1.sights nothing_found left s.1.found
+      × (s.0 ≡ image_lines names s.1.sights ++ summary s.1.found) × (all ≡ is_all s.1.found)
+      × Appends old new s.0
+  -- at a fault a front of it is, of the first images, with the summary behind the last one
+  pub surveyed_in_part : (names : List (List ℕ)) (shelf : Readers) (old new : Known)
+      (s : SurveysInPart Took (λ r. r) names shelf old new)
+      → (length s.sights ≤ length names)
+      × AreViewed Took (λ r. r) shelf 0 s.sights nothing_found s.left s.found
+      × AppendsFront old new
+      (image_lines names s.sights ++ summary_at (length s.sights == length names) s.found)
+  -- what a caller draws from the laws of a glance
+  pub left_there : LeavesThere → (items : List TapeItem) (n : ℕ) (w : Wanted)
+      → course_of items ≡ Leaves n w → IsFirstAstray items n
+  pub ended_there : EndedIsVolume → (items : List TapeItem) → course_of items ≡ Ended
+      → IsVolumeInOrder items
