@@ -1,8 +1,14 @@
 -- The cases of disks and stages.
 use Rattle.std.proofs.Common.{◌≡◌, ◌⊎◌, ◌∙◌, List, ℕ, [], ◌∷◌, refl, inl}
-use Rattle.std.proofs.Common.{inr, arith, get_or, ap, take}
+use Rattle.std.proofs.Common.{inr, arith, get_or, ap, take, subst, Some, Ok}
 use Rattle.tape_blocks.specs.declared.part.Span.TheVariants as spans
+use Rattle.tape_blocks.specs.declared.part.Part.{Part}
+use Rattle.tape_blocks.specs.Block.{Portion}
+use Rattle.tape_blocks.specs.Parts.{view}
 use Rattle.tape_stage.specs.declared.disk.Disk.{Ghosts}
+use Rattle.tape_stage.specs.declared.stage.Stage.{Stage}
+use Rattle.tape_stage.specs.Reads.{StageGave}
+use Rattle.tape_stage.specs.Stages.{IsAhead}
 use Rattle.tape_stage.specs.Body.{body_text}
 use Rattle.tape_stage.specs.Disk.{Torn}
 use Rattle.tape_stage.specs.Frames.{NoFrameAt}
@@ -125,6 +131,9 @@ cases_of_files = record {
   closed_gate = λ body. refl;
   greater_counts = λ a b. refl;
   first_at_a_tie = λ a b. refl;
+  first_wins = λ a. omega arith;
+  second_loses = λ a h. absurd (omega (arith, h));
+  found = λ f bytes is. (is.slot, is.other, is.gate);
   text = refl;
   body = refl;
   staged_is_there = λ bytes g point parts s. (s.slot, s.parts_are.long, s.parts_are.frames_are);
@@ -145,8 +154,17 @@ cases_of_files = record {
   no_digit = no_digit;
   no_frame = λ bytes place end span content none is. none span content is;
   frame_of = refl;
+  all_short = λ a b s. (s.0, s.1.0);
   front_of_two = λ a b size. record { rest = b ∷ []; whole = refl; weighs = omega (arith, size) };
 }
+
+part_given : {D : Type 0} (g : Ghosts D) (old new : Stage D g) (part : Part) (p : Portion)
+    (parts : List Portion) → StageGave old (Ok (Some part)) new → IsAhead old (p ∷ parts)
+    → (view part ≡ p) × IsAhead new parts
+part_given g old new part p parts gave ahead =
+    let (rest, split, there) = gave.gives (p ∷ parts) ahead in
+    let same : rest ≡ parts = cc split in
+    (cc split, subst (λ ps. IsAhead new ps) same there)
 
 pub cases_of_stages : {D : Type 0} (g : Ghosts D) → CasesOfStages g
 cases_of_stages g = record {
@@ -159,6 +177,9 @@ cases_of_stages g = record {
   holds = λ stage parts h. (h.honest, h.framed, h.weighs, h.ready);
   ahead = λ stage parts h. h;
   ready = λ second n point parts other_open disk r. (r.staged, r.gate, r.alike);
+  has_read = λ old new result r. (r.same_stage, r.gave);
+  gave_keeps = λ old new result parts gave held. (gave.kept parts held, gave.same_weight);
+  part_given = part_given g;
   what_is_left_returns = λ stage bytes n back there left is. (bytes, left, (n, is));
   what_returns_is_left = λ stage back there r. r;
   something_returns = λ stage bytes s left.

@@ -2,32 +2,39 @@
 -- should, and none that is asked for asks more. The call `laws::cases` has them as its contract.
 use Rattle.std.specs.Prelude.{◌≡◌, ◌⊎◌, ◌≤◌, ◌+◌, ◌-◌, ◌==◌, ℕ, List, [], ◌∷◌, ◌++◌, take, drop}
 use Rattle.std.specs.Prelude.{length, min, replicate, codes, Some, None, Bool, true, false, not}
+use Rattle.std.specs.Prelude.{Option, Result, Ok}
 use Rattle.tape_blocks.specs.declared.part.Span.{Span}
 use Rattle.tape_blocks.specs.declared.part.Span.TheVariants.{Whole}
+use Rattle.tape_blocks.specs.declared.part.Part.{Part}
 use Rattle.tape_blocks.specs.Block.{Portion}
+use Rattle.tape_blocks.specs.Parts.{view}
 use Rattle.tape_label.specs.declared.values.Format.TheVariants.{Spanned}
 use Rattle.tape_set.specs.declared.position.Position.TheVariants.{Awaits}
 use Rattle.tape_core.specs.Point.{Point}
 use Rattle.tape_core.specs.Stands.{weight_of}
+use Rattle.tape_core.specs.declared.sink.SinkFault.{SinkFault}
 use Rattle.tape_core.specs.declared.sink.SinkFault.TheVariants as sink
 use Rattle.tape_stage.specs.declared.content.Call.TheVariants.{Cut, Sync}
 use Rattle.tape_stage.specs.Body.{body_text, point_text}
 use Rattle.tape_stage.specs.Calls.{IsImage, WasImage, worst_by}
 use Rattle.tape_stage.specs.declared.disk.Disk.{Ghosts}
+use Rattle.tape_stage.specs.declared.found.Found.{Found}
+use Rattle.tape_stage.specs.declared.part_reader.PartReader.{PartReader}
 use Rattle.tape_stage.specs.declared.stage.Stage.{Stage}
 use Rattle.tape_stage.specs.declared.stage.StageFault.TheVariants.{NoPoint, BadFrame, Device}
 use Rattle.tape_stage.specs.declared.stage.StageFault.TheVariants.{OutOfMemory, Failed, Full}
 use Rattle.tape_stage.specs.Disk.{Torn, CutShort, Elapses, Follows, Allows, NoMore, Only}
 use Rattle.tape_stage.specs.Disk as disk
 use Rattle.tape_stage.specs.Faults.{SaysNone, IsNotDevice, OnBadFrame, sink_fault_of}
-use Rattle.tape_stage.specs.Found.{IsBadPlace}
+use Rattle.tape_stage.specs.Found.{IsBadPlace, IsFound}
 use Rattle.tape_stage.specs.Frames.{AheadIn, IsFrameAt, NoFrameAt}
 use Rattle.tape_stage.specs.Holding.{with_held, LeftTorn, LeftSince}
 use Rattle.tape_stage.specs.Moments.{Passes, Untouched}
 use Rattle.tape_stage.specs.OnlyReading.{OnlyReads}
-use Rattle.tape_stage.specs.Parts.{IsFront, frames}
+use Rattle.tape_stage.specs.Parts.{IsFront, AllShort, frames}
+use Rattle.tape_stage.specs.Reads.{StageGave, HasRead}
 use Rattle.tape_stage.specs.Staged.{Staged, Holding, HoldsNone, StandsLike}
-use Rattle.tape_stage.specs.Staged.{KeepsStaged, KeepsFrames}
+use Rattle.tape_stage.specs.Staged.{KeepsStaged, KeepsFrames, Loses}
 use Rattle.tape_stage.specs.Staged.{WalkedTo, Ready, StagedIn, slot_at, best, gate_at, read_slot}
 use Rattle.tape_stage.specs.Stages.{Holds, IsAhead, IsStage, Returns, Survives, HasRefused}
 
@@ -141,6 +148,14 @@ pub record CasesOfFiles : Type 0 where
   -- the greater generation counts, and the first slot at a tie
   pub greater_counts : (a b : Point) → best (Some (3, a)) (Some (4, b)) ≡ Some (4, b)
   pub first_at_a_tie : (a b : Point) → best (Some (3, a)) (Some (3, b)) ≡ Some (3, a)
+  -- so at a tie the first slot does not lose by the second, and the second loses by the first
+  pub first_wins : (a : Point) → Loses false 3 (Some (3, a))
+  pub second_loses : (a : Point) → Loses true 3 (Some (3, a)) → ⊥
+  -- which slot counts, and whether the other one is open, is what the bytes say
+  pub found : (f : Found) (bytes : List ℕ) → IsFound f bytes
+      → (slot_at f.in_second bytes ≡ Some (f.generation, f.point))
+      × Loses f.in_second f.generation (slot_at (not f.in_second) bytes)
+      × (f.other_open ≡ (gate_at (not f.in_second) bytes == 79))
   -- a checkpoint's text, and what is written behind a gate
   pub text : point_text worked_point ≡ worked_text
   pub body : body_text 9 worked_point ≡ codes "000000000000009" ++ (worked_text ++ replicate 32 32)
@@ -180,6 +195,9 @@ pub record CasesOfFiles : Type 0 where
   -- the same frame is that of one part, of weight 6, at the front of two
   pub frame_of : frames (record { span = Whole; bytes = 65 ∷ [] } ∷ [])
       ≡ 48 ∷ 0 ∷ 0 ∷ 0 ∷ 1 ∷ 65 ∷ []
+  -- each part of a frame is short enough
+  pub all_short : (a b : Portion) → AllShort (a ∷ b ∷ []) → (length a.bytes ≤ 99999)
+      × (length b.bytes ≤ 99999)
   pub front_of_two : (a b : Portion) → length a.bytes ≡ 1 → IsFront 6 (a ∷ []) (a ∷ b ∷ [])
 
 -- what calls leave of any disk, and what comes back of a stage on it
@@ -216,6 +234,16 @@ pub record CasesOfStages {D : Type 0} (g : Ghosts D) : Type 0 where
       → StagedIn second n point parts (g.seen disk)
       × (other_open ≡ (gate_at (not second) (g.seen disk) == 79)) × ((c : List ℕ)
       → g.may_leave disk c → take (256 + point.staged) c ≡ take (256 + point.staged) (g.seen disk))
+  -- a reader of parts has the stage that it had, which gave its next part
+  pub has_read : (old new : PartReader D g) (result : Result (Option Part) SinkFault)
+      → HasRead old result new → (new.stage.ghost_name ≡ old.stage.ghost_name)
+      × StageGave old.stage.now result new.stage.now
+  pub gave_keeps : (old new : Stage D g) (result : Result (Option Part) SinkFault)
+      (parts : List Portion) → StageGave old result new → Holds old parts
+      → Holds new parts × (new.weight ≡ old.weight)
+  pub part_given : (old new : Stage D g) (part : Part) (p : Portion) (parts : List Portion)
+      → StageGave old (Ok (Some part)) new → IsAhead old (p ∷ parts)
+      → (view part ≡ p) × IsAhead new parts
   -- whatever a crash may leave now that stands for a checkpoint and parts comes back,
   pub what_is_left_returns : (stage : Stage D g) (bytes : List ℕ) (n : ℕ) (back : Point)
       (there : List Portion) → g.may_leave stage.disk bytes → Staged bytes n back there
