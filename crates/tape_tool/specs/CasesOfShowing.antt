@@ -1,5 +1,5 @@
 -- What the definitions of `stage` say of cases, so that none of them says less than it should.
-use Rattle.std.specs.Prelude.{◌≡◌, ℕ, false, List, [], ◌++◌, length, Option, Some, None, Ok, Err}
+use Rattle.std.specs.Prelude.{◌≡◌, ◌⊎◌, ℕ, false, List, [], ◌++◌, length, Option, Some, None, Ok, Err}
 use Rattle.std.specs.Prelude.{codes}
 use Rattle.std.specs.Io.KnownBytes.{Appends, Keeps}
 use Rattle.tape_blocks.specs.Block.{Portion}
@@ -13,12 +13,13 @@ use Rattle.tape_run.specs.Output.{AppendsFront}
 use Rattle.tape_run.specs.RecordText.{output_of}
 use Rattle.tape_stage.specs.Faults.{SaysNone}
 use Rattle.tape_stage.specs.Staged.{Staged, HoldsNone}
+use Rattle.tape_stage.specs.declared.stage.StageFault.{StageFault}
 use Rattle.tape_tool.specs.declared.end.End.TheVariants.{Done, Faulted, Incomplete}
 use Rattle.tape_tool.specs.declared.fault.Fault.TheVariants.{Tool}
 use Rattle.tape_tool.specs.declared.fault.ToolFault.{ToolFault}
 use Rattle.tape_tool.specs.declared.fault.ToolFault.TheVariants.{Stage}
 use Rattle.tape_tool.specs.Ends.{stage_end}
-use Rattle.tape_tool.specs.Showing.{told_of, Gives, GivesFront, Shows, StopsShowing}
+use Rattle.tape_tool.specs.Showing.{told_of, Shows, StopsShowing}
 
 -- a checkpoint of file 1 of a set, at this position
 abbrev pub point_at : Position → Point
@@ -31,12 +32,16 @@ point_at position = record {
   staged = 0;
 }
 
--- what a fault says: no stage was opened and nothing written, or a front of what is due was
+-- what a fault says: no stage was opened and nothing written, and that there is none is told only
+-- where there is none; or a front of what is staged in these bytes was written
 abbrev pub StopSays : List ℕ → Form → Option (List ℕ) → Option (List ℕ) → Option (List ℕ)
     → Option (List ℕ) → ToolFault → Type 0
 StopSays read form out written said says fault = StopsShowing read form out written said says fault
-    → ((text : List ℕ) × AppendsFront out written text)
-    × ((text : List ℕ) × AppendsFront said says text)
+    → ((cause : StageFault) × (fault ≡ Stage cause) × (SaysNone cause → HoldsNone read)
+    × Keeps out written × Keeps said says)
+    ⊎ ((g : ℕ) × (point : Point) × (parts : List Portion) × Staged read g point parts
+    × AppendsFront out written (output_of form parts)
+    × AppendsFront said says (told_of point (length (join parts).records)))
 
 -- what `stage` says
 pub record CasesOfShowing : Type 0 where
@@ -54,6 +59,6 @@ pub record CasesOfShowing : Type 0 where
       → Staged read s.generation s.point s.parts
       × Appends out written (output_of form s.parts)
       × Appends said says (told_of s.point (length (join s.parts).records))
-  -- a fault leaves a front of something
+  -- a fault leaves nothing, or a front of that
   pub stopped : (read : List ℕ) (form : Form) (out written said says : Option (List ℕ))
       (fault : ToolFault) → StopSays read form out written said says fault
