@@ -17,10 +17,11 @@ of definitions that somebody could make by mistake, each a paragraph of lines:
 
 The text stands once in the definition, which goes up to an empty line; without a line `in:` it
 stands once in the file. `\\n` in it is the end of a line. Further such files and texts may follow,
-in proofs/ too, where a proof of the same clause names what was taken away. `seen by:` names the
-case that does not hold with the break, or the lemma of it; or some, of which one does not. `call:`
-names the call that is checked, where it is another than `laws::cases`: a law, or a function of
-which a proof notices the break. A line `changes nothing: REASON` says why nothing needs to notice
+in proofs/ too, where a proof of the same clause names what was taken away; and in a crate below, by
+a path that begins with ../ (that crate is then checked first). `seen by:` names the case that does
+not hold with the break, or the lemma of it; or some, of which one does not. `call:` names the call
+that is checked, where it is another than `laws::cases`: a law, or a function of which a proof
+notices the break. A line `changes nothing: REASON` says why nothing needs to notice
 it. A line that begins with # is a remark.
 
 With --texts nothing is tried: it is told which texts do not stand in their definitions any more,
