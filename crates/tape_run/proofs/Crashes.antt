@@ -1,5 +1,5 @@
 -- What a crash brings back of a session.
-use Rattle.std.proofs.Common.{◌≡◌, ◌⊎◌, ℕ, Bool, List, [], ◌∷◌, Option, Some, None, IfSome}
+use Rattle.std.proofs.Common.{◌≡◌, ◌⊎◌, ℕ, List, [], ◌∷◌, ◌++◌, Option, Some, None, sym, subst}
 use Rattle.std.proofs.Common.{slice_get, inl, inr}
 use Rattle.tape_blocks.specs.Block.{Portion}
 use Rattle.tape_core.specs.Point.{Point}
@@ -8,9 +8,9 @@ use Rattle.tape_core.specs.Weight.{IsFront}
 use Rattle.tape_core.specs.Crash.{AddsNothing, AddsOnly, OrThis}
 use Rattle.tape_run.specs.declared.script.Step.{Step}
 use Rattle.tape_run.specs.declared.script.Step.TheVariants.{Reel, Save, Restart}
-use Rattle.tape_run.specs.Seen.{Seen}
-use Rattle.tape_run.specs.Steps.{Reeled, Saved, WentBack}
+use Rattle.tape_run.specs.Seen.{Seen, IsKept}
 use Rattle.tape_run.specs.Crash.{IsOf, StoodAt}
+use Rattle.tape_run.proofs.Sessions.{kept_at}
 
 pub adds_same : (r : Point → List Portion → Type 0) (v : Type 0) → AddsNothing r r v v
 adds_same r v = ((λ back there h. h), (λ h. h))
@@ -20,10 +20,9 @@ pub adds_then : (r s t : Point → List Portion → Type 0) (u v w : Type 0) →
 adds_then r s t u v w (a, b) (d, e) =
     ((λ back there h. a back there (d back there h)), (λ h. e (b h)))
 
-pub only_then : (these r s t : Point → List Portion → Type 0) (u v w : Type 0)
-    → AddsOnly these r s u v → AddsNothing s t v w → AddsOnly these r t u w
-only_then these r s t u v w (a, b) (d, e) =
-    ((λ back there h. a back there (d back there h)), (λ h. e (b h)))
+pub only_nothing : (these r s : Point → List Portion → Type 0) (u v : Type 0)
+    → AddsNothing r s u v → AddsOnly these r s u v
+only_nothing these r s u v (a, b) = ((λ back there h. inl (a back there h)), b)
 
 -- these first, and then what is among them
 pub only_more : (these those r s t : Point → List Portion → Type 0) (u v w : Type 0)
@@ -48,26 +47,6 @@ stood_here s (Reel ∷ steps) (Some bytes ∷ reels) back there h = inl h
 stood_here s (Save ∷ steps) reels back there h = inl h
 stood_here s (Restart n ∷ steps) reels back there h = inl h
 
--- it is of the session behind the first step
-pub stood_reel : (old mid : Seen) (steps : List Step) (o : Option (List ℕ))
-    (reels : List (Option (List ℕ))) (failed : Bool) (back : Point) (there : List Portion)
-    → IfSome o (λ bytes. Reeled bytes failed old mid)
-    → StoodAt mid steps reels back there → StoodAt old (Reel ∷ steps) (o ∷ reels) back there
-stood_reel old mid steps None reels failed back there r h = tt
-stood_reel old mid steps (Some bytes) reels failed back there r h = inr ((failed, mid, r, h))
-
-pub stood_save : (old mid : Seen) (steps : List Step) (reels : List (Option (List ℕ)))
-    (back : Point) (there : List Portion)
-    → Saved old mid
-    → StoodAt mid steps reels back there → StoodAt old (Save ∷ steps) reels back there
-stood_save old mid steps reels back there v h = inr ((mid, v, h))
-
-pub stood_restart : (old mid : Seen) (n : ℕ) (steps : List Step) (reels : List (Option (List ℕ)))
-    (back : Point) (there : List Portion)
-    → WentBack n old mid
-    → StoodAt mid steps reels back there → StoodAt old (Restart n ∷ steps) reels back there
-stood_restart old mid n steps reels back there w h = inr ((mid, w, h))
-
 -- the sink may come back with a note
 pub noted_only : (s : Seen) (c : Point) (n : ℕ) (ps : List Portion) → slice_get s.notes n ≡ Some c
     → IsFront ps s.parts → weight_of ps ≡ c.staged
@@ -79,3 +58,18 @@ noted_only s c n ps e f w r t u v a b = ((λ back there h. either back there (a 
         → r back there ⊎ IsOf s back there
     either back there (inl h) = inl h
     either back there (inr (p, q)) = inr (inr ((n, rw p e, rw q f, rw (p, q) w)))
+
+-- the sink may come back with the note that it was cut to
+pub cut_only : (s : Seen) (n : ℕ) (c : Point) → slice_get s.notes n ≡ Some c → IsKept s
+    → (holds : List Portion → Type 0) → holds s.parts
+    → (r t : Point → List Portion → Type 0) (u v : Type 0)
+    → ((front rest : List Portion) → holds (front ++ rest) → weight_of front ≡ c.staged
+    → OrThis c front r t)
+    → ((front rest : List Portion) → holds (front ++ rest) → weight_of front ≡ c.staged → u → v)
+    → AddsOnly (IsOf s) r t u v
+cut_only s n c noted kept holds was r t u v crash after =
+    let at = kept_at s.place [] s.notes n c s.parts noted kept in
+    let front = subst holds at.is_front.1 was in
+    noted_only s c n at.ps noted at.is_front (sym at.note.staged) r t u v
+    (crash at.ps at.is_front.0 front (sym at.note.staged))
+    (after at.ps at.is_front.0 front (sym at.note.staged))

@@ -25,20 +25,20 @@ use Rattle.tape_set.specs.Lawful.{IsLawful}
 use Rattle.tape_set.specs.Reading.{as_read}
 use Rattle.tape_set.specs.declared.position.Position.{Position}
 use Rattle.tape_core.specs.declared.answer.Answer.{Answer}
-use Rattle.tape_core.specs.declared.answer.Answer.TheVariants.{Passed, Deliver, SectionDone}
-use Rattle.tape_core.specs.declared.answer.Answer.TheVariants.{Complete, Useless}
 use Rattle.tape_core.specs.State.{State}
 use Rattle.tape_core.specs.Place.{IsPlaced}
 use Rattle.tape_run.specs.Mount.{Happening, reads, foreign_reel, saves, restarts, IsMount, cut}
 use Rattle.tape_run.specs.Mount.{after_mount}
 use Rattle.tape_core.specs.Follows.{IsFinal}
-use Rattle.tape_run.specs.Taking.{Under, Taken, TakesItem, RefusesItem, ReadsItems, ReadsImage}
+use Rattle.tape_run.specs.Under.{is_under}
+use Rattle.tape_run.specs.Taking.{Taken, TakesItem, RefusesItem, ReadsItems, ReadsImage}
 use Rattle.tape_run.specs.Taking.{RefusesImage, SoFar, CutsTable}
 use Rattle.tape_core.specs.Table.{step_of}
 use Rattle.tape_core.specs.Place.{rest_of}
 use Rattle.tape_run.specs.ByTable.{parts_at, delivered_parts, StopsInside}
 use Rattle.tape_run.proofs.ByTable.{core_more, parts_more, led_by_final, led_to_end}
 use Rattle.tape_run.specs.Given.{is_device_cause, is_device}
+use Rattle.tape_run.proofs.Mounts.{reached}
 
 -- ---- what is known of bytes
 
@@ -123,15 +123,9 @@ cut_whole set xs (restarts n) m = absurd m
 
 -- ---- a core over the items so far
 
-pub record Reaches {C : Type 0} (place : C → State) (under : Under C) (c : C) : Type 0 where
-  pub reached : (set : FileSet) (p : Position) (xs : List TapeItem) (i : ℕ) (h : Happening)
-      → IsLawful set → IsMount set xs h → under c set p xs i h
-      → (place c).position ≡ after_mount set (place c).file p (cut i h)
-
-pub nothing_yet : {C : Type 0} (place full : C → State) (under : Under C)
-    (core : C) (held : List Portion) (bytes : List ℕ)
-    → SoFar place full under core core held held 0 bytes bytes
-nothing_yet place full under core held bytes =
+pub nothing_yet : (core : State) (held : List Portion) (bytes : List ℕ)
+    → SoFar core core held held 0 bytes bytes
+nothing_yet core held bytes =
     record {
       items = [];
       walks = Walks-nil 0 bytes;
@@ -140,15 +134,14 @@ nothing_yet place full under core held bytes =
       so_far = λ set p xs rest h l m e at u. (at, u);
     }
 
-one_taken : {C : Type 0} (place full : C → State) (under : Under C)
-    (old mid new : C) (held now then : List Portion) (p : ℕ) (bytes ys : List ℕ)
-    (s : SoFar place full under old mid held now p bytes ys) (item : TapeItem) (answer : Answer)
-    → TakesItem place under (Some item) answer mid new now then
+one_taken : (old mid new : State) (held now then : List Portion) (p : ℕ) (bytes ys : List ℕ)
+    (s : SoFar old mid held now p bytes ys) (item : TapeItem) (answer : Answer)
+    → TakesItem (Some item) answer mid new now then
     → (set : FileSet) (q : Position) (xs rest : List TapeItem) (h : Happening) → IsLawful set
-    → IsMount set xs h → xs ≡ s.items ++ item ∷ rest → IsPlaced set (place old) held
-    → under old set q xs 0 h
-    → Taken place under set q xs (length s.items) h answer new then
-one_taken place full under old mid new held now then p bytes ys s item answer t set q xs rest h
+    → IsMount set xs h → xs ≡ s.items ++ item ∷ rest → IsPlaced set (rest_of old) held
+    → is_under old set q xs 0 h
+    → Taken set q xs (length s.items) h answer new then
+one_taken old mid new held now then p bytes ys s item answer t set q xs rest h
     l m e at u =
     let was = s.so_far set q xs (item ∷ rest) h l m e at u in
     t set q xs (length s.items) h l m was.0 was.1
@@ -159,24 +152,24 @@ again : (xs taken rest : List TapeItem) (item : TapeItem) → xs ≡ (taken ++ i
     → xs ≡ taken ++ item ∷ rest
 again xs taken rest item e = e ∙ append_assoc taken (item ∷ []) rest
 
-pub one_more : {C : Type 0} (place full : C → State) (under : Under C) (old mid new : C) (held now
+pub one_more : (old mid new : State) (held now
     then : List Portion) (p q : ℕ) (bytes ys zs : List ℕ) (item : TapeItem) (answer : Answer)
-    → TakesItem place under (Some item) answer mid new now then
-    → (answer, full new) ≡ step_of (full mid) (Some item) → then ≡ now ++ parts_at (full mid) item
-    → SoFar place full under old mid held now p bytes ys → image.TakesItem p item q ys zs
-    → SoFar place full under old new held then q bytes zs
-one_more place full under old mid new held now then p q bytes ys zs item answer t step puts s k =
+    → TakesItem (Some item) answer mid new now then
+    → (answer, new) ≡ step_of mid (Some item) → then ≡ now ++ parts_at mid item
+    → SoFar old mid held now p bytes ys → image.TakesItem p item q ys zs
+    → SoFar old new held then q bytes zs
+one_more old mid new held now then p q bytes ys zs item answer t step puts s k =
     record {
       items = s.items ++ item ∷ [];
       walks = Walks-trans 0 p q bytes ys zs s.items (item ∷ []) s.walks
           (Walks-item p q ys zs item k);
-      core = core_more (full old) (full mid) (full new) answer s.items item step s.core;
-      parts = parts_more (full old) (full mid) held now then s.items item puts s.core s.parts;
+      core = core_more old mid new answer s.items item step s.core;
+      parts = parts_more old mid held now then s.items item puts s.core s.parts;
       so_far = λ set r xs rest h l m e at u.
-          let there = one_taken place full under old mid new held now then p bytes ys s item answer
+          let there = one_taken old mid new held now then p bytes ys s item answer
           t set r xs rest h l m (again xs s.items rest item e) at u in (
             there.at,
-            subst (λ n. under new set r xs n h) (sym (length-append s.items (item ∷ [])))
+            subst (λ n. is_under new set r xs n h) (sym (length-append s.items (item ∷ [])))
                 there.goes_on,
           );
     }
@@ -188,14 +181,14 @@ walks_more : (p q : ℕ) (bytes ys zs : List ℕ) (taken : List TapeItem) (item 
 walks_more p q bytes ys zs taken item w k =
     Walks-trans 0 p q bytes ys zs taken (item ∷ []) w (Walks-item p q ys zs item k)
 
-pub ends_early : {C : Type 0} (place full : C → State) (under : Under C) (old mid new : C) (held now
+pub ends_early : (old mid new : State) (held now
     then : List Portion) (p q : ℕ) (bytes ys zs : List ℕ) (item : TapeItem) (answer : Answer)
     → IsFinal answer → q ≤ image_limit
-    → TakesItem place under (Some item) answer mid new now then
-    → (answer, full new) ≡ step_of (full mid) (Some item) → then ≡ now ++ parts_at (full mid) item
-    → SoFar place full under old mid held now p bytes ys → image.TakesItem p item q ys zs
-    → ReadsImage place full under false old new held then bytes
-ends_early place full under old mid new held now then p q bytes ys zs item answer final le t step
+    → TakesItem (Some item) answer mid new now then
+    → (answer, new) ≡ step_of mid (Some item) → then ≡ now ++ parts_at mid item
+    → SoFar old mid held now p bytes ys → image.TakesItem p item q ys zs
+    → ReadsImage false old new held then bytes
+ends_early old mid new held now then p q bytes ys zs item answer final le t step
     puts s k =
     record {
       given = bytes;
@@ -204,24 +197,24 @@ ends_early place full under old mid new held now then p q bytes ys zs item answe
           let (more, e) = front_of_image bytes zs (s.items ++ item ∷ []) xs q end stop
           (walks_more p q bytes ys zs s.items item s.walks k) le b in
           let there =
-          one_taken place full under old mid new held now then p bytes ys s item answer t set r
+          one_taken old mid new held now then p bytes ys s item answer t set r
           xs more h l m (again xs s.items more item e) at u in
           record { at = there.at; position = there.done final };
       table = λ xs end stop b.
           let (more, e) = front_of_image bytes zs (s.items ++ item ∷ []) xs q end stop
           (walks_more p q bytes ys zs s.items item s.walks k) le b in
-          led_by_final (full old) (full mid) (full new) answer held then s.items more xs item step
-          final (core_more (full old) (full mid) (full new) answer s.items item step s.core)
-          (parts_more (full old) (full mid) held now then s.items item puts s.core s.parts) e;
+          led_by_final old mid new answer held then s.items more xs item step
+          final (core_more old mid new answer s.items item step s.core)
+          (parts_more old mid held now then s.items item puts s.core s.parts) e;
     }
 
-pub refused_early : {C : Type 0} (place full : C → State) (under : Under C) (old mid new : C)
+pub refused_early : (old mid new : State)
     (held now then : List Portion) (p q : ℕ) (bytes ys zs : List ℕ) (item : TapeItem)
     → q ≤ image_limit
-    → RefusesItem place under (Some item) mid new now then
-    → SoFar place full under old mid held now p bytes ys → image.TakesItem p item q ys zs
-    → RefusesImage place under old new held then bytes
-refused_early place full under old mid new held now then p q bytes ys zs item le t s k =
+    → RefusesItem (Some item) mid new now then
+    → SoFar old mid held now p bytes ys → image.TakesItem p item q ys zs
+    → RefusesImage old new held then bytes
+refused_early old mid new held now then p q bytes ys zs item le t s k =
     λ set r xs end stop h l b m at u.
     let (more, e) = front_of_image bytes zs (s.items ++ item ∷ []) xs q end stop
     (walks_more p q bytes ys zs s.items item s.walks k) le b in
@@ -232,38 +225,35 @@ refused_early place full under old mid new held now then p q bytes ys zs item le
     (item_here s.items more item ∙ ap (λ (z : List TapeItem). slice_get z (length s.items)) (sym f))
 
 -- all items that the bytes given begin with were taken
-all_taken : {C : Type 0} (place full : C → State) (under : Under C) → (old mid new : C)
-    → Reaches place under mid
-    → (held now : List Portion) (p : ℕ) (bytes ys given : List ℕ)
-    (s : SoFar place full under old mid held now p bytes ys) (far : ℕ) (other : Stop)
-    → Begins 0 given s.items far other → place new ≡ place mid
-    → ReadsItems place under given old new held now
-all_taken place full under old mid new law held now p bytes ys given s far other all same =
+all_taken : (old mid new : State) (held now : List Portion) (p : ℕ) (bytes ys given : List ℕ)
+    (s : SoFar old mid held now p bytes ys) (far : ℕ) (other : Stop)
+    → Begins 0 given s.items far other → rest_of new ≡ rest_of mid
+    → ReadsItems given old new held now
+all_taken old mid new held now p bytes ys given s far other all same =
     λ set r xs end stop h l b m at u.
     let e : xs ≡ s.items = whole_image given s.items xs end far stop other all b in
     let was = s.so_far set r xs [] h l m (e ∙ sym (append-nil s.items)) at u in
-    let there = law.reached set r xs (length s.items) h l m was.1 in
+    let there = reached mid set r xs (length s.items) h l m was.1 in
     let whole : cut (length s.items) h ≡ h =
     ap (λ (z : List TapeItem). cut (length z) h) (sym e) ∙ cut_whole set xs h m in
     record {
       at = subst (λ (z : State). IsPlaced set z now) (sym same) was.0;
-      position = rw same (there ∙ ap (after_mount set (place mid).file r) whole);
+      position = subst (λ (z : State). z.position ≡ after_mount set z.file r h) (sym same)
+          (there ∙ ap (after_mount set (rest_of mid).file r) whole);
     }
 
-pub ends_there : {C : Type 0} (place full : C → State) (under : Under C) → (old mid new : C)
-    → Reaches place under mid
-    → (held now : List Portion) (p q : ℕ) (bytes ys zs : List ℕ) (ending : Ending)
-    → place new ≡ place mid → rest_of (full new) ≡ rest_of (full mid)
-    → SoFar place full under old mid held now p bytes ys → TakesEnd p [] ending q ys zs
-    → ReadsImage place full under false old new held now bytes
-ends_there place full under old mid new law held now p q bytes ys zs ending same still s t =
+pub ends_there : (old mid new : State) (held now : List Portion) (p q : ℕ) (bytes ys zs : List ℕ) (ending : Ending)
+    → rest_of new ≡ rest_of mid
+    → SoFar old mid held now p bytes ys → TakesEnd p [] ending q ys zs
+    → ReadsImage false old new held now bytes
+ends_there old mid new held now p q bytes ys zs ending same s t =
     let all = TakesEnd-behind 0 p q bytes ys zs s.items ending s.walks t in
     record {
       given = bytes;
       is_given = refl;
-      reads = all_taken place full under old mid new law held now p bytes ys bytes s all.end
+      reads = all_taken old mid new held now p bytes ys bytes s all.end
           (ends ending) all.begins same;
-      table = λ xs end stop b. led_to_end (full old) (full mid) (full new) held now s.items xs still
+      table = λ xs end stop b. led_to_end old mid new held now s.items xs same
           s.core s.parts (whole_image bytes s.items xs end all.end stop (ends ending) all.begins b);
     }
 
@@ -276,28 +266,26 @@ device_or_not (Reserved w) = inr ((λ e. cc, refl))
 device_or_not TooLong = inr ((λ e. cc, refl))
 device_or_not OutOfMemory = inr ((λ e. cc, refl))
 
-pub faults_there : {C : Type 0} (place full : C → State) (under : Under C) → (old mid new : C)
-    → Reaches place under mid
-    → (held now : List Portion) (p : ℕ) (bytes ys zs : List ℕ) (fault : ImageFault)
-    → place new ≡ place mid → rest_of (full new) ≡ rest_of (full mid)
-    → SoFar place full under old mid held now p bytes ys → TakesFault p [] fault ys zs
-    → ReadsImage place full under (is_device (Some fault)) old new held now bytes
-faults_there place full under old mid new law held now p bytes ys zs fault same still s t =
+pub faults_there : (old mid new : State) (held now : List Portion) (p : ℕ) (bytes ys zs : List ℕ) (fault : ImageFault)
+    → rest_of new ≡ rest_of mid
+    → SoFar old mid held now p bytes ys → TakesFault p [] fault ys zs
+    → ReadsImage (is_device (Some fault)) old new held now bytes
+faults_there old mid new held now p bytes ys zs fault same s t =
     go (device_or_not fault.cause)
   where
     go : (fault.cause ≡ Device) ⊎ ((fault.cause ≢ Device) × (is_device_cause fault.cause ≡ false))
-        → ReadsImage place full under (is_device (Some fault)) old new held now bytes
+        → ReadsImage (is_device (Some fault)) old new held now bytes
     go (inl e) =
         let all = TakesFault-behind 0 p bytes ys zs s.items fault s.walks t in
         let (stop, begins, cut_off) = TakesFault-device 0 s.items fault bytes zs all e in
         rw e (record {
           given = all.given;
           is_given = (zs, all.whole);
-          reads = all_taken place full under old mid new law held now p bytes ys all.given s
+          reads = all_taken old mid new held now p bytes ys all.given s
               fault.place
               stop begins same;
-          table = λ xs end halt b. led_to_end (full old) (full mid) (full new) held now s.items xs
-              still s.core s.parts
+          table = λ xs end halt b. led_to_end old mid new held now s.items xs
+              same s.core s.parts
               (whole_image all.given s.items xs end fault.place halt stop begins b);
         })
     go (inr (e, f)) =
@@ -305,10 +293,10 @@ faults_there place full under old mid new law held now p bytes ys zs fault same 
         rw f (record {
           given = bytes;
           is_given = refl;
-          reads = all_taken place full under old mid new law held now p bytes ys bytes s fault.place
+          reads = all_taken old mid new held now p bytes ys bytes s fault.place
               (faults fault.cause) (TakesFault-begins 0 s.items fault bytes zs all e) same;
-          table = λ xs end stop b. led_to_end (full old) (full mid) (full new) held now s.items xs
-              still s.core s.parts
+          table = λ xs end stop b. led_to_end old mid new held now s.items xs
+              same s.core s.parts
               (whole_image bytes s.items xs end fault.place stop (faults fault.cause)
               (TakesFault-begins 0 s.items fault bytes zs all e) b);
         })
@@ -319,21 +307,13 @@ least_four (block bytes) = omega arith
 least_four bad = omega arith
 least_four mark = omega arith
 
--- an answer that is none of these two ends the reading
-pub final_answer : (answer : Answer) → answer ≢ Passed → answer ≢ Deliver → IsFinal answer
-final_answer Passed a b = absurd (a refl)
-final_answer Deliver a b = absurd (b refl)
-final_answer SectionDone a b = tt
-final_answer Complete a b = tt
-final_answer (Useless why) a b = tt
-
 -- the table's word of a part that was refused
-pub refused_there : {C : Type 0} (place full : C → State) (under : Under C) (old mid : C)
+pub refused_there : (old mid : State)
     (held now then : List Portion) (p q : ℕ) (bytes ys zs : List ℕ) (item : TapeItem) (new : State)
-    → q ≤ image_limit → StopsInside (full mid) new item now then
-    → SoFar place full under old mid held now p bytes ys → image.TakesItem p item q ys zs
-    → CutsTable (full old) new held then bytes
-refused_there place full under old mid held now then p q bytes ys zs item new le t s k =
+    → q ≤ image_limit → StopsInside mid new item now then
+    → SoFar old mid held now p bytes ys → image.TakesItem p item q ys zs
+    → CutsTable old new held then bytes
+refused_there old mid held now then p q bytes ys zs item new le t s k =
     λ xs end stop b.
     let (more, e) = front_of_image bytes zs (s.items ++ item ∷ []) xs q end stop
     (walks_more p q bytes ys zs s.items item s.walks k) le b in
@@ -343,6 +323,6 @@ refused_there place full under old mid held now then p q bytes ys zs item new le
       behind = more;
       all = again xs s.items more item e;
       stops = subst (λ (c : State). StopsInside c new item
-          (held ++ delivered_parts (full old) s.items) then) s.core
-          (subst (λ (l : List Portion). StopsInside (full mid) new item l then) s.parts t);
+          (held ++ delivered_parts old s.items) then) s.core
+          (subst (λ (l : List Portion). StopsInside mid new item l then) s.parts t);
     }

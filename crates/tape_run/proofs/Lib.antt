@@ -5,6 +5,7 @@ pub mod FinalAnswers
 pub mod ByTable
 pub mod Images
 pub mod Mounts
+pub mod Taken
 pub mod Reels
 pub mod Stopped
 pub mod Lead
@@ -14,6 +15,7 @@ pub mod Answered
 pub mod Begin
 pub mod Back
 pub mod Crashes
+pub mod Made
 pub mod Lives
 pub mod SectionsMet
 pub mod ShownSections

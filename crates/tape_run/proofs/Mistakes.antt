@@ -20,7 +20,6 @@ use Rattle.tape_run.specs.Seen.{seen, IsKept, IsNote, KeepsNotes}
 use Rattle.tape_run.proofs.Headline.{took_so_many}
 use Rattle.tape_run.proofs.answer.ReelAnswer.is_device.Reads as is_device
 use Rattle.tape_run.proofs.fault.RunFault.number.Reads as number
-use Rattle.tape_run.proofs.follower.Follower.restart.Reads as follower_restart
 use Rattle.tape_run.proofs.session.Session.new.Reads as new
 use Rattle.tape_run.proofs.session.Session.resume.Reads as resume
 use Rattle.tape_run.proofs.session.Session.reel.Reads as reel
@@ -170,11 +169,16 @@ no_such_point_cuts S LS g d κs a s part l was none one gone =
     let n : 1 ≡ 0 = ap length (one held [] same gone) in
     absurd (omega (arith, n))
 
--- restart_keeps_complete: a complete reader that goes back to a checkpoint stays complete.
-restart_keeps_complete : (κs : _) (a : _) (s : _)
-    → follower_restart.Learnt-named κs a (Ok tt) s
-    → a.1.0.now.position ≡ Awaits 1 0 0 → s.0.now.core.position ≡ Finished → ⊥
-restart_keeps_complete κs a s l start end =
-    let e : s.0.now.core.position ≡ a.1.0.now.position = ap (λ c. c.position) l.ok in
+-- restart_keeps_complete: a complete session that goes back to a note stays complete.
+restart_keeps_complete : (S : _) (LS : _) (g : _) (d : _) (κs : _) (a : _) (s : _)
+    (held : List Portion) (point : Point) → restart.Learnt-named S LS g d κs a (Ok tt) s
+    → g.holds a.0.now.sink held → IsKept (seen g.refusals a.0.now held)
+    → slice_get a.0.now.notes a.1.0 ≡ Some point → point.position ≡ Awaits 1 0 0
+    → s.0.now.core.position ≡ Finished → ⊥
+restart_keeps_complete S LS g d κs a s held point l was kept noted start end =
+    let w = (l.ok held was kept).2 in
+    let p : w.point ≡ point = cc (noted, w.noted) in
+    let e : s.0.now.core.position ≡ point.position
+    = ap (λ c. c.position) w.place ∙ ap (λ c. c.position) p in
     let f : Finished ≡ Awaits 1 0 0 = sym end ∙ e ∙ start in
     absurd (cc f)

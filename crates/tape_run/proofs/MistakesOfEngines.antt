@@ -1,7 +1,7 @@
 -- Answers that the contracts of the engines exclude: each is what a wrong body would give.
 use Rattle.std.proofs.Common.{◌≡◌, ℕ, List, [], ◌∷◌, ◌++◌, length, true, false, refl}
 use Rattle.std.proofs.Common.{ap, ◌∙◌, sym, subst, arith, codes}
-use Rattle.std.specs.Prelude.{Bool, Option, Some, None, Ok, Err, slice_index, map, option_map}
+use Rattle.std.specs.Prelude.{Bool, Option, Some, None, Ok, slice_index, map, option_map}
 use Rattle.std.specs.Prelude.{◌<◌, ◌≤◌}
 use Rattle.std.specs.Fmt.{digits}
 use Rattle.std.specs.Io.KnownBytes.{Appends}
@@ -17,7 +17,7 @@ use Rattle.tape_run.specs.Checked.{Reel, IsReel, AreRead, Reports, IsReport, sum
 use Rattle.tape_run.specs.ReelLine.{reel_lines, last_line}
 use Rattle.tape_run.specs.Reeling.{Turn, answer_of, AreTurns, Follows, IsKeptFor, goes_back}
 use Rattle.tape_run.specs.Reeling.{Mounting, IsTurn}
-use Rattle.tape_run.specs.Shelves.{AreMounted}
+use Rattle.tape_run.specs.Reeling.{AreMounted}
 use Rattle.tape_run.proofs.check.check_to.Reads as check_to
 use Rattle.tape_run.proofs.extract.extract_to.Reads as extract_to
 

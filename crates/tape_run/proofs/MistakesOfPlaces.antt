@@ -6,7 +6,7 @@ use Rattle.std.specs.Prelude.{Some, Ok, slice_index}
 use Rattle.std.specs.Fmt.{digits}
 use Rattle.std.specs.Io.KnownBytes.{Appends}
 use Rattle.tape_image.specs.declared.item.Ending.TheVariants.{Physical}
-use Rattle.tape_image.specs.Tape.{TapeItem, mark}
+use Rattle.tape_image.specs.Tape.{mark}
 use Rattle.tape_image.specs.Begins.{Begins, ends}
 use Rattle.tape_image.specs.Reader.{IfKnown}
 use Rattle.tape_image.specs.Step.{TakesEnd}

@@ -160,7 +160,7 @@ begins core new is same set parts xs (restarts n) l m a = absurd m
 
 -- ---- an item is taken
 
-record Both (set : FileSet) (p : Position) (xs : List TapeItem) (i : ℕ) (h : Happening)
+pub record Both (set : FileSet) (p : Position) (xs : List TapeItem) (i : ℕ) (h : Happening)
     (arrived : Option TapeItem) (core : State) (out : Outcome) : Type 0 where
   pub took : Took set p h arrived out.0 (rest_of core) (rest_of out.1)
   pub under : is_under out.1 set p xs (i + 1) h
@@ -257,7 +257,7 @@ foreign_item core out arrived is set p xs i a u lt e =
       under = (still.same_position ∙ u.0, still.foreign);
     }
 
-both : (core : State) (out : Outcome) (arrived : Option TapeItem) → out ≡ step_of core arrived
+pub both : (core : State) (out : Outcome) (arrived : Option TapeItem) → out ≡ step_of core arrived
     → (set : FileSet) (parts : List Portion) (p : Position) (xs : List TapeItem)
     (i : ℕ) (h : Happening)
     → IsLawful set → IsMount set xs h
@@ -272,24 +272,6 @@ both core out arrived is set parts p xs i foreign_reel l m a u lt e =
     foreign_item core out arrived is set p xs i (rested set core a.at) u lt e
 both core out arrived is set parts p xs i saves l m a u lt e = absurd m
 both core out arrived is set parts p xs i (restarts n) l m a u lt e = absurd m
-
-pub took : (core : State) (out : Outcome) (arrived : Option TapeItem) → out ≡ step_of core arrived
-    → (set : FileSet) (parts : List Portion) (p : Position) (xs : List TapeItem)
-    (i : ℕ) (h : Happening)
-    → IsLawful set → IsMount set xs h
-    → IsPlaced set (rest_of core) parts → is_under core set p xs i h → i < length xs
-    → arrived ≡ slice_get xs i → Took set p h arrived out.0 (rest_of core) (rest_of out.1)
-took core out arrived is set parts p xs i h l m a u lt e =
-    (both core out arrived is set parts p xs i h l m a u lt e).took
-
-pub under : (core : State) (out : Outcome) (arrived : Option TapeItem) → out ≡ step_of core arrived
-    → (set : FileSet) (parts : List Portion) (p : Position) (xs : List TapeItem)
-    (i : ℕ) (h : Happening)
-    → IsLawful set → IsMount set xs h
-    → IsPlaced set (rest_of core) parts → is_under core set p xs i h → i < length xs
-    → arrived ≡ slice_get xs i → is_under out.1 set p xs (i + 1) h
-under core out arrived is set parts p xs i h l m a u lt e =
-    (both core out arrived is set parts p xs i h l m a u lt e).under
 
 -- the position is the one that the mount so far makes
 pub reached : (core : State) (set : FileSet) (p : Position) (xs : List TapeItem)

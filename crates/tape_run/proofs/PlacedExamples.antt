@@ -1,6 +1,6 @@
 -- Each number of a listing with places is the one that the image's bytes have.
-use Rattle.std.proofs.Common.{◌≡◌, ℕ, ◌+◌, ◌-◌, ◌≤◌, ◌%◌, List, [], ◌∷◌, ◌++◌, length}
-use Rattle.std.proofs.Common.{map, Some, Option}
+use Rattle.std.proofs.Common.{◌≡◌, ℕ, ◌+◌, List, [], ◌∷◌, ◌++◌, length}
+use Rattle.std.proofs.Common.{map, Option}
 use Rattle.std.proofs.Common.{refl, sym, ap, subst, ◌∙◌, arith, append-nil, append_assoc}
 use Rattle.std.proofs.Common.{length-append}
 use Rattle.std.specs.Prelude.{Bool, true, false, if◌then◌else◌, nat_le}
@@ -12,12 +12,12 @@ use Rattle.tape_image.specs.Spelling.{Spelling, IsSpelling, IsFramed, item_of, a
 use Rattle.tape_image.specs.Spelling.{a_block}
 use Rattle.tape_image.specs.Begins.{Walks}
 use Rattle.tape_image.specs.declared.fault.ImageFault.{ImageFault}
-use Rattle.tape_image.specs.Step.{TakesItem, TakesEnd, TakesFault}
+use Rattle.tape_image.specs.Step.{TakesItem}
 use Rattle.tape_image.proofs.Spellings.{one_spelling, same_back}
 use Rattle.tape_image.proofs.Walks.{Walks-nil, Walks-trans, Walks-item, TakesEnd-behind}
 use Rattle.tape_image.proofs.Walks.{TakesFault-behind}
 use Rattle.tape_run.specs.Placed.{PlacedItem, Places, placed_line, placed_lines, placed_end}
-use Rattle.tape_run.specs.Placed.{PlacesToEnd, PlacesToFault, at_item, at_end, at_fault}
+use Rattle.tape_run.specs.Placed.{at_item, at_end, at_fault}
 use Rattle.tape_run.specs.PlacedExamples.{PlacesAreWorked, PlacedAreFirst, OnePlaces}
 use Rattle.tape_run.specs.PlacedExamples.{PlaceIsOfWord, items_of}
 use Rattle.tape_run.specs.PlacedExamples.{PlacesEndSays, PlacesFaultSays, PlacesStopSays}

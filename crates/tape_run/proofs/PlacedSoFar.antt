@@ -1,6 +1,6 @@
 -- What `list --places` has done behind some items, and what it leaves from there.
 use Rattle.std.proofs.Common.{◌≡◌, ◌≢◌, ℕ, ◌+◌, ◌-◌, ◌≤◌, List, [], ◌∷◌, ◌++◌, length, Option}
-use Rattle.std.proofs.Common.{Some, None, Result, Err, IfErr, refl, sym, ap, subst, ◌∙◌, arith}
+use Rattle.std.proofs.Common.{Result, Err, IfErr, refl, sym, ap, subst, ◌∙◌, arith}
 use Rattle.std.proofs.Common.{append-nil, append_assoc, length-append}
 use Rattle.std.specs.Prelude.{unwrap_or}
 use Rattle.std.specs.Io.KnownBytes.{Appends, Keeps}
@@ -18,7 +18,6 @@ use Rattle.tape_image.proofs.Walks.{known_then, known_same, IfKnown-map}
 use Rattle.tape_run.specs.declared.fault.ListFault.{ListFault}
 use Rattle.tape_run.specs.declared.fault.ListFault.TheVariants.{WriteFailed}
 use Rattle.tape_run.specs.Output.{AppendsFront}
-use Rattle.tape_run.specs.Listed.{AppendsInto}
 use Rattle.tape_run.specs.ListLine.{line_of}
 use Rattle.tape_run.specs.Placed.{PlacedItem, Places, item_extent, item_size, told_at, placed_line}
 use Rattle.tape_run.specs.Placed.{placed_lines, placed_end}

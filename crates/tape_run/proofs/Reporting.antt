@@ -17,8 +17,8 @@ use Rattle.tape_run.specs.CheckLine.{image_line, image_lines}
 use Rattle.tape_run.specs.Checked.{Reel, IsReel, IsRead, AreRead, summary, summary_of, Reports}
 use Rattle.tape_run.specs.Checked.{summary_behind, ReportsInPart, Tells, TellsAll, StopsAt}
 use Rattle.tape_run.specs.Output.{AppendsFront}
-use Rattle.tape_run.specs.Reeling.{Mounting}
-use Rattle.tape_run.specs.Shelves.{AreMounted}
+use Rattle.tape_run.specs.Reeling.{Mounting, AreMounted}
+use Rattle.tape_run.proofs.Turns.{one_mounted}
 
 -- all of one text was written, and a front of the next
 pub front_then : (old mid new : Option (List ℕ)) (a b more all : List ℕ) → Appends old mid a
@@ -59,20 +59,6 @@ as_many [] [] c d read = refl
 as_many [] (l ∷ lines) c d read = absurd read
 as_many (r ∷ reels) [] c d read = absurd read
 as_many (r ∷ reels) (l ∷ lines) c d read = ap suc (as_many reels lines read.0 d read.2)
-
--- one more image was mounted, the first of those that were not
-pub one_mounted : {L R T : Type 0} (gives : Mounting L R) (is : Option R → T → Type 0) (shelf : L)
-    (number : ℕ) (ts : List T) (mid : L) (t : T) (image : Option R) (next : L)
-    → AreMounted gives is shelf number ts mid → gives mid (number + length ts) image next
-    → is image t → AreMounted gives is shelf number (ts ++ t ∷ []) next
-one_mounted gives is shelf number [] mid t image next same g one =
-    let at : number + 0 ≡ number = omega arith in
-    let given = subst (λ n. gives mid n image next) at g in
-    (image, next, subst (λ z. gives z number image next) same given, one, refl)
-one_mounted gives is shelf number (u ∷ ts) mid t image next (i, z, gave, was, are) g one =
-    let at : number + length (u ∷ ts) ≡ number + 1 + length ts = omega arith in
-    let given = subst (λ n. gives mid n image next) at g in
-    (i, z, gave, was, one_mounted gives is z (number + 1) ts mid t image next are given one)
 
 -- the first images of a shelf, up to this number, were mounted and read, and their lines written
 pub record ReadSoFar {L R : Type 0} (gives : Mounting L R) (remaining : R → Option (List ℕ))

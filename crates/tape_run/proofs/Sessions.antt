@@ -1,10 +1,9 @@
 -- The calls of a session, as steps of a run.
-use Rattle.std.proofs.Common.{◌≡◌, ℕ, zero, suc, ◌+◌, ◌<◌, ◌≤◌, Bool, true, false, List, [], ◌∷◌}
-use Rattle.std.proofs.Common.{◌++◌, length, map, take, drop, get_or, Option, Some, None, IfSome}
-use Rattle.std.proofs.Common.{Result, Ok, Err, refl, sym, ap, subst, ◌∙◌, inl, inr, arith}
+use Rattle.std.proofs.Common.{◌≡◌, ℕ, zero, suc, ◌+◌, Bool, true, false, List, [], ◌∷◌}
+use Rattle.std.proofs.Common.{◌++◌, take, Option, Some, None, IfSome}
+use Rattle.std.proofs.Common.{refl, sym, ap, subst, ◌∙◌, arith}
 use Rattle.std.specs.Prelude.{is_some, not}
 use Rattle.std.proofs.Math.ListN.{set}
-use Rattle.std.proofs.lemmas.List.{drop-set-lt}
 use Rattle.std.specs.List.{slice_get}
 use Rattle.tape_blocks.specs.Block.{Portion}
 use Rattle.tape_set.specs.Layout.{FileSet}
@@ -13,26 +12,22 @@ use Rattle.tape_image.specs.Tape.{TapeItem}
 use Rattle.tape_set.specs.declared.position.Position.{Position}
 use Rattle.tape_set.specs.declared.position.Position.TheVariants.{Awaits, Finished}
 use Rattle.tape_core.specs.Point.{Point}
-use Rattle.tape_set.specs.Position.{at_part, want_at}
+use Rattle.tape_set.specs.Position.{want_at}
 use Rattle.tape_core.specs.State.{State}
 use Rattle.tape_core.specs.Place.{IsPlaced, rest_of}
 use Rattle.tape_core.specs.Table.{saved, mount_of}
-use Rattle.tape_run.specs.Mount.{Happening, reads, foreign_reel, saves, restarts, IsMount, cut}
+use Rattle.tape_run.specs.Mount.{Happening, reads, foreign_reel, saves, restarts, IsMount}
 use Rattle.tape_run.specs.Mount.{after_mount}
 use Rattle.tape_core.specs.Stands.{weight_of}
 use Rattle.tape_core.specs.Weight.{IsFront, Rose}
 use Rattle.tape_run.specs.ByTable.{IsLed, IsCutAt}
 use Rattle.tape_run.proofs.ByTable.{led_nowhere}
-use Rattle.tape_run.specs.Taking.{Under, ReadsImage, RefusesImage, CutsTable}
+use Rattle.tape_run.specs.Under.{is_under}
+use Rattle.tape_run.specs.Taking.{ReadsImage, RefusesImage, CutsTable}
 use Rattle.tape_run.specs.Given.{counted}
 use Rattle.tape_run.specs.Seen.{Seen, IsNote, KeepsNotes, IsKept}
-use Rattle.tape_run.specs.declared.script.Step.{Step}
-use Rattle.tape_run.specs.declared.script.Step.TheVariants.{Reel, Save, Restart}
-use Rattle.tape_run.specs.Headline.{HasRestart}
-use Rattle.tape_run.specs.declared.fault.RunFault.{RunFault}
-use Rattle.tape_run.specs.Steps.{Reeled, CutShort, Saved, WentBack, ReelFails, SaveFails}
-use Rattle.tape_run.specs.Steps.{RestartFails}
-use Rattle.tape_run.specs.Runs.{Runs}
+use Rattle.tape_run.specs.Steps.{Reeled, CutShort, Saved, WentBack}
+use Rattle.tape_run.specs.Steps.{ReadBy, StoppedBy}
 use Rattle.tape_run.proofs.Notes.{front_self, front_trans, same_front}
 
 pub some_map : (o : Option (List ℕ)) (P Q : List ℕ → Type 0) → ((xs : List ℕ) → P xs → Q xs)
@@ -112,15 +107,13 @@ kept_save old new v k =
 
 -- ---- a reel
 
-pub reeled : {C : Type 0} (place full : C → State) (under : Under C) (failed : Bool)
-    (mounted new : C)
-    (held now : List Portion) (bytes : List ℕ) (p : State) (notes : List Point) (f1 f2 r1 r2 : ℕ)
+pub reeled : (failed : Bool) (mounted new : State) (held now : List Portion) (bytes : List ℕ) (p : State) (notes : List Point) (f1 f2 r1 r2 : ℕ)
     → ((set : FileSet) (parts : List Portion) (xs : List TapeItem) (h : Happening) → IsLawful set
-    → IsMount set xs h → IsPlaced set p parts → under mounted set p.position xs 0 h)
-    → place mounted ≡ p → (place new).set_id ≡ p.set_id → (place new).file ≡ p.file → r2 ≡ r1
+    → IsMount set xs h → IsPlaced set p parts → is_under mounted set p.position xs 0 h)
+    → rest_of mounted ≡ p → (rest_of new).set_id ≡ p.set_id → (rest_of new).file ≡ p.file → r2 ≡ r1
     → IsFront held now → f2 ≡ counted failed f1
-    → full mounted ≡ mount_of p → rest_of (full new) ≡ place new
-    → ReadsImage place full under failed mounted new held now bytes
+    → mounted ≡ mount_of p
+    → ReadsImage failed mounted new held now bytes
     → Reeled bytes failed (record {
       place = p;
       parts = held;
@@ -128,10 +121,10 @@ pub reeled : {C : Type 0} (place full : C → State) (under : Under C) (failed :
       failures = f1;
       refusals = r1;
     })
-    (record { place = place new; parts = now; notes = notes; failures = f2; refusals = r2 })
-reeled place full under failed mounted new held now bytes p notes f1 f2 r1 r2 begins same set_id
+    (record { place = rest_of new; parts = now; notes = notes; failures = f2; refusals = r2 })
+reeled failed mounted new held now bytes p notes f1 f2 r1 r2 begins same set_id
     file
-    calm grows count mount rest r = record {
+    calm grows count mount r = record {
       given = r.given;
       is_given = r.is_given;
       count = count;
@@ -141,33 +134,28 @@ reeled place full under failed mounted new held now bytes p notes f1 f2 r1 r2 be
       calm = calm;
       grows = grows;
       reads = λ set h l (xs, end, stop, b, m) at.
-          let there =
-          r.reads set p.position xs end stop h l b m (rw same at) (begins set held xs h l m at) in
-          record {
-            at = there.at;
-            position = there.position ∙ ap (λ (f : ℕ). after_mount set f p.position h) file;
-          };
-      table = λ xs end stop b. subst (λ (z : State). IsLed xs z (place new) held now) mount
-          (subst (λ (z : State). IsLed xs (full mounted) z held now) rest (r.table xs end stop b));
+          subst (λ (f : ℕ). ReadBy set f p.position h (rest_of new) now) file
+          (r.reads set p.position xs end stop h l b m (rw same at) (begins set held xs h l m at));
+      table = λ xs end stop b. subst (λ (z : State). IsLed xs z (rest_of new) held now) mount
+          (r.table xs end stop b);
     }
 
-pub cut_short : {C : Type 0} (place : C → State) (under : Under C) (mounted new : C)
-    (held now : List Portion) (bytes : List ℕ) (p : State) (notes : List Point) (f1 r1 r2 : ℕ)
+pub cut_short : (mounted new : State) (held now : List Portion) (bytes : List ℕ) (p : State) (notes : List Point) (f1 r1 r2 : ℕ)
     → ((set : FileSet) (parts : List Portion) (xs : List TapeItem) (h : Happening) → IsLawful set
-    → IsMount set xs h → IsPlaced set p parts → under mounted set p.position xs 0 h)
-    → place mounted ≡ p → (place new).set_id ≡ p.set_id → (place new).file ≡ p.file → Rose r1 r2
+    → IsMount set xs h → IsPlaced set p parts → is_under mounted set p.position xs 0 h)
+    → rest_of mounted ≡ p → (rest_of new).set_id ≡ p.set_id → (rest_of new).file ≡ p.file → Rose r1 r2
     → IsFront held now
-    → (m : State) → m ≡ mount_of p → CutsTable m (place new) held now bytes
-    → RefusesImage place under mounted new held now bytes
+    → mounted ≡ mount_of p → CutsTable mounted (rest_of new) held now bytes
+    → RefusesImage mounted new held now bytes
     → CutShort bytes (record {
       place = p;
       parts = held;
       notes = notes;
       failures = f1;
       refusals = r1;
-    }) (record { place = place new; parts = now; notes = notes; failures = f1; refusals = r2 })
-cut_short place under mounted new held now bytes p notes f1 r1 r2 begins same set_id file rose grows
-    m mount cuts r = record {
+    }) (record { place = rest_of new; parts = now; notes = notes; failures = f1; refusals = r2 })
+cut_short mounted new held now bytes p notes f1 r1 r2 begins same set_id file rose grows
+    mount cuts r = record {
       count = refl;
       notes = refl;
       same_set = set_id;
@@ -175,18 +163,9 @@ cut_short place under mounted new held now bytes p notes f1 r1 r2 begins same se
       rose = rose;
       grows = grows;
       stops = λ set xs end stop h l b m at.
-          let there =
-          r set p.position xs end stop h l b m (rw same at) (begins set held xs h l m at) in
-          record {
-            at = there.at;
-            n = there.n;
-            content = there.content;
-            refused = there.refused;
-            part = there.part;
-            position = there.position ∙ ap
-                (λ (f : ℕ). at_part there.part (after_mount set f p.position (cut there.n h))) file;
-          };
-      table = λ xs end stop b. subst (λ (z : State). IsCutAt xs z (place new) held now) mount
+          subst (λ (f : ℕ). StoppedBy set f p.position xs h (rest_of new) now) file
+          (r set p.position xs end stop h l b m (rw same at) (begins set held xs h l m at));
+      table = λ xs end stop b. subst (λ (z : State). IsCutAt xs z (rest_of new) held now) mount
           (cuts xs end stop b);
     }
 
@@ -241,50 +220,6 @@ pub want_none : (file : ℕ) (p : Position) (b : Bool) → is_some (want_at file
 want_none file Finished b e f = refl
 want_none file (Awaits sect block part) b e f = absurd (let g : not b ≡ false = ap not f in cc)
 
-pub all_made : (s : Seen) (steps : List Step) (reels : List (Option (List ℕ))) → steps ≡ []
-    → Runs s steps reels (Ok tt) s
-all_made s [] reels e = (refl, refl)
-all_made s (x ∷ steps) reels e = absurd (cc)
-
-pub step_here : (xs : List Step) (i : ℕ) (d x : Step) → i < length xs → get_or xs i d ≡ x
-    → drop i xs ≡ x ∷ drop (i + 1) xs
-step_here [] i d x lt e = absurd (omega (arith, lt))
-step_here (y ∷ xs) zero d x lt e = ap (λ (z : Step). z ∷ xs) e
-step_here (y ∷ xs) (suc i) d x lt e =
-    let more : suc i + 1 ≡ suc (i + 1) = omega arith in
-    rw more (step_here xs i d x (omega (arith, lt)) e)
-
--- a step that goes back is one of the steps
-pub restart_here : (xs : List Step) (i n : ℕ) (rest : List Step) → drop i xs ≡ Restart n ∷ rest
-    → HasRestart xs
-restart_here [] zero n rest e = absurd (cc)
-restart_here [] (suc i) n rest e = absurd (cc)
-restart_here (Restart m ∷ xs) i n rest e = tt
-restart_here (Reel ∷ xs) zero n rest e = absurd (cc)
-restart_here (Save ∷ xs) zero n rest e = absurd (cc)
-restart_here (Reel ∷ xs) (suc i) n rest e = restart_here xs i n rest e
-restart_here (Save ∷ xs) (suc i) n rest e = restart_here xs i n rest e
-
--- ---- one step before others
-
-pub reel_made : (old mid new : Seen) (steps : List Step) (o : Option (List ℕ))
-    (reels : List (Option (List ℕ))) (failed : Bool) (result : Result (Unit {0}) RunFault)
-    → IfSome o (λ bytes. Reeled bytes failed old mid) → Runs mid steps reels result new
-    → Runs old (Reel ∷ steps) (o ∷ reels) result new
-reel_made old mid new steps None reels failed result r runs = tt
-reel_made old mid new steps (Some bytes) reels failed result r runs = inl ((failed, mid, r, runs))
-
-pub save_made : (old mid new : Seen) (steps : List Step) (reels : List (Option (List ℕ)))
-    (result : Result (Unit {0}) RunFault)
-    → Saved old mid → Runs mid steps reels result new → Runs old (Save ∷ steps) reels result new
-save_made old mid new steps reels result v runs = inl ((mid, v, runs))
-
-pub restart_made : (old mid new : Seen) (n : ℕ) (steps : List Step) (reels : List (Option (List ℕ)))
-    (result : Result (Unit {0}) RunFault)
-    → WentBack n old mid → Runs mid steps reels result new
-    → Runs old (Restart n ∷ steps) reels result new
-restart_made old mid new n steps reels result w runs = inl ((mid, w, runs))
-
 pub kept_restart : (old new : Seen) (n : ℕ) → WentBack n old new → IsKept old → IsKept new
 kept_restart old new n w k =
     let at = kept_at old.place [] old.notes n w.point old.parts w.noted k in
@@ -293,77 +228,3 @@ kept_restart old new n w k =
     kept_place old.place new.place [] new.notes new.parts (ap (λ (p : State). p.set_id) w.place
     ∙ at.note.of_set) (ap (λ (p : State). p.file) w.place ∙ at.note.of_file)
     (rw (w.notes, same) at.left)
-
-pub drop_past : (xs : List Step) (i : ℕ) → length xs ≤ i → drop i xs ≡ []
-drop_past [] zero h = refl
-drop_past [] (suc i) h = refl
-drop_past (x ∷ xs) zero h = absurd (omega (arith, h))
-drop_past (x ∷ xs) (suc i) h = drop_past xs i (omega (arith, h))
-
--- ---- the readers
-
-tail_of : {R : Type 0} (rem : R → Option (List ℕ)) (n : ℕ) (xs : List R)
-    → map rem (drop (n + 1) xs) ≡ drop 1 (map rem (drop n xs))
-tail_of rem zero [] = refl
-tail_of rem zero (x ∷ xs) = refl
-tail_of rem (suc n) [] = let more : suc n + 1 ≡ suc (n + 1) = omega arith in rw more refl
-tail_of rem (suc n) (x ∷ xs) =
-    let more : suc n + 1 ≡ suc (n + 1) = omega arith in
-    rw more (tail_of rem n xs)
-
-head_of : {R : Type 0} (rem : R → Option (List ℕ)) (n : ℕ) (xs : List R) (d x : R) → n < length xs
-    → get_or xs n d ≡ x → map rem (drop n xs) ≡ rem x ∷ map rem (drop (n + 1) xs)
-head_of rem n [] d x lt e = absurd (omega (arith, lt))
-head_of rem zero (y ∷ xs) d x lt e = ap (λ z. rem z ∷ map rem xs) e
-head_of rem (suc n) (y ∷ xs) d x lt e =
-    let more : suc n + 1 ≡ suc (n + 1) = omega arith in
-    rw more (head_of rem n xs d x (omega (arith, lt)) e)
-
--- the next reader, where those to come are as at the beginning
-pub reader_here : {R : Type 0} (rem : R → Option (List ℕ)) (now all : List R) (n : ℕ) (d x : R)
-    → n < length now → get_or now n d ≡ x → map rem (drop n now) ≡ map rem (drop n all)
-    → map rem (drop n all) ≡ rem x ∷ map rem (drop (n + 1) all)
-reader_here rem now all n d x lt e same =
-    let here = sym same ∙ head_of rem n now d x lt e in
-    let left : map rem (drop (n + 1) all) ≡ map rem (drop (n + 1) now) =
-    tail_of rem n all ∙ (ap (drop 1) (sym same) ∙ sym (tail_of rem n now)) in
-    here ∙ ap (λ l. rem x ∷ l) (sym left)
-
--- those behind it are so still
-pub readers_left : {R : Type 0} (rem : R → Option (List ℕ)) (now all : List R) (n : ℕ) (y : R)
-    → map rem (drop n now) ≡ map rem (drop n all)
-    → map rem (drop (n + 1) (set now n y)) ≡ map rem (drop (n + 1) all)
-readers_left rem now all n y same =
-    ap (map rem) (drop-set-lt (n + 1) now n y (omega arith))
-    ∙ (tail_of rem n now ∙ (ap (drop 1) same ∙ sym (tail_of rem n all)))
-
--- ---- a fault
-
-pub reel_failed : (old new : Seen) (steps : List Step) (o : Option (List ℕ))
-    (reels : List (Option (List ℕ))) (fault : RunFault)
-    → IfSome o (λ bytes. ReelFails bytes fault old new)
-    → Runs old (Reel ∷ steps) (o ∷ reels) (Err fault) new
-reel_failed old new steps None reels fault h = tt
-reel_failed old new steps (Some bytes) reels fault h = inr ((fault, refl, h))
-
-pub save_failed : (old new : Seen) (steps : List Step) (reels : List (Option (List ℕ)))
-    (fault : RunFault)
-    → SaveFails fault old new → Runs old (Save ∷ steps) reels (Err fault) new
-save_failed old new steps reels fault h = inr ((fault, refl, h))
-
-pub restart_failed : (old new : Seen) (n : ℕ) (steps : List Step) (reels : List (Option (List ℕ)))
-    (fault : RunFault)
-    → RestartFails n fault old new → Runs old (Restart n ∷ steps) reels (Err fault) new
-restart_failed old new n steps reels fault h = inr ((fault, refl, h))
-
-readers_past : {R : Type 0} (rem : R → Option (List ℕ)) (xs : List R) (i : ℕ) → length xs ≤ i
-    → map rem (drop i xs) ≡ []
-readers_past rem [] zero h = refl
-readers_past rem [] (suc i) h = refl
-readers_past rem (x ∷ xs) zero h = absurd (omega (arith, h))
-readers_past rem (x ∷ xs) (suc i) h = readers_past rem xs i (omega (arith, h))
-
--- no reader is left
-pub none_left : {R : Type 0} (rem : R → Option (List ℕ)) (now all : List R) (n : ℕ) → length now ≤ n
-    → map rem (drop n now) ≡ map rem (drop n all) → map rem (drop n all) ≡ []
-none_left rem now all n le same = sym same ∙ readers_past rem now n le

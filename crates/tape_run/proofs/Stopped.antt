@@ -35,7 +35,7 @@ pub if_err : {B : Type 0} (r : Result (Unit {0}) B) (P Q : B → Type 0) → ((e
 if_err (Ok x) P Q f h = tt
 if_err (Err e) P Q f h = f e h
 
-pub told_err : {B : Type 0} (r : Result (Unit {0}) B) (e : B) (P : B → Type 0)
+pub told_err : {A B : Type 0} (r : Result A B) (e : B) (P : B → Type 0)
     → IsErrAnd r (λ x. x ≡ e)
     → P e → IfErr r P
 told_err (Ok x) e P h p = tt

@@ -19,9 +19,9 @@ use Rattle.tape_run.specs.Steps.{Reeled}
 use Rattle.tape_run.specs.Output.{AppendsFront}
 use Rattle.tape_run.specs.ReelLine.{reel_line, reel_lines}
 use Rattle.tape_run.specs.Reeling.{is_doubtful, IsNoted, IsKeptFor}
-use Rattle.tape_run.specs.Reeling.{Turn, Opened, answer_of, AreTurns, Follows}
-use Rattle.tape_run.specs.Reeling.{AreMounts, reached, Arrives, Gathers, IsTurn, IsReported}
-use Rattle.tape_run.specs.Reeling.{IsThere, LedOver, AreSure, Mounting}
+use Rattle.tape_run.specs.Reeling.{Turn, Opened, answer_of, Follows}
+use Rattle.tape_run.specs.Reeling.{AreMounts, reached, Arrives, Gathers, IsReported}
+use Rattle.tape_run.specs.Reeling.{IsThere, LedOver, AreSure, Mounting, AreMounted}
 use Rattle.tape_image.specs.Tape.{TapeItem}
 use Rattle.tape_image.specs.Begins.{Stop, Begins}
 use Rattle.tape_core.specs.Table.{mount_of}
@@ -80,19 +80,18 @@ front_behind from old mid new turns more number e first (front, rest, wrote, all
 -- ---- images
 
 -- one more image was mounted, the first of those that were not
-pub one_turn : {L R : Type 0} (gives : Mounting L R) (remaining : R → Option (List ℕ)) (shelf : L)
-    (number : ℕ) (turns : List Turn) (mid : L) (t : Turn) (image : Option R) (next : L)
-    → AreTurns gives remaining shelf number turns mid
-    → gives mid (number + length turns) image next → IsTurn remaining image t
-    → AreTurns gives remaining shelf number (turns ++ t ∷ []) next
-one_turn gives remaining shelf number [] mid t image next same g turn =
+pub one_mounted : {L R T : Type 0} (gives : Mounting L R) (is : Option R → T → Type 0) (shelf : L)
+    (number : ℕ) (ts : List T) (mid : L) (t : T) (image : Option R) (next : L)
+    → AreMounted gives is shelf number ts mid → gives mid (number + length ts) image next
+    → is image t → AreMounted gives is shelf number (ts ++ t ∷ []) next
+one_mounted gives is shelf number [] mid t image next same g one =
     let at : number + 0 ≡ number = omega arith in
     let given = subst (λ n. gives mid n image next) at g in
-    (image, next, subst (λ z. gives z number image next) same given, turn, refl)
-one_turn gives remaining shelf number (u ∷ turns) mid t image next (i, z, gave, was, are) g turn =
-    let at : number + length (u ∷ turns) ≡ number + 1 + length turns = omega arith in
+    (image, next, subst (λ z. gives z number image next) same given, one, refl)
+one_mounted gives is shelf number (u ∷ ts) mid t image next (i, z, gave, was, are) g one =
+    let at : number + length (u ∷ ts) ≡ number + 1 + length ts = omega arith in
     let given = subst (λ n. gives mid n image next) at g in
-    (i, z, gave, was, one_turn gives remaining z (number + 1) turns mid t image next are given turn)
+    (i, z, gave, was, one_mounted gives is z (number + 1) ts mid t image next are given one)
 
 -- ---- the session
 

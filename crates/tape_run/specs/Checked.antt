@@ -15,7 +15,7 @@ use Rattle.tape_run.specs.declared.fault.EngineFault.TheVariants.{Run, WriteFail
 use Rattle.tape_run.specs.CheckLine.{image_line, image_lines, section_line, lack_line, found_line}
 use Rattle.tape_run.specs.Output.{AppendsFront}
 use Rattle.tape_run.specs.Reeling.{Mounting}
-use Rattle.tape_run.specs.Shelves.{AreMounted}
+use Rattle.tape_run.specs.Reeling.{AreMounted}
 
 -- an image: none where it was not opened, or else the bytes that its reader has, where it tells
 -- them

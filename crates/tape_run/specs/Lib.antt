@@ -16,8 +16,8 @@ pub mod Runs
 pub mod Crash
 pub mod Lives
 -- Of private functions alone.
-pub mod Following
 pub mod Under
+pub mod Made
 pub mod Followed
 pub mod Puts
 pub mod Taking
@@ -44,7 +44,6 @@ pub mod Placed
 pub mod PlacedExamples
 -- Reports of what is on reels: to be believed, in this order.
 pub mod CheckLine
-pub mod Shelves
 pub mod Checked
 pub mod WholeReels
 pub mod OneEntry

@@ -64,13 +64,18 @@ abbrev pub Took : {R : Type 0} → Mounting (List (Option R)) R
 Took readers number image left =
     (image ≡ get_or readers number None) × (left ≡ set readers number None)
 
+-- The images of a shelf from this number on, mounted one after another, are each what stands beside
+-- it in a list.
+abbrev pub AreMounted : {L R T : Type 0} → Mounting L R → (Option R → T → Type 0) → L → ℕ → List T
+    → L → Type 0
+AreMounted gives is shelf number [] last = last ≡ shelf
+AreMounted gives is shelf number (t ∷ ts) last = (image : Option _) × (next : _)
+    × gives shelf number image next × is image t × AreMounted gives is next (number + 1) ts last
+
 -- The images of a shelf from this number on, mounted one after another, are these turns.
 abbrev pub AreTurns : {L R : Type 0} → Mounting L R → (R → Option (List ℕ)) → L → ℕ → List Turn → L
     → Type 0
-AreTurns gives remaining shelf number [] last = last ≡ shelf
-AreTurns gives remaining shelf number (turn ∷ turns) last = (image : Option _) × (next : _)
-    × gives shelf number image next × IsTurn remaining image turn
-    × AreTurns gives remaining next (number + 1) turns last
+AreTurns gives remaining = AreMounted gives (IsTurn remaining)
 
 -- The image with this number may have been mounted; no other was.
 abbrev pub MayMount : {L R : Type 0} → Mounting L R → L → ℕ → L → Type 0

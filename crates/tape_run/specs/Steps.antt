@@ -5,8 +5,11 @@ use Rattle.tape_image.specs.Tape.{TapeItem, block}
 use Rattle.tape_image.specs.Begins.{Stop, Begins}
 use Rattle.tape_set.specs.Layout.{FileSet}
 use Rattle.tape_set.specs.Lawful.{IsLawful}
+use Rattle.tape_blocks.specs.Block.{Portion}
+use Rattle.tape_set.specs.declared.position.Position.{Position}
 use Rattle.tape_set.specs.Position.{at_part}
 use Rattle.tape_core.specs.Point.{Point}
+use Rattle.tape_core.specs.State.{State}
 use Rattle.tape_core.specs.Place.{IsPlaced, place_of}
 use Rattle.tape_core.specs.Table.{saved, mount_of}
 use Rattle.tape_core.specs.Stands.{weight_of}
@@ -21,10 +24,12 @@ use Rattle.tape_run.specs.Seen.{Seen}
 
 -- ---- steps that were made
 
--- the position that a mount makes, and the parts before it
-pub record ReadBy (set : FileSet) (old : Seen) (h : Happening) (new : Seen) : Type 0 where
-  pub at : IsPlaced set new.place new.parts
-  pub position : new.place.position ≡ after_mount set old.place.file old.place.position h
+-- A mount that began at p was read to its end: the reader is at the position that it makes, with
+-- the parts before it.
+pub record ReadBy (set : FileSet) (file : ℕ) (p : Position) (h : Happening) (place : State)
+    (parts : List Portion) : Type 0 where
+  pub at : IsPlaced set place parts
+  pub position : place.position ≡ after_mount set file p h
 
 -- A reel was read: what its reader gave, all of it or a front that ends where the reader failed.
 pub record Reeled (bytes : List ℕ) (failed : Bool) (old new : Seen) : Type 0 where
@@ -38,7 +43,7 @@ pub record Reeled (bytes : List ℕ) (failed : Bool) (old new : Seen) : Type 0 w
   pub grows : IsFront old.parts new.parts
   pub reads : (set : FileSet) (h : Happening) → IsLawful set → IsMountOf set given h
       → IsPlaced set old.place old.parts
-      → ReadBy set old h new
+      → ReadBy set old.place.file old.place.position h new.place new.parts
   pub table : (xs : List TapeItem) (end : ℕ) (stop : Stop) → Begins 0 given xs end stop
       → IsLed xs (mount_of old.place) new.place old.parts new.parts
 
@@ -64,16 +69,16 @@ pub record WentBack (n : ℕ) (old new : Seen) : Type 0 where
 
 -- ---- steps that were not made
 
--- The mount was read up to a block, the n-th item counted from 0, of which this part was refused.
-pub record StoppedBy (set : FileSet) (old : Seen) (xs : List TapeItem) (h : Happening)
-    (new : Seen) : Type 0 where
-  pub at : IsPlaced set new.place new.parts
+-- A mount that began at p was read up to a block, the n-th item counted from 0, of which this part
+-- was refused: the reader is at that part of the block, with the parts before it.
+pub record StoppedBy (set : FileSet) (file : ℕ) (p : Position) (xs : List TapeItem) (h : Happening)
+    (place : State) (parts : List Portion) : Type 0 where
+  pub at : IsPlaced set place parts
   pub n : ℕ
   pub content : List ℕ
   pub refused : slice_get xs n ≡ Some (block content)
   pub part : ℕ
-  pub position : new.place.position ≡ at_part part
-      (after_mount set old.place.file old.place.position (cut n h))
+  pub position : place.position ≡ at_part part (after_mount set file p (cut n h))
 
 -- A reel was read up to a part that the sink refused: the session stands at this part.
 pub record CutShort (bytes : List ℕ) (old new : Seen) : Type 0 where
@@ -86,7 +91,7 @@ pub record CutShort (bytes : List ℕ) (old new : Seen) : Type 0 where
   pub stops : (set : FileSet) (xs : List TapeItem) (end : ℕ) (stop : Stop) (h : Happening)
       → IsLawful set
       → Begins 0 bytes xs end stop → IsMount set xs h → IsPlaced set old.place old.parts
-      → StoppedBy set old xs h new
+      → StoppedBy set old.place.file old.place.position xs h new.place new.parts
   pub table : (xs : List TapeItem) (end : ℕ) (stop : Stop) → Begins 0 bytes xs end stop
       → IsCutAt xs (mount_of old.place) new.place old.parts new.parts
 

@@ -7,7 +7,7 @@ use tape_core::Answer;
 use tape_image::{ImageCause, ImageFault};
 
 /// What a reel answered.
-#[derive(Clone, Copy, Debug, PartialEq, Eq)]
+#[derive(Clone, Copy, PartialEq, Eq)]
 pub struct ReelAnswer {
     /// The last answer of the reading: the one that ended it.
     pub answer: Answer,

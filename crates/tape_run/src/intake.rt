@@ -1,38 +1,37 @@
 //! A core and its sink: items taken, parts put.
 
 ghost use Rattle.std.specs.Prelude.{◌≡◌, is_some, true, false, ◌+◌, ◌++◌, ◌<◌, ◌≤◌, List, Some};
-ghost use Rattle.std.specs.Prelude.{None};
-ghost use Rattle.std.specs.Prelude.{OnOk, OnErr, IfOk, IfSome, length};
+ghost use Rattle.std.specs.Prelude.{None, OnOk, OnErr, IfOk, IfSome, IfNone, length, ◌∷◌, []};
 ghost use Rattle.tape_blocks.specs.Block.{Portion};
 ghost use Rattle.tape_image.specs.Reader.{going, tape_item, IfKnown};
 ghost use Rattle.tape_image.specs.Tape.{block, TapeItem};
 ghost use Rattle.tape_set.specs.Position.{part_of};
+ghost use Rattle.tape_core.specs.Follows.{IsFinal};
 ghost use Rattle.tape_core.specs.Known.{is_finished};
+ghost use Rattle.tape_core.specs.Place.{rest_of};
 ghost use Rattle.tape_core.specs.Arrive.{arrival};
 ghost use Rattle.tape_core.specs.Table.{step_of};
 ghost use Rattle.tape_run.specs.Followed.{IsChecked};
 ghost use Rattle.tape_core.specs.Crash.{AddsNothing};
 ghost use Rattle.tape_core.specs.Weight.{IsFront, Rose};
 ghost use Rattle.tape_run.specs.ByTable.{parts_of_arrival, StopsInside};
-ghost use Rattle.tape_run.specs.Following.{place, core_of, is_mounted};
 ghost use Rattle.tape_run.specs.Given.{is_device};
 ghost use Rattle.tape_run.specs.Puts.{IsSized, refused_point, PutsBlock, PutsFront};
-ghost use Rattle.tape_run.specs.Reels.{ReadsReel, ReadsToBlock, IsDelivery};
+ghost use Rattle.tape_run.specs.Reels.{ReadsReel, ReadsToBlock, IsDelivery, GoesOn, delivered_by};
 ghost use Rattle.tape_run.specs.Taking.{TakesItem, RefusesItem, ReadsImage, RefusesImage};
 ghost use Rattle.tape_run.specs.Taking.{CutsTable};
 
 use crate::answer::ReelAnswer;
-use crate::follower::Follower;
 use crate::parts::put_parts;
 use std::io::Read;
-use tape_core::{Answer, Checkpoint, Event, PartSink, SinkFault};
+use tape_core::{Answer, Checkpoint, Event, PartSink, ReaderCore, SinkFault};
 use tape_image::{ImageReader, Item};
 use tape_set::Position;
 
 /// A core, and the sink of what it delivers.
 #[derive(Drop)]
 pub struct Intake<S> {
-    pub core: Follower,
+    pub core: ReaderCore,
     pub sink: S,
 }
 
@@ -44,6 +43,20 @@ fn event_of<'a>(item: Item<'a>) -> Event<'a>
         Item::Block(bytes) => Event::Block(bytes),
         Item::Bad => Event::Bad,
         Item::Mark => Event::Mark,
+    }
+}
+
+/// How many blocks an answer delivers; `None` where it ends the reading.
+fn delivered(answer: Answer) -> Option<u32>
+    ensures on { IfSome result (λ _. GoesOn answer) }
+    ensures count { IfSome result (λ more. more ≡ delivered_by (answer ∷ [])) }
+    ensures few { IfSome result (λ more. more ≤ 1) }
+    ensures last { IfNone result (IsFinal answer) }
+{
+    match answer {
+        Answer::Passed => Some(0),
+        Answer::Deliver => Some(1),
+        _ => None,
     }
 }
 
@@ -77,26 +90,24 @@ impl<S: PartSink> Intake<S> {
     /// core goes back to that part.
     fn take(&mut self, event: Event<'_>) -> Result<Answer, SinkFault>
         requires sized { IsSized (arrival event) }
-        ensures file { (place self.new.core).file ≡ (place self.old.core).file }
-        ensures set_id { (place self.new.core).set_id ≡ (place self.old.core).set_id }
+        ensures file { self.new.core.file ≡ self.old.core.file }
+        ensures set_id { self.new.core.set_id ≡ self.old.core.set_id }
         ensures table { IfOk result (λ answer.
-            (answer, self.new.core.core) ≡ step_of self.old.core.core (arrival event.entry)) }
+            (answer, self.new.core) ≡ step_of self.old.core (arrival event.entry)) }
         ensures complete { IfOk result (λ answer. answer ≡ Answer.Complete
-            → (place self.new.core).position ≡ Position.Finished) }
+            → self.new.core.position ≡ Position.Finished) }
         ensures finished { IfOk result (λ answer.
-            (place self.new.core).position ≡ Position.Finished → answer ≡ Answer.Complete) }
-        ensures delivery { OnErr result (IsDelivery self.old.core.core (arrival event.entry)) }
+            self.new.core.position ≡ Position.Finished → answer ≡ Answer.Complete) }
+        ensures delivery { OnErr result (IsDelivery self.old.core (arrival event.entry)) }
         ensures ok { IfOk result (λ answer. (held : List Portion) → S.holds self.old.sink held
             → (now : List Portion) × S.holds self.new.sink now × IsFront held now
-            × (now ≡ held ++ parts_of_arrival self.old.core.core (arrival event.entry))
-            × TakesItem place is_mounted
-            (arrival event.entry) answer self.old.core self.new.core held now) }
+            × (now ≡ held ++ parts_of_arrival self.old.core (arrival event.entry))
+            × TakesItem (arrival event.entry) answer self.old.core self.new.core held now) }
         ensures err { OnErr result ((held : List Portion) → S.holds self.old.sink held
             → (now : List Portion) × S.holds self.new.sink now × IsFront held now
             × ((item : TapeItem) → arrival event.entry ≡ Some item
-            → StopsInside self.old.core.core (place self.new.core) item held now)
-            × RefusesItem place is_mounted
-            (arrival event.entry) self.old.core self.new.core held now) }
+            → StopsInside self.old.core (rest_of self.new.core) item held now)
+            × RefusesItem (arrival event.entry) self.old.core self.new.core held now) }
         ensures cause { OnErr result (Rose (S.refusals self.old.sink) (S.refusals self.new.sink)) }
         ensures calm { OnOk result (S.refusals self.new.sink ≡ S.refusals self.old.sink) }
         ensures crash { (held : List Portion) → S.holds self.old.sink held
@@ -116,17 +127,17 @@ impl<S: PartSink> Intake<S> {
     /// Puts the parts of the block that the core has just delivered, from the awaited one on.
     fn put_block(&mut self, before: &Checkpoint, content: &[u8]) -> Result<(), SinkFault>
         requires short { length content.now ≤ 99999 }
-        requires checked { IsChecked (Some (block content.now)) (place self.old.core) }
-        requires same_set { before.now.set_id ≡ (place self.old.core).set_id }
-        requires same_file { before.now.file ≡ (place self.old.core).file }
+        requires checked { IsChecked (Some (block content.now)) (rest_of self.old.core) }
+        requires same_set { before.now.set_id ≡ self.old.core.set_id }
+        requires same_file { before.now.file ≡ self.old.core.file }
         requires waits { is_finished before.now.position ≡ false }
         ensures ok { OnOk result (PutsBlock (S.holds self.old.sink) (S.holds self.new.sink)
-            (part_of before.now.position) content.now (place self.old.core).known) }
+            (part_of before.now.position) content.now self.old.core.known) }
         ensures kept { OnOk result (self.new.core ≡ self.old.core) }
         ensures err { OnErr result (PutsFront (S.holds self.old.sink) (S.holds self.new.sink)
-            before.now content.now (place self.old.core) (place self.new.core)) }
-        ensures file { (place self.new.core).file ≡ (place self.old.core).file }
-        ensures set_id { (place self.new.core).set_id ≡ (place self.old.core).set_id }
+            before.now content.now (rest_of self.old.core) (rest_of self.new.core)) }
+        ensures file { self.new.core.file ≡ self.old.core.file }
+        ensures set_id { self.new.core.set_id ≡ self.old.core.set_id }
         ensures cause { OnErr result (Rose (S.refusals self.old.sink) (S.refusals self.new.sink)) }
         ensures calm { OnOk result (S.refusals self.new.sink ≡ S.refusals self.old.sink) }
         ensures crash { (held : List Portion) → S.holds self.old.sink held
@@ -155,27 +166,26 @@ impl<S: PartSink> Intake<S> {
         requires going { image.old.status ≡ going }
         requires first { image.old.place ≡ 0 }
         ensures same_device { image.new.device ≡ image.old.device }
-        ensures file { (place self.new.core).file ≡ (place self.old.core).file }
-        ensures set_id { (place self.new.core).set_id ≡ (place self.old.core).set_id }
+        ensures file { self.new.core.file ≡ self.old.core.file }
+        ensures set_id { self.new.core.set_id ≡ self.old.core.set_id }
         ensures answer { IfOk result (λ answer. IfKnown image.old.left image.new.left
-            (λ bytes left. ReadsReel self.old.core.core bytes left answer)) }
+            (λ bytes left. ReadsReel self.old.core bytes left answer)) }
         ensures complete { IfOk result (λ answer. answer.answer ≡ Answer.Complete
-            → (place self.new.core).position ≡ Position.Finished) }
+            → self.new.core.position ≡ Position.Finished) }
         ensures finished { IfOk result (λ answer.
-            (place self.new.core).position ≡ Position.Finished → answer.answer ≡ Answer.Complete) }
+            self.new.core.position ≡ Position.Finished → answer.answer ≡ Answer.Complete) }
         ensures taken { OnErr result (IfKnown image.old.left image.new.left
-            (ReadsToBlock self.old.core.core)) }
+            (ReadsToBlock self.old.core)) }
         ensures ok { IfOk result (λ answer. (held : List Portion) → S.holds self.old.sink held
             → (now : List Portion) × S.holds self.new.sink now × IsFront held now
             × IfSome image.old.left
-            (ReadsImage place core_of is_mounted
-            (is_device answer.fault) self.old.core self.new.core held now)) }
+            (ReadsImage (is_device answer.fault) self.old.core self.new.core held now)) }
         ensures err { OnErr result ((held : List Portion) → S.holds self.old.sink held
             → (now : List Portion) × S.holds self.new.sink now × IsFront held now
             × IfSome image.old.left
-            (RefusesImage place is_mounted self.old.core self.new.core held now)
+            (RefusesImage self.old.core self.new.core held now)
             × IfSome image.old.left
-            (CutsTable self.old.core.core (place self.new.core) held now)) }
+            (CutsTable self.old.core (rest_of self.new.core) held now)) }
         ensures cause { OnErr result (Rose (S.refusals self.old.sink) (S.refusals self.new.sink)) }
         ensures calm { OnOk result (S.refusals self.new.sink ≡ S.refusals self.old.sink) }
         ensures crash { (held : List Portion) → S.holds self.old.sink held
@@ -187,11 +197,10 @@ impl<S: PartSink> Intake<S> {
             match image.next() {
                 Ok(Some(item)) => {
                     let answer = self.take(event_of(item))?;
-                    match answer {
-                        Answer::Passed => {}
-                        Answer::Deliver => blocks += 1,
-                        _ => return Ok(ReelAnswer::new(answer, None, blocks)),
-                    }
+                    let Some(more) = delivered(answer) else {
+                        return Ok(ReelAnswer::new(answer, None, blocks));
+                    };
+                    blocks += more;
                 }
                 Ok(None) => return Ok(ReelAnswer::new(
                     self.core.step(Event::ReelEnd),

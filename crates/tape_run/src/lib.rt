@@ -13,7 +13,6 @@ mod check_line;
 mod extract;
 pub mod extract_laws;
 mod fault;
-mod follower;
 mod identifier;
 mod intake;
 mod lacks;

@@ -19,7 +19,7 @@ use tape_label::Field;
 use tape_set::Sequence;
 
 /// What a catalogue has and lacks.
-#[derive(Debug, Drop)]
+#[derive(Drop)]
 pub struct Report {
     /// The sections, in the order in which they were met first.
     pub lines: Sequence<SectionLine>,

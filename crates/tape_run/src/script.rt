@@ -1,6 +1,7 @@
 //! Scripts: steps of a session, one after another.
 
-ghost use Rattle.std.specs.Prelude.{◌≡◌, [], ◌≢◌, ℕ, List, Some, None, Ok, Err, OnOk, IfErr, map};
+ghost use Rattle.std.specs.Prelude.{◌≡◌, [], ◌∷◌, ◌≢◌, ℕ, List, Some, None, Ok, Err, OnOk, IfOk};
+ghost use Rattle.std.specs.Prelude.{IfErr, map, drop};
 ghost use Rattle.tape_blocks.specs.Block.{Portion};
 ghost use Rattle.tape_blocks.specs.Spans.{join};
 ghost use Rattle.tape_set.specs.declared.position.Position.TheVariants.{Finished};
@@ -10,8 +11,9 @@ ghost use Rattle.tape_set.specs.Before.{section_parts};
 ghost use Rattle.tape_core.specs.Place.{rest_of};
 ghost use Rattle.tape_core.specs.Crash.{AddsOnly};
 ghost use Rattle.tape_run.specs.Back.{reels_of, AreVolumes};
-ghost use Rattle.tape_run.specs.Crash.{StoodAt};
+ghost use Rattle.tape_run.specs.Crash.{IsOf, StoodAt};
 ghost use Rattle.tape_run.specs.Headline.{IsStart, IsRead, HasRun, HasStopped, HasRestart};
+ghost use Rattle.tape_run.specs.Made.{HasMade};
 ghost use Rattle.tape_run.specs.Runs.{Runs};
 ghost use Rattle.tape_run.specs.Seen.{seen, IsKept};
 
@@ -21,7 +23,7 @@ use std::io::Read;
 use tape_core::{PartSink, SinkFault};
 
 /// One step of a script.
-#[derive(Clone, Copy, Debug, PartialEq, Eq)]
+#[derive(Clone, Copy)]
 pub enum Step {
     /// The next reader's reel is read.
     Reel,
@@ -104,21 +106,56 @@ pub fn run<S: PartSink, R: Read>(
         (S.returns session.old.sink) (S.returns session.new.sink)
         (S.survives session.old.sink) (S.survives session.new.sink) }
 {
-    let mut next = 0usize;
+    let mut used = 0usize;
     for step in steps {
-        match *step {
-            Step::Reel => {
-                if next >= reels.len() {
-                    return Err(RunFault::TooFewReels);
-                }
-                session.reel(&mut reels[next])?;
-                next += 1;
-            }
-            Step::Save => {
-                session.save()?;
-            }
-            Step::Restart(n) => session.restart(n)?,
-        }
+        used = make(session, *step, reels, used)?;
     }
     Ok(())
+}
+
+/// Makes a step, and answers how many of the readers are used then; so many were used before.
+fn make<S: PartSink, R: Read>(
+    session: &mut Session<S>,
+    step: Step,
+    reels: &mut [R],
+    used: usize,
+) -> Result<usize, RunFault>
+    ensures ok { IfOk result (λ now_used. (held : List Portion) → S.holds session.old.sink held
+        → IsKept (seen S.refusals session.old held)
+        → (now : List Portion) × S.holds session.new.sink now
+        × IsKept (seen S.refusals session.new now)
+        × ((rest : List Step) → HasMade (seen S.refusals session.old held) (step ∷ rest)
+        (map R.remaining (drop used reels.old)) (seen S.refusals session.new now) rest
+        (map R.remaining (drop now_used reels.new)))) }
+    ensures err { IfErr result (λ fault. (held : List Portion) → S.holds session.old.sink held
+        → IsKept (seen S.refusals session.old held)
+        → (now : List Portion)
+        × ((HasRestart (step ∷ []) → fault ≢ RunFault.Sink SinkFault.Device)
+        → S.holds session.new.sink now)
+        × IsKept (seen S.refusals session.new now)
+        × ((rest : List Step) → Runs (seen S.refusals session.old held) (step ∷ rest)
+        (map R.remaining (drop used reels.old)) (Err fault) (seen S.refusals session.new now))) }
+    ensures crash { (held : List Portion) → S.holds session.old.sink held
+        → IsKept (seen S.refusals session.old held)
+        → AddsOnly (IsOf (seen S.refusals session.old held))
+        (S.returns session.old.sink) (S.returns session.new.sink)
+        (S.survives session.old.sink) (S.survives session.new.sink) }
+{
+    match step {
+        Step::Reel => {
+            if used >= reels.len() {
+                return Err(RunFault::TooFewReels);
+            }
+            session.reel(&mut reels[used])?;
+            Ok(used + 1)
+        }
+        Step::Save => {
+            session.save()?;
+            Ok(used)
+        }
+        Step::Restart(n) => {
+            session.restart(n)?;
+            Ok(used)
+        }
+    }
 }

@@ -12,8 +12,7 @@ ghost use Rattle.tape_core.specs.Stands.{Stands, weight_of};
 ghost use Rattle.tape_core.specs.Table.{saved, reader_of};
 ghost use Rattle.tape_core.specs.Crash.{AddsNothing, AddsOnly, OnlyThis};
 ghost use Rattle.tape_run.specs.Crash.{IsOf};
-ghost use Rattle.tape_run.specs.Following.{place};
-ghost use Rattle.tape_run.specs.Given.{is_device};
+ghost use Rattle.tape_run.specs.Given.{is_device, counted};
 ghost use Rattle.tape_run.specs.Headline.{IsStart};
 ghost use Rattle.tape_run.specs.Lives.{IsResumed};
 ghost use Rattle.tape_run.specs.Reels.{Reads, Leaves};
@@ -22,7 +21,6 @@ ghost use Rattle.tape_run.specs.Steps.{Reeled, ReelFails, Saved, SaveFails, Went
 
 use crate::answer::ReelAnswer;
 use crate::fault::RunFault;
-use crate::follower::Follower;
 use crate::intake::Intake;
 use std::alloc::Global;
 use std::io::Read;
@@ -48,7 +46,7 @@ impl<S> Model for Session<S> {
     ghost Value = { Story S };
 
     ghost view = { λ s. record {
-      core = s.intake.core.core;
+      core = s.intake.core;
       sink = s.intake.sink;
       notes = s.notes.items;
       failures = s.failures;
@@ -88,10 +86,7 @@ impl<S: PartSink> Session<S> {
     {
         Session {
             alloc,
-            intake: Intake {
-                core: Follower { core },
-                sink,
-            },
+            intake: Intake { core, sink },
             notes: Vec::new(alloc),
             failures: 0,
         }
@@ -185,9 +180,7 @@ impl<S: PartSink> Session<S> {
         image.into_device();
         match read {
             Ok(answer) => {
-                if answer.is_device() {
-                    self.failures = self.failures.saturating_add(1);
-                }
+                self.failures = counted(self.failures, answer.is_device());
                 Ok(answer)
             }
             Err(cause) => Err(RunFault::Sink(cause)),
@@ -312,5 +305,16 @@ impl<S: PartSink> Session<S> {
         ensures { result ≡ self.now.failures }
     {
         self.failures
+    }
+}
+
+/// A count of readers that failed, behind one more, which failed or did not.
+fn counted(failures: u64, failed: bool) -> u64
+    ensures { result ≡ counted failed failures }
+{
+    if failed {
+        failures.saturating_add(1)
+    } else {
+        failures
     }
 }

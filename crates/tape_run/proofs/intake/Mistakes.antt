@@ -11,7 +11,6 @@ use Rattle.tape_core.specs.Arrive.{arrival}
 use Rattle.tape_core.specs.Known.{may_span}
 use Rattle.tape_core.specs.Point.{Point}
 use Rattle.tape_core.specs.Stands.{inside_block}
-use Rattle.tape_run.specs.Following.{place}
 use Rattle.tape_run.specs.Puts as puts
 use Rattle.tape_run.proofs.ByTable.{puts_none}
 use Rattle.tape_run.proofs.intake.refused_point.Reads as refused_point
@@ -52,7 +51,7 @@ span_forgotten_at_refused_part κs a z s h four two begun spans none =
 first_parts_put_twice : (S : _) (LS : _) (g : _) (d : _) (κs : _) (a : _) (s : _)
     (held : List Portion) (first second : Portion) (form : FileForm)
     → put_block.Learnt-named S LS g d κs a (Ok tt) s
-    → (place a.0.now.core).known ≡ Some form → a.1.0.now.position ≡ Awaits 1 0 1
+    → a.0.now.core.known ≡ Some form → a.1.0.now.position ≡ Awaits 1 0 1
     → Holds form.format form.rec_len form.offset a.1.1.0.now (first ∷ second ∷ [])
     → g.holds a.0.now.sink held → HoldsOne (g.holds s.0.now.sink)
     → g.holds s.0.now.sink (held ++ first ∷ second ∷ []) → ⊥
@@ -76,7 +75,7 @@ parts_put_before_the_check : (S : _) (LS : _) (g : _) (d : _) (κs : _) (a : _) 
     → g.holds s.0.now.sink (held ++ part ∷ []) → ⊥
 parts_put_before_the_check S LS g d κs a s held part l was one more =
     let r = l.ok held was in
-    let none = puts_none a.0.now.core.core s.0.now.core.core Passed (arrival a.1.0) held l.table
+    let none = puts_none a.0.now.core s.0.now.core Passed (arrival a.1.0) held l.table
     (λ e. absurd (cc)) in
     absurd (omega (
       arith,

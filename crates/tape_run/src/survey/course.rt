@@ -8,7 +8,7 @@ use crate::passing::Phase;
 use tape_image::Item;
 
 /// What stands next in the order of a volume.
-#[derive(Clone, Copy, Debug, PartialEq, Eq)]
+#[derive(Clone, Copy)]
 pub enum Wanted {
     /// `VOL1`.
     Volume,
@@ -29,7 +29,7 @@ pub enum Wanted {
 }
 
 /// How far the items follow the order of a volume.
-#[derive(Clone, Copy, Debug, PartialEq, Eq)]
+#[derive(Clone, Copy)]
 pub enum Course {
     /// They do, and the volume goes on.
     Follows,

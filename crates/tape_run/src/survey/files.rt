@@ -11,14 +11,14 @@ use indexmap::IndexMap;
 use tape_label::{Field, Head1};
 
 /// Which file it is: its file set, and its number there.
-#[derive(Clone, Copy, Debug, PartialEq, Eq, Hash)]
+#[derive(Clone, Copy, PartialEq, Eq, Hash)]
 pub struct FileKey {
     pub set_id: Field<6>,
     pub file: u16,
 }
 
 /// What header labels tell of a file.
-#[derive(Clone, Copy, Debug, PartialEq, Eq)]
+#[derive(Clone, Copy)]
 pub struct FileNote {
     /// The label that was met first.
     pub head: Head1,

@@ -15,7 +15,7 @@ use tape_image::Item;
 use tape_label::{Field, Head1, Kind, Vol1, kind, read_head1, read_head2, read_vol1};
 
 /// What an image begins with.
-#[derive(Clone, Copy, Debug, PartialEq, Eq)]
+#[derive(Clone, Copy)]
 pub enum First {
     /// It has no item.
     Nothing,
@@ -32,7 +32,7 @@ pub enum First {
 }
 
 /// What an image is, at a glance.
-#[derive(Clone, Copy, Debug, PartialEq, Eq)]
+#[derive(Clone, Copy)]
 pub struct Glance {
     /// How many items it has.
     pub items: u32,

@@ -21,7 +21,7 @@ use std::alloc::{AllocError, Global};
 use tape_label::Field;
 
 /// What is to be said of a file.
-#[derive(Clone, Copy, Debug, PartialEq, Eq)]
+#[derive(Clone, Copy)]
 pub(crate) enum Standing {
     /// All its sections are there whole.
     Complete,

@@ -22,7 +22,7 @@ use std::marker::Model;
 use tape_image::{ImageReader, Item};
 
 /// What an image is: what its items are at a glance, and how they stop.
-#[derive(Clone, Copy, Debug, PartialEq, Eq)]
+#[derive(Clone, Copy)]
 pub struct Sight {
     pub glance: Glance,
     pub stop: ImageStop,

@@ -3,11 +3,11 @@ use Rattle.std.proofs.Common.{arith, rules, length-append, append-nil, map, inl,
 use Rattle.std.proofs.KnownBytes.{Appends-nil}
 use Rattle.std.specs.Io.KnownBytes.{Appends}
 use Rattle.tape_run.specs.ReelLine.{reel_lines}
-use Rattle.tape_run.specs.Reeling.{answer_of}
+use Rattle.tape_run.specs.Reeling.{answer_of, IsTurn}
 use Rattle.tape_run.specs.Seen.{seen}
 use Rattle.tape_run.proofs.Extracted.{all_of_it}
 use Rattle.tape_run.proofs.Fitting.{on_err}
-use Rattle.tape_run.proofs.Turns.{front_behind, line_behind, one_turn}
+use Rattle.tape_run.proofs.Turns.{front_behind, line_behind, one_mounted}
 use Rattle.tape_run.proofs.Turns.{follows_then}
 use Rattle.tape_run.proofs.extract.images.read_round.Goals as goal
 
@@ -71,7 +71,7 @@ loop-number-preserved g c =
     c.mount.new.self) at c.in-Ok.ensures.ok in (
       turns ++ taken.turn ∷ [],
       length-append turns (taken.turn ∷ []) ∙ ap (λ m. m + 1) e,
-      one_turn g.L.Shelf.gives g.R.Read.remaining c.args.images.now 0 turns c.loop-number.images
+      one_mounted g.L.Shelf.gives (IsTurn g.R.Read.remaining) c.args.images.now 0 turns c.loop-number.images
           taken.turn c.in-Ok.image c.mount.new.self are mounted taken.is_turn,
       line_behind (c.args.lines + 1) _ _ _ turns taken.turn _ number lines taken.line,
       λ zero. absurd (omega (arith, zero)),

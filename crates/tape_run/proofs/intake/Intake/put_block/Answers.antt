@@ -4,15 +4,14 @@ use Rattle.tape_blocks.specs.Judged.{begun_behind}
 use Rattle.tape_set.specs.Position.{part_of}
 use Rattle.tape_core.specs.Point.{Point}
 use Rattle.tape_core.specs.Table.{saved}
-use Rattle.tape_core.specs.Place.{place_of}
-use Rattle.tape_run.specs.Following.{place}
+use Rattle.tape_core.specs.Place.{place_of, rest_of}
 use Rattle.tape_run.specs.Puts.{refused_point}
 use Rattle.tape_run.proofs.Places.{shape_fits, from_taken, refused_set, refused_file}
 use Rattle.tape_run.proofs.intake.Intake.put_block.Goals as goal
 
 pub returns-in-Err-clause-err : goal.returns-in-Err-clause-err
 returns-in-Err-clause-err g c = λ held parts k known_is h was.
-    let behind = place c.args.self.now.core in
+    let behind = rest_of c.args.self.now.core in
     let before = c.args.before.now in
     let shape = c.in-Some.shape in
     let fits =
@@ -31,7 +30,7 @@ returns-in-Err-clause-err g c = λ held parts k known_is h was.
     let point_is : c.refused_point-point.result ≡ refused_point before (saved behind 0) n
     (begun_behind before.begun (drop (part_of before.position) (take n parts))) =
     c.refused_point-point.ensures
-    ∙ (ap (λ (z : Point). refused_point before z n c.in-Err.refused.begun) c.save-after.ensures
+    ∙ (ap (λ (z : Point). refused_point before z n c.in-Err.refused.begun) c.save-after.ensures.value
     ∙ ap (refused_point before (saved behind 0) n) begun) in
     let is_set = ap (λ (z : Point). z.set_id) point_is
     ∙ refused_set before (saved behind 0) n _ behind.set_id c.requires.same_set refl in
@@ -45,6 +44,7 @@ returns-in-Err-clause-err g c = λ held parts k known_is h was.
           subst (λ (f : ℕ). g.S.PartSink.holds c.put_parts.new.sink (held ++ drop f (take n parts)))
           first few.held_now;
       back =
-          from_taken c.restart.result _ c.restart.ensures.ok (c.restart.ensures.same is_set is_file)
+          from_taken c.restart.result _ c.restart.ensures.there
+          (c.restart.ensures.taken is_set is_file)
           ∙ ap place_of point_is;
     }

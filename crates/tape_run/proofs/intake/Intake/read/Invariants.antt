@@ -4,7 +4,6 @@ use Rattle.tape_image.specs.Begins.{image_limit}
 use Rattle.tape_image.specs.Reader.{going, IfKnown}
 use Rattle.tape_core.specs.Crash.{AddsNothing}
 use Rattle.tape_core.specs.Weight.{IsFront}
-use Rattle.tape_run.specs.Following.{place, core_of, is_mounted}
 use Rattle.tape_run.specs.Reels.{ReadsSoFar}
 use Rattle.tape_run.specs.Taking.{SoFar}
 use Rattle.tape_run.proofs.intake.Intake.read.Given as goal
@@ -15,17 +14,17 @@ invariant-items g l = record {
   limit : l.image.place ≤ image_limit;
   few : l.blocks * 4 ≤ l.image.place;
   same_device : l.image.device ≡ l.fn.image.device;
-  file : (place l.self.core).file ≡ (place l.fn.self.core).file;
-  set_id : (place l.self.core).set_id ≡ (place l.fn.self.core).set_id;
+  file : l.self.core.file ≡ l.fn.self.core.file;
+  set_id : l.self.core.set_id ≡ l.fn.self.core.set_id;
   calm : g.S.PartSink.refusals l.self.sink ≡ g.S.PartSink.refusals l.fn.self.sink;
   answers : IfKnown l.fn.image.left l.image.left
-      (ReadsSoFar l.fn.self.core.core l.self.core.core l.blocks l.image.place);
+      (ReadsSoFar l.fn.self.core l.self.core l.blocks l.image.place);
   crash : (held : List Portion) → g.S.PartSink.holds l.fn.self.sink held
       → AddsNothing (g.S.PartSink.returns l.fn.self.sink) (g.S.PartSink.returns l.self.sink)
       (g.S.PartSink.survives l.fn.self.sink) (g.S.PartSink.survives l.self.sink);
   so_far : (held : List Portion) → g.S.PartSink.holds l.fn.self.sink held
       → (now : List Portion) × g.S.PartSink.holds l.self.sink now × IsFront held now
-      × IfKnown l.fn.image.left l.image.left (SoFar place core_of is_mounted l.fn.self.core
+      × IfKnown l.fn.image.left l.image.left (SoFar l.fn.self.core
       l.self.core held
       now l.image.place);
 }

@@ -2,7 +2,7 @@ use Rattle.std.proofs.Common.{◌≡◌, List, Some, sym, ap, subst, refl, rules
 use Rattle.std.proofs.Common.{slice_get}
 use Rattle.std.proofs.lemmas.Option.{slice_get_read}
 use Rattle.tape_blocks.specs.Block.{Portion}
-use Rattle.tape_run.specs.Following.{place}
+use Rattle.tape_core.specs.Place.{rest_of}
 use Rattle.tape_run.proofs.Places.{from_taken}
 use Rattle.tape_run.specs.Story.{Story}
 use Rattle.tape_run.specs.Seen.{seen, IsKept}
@@ -11,7 +11,7 @@ use Rattle.tape_run.proofs.Notes.{front_weighs}
 use Rattle.tape_run.proofs.Sessions.{kept_at}
 use Rattle.tape_core.specs.Crash.{AddsOnly}
 use Rattle.tape_run.specs.Crash.{IsOf}
-use Rattle.tape_run.proofs.Crashes.{noted_only}
+use Rattle.tape_run.proofs.Crashes.{cut_only}
 use Rattle.tape_run.proofs.session.Session.restart.Goals as goal
 
 pub returns-clause-ok : goal.returns-clause-ok
@@ -19,7 +19,7 @@ returns-clause-ok g c =
     let refusals = g.S.PartSink.refusals in
     let notes = c.self.inside.notes.items in
     let new : Story _ = record {
-      core = c.restart.new.self.core;
+      core = c.restart.new.self;
       sink = c.cut_to.new.self;
       notes = c.truncate.new.self.items;
       failures = c.self.inside.failures;
@@ -32,10 +32,10 @@ returns-clause-ok g c =
     let noted : slice_get notes c.args.n ≡ Some c.index.result.now =
     slice_get_read notes (length notes) c.args.n c.index.result.now refl
     (omega (arith, c.if-n-len.false, c.len.ensures)) (search rules) in
-    let at = kept_at (place c.self.inside.intake.core) [] notes c.args.n c.index.result.now held
+    let at = kept_at (rest_of c.self.inside.intake.core) [] notes c.args.n c.index.result.now held
     noted kept in
-    let there = from_taken c.restart.result _ c.restart.ensures.ok
-    (c.restart.ensures.same at.note.of_set at.note.of_file) in (
+    let there = from_taken c.restart.result _ c.restart.ensures.there
+    (c.restart.ensures.taken at.note.of_set at.note.of_file) in (
       at.ps,
       c.in-Ok.ensures.ok at.ps at.is_front.0 (subst (g.S.PartSink.holds c.self.inside.intake.sink)
           at.is_front.1 was) (sym at.note.staged),
@@ -60,7 +60,7 @@ returns-then-point-weight-clause-err g c = λ held was kept.
     let noted : slice_get notes c.args.n ≡ Some c.index.result.now =
     slice_get_read notes (length notes) c.args.n c.index.result.now refl
     (omega (arith, c.if-n-len.false, c.len.ensures)) (search rules) in
-    let at = kept_at (place c.self.inside.intake.core) [] notes c.args.n c.index.result.now held
+    let at = kept_at (rest_of c.self.inside.intake.core) [] notes c.args.n c.index.result.now held
     noted kept_inside in
     let whole = c.weight.ensures.of held was_inside in
     let less = front_weighs at.ps held at.is_front in
@@ -75,56 +75,42 @@ returns-then-point-weight-clause-err g c = λ held was kept.
 
 pub returns-in-Err-clause-crash : goal.returns-in-Err-clause-crash
 returns-in-Err-clause-crash g c =
-    let refusals = g.S.PartSink.refusals in
-    let notes = c.self.inside.notes.items in
-    let old : Story _ =
-    record {
-      core = c.self.inside.intake.core.core;
-      sink = c.self.inside.intake.sink;
-      notes = c.self.inside.notes.items;
-      failures = c.self.inside.failures;
-    } in
     subst (λ z. (held : List Portion) → g.S.PartSink.holds z.sink held
-    → IsKept (seen refusals z held)
-    → AddsOnly (IsOf (seen refusals z held)) (g.S.PartSink.returns z.sink) (g.S.PartSink.returns
-    c.cut_to.new.self) (g.S.PartSink.survives z.sink) (g.S.PartSink.survives c.cut_to.new.self))
-    c.self.view_is
-    (λ held was kept.
+    → IsKept (seen g.S.PartSink.refusals z held)
+    → AddsOnly (IsOf (seen g.S.PartSink.refusals z held)) (g.S.PartSink.returns z.sink)
+    (g.S.PartSink.returns c.cut_to.new.self) (g.S.PartSink.survives z.sink)
+    (g.S.PartSink.survives c.cut_to.new.self)) c.self.view_is (λ held was kept.
+    let notes = c.self.inside.notes.items in
     let noted : slice_get notes c.args.n ≡ Some c.index.result.now =
     slice_get_read notes (length notes) c.args.n c.index.result.now refl
     (omega (arith, c.if-n-len.false, c.len.ensures)) (search rules) in
-    let at = kept_at (place c.self.inside.intake.core) [] notes c.args.n c.index.result.now held
-    noted kept in
-    let front = subst (g.S.PartSink.holds c.self.inside.intake.sink) at.is_front.1 was in
-    noted_only (seen refusals old held) c.index.result.now c.args.n at.ps noted at.is_front
-    (sym at.note.staged) _ _ _ _
-    (c.cut_to.ensures.crash at.ps at.is_front.0 front (sym at.note.staged))
-    (c.cut_to.ensures.after at.ps at.is_front.0 front (sym at.note.staged)))
+    let old : Story _ = record {
+      core = c.self.inside.intake.core;
+      sink = c.self.inside.intake.sink;
+      notes = notes;
+      failures = c.self.inside.failures;
+    } in
+    cut_only (seen g.S.PartSink.refusals old held) c.args.n c.index.result.now noted kept
+    (g.S.PartSink.holds c.self.inside.intake.sink) was _ _ _ _ c.cut_to.ensures.crash
+    c.cut_to.ensures.after)
 
 pub returns-clause-crash : goal.returns-clause-crash
 returns-clause-crash g c =
-    let refusals = g.S.PartSink.refusals in
-    let notes = c.self.inside.notes.items in
-    let old : Story _ =
-    record {
-      core = c.self.inside.intake.core.core;
-      sink = c.self.inside.intake.sink;
-      notes = c.self.inside.notes.items;
-      failures = c.self.inside.failures;
-    } in
     subst (λ z. (held : List Portion) → g.S.PartSink.holds z.sink held
-    → IsKept (seen refusals z held)
-    → AddsOnly (IsOf (seen refusals z held)) (g.S.PartSink.returns z.sink) (g.S.PartSink.returns
-    c.cut_to.new.self) (g.S.PartSink.survives z.sink) (g.S.PartSink.survives c.cut_to.new.self))
-    c.self.view_is
-    (λ held was kept.
+    → IsKept (seen g.S.PartSink.refusals z held)
+    → AddsOnly (IsOf (seen g.S.PartSink.refusals z held)) (g.S.PartSink.returns z.sink)
+    (g.S.PartSink.returns c.cut_to.new.self) (g.S.PartSink.survives z.sink)
+    (g.S.PartSink.survives c.cut_to.new.self)) c.self.view_is (λ held was kept.
+    let notes = c.self.inside.notes.items in
     let noted : slice_get notes c.args.n ≡ Some c.index.result.now =
     slice_get_read notes (length notes) c.args.n c.index.result.now refl
     (omega (arith, c.if-n-len.false, c.len.ensures)) (search rules) in
-    let at = kept_at (place c.self.inside.intake.core) [] notes c.args.n c.index.result.now held
-    noted kept in
-    let front = subst (g.S.PartSink.holds c.self.inside.intake.sink) at.is_front.1 was in
-    noted_only (seen refusals old held) c.index.result.now c.args.n at.ps noted at.is_front
-    (sym at.note.staged) _ _ _ _
-    (c.cut_to.ensures.crash at.ps at.is_front.0 front (sym at.note.staged))
-    (c.cut_to.ensures.after at.ps at.is_front.0 front (sym at.note.staged)))
+    let old : Story _ = record {
+      core = c.self.inside.intake.core;
+      sink = c.self.inside.intake.sink;
+      notes = notes;
+      failures = c.self.inside.failures;
+    } in
+    cut_only (seen g.S.PartSink.refusals old held) c.args.n c.index.result.now noted kept
+    (g.S.PartSink.holds c.self.inside.intake.sink) was _ _ _ _ c.cut_to.ensures.crash
+    c.cut_to.ensures.after)

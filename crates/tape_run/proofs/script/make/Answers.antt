@@ -1,0 +1,108 @@
+use Rattle.std.proofs.Common.{◌+◌, map, get_or, inl, refl, ap, arith}
+use Rattle.std.proofs.lemmas.List.{drop_more, drop_all, drop-set-lt}
+use Rattle.tape_run.specs.Given.{is_device}
+use Rattle.tape_run.proofs.Crashes.{only_nothing}
+use Rattle.tape_run.proofs.Made.{reel_makes, save_makes, restart_makes, reel_failed, save_failed}
+use Rattle.tape_run.proofs.Made.{restart_failed}
+use Rattle.tape_run.proofs.Sessions.{kept_save, kept_restart}
+use Rattle.tape_run.proofs.Stopped.{told_err, kept_save_fails, kept_restart_fails}
+use Rattle.tape_run.proofs.script.make.Goals as goal
+
+-- ---- a reel
+
+pub returns-in_ok-reel-in-Reel-clause-ok : goal.returns-in_ok-reel-in-Reel-clause-ok
+returns-in_ok-reel-in-Reel-clause-ok g c = λ held was kept.
+    let rem = g.R.Read.remaining in
+    let reels = c.args.reels.now in
+    let device = get_or reels c.args.used c.index-reels-used.result in
+    let here = ap (map rem) (drop_more reels c.args.used c.index-reels-used.result
+    c.if-used-reels.false) in
+    let left = ap (map rem) (drop-set-lt (c.args.used + 1) reels c.args.used c.reel.new.device
+    (omega arith)) in
+    let (now, has, keeps, reeled) = c.in_ok-reel-in-Reel.ensures.ok held was in (
+      now,
+      has,
+      keeps kept,
+      λ rest. rw (here, left, c.in-Reel.is) (reel_makes _ _ (rem device)
+          (is_device c.in_ok-reel-in-Reel.field-0.fault) reeled _ rest),
+    )
+
+pub returns-in_err-reel-in-Reel-clause-err : goal.returns-in_err-reel-in-Reel-clause-err
+returns-in_err-reel-in-Reel-clause-err g c =
+    let fault = c.in_err-reel-in-Reel.field-0.0 in
+    let rem = g.R.Read.remaining in
+    let reels = c.args.reels.now in
+    let device = get_or reels c.args.used c.index-reels-used.result in
+    let here = ap (map rem) (drop_more reels c.args.used c.index-reels-used.result
+    c.if-used-reels.false) in
+    told_err c.from_residual.result fault _
+    c.from_residual.ensures.1 (λ held was kept.
+    let (now, has, keeps, fails) = c.in_err-reel-in-Reel.ensures.err held was in (
+      now,
+      (λ ne. has),
+      keeps kept,
+      λ rest. rw (here, c.in-Reel.is) (reel_failed _ _ (rem device) _ fault fails rest),
+    ))
+
+pub returns-then-used-reels-clause-err : goal.returns-then-used-reels-clause-err
+returns-then-used-reels-clause-err g c = λ held was kept.
+    let none = ap (map g.R.Read.remaining) (drop_all c.args.used c.args.reels.now
+    (omega (arith, c.if-used-reels.true))) in
+    (held, (λ ne. was), kept, λ rest. rw (none, c.in-Reel.is) ((refl, refl)))
+
+pub returns-in_ok-reel-in-Reel-clause-crash : goal.returns-in_ok-reel-in-Reel-clause-crash
+returns-in_ok-reel-in-Reel-clause-crash g c = λ held was kept.
+    only_nothing _ _ _ _ _ (c.reel.ensures.crash held was)
+
+pub returns-in_err-reel-in-Reel-clause-crash : goal.returns-in_err-reel-in-Reel-clause-crash
+returns-in_err-reel-in-Reel-clause-crash g c = λ held was kept.
+    only_nothing _ _ _ _ _ (c.reel.ensures.crash held was)
+
+pub returns-then-used-reels-clause-crash : goal.returns-then-used-reels-clause-crash
+returns-then-used-reels-clause-crash g c = λ held was kept. ((λ back there h. inl h), (λ h. h))
+
+-- ---- a save
+
+pub returns-in_ok-save-in-Save-clause-ok : goal.returns-in_ok-save-in-Save-clause-ok
+returns-in_ok-save-in-Save-clause-ok g c = λ held was kept.
+    let (now, has, saved) = c.in_ok-save-in-Save.ensures.ok held was in (
+      now,
+      has,
+      kept_save _ _ saved kept,
+      λ rest. rw c.in-Save.is (save_makes _ _ saved _ rest),
+    )
+
+pub returns-in_err-save-in-Save-clause-err : goal.returns-in_err-save-in-Save-clause-err
+returns-in_err-save-in-Save-clause-err g c =
+    let fault = c.in_err-save-in-Save.field-0.0 in
+    told_err c.from_residual-in_err-save-in-Save.result fault _
+    c.from_residual-in_err-save-in-Save.ensures.1 (λ held was kept.
+    let (now, has, fails) = c.in_err-save-in-Save.ensures.err held was in (
+      now,
+      (λ ne. has),
+      kept_save_fails fault _ _ fails kept,
+      λ rest. rw c.in-Save.is (save_failed _ _ _ fault fails rest),
+    ))
+
+-- ---- going back
+
+pub returns-in_ok-restart-in-Restart-clause-ok : goal.returns-in_ok-restart-in-Restart-clause-ok
+returns-in_ok-restart-in-Restart-clause-ok g c = λ held was kept.
+    let (now, has, went) = c.in_ok-restart-in-Restart.ensures.ok held was kept in (
+      now,
+      has,
+      kept_restart _ _ c.in-Restart.n went kept,
+      λ rest. rw c.in-Restart.is (restart_makes _ _ c.in-Restart.n went _ rest),
+    )
+
+pub returns-in_err-restart-in-Restart-clause-err : goal.returns-in_err-restart-in-Restart-clause-err
+returns-in_err-restart-in-Restart-clause-err g c =
+    let fault = c.in_err-restart-in-Restart.field-0.0 in
+    told_err c.from_residual-in_err-restart-in-Restart.result fault _
+    c.from_residual-in_err-restart-in-Restart.ensures.1 (λ held was kept.
+    let (ok, fails) = c.in_err-restart-in-Restart.ensures.err held was kept in (
+      held,
+      (λ ne. ok (ne (rw c.in-Restart.is tt))),
+      kept_restart_fails c.in-Restart.n fault _ _ fails kept,
+      λ rest. rw c.in-Restart.is (restart_failed _ _ c.in-Restart.n _ fault fails rest),
+    ))
