@@ -34,7 +34,8 @@ stayed notes core old turns last new (inr sure) f =
     sure_follows (goes_back notes) core old turns last new sure f
 
 -- A session that ended its file came to what its images lead to.
-abbrev pub ended : {S : Type 0} (holds : S → List Portion → Type 0) (refusals : S → ℕ) (mid : Story S)
+abbrev pub ended : {S : Type 0} (holds : S → List Portion → Type 0) (refusals : S → ℕ)
+    (mid : Story S)
     (core : State) (old : Seen) (turns : List Turn) (form : Form)
     (out written said says : Option (List ℕ)) (want : Option Want) (now : List Portion)
     (e : EndsFile holds mid form out written said says want)
@@ -74,7 +75,8 @@ extracted holds refusals size gives remaining old mid shelf left form out writte
       lines = Appends-trans said between says _ _ t.lines e.line;
       ends = λ held was kept.
           let (now, has, still, f) = t.follows held was kept in
-          ended holds refusals mid old.core (seen refusals old held) t.turns form out written between
+          ended holds refusals mid old.core (seen refusals old held) t.turns form out written
+          between
           says want now e has f;
     }
 

@@ -242,7 +242,8 @@ all_taken old mid new held now p bytes ys given s far other all same =
           (there ∙ ap (after_mount set (rest_of mid).file r) whole);
     }
 
-pub ends_there : (old mid new : State) (held now : List Portion) (p q : ℕ) (bytes ys zs : List ℕ) (ending : Ending)
+pub ends_there : (old mid new : State) (held now : List Portion) (p q : ℕ) (bytes ys zs : List ℕ)
+    (ending : Ending)
     → rest_of new ≡ rest_of mid
     → SoFar old mid held now p bytes ys → TakesEnd p [] ending q ys zs
     → ReadsImage false old new held now bytes
@@ -266,7 +267,8 @@ device_or_not (Reserved w) = inr ((λ e. cc, refl))
 device_or_not TooLong = inr ((λ e. cc, refl))
 device_or_not OutOfMemory = inr ((λ e. cc, refl))
 
-pub faults_there : (old mid new : State) (held now : List Portion) (p : ℕ) (bytes ys zs : List ℕ) (fault : ImageFault)
+pub faults_there : (old mid new : State) (held now : List Portion) (p : ℕ) (bytes ys zs : List ℕ)
+    (fault : ImageFault)
     → rest_of new ≡ rest_of mid
     → SoFar old mid held now p bytes ys → TakesFault p [] fault ys zs
     → ReadsImage (is_device (Some fault)) old new held now bytes

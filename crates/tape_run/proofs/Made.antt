@@ -69,7 +69,8 @@ made_more old mid new steps left rest step readers others last e f g = record {
 }
 
 -- no step is left
-pub all_made : (old end : Seen) (steps : List Step) (i : ℕ) (readers others : List (Option (List ℕ)))
+pub all_made : (old end : Seen) (steps : List Step) (i : ℕ)
+    (readers others : List (Option (List ℕ)))
     → length steps ≤ i → HasMade old steps readers end (drop i steps) others
     → Runs old steps readers (Ok tt) end
 all_made old end steps i readers others past made =

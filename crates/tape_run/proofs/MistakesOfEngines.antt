@@ -152,7 +152,8 @@ report_of_none (None ∷ line ∷ lines) sections h = absurd h.2
 report_of_none (Some line ∷ lines) sections h = absurd h.1
 
 -- of one image, which is not there
-one_absent : {L R : Type 0} (gives : Mounting L R) (remaining : R → Option (List ℕ)) (shelf left : L)
+one_absent : {L R : Type 0} (gives : Mounting L R) (remaining : R → Option (List ℕ))
+    (shelf left : L)
     (reels : List Reel) → AreMounted gives (IsReel remaining) shelf 0 reels left
     → length reels ≡ 1 → ((image : _) (next : _) → gives shelf 0 image next → image ≡ None)
     → reels ≡ None ∷ []

@@ -46,7 +46,8 @@ pub record SoFar (all left : Option (List ℕ)) (place count : ℕ) (old : List 
   pub stands : phase ≡ phase_after Volume items
   pub noted : new ≡ noted_all old (told_from Volume items)
 
-abbrev pub starts : (all left : Option (List ℕ)) (place : ℕ) (old : List Told) → place ≡ 0 → left ≡ all
+abbrev pub starts : (all left : Option (List ℕ)) (place : ℕ) (old : List Told) → place ≡ 0
+    → left ≡ all
     → SoFar all left place 0 old Volume old
 starts all left place old first same =
     let P : ℕ → Type 0 = λ p. IfKnown all left (λ xs ys. Walks 0 xs [] p ys) in
@@ -71,7 +72,8 @@ told_from-append p (x ∷ xs) ys =
     ∙ sym (append_assoc (in_list (step p x).1) (told_from (step p x).0 xs)
     (told_from (phase_after (step p x).0 xs) ys))
 
-abbrev pub one_more : (all left next : Option (List ℕ)) (p q count : ℕ) (item : TapeItem) (old : List Told)
+abbrev pub one_more : (all left next : Option (List ℕ)) (p q count : ℕ) (item : TapeItem)
+    (old : List Told)
     (phase after : Phase) (mid new : List Told)
     → SoFar all left p count old phase mid
     → IfKnown left next (TakesItem p item q) → after ≡ (step phase item).0

@@ -1,25 +1,25 @@
 -- What `list --places` has done behind some items, and what it leaves from there.
-use Rattle.std.proofs.Common.{◌≡◌, ◌≢◌, ℕ, ◌+◌, ◌-◌, ◌≤◌, List, [], ◌∷◌, ◌++◌, length, Option}
+use Rattle.std.proofs.Common.{◌≡◌, ◌≢◌, ℕ, ◌+◌, ◌-◌, List, [], ◌∷◌, ◌++◌, length, Option}
 use Rattle.std.proofs.Common.{Result, Err, IfErr, refl, sym, ap, subst, ◌∙◌, arith}
 use Rattle.std.proofs.Common.{append-nil, append_assoc, length-append}
 use Rattle.std.specs.Prelude.{unwrap_or}
 use Rattle.std.specs.Io.KnownBytes.{Appends, Keeps}
-use Rattle.std.proofs.KnownBytes.{Appends-trans, Appends-nil}
+use Rattle.std.proofs.KnownBytes.{Appends-trans}
 use Rattle.tape_image.specs.declared.item.Ending.{Ending}
 use Rattle.tape_image.specs.declared.fault.ImageCause.{ImageCause}
 use Rattle.tape_image.specs.declared.fault.ImageCause.TheVariants.{Truncated, LengthsDiffer}
 use Rattle.tape_image.specs.declared.fault.ImageCause.TheVariants.{Reserved, TooLong, Device}
 use Rattle.tape_image.specs.declared.fault.ImageCause.TheVariants.{OutOfMemory}
 use Rattle.tape_image.specs.declared.fault.ImageFault.{ImageFault}
-use Rattle.tape_image.specs.Tape.{TapeItem, block, bad, mark}
+use Rattle.tape_image.specs.Tape.{TapeItem}
 use Rattle.tape_image.specs.Reader.{IfKnown}
-use Rattle.tape_image.specs.Step.{least_extent, TakesItem, TakesEnd, TakesFault}
-use Rattle.tape_image.proofs.Walks.{known_then, known_same, IfKnown-map}
+use Rattle.tape_image.specs.Step.{TakesItem, TakesEnd, TakesFault}
+use Rattle.tape_image.proofs.Walks.{known_then, IfKnown-map}
 use Rattle.tape_run.specs.declared.fault.ListFault.{ListFault}
 use Rattle.tape_run.specs.declared.fault.ListFault.TheVariants.{WriteFailed}
 use Rattle.tape_run.specs.Output.{AppendsFront}
 use Rattle.tape_run.specs.ListLine.{line_of}
-use Rattle.tape_run.specs.Placed.{PlacedItem, Places, item_extent, item_size, told_at, placed_line}
+use Rattle.tape_run.specs.Placed.{PlacedItem, Places, item_extent, told_at, placed_line}
 use Rattle.tape_run.specs.Placed.{placed_lines, placed_end}
 use Rattle.tape_run.specs.Placed.{PlacesToEnd, PlacesToFault, StopsPlacing, at_item, at_end}
 use Rattle.tape_run.specs.Placed.{at_fault, FitsPlacesCause, FitsPlaces}
@@ -57,15 +57,6 @@ pub record PlacedSoFar (all left : Option (List ℕ))
   pub known : IfKnown all left (Places 0 items place)
   pub counted : length items ≡ count
   pub wrote : Appends old new (placed_lines 1 items)
-
-pub placed_start : (all left w : Option (List ℕ)) (place : ℕ) → place ≡ 0 → left ≡ all
-    → PlacedSoFar all left place 0 w w
-placed_start all left w place first same = record {
-  items = [];
-  known = known_same all left (Places 0 [] place) same (λ xs. (sym first, refl));
-  counted = refl;
-  wrote = Appends-nil w;
-}
 
 -- the item that a call gave, with its places
 abbrev pub met : TapeItem → ℕ → ℕ → PlacedItem
@@ -151,13 +142,6 @@ places_cause LengthsDiffer fault before after old new other h = h
 places_cause (Reserved w) fault before after old new other h = h
 places_cause TooLong fault before after old new other h = h
 places_cause Device fault before after old new other h = h
-
--- an item begins behind the one before it, or where that ended
-pub size_fits : (item : TapeItem) (p q : ℕ) → p + least_extent item ≤ q
-    → item_size (met item p q) ≤ q
-size_fits (block bytes) p q h = omega (arith, h)
-size_fits bad p q h = omega (arith, h)
-size_fits mark p q h = omega (arith, h)
 
 -- the line of an item was not written whole
 pub placed_stop_item : (all left next : Option (List ℕ))

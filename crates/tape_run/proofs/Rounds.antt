@@ -189,7 +189,10 @@ pub some_images : {S L R : Type 0} (holds : S → List Portion → Type 0) (refu
 some_images {S} holds refusals size before gives remaining back mid new between left told says t
     other = elim (cases_lt 0 size) [
       | inl some ↦ some
-      | inr none ↦ absurd (other (ap (λ (s : Story S). wanted s.core) (t.none (omega (arith, none)))))
+      | inr none ↦ absurd (other (ap (λ (s : Story S). wanted s.core) (t.none (omega (
+        arith,
+        none,
+      )))))
     ]
 
 -- one more round was made, and it was enough

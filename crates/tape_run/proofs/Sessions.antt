@@ -107,12 +107,12 @@ kept_save old new v k =
 
 -- ---- a reel
 
-pub reeled : (failed : Bool) (mounted new : State) (held now : List Portion) (bytes : List ℕ) (p : State) (notes : List Point) (f1 f2 r1 r2 : ℕ)
+pub reeled : (failed : Bool) (mounted new : State) (held now : List Portion) (bytes : List ℕ)
+    (p : State) (notes : List Point) (f1 f2 r1 r2 : ℕ)
     → ((set : FileSet) (parts : List Portion) (xs : List TapeItem) (h : Happening) → IsLawful set
     → IsMount set xs h → IsPlaced set p parts → is_under mounted set p.position xs 0 h)
     → rest_of mounted ≡ p → (rest_of new).set_id ≡ p.set_id → (rest_of new).file ≡ p.file → r2 ≡ r1
-    → IsFront held now → f2 ≡ counted failed f1
-    → mounted ≡ mount_of p
+    → IsFront held now → f2 ≡ counted failed f1 → mounted ≡ mount_of p
     → ReadsImage failed mounted new held now bytes
     → Reeled bytes failed (record {
       place = p;
@@ -122,8 +122,7 @@ pub reeled : (failed : Bool) (mounted new : State) (held now : List Portion) (by
       refusals = r1;
     })
     (record { place = rest_of new; parts = now; notes = notes; failures = f2; refusals = r2 })
-reeled failed mounted new held now bytes p notes f1 f2 r1 r2 begins same set_id
-    file
+reeled failed mounted new held now bytes p notes f1 f2 r1 r2 begins same set_id file
     calm grows count mount r = record {
       given = r.given;
       is_given = r.is_given;
@@ -140,12 +139,13 @@ reeled failed mounted new held now bytes p notes f1 f2 r1 r2 begins same set_id
           (r.table xs end stop b);
     }
 
-pub cut_short : (mounted new : State) (held now : List Portion) (bytes : List ℕ) (p : State) (notes : List Point) (f1 r1 r2 : ℕ)
+pub cut_short : (mounted new : State) (held now : List Portion) (bytes : List ℕ) (p : State)
+    (notes : List Point) (f1 r1 r2 : ℕ)
     → ((set : FileSet) (parts : List Portion) (xs : List TapeItem) (h : Happening) → IsLawful set
     → IsMount set xs h → IsPlaced set p parts → is_under mounted set p.position xs 0 h)
-    → rest_of mounted ≡ p → (rest_of new).set_id ≡ p.set_id → (rest_of new).file ≡ p.file → Rose r1 r2
-    → IsFront held now
-    → mounted ≡ mount_of p → CutsTable mounted (rest_of new) held now bytes
+    → rest_of mounted ≡ p → (rest_of new).set_id ≡ p.set_id → (rest_of new).file ≡ p.file
+    → Rose r1 r2
+    → IsFront held now → mounted ≡ mount_of p → CutsTable mounted (rest_of new) held now bytes
     → RefusesImage mounted new held now bytes
     → CutShort bytes (record {
       place = p;

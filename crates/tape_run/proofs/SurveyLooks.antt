@@ -1,5 +1,5 @@
 -- What of an image was looked at so far.
-use Rattle.std.proofs.Common.{◌≡◌, ℕ, ◌+◌, List, [], ◌∷◌, ◌++◌, Option, Some}
+use Rattle.std.proofs.Common.{◌≡◌, ℕ, ◌+◌, List, [], ◌∷◌, ◌++◌, Option}
 use Rattle.std.proofs.Common.{refl, sym, ap, subst, ◌∙◌}
 use Rattle.tape_image.specs.declared.item.Ending.{Ending}
 use Rattle.tape_image.specs.declared.fault.ImageFault.{ImageFault}
@@ -18,8 +18,7 @@ use Rattle.tape_run.specs.Noted.{noted_all}
 use Rattle.tape_run.specs.Passing.{Told, step, in_list, phase_after, under_way}
 use Rattle.tape_run.specs.SurveyFiles.{Filed, with_met, with_all, filed_in}
 use Rattle.tape_run.specs.SurveyGlance.{blank_glance, head_in, look_to, look_all, glance_of}
-use Rattle.std.specs.Prelude.{◌&&◌, Bool}
-use Rattle.tape_run.specs.SurveyRead.{Found, ViewsItems, Views, IsViewed, is_whole_sight}
+use Rattle.tape_run.specs.SurveyRead.{ViewsItems}
 use Rattle.tape_run.proofs.NotedSoFar.{SoFar, starts, one_more, by_ending, all_noted}
 
 -- one more item was looked at
@@ -122,13 +121,3 @@ viewed_fault all left next p fault sections files phase sight mid told filed s t
       noted = all_noted all left p s.count sections phase mid told s.so_far notes;
       named = s.named;
     }
-
--- an image was read, and what it leaves over noted
-pub viewed_one : (before after : Option (List ℕ)) (c mid : Found) (sight : Sight) (w : Bool)
-    → Views before after c sight mid → w ≡ is_whole_sight sight
-    → IsViewed (Some before) (Some sight) c (record mid { whole = mid.whole && w })
-viewed_one before after c mid sight w v is = (
-  after,
-  v.viewed,
-  ap (λ (b : Bool). b && w) v.same ∙ ap (λ (b : Bool). c.whole && b) is,
-)

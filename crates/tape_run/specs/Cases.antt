@@ -234,7 +234,8 @@ pub record CasesOfMade : Type 0 where
       → Rose old.refusals new.refusals × IsFront old.parts new.parts × (new.notes ≡ old.notes)
       × (new.failures ≡ old.failures) × (new.place.file ≡ old.place.file)
   pub stopped_by : (set : FileSet) (old new : Seen) (xs : List TapeItem) (h : Happening)
-      (s : StoppedBy set old.place.file old.place.position xs h new.place new.parts) → IsPlaced set new.place new.parts
+      (s : StoppedBy set old.place.file old.place.position xs h new.place new.parts)
+      → IsPlaced set new.place new.parts
       × (slice_get xs s.n ≡ Some (block s.content))
       × (new.place.position
       ≡ at_part s.part (after_mount set old.place.file old.place.position (cut s.n h)))

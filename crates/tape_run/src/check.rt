@@ -11,16 +11,13 @@ ghost use Rattle.tape_run.specs.Output.{AppendsFront};
 
 use crate::catalogue::Catalogue;
 use crate::check_line::{image_line, lack_line, section_line};
-use crate::fault::{EngineFault, RunFault, WriteFailed};
+use crate::fault::{EngineFault, NO_MEMORY, WriteFailed};
 use crate::output::{flush, write_text};
 use crate::report::check_set;
 use crate::section::{ImageLine, Lack, SectionLine};
 use crate::shelf::Shelf;
 use std::alloc::{AllocError, Global};
 use std::io::{Read, Write};
-
-/// There was no memory.
-const NO_MEMORY: EngineFault = EngineFault::Run(RunFault::OutOfMemory);
 
 /// Reports what is on the images of a shelf: a line for each image, a line for each section in the
 /// order in which they were met first, a line for each file that lacks a section, and a last line

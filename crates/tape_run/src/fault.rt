@@ -63,6 +63,9 @@ pub enum EngineFault {
     WriteFailed,
 }
 
+/// There was no memory.
+pub(crate) const NO_MEMORY: EngineFault = EngineFault::Run(RunFault::OutOfMemory);
+
 impl From<RunFault> for EngineFault {
     ghost from_gives = { λ fault e. e ≡ engine.Run fault };
 

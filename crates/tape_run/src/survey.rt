@@ -17,16 +17,13 @@ mod text;
 mod view;
 
 use crate::check::pass_on;
-use crate::fault::{EngineFault, RunFault};
+use crate::fault::{EngineFault, NO_MEMORY};
 use crate::shelf::Shelf;
 use line::sight_text;
 use sets::{is_all, sets_text};
 use std::alloc::{AllocError, Global};
 use std::io::{Read, Write};
 use view::{Findings, Sight};
-
-/// There was no memory.
-const NO_MEMORY: EngineFault = EngineFault::Run(RunFault::OutOfMemory);
 
 /// Tells what the images of a shelf are, by their names: a line for each, as soon as it was read;
 /// then each set that was met, with its files, and a last line where nothing lacks and nothing on

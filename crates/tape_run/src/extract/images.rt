@@ -8,7 +8,7 @@ ghost use Rattle.tape_run.specs.Reeling.{is_doubtful, IsNoted, WentToLast, IsKep
 
 use super::line::reel_line;
 use crate::answer::ReelAnswer;
-use crate::fault::{EngineFault, RunFault};
+use crate::fault::{EngineFault, NO_MEMORY, RunFault};
 use crate::output::write_text;
 use crate::session::Session;
 use crate::shelf::Shelf;
@@ -55,7 +55,7 @@ pub fn read_round<S: PartSink, R: Read + Drop, L: Shelf<R>, P: Write>(
             return Ok(());
         }
         let Ok(image) = images.mount(number) else {
-            return Err(EngineFault::Run(RunFault::OutOfMemory));
+            return Err(NO_MEMORY);
         };
         take_image(session, image, lines + number as u64 + 1, back, report)?;
     }

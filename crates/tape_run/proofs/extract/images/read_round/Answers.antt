@@ -71,7 +71,8 @@ loop-number-preserved g c =
     c.mount.new.self) at c.in-Ok.ensures.ok in (
       turns ++ taken.turn ∷ [],
       length-append turns (taken.turn ∷ []) ∙ ap (λ m. m + 1) e,
-      one_mounted g.L.Shelf.gives (IsTurn g.R.Read.remaining) c.args.images.now 0 turns c.loop-number.images
+      one_mounted g.L.Shelf.gives (IsTurn g.R.Read.remaining) c.args.images.now 0 turns
+          c.loop-number.images
           taken.turn c.in-Ok.image c.mount.new.self are mounted taken.is_turn,
       line_behind (c.args.lines + 1) _ _ _ turns taken.turn _ number lines taken.line,
       λ zero. absurd (omega (arith, zero)),

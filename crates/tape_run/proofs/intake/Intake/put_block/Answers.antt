@@ -30,7 +30,8 @@ returns-in-Err-clause-err g c = λ held parts k known_is h was.
     let point_is : c.refused_point-point.result ≡ refused_point before (saved behind 0) n
     (begun_behind before.begun (drop (part_of before.position) (take n parts))) =
     c.refused_point-point.ensures
-    ∙ (ap (λ (z : Point). refused_point before z n c.in-Err.refused.begun) c.save-after.ensures.value
+    ∙ (ap (λ (z : Point). refused_point before z n c.in-Err.refused.begun)
+    c.save-after.ensures.value
     ∙ ap (refused_point before (saved behind 0) n) begun) in
     let is_set = ap (λ (z : Point). z.set_id) point_is
     ∙ refused_set before (saved behind 0) n _ behind.set_id c.requires.same_set refl in

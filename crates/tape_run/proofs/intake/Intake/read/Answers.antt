@@ -35,7 +35,8 @@ items-init g c = record {
     held,
     was,
     front_self held,
-    known_same c.args.image.now.left c.args.image.now.left (SoFar c.args.self.now.core c.args.self.now.core held held c.args.image.now.place) refl
+    known_same c.args.image.now.left c.args.image.now.left (SoFar c.args.self.now.core
+        c.args.self.now.core held held c.args.image.now.place) refl
         (λ xs. rw c.requires.first (nothing_yet c.args.self.now.core held
         xs)),
   );
@@ -102,7 +103,8 @@ returns-in_err-answer-in-Ok-Some-clause-err g c =
       then,
       has_then,
       front_trans held now then front more,
-      known_all c.args.image.now.left next.left (λ xs zs. RefusesImage c.args.self.now.core c.take.new.self.core held then xs) _ (λ xs zs r. r)
+      known_all c.args.image.now.left next.left (λ xs zs. RefusesImage c.args.self.now.core
+          c.take.new.self.core held then xs) _ (λ xs zs r. r)
           (known_then c.args.image.now.left c.items.image.left next.left _ _ _
           (λ xs ys zs s k. refused_early c.args.self.now.core
           c.items.self.core

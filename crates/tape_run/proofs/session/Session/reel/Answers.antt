@@ -71,7 +71,8 @@ returns-in-Ok-read-clause-ok g c =
           c.self.inside.failures c.counted-self-inside.result _ _
           (begins c.self.inside.intake.core c.mount.new.self c.mount.ensures.table
           c.mount.ensures.same) c.mount.ensures.same set_id file end.calm front
-          (c.counted-self-inside.ensures ∙ ap (λ b. counted b c.self.inside.failures) c.is_device.ensures)
+          (c.counted-self-inside.ensures ∙ ap (λ b. counted b c.self.inside.failures)
+          c.is_device.ensures)
           (c.mount.ensures.table ∙ mount_rest c.self.inside.intake.core) r) reads,
     ))
 
