@@ -3,7 +3,7 @@
 use tape_label::{Field, Format};
 
 /// The versions of the text.
-#[derive(Clone, Copy, Debug, PartialEq, Eq)]
+#[derive(Clone, Copy)]
 pub enum Version {
     /// With a block of six digits, and no part. It is read, and not written any more.
     One,
@@ -12,7 +12,7 @@ pub enum Version {
 }
 
 /// The numbers of the block and of the part.
-#[derive(Clone, Copy, Debug)]
+#[derive(Clone, Copy)]
 pub struct Place {
     /// The number of the block in its section, counted from 0.
     pub block: u64,
@@ -21,7 +21,7 @@ pub struct Place {
 }
 
 /// `D` or `R`, and the two digits behind it.
-#[derive(Clone, Copy, Debug)]
+#[derive(Clone, Copy)]
 pub struct Flags {
     /// Whether the whole file was delivered.
     pub done: bool,
@@ -32,7 +32,7 @@ pub struct Flags {
 }
 
 /// What is said of the file.
-#[derive(Clone, Copy, Debug)]
+#[derive(Clone, Copy)]
 pub struct Form {
     /// F, D or S, or a space.
     pub format: Option<Format>,
@@ -45,7 +45,7 @@ pub struct Form {
 }
 
 /// All fields behind the version, which are the same in both versions.
-#[derive(Clone, Copy, Debug)]
+#[derive(Clone, Copy)]
 pub struct Fields {
     /// The file set identifier.
     pub set_id: Field<6>,

@@ -6,7 +6,7 @@ use tape_core::Checkpoint;
 
 /// The slot that is meant, its generation and its checkpoint, and whether the other slot's gate
 /// stands open.
-#[derive(Clone, Copy, Debug)]
+#[derive(Clone, Copy)]
 pub(crate) struct Found {
     pub(crate) in_second: bool,
     pub(crate) other_open: bool,

@@ -56,7 +56,8 @@ impl<D: Disk> WriteBehind<D> {
     fn pass_on(&mut self) -> Result<(), DiskFault>
         ensures empty { OnOk result (self.new.bytes.items ≡ []) }
         ensures start { OnOk result (self.new.start ≡ 0) }
-        ensures same_length { max (D.length_of self.new.disk) (self.new.start + length self.new.bytes.items)
+        ensures same_length { max (D.length_of self.new.disk)
+            (self.new.start + length self.new.bytes.items)
             ≡ max (D.length_of self.old.disk) (self.old.start + length self.old.bytes.items) }
         ensures same { D.is_honest self.old.disk
             → with_held self.new.start self.new.bytes.items (D.seen self.new.disk)
@@ -140,9 +141,11 @@ impl<D: Disk> WriteBehind<D> {
             (max (D.length_of self.new.disk) (self.new.start + length self.new.bytes.items)
             ≡ max (max (D.length_of self.old.disk) (self.old.start + length self.old.bytes.items))
             (place + length bytes.now)) }
-        ensures no_shorter { max (D.length_of self.old.disk) (self.old.start + length self.old.bytes.items)
+        ensures no_shorter { max (D.length_of self.old.disk)
+            (self.old.start + length self.old.bytes.items)
             ≤ max (D.length_of self.new.disk) (self.new.start + length self.new.bytes.items) }
-        ensures no_longer { max (D.length_of self.new.disk) (self.new.start + length self.new.bytes.items)
+        ensures no_longer { max (D.length_of self.new.disk)
+            (self.new.start + length self.new.bytes.items)
             ≤ max (max (D.length_of self.old.disk) (self.old.start + length self.old.bytes.items))
             (place + length bytes.now) }
         ensures partly { D.is_honest self.old.disk → OnErr result (Torn place (length bytes.now)

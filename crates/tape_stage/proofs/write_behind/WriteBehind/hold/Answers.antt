@@ -41,8 +41,12 @@ returns-then-takes-clause-crash g c honest x now =
     let added = c.add.ensures in
     let (e, first, second) = left_more (g.D.Disk.may_leave h.disk) h.start h.bytes.items
     c.args.bytes.now x
-    (same_left g.D.Disk.may_leave _ _ _ _ _ _ x added.disk added.start added.bytes now) in
-    (e, first, subst (λ (n : ℕ). Torn n (length c.args.bytes.now) e x) c.if-takes.ensures.end second)
+    (same_left g.D.Disk.may_leave _ _ _ _ _ _ x added.disk added.start added.bytes now) in (
+      e,
+      first,
+      subst (λ (n : ℕ). Torn n (length c.args.bytes.now) e x) c.if-takes.ensures.end
+          second,
+    )
 
 pub returns-then-takes-clause-time : goal.returns-then-takes-clause-time
 returns-then-takes-clause-time g c honest =
@@ -90,7 +94,8 @@ returns-clause-any g c honest d x left torn =
     let passed = c.in_ok-pass_on.ensures in
     let p = c.pass_on.new.self in
     let added = c.add-2.ensures in
-    same_left g.D.Disk.may_leave _ _ _ _ _ _ x (sym added.disk) (sym added.start) (sym added.bytes) (
+    same_left g.D.Disk.may_leave _ _ _ _ _ _ x (sym added.disk) (sym added.start)
+    (sym added.bytes) (
       d,
       left_none (g.D.Disk.may_leave p.disk) p.start p.bytes.items d passed.empty
           (passed.stays honest d left),
