@@ -170,9 +170,9 @@ pub cases_of_stages : {D : Type 0} (g : Ghosts D) → CasesOfStages g
 cases_of_stages g = record {
   untouched_stays = λ old new u.
       (u.read, u.crash.now, λ c h. u.crash.before (g.moment old) c (omega arith) h);
-  only_read_stays = λ old new o honest.
-      (o.same honest, o.honest.onward honest, (o.any_moment honest).now);
-  read_is_as_long = λ old new o. (o.same_length, o.honest.back);
+  only_read_stays = λ old new o honest. (o.same honest, (o.any_moment honest).now);
+  read_is_as_long = λ old new o. (o.same_length, o.back);
+  as_honest = λ old new same. (same.onward, same.back);
   is_stage = λ stage acked parts s. (s.alive, s.behind, s.holds, s.ready);
   holds = λ stage parts h. (h.honest, h.framed, h.weighs, h.ready);
   ahead = λ stage parts h. h;

@@ -1,5 +1,6 @@
 -- What a stage holds, as a sink.
 use Rattle.std.proofs.Common.{◌≡◌, ℕ, Bool, false, List, length}
+use Rattle.std.specs.Prelude.{Option, None}
 use Rattle.std.proofs.Common.{drop, refl, sym, ap, ◌∙◌, subst, arith}
 use Rattle.std.proofs.lemmas.List.{length-take-le, length-drop}
 use Rattle.tape_stage.specs.declared.disk.Disk.{Ghosts}
@@ -27,7 +28,7 @@ module _ {D : Type 0} {disk : Ghosts D} where
   pub stage_holds : (stage : Stage D disk) (acked parts : List Portion) → disk.is_honest stage.disk
       → IsStage stage acked parts → Holds stage parts
   stage_holds stage acked parts honest is = record {
-    honest = honest;
+    honest = λ none. honest;
     framed = is.holds;
     weighs = holding_weighs stage.weight parts (disk.seen stage.disk) is.holds;
     ready = λ alive. (acked, is);
@@ -37,12 +38,12 @@ module _ {D : Type 0} {disk : Ghosts D} where
   pub opened_holds : (at : D) (in_second : Bool) (g : ℕ) (point : Point) (other_open : Bool)
       (weight : ℕ) (parts : List Portion) → weight ≡ point.staged → disk.is_honest at
       → Ready in_second g point parts other_open (disk.seen at) (disk.may_leave at)
-      → AreHeld disk at in_second g point other_open weight false parts
+      → AreHeld disk at in_second g point other_open weight false None parts
   opened_holds at in_second g point other_open weight parts told honest ready =
       let framed : Holding weight parts (disk.seen at) =
       subst (λ (w : ℕ). Holding w parts (disk.seen at)) (sym told) ready.staged.parts_are in
       record {
-        honest = honest;
+        honest = λ none. honest;
         framed = framed;
         weighs = holding_weighs weight parts (disk.seen at) framed;
         ready = λ alive. (
@@ -59,13 +60,14 @@ module _ {D : Type 0} {disk : Ghosts D} where
 
   -- so does one that was refused, where the frames stand as they stood
   pub refused_holds : (old new : Stage D disk) (parts : List Portion) (fault : StageFault)
-      → HasRefused old new fault → (disk.is_honest old.disk → disk.is_honest new.disk)
+      → HasRefused old new fault
+      → (fault ≡ Device → new.pending ≡ None → disk.is_honest old.disk → disk.is_honest new.disk)
       → (disk.is_honest old.disk → Holding old.weight parts (disk.seen old.disk)
       → Holding old.weight parts (disk.seen new.disk)) → Holds old parts → Holds new parts
   refused_holds old new parts Device is honest kept holds = record {
-    honest = honest holds.honest;
+    honest = λ none. honest refl none (holds.honest (old.settled is.0));
     framed = subst (λ (w : ℕ). Holding w parts (disk.seen new.disk)) (sym is.2)
-        (kept holds.honest holds.framed);
+        (kept (holds.honest (old.settled is.0)) holds.framed);
     weighs = is.2 ∙ holds.weighs;
     ready = λ alive. absurd (cc (alive, is.1));
   }
@@ -100,20 +102,20 @@ module _ {D : Type 0} {disk : Ghosts D} where
       }
 
   pub read_held : (old new : D) (in_second : Bool) (g : ℕ) (point : Point) (other_open : Bool)
-      (weight : ℕ) (failed : Bool) (parts : List Portion)
-      → (disk.is_honest old → disk.is_honest new)
-      → (disk.is_honest old → disk.seen new ≡ disk.seen old) → (disk.is_honest old → (c : List ℕ)
-      → disk.may_leave new c → disk.may_leave old c)
-      → AreHeld disk old in_second g point other_open weight failed parts
-      → AreHeld disk new in_second g point other_open weight failed parts
-  read_held old new in_second g point other_open weight failed parts honest same no_more held =
+      (weight : ℕ) (failed : Bool) (pending : Option Point) (parts : List Portion)
+      → disk.is_honest new → disk.seen new ≡ disk.seen old
+      → ((c : List ℕ) → disk.may_leave new c → disk.may_leave old c)
+      → AreHeld disk old in_second g point other_open weight failed pending parts
+      → AreHeld disk new in_second g point other_open weight failed pending parts
+  read_held old new in_second g point other_open weight failed pending parts honest same no_more
+      held =
       record {
-        honest = honest held.honest;
-        framed = subst (Holding weight parts) (sym (same held.honest)) held.framed;
+        honest = λ none. honest;
+        framed = subst (Holding weight parts) (sym same) held.framed;
         weighs = held.weighs;
         ready = λ alive. let was = held.ready alive in (
           was.0,
           read_staged old new in_second g point other_open weight failed was.0 parts
-              (same held.honest) (no_more held.honest) was.1,
+              same no_more was.1,
         );
       }

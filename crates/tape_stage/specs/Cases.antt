@@ -209,24 +209,27 @@ pub record CasesOfStages {D : Type 0} (g : Ghosts D) : Type 0 where
       → g.left_since old (g.moment old) c ⊎ g.may_leave old c)
   -- so it is of what was only read of an honest disk,
   pub only_read_stays : (old new : D) → OnlyReads g old new → g.is_honest old
-      → (g.seen new ≡ g.seen old) × g.is_honest new
-      × ((c : List ℕ) → g.may_leave new c → g.may_leave old c)
+      → (g.seen new ≡ g.seen old) × ((c : List ℕ) → g.may_leave new c → g.may_leave old c)
   -- and any disk stays as long, and becomes no honest one
   pub read_is_as_long : (old new : D) → OnlyReads g old new
       → (g.length_of new ≡ g.length_of old) × (g.is_honest new → g.is_honest old)
+  -- a disk is as honest as another where each is that the other is
+  pub as_honest : (old new : D) → disk.SameFact (g.is_honest old) (g.is_honest new)
+      → (g.is_honest old → g.is_honest new) × (g.is_honest new → g.is_honest old)
   -- of a stage all parts are framed, the first of them are acknowledged, and it has not failed
   pub is_stage : (stage : Stage D g) (acked parts : List Portion) → IsStage stage acked parts
       → (stage.failed ≡ false) × (stage.acknowledged.staged ≤ stage.weight)
       × Holding stage.weight parts (g.seen stage.disk)
       × Ready stage.in_second stage.generation stage.acknowledged acked stage.other_open
       (g.seen stage.disk) (g.may_leave stage.disk)
-  -- what it holds is what it would read, on an honest disk
+  -- what it holds is what it would read, on a disk that is honest unless a save failed
   pub holds : (stage : Stage D g) (parts : List Portion) → Holds stage parts
-      → g.is_honest stage.disk × Holding stage.weight parts (g.seen stage.disk)
+      → (stage.pending ≡ None → g.is_honest stage.disk)
+      × Holding stage.weight parts (g.seen stage.disk)
       × (stage.weight ≡ weight_of parts)
       × (stage.failed ≡ false → (acked : List Portion) × IsStage stage acked parts)
   pub ahead : (stage : Stage D g) (parts : List Portion) → IsAhead stage parts
-      → g.is_honest stage.disk
+      → (stage.pending ≡ None → g.is_honest stage.disk)
       × AheadIn (256 + stage.walked) (256 + stage.weight) (g.seen stage.disk) parts
   -- what is ready is acknowledged, and alike in all that a crash may leave
   pub ready : (second : Bool) (n : ℕ) (point : Point) (parts : List Portion) (other_open : Bool)

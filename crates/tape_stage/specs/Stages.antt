@@ -1,5 +1,5 @@
 -- What a stage stands for.
-use Rattle.std.specs.Prelude.{◌≡◌, ℕ, ◌+◌, ◌≤◌, Bool, true, false, List}
+use Rattle.std.specs.Prelude.{◌≡◌, ℕ, ◌+◌, ◌≤◌, Bool, true, false, List, Option, None}
 use Rattle.tape_stage.specs.declared.disk.Disk.{Ghosts}
 use Rattle.tape_blocks.specs.Block.{Portion}
 use Rattle.tape_core.specs.Stands.{weight_of}
@@ -26,12 +26,12 @@ IsStage {D} {disk} stage acked parts =
     IsStaged disk stage.disk stage.in_second stage.generation stage.acknowledged
     stage.other_open stage.weight stage.failed acked parts
 
--- These parts are framed on a disk that can be believed, and acknowledged parts are ready unless
--- the stage failed.
+-- These parts are framed on a disk that can be believed, unless it failed while a checkpoint was
+-- being saved; and acknowledged parts are ready unless the stage failed.
 pub record AreHeld {D : Type 0} (disk : Ghosts D) (at : D) (in_second : Bool) (generation : ℕ)
-    (point : Point) (other_open : Bool) (weight : ℕ) (failed : Bool)
+    (point : Point) (other_open : Bool) (weight : ℕ) (failed : Bool) (pending : Option Point)
     (parts : List Portion) : Type 0 where
-  pub honest : disk.is_honest at
+  pub honest : pending ≡ None → disk.is_honest at
   pub framed : Holding weight parts (disk.seen at)
   pub weighs : weight ≡ weight_of parts
   pub ready : failed ≡ false → (acked : List Portion)
@@ -41,11 +41,11 @@ pub record AreHeld {D : Type 0} (disk : Ghosts D) (at : D) (in_second : Bool) (g
 abbrev pub Holds : {D : Type 0} {disk : Ghosts D} → Stage D disk → List Portion → Type 0
 Holds {D} {disk} stage parts =
     AreHeld disk stage.disk stage.in_second stage.generation stage.acknowledged
-    stage.other_open stage.weight stage.failed parts
+    stage.other_open stage.weight stage.failed stage.pending parts
 
 -- these parts are still to come
 abbrev pub IsAhead : {D : Type 0} {disk : Ghosts D} → Stage D disk → List Portion → Type 0
-IsAhead {D} {disk} stage parts = disk.is_honest stage.disk
+IsAhead {D} {disk} stage parts = (stage.pending ≡ None → disk.is_honest stage.disk)
     × AheadIn (256 + stage.walked) (256 + stage.weight) (disk.seen stage.disk) parts
 
 -- how a stage stands once a call was refused: failed by the disk, or as it was

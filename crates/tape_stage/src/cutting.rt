@@ -68,7 +68,8 @@ impl<D: Disk> Stage<D> {
         ensures refusals { self.new.refused ≡ self.old.refused }
         ensures cause { IsErrOf result StageFault.Device
             → Rose (D.faults self.old.disk) (D.faults self.new.disk) }
-        ensures honest { SameFact (D.is_honest self.old.disk) (D.is_honest self.new.disk) }
+        ensures honest { OnOk result (D.is_honest self.old.disk → D.is_honest self.new.disk) }
+        ensures back { D.is_honest self.new.disk → D.is_honest self.old.disk }
     {
         if self.failed {
             return Err(StageFault::Failed);

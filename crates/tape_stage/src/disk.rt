@@ -12,7 +12,8 @@ pub enum DiskFault {
 }
 
 pub trait Disk {
-    /// Whether what follows, the length and the count aside, can be believed.
+    /// Whether what follows, the length and the count aside, can be believed. A sync that failed
+    /// may end that.
     ghost is_honest: { Self → Type 0 };
 
     /// How many bytes there are.
@@ -105,6 +106,11 @@ pub trait Disk {
         ensures honest { SameFact (is_honest self.old) (is_honest self.new) };
 
     /// After it, a crash leaves what a read gives.
+    ///
+    /// # Errors
+    ///
+    /// `Device`. From then on the disk need not be honest: a system may have let go of what it
+    /// could not keep, and answer the next sync with Ok.
     fn sync(&mut self) -> Result<(), DiskFault>
         ensures durable { is_honest self.old
             → OnOk result (Only (seen self.old) (may_leave self.new)) }
@@ -116,7 +122,8 @@ pub trait Disk {
             (left_since self.new) (may_leave self.new) }
         ensures cause { OnErr result (Rose (faults self.old) (faults self.new)) }
         ensures calm { OnOk result (faults self.new ≡ faults self.old) }
-        ensures honest { SameFact (is_honest self.old) (is_honest self.new) };
+        ensures honest { OnOk result (is_honest self.old → is_honest self.new) }
+        ensures back { is_honest self.new → is_honest self.old };
 
     /// The count of bytes is that of what is read.
     ghost long_as_seen: { (disk : Self) → is_honest disk → length_of disk ≡ length (seen disk) };

@@ -1,6 +1,6 @@
 //! A write, kept.
 ghost use Rattle.std.specs.Prelude.{◌≡◌, ◌+◌, ◌≤◌, max, length, OnOk, OnErr};
-ghost use Rattle.tape_stage.specs.Disk.{Holds, Torn, Only, SameFact};
+ghost use Rattle.tape_stage.specs.Disk.{Holds, Torn, Only};
 ghost use Rattle.tape_core.specs.Weight.{Rose};
 ghost use Rattle.tape_stage.specs.Moments.{After, Passes};
 
@@ -22,7 +22,8 @@ pub(crate) fn write_kept<D: Disk>(disk: &mut D, place: u64, bytes: &[u8]) -> Res
         (D.seen disk.new) }
     ensures cause { OnErr result (Rose (D.faults disk.old) (D.faults disk.new)) }
     ensures calm { OnOk result (D.faults disk.new ≡ D.faults disk.old) }
-    ensures honest { SameFact (D.is_honest disk.old) (D.is_honest disk.new) }
+    ensures honest { OnOk result (D.is_honest disk.old → D.is_honest disk.new) }
+    ensures back { D.is_honest disk.new → D.is_honest disk.old }
 {
     disk.write_at(place, bytes)?;
     disk.sync()

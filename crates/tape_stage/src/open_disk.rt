@@ -9,7 +9,7 @@ ghost use Rattle.tape_stage.specs.Faults.{SaysNone, IsNotDevice, OnBadFrame};
 ghost use Rattle.tape_stage.specs.Found.{IsBadPlace};
 ghost use Rattle.tape_stage.specs.Stages.{IsStage, IsOpened, Holds, Survives, Returns};
 ghost use Rattle.tape_stage.specs.Body.{body_text, FitBody};
-ghost use Rattle.tape_stage.specs.Disk.{Only, SameFact};
+ghost use Rattle.tape_stage.specs.Disk.{Only};
 ghost use Rattle.tape_core.specs.Weight.{Rose};
 ghost use Rattle.tape_core.specs.Point.{Point};
 
@@ -60,7 +60,8 @@ fn recover<D: Disk>(alloc: Global, disk: &mut D) -> Result<(Found, Vec<u8>), Sta
         → D.length_of disk.new ≡ D.length_of disk.old) }
     ensures cause { IsErrOf result StageFault.Device
         → Rose (D.faults disk.old) (D.faults disk.new) }
-    ensures honest { SameFact (D.is_honest disk.old) (D.is_honest disk.new) }
+    ensures honest { OnOk result (D.is_honest disk.old → D.is_honest disk.new) }
+    ensures back { D.is_honest disk.new → D.is_honest disk.old }
 {
     // The buffer before the cut: a refusal leaves the disk as it was.
     let found = look(disk)?;
@@ -93,7 +94,8 @@ fn make<D: Disk>(alloc: Global, disk: &mut D, point: Checkpoint) -> Result<(), S
     ensures long { OnOk result (D.length_of disk.new ≡ 256) }
     ensures cause { IsErrOf result StageFault.Device
         → Rose (D.faults disk.old) (D.faults disk.new) }
-    ensures honest { SameFact (D.is_honest disk.old) (D.is_honest disk.new) }
+    ensures honest { OnOk result (D.is_honest disk.old → D.is_honest disk.new) }
+    ensures back { D.is_honest disk.new → D.is_honest disk.old }
     ensures not_full { IsErrOf result StageFault.Full → ⊥ }
     ensures not_failed { IsErrOf result StageFault.Failed → ⊥ }
 {

@@ -7,7 +7,7 @@ ghost use Rattle.tape_blocks.specs.Block.{Portion};
 ghost use Rattle.tape_stage.specs.Staged.{read_slot, slot_at, HoldsNone, Holding, Loses};
 ghost use Rattle.tape_stage.specs.Found.{IsFound, IsBadPlace};
 ghost use Rattle.tape_stage.specs.Faults.{SaysNone, OnBadFrame};
-ghost use Rattle.tape_stage.specs.Disk.{CutShort, Only, SameFact};
+ghost use Rattle.tape_stage.specs.Disk.{CutShort, Only};
 ghost use Rattle.tape_stage.specs.OnlyReading.{OnlyReads};
 ghost use Rattle.tape_core.specs.Weight.{Rose};
 
@@ -104,7 +104,8 @@ pub(crate) fn cut_kept<D: Disk>(disk: &mut D, end: u64) -> Result<(), DiskFault>
         (λ c. take end c ≡ take end (D.seen disk.old)) }
     ensures short { OnOk result (D.length_of disk.new ≡ end) }
     ensures cause { OnErr result (Rose (D.faults disk.old) (D.faults disk.new)) }
-    ensures honest { SameFact (D.is_honest disk.old) (D.is_honest disk.new) }
+    ensures honest { OnOk result (D.is_honest disk.old → D.is_honest disk.new) }
+    ensures back { D.is_honest disk.new → D.is_honest disk.old }
 {
     // Synced, so that what is put behind the end is not taken for what stood there before.
     disk.cut(end)?;
@@ -128,6 +129,7 @@ pub(crate) fn find_on<D: Disk>(disk: &mut D) -> Result<Found, StageFault>
         → Rose (D.faults disk.old) (D.faults disk.new) }
     ensures calm { OnOk result (D.faults disk.new ≡ D.faults disk.old) }
     ensures reads { OnlyReads D.Disk disk.old disk.new }
+    ensures honest { OnOk result (D.is_honest disk.old → D.is_honest disk.new) }
 {
     // Before anything is read: what reads give is then what a crash leaves, and the cut that
     // follows rests on slots that stay.
@@ -171,6 +173,7 @@ pub(crate) fn look<D: Disk>(disk: &mut D) -> Result<Found, StageFault>
         → Rose (D.faults disk.old) (D.faults disk.new) }
     ensures calm { OnOk result (D.faults disk.new ≡ D.faults disk.old) }
     ensures reads { OnlyReads D.Disk disk.old disk.new }
+    ensures honest { OnOk result (D.is_honest disk.old → D.is_honest disk.new) }
 {
     let found = find_on(disk)?;
     let len = disk.len()?;

@@ -77,6 +77,7 @@ impl<D: Disk> Stage<D> {
         ensures refused { IfErr result (HasRefused self.old self.new) }
         ensures refusals { self.new.refused ≡ self.old.refused }
         ensures acknowledged { self.new.acknowledged ≡ self.old.acknowledged }
+        ensures pending { self.new.pending ≡ self.old.pending }
         ensures cause { IsErrOf result StageFault.Device
             → Rose (D.faults self.old.disk) (D.faults self.new.disk) }
         ensures full { IsErrOf result StageFault.Full → (self.new ≡ self.old)

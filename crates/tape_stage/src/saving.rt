@@ -6,7 +6,6 @@ ghost use Rattle.tape_blocks.specs.Block.{Portion};
 ghost use Rattle.tape_stage.specs.Parts.{IsFront};
 ghost use Rattle.tape_stage.specs.Staged.{Holding, IsEither, KeepsFrames, Staged};
 ghost use Rattle.tape_stage.specs.Stages.{IsStage, HasRefused};
-ghost use Rattle.tape_stage.specs.Disk.{SameFact};
 ghost use Rattle.tape_core.specs.Weight.{Rose};
 
 use crate::disk::Disk;
@@ -61,7 +60,8 @@ impl<D: Disk> Stage<D> {
         ensures generation { OnOk result (self.new.generation ≡ self.old.generation + 1) }
         ensures cause { IsErrOf result StageFault.Device
             → Rose (D.faults self.old.disk) (D.faults self.new.disk) }
-        ensures honest { SameFact (D.is_honest self.old.disk) (D.is_honest self.new.disk) }
+        ensures honest { OnOk result (D.is_honest self.old.disk → D.is_honest self.new.disk) }
+        ensures back { D.is_honest self.new.disk → D.is_honest self.old.disk }
     {
         let generation = self.next_generation()?;
         let next = *point;
@@ -131,7 +131,8 @@ impl<D: Disk> Stage<D> {
         ensures acknowledged { OnOk result (self.new.acknowledged ≡ point.now) }
         ensures cause { IsErrOf result StageFault.Device
             → Rose (D.faults self.old.disk) (D.faults self.new.disk) }
-        ensures honest { SameFact (D.is_honest self.old.disk) (D.is_honest self.new.disk) }
+        ensures honest { OnOk result (D.is_honest self.old.disk → D.is_honest self.new.disk) }
+        ensures back { D.is_honest self.new.disk → D.is_honest self.old.disk }
     {
         self.acknowledge(point)
     }
@@ -156,7 +157,8 @@ impl<D: Disk> Stage<D> {
         ensures acknowledged { OnOk result (self.new.acknowledged ≡ point.now) }
         ensures cause { IsErrOf result StageFault.Device
             → Rose (D.faults self.old.disk) (D.faults self.new.disk) }
-        ensures honest { SameFact (D.is_honest self.old.disk) (D.is_honest self.new.disk) }
+        ensures honest { OnOk result (D.is_honest self.old.disk → D.is_honest self.new.disk) }
+        ensures back { D.is_honest self.new.disk → D.is_honest self.old.disk }
     {
         let staged = point.staged;
         // Saved first and then cut: a cut before could take parts that the older checkpoint tells.

@@ -1,7 +1,7 @@
 //! The slot protocol: how a new generation takes the place of the older one.
 ghost use Rattle.std.specs.Prelude.{◌≡◌, ◌⊎◌, ◌+◌, ◌<◌, ◌≤◌, ◌^◌, ℕ, Bool, not, List, length, OnOk};
 ghost use Rattle.std.specs.Prelude.{OnErr};
-ghost use Rattle.tape_stage.specs.Disk.{Holds, Torn, Only, SameFact};
+ghost use Rattle.tape_stage.specs.Disk.{Holds, Torn, Only};
 ghost use Rattle.tape_core.specs.Weight.{Rose};
 ghost use Rattle.tape_stage.specs.Moments.{After, Passes};
 ghost use Rattle.tape_blocks.specs.Block.{Portion};
@@ -44,7 +44,8 @@ pub(crate) fn close_gate<D: Disk>(
     ensures long { OnOk result (D.length_of disk.new ≡ D.length_of disk.old) }
     ensures cause { OnErr result (Rose (D.faults disk.old) (D.faults disk.new)) }
     ensures calm { OnOk result (D.faults disk.new ≡ D.faults disk.old) }
-    ensures honest { SameFact (D.is_honest disk.old) (D.is_honest disk.new) }
+    ensures honest { OnOk result (D.is_honest disk.old → D.is_honest disk.new) }
+    ensures back { D.is_honest disk.new → D.is_honest disk.old }
 {
     // A gate that is closed is left alone: a write of it that a crash tears could leave it open
     // over a body that was never acknowledged. The sync is due in either case, since it keeps the
@@ -82,7 +83,8 @@ pub(crate) fn fill_slot<D: Disk>(
     ensures long { OnOk result (D.length_of disk.new ≡ D.length_of disk.old) }
     ensures cause { OnErr result (Rose (D.faults disk.old) (D.faults disk.new)) }
     ensures calm { OnOk result (D.faults disk.new ≡ D.faults disk.old) }
-    ensures honest { SameFact (D.is_honest disk.old) (D.is_honest disk.new) }
+    ensures honest { OnOk result (D.is_honest disk.old → D.is_honest disk.new) }
+    ensures back { D.is_honest disk.new → D.is_honest disk.old }
 {
     // Whatever a crash leaves of these bytes does not count, for their gate is closed on the disk.
     let body = body_bytes(generation, next);
@@ -108,7 +110,8 @@ pub(crate) fn open_gate<D: Disk>(disk: &mut D, in_second: bool) -> Result<(), Di
     ensures long { OnOk result (D.length_of disk.new ≡ D.length_of disk.old) }
     ensures cause { OnErr result (Rose (D.faults disk.old) (D.faults disk.new)) }
     ensures calm { OnOk result (D.faults disk.new ≡ D.faults disk.old) }
-    ensures honest { SameFact (D.is_honest disk.old) (D.is_honest disk.new) }
+    ensures honest { OnOk result (D.is_honest disk.old → D.is_honest disk.new) }
+    ensures back { D.is_honest disk.new → D.is_honest disk.old }
 {
     // One byte, behind the sync of all that it makes count: a crash leaves it open or not.
     write_kept(disk, gate_place(!in_second), &[OPEN])
@@ -142,7 +145,8 @@ pub(crate) fn replace_slot<D: Disk>(
     ensures long { OnOk result (D.length_of disk.new ≡ D.length_of disk.old) }
     ensures cause { OnErr result (Rose (D.faults disk.old) (D.faults disk.new)) }
     ensures calm { OnOk result (D.faults disk.new ≡ D.faults disk.old) }
-    ensures honest { SameFact (D.is_honest disk.old) (D.is_honest disk.new) }
+    ensures honest { OnOk result (D.is_honest disk.old → D.is_honest disk.new) }
+    ensures back { D.is_honest disk.new → D.is_honest disk.old }
 {
     // Each step is synced before the next begins: the gate is closed before its body changes, and
     // opened when that is kept.

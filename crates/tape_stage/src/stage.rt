@@ -1,6 +1,6 @@
 //! A stage: parts on a disk, and the checkpoint that was acknowledged last.
 
-ghost use Rattle.std.specs.Prelude.{◌≡◌, ◌+◌, ◌≤◌, false, length};
+ghost use Rattle.std.specs.Prelude.{◌≡◌, ◌+◌, ◌≤◌, false, length, None};
 ghost use Rattle.tape_stage.specs.Faults.{number};
 ghost use Rattle.tape_stage.specs.declared.stage.StageFault.TheVariants.{Device, OutOfMemory};
 
@@ -97,6 +97,7 @@ pub struct Stage<D: Disk> {
     /// How many calls were refused to it as a sink.
     pub(crate) refused: u64,
     ghost long: { failed ≡ false → 256 + weight ≤ D.length_of disk },
+    ghost settled: { failed ≡ false → pending ≡ None },
     ghost behind: { walked ≤ weight },
     ghost room: { 99999 ≤ length buffer.items },
     ghost bounded: { weight ≤ 999999999999999 },

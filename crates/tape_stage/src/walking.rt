@@ -78,6 +78,7 @@ pub(crate) fn walk<D: Disk>(disk: &mut D, end: u64, limit: u64) -> Result<(), St
         → Rose (D.faults disk.old) (D.faults disk.new) }
     ensures calm { OnOk result (D.faults disk.new ≡ D.faults disk.old) }
     ensures reads { OnlyReads D.Disk disk.old disk.new }
+    ensures honest { D.is_honest disk.old → D.is_honest disk.new }
 {
     let mut place: u64 = 256;
     while place < end {

@@ -9,6 +9,8 @@ mod files;
 #[cfg(test)]
 mod fixtures;
 #[cfg(test)]
+mod forgets;
+#[cfg(test)]
 mod held;
 #[cfg(test)]
 mod points;

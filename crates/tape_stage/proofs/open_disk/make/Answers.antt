@@ -27,7 +27,7 @@ returns-clause-made g c honest =
     let s0 = g.D.Disk.seen c.args.disk.now in
     let s1 = g.D.Disk.seen c.write_kept.new.disk in
     let s2 = g.D.Disk.seen c.write_kept-2.new.disk in
-    let h1 = c.write_kept.ensures.honest.onward honest in
+    let h1 = c.in_ok-write_kept.ensures.honest honest in
     let empty : length s0 ≡ 0 =
     omega (arith, g.met.D.Disk.long_as_seen c.args.disk.now honest, c.requires.empty) in
     let text = first_text c.deref.result.now c.in_ok-header.header.items

@@ -19,7 +19,7 @@ returns-in_err-cut_kept-clause-any_moment g c honest =
     let d1 = c.look.new.disk in
     let d2 = c.cut_kept.new.disk in
     let found = c.in_ok-found.found in
-    let honest1 = c.look.ensures.reads.honest.onward honest in
+    let honest1 = c.in_ok-found.ensures.honest honest in
     let read = g.D.Disk.seen d0 in
     let same = c.look.ensures.reads.same honest in
     let end = 256 + c.staged.result in
@@ -42,7 +42,7 @@ returns-clause-any_moment g c honest =
     let d1 = c.look.new.disk in
     let d2 = c.cut_kept.new.disk in
     let found = c.in_ok-found.found in
-    let honest1 = c.look.ensures.reads.honest.onward honest in
+    let honest1 = c.in_ok-found.ensures.honest honest in
     let read = g.D.Disk.seen d0 in
     let same = c.look.ensures.reads.same honest in
     let end = 256 + c.staged.result in
@@ -70,7 +70,7 @@ pub returns-clause-found : goal.returns-clause-found
 returns-clause-found g c honest =
     let d2 = c.cut_kept.new.disk in
     let found = c.in_ok-found.found in
-    let honest1 = c.look.ensures.reads.honest.onward honest in
+    let honest1 = c.in_ok-found.ensures.honest honest in
     let read = g.D.Disk.seen c.args.disk.now in
     let same = c.look.ensures.reads.same honest in
     let end = 256 + c.staged.result in
@@ -146,7 +146,7 @@ returns-in_err-cut_kept-clause-kept g c honest =
     let d2 = g.D.Disk.seen c.cut_kept.new.disk in
     let end = 256 + c.staged.result in
     let told : end ≡ 256 + found.point.staged = ap (λ (n : ℕ). 256 + n) c.staged.ensures.value in
-    let honest1 = c.look.ensures.reads.honest.onward honest in
+    let honest1 = c.in_ok-found.ensures.honest honest in
     on_each_err c.from_residual-in_err-cut_kept.result
     (cut_keeps found d0 d2 end (c.in_ok-found.ensures.found honest) told
     (subst (λ (old : List ℕ). CutShort end old d2) (c.look.ensures.reads.same honest)
@@ -157,6 +157,6 @@ returns-clause-cut g c honest =
     let end = 256 + c.staged.result in
     let told : end ≡ 256 + c.in_ok-found.found.point.staged =
     ap (λ (n : ℕ). 256 + n) c.staged.ensures.value in
-    let honest1 = c.look.ensures.reads.honest.onward honest in
+    let honest1 = c.in_ok-found.ensures.honest honest in
     c.in_ok-cut_kept.ensures.cut honest1 ∙ ap (take end) (c.look.ensures.reads.same honest)
     ∙ ap (λ (n : ℕ). take n (g.D.Disk.seen c.args.disk.now)) told

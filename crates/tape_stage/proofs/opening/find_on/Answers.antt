@@ -4,7 +4,7 @@ use Rattle.tape_stage.proofs.opening.find_on.Goals as goal
 
 pub returns-in-Some-clause-found : goal.returns-in-Some-clause-found
 returns-in-Some-clause-found g c honest =
-    let honest1 = c.sync.ensures.honest.onward honest in
+    let honest1 = c.in_ok-sync.ensures.honest honest in
     let honest2 = c.len.ensures.honest.onward honest1 in
     let seen : g.D.Disk.seen c.len.new.self ≡ g.D.Disk.seen c.args.disk.now =
     c.len.ensures.same honest1 ∙ c.sync.ensures.same honest in
@@ -16,7 +16,7 @@ returns-in-Some-clause-found g c honest =
 
 pub returns-in-None-clause-none : goal.returns-in-None-clause-none
 returns-in-None-clause-none g c honest is g' point parts staged =
-    let honest1 = c.sync.ensures.honest.onward honest in
+    let honest1 = c.in_ok-sync.ensures.honest honest in
     let honest2 = c.len.ensures.honest.onward honest1 in
     let seen : g.D.Disk.seen c.len.new.self ≡ g.D.Disk.seen c.args.disk.now =
     c.len.ensures.same honest1 ∙ c.sync.ensures.same honest in

@@ -12,7 +12,7 @@ less n m e = omega (arith, e)
 
 pub returns-in_err-walk-clause-none : goal.returns-in_err-walk-clause-none
 returns-in_err-walk-clause-none g c h =
-    let honest1 = c.find_on.ensures.reads.honest.onward h in
+    let honest1 = c.in_ok-found.ensures.honest h in
     let honest2 = c.len.ensures.honest.onward honest1 in
     let same : g.D.Disk.seen c.len.new.self ≡ g.D.Disk.seen c.args.disk.now =
     c.len.ensures.same honest1 ∙ c.find_on.ensures.reads.same h in
@@ -26,7 +26,7 @@ returns-in_err-walk-clause-none g c h =
 
 pub returns-clause-parts : goal.returns-clause-parts
 returns-clause-parts g c h =
-    let honest1 = c.find_on.ensures.reads.honest.onward h in
+    let honest1 = c.in_ok-found.ensures.honest h in
     let honest2 = c.len.ensures.honest.onward honest1 in
     let staged = c.in_ok-found.found.point.staged in
     let same : g.D.Disk.seen c.len.new.self ≡ g.D.Disk.seen c.args.disk.now =
@@ -52,7 +52,7 @@ returns-in_err-found-clause-at g c h =
 
 pub returns-in_err-walk-clause-at : goal.returns-in_err-walk-clause-at
 returns-in_err-walk-clause-at g c h =
-    let honest1 = c.find_on.ensures.reads.honest.onward h in
+    let honest1 = c.in_ok-found.ensures.honest h in
     let honest2 = c.len.ensures.honest.onward honest1 in
     let found = c.in_ok-found.found in
     let is = c.in_ok-found.ensures.found h in

@@ -16,7 +16,7 @@ returns-in_err-close_gate-clause-any_moment g c honest g' point parts more next_
 
 pub returns-in_err-fill_slot-clause-any_moment : goal.returns-in_err-fill_slot-clause-any_moment
 returns-in_err-fill_slot-clause-any_moment g c honest g' point parts more next_is ready holding =
-    let honest1 = c.close_gate.ensures.honest.onward honest in
+    let honest1 = c.in_ok-close_gate.ensures.honest honest in
     let closed = c.in_ok-close_gate.ensures.closed honest g' point parts ready in
     weaken g.D.Disk.may_leave g.D.Disk.moment g.D.Disk.left_since c.args.disk.now
     c.fill_slot.new.disk (StagedIn c.args.in_second g' point parts)
@@ -30,8 +30,8 @@ returns-in_err-fill_slot-clause-any_moment g c honest g' point parts more next_i
 
 pub returns-clause-done : goal.returns-clause-done
 returns-clause-done g c honest =
-    let honest1 = c.close_gate.ensures.honest.onward honest in
-    let honest2 = c.fill_slot.ensures.honest.onward honest1 in
+    let honest1 = c.in_ok-close_gate.ensures.honest honest in
+    let honest2 = c.in_ok-fill_slot.ensures.honest honest1 in
     on_ok c.open_gate.result
     (λ to g' point parts more next_is ready holding.
     let closed = c.in_ok-close_gate.ensures.closed honest g' point parts ready in
@@ -52,8 +52,8 @@ returns-clause-done g c honest =
 
 pub returns-clause-any_moment : goal.returns-clause-any_moment
 returns-clause-any_moment g c honest g' point parts more next_is ready holding =
-    let honest1 = c.close_gate.ensures.honest.onward honest in
-    let honest2 = c.fill_slot.ensures.honest.onward honest1 in
+    let honest1 = c.in_ok-close_gate.ensures.honest honest in
+    let honest2 = c.in_ok-fill_slot.ensures.honest honest1 in
     let closed = c.in_ok-close_gate.ensures.closed honest g' point parts ready in
     let either = IsEither c.args.in_second g' point c.args.next parts more in
     follow g.D.Disk.may_leave g.D.Disk.moment g.D.Disk.left_since c.args.disk.now
@@ -83,13 +83,13 @@ returns-in_err-fill_slot-clause-frames g c honest =
     let seen = g.D.Disk.seen in
     frames_then (seen c.args.disk.now) (seen c.close_gate.new.disk) (seen c.fill_slot.new.disk)
     (c.close_gate.ensures.frames honest)
-    (c.fill_slot.ensures.frames (c.close_gate.ensures.honest.onward honest))
+    (c.fill_slot.ensures.frames (c.in_ok-close_gate.ensures.honest honest))
 
 pub returns-clause-frames : goal.returns-clause-frames
 returns-clause-frames g c honest =
     let seen = g.D.Disk.seen in
-    let honest1 = c.close_gate.ensures.honest.onward honest in
-    let honest2 = c.fill_slot.ensures.honest.onward honest1 in
+    let honest1 = c.in_ok-close_gate.ensures.honest honest in
+    let honest2 = c.in_ok-fill_slot.ensures.honest honest1 in
     frames_then (seen c.args.disk.now) (seen c.fill_slot.new.disk) (seen c.open_gate.new.disk)
     (frames_then (seen c.args.disk.now) (seen c.close_gate.new.disk) (seen c.fill_slot.new.disk)
     (c.close_gate.ensures.frames honest) (c.fill_slot.ensures.frames honest1))

@@ -16,9 +16,10 @@ returns-in-Ok-clause-ok g c front rest holds weighs =
       weighs = weighs;
     } in
     let e = c.in-Ok.ensures in
+    let honest = holds.honest (c.args.self.now.settled e.was_alive) in
     let was = holds.ready e.was_alive in
-    let now = e.ok holds.honest was.0 parts front was.1 of in
-    stage_holds c.cut_back.new.self now.0 front (e.honest.onward holds.honest) now.1
+    let now = e.ok honest was.0 parts front was.1 of in
+    stage_holds c.cut_back.new.self now.0 front (e.honest honest) now.1
 
 pub returns-in-Ok-clause-crash : goal.returns-in-Ok-clause-crash
 returns-in-Ok-clause-crash g c front rest holds weighs back there r =
@@ -31,10 +32,11 @@ returns-in-Ok-clause-crash g c front rest holds weighs back there r =
     } in
     let s = c.args.self.now in
     let e = c.in-Ok.ensures in
+    let honest = holds.honest (c.args.self.now.settled e.was_alive) in
     let was = holds.ready e.was_alive in
     returned s was.0 parts front c.args.point.now r.0 r.2.0 back there
-    (g.met.D.Disk.seen_now s.disk holds.honest) was.1
-    ((e.any_moment holds.honest was.0 parts front was.1 of).now r.0 r.1) r.2.1
+    (g.met.D.Disk.seen_now s.disk honest) was.1
+    ((e.any_moment honest was.0 parts front was.1 of).now r.0 r.1) r.2.1
 
 pub returns-in-Err-clause-crash : goal.returns-in-Err-clause-crash
 returns-in-Err-clause-crash g c front rest holds weighs back there r =
@@ -50,10 +52,11 @@ returns-in-Err-clause-crash g c front rest holds weighs back there r =
     refused_returns s c.cut_back.new.self c.in-Err.fault back there (Returns s back there
     ⊎ ((back ≡ c.args.point.now) × (there ≡ front))) e.refused
     (λ alive r.
+    let honest = holds.honest (s.settled alive) in
     let was = holds.ready alive in
     returned s was.0 parts front c.args.point.now r.0 r.2.0 back there
-    (g.met.D.Disk.seen_now s.disk holds.honest) was.1
-    ((e.any_moment holds.honest was.0 parts front was.1 of).now r.0 r.1) r.2.1)
+    (g.met.D.Disk.seen_now s.disk honest) was.1
+    ((e.any_moment honest was.0 parts front was.1 of).now r.0 r.1) r.2.1)
     (λ r. inl r) r
 
 pub returns-in-Ok-clause-after : goal.returns-in-Ok-clause-after
@@ -66,8 +69,9 @@ returns-in-Ok-clause-after g c front rest holds weighs before =
       weighs = weighs;
     } in
     let e = c.in-Ok.ensures in
+    let honest = holds.honest (c.args.self.now.settled e.was_alive) in
     let was = holds.ready e.was_alive in
-    let now = e.ok holds.honest was.0 parts front was.1 of in
+    let now = e.ok honest was.0 parts front was.1 of in
     stage_survives c.cut_back.new.self now.0 front now.1
 
 pub returns-in-Err-clause-after : goal.returns-in-Err-clause-after
@@ -82,6 +86,8 @@ returns-in-Err-clause-after g c front rest holds weighs before =
     let s = c.args.self.now in
     let e = c.in-Err.ensures in
     refused_survives s c.cut_back.new.self c.in-Err.fault e.refused
-    (λ alive bytes left. let was = holds.ready alive in
+    (λ alive bytes left.
+    let honest = holds.honest (s.settled alive) in
+    let was = holds.ready alive in
     either_stands s.in_second s.generation s.acknowledged c.args.point.now was.0 front bytes
-    ((e.any_moment holds.honest was.0 parts front was.1 of).now bytes left)) before
+    ((e.any_moment honest was.0 parts front was.1 of).now bytes left)) before

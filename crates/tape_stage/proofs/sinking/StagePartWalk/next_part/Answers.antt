@@ -38,6 +38,7 @@ returns-in-Ok g c =
     let s = c.args.self.now in
     let e = c.in-Ok.ensures in
     let d = c.read_frame.new.disk in
+    let calm = s.settled c.if-self.false in
     let old = g.D.Disk.seen s.disk in
     let new = g.D.Disk.seen d in
     let same : c.deref.result.now ≡ c.read_frame.new.buffer =
@@ -50,23 +51,24 @@ returns-in-Ok g c =
         λ _. tt,
         rw same record {
           kept = λ parts holds. read_held s.disk d s.in_second s.generation s.acknowledged
-              s.other_open s.weight s.failed parts e.reads.honest.onward e.reads.same
-              (λ honest. (e.reads.any_moment honest).now) holds;
+              s.other_open s.weight s.failed s.pending parts (e.honest (holds.honest calm))
+              (e.reads.same (holds.honest calm)) (e.reads.any_moment (holds.honest calm)).now holds;
           crash = λ parts holds back there r. (
             r.0,
-            (e.reads.any_moment holds.honest).now r.0 r.1,
+            (e.reads.any_moment (holds.honest calm)).now r.0 r.1,
             r.2,
           );
           after =
               λ parts holds before bytes left. before bytes
-              ((e.reads.any_moment holds.honest).now bytes
+              ((e.reads.any_moment (holds.honest calm)).now bytes
               left);
           same_weight = refl;
           gives = λ parts is.
               let next = given s.walked (256 + s.weight) c.in-Ok.size old new c.in-Ok.span
               (take c.in-Ok.size c.read_frame.new.buffer) parts
-              (omega (arith, c.if-self-2.false)) (e.found is.0) long (e.reads.same is.0) is.1 in
-              (next.0, next.1, (e.reads.honest.onward is.0, next.2));
+              (omega (arith, c.if-self-2.false)) (e.found (is.0 calm)) long
+              (e.reads.same (is.0 calm)) is.1 in
+              (next.0, next.1, (λ none. e.honest (is.0 none), next.2));
           lends = (omega (arith, long, e.short), omega (arith, c.if-self-2.false, e.ends));
           counts = refl;
         },

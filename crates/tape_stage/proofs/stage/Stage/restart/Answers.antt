@@ -30,7 +30,7 @@ returns-in-Ok-clause-ok g c honest =
     c.requires of is.holds in
     cut front parts front (c.in-Ok.ensures.ok honest acked parts front is holding)
     (subst (λ (p : Point). IsFront p.staged front parts) (sym c.point.view_is) of))
-    (c.cut_parts.ensures.ok (c.acknowledge.ensures.honest.onward honest))
+    (c.cut_parts.ensures.ok (c.in-Ok.ensures.honest honest))
 
 pub returns-in-Ok-clause-any_moment : goal.returns-in-Ok-clause-any_moment
 returns-in-Ok-clause-any_moment g c honest acked parts front is of =
@@ -39,7 +39,7 @@ returns-in-Ok-clause-any_moment g c honest acked parts front is of =
     c.requires of is.holds in
     let k = c.acknowledge.new.self in
     let mid = c.in-Ok.ensures.ok honest acked parts front is holding in
-    let honest1 = c.acknowledge.ensures.honest.onward honest in
+    let honest1 = c.in-Ok.ensures.honest honest in
     let point : k.acknowledged ≡ c.args.point.now = c.in-Ok.ensures.acknowledged in
     let P = IsEither s.in_second s.generation s.acknowledged c.args.point.now acked front in
     follow g.D.Disk.may_leave g.D.Disk.moment g.D.Disk.left_since s.disk k.disk
