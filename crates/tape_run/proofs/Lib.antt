@@ -33,6 +33,7 @@ pub mod Listing
 pub mod Fronts
 pub mod Completes
 pub mod WorkedHistory
+mod WorkedDays
 pub mod Fitting
 mod ListLines
 mod ListedSoFar

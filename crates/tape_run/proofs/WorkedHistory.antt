@@ -47,7 +47,7 @@ made = record {
 is_made : made ≡ worked_set
 is_made = refl
 
-fit_of : (sect n : ℕ) → 1 ≤ sect → sect ≤ 9999 → n ≤ most_blocks → Fit 1 sect n
+pub fit_of : (sect n : ℕ) → 1 ≤ sect → sect ≤ 9999 → n ≤ most_blocks → Fit 1 sect n
 fit_of sect n a b c = record {
   file_least = lit≤ tt;
   file_most = lit≤ tt;
@@ -217,7 +217,7 @@ cut_off bytes ss n e size within = record {
 
 -- ---- each mount is a copy, or foreign
 
-whole_1 : IsMountOf worked_set reel_1 (reads (reading 1 (replicate 11 true)))
+pub whole_1 : IsMountOf worked_set reel_1 (reads (reading 1 (replicate 11 true)))
 whole_1 = (
   items worked_set 1,
   508,
@@ -232,7 +232,7 @@ whole_1 = (
   },
 )
 
-whole_2 : IsMountOf worked_set reel_2 (reads (reading 2 (replicate 10 true)))
+pub whole_2 : IsMountOf worked_set reel_2 (reads (reading 2 (replicate 10 true)))
 whole_2 = (
   items worked_set 2,
   482,

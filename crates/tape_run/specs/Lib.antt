@@ -32,6 +32,7 @@ pub mod Passing
 -- Of readings cut short, and of one history that meets every premise.
 pub mod Fronts
 pub mod WorkedHistory
+pub mod WorkedDays
 -- Writers, and identifiers as they are printed: of the reports below.
 pub mod Output
 pub mod Identifier

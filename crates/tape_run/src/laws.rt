@@ -15,6 +15,7 @@ ghost use Rattle.tape_run.specs.Fronts.{FrontsAreMounts, GivenIsHistory};
 ghost use Rattle.tape_run.specs.Lead.{ItemsAreThere};
 ghost use Rattle.tape_run.specs.Lives.{StoodComesBack, StandsAcrossCrashes};
 ghost use Rattle.tape_run.specs.Runs.{OnlyRefusalsStop};
+ghost use Rattle.tape_run.specs.WorkedDays.{DaysAreWorked};
 ghost use Rattle.tape_run.specs.WorkedHistory.{HistoryIsWorked};
 
 /// A run over a script that names notes that exist, with readers enough, is stopped by a refusal
@@ -45,9 +46,11 @@ pub fn given_is_history()
     ensures { GivenIsHistory }
 {}
 
-/// A worked history meets the premises of the headline, and what this then says of it.
+/// A worked history meets the premises of the headline, and what this then says of it; so of its
+/// set where a reader fails, where the sink refuses a part, and on another day.
 pub fn worked_history()
-    ensures { HistoryIsWorked }
+    ensures history { HistoryIsWorked }
+    ensures days { DaysAreWorked }
 {}
 
 /// Whatever bytes the readers have, they begin with items, and with these alone.

@@ -1,0 +1,265 @@
+-- The worked set where a reader fails, where a part is refused, and on another day.
+use Rattle.std.proofs.Common.{◌≡◌, ◌≤◌, ℕ, zero, suc, ◌+◌, List, [], ◌∷◌, ◌++◌, true, false}
+use Rattle.std.proofs.Common.{refl, sym, ap, ◌∙◌, subst, inl, inr, lit≤, codes, arith, take}
+use Rattle.std.proofs.Common.{Some, length, length-append}
+use Rattle.std.specs.Prelude.{replicate, drop, min, ⊤}
+use Rattle.std.proofs.lemmas.List.{take_all}
+use Rattle.tape_blocks.specs.Block.{Portion}
+use Rattle.tape_set.proofs.Worked as w
+use Rattle.tape_set.proofs.Worked.{made_form}
+use Rattle.tape_set.proofs.WorkedSpan as sp
+use Rattle.tape_set.specs.declared.position.Position.{Position}
+use Rattle.tape_set.specs.declared.position.Position.TheVariants.{Finished}
+use Rattle.tape_set.specs.Before.{before}
+use Rattle.tape_set.specs.Layout.{Section, section_of}
+use Rattle.tape_set.specs.Lawful.{TellsForm}
+use Rattle.tape_set.specs.Position.{start, at_part, want_at}
+use Rattle.tape_set.specs.Reach.{far}
+use Rattle.tape_core.specs.Stands.{Stands}
+use Rattle.tape_core.specs.declared.sink.SinkFault.{SinkFault}
+use Rattle.tape_run.specs.declared.fault.RunFault.TheVariants.{Sink}
+use Rattle.tape_run.specs.declared.script.Step.{Step}
+use Rattle.tape_run.specs.declared.script.Step.TheVariants.{Reel}
+use Rattle.tape_run.specs.Mount.{Happening, IsMountOf, reads, cut}
+use Rattle.tape_run.specs.History.{Course, course, course_of, IsHistory}
+use Rattle.tape_run.specs.Given.{AreGiven, counted_up}
+use Rattle.tape_run.specs.Headline.{begins, IsStart, IsRead, HasRun, HasStopped, Stops}
+use Rattle.tape_run.specs.Headline.{reels_in}
+use Rattle.tape_run.specs.Lives.{GoesOn}
+use Rattle.tape_run.specs.Seen.{Seen}
+use Rattle.tape_run.specs.WorkedHistory.{worked_set, section_1, section_2, first, middle, last}
+use Rattle.tape_run.specs.WorkedHistory.{reel_1, reading}
+use Rattle.tape_run.specs.WorkedDays.{DaysAreWorked, IsWhole, once, twice, two_reels, four_reels}
+use Rattle.tape_run.specs.WorkedDays.{behind_one}
+use Rattle.tape_run.specs.Back.{reels_of}
+use Rattle.tape_run.proofs.Back.{all_given}
+use Rattle.tape_run.proofs.Fronts.{fronts_are_mounts}
+use Rattle.tape_run.proofs.WorkedHistory.{is_lawful, whole_1, whole_2, fit_of}
+
+-- ---- wherever volume 1, or volume 2, broke off
+
+abbrev vol_1 : Happening
+vol_1 = reads (reading 1 (replicate 11 true))
+
+abbrev vol_2 : Happening
+vol_2 = reads (reading 2 (replicate 10 true))
+
+-- P holds of the numbers below k
+abbrev AllBelow : ℕ → (ℕ → Type 0) → Type 0
+AllBelow zero P = ⊤
+AllBelow (suc k) P = P 0 × AllBelow k (λ n. P (suc n))
+
+-- what holds of the numbers below k, and of the others, holds of each
+each : (k : ℕ) (P : ℕ → Type 0) → AllBelow k P → ((n : ℕ) → k ≤ n → P n) → (n : ℕ) → P n
+each zero P all more n = more n (omega arith)
+each (suc k) P (now, later) more zero = now
+each (suc k) P (now, later) more (suc n) =
+    each k (λ m. P (suc m)) later (λ m le. more (suc m) (omega (arith, le))) n
+
+-- the position that volume 1 makes of the start where it was read up to n items, in a block at a
+-- part
+abbrev behind_1 : ℕ → ℕ → Position
+behind_1 n part = at_part part (far worked_set 1 start (reading 1 (take n (replicate 11 true))))
+
+-- Behind it both volumes complete the file.
+abbrev Completes : ℕ → Type 0
+Completes n = (part : ℕ)
+    → far worked_set 1 (far worked_set 1 (behind_1 n part) (reading 1 (replicate 11 true)))
+    (reading 2 (replicate 10 true)) ≡ Finished
+
+all_completes : (n : ℕ) → 11 ≤ n → Completes n
+all_completes n le part =
+    let e : take n (replicate 11 true) ≡ replicate 11 true =
+    take_all n (replicate 11 true) le in
+    ap (λ g. far worked_set 1 (far worked_set 1
+    (at_part part (far worked_set 1 start (reading 1 g))) (reading 1 (replicate 11 true)))
+    (reading 2 (replicate 10 true))) e
+
+completes : (n : ℕ) → Completes n
+completes =
+    let r : ℕ → Finished ≡ Finished = λ p. refl in
+    each 11 Completes (r, (r, (r, (r, (r, (r, (r, (r, (r, (r, (r, tt))))))))))) all_completes
+
+-- ---- a reader that failed
+
+-- the happenings, the k-th of them, from 0 on, cut behind n items
+abbrev cut_one : ℕ → ℕ → List Happening → List Happening
+cut_one k n [] = []
+cut_one zero n (h ∷ hs) = cut n h ∷ hs
+cut_one (suc k) n (h ∷ hs) = h ∷ cut_one k n hs
+
+-- where one reader failed, one of the happenings is cut
+one_cut : (bytes given : List (List ℕ)) (hs : List Happening)
+    → IsHistory worked_set 0 (reels_of bytes) bytes hs → AreGiven 1 bytes given
+    → (k : ℕ) × (n : ℕ) × IsHistory worked_set 0 (reels_of bytes) given (cut_one k n hs)
+one_cut [] [] hs is a = absurd (omega (arith, a))
+one_cut [] (g ∷ given) hs is a = absurd a
+one_cut (b ∷ bytes) [] hs is a = absurd a
+one_cut (b ∷ bytes) (g ∷ given) [] is a = absurd is
+one_cut (b ∷ bytes) (g ∷ given) (h ∷ hs) (mount, rest) (inl (same, more)) =
+    let next = one_cut bytes given hs rest more in
+    (suc next.0, next.1, (subst (λ z. IsMountOf worked_set z h) (sym same) mount, next.2))
+one_cut (b ∷ bytes) (g ∷ given) (h ∷ hs) (mount, rest) (inr (m, e, (left, is), more)) =
+    let front = fronts_are_mounts worked_set g left h
+    (subst (λ z. IsMountOf worked_set z h) is mount) in
+    let all : given ≡ bytes = all_given bytes given
+    (subst (λ z. AreGiven z bytes given) (omega (arith, e)) more) in
+    let same : IsHistory worked_set 0 (reels_of bytes) given hs =
+    subst (λ z. IsHistory worked_set 0 (reels_of bytes) z hs) (sym all) rest in
+    (0, front.0, (front.1, same))
+
+abbrev four_volumes : List Happening
+four_volumes = vol_1 ∷ vol_2 ∷ vol_1 ∷ vol_2 ∷ []
+
+abbrev ends_with : List Happening → Position
+ends_with hs = (course worked_set 1 begins hs).at
+
+abbrev EndsSoon : ℕ → ℕ → Type 0
+EndsSoon k n = ends_with (cut_one k n four_volumes) ≡ Finished
+
+first_cut : (n : ℕ) → EndsSoon 0 n
+first_cut = each 11 (EndsSoon 0)
+    (refl, (refl, (refl, (refl, (refl, (refl, (refl, (refl, (refl, (refl, (refl, tt)))))))))))
+    (λ n le. ap (λ g. ends_with (reads (reading 1 g) ∷ vol_2 ∷ vol_1 ∷ vol_2 ∷ []))
+    (take_all n (replicate 11 true) le))
+
+second_cut : (n : ℕ) → EndsSoon 1 n
+second_cut = each 11 (EndsSoon 1)
+    (refl, (refl, (refl, (refl, (refl, (refl, (refl, (refl, (refl, (refl, (refl, tt)))))))))))
+    (λ n le. ap (λ g. ends_with (vol_1 ∷ reads (reading 2 g) ∷ vol_1 ∷ vol_2 ∷ []))
+    (take_all n (replicate 10 true) (omega (arith, le))))
+
+ends_soon : (k n : ℕ) → EndsSoon k n
+ends_soon zero n = first_cut n
+ends_soon (suc zero) n = second_cut n
+ends_soon (suc (suc zero)) n = refl
+ends_soon (suc (suc (suc zero))) n = refl
+ends_soon (suc (suc (suc (suc k)))) n = refl
+
+counts_up : (n c : ℕ) → c ≤ 18446744073709551615 → c ≤ counted_up n c
+counts_up zero c le = omega arith
+counts_up (suc n) c le =
+    let next = counts_up n (min (c + 1) 18446744073709551615) (omega arith) in
+    omega (arith, next, le)
+
+one_failed : (n : ℕ) → 1 ≡ counted_up n 0 → n ≡ 1
+one_failed zero e = absurd (omega (arith, e))
+one_failed (suc zero) e = refl
+one_failed (suc (suc n)) e = absurd (let two = counts_up n 2 (lit≤ tt) in omega (arith, two, e))
+
+failed : (s : Seen) → IsRead (codes "ABC001") 1 four_reels twice s → s.failures ≡ 1 → IsWhole s
+failed s r one =
+    let count : r.failed ≡ 1 = one_failed r.failed (sym one ∙ r.count) in
+    let h = one_cut twice r.given four_volumes (whole_1, (whole_2, (whole_1, (whole_2, tt))))
+    (subst (λ n. AreGiven n twice r.given) count r.are_given) in
+    let (there, parts) = r.reads worked_set (cut_one h.0 h.1 four_volumes) is_lawful refl refl
+    h.2 in
+    let end = ends_soon h.0 h.1 in
+    record {
+      all = parts ∙ ap (before worked_set 1) end;
+      no_want = ap (λ (c : Course). want_at 1 c.at) there ∙ ap (want_at 1) end;
+    }
+
+-- ---- a part that was refused
+
+step_is : (step : Step) (rest : List Step) → Reel ∷ [] ≡ step ∷ rest → Reel ≡ step
+step_is step rest e = cc
+
+-- the one step was not made
+at_first : (old mid : Seen) (made : List Step) (step : Step) (rest : List Step)
+    (given : List (List ℕ)) (cause : SinkFault) → Reel ∷ [] ≡ made ++ step ∷ rest
+    → ((hs : List Happening) → IsHistory worked_set (length old.notes) made given hs
+    → Stops worked_set old hs step (drop (reels_in made) (reel_1 ∷ [])) (Sink cause) mid)
+    → Stops worked_set old [] Reel (reel_1 ∷ []) (Sink cause) mid
+at_first old mid [] step rest given cause e stops =
+    subst (λ z. Stops worked_set old [] z (reel_1 ∷ []) (Sink cause) mid)
+    (sym (step_is step rest e)) (stops [] tt)
+at_first old mid (m ∷ made) step rest given cause e stops =
+    absurd (omega (arith, ap length e, length-append made (step ∷ rest)))
+
+none_up : (n c : ℕ) → 0 ≡ counted_up n c → n ≡ 0
+none_up zero c e = refl
+none_up (suc n) c e = absurd
+    (let h = counts_up n (min (c + 1) 18446744073709551615) (omega arith) in omega (arith, e, h))
+
+refused : (old mid new : Seen) (cause : SinkFault) → IsStart (codes "ABC001") 1 old
+    → HasStopped old (Reel ∷ []) (reel_1 ∷ []) (Sink cause) mid
+    → HasRun mid two_reels once new → new.failures ≡ 0 → IsWhole new
+refused old mid new cause begun halt ran none =
+    let fresh = begun.each worked_set is_lawful refl refl in
+    let put = at_first old mid halt.made halt.step halt.rest halt.given cause halt.all
+    (λ hs is. halt.stops worked_set hs is_lawful is fresh.session)
+    whole_1.0 whole_1.1 whole_1.2 vol_1 whole_1.3 whole_1.4 in
+    let cut_1 = reading 1 (take put.n (replicate 11 true)) in
+    let at : mid.place.position ≡ behind_1 put.n put.part =
+    put.position
+    ∙ (ap (λ f. at_part put.part (far worked_set f (course_of old).at cut_1)) fresh.its_file
+    ∙ ap (λ (c : Course). at_part put.part (far worked_set 1 c.at cut_1)) fresh.course) in
+    let file : mid.place.file ≡ 1 = put.same_file ∙ fresh.its_file in
+    let no_failure : ran.failed ≡ 0 =
+    none_up ran.failed mid.failures (sym none ∙ ran.count) in
+    let given : ran.given ≡ once =
+    all_given once ran.given (subst (λ n. AreGiven n once ran.given) no_failure ran.are_given) in
+    let both = vol_1 ∷ vol_2 ∷ [] in
+    let r = ran.ran worked_set both is_lawful
+    (subst (λ z. IsHistory worked_set (length mid.notes) two_reels z both) (sym given)
+    (whole_1, (whole_2, tt))) put.session in
+    let end : new.place.position ≡ Finished =
+    sym (ap (λ (c : Course). c.at) r.reached)
+    ∙ (ap (λ f. (course worked_set f (course_of mid) both).at) file
+    ∙ (ap (λ p. far worked_set 1 (far worked_set 1 p (reading 1 (replicate 11 true)))
+    (reading 2 (replicate 10 true))) at
+    ∙ completes put.n put.part)) in
+    record {
+      all = r.session.at.all
+          ∙ (ap (λ f. before worked_set f new.place.position) (r.same_file ∙ file)
+          ∙ ap (before worked_set 1) end);
+      no_want = ap (want_at 1) end;
+    }
+
+-- ---- another day
+
+some_is : (s t : Section) → Some s ≡ Some t → s ≡ t
+some_is s t e = cc
+
+tells : (sect : ℕ) (s : Section) → section_of worked_set 1 sect ≡ Some s
+    → TellsForm (w.form sp.shape) s
+tells zero s e = absurd (cc)
+tells (suc zero) s e = subst (TellsForm (w.form sp.shape)) (some_is section_1 s e)
+    (made_form sp.shape 1 1 1 false (sp.first_block ∷ sp.middle_block ∷ []) sp.shape_fits
+    (fit_of 1 2 (lit≤ tt) (lit≤ tt) (lit≤ tt))
+    (sp.first_written.holds, (sp.middle_written.holds, tt))).labels
+tells (suc (suc zero)) s e = subst (TellsForm (w.form sp.shape)) (some_is section_2 s e)
+    (made_form sp.shape 2 1 2 true (sp.last_block ∷ []) sp.shape_fits
+    (fit_of 2 1 (lit≤ tt) (lit≤ tt) (lit≤ tt)) (sp.last_written.holds, tt)).labels
+tells (suc (suc (suc n))) s e = absurd (cc)
+
+stands_there : Stands worked_set 1 behind_one (first ∷ [])
+stands_there = record {
+  of_set = refl;
+  of_file = refl;
+  there = record {
+    inside = (section_1, refl, lit≤ tt, inl refl);
+    span = refl;
+    tells = (w.form sp.shape, refl, tells);
+  };
+  all = refl;
+  staged = refl;
+}
+
+goes_on : (now : List Portion) (on : GoesOn behind_one (first ∷ []) two_reels once now)
+    → on.failed ≡ 0 → now ≡ first ∷ middle ∷ last ∷ []
+goes_on now on none =
+    let given : on.given ≡ once =
+    all_given once on.given (subst (λ n. AreGiven n once on.given) none on.are_given) in
+    let both = vol_1 ∷ vol_2 ∷ [] in
+    on.delivers worked_set both is_lawful stands_there
+    (subst (λ z. IsHistory worked_set 0 two_reels z both) (sym given) (whole_1, (whole_2, tt)))
+
+pub are_worked : DaysAreWorked
+are_worked = record {
+  failed_reader = failed;
+  refused_part = refused;
+  stands = stands_there;
+  resumed = goes_on;
+}

@@ -1,0 +1,67 @@
+-- What the headline says of the worked set where a reader fails, where the sink refuses a part, and
+-- where a session is resumed on another day.
+use Rattle.std.specs.Prelude.{◌≡◌, ℕ, true, List, [], ◌∷◌, None, Some, codes}
+use Rattle.tape_label.specs.declared.values.Format.TheVariants.{Spanned}
+use Rattle.tape_blocks.specs.Block.{Portion}
+use Rattle.tape_set.specs.Position.{awaiting, want_at}
+use Rattle.tape_core.specs.Point.{Point}
+use Rattle.tape_core.specs.Stands.{Stands}
+use Rattle.tape_core.specs.declared.sink.SinkFault.{SinkFault}
+use Rattle.tape_run.specs.declared.script.Step.{Step}
+use Rattle.tape_run.specs.declared.script.Step.TheVariants.{Reel}
+use Rattle.tape_run.specs.declared.fault.RunFault.TheVariants.{Sink}
+use Rattle.tape_run.specs.Headline.{IsStart, IsRead, HasRun, HasStopped}
+use Rattle.tape_run.specs.Lives.{GoesOn}
+use Rattle.tape_run.specs.Seen.{Seen}
+use Rattle.tape_run.specs.WorkedHistory.{worked_set, first, middle, last, reel_1, reel_2}
+
+-- the whole file is held, and nothing is wanted of it
+pub record IsWhole (s : Seen) : Type 0 where
+  pub all : s.parts ≡ first ∷ middle ∷ last ∷ []
+  pub no_want : want_at 1 s.place.position ≡ None
+
+-- both volumes, read once
+abbrev pub once : List (List ℕ)
+once = reel_1 ∷ reel_2 ∷ []
+
+-- and read twice
+abbrev pub twice : List (List ℕ)
+twice = reel_1 ∷ reel_2 ∷ reel_1 ∷ reel_2 ∷ []
+
+abbrev pub two_reels : List Step
+two_reels = Reel ∷ Reel ∷ []
+
+abbrev pub four_reels : List Step
+four_reels = Reel ∷ Reel ∷ Reel ∷ Reel ∷ []
+
+-- the checkpoint behind the first block of volume 1, inside the record
+abbrev pub behind_one : Point
+behind_one = record {
+  set_id = codes "ABC001";
+  file = 1;
+  position = awaiting 1 1;
+  begun = true;
+  known = Some record {
+    file_id = codes "PAYROLL          ";
+    format = Spanned;
+    rec_len = 0;
+    offset = 0;
+  };
+  staged = 18;
+}
+
+-- What the headline says of them.
+pub record DaysAreWorked : Type 0 where
+  -- Of four readers one failed, whichever it was and wherever it did: the file is whole.
+  pub failed_reader : (s : Seen) → IsRead (codes "ABC001") 1 four_reels twice s → s.failures ≡ 1
+      → IsWhole s
+  -- A part of volume 1 was refused, whichever it was, and then both volumes were read: the file is
+  -- whole, and no part is there twice.
+  pub refused_part : (old mid new : Seen) (cause : SinkFault) → IsStart (codes "ABC001") 1 old
+      → HasStopped old (Reel ∷ []) (reel_1 ∷ []) (Sink cause) mid
+      → HasRun mid two_reels once new → new.failures ≡ 0 → IsWhole new
+  -- The checkpoint stands, with the part before it. A session that is resumed there, over readers
+  -- of which none fails, has all three parts in the end.
+  pub stands : Stands worked_set 1 behind_one (first ∷ [])
+  pub resumed : (now : List Portion) (on : GoesOn behind_one (first ∷ []) two_reels once now)
+      → on.failed ≡ 0 → now ≡ first ∷ middle ∷ last ∷ []
