@@ -1,11 +1,16 @@
 -- The cases of what a refusal leaves on the tapes.
 use Rattle.std.proofs.Common.{◌≡◌, ◌⊎◌, ℕ, List, [], ◌∷◌, ◌++◌, Option, Some, IfSome, refl, subst}
-use Rattle.std.proofs.Common.{inl, inr}
+use Rattle.std.proofs.Common.{inl, inr, length}
+use Rattle.std.specs.List.{AllByRecursion}
 use Rattle.tape_image.specs.Tape.{TapeItem}
 use Rattle.tape_label.specs.declared.values.Head1.{Head1}
 use Rattle.tape_blocks.specs.declared.shape.Shape.{Shape}
+use Rattle.tape_writer.specs.declared.fault.SetFault.{SetFault}
+use Rattle.tape_writer.specs.declared.fault.SetFault.TheVariants.{Write, ReadFailed}
+use Rattle.tape_writer.specs.declared.fault.WriteFault.TheVariants.{OutOfMemory}
 use Rattle.tape_writer.specs.declared.inputs.cut.Cut.{Cut}
-use Rattle.tape_writer.specs.Records.{records_of}
+use Rattle.tape_writer.specs.Records.{records_of, IsFirstLong}
+use Rattle.tape_writer.specs.Told.{Told}
 use Rattle.tape_writer.specs.State.{SetState}
 use Rattle.tape_writer.specs.Tapes.{Tapes, UnderWay}
 use Rattle.tape_writer.specs.ToldFiles.{told_files, with_file, IfAllKnown}
@@ -27,14 +32,15 @@ first_of : (tapes : Tapes) (w : SetState ℕ) (id : List ℕ) (shape : Shape) (c
     → (x.0, Some x.1) ∷ [] ≡ before ++ input ∷ after
     → IfAllKnown before (λ fs. IfSome input.1 (λ bytes.
     IsLeftBehind (λ t. t ≡ tapes) w ([] ++ told_files id shape cut 1 fs)
-    ⊎ IsLeftOf (λ t. t ≡ tapes) w (with_file id ([] ++ told_files id shape cut 1 fs) input.0 shape)
-    (records_of cut bytes)))
+    ⊎ IsLeftOf (λ t. t ≡ tapes) w ⊥ ReadFailed
+    (with_file id ([] ++ told_files id shape cut 1 fs) input.0 shape) (records_of cut bytes)))
     → IsLeftBehind (λ t. t ≡ tapes) w []
-    ⊎ IsLeftOf (λ t. t ≡ tapes) w (with_file id [] x.0 shape) (records_of cut x.1)
+    ⊎ IsLeftOf (λ t. t ≡ tapes) w ⊥ ReadFailed (with_file id [] x.0 shape) (records_of cut x.1)
 first_of tapes w id shape cut x [] after input split left =
     let head : input ≡ (x.0, Some x.1) = cc split in
     subst (λ i. IfSome i.1 (λ bytes. IsLeftBehind (λ t. t ≡ tapes) w []
-    ⊎ IsLeftOf (λ t. t ≡ tapes) w (with_file id [] i.0 shape) (records_of cut bytes))) head left
+    ⊎ IsLeftOf (λ t. t ≡ tapes) w ⊥ ReadFailed (with_file id [] i.0 shape)
+    (records_of cut bytes))) head left
 first_of tapes w id shape cut x (b ∷ []) after input split left = absurd (cc split)
 first_of tapes w id shape cut x (b ∷ c ∷ before) after input split left = absurd (cc split)
 
@@ -44,10 +50,26 @@ none_split [] after input e = cc
 none_split (b ∷ before) after input e = cc
 
 of_none : (tapes : Tapes) (w : SetState ℕ) (id : List ℕ) (shape : Shape) (cut : Cut)
-    → IsLeftOfAll (λ t. t ≡ tapes) w id [] shape cut []
-    → IsLeftBehind (λ t. t ≡ tapes) w [] ⊎ IsLeftWhole (λ t. t ≡ tapes) w []
-of_none tapes w id shape cut (inl g) = absurd (none_split g.before g.after g.input g.split)
-of_none tapes w id shape cut (inr h) = h
+    (fault : SetFault) → IsLeftOfAll (λ t. t ≡ tapes) w ⊥ fault id [] shape cut []
+    → (fault ≡ Write OutOfMemory → ⊥) × (IsLeftBehind (λ t. t ≡ tapes) w []
+    ⊎ IsLeftWhole (λ t. t ≡ tapes) w [])
+of_none tapes w id shape cut fault (inl g) =
+    absurd (none_split g.before g.after g.input g.split)
+of_none tapes w id shape cut fault (inr h) = h
+
+-- one record was told, and memory gave out
+longer : (tapes : Tapes) (w : SetState ℕ) (told : List Told) (r : List ℕ) (records : List (List ℕ))
+    (g : IsLeftOf (λ t. t ≡ tapes) w ⊥ (Write OutOfMemory) told (r ∷ records))
+    → g.front ≡ r ∷ [] → IsFirstLong (length r) records
+longer tapes w told r records g one =
+    let split : r ∷ records ≡ (r ∷ []) ++ g.back = subst (λ f. r ∷ records ≡ f ++ g.back) one g.split
+    in
+    let back : g.back ≡ records = cc in
+    elim (g.memory refl) [
+      | inl none ↦ absurd none
+      | inr all ↦ subst (IsFirstLong (length r)) back
+          (subst (AllByRecursion (λ x. IsFirstLong (length x) g.back)) one all).0
+    ]
 
 pub cases_of_fronts : CasesOfFronts
 cases_of_fronts = record {
@@ -62,8 +84,10 @@ cases_of_fronts = record {
   ending_last = λ tapes volumes capacity id told l. l;
   left = λ tapes w told. (λ l. l, λ l. l, λ l. l);
   left_of = λ tapes w told records g. (g.split, g.left);
+  no_memory = λ tapes w told r s g one. longer tapes w told r (s ∷ []) g one;
+  not_at_the_end = λ tapes w told r g one. longer tapes w told r [] g one;
   left_in = λ tapes w id shape cut x g.
       first_of tapes w id shape cut x g.before g.after g.input g.split g.left;
   left_of_none = of_none;
-  left_set = λ plan cut given g. (g.on_tapes, g.on_volumes, g.capacity, g.set_id, g.left);
+  left_set = λ fault plan cut given g. (g.on_tapes, g.on_volumes, g.capacity, g.set_id, g.left);
 }

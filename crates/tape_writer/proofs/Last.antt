@@ -12,6 +12,10 @@ pub rose_from : (a b c : ℕ) → a ≤ b → Rose b c → Rose a c
 rose_from a b c le (inl lt) = inl (omega arith)
 rose_from a b c le (inr top) = inr top
 
+pub rose_none : Rose 0 0 → ⊥
+rose_none (inl lt) = omega (arith, lt)
+rose_none (inr top) = omega (arith, top)
+
 pub lasting_same : (H : Tapes → Type 0) (n m : Failures) (u v : ℕ) → Grows n m → v ≡ u → Lasting H n
     u H m v
 lasting_same H n m u v le e = record {

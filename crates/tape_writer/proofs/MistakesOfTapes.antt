@@ -3,6 +3,7 @@ use Rattle.std.proofs.Common.{◌≡◌, ℕ, List, [], ◌∷◌, ◌++◌, len
 use Rattle.std.proofs.Common.{length-append}
 use Rattle.std.specs.Prelude.{Some, Ok, true, false, slice_get}
 use Rattle.tape_image.specs.Tape.{TapeItem, block, bad, mark}
+use Rattle.tape_label.specs.declared.values.Vol1.{Vol1}
 use Rattle.tape_image.specs.declared.item.Item.TheVariants.{Bad}
 use Rattle.tape_writer.specs.Tapes.{Tapes, Ended, UnderWay, all_volumes, volume_at}
 use Rattle.tape_writer.specs.Kept.{InMemory}
@@ -76,6 +77,15 @@ image_not_handed_on : (S : _) (D : _) (L : _) (M : _) (g : _) (d : _) (h : _) (e
 image_not_handed_on S D L M g d h e f k κs a s items l held none one =
     let (_, on) = l.ok (UnderWay [] items) held in
     no_images_of items on.images (one on.images [] on.held none) on.spelled
+
+-- store_asked_for_another_volume: the next volume is under way, and the store was asked for another
+-- one. It was asked by one label alone.
+store_asked_for_another_volume : (S : _) (D : _) (L : _) (M : _) (g : _) (d : _) (h : _) (e : _)
+    (f : _) (k : _) (κs : _) (a : _) (s : _) (other : Vol1)
+    → change_volume.Learnt-named S D L M g d h e f k κs a (Ok tt) s
+    → ((v : Vol1) → g.asked s.0.now.store v → v ≡ other) → (a.1.0.now ≡ other → ⊥) → ⊥
+store_asked_for_another_volume S D L M g d h e f k κs a s other l one not =
+    not (one a.1.0.now l.asked)
 
 -- ---- a call that is refused
 

@@ -1,6 +1,6 @@
 -- What the definitions of what a refusal leaves on the tapes say of cases. The call `laws::cases`
 -- has them as its contract, too.
-use Rattle.std.specs.Prelude.{◌≡◌, ◌⊎◌, ℕ, List, [], ◌∷◌, ◌++◌, Option, Some}
+use Rattle.std.specs.Prelude.{◌≡◌, ◌<◌, ◌⊎◌, ℕ, List, [], ◌∷◌, ◌++◌, Option, Some, length}
 use Rattle.tape_image.specs.Tape.{TapeItem}
 use Rattle.tape_label.specs.declared.values.Head1.{Head1}
 use Rattle.tape_label.specs.declared.values.Vol1.{Vol1}
@@ -9,6 +9,9 @@ use Rattle.tape_blocks.specs.Packing.{Packing}
 use Rattle.tape_set.specs.Layout.{Section}
 use Rattle.tape_writer.specs.declared.course.Course.{Course}
 use Rattle.tape_writer.specs.declared.course.Opened.{Opened}
+use Rattle.tape_writer.specs.declared.fault.SetFault.{SetFault}
+use Rattle.tape_writer.specs.declared.fault.SetFault.TheVariants.{Write, ReadFailed}
+use Rattle.tape_writer.specs.declared.fault.WriteFault.TheVariants.{OutOfMemory}
 use Rattle.tape_writer.specs.declared.inputs.cut.Cut.{Cut}
 use Rattle.tape_writer.specs.declared.inputs.set.SetPlan.{SetPlan}
 use Rattle.tape_writer.specs.Inside.{IsInside, IsPacking, IsFlat, IsWaiting}
@@ -66,20 +69,29 @@ pub record CasesOfFronts : Type 0 where
       → IsWrittenSet (HoldsFront (λ t. t ≡ tapes)) w.volumes w.capacity w.set_id told)
   -- of inputs: a front of the records was told, and a file ended only where that is all of them
   pub left_of : (tapes : Tapes) (w : SetState ℕ) (told : List Told) (records : List (List ℕ))
-      (g : IsLeftOf (λ t. t ≡ tapes) w told records)
+      (g : IsLeftOf (λ t. t ≡ tapes) w ⊥ ReadFailed told records)
       → (records ≡ g.front ++ g.back)
       × (IsLeftInside (λ t. t ≡ tapes) w (with_records told g.front)
       ⊎ ((g.back ≡ []) × IsLeftBehind (λ t. t ≡ tapes) w (with_records told g.front)))
+  -- without a growth that the tapes were refused, memory gave out at a longer record
+  pub no_memory : (tapes : Tapes) (w : SetState ℕ) (told : List Told) (r s : List ℕ)
+      (g : IsLeftOf (λ t. t ≡ tapes) w ⊥ (Write OutOfMemory) told (r ∷ s ∷ []))
+      → g.front ≡ r ∷ [] → length r < length s
+  pub not_at_the_end : (tapes : Tapes) (w : SetState ℕ) (told : List Told) (r : List ℕ)
+      (g : IsLeftOf (λ t. t ≡ tapes) w ⊥ (Write OutOfMemory) told (r ∷ []))
+      → g.front ≡ r ∷ [] → ⊥
   pub left_in : (tapes : Tapes) (w : SetState ℕ) (id : List ℕ) (shape : Shape) (cut : Cut)
       (x : Head1 × List ℕ)
-      → IsLeftIn (λ t. t ≡ tapes) w id [] shape cut ((x.0, Some x.1) ∷ [])
+      → IsLeftIn (λ t. t ≡ tapes) w ⊥ ReadFailed id [] shape cut ((x.0, Some x.1) ∷ [])
       → IsLeftBehind (λ t. t ≡ tapes) w []
-      ⊎ IsLeftOf (λ t. t ≡ tapes) w (with_file id [] x.0 shape) (records_of cut x.1)
+      ⊎ IsLeftOf (λ t. t ≡ tapes) w ⊥ ReadFailed (with_file id [] x.0 shape) (records_of cut x.1)
   pub left_of_none : (tapes : Tapes) (w : SetState ℕ) (id : List ℕ) (shape : Shape) (cut : Cut)
-      → IsLeftOfAll (λ t. t ≡ tapes) w id [] shape cut []
-      → IsLeftBehind (λ t. t ≡ tapes) w [] ⊎ IsLeftWhole (λ t. t ≡ tapes) w []
-  pub left_set : (plan : SetPlan) (cut : Cut) (given : List (Head1 × Option (List ℕ)))
-      (g : IsLeftSet {T = ℕ} (λ n t. t ≡ Ended []) (λ n. n ≡ 7) plan cut given)
+      (fault : SetFault) → IsLeftOfAll (λ t. t ≡ tapes) w ⊥ fault id [] shape cut []
+      → (fault ≡ Write OutOfMemory → ⊥) × (IsLeftBehind (λ t. t ≡ tapes) w []
+      ⊎ IsLeftWhole (λ t. t ≡ tapes) w [])
+  pub left_set : (fault : SetFault) (plan : SetPlan) (cut : Cut)
+      (given : List (Head1 × Option (List ℕ)))
+      (g : IsLeftSet {T = ℕ} (λ n t. t ≡ Ended []) (λ n. n ≡ 7) fault plan cut given)
       → (g.writer.out ≡ 7) × (g.writer.volumes ≡ plan.volumes.items)
       × (g.writer.capacity ≡ plan.capacity) × (g.writer.set_id ≡ plan.set_id)
-      × IsLeftOfAll (λ t. t ≡ Ended []) g.writer plan.set_id [] plan.shape cut given
+      × IsLeftOfAll (λ t. t ≡ Ended []) g.writer ⊥ fault plan.set_id [] plan.shape cut given

@@ -3,6 +3,7 @@
 ghost use Rattle.std.specs.Prelude.{◌≡◌, ◌≤◌, ◌<◌, [], None, Option, false, OnOk};
 ghost use Rattle.std.specs.Bool.{OnTrue, OnFalse};
 ghost use Rattle.tape_image.specs.Writer.{Writer};
+ghost use Rattle.tape_label.specs.declared.values.Vol1.{Vol1};
 ghost use Rattle.tape_writer.specs.Tapes.{Ended, Rose, Closes, Keeps, HasCause};
 ghost use Rattle.tape_writer.specs.Images.{Holds, device_failures};
 
@@ -93,6 +94,7 @@ impl<S: ImageStore + Drop> ImageTapes<S> {
             (device_failures self.old.failed) result (device_failures self.new.failed) }
         ensures none { OnOk result (self.new.image ≡ None) }
         ensures left { S.left self.new.store ≡ S.left self.old.store }
+        ensures asked { (v : Vol1) → S.asked self.old.store v → S.asked self.new.store v }
     {
         let Some(mut image) = self.image.take() else {
             return Ok(());
@@ -115,7 +117,7 @@ impl<S: ImageStore + Drop> TapeOut for ImageTapes<S> {
 
     ghost failures = { λ t. device_failures t.failed };
 
-    ghost asked = { λ _ _. Unit {0} };
+    ghost asked = { λ t v. S.asked t.store v };
 
     fn block(&mut self, bytes: &[u8]) -> Result<(), OutFault> {
         let Some(image) = &mut self.image else {

@@ -2,6 +2,7 @@
 
 ghost use Rattle.std.specs.Prelude.{◌≡◌, ◌<◌, ◌++◌, ◌∷◌, [], ℕ, List, Bool, true, false, Some};
 ghost use Rattle.std.specs.Prelude.{IsSome, IfSome};
+ghost use Rattle.tape_label.specs.declared.values.Vol1.{Vol1};
 
 use std::io::Write;
 use tape_label::Vol1;
@@ -20,6 +21,10 @@ pub trait ImageStore {
     /// For how many more images it has a device.
     ghost left: { Self → ℕ };
 
+    /// Whether the device that was lent last was asked for by this label. A store that keeps no
+    /// labels says so of each.
+    ghost asked: { Self → Vol1 → Type 0 } = { λ _ _. Unit {0} };
+
     /// For how many more images it has a device.
     fn left(&self) -> usize
         ensures { result ≡ left self.now };
@@ -30,12 +35,14 @@ pub trait ImageStore {
         ensures some { 0 < left self.old → IsSome result }
         ensures lent { (images : List (List ℕ)) → holds self.old false images
             → IfSome result (λ device. (Self.Device.contents device ≡ Some [])
-            × holds self.new true images) };
+            × holds self.new true images) }
+        ensures asked { IfSome result (λ _. asked self.new volume.now) };
 
     /// Takes the device that is lent. Its image has ended, and it was flushed.
     fn keep(&mut self, device: Self::Device)
         ensures kept { (images : List (List ℕ)) (bytes : List ℕ) → holds self.old true images
             → Self.Device.contents device ≡ Some bytes
             → holds self.new false (images ++ bytes ∷ []) }
-        ensures left { left self.new ≡ left self.old };
+        ensures left { left self.new ≡ left self.old }
+        ensures asked { (v : Vol1) → asked self.old v → asked self.new v };
 }

@@ -1,6 +1,6 @@
 -- Records of what was read so far.
 use Rattle.std.proofs.Common.{◌≡◌, ℕ, List, [], ◌∷◌, ◌++◌, Bool, true, false, Option, Some, None}
-use Rattle.std.proofs.Common.{take, drop, sym, ap, subst, ◌∙◌, append_assoc}
+use Rattle.std.proofs.Common.{take, drop, refl, sym, ap, subst, ◌∙◌, append_assoc}
 use Rattle.std.proofs.Common.{take-append-drop}
 use Rattle.std.specs.Io.KnownBytes.{Consumes, Keeps, IsAtEnd, prepend_known}
 use Rattle.std.proofs.KnownBytes.{Consumes-trans, Consumes-nil, Consumes-kept}
@@ -9,25 +9,22 @@ use Rattle.tape_image.specs.Reader.{IfKnown}
 use Rattle.tape_writer.specs.declared.inputs.cut.Cut.{Cut}
 use Rattle.tape_writer.specs.Records.{records_from, records_of, last_record, to_come, given, Adds}
 
--- Of what was to come these bytes were read, and r is what they begin of a record.
+-- Of what was to come these bytes were read, and they are what is begun of a record.
 pub record SoFar (cut : Cut) (all left : Option (List ℕ)) (r : List ℕ) : Type 0 where
-  pub front : List ℕ
-  pub consumed : Consumes all left front
-  pub same : (ys : List ℕ) → records_from cut [] (front ++ ys) ≡ records_from cut r ys
+  pub consumed : Consumes all left r
+  pub same : (ys : List ℕ) → records_from cut [] (r ++ ys) ≡ records_from cut r ys
 
 pub nothing_yet : (cut : Cut) (all : Option (List ℕ)) (r : List ℕ) → r ≡ [] → SoFar cut all all r
-nothing_yet cut all r none = record {
-  front = [];
+nothing_yet cut all r none = subst (SoFar cut all all) (sym none) record {
   consumed = Consumes-nil all;
-  same = λ ys. ap (λ x. records_from cut x ys) (sym none);
+  same = λ ys. refl;
 }
 
 -- bytes were read ahead
 pub read_ahead : (cut : Cut) (all left next : Option (List ℕ)) (r : List ℕ) → SoFar cut all left r
     → Keeps left next → SoFar cut all next r
 read_ahead cut all left next r s kept = record {
-  front = s.front;
-  consumed = Consumes-kept all left next s.front s.consumed kept;
+  consumed = Consumes-kept all left next r s.consumed kept;
   same = s.same;
 }
 
@@ -45,13 +42,13 @@ none_left (Some xs) ahead none end = ap (λ l. l ++ xs) none ∙ end
 
 -- one piece more
 pub one_piece : (cut : Cut) (all left next : Option (List ℕ)) (r new piece : List ℕ)
-    → SoFar cut all left r → Consumes left next piece → Adds cut r piece new false
-    → SoFar cut all next new
-one_piece cut all left next r new piece s c adds = record {
-  front = s.front ++ piece;
-  consumed = Consumes-trans all left next s.front piece s.consumed c;
-  same = λ ys. ap (records_from cut []) (append_assoc s.front piece ys)
-      ∙ s.same (piece ++ ys) ∙ adds ys;
+    → SoFar cut all left r → Consumes left next piece → new ≡ r ++ piece
+    → Adds cut r piece new false → SoFar cut all next new
+one_piece cut all left next r new piece s c grown adds = record {
+  consumed = subst (Consumes all next) (sym grown)
+      (Consumes-trans all left next r piece s.consumed c);
+  same = λ ys. ap (λ l. records_from cut [] (l ++ ys)) grown
+      ∙ ap (records_from cut []) (append_assoc r piece ys) ∙ s.same (piece ++ ys) ∙ adds ys;
 }
 
 last_given : (cut : Cut) (r : List ℕ) (more : Bool)
@@ -76,24 +73,39 @@ pub last_of : (cut : Cut) (all next : Option (List ℕ)) (r : List ℕ) (more : 
     → MatchBool more (last_record cut r ≡ r ∷ []) (last_record cut r ≡ [])
     → IfKnown all next (λ xs ys. to_come cut false xs ≡ given more r (to_come cut true ys))
 last_of cut all next r more s end last =
-    known_last cut r s.front more all next s.same (last_given cut r more last) s.consumed end
+    known_last cut r r more all next s.same (last_given cut r more last) s.consumed end
 
 -- a piece was moved from the bytes read ahead
 pub piece_taken : (cut : Cut) (old new bytes ahead rest : List ℕ) (content taken : ℕ) (ended : Bool)
     → bytes ≡ ahead → rest ≡ drop taken ahead → new ≡ old ++ take content bytes
+    → (ended ≡ false → content ≡ taken)
     → Adds cut old (take taken bytes) (old ++ take content bytes) ended
     → (piece : List ℕ) × (ahead ≡ piece ++ rest) × Adds cut old piece new ended
-piece_taken cut old new bytes ahead rest content taken ended same is grown adds = (
+    × (ended ≡ false → new ≡ old ++ piece)
+piece_taken cut old new bytes ahead rest content taken ended same is grown all adds = (
   take taken bytes,
   sym same ∙ sym (take-append-drop taken bytes)
       ∙ ap (λ l. take taken bytes ++ l) (ap (drop taken) same ∙ sym is),
   subst (λ l. Adds cut old (take taken bytes) l ended) (sym grown) adds,
+  λ no. grown ∙ ap (λ n. old ++ take n bytes) (all no),
 )
 
 -- the same, by the cut that a reading has
 pub piece_more : (cut here : Cut) (all left next : Option (List ℕ)) (r new piece : List ℕ)
     (ended : Bool) → SoFar cut all left r → Consumes left next piece → here ≡ cut → ended ≡ false
-    → Adds here r piece new ended → SoFar cut all next new
-piece_more cut here all left next r new piece ended s c is not adds =
-    one_piece cut all left next r new piece s c
+    → Adds here r piece new ended × (ended ≡ false → new ≡ r ++ piece) → SoFar cut all next new
+piece_more cut here all left next r new piece ended s c is not (adds, grown) =
+    one_piece cut all left next r new piece s c (grown not)
     (subst (λ x. Adds x r piece new false) is (subst (λ x. Adds here r piece new x) not adds))
+
+-- what is taken of the input is what is held of a record
+pub taken : (cut : Cut) (all left next : Option (List ℕ)) (r now : List ℕ) → SoFar cut all left r
+    → Keeps left next → now ≡ r → IfKnown all next (λ xs ys. xs ≡ now ++ ys)
+taken cut all left next r now s kept same =
+    go all next (subst (Consumes all next) (sym same)
+    (Consumes-kept all left next r s.consumed kept))
+  where
+    go : (a b : Option (List ℕ)) → Consumes a b now → IfKnown a b (λ xs ys. xs ≡ now ++ ys)
+    go None b c = tt
+    go (Some xs) None c = c
+    go (Some xs) (Some ys) c = c

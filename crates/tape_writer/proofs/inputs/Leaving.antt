@@ -1,5 +1,5 @@
 -- What is left of files from inputs, whatever fault stops them.
-use Rattle.std.proofs.Common.{◌≡◌, ℕ, ◌+◌, ◌<◌, List, [], ◌∷◌, ◌++◌, Bool, true, false, Option}
+use Rattle.std.proofs.Common.{◌≡◌, ℕ, ◌+◌, ◌<◌, ◌≤◌, List, [], ◌∷◌, ◌++◌, Bool, true, false, Option}
 use Rattle.std.proofs.Common.{Some, None, length, map, drop, get_or, refl, sym, ap, subst, ◌∙◌}
 use Rattle.std.proofs.Common.{append-nil, inl, inr}
 use Rattle.std.specs.Prelude.{◌⊎◌, IfSome}
@@ -10,6 +10,14 @@ use Rattle.tape_blocks.specs.declared.shape.Shape.{Shape}
 use Rattle.tape_writer.specs.declared.course.Opened.{Opened}
 use Rattle.tape_writer.specs.declared.fault.WriteFault.{WriteFault}
 use Rattle.tape_writer.specs.declared.fault.WriteFault.TheVariants as faults
+use Rattle.tape_writer.specs.declared.fault.SetFault.{SetFault}
+use Rattle.tape_writer.specs.declared.fault.SetFault.TheVariants.{Write}
+use Rattle.tape_writer.specs.declared.inputs.records.InputFault.{InputFault}
+use Rattle.tape_writer.specs.declared.inputs.records.InputFault.TheVariants as inputs
+use Rattle.std.specs.List.{AllByRecursion}
+use Rattle.tape_writer.specs.WriteFaults.{told_as}
+use Rattle.tape_writer.proofs.Lists.{all_weaken}
+use Rattle.tape_writer.proofs.inputs.Refusing.{less_long}
 use Rattle.tape_writer.specs.Tapes.{Tapes}
 use Rattle.tape_writer.specs.Faults.{IsEnding}
 use Rattle.tape_writer.specs.Told.{Told, with_record}
@@ -17,13 +25,14 @@ use Rattle.tape_writer.specs.State.{SetState, IsWriting, Leaves}
 use Rattle.tape_writer.specs.Refusals.{IsInFile}
 use Rattle.tape_writer.specs.Front.{IsLeftInside, IsLeftBehind}
 use Rattle.tape_writer.specs.declared.inputs.cut.Cut.{Cut}
-use Rattle.tape_writer.specs.Records.{to_come, records_of, given}
+use Rattle.tape_writer.specs.Records.{to_come, records_of, given, IsFirstLong}
 use Rattle.tape_writer.specs.ToldFiles.{with_records, with_file, told_files}
-use Rattle.tape_writer.specs.LeftOf.{IsLeftOf, IsLeftIn}
+use Rattle.tape_writer.specs.LeftOf.{IsLeftOf, IsLeftIn, IsLeftOfAll}
 use Rattle.tape_writer.proofs.Standing.{inside_writing}
-use Rattle.tape_writer.proofs.inputs.Putting.{Put, known_one, known_then, with_records-one}
+use Rattle.tape_writer.proofs.inputs.Putting.{Put, PutWithin, known_one, known_then}
+use Rattle.tape_writer.proofs.inputs.Putting.{with_records-one}
 use Rattle.tape_writer.proofs.inputs.Filing.{Wrote}
-use Rattle.tape_writer.proofs.inputs.Finished.{all_known}
+use Rattle.tape_writer.proofs.inputs.Finished.{all_known, if_known}
 
 -- a fault ends the writer, or leaves it as it was
 is_ending : {T : Type 0} (f : WriteFault)
@@ -46,88 +55,137 @@ refused_left H old new f P told leaves held stays ends = elim (is_ending f) [
 
 -- ---- the records of an input
 
-known_left : {T : Type 0} (H : Tapes → Type 0) (w : SetState T) (told : List Told) (cut : Cut)
-    (a c : Bool) (rs : List (List ℕ)) (all next : Option (List ℕ))
+pub if_any : (known : Option (List ℕ)) (P : List ℕ → Type 0) → ((bytes : List ℕ) → P bytes)
+    → IfSome known P
+if_any None P p = tt
+if_any (Some bytes) P p = p bytes
+
+known_left : {T : Type 0} (H : Tapes → Type 0) (w : SetState T) (G : Type 0) (fault : SetFault)
+    (told : List Told) (cut : Cut) (a c : Bool) (rs : List (List ℕ)) (all next : Option (List ℕ))
     → IfKnown all next (λ xs ys. to_come cut a xs ≡ rs ++ to_come cut c ys)
+    → (fault ≡ Write faults.OutOfMemory → IfSome next (λ ys.
+    G ⊎ AllByRecursion (λ r. IsFirstLong (length r) (to_come cut c ys)) rs))
     → IsLeftInside H w (with_records told rs)
-    → IfSome all (λ xs. IsLeftOf H w told (to_come cut a xs))
-known_left H w told cut a c rs None next k left = tt
-known_left H w told cut a c rs (Some xs) None k left = absurd k
-known_left H w told cut a c rs (Some xs) (Some ys) k left =
-    record { front = rs; back = to_come cut c ys; split = k; left = inl left }
+    → IfSome all (λ xs. IsLeftOf H w G fault told (to_come cut a xs))
+known_left H w G fault told cut a c rs None next k m left = tt
+known_left H w G fault told cut a c rs (Some xs) None k m left = absurd k
+known_left H w G fault told cut a c rs (Some xs) (Some ys) k m left = record {
+  front = rs;
+  back = to_come cut c ys;
+  split = k;
+  memory = m;
+  left = inl left;
+}
+
+memory_told : (fault : InputFault) → told_as fault ≡ Write faults.OutOfMemory
+    → fault ≡ inputs.OutOfMemory
+memory_told inputs.ReadFailed e = cc
+memory_told inputs.TooLong e = cc
+memory_told inputs.OutOfMemory e = refl
 
 -- the next record was not read
-pub read_left : {T : Type 0} (H : Tapes → Type 0) (w : SetState T) (file : Opened) (cut : Cut)
-    (a b : Bool) (all left : Option (List ℕ)) (old : List Told → Type 0)
-    → Put cut a b all left old (IsWriting H w) → IsInFile file w.phase
+pub read_left : {T : Type 0} (H : Tapes → Type 0) (w : SetState T) (G : Type 0)
+    (fault : InputFault) (told' : SetFault) (n : ℕ) (file : Opened) (cut here : Cut) (a b : Bool)
+    (all left : Option (List ℕ)) (old : List Told → Type 0)
+    → PutWithin n cut a b all left old (IsWriting H w) → IsInFile file w.phase
+    → told' ≡ told_as fault → here ≡ cut
+    → (fault ≡ inputs.OutOfMemory → IfSome left (λ ys. IsFirstLong n (to_come here b ys)))
     → (told : List Told) → old told
-    → IfSome all (λ xs. IsLeftOf H w told (to_come cut a xs))
-read_left H w file cut a b all left old p is told h =
-    known_left H w told cut a b p.records all left p.known
-    (inside_writing H w file (with_records told p.records) is (p.told told h))
+    → IfSome all (λ xs. IsLeftOf H w G told' told (to_come cut a xs))
+read_left H w G fault told' n file cut here a b all left old p is e same m told h =
+    known_left H w G told' told cut a b p.put.records all left p.put.known
+    (λ f. if_known left _ _ (m (memory_told fault (sym e ∙ f))) (λ ys l.
+    inr (all_weaken (λ r. length r ≤ n) _ (λ r le. less_long (length r) n _ le
+    (subst (λ z. IsFirstLong n (to_come z b ys)) same l)) p.put.records p.within)))
+    (inside_writing H w file (with_records told p.put.records) is (p.put.told told h))
 
 -- the next record was not put
-pub put_left : {T : Type 0} (H : T → Tapes → Type 0) (mid w : SetState T) (file : Opened)
-    (cut : Cut) (a b c : Bool) (all left next : Option (List ℕ)) (old : List Told → Type 0)
-    (r : List ℕ) (f : WriteFault) → Put cut a b all left old (IsWriting (H mid.out) mid)
-    → IsInFile file mid.phase
+pub put_left : {T : Type 0} (H : T → Tapes → Type 0) (mid w : SetState T) (G : Type 0)
+    (file : Opened) (cut : Cut) (a b c : Bool) (all left next : Option (List ℕ))
+    (old : List Told → Type 0) (r : List ℕ) (f : WriteFault)
+    → Put cut a b all left old (IsWriting (H mid.out) mid) → IsInFile file mid.phase
     → IfKnown left next (λ xs ys. to_come cut b xs ≡ given true r (to_come cut c ys))
-    → Leaves mid w f
+    → Leaves mid w f → (f ≡ faults.OutOfMemory → G)
     → ((told : List Told) → IsWriting (H mid.out) mid told → IsEnding f
     → IsLeftInside (H w.out) w (with_record told r))
     → (told : List Told) → old told
-    → IfSome all (λ xs. IsLeftOf (H w.out) w told (to_come cut a xs))
-put_left H mid w file cut a b c all left next old r f p is k leaves ends told h =
+    → IfSome all (λ xs. IsLeftOf (H w.out) w G (Write f) told (to_come cut a xs))
+put_left H mid w G file cut a b c all left next old r f p is k leaves grew ends told h =
     let held = p.told told h in
+    let memory : (known : Option (List ℕ)) (rs : List (List ℕ)) (d : Bool)
+    → Write f ≡ Write faults.OutOfMemory → IfSome known (λ ys.
+    G ⊎ AllByRecursion (λ r. IsFirstLong (length r) (to_come cut d ys)) rs)
+    = λ known rs d e. if_any known _ (λ ys. inl (grew cc)) in
     refused_left H mid w f _ (with_records told p.records) leaves held
-    (λ same writing. known_left (H w.out) w told cut a b p.records all left p.known
+    (λ same writing. known_left (H w.out) w G (Write f) told cut a b p.records all left p.known
+    (memory left p.records b)
     (inside_writing (H w.out) w file (with_records told p.records)
     (subst (λ z. IsInFile file z.phase) (sym same) is) writing))
-    (λ e. known_left (H w.out) w told cut a c (p.records ++ r ∷ []) all next
+    (λ e. known_left (H w.out) w G (Write f) told cut a c (p.records ++ r ∷ []) all next
     (known_one cut a c r p.records all next
     (known_then cut a b c true r p.records all left next p.known k))
+    (memory next (p.records ++ r ∷ []) c)
     (subst (IsLeftInside (H w.out) w) (sym (with_records-one told p.records r))
     (ends (with_records told p.records) held e)))
 
 -- ---- a file
 
 -- it was begun, and no record was told
-pub none_left : {T : Type 0} (H : Tapes → Type 0) (w : SetState T) (told : List Told)
-    (records : List (List ℕ)) → IsLeftInside H w told → IsLeftOf H w told records
-none_left H w told records left =
-    record { front = []; back = records; split = refl; left = inl left }
+pub none_left : {T : Type 0} (H : Tapes → Type 0) (w : SetState T) (G : Type 0) (fault : SetFault)
+    (told : List Told) (records : List (List ℕ)) → IsLeftInside H w told
+    → IsLeftOf H w G fault told records
+none_left H w G fault told records left = record {
+  front = [];
+  back = records;
+  split = refl;
+  memory = λ e. inr tt;
+  left = inl left;
+}
 
-pub if_any : (known : Option (List ℕ)) (P : List ℕ → Type 0) → ((bytes : List ℕ) → P bytes)
-    → IfSome known P
-if_any None P p = tt
-if_any (Some bytes) P p = p bytes
+-- the tapes were refused a growth in a part of the call
+pub left_more : {T : Type 0} (H : Tapes → Type 0) (w : SetState T) (G G' : Type 0)
+    (fault : SetFault) (told : List Told) (records : List (List ℕ)) → (G → G')
+    → IsLeftOf H w G fault told records → IsLeftOf H w G' fault told records
+left_more H w G G' fault told records f l = record {
+  front = l.front;
+  back = l.back;
+  split = l.split;
+  memory = λ e. elim (l.memory e) [
+    | inl grew ↦ inl (f grew)
+    | inr longer ↦ inr longer
+  ];
+  left = l.left;
+}
 
 -- its records were not all put
-pub file_left : {T : Type 0} (H : Tapes → Type 0) (w : SetState T) (first told : List Told)
-    (cut here : Cut) (over : Bool) (input all : Option (List ℕ)) → all ≡ input → here ≡ cut
-    → over ≡ false → IfSome all (λ xs. IsLeftOf H w told (to_come here over xs))
-    → IfSome input (λ bytes. IsLeftBehind H w first ⊎ IsLeftOf H w told (records_of cut bytes))
-file_left H w first told cut here over input all a e f p =
-    let one = subst (λ z. IfSome z (λ xs. IsLeftOf H w told (to_come here over xs))) a p in
-    let two = subst (λ z. IfSome input (λ xs. IsLeftOf H w told (to_come z over xs))) e one in
-    go input (subst (λ z. IfSome input (λ xs. IsLeftOf H w told (to_come cut z xs))) f two)
-  where
-    go : (known : Option (List ℕ)) → IfSome known (λ xs. IsLeftOf H w told (records_of cut xs))
-        → IfSome known (λ bytes. IsLeftBehind H w first ⊎ IsLeftOf H w told (records_of cut bytes))
-    go None h = tt
-    go (Some bytes) h = inr h
+pub file_left : {T : Type 0} (H : Tapes → Type 0) (w : SetState T) (G G' : Type 0)
+    (fault : SetFault) (first told : List Told) (cut here : Cut) (over : Bool)
+    (input all : Option (List ℕ)) → (G → G') → all ≡ input → here ≡ cut → over ≡ false
+    → IfSome all (λ xs. IsLeftOf H w G fault told (to_come here over xs))
+    → IfSome input (λ bytes. IsLeftBehind H w first
+    ⊎ IsLeftOf H w G' fault told (records_of cut bytes))
+file_left H w G G' fault first told cut here over input all more a e f p =
+    let one = subst (λ z. IfSome z (λ xs. IsLeftOf H w G fault told (to_come here over xs))) a p in
+    let two = subst (λ z. IfSome input (λ xs. IsLeftOf H w G fault told (to_come z over xs))) e one
+    in
+    if_known input _ _
+    (subst (λ z. IfSome input (λ xs. IsLeftOf H w G fault told (to_come cut z xs))) f two)
+    (λ bytes l. inr (left_more H w G G' fault told (records_of cut bytes) more l))
 
-all_left : {T : Type 0} (H : Tapes → Type 0) (w : SetState T) (told : List Told) (cut : Cut)
-    (over : Bool) (all next : Option (List ℕ)) (mid : List Told → Type 0)
+all_left : {T : Type 0} (H : Tapes → Type 0) (w : SetState T) (G : Type 0) (fault : SetFault)
+    (told : List Told) (cut : Cut) (over : Bool) (all next : Option (List ℕ))
+    (mid : List Told → Type 0)
     → IfKnown all next (λ xs ys. mid (with_records told (to_come cut over xs)))
+    → (fault ≡ Write faults.OutOfMemory → G)
     → ((t : List Told) → mid t → IsLeftInside H w t ⊎ IsLeftBehind H w t)
-    → IfSome all (λ xs. IsLeftOf H w told (to_come cut over xs))
-all_left H w told cut over None next mid put left = tt
-all_left H w told cut over (Some xs) None mid put left = absurd put
-all_left H w told cut over (Some xs) (Some ys) mid put left = record {
+    → IfSome all (λ xs. IsLeftOf H w G fault told (to_come cut over xs))
+all_left H w G fault told cut over None next mid put grew left = tt
+all_left H w G fault told cut over (Some xs) None mid put grew left = absurd put
+all_left H w G fault told cut over (Some xs) (Some ys) mid put grew left = record {
   front = to_come cut over xs;
   back = [];
   split = sym (append-nil (to_come cut over xs));
+  memory = λ e. inl (grew e);
   left = elim (left _ put) [
     | inl inside ↦ inl inside
     | inr ended ↦ inr (refl, ended)
@@ -135,30 +193,42 @@ all_left H w told cut over (Some xs) (Some ys) mid put left = record {
 }
 
 -- all its records were put, and it was not ended
-pub end_left : {T : Type 0} (H : Tapes → Type 0) (w : SetState T) (first told : List Told)
-    (cut here : Cut) (over : Bool) (input all next : Option (List ℕ)) (mid : List Told → Type 0)
-    → all ≡ input → here ≡ cut → over ≡ false
+pub end_left : {T : Type 0} (H : Tapes → Type 0) (w : SetState T) (G : Type 0) (fault : SetFault)
+    (first told : List Told) (cut here : Cut) (over : Bool) (input all next : Option (List ℕ))
+    (mid : List Told → Type 0) → all ≡ input → here ≡ cut → over ≡ false
     → IfKnown all next (λ xs ys. mid (with_records told (to_come here over xs)))
+    → (fault ≡ Write faults.OutOfMemory → G)
     → ((t : List Told) → mid t → IsLeftInside H w t ⊎ IsLeftBehind H w t)
-    → IfSome input (λ bytes. IsLeftBehind H w first ⊎ IsLeftOf H w told (records_of cut bytes))
-end_left H w first told cut here over input all next mid a e f put left =
-    file_left H w first told cut here over input all a e f
-    (all_left H w told here over all next mid put left)
+    → IfSome input (λ bytes. IsLeftBehind H w first
+    ⊎ IsLeftOf H w G fault told (records_of cut bytes))
+end_left H w G fault first told cut here over input all next mid a e f put grew left =
+    file_left H w G G fault first told cut here over input all (λ g. g) a e f
+    (all_left H w G fault told here over all next mid put grew left)
+
+behind_more : {T : Type 0} (H : Tapes → Type 0) (w : SetState T) (G G' : Type 0)
+    (fault : SetFault) (first told : List Told) (records : List (List ℕ)) → (G → G')
+    → IsLeftBehind H w first ⊎ IsLeftOf H w G fault told records
+    → IsLeftBehind H w first ⊎ IsLeftOf H w G' fault told records
+behind_more H w G G' fault first told records more (inl l) = inl l
+behind_more H w G G' fault first told records more (inr l) =
+    inr (left_more H w G G' fault told records more l)
 
 -- ---- one of the files
 
 -- the file that comes behind those that are written
-pub wrote_left : {T : Type 0} (H : Tapes → Type 0) (w : SetState T) (X : Type 0)
+pub wrote_left : {T : Type 0} (H : Tapes → Type 0) (w : SetState T) (G G' : Type 0)
+    (fault : SetFault) (X : Type 0)
     (view : X → Head1 × Option (List ℕ)) (set_id : List ℕ) (shape : Shape) (cut : Cut)
     (first now : List X) (at : ℕ) (old mid : List Told → Type 0) (here : List ℕ) (x d : X)
     → at < length now → x ≡ get_or now at d → Wrote X view set_id shape cut first now at old mid
-    → here ≡ set_id
+    → here ≡ set_id → (G → G')
     → ((told : List Told) → mid told → IfSome (view x).1
     (λ bytes. IsLeftBehind H w told
-    ⊎ IsLeftOf H w (with_file here told (view x).0 shape) (records_of cut bytes)))
-    → (told : List Told) → old told → IsLeftIn H w set_id told shape cut (map view first)
-wrote_left H w X view set_id shape cut first now at old mid here x d within is wrote same left
-    told held =
+    ⊎ IsLeftOf H w G fault (with_file here told (view x).0 shape) (records_of cut bytes)))
+    → (told : List Told) → old told
+    → IsLeftIn H w G' fault set_id told shape cut (map view first)
+wrote_left H w G G' fault X view set_id shape cut first now at old mid here x d within is wrote
+    same more left told held =
     let next : drop at now ≡ x ∷ drop (at + 1) now =
     drop_more now at d within ∙ ap (λ z. z ∷ drop (at + 1) now) (sym is) in
     record {
@@ -170,7 +240,26 @@ wrote_left H w X view set_id shape cut first now at old mid here x d within is w
       left = all_known (map view wrote.done) _ _ (wrote.told told held) (λ fs m.
           subst (λ s. IfSome (view x).1 (λ bytes.
           IsLeftBehind H w (told ++ told_files set_id shape cut (length told + 1) fs)
-          ⊎ IsLeftOf H w
+          ⊎ IsLeftOf H w G' fault
           (with_file s (told ++ told_files set_id shape cut (length told + 1) fs) (view x).0 shape)
-          (records_of cut bytes))) same (left _ m));
+          (records_of cut bytes))) same (if_known (view x).1 _ _ (left _ m)
+          (λ bytes l. behind_more H w G G' fault _ _ _ more l)));
     }
+
+-- ---- a set
+
+-- over tapes that take no memory no growth was refused
+pub left_without : {T : Type 0} (H : Tapes → Type 0) (w : SetState T) (G : Type 0)
+    (fault : SetFault) (set_id : List ℕ) (told : List Told) (shape : Shape) (cut : Cut)
+    (given : List (Head1 × Option (List ℕ))) → (G → ⊥)
+    → IsLeftOfAll H w G fault set_id told shape cut given
+    → IsLeftOfAll H w ⊥ fault set_id told shape cut given
+left_without H w G fault set_id told shape cut given none (inl l) = inl record {
+  before = l.before;
+  input = l.input;
+  after = l.after;
+  split = l.split;
+  left = all_known l.before _ _ l.left (λ fs m. if_known l.input.1 _ _ m (λ bytes k.
+      behind_more H w G ⊥ fault _ _ _ none k));
+}
+left_without H w G fault set_id told shape cut given none (inr l) = inr (λ e. none (l.0 e), l.1)

@@ -1,7 +1,7 @@
 -- Answers that the contracts of writing from inputs exclude: each is what a wrong body would give.
 use Rattle.std.proofs.Common.{◌≡◌, ℕ, List, [], ◌∷◌, ◌++◌, length, true, false, refl, sym, ap, ◌∙◌}
 use Rattle.std.proofs.Common.{subst, arith, codes, inl, inr, ◌+◌}
-use Rattle.std.specs.Prelude.{Option, Some, None, Ok, Err, IfSome, map, take, get_or}
+use Rattle.std.specs.Prelude.{Option, Some, None, Ok, Err, IfSome, map, take, get_or, vec_capacity}
 use Rattle.tape_image.specs.Reader.{IfKnown}
 use Rattle.tape_label.specs.declared.values.Head1.{Head1}
 use Rattle.tape_label.specs.declared.values.Format.TheVariants.{Counted}
@@ -14,7 +14,8 @@ use Rattle.tape_writer.specs.declared.fault.SetFault.TheVariants as sets
 use Rattle.tape_blocks.specs.declared.form.Form.TheVariants as forms
 use Rattle.tape_writer.specs.declared.inputs.cut.Cut.{Cut}
 use Rattle.tape_writer.specs.declared.inputs.cut.Cut.TheVariants.{Lines, Length, Whole}
-use Rattle.tape_writer.specs.declared.inputs.records.InputFault.TheVariants.{TooLong}
+use Rattle.tape_writer.specs.declared.inputs.records.InputFault.TheVariants.{TooLong, ReadFailed}
+use Rattle.tape_writer.specs.declared.inputs.records.InputFault.TheVariants.{OutOfMemory as NoMemory}
 use Rattle.tape_writer.specs.Records.{to_come, records_of, given, left_of, Adds}
 use Rattle.tape_writer.specs.Records.{IsFirstLong, last_record}
 use Rattle.tape_writer.specs.ToldFiles.{IfAllKnown, told_files}
@@ -100,6 +101,38 @@ line_gathered_to_its_end : (R : _) (L : _) (g : _) (d : _) (h : _) (κs : _) (a 
     (s : _) → next.Learnt-named R L g d h κs a answer s
     → length s.0.now.record.items ≡ a.0.now.limit + 1 → ⊥
 line_gathered_to_its_end R L g d h κs a answer s l w = absurd (omega (arith, l.within, w))
+
+-- memory_gives_out_with_room: the next record is no longer than the buffer has room for, and it is
+-- told that there was no memory
+memory_gives_out_with_room : (R : _) (L : _) (g : _) (d : _) (h : _) (κs : _) (a : _) (s : _)
+    (xs : List ℕ) (r : List ℕ) (rs : List (List ℕ))
+    → next.Learnt-named R L g d h κs a (Err NoMemory) s → left_of g.remaining a.0.now ≡ Some xs
+    → to_come a.0.now.cut a.0.now.over xs ≡ r ∷ rs → vec_capacity a.0.now.record ≡ length r → ⊥
+memory_gives_out_with_room R L g d h κs a s xs r rs l old e room =
+    let first = IsFirstLong (vec_capacity a.0.now.record) in
+    let w : first (r ∷ rs) = subst first e
+    (subst (λ v. IfSome v (λ xs. first (to_come a.0.now.cut a.0.now.over xs))) old
+    (l.memory refl)) in
+    absurd (omega (arith, w, room))
+
+-- bytes_lost_at_a_failed_read: two bytes were read of a record, the reader fails, and they are gone
+bytes_lost_at_a_failed_read : (R : _) (L : _) (g : _) (d : _) (h : _) (κs : _) (a : _) (s : _)
+    → next.Learnt-named R L g d h κs a (Err ReadFailed) s
+    → left_of g.remaining a.0.now ≡ Some (codes "AB") → left_of g.remaining s.0.now ≡ Some []
+    → s.0.now.record.items ≡ [] → ⊥
+bytes_lost_at_a_failed_read R L g d h κs a s l old new none =
+    let k : (xs ys : List ℕ) → Type 0 = λ xs ys. xs ≡ s.0.now.record.items ++ ys in
+    let e : codes "AB" ≡ s.0.now.record.items ++ [] =
+    subst (λ v. IfKnown (Some (codes "AB")) v k) new
+    (subst (λ v. IfKnown v (left_of g.remaining s.0.now) k) old l.taken) in
+    absurd (let n : 2 ≡ 0 = ap length e ∙ ap (λ r. length (r ++ [])) none in omega arith)
+
+-- read_failure_behind_the_end: the input's end was met, and a failed read is told
+read_failure_behind_the_end : (R : _) (L : _) (g : _) (d : _) (h : _) (κs : _) (a : _) (s : _)
+    → next.Learnt-named R L g d h κs a (Err ReadFailed) s → a.0.now.over ≡ true → ⊥
+read_failure_behind_the_end R L g d h κs a s l over =
+    let n : true ≡ false = sym over ∙ (l.asked refl).0 in
+    absurd (cc)
 
 -- raw_counted_as_one_record: a raw input is taken for one record of format D
 raw_counted_as_one_record : (κs : _) (a : _) (s : _) → cut_for.Learnt κs a (Some Whole) s

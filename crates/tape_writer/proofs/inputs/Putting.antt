@@ -1,7 +1,9 @@
 -- Records put one after another.
 use Rattle.std.proofs.Common.{◌≡◌, ℕ, List, [], ◌∷◌, ◌++◌, Bool, true, false, Option, Some}
 use Rattle.std.proofs.Common.{None, refl, sym, ap}
-use Rattle.std.proofs.Common.{subst, ◌∙◌, append_assoc, append-nil}
+use Rattle.std.proofs.Common.{subst, ◌∙◌, append_assoc, append-nil, ◌≤◌, length, arith}
+use Rattle.std.specs.List.{AllByRecursion}
+use Rattle.tape_writer.proofs.Lists.{all_push, all_weaken}
 use Rattle.std.specs.Prelude.{IfSome}
 use Rattle.tape_image.specs.Reader.{IfKnown}
 use Rattle.tape_writer.specs.declared.course.Opened.{Opened}
@@ -21,11 +23,6 @@ known_same : (all : Option (List ℕ)) (cut : Cut) (over : Bool)
     → IfKnown all all (λ xs ys. to_come cut over xs ≡ [] ++ to_come cut over ys)
 known_same None cut over = tt
 known_same (Some xs) cut over = refl
-
-pub put_none : (cut : Cut) (over : Bool) (all : Option (List ℕ)) (old : List Told → Type 0)
-    → Put cut over over all all old old
-put_none cut over all old =
-    record { records = []; known = known_same all cut over; told = λ told h. h }
 
 pub known_then : (cut : Cut) (a b c : Bool) (more : Bool) (r : List ℕ)
     (rs : List (List ℕ)) (all left next : Option (List ℕ))
@@ -50,17 +47,36 @@ pub with_records-one : (told : List Told) (rs : List (List ℕ)) (r : List ℕ)
 with_records-one told [] r = refl
 with_records-one told (s ∷ rs) r = with_records-one (with_record told s) rs r
 
--- one more record was put
-pub put_one : (cut : Cut) (a b c : Bool) (all left next : Option (List ℕ))
-    (old mid new : List Told → Type 0) (r : List ℕ) → Put cut a b all left old mid
+-- and none of these records has more bytes than n
+pub record PutWithin (n : ℕ) (cut : Cut) (over over' : Bool) (all left : Option (List ℕ))
+    (old new : List Told → Type 0) : Type 0 where
+  pub put : Put cut over over' all left old new
+  pub within : AllByRecursion (λ r. length r ≤ n) put.records
+
+pub within_none : (n : ℕ) (cut : Cut) (over : Bool) (all : Option (List ℕ))
+    (old : List Told → Type 0) → PutWithin n cut over over all all old old
+within_none n cut over all old = record {
+  put = record { records = []; known = known_same all cut over; told = λ told h. h };
+  within = tt;
+}
+
+-- one record more, for which there is room
+pub within_one : (n m : ℕ) (cut : Cut) (a b c : Bool) (all left next : Option (List ℕ))
+    (old mid new : List Told → Type 0) (r : List ℕ) → PutWithin n cut a b all left old mid
     → IfKnown left next (λ xs ys. to_come cut b xs ≡ given true r (to_come cut c ys))
-    → ((told : List Told) → mid told → new (with_record told r)) → Put cut a c all next old new
-put_one cut a b c all left next old mid new r p k step = record {
-  records = p.records ++ r ∷ [];
-  known = known_one cut a c r p.records all next
-      (known_then cut a b c true r p.records all left next p.known k);
-  told = λ told h. subst new (sym (with_records-one told p.records r))
-      (step (with_records told p.records) (p.told told h));
+    → ((told : List Told) → mid told → new (with_record told r)) → n ≤ m → length r ≤ m
+    → PutWithin m cut a c all next old new
+within_one n m cut a b c all left next old mid new r p k step le fits = record {
+  put = record {
+    records = p.put.records ++ r ∷ [];
+    known = known_one cut a c r p.put.records all next
+        (known_then cut a b c true r p.put.records all left next p.put.known k);
+    told = λ told h. subst new (sym (with_records-one told p.put.records r))
+        (step (with_records told p.put.records) (p.put.told told h));
+  };
+  within = all_push (λ x. length x ≤ m) p.put.records r
+      (all_weaken (λ x. length x ≤ n) (λ x. length x ≤ m) (λ x l. omega (arith, l, le))
+      p.put.records p.within) fits;
 }
 
 known_all : (cut : Cut) (a : Bool) (r : List ℕ) (rs : List (List ℕ)) (all next : Option (List ℕ))

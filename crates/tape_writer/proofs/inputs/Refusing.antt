@@ -3,7 +3,7 @@ use Rattle.std.proofs.Common.{◌≡◌, ◌<◌, ◌≤◌, ℕ, ◌+◌, List,
 use Rattle.std.proofs.Common.{Some, None, length, map, take, drop, get_or, refl, sym, ap, subst}
 use Rattle.std.proofs.Common.{◌∙◌, arith, append_assoc, take-append-drop, length-append, inl, inr}
 use Rattle.std.specs.Prelude.{IfSome, if◌then◌else◌}
-use Rattle.std.specs.Io.KnownBytes.{Consumes, prepend_known}
+use Rattle.std.specs.Io.KnownBytes.{Consumes, Keeps, prepend_known}
 use Rattle.std.proofs.lemmas.List.{length-take-le, drop_more, map-append, length-map}
 use Rattle.tape_image.specs.Reader.{IfKnown}
 use Rattle.tape_label.specs.declared.values.Head1.{Head1}
@@ -29,7 +29,7 @@ use Rattle.tape_writer.specs.Records.{records_from, records_of, to_come, given, 
 use Rattle.tape_writer.specs.Records.{ends_before, is_full, Adds, IsFirstLong, GrowsLong}
 use Rattle.tape_writer.specs.WriteFaults.{told_as, IsOther, OneIsOther, IsPuttingFault}
 use Rattle.tape_writer.specs.WriteFaults.{IsInputFault, IsFileFault, IsFilesFault}
-use Rattle.tape_writer.proofs.inputs.Cutting.{SoFar}
+use Rattle.tape_writer.proofs.inputs.Cutting.{SoFar, read_ahead}
 use Rattle.tape_writer.proofs.Fitting.{within_longest}
 use Rattle.tape_writer.proofs.inputs.Filing.{Wrote}
 use Rattle.tape_writer.proofs.inputs.Putting.{Put, known_then}
@@ -99,8 +99,22 @@ pub too_long : (most limit : ℕ) (cut here : Cut) (over : Bool) (r ahead : List
     → GrowsLong limit here r ahead → IfSome all (λ xs. IsFirstLong most (to_come cut over xs))
 too_long most limit cut here over r ahead all device s lim is not g =
     subst (λ z. IfSome all (λ xs. IsFirstLong most (to_come cut z xs))) (sym not)
-    (long_known most cut r ahead s.front all device s.consumed s.same
+    (long_known most cut r ahead r all device s.consumed s.same
     (subst (λ z. GrowsLong z cut r ahead) lim (subst (λ z. GrowsLong limit z r ahead) is g)))
+
+pub less_long : (most n : ℕ) (rs : List (List ℕ)) → most ≤ n → IsFirstLong n rs → IsFirstLong most rs
+less_long most n [] le l = l
+less_long most n (r ∷ rs) le l = omega (arith, le, l)
+
+-- what is to be held has no room
+pub no_room : (most n : ℕ) (cut here : Cut) (over : Bool) (r ahead : List ℕ)
+    (all left device : Option (List ℕ)) → SoFar cut all left r
+    → Keeps left (prepend_known ahead device) → most ≤ n → here ≡ cut → over ≡ false
+    → GrowsLong n here r ahead → IfSome all (λ xs. IsFirstLong most (to_come cut over xs))
+no_room most n cut here over r ahead all left device s kept le is not g =
+    too_long most most cut here over r ahead all device
+    (read_ahead cut all left (prepend_known ahead device) r s kept) refl is not
+    (λ more. less_long most n (records_from here r (ahead ++ more)) le (g more))
 
 -- ---- records of other lengths
 

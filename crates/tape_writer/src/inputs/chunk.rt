@@ -71,6 +71,7 @@ impl Chunk {
         ensures bytes { Keeps (prepend_known self.old (R.remaining reader.old))
             (prepend_known self.new (R.remaining reader.new)) }
         ensures end { OnOk result (self.new ≡ [] → IsAtEnd (R.remaining reader.new)) }
+        ensures err { OnErr result (self.new ≡ []) }
         ensures kind { IsOkUnless result InputFault.ReadFailed }
     {
         if self.start < self.end {

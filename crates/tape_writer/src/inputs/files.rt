@@ -1,10 +1,10 @@
 //! Files written from inputs.
 ghost use Rattle.std.specs.Prelude.{◌≡◌, ◌<◌, ◌≤◌, ◌++◌, ◌+◌, ◌∷◌, [], List, length, map};
-ghost use Rattle.std.specs.Prelude.{◌⊎◌, OnOk, OnErr, IfErr, IfSome};
+ghost use Rattle.std.specs.Prelude.{◌⊎◌, OnOk, IfErr, IfSome};
 ghost use Rattle.tape_image.specs.Reader.{IfKnown};
 ghost use Rattle.tape_blocks.specs.Packing.{IsWritable};
 ghost use Rattle.tape_set.specs.Tight.{least_capacity};
-ghost use Rattle.tape_writer.specs.Tapes.{Grows};
+ghost use Rattle.tape_writer.specs.Tapes.{Grows, Rose};
 ghost use Rattle.tape_writer.specs.Told.{Told, opened_by};
 ghost use Rattle.tape_writer.specs.State.{IsWriting};
 ghost use Rattle.tape_writer.specs.Refusals.{IsInFile};
@@ -70,11 +70,13 @@ pub fn write_files<T: TapeOut + Drop, R: Read>(
     ensures unfit { writer.old.phase ≡ Between
         → (IsWritable shape → least_capacity shape ≤ writer.old.capacity → ⊥)
         → 0 < length files.old → (writer.new ≡ writer.old) × OnOk result ⊥ }
-    // Whatever the fault: the tapes hold a front of what is written of the files told so far.
+    // Whatever the fault: the tapes hold a front of what is written of the files told so far; and
+    // want of memory has its cause.
     ensures front { writer.old.phase ≡ Between
         → (told : List Told) → IsWriting (T.holds writer.old.out) writer.old told
-        → OnErr result (IsLeftIn (T.holds writer.new.out) writer.new writer.old.set_id told shape
-        cut (map (λ f. (f.head, R.remaining f.reader)) files.old)) }
+        → IfErr result (λ fault. IsLeftIn (T.holds writer.new.out) writer.new
+        (Rose (T.failures writer.old.out).memory (T.failures writer.new.out).memory) fault
+        writer.old.set_id told shape cut (map (λ f. (f.head, R.remaining f.reader)) files.old)) }
     ensures count { Grows (T.failures writer.old.out) (T.failures writer.new.out) }
     ensures cause { StopsByDevice (T.failures writer.old.out) result (T.failures writer.new.out) }
     ensures stands { writer.old.phase ≡ Between → OnOk result ((writer.new.phase ≡ Between)
@@ -118,9 +120,10 @@ fn write_file<T: TapeOut + Drop, R: Read>(
         → (writer.new ≡ writer.old) × OnOk result ⊥ }
     ensures front { writer.old.phase ≡ Between
         → (told : List Told) → IsWriting (T.holds writer.old.out) writer.old told
-        → OnErr result (IfSome (R.remaining input.old) (λ bytes.
+        → IfErr result (λ fault. IfSome (R.remaining input.old) (λ bytes.
         IsLeftBehind (T.holds writer.new.out) writer.new told
         ⊎ IsLeftOf (T.holds writer.new.out) writer.new
+        (Rose (T.failures writer.old.out).memory (T.failures writer.new.out).memory) fault
         (with_file writer.old.set_id told head shape) (records_of cut bytes))) }
     ensures count { Grows (T.failures writer.old.out) (T.failures writer.new.out) }
     ensures cause { StopsByDevice (T.failures writer.old.out) result (T.failures writer.new.out) }
@@ -162,8 +165,9 @@ fn put_records<T: TapeOut + Drop, R: Read + Drop>(
         (to_come records.old.cut records.old.over xs))) }
     ensures front { (file : Opened) → IsInFile file writer.old.phase
         → (told : List Told) → IsWriting (T.holds writer.old.out) writer.old told
-        → OnErr result (IfSome (left_of R.remaining records.old) (λ xs.
-        IsLeftOf (T.holds writer.new.out) writer.new told
+        → IfErr result (λ fault. IfSome (left_of R.remaining records.old) (λ xs.
+        IsLeftOf (T.holds writer.new.out) writer.new
+        (Rose (T.failures writer.old.out).memory (T.failures writer.new.out).memory) fault told
         (to_come records.old.cut records.old.over xs))) }
     ensures count { Grows (T.failures writer.old.out) (T.failures writer.new.out) }
     ensures cause { StopsByDevice (T.failures writer.old.out) result (T.failures writer.new.out) }

@@ -1,5 +1,6 @@
 //! The records of an input, one after another.
 ghost use Rattle.std.specs.Prelude.{◌≡◌, ◌≤◌, ◌<◌, ◌++◌, [], ℕ, List, length, IfOk, IfErr, OnOk};
+ghost use Rattle.std.specs.Prelude.{OnErr, vec_capacity};
 ghost use Rattle.std.specs.Prelude.{IfSome, true, false};
 ghost use Rattle.tape_image.specs.Reader.{IfKnown};
 ghost use Rattle.tape_writer.specs.Records.{to_come, given, Adds, left_of, IsFirstLong, GrowsLong};
@@ -76,6 +77,18 @@ impl<R: Read + Drop> Records<R> {
         ensures long { IfErr result (λ fault. fault ≡ InputFault.TooLong
             → IfSome (left_of R.remaining self.old) (λ xs.
             IsFirstLong self.old.limit (to_come self.old.cut self.old.over xs))) }
+        // No growth is due where the next record is no longer than the buffer has room for.
+        ensures memory { IfErr result (λ fault. fault ≡ InputFault.OutOfMemory
+            → IfSome (left_of R.remaining self.old) (λ xs. IsFirstLong
+            (vec_capacity self.old.record) (to_come self.old.cut self.old.over xs))) }
+        ensures room { (vec_capacity self.old.record ≤ vec_capacity self.new.record)
+            × (length self.new.record.items ≤ vec_capacity self.new.record) }
+        // The reader is asked where nothing is read ahead, and not behind its end.
+        ensures asked { IfErr result (λ fault. fault ≡ InputFault.ReadFailed
+            → (self.old.over ≡ false) × (self.new.ahead ≡ [])) }
+        // Nothing of the input is lost at a refusal.
+        ensures taken { OnErr result (IfKnown (left_of R.remaining self.old)
+            (left_of R.remaining self.new) (λ xs ys. xs ≡ self.new.record.items ++ ys)) }
         ensures cut { self.new.cut ≡ self.old.cut }
         ensures limit { self.new.limit ≡ self.old.limit }
     {
@@ -107,10 +120,17 @@ fn take_piece(
     requires within { length held.old.items ≤ limit }
     requires some { 0 < length ahead.old }
     ensures taken { IfOk result (λ ended. (piece : List ℕ) × (ahead.old ≡ piece ++ ahead.new)
-        × Adds cut held.old.items piece held.new.items ended) }
+        × Adds cut held.old.items piece held.new.items ended
+        × (ended ≡ false → held.new.items ≡ held.old.items ++ piece)) }
     ensures grew { IfOk result (λ ended. ended ≡ false
         → length held.old.items < length held.new.items) }
     ensures within { length held.new.items ≤ limit }
+    ensures err { OnErr result ((held.new.items ≡ held.old.items) × (ahead.new ≡ ahead.old)) }
+    ensures room { (vec_capacity held.old ≤ vec_capacity held.new)
+        × (length held.new.items ≤ vec_capacity held.new) }
+    ensures kind { IfErr result (λ fault. fault ≡ InputFault.ReadFailed → ⊥) }
+    ensures memory { IfErr result (λ fault. fault ≡ InputFault.OutOfMemory
+        → GrowsLong (vec_capacity held.old) cut held.old.items ahead.old) }
     ensures long { IfErr result (λ fault. fault ≡ InputFault.TooLong
         → GrowsLong limit cut held.old.items ahead.old) }
 {

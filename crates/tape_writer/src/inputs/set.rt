@@ -1,11 +1,12 @@
 //! A set written as images.
 ghost use Rattle.std.specs.Prelude.{◌≡◌, ◌≢◌, ◌<◌, ◌≤◌, ◌++◌, ◌+◌, [], List, length, map, None};
-ghost use Rattle.std.specs.Prelude.{◌⊎◌, IfOk, IfErr, IfSome, OnOk, OnErr, false};
+ghost use Rattle.std.specs.Prelude.{◌⊎◌, IfOk, IfErr, IfSome, OnOk, false};
 ghost use Rattle.std.specs.List.{AllByRecursion};
 ghost use Rattle.tape_blocks.specs.Packing.{IsWritable};
 ghost use Rattle.tape_set.specs.Tight.{least_capacity};
 ghost use Rattle.tape_writer.specs.Fields.{IsText, IsTextVolume};
 ghost use Rattle.tape_writer.specs.Images.{Holds};
+ghost use Rattle.tape_writer.specs.Tapes.{Rose};
 ghost use Rattle.tape_writer.specs.Told.{Told};
 ghost use Rattle.tape_writer.specs.State.{IsWriting};
 ghost use Rattle.tape_writer.specs.declared.phase.Phase.TheVariants.{Between, Finished};
@@ -94,12 +95,13 @@ pub fn write_set<R: Read, S: ImageStore + Drop>(
         (λ tapes. (tapes.store ≡ refused.images) × (tapes.image ≡ refused.under_way)) plan
         (map (λ f. (f.head, R.remaining f.reader)) files.old)) }
     // Whatever the fault: nothing was written; or the images that were handed on are whole, and
-    // with the one under way a front of what is written of the files told so far, and no more.
+    // with the one under way a front of what is written of the files told so far, and no more. Want
+    // of memory comes only where a file is begun, or a record is longer than those before it.
     ensures front { S.holds images false [] → IfErr result (λ refused.
         ((refused.images ≡ images) × (refused.under_way ≡ None))
         ⊎ IfSome (cut_by plan.form plan.shape) (λ cut. IsLeftSet (Holds S.holds)
-        (λ tapes. (tapes.store ≡ refused.images) × (tapes.image ≡ refused.under_way)) plan cut
-        (map (λ f. (f.head, R.remaining f.reader)) files.old))) }
+        (λ tapes. (tapes.store ≡ refused.images) × (tapes.image ≡ refused.under_way))
+        refused.fault plan cut (map (λ f. (f.head, R.remaining f.reader)) files.old))) }
     // Where no file of this shape can be written in this capacity, nothing was.
     ensures unfit { (IsWritable plan.shape → least_capacity plan.shape ≤ plan.capacity → ⊥)
         → 0 < length files.old
@@ -199,8 +201,9 @@ fn write_whole<T: TapeOut + Drop, R: Read>(
         (map (λ f. (f.head, R.remaining f.reader)) files.old)) }
     ensures front { writer.old.phase ≡ Between
         → (told : List Told) → IsWriting (T.holds writer.old.out) writer.old told
-        → OnErr result (IsLeftOfAll (T.holds writer.new.out) writer.new writer.old.set_id told
-        shape cut (map (λ f. (f.head, R.remaining f.reader)) files.old)) }
+        → IfErr result (λ fault. IsLeftOfAll (T.holds writer.new.out) writer.new
+        (Rose (T.failures writer.old.out).memory (T.failures writer.new.out).memory) fault
+        writer.old.set_id told shape cut (map (λ f. (f.head, R.remaining f.reader)) files.old)) }
     ensures unfit { writer.old.phase ≡ Between
         → (IsWritable shape → least_capacity shape ≤ writer.old.capacity → ⊥)
         → 0 < length files.old → (writer.new ≡ writer.old) × OnOk result ⊥ }

@@ -2,7 +2,9 @@ use Rattle.std.proofs.Common.{◌∙◌, ◌≡◌, refl, sym, subst}
 use Rattle.tape_writer.specs.declared.fault.WriteFault.TheVariants.{OutOfVolumes}
 use Rattle.tape_writer.specs.Told.{with_record}
 use Rattle.tape_writer.specs.State.{IsWriting, IsOutOfVolumes}
-use Rattle.tape_writer.proofs.inputs.Putting.{put_none, put_one, given_cut, same_record}
+use Rattle.tape_writer.proofs.inputs.Putting.{within_none, within_one, given_cut}
+use Rattle.tape_writer.proofs.inputs.Putting.{same_record}
+use Rattle.tape_writer.proofs.Last.{rose_from}
 use Rattle.tape_writer.proofs.inputs.Stopping.{gave_up, grows_self, grows_then, stops}
 use Rattle.tape_writer.proofs.inputs.Refusing.{not_told, put_fault, put_other, next_fault}
 use Rattle.tape_writer.proofs.inputs.Refusing.{next_long}
@@ -20,12 +22,13 @@ records-preserved g c = record {
   stays = λ file is. c.in-Ok.ensures.stays file (c.records.invariant.stays file is);
   files = c.put.ensures.files ∙ c.records.invariant.files;
   grew = grows_then _ _ _ c.records.invariant.grew c.put.ensures.lasting.count;
-  put = put_one _ _ _ _ _ _ _ _ _ _ c.next.new.self.record.items c.records.invariant.put
+  so_far = within_one _ _ _ _ _ _ _ _ _ _ _ _ c.next.new.self.record.items
+      c.records.invariant.so_far
       (given_cut _ _ _ _ _ c.in-Ok-true.field-0 _ _ _ _ c.records.invariant.cut
       c.next.ensures.cut c.in-Ok-true.field-0-test c.in-Ok-true.ensures.given)
       (same_record _ _ (IsWriting (g.T.TapeOut.holds c.records.writer.out) c.records.writer)
       (IsWriting (g.T.TapeOut.holds c.put.new.self.out) c.put.new.self) c.record.ensures
-      c.in-Ok.ensures.told);
+      c.in-Ok.ensures.told) c.next.ensures.room.0 c.next.ensures.room.1;
 }
 
 pub returns-in-Err-put-clause-due : goal.returns-in-Err-put-clause-due
@@ -33,14 +36,14 @@ returns-in-Err-put-clause-due g c = λ file is _.
     let r = c.next.new.self.record.items in
     put_fault file c.records.writer.phase c.record.result.now r _ c.in-Err-put.fault
     (c.records.invariant.stays file is) c.record.ensures c.in-Err-put.ensures.due
-    (put_other file.shape _ _ _ _ _ _ _ _ _ r c.records.invariant.put
+    (put_other file.shape _ _ _ _ _ _ _ _ _ r c.records.invariant.so_far.put
     (given_cut _ _ _ _ _ c.in-Ok-true.field-0 _ _ _ _ c.records.invariant.cut c.next.ensures.cut
     c.in-Ok-true.field-0-test c.in-Ok-true.ensures.given))
 
 pub returns-in-Err-clause-due : goal.returns-in-Err-clause-due
 returns-in-Err-clause-due g c = λ file is most.
     next_fault _ c.in-Err.fault c.fault_of.result c.fault_of.ensures (λ e.
-    next_long file.shape _ _ _ _ _ _ _ _ _ c.records.invariant.put c.records.invariant.cut
+    next_long file.shape _ _ _ _ _ _ _ _ _ c.records.invariant.so_far.put c.records.invariant.cut
     (c.records.invariant.limit ∙ most)
     (c.in-Err.ensures.long e))
 
@@ -54,7 +57,7 @@ records-init g c = record {
   stays = λ file is. is;
   files = refl;
   grew = grows_self _;
-  put = put_none _ _ _ _;
+  so_far = within_none _ _ _ _ _;
 }
 
 pub returns-in-Err-put-clause-stuck : goal.returns-in-Err-put-clause-stuck
@@ -62,7 +65,7 @@ returns-in-Err-put-clause-stuck g c = λ e told held.
     let f : c.in-Err-put.fault ≡ OutOfVolumes = cc in
     let r = c.next.new.self.record.items in
     gave_up (g.T.TapeOut.holds c.put.new.self.out) c.put.new.self _ _ _ _ _ _ _ _ _ r
-    c.records.invariant.put
+    c.records.invariant.so_far.put
     (given_cut _ _ _ _ _ c.in-Ok-true.field-0 _ _ _ _ c.records.invariant.cut c.next.ensures.cut
     c.in-Ok-true.field-0-test c.in-Ok-true.ensures.given)
     (λ t h. subst (λ z. IsOutOfVolumes (g.T.TapeOut.holds c.put.new.self.out) c.put.new.self
@@ -84,14 +87,17 @@ returns-in-Err-put-clause-count g c =
 pub returns-in-Err-put-clause-front : goal.returns-in-Err-put-clause-front
 returns-in-Err-put-clause-front g c = λ file is told held.
     let r = c.next.new.self.record.items in
-    put_left (λ out. g.T.TapeOut.holds out) c.records.writer c.put.new.self file _ _ _ _ _ _ _ _ r
-    c.in-Err-put.fault c.records.invariant.put (c.records.invariant.stays file is)
+    put_left (λ out. g.T.TapeOut.holds out) c.records.writer c.put.new.self _ file _ _ _ _ _ _ _ _ r
+    c.in-Err-put.fault c.records.invariant.so_far.put (c.records.invariant.stays file is)
     (given_cut _ _ _ _ _ c.in-Ok-true.field-0 _ _ _ _ c.records.invariant.cut c.next.ensures.cut
     c.in-Ok-true.field-0-test c.in-Ok-true.ensures.given) c.in-Err-put.ensures.leaves
+    (λ e. rose_from _ _ _ c.records.invariant.grew.1 (c.in-Err-put.ensures.cause.1 e))
     (λ t h e. subst (λ z. IsLeftInside (g.T.TapeOut.holds c.put.new.self.out) c.put.new.self
     (with_record t z)) c.record.ensures (c.in-Err-put.ensures.front t h e)) told held
 
 pub returns-in-Err-clause-front : goal.returns-in-Err-clause-front
 returns-in-Err-clause-front g c = λ file is told held.
-    read_left (g.T.TapeOut.holds c.records.writer.out) c.records.writer file _ _ _ _ _ _
-    c.records.invariant.put (c.records.invariant.stays file is) told held
+    read_left (g.T.TapeOut.holds c.records.writer.out) c.records.writer _ c.in-Err.fault
+    c.fault_of.result _ file _ _ _ _ _ _ _ c.records.invariant.so_far
+    (c.records.invariant.stays file is) c.fault_of.ensures c.records.invariant.cut
+    c.in-Err.ensures.memory told held

@@ -1,11 +1,11 @@
-use Rattle.std.proofs.Common.{◌≡◌}
+use Rattle.std.proofs.Common.{◌≡◌, vec_capacity}
 use Rattle.tape_writer.specs.declared.course.Opened.{Opened}
 use Rattle.tape_writer.specs.State.{IsWriting}
 use Rattle.tape_writer.specs.Refusals.{IsInFile}
 use Rattle.tape_writer.specs.Records.{left_of}
 use Rattle.tape_writer.specs.Room.{room_left}
 use Rattle.tape_writer.specs.Tapes.{Grows}
-use Rattle.tape_writer.proofs.inputs.Putting.{Put}
+use Rattle.tape_writer.proofs.inputs.Putting.{PutWithin}
 use Rattle.tape_writer.proofs.inputs.files.put_records.Given as goal
 
 abbrev pub invariant-records : goal.invariant-records
@@ -18,7 +18,8 @@ invariant-records g l = record {
   stays : (file : Opened) → IsInFile file l.fn.writer.phase → IsInFile file l.writer.phase;
   files : l.writer.files ≡ l.fn.writer.files;
   grew : Grows (g.T.TapeOut.failures l.fn.writer.out) (g.T.TapeOut.failures l.writer.out);
-  put : Put l.fn.records.cut l.fn.records.over l.records.over
+  so_far : PutWithin (vec_capacity l.records.record) l.fn.records.cut l.fn.records.over
+      l.records.over
       (left_of g.R.Read.remaining l.fn.records) (left_of g.R.Read.remaining l.records)
       (IsWriting (g.T.TapeOut.holds l.fn.writer.out) l.fn.writer)
       (IsWriting (g.T.TapeOut.holds l.writer.out) l.writer);

@@ -1,4 +1,4 @@
-use Rattle.std.proofs.Common.{◌≡◌, ◌+◌, ◌∙◌, length, ap, inl, inr}
+use Rattle.std.proofs.Common.{◌≡◌, ◌+◌, ◌∙◌, length, ap, inl, inr, arith}
 use Rattle.tape_writer.specs.declared.fault.WriteFault.TheVariants.{OutOfVolumes}
 use Rattle.std.proofs.lemmas.Result.{err_from_is_err_and}
 use Rattle.std.specs.Io.KnownBytes.{prepend_known}
@@ -91,14 +91,14 @@ returns-in-Err-clause-front g c = λ between told held.
     (λ e. elim (c.in-Err.ensures.front told held e) [
       | inl same ↦ inl same
       | inr begun ↦ inr (none_left (g.T.TapeOut.holds c.begin_file.new.self.out)
-          c.begin_file.new.self
+          c.begin_file.new.self _ _
           (with_file c.args.writer.now.set_id told c.args.head c.args.shape) _ begun)
     ]))
 
 pub returns-in_default-new-clause-front : goal.returns-in_default-new-clause-front
 returns-in_default-new-clause-front g c = λ between told held.
     if_any (g.R.Read.remaining c.args.input.now) _ (λ bytes.
-    inr (none_left (g.T.TapeOut.holds c.begin_file.new.self.out) c.begin_file.new.self
+    inr (none_left (g.T.TapeOut.holds c.begin_file.new.self.out) c.begin_file.new.self _ _
     (with_file c.args.writer.now.set_id told c.args.head c.args.shape) _
     (inside_writing (g.T.TapeOut.holds c.begin_file.new.self.out) c.begin_file.new.self _ _
     c.in_default.ensures.opened (c.in_default.ensures.told told held))))
@@ -108,9 +108,10 @@ returns-in_err-put_records-clause-front g c =
     let p = err_from_is_err_and c.from_residual.result c.from_residual.ensures.1 in
     let made = c.in-Ok.ensures in
     let known = g.R.Read.remaining c.args.input.now in
-    rw p.1 (λ between told held.
-    file_left (g.T.TapeOut.holds c.put_records.new.writer.out) c.put_records.new.writer told
+    rw (p.1, p.2) (λ between told held.
+    file_left (g.T.TapeOut.holds c.put_records.new.writer.out) c.put_records.new.writer _ _ _ told
     (with_file c.args.writer.now.set_id told c.args.head c.args.shape) c.args.cut _ _ known _
+    (λ grew. rose_from _ _ _ c.begin_file.ensures.lasting.count.1 grew)
     (ap (λ a. prepend_known a (g.R.Read.remaining c.in-Ok.records.device.now)) made.3
     ∙ prepend_known-nil _ ∙ ap (λ d. g.R.Read.remaining d.now) made.0) made.1 made.2
     (c.in_err-put_records.ensures.front _ c.in_default.ensures.opened _
@@ -121,12 +122,15 @@ returns-clause-front g c = λ between told held.
     let made = c.in-Ok.ensures in
     let known = g.R.Read.remaining c.args.input.now in
     let H = g.T.TapeOut.holds c.end_file.new.self.out in
-    end_left H c.end_file.new.self told
+    end_left H c.end_file.new.self _ _ told
     (with_file c.args.writer.now.set_id told c.args.head c.args.shape) c.args.cut _ _ known _ _
     (IsWriting (g.T.TapeOut.holds c.put_records.new.writer.out) c.put_records.new.writer)
     (ap (λ a. prepend_known a (g.R.Read.remaining c.in-Ok.records.device.now)) made.3
     ∙ prepend_known-nil _ ∙ ap (λ d. g.R.Read.remaining d.now) made.0) made.1 made.2
     (c.in_ok-put_records.ensures.told _ (c.in_default.ensures.told told held))
+    (λ e. rose_from _ _ _
+    (omega (arith, c.begin_file.ensures.lasting.count.1, c.put_records.ensures.count.1))
+    (c.in-Err-end_file.ensures.cause.1 cc))
     (λ t h. refused_left (λ out. g.T.TapeOut.holds out) c.put_records.new.writer
     c.end_file.new.self c.in-Err-end_file.fault
     (IsLeftInside H c.end_file.new.self t ⊎ IsLeftBehind H c.end_file.new.self t) t

@@ -2,6 +2,7 @@ use Rattle.std.proofs.Common.{rules, arith, get_or, ◌+◌, ◌++◌, ◌∷◌
 use Rattle.std.proofs.Common.{◌∙◌, ◌≤◌, IfSome}
 use Rattle.tape_set.specs.Tight.{least_capacity}
 use Rattle.std.proofs.lemmas.Result.{err_from_is_err_and}
+use Rattle.tape_writer.proofs.Last.{rose_from}
 use Rattle.tape_writer.specs.State.{IsWriting}
 use Rattle.tape_writer.specs.Told.{opened_by}
 use Rattle.tape_writer.specs.Records.{records_of}
@@ -83,13 +84,14 @@ pub returns-in_err-write_file-clause-front : goal.returns-in_err-write_file-clau
 returns-in_err-write_file-clause-front g c =
     let p = err_from_is_err_and c.from_residual.result c.from_residual.ensures.1 in
     let x = get_or c.files.files c.files.at c.index-files-at.result in
-    rw p.1 (λ between told held.
-    wrote_left (g.T.TapeOut.holds c.write_file.new.writer.out) c.write_file.new.writer _
+    rw (p.1, p.2) (λ between told held.
+    wrote_left (g.T.TapeOut.holds c.write_file.new.writer.out) c.write_file.new.writer _ _ _ _
     (λ f. (f.head, g.R.Read.remaining f.reader)) c.args.writer.now.set_id c.args.shape c.args.cut
     c.args.files.now c.files.files c.files.at
     (IsWriting (g.T.TapeOut.holds c.args.writer.now.out) c.args.writer.now)
     (IsWriting (g.T.TapeOut.holds c.files.writer.out) c.files.writer) c.files.writer.set_id x
     c.index-files-at.result (search rules) refl c.files.invariant.wrote c.files.invariant.set_id
+    (λ grew. rose_from _ _ _ c.files.invariant.grew.1 grew)
     (c.in_err-write_file.ensures.front (c.files.invariant.stands between).0) told held)
 
 pub returns-in_err-write_file-clause-unfit : goal.returns-in_err-write_file-clause-unfit

@@ -6,6 +6,8 @@ use Rattle.tape_writer.specs.ToldFiles.{IfAllKnown, told_files}
 use Rattle.tape_writer.specs.LeftOf.{IsLeftOfAll, IsLeftSet}
 use Rattle.tape_writer.specs.WriteSet.{IsSetOfImages}
 use Rattle.tape_writer.proofs.inputs.Finished.{set_of_images, if_cut, all_known}
+use Rattle.tape_writer.proofs.inputs.Leaving.{left_without}
+use Rattle.tape_writer.proofs.Last.{rose_none}
 use Rattle.tape_writer.proofs.inputs.set.write_set.Goals as goal
 
 pub returns-in-Ok-clause-written : goal.returns-in-Ok-clause-written
@@ -64,15 +66,19 @@ returns-in-Err-write_whole-clause-front g c fresh =
     let out = c.in-Err-write_whole.ensures.front (ap (λ w. w.phase) made) [] begun in
     inr (if_cut (λ cut.
     IsLeftSet (Holds H) (λ t. (t.store ≡ c.left.result.images)
-    × (t.image ≡ c.left.result.under_way)) plan cut inputs) _ _ c.in-Some.cut
+    × (t.image ≡ c.left.result.under_way)) c.left.result.fault plan cut inputs) _ _ c.in-Some.cut
     c.in-Some.is c.cut_of.ensures record {
       writer = whole;
       on_tapes = (sym c.left.ensures.images, sym c.left.ensures.under_way);
       on_volumes = c.write_whole.ensures.same.0 ∙ ap (λ w. w.volumes) made;
       capacity = c.write_whole.ensures.same.1 ∙ ap (λ w. w.capacity) made;
       set_id = c.write_whole.ensures.same.2 ∙ ap (λ w. w.set_id) made;
-      left = subst (λ s. IsLeftOfAll (Holds H whole.out) whole s [] plan.shape c.in-Some.cut inputs)
-          (ap (λ w. w.set_id) made) out;
+      left = subst (λ s. IsLeftOfAll (Holds H whole.out) whole ⊥ c.left.result.fault s []
+          plan.shape c.in-Some.cut inputs) (ap (λ w. w.set_id) made)
+          (subst (λ f. IsLeftOfAll (Holds H whole.out) whole ⊥ f c.judged-writer.result.set_id [] plan.shape c.in-Some.cut
+          inputs) (sym c.left.ensures.fault)
+          (left_without (Holds H whole.out) whole _ _ _ [] plan.shape c.in-Some.cut inputs
+          rose_none out));
     })
 
 pub returns-in-Err-write_whole-clause-unfit : goal.returns-in-Err-write_whole-clause-unfit

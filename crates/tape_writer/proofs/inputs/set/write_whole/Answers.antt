@@ -1,4 +1,5 @@
 use Rattle.std.proofs.Common.{map, inl, inr, ap, ◌∙◌}
+use Rattle.tape_writer.proofs.Last.{rose_from}
 use Rattle.tape_writer.proofs.Standing.{behind_writing}
 use Rattle.std.proofs.lemmas.Result.{err_from_is_err_and}
 use Rattle.tape_writer.proofs.inputs.Leaving.{refused_left}
@@ -13,19 +14,22 @@ returns-in-Ok-clause-told g c told held =
 pub returns-in_err-write_files-clause-front : goal.returns-in_err-write_files-clause-front
 returns-in_err-write_files-clause-front g c =
     let p = err_from_is_err_and c.from_residual.result c.from_residual.ensures.1 in
-    rw p.1 (λ between told held.
+    rw (p.1, p.2) (λ between told held.
     inl (c.in_err-write_files.ensures.front between told held))
 
 pub returns-in-Err-clause-front : goal.returns-in-Err-clause-front
 returns-in-Err-clause-front g c = λ between told held.
-    inr (all_known (map (λ f. (f.head, g.R.Read.remaining f.reader)) c.args.files.now) _ _
-    (c.in_ok-write_files.ensures.told told held) (λ fs w.
-    refused_left (λ out. g.T.TapeOut.holds out) c.write_files.new.writer c.finish.new.self
-    c.in-Err.fault _ _ c.in-Err.ensures.leaves w
-    (λ same writing. inl (behind_writing (g.T.TapeOut.holds c.finish.new.self.out)
-    c.finish.new.self _ (ap (λ w. w.phase) same
-    ∙ (c.in_ok-write_files.ensures.stands between).0) writing))
-    (λ e. inr (c.in-Err.ensures.front _ w e))))
+    inr (
+      λ e. rose_from _ _ _ c.in_ok-write_files.ensures.count.1 (c.in-Err.ensures.cause.1 cc),
+      all_known (map (λ f. (f.head, g.R.Read.remaining f.reader)) c.args.files.now) _ _
+          (c.in_ok-write_files.ensures.told told held) (λ fs w.
+          refused_left (λ out. g.T.TapeOut.holds out) c.write_files.new.writer c.finish.new.self
+          c.in-Err.fault _ _ c.in-Err.ensures.leaves w
+          (λ same writing. inl (behind_writing (g.T.TapeOut.holds c.finish.new.self.out)
+          c.finish.new.self _ (ap (λ w. w.phase) same
+          ∙ (c.in_ok-write_files.ensures.stands between).0) writing))
+          (λ e. inr (c.in-Err.ensures.front _ w e))),
+    )
 
 pub returns-in_err-write_files-clause-unfit : goal.returns-in_err-write_files-clause-unfit
 returns-in_err-write_files-clause-unfit g c =

@@ -1,4 +1,4 @@
-use Rattle.std.proofs.Common.{◌≡◌, ◌≤◌, ◌-◌, ◌+◌, length, false}
+use Rattle.std.proofs.Common.{◌≡◌, ◌≤◌, ◌-◌, ◌+◌, length, false, vec_capacity}
 use Rattle.tape_writer.specs.Records.{left_of}
 use Rattle.tape_writer.proofs.inputs.Cutting.{SoFar}
 use Rattle.tape_writer.proofs.inputs.records.Records.next.Given as goal
@@ -10,6 +10,8 @@ invariant-pieces g l = record {
   over : l.self.over ≡ false;
   fresh : l.fn.self.over ≡ false;
   within : length l.self.record.items ≤ l.fn.self.limit;
+  room : vec_capacity l.fn.self.record ≤ vec_capacity l.self.record;
+  fits : length l.self.record.items ≤ vec_capacity l.self.record;
   so_far : SoFar l.fn.self.cut (left_of g.R.Read.remaining l.fn.self)
       (left_of g.R.Read.remaining l.self) l.self.record.items;
 }
