@@ -33,6 +33,7 @@ cases_of_images = record {
   its_spelling = λ items bytes i. (i.spells, i.sized);
   spelled_so_far = λ items w i stands.
       (i.contents, i.leads, i.whole stands, i.size ∙ i.sized);
+  front_behind = λ items w i. (i.front.0, i.front.1, i.front.3, i.front.2);
   not_ended = λ items w i ended. i.open_at ended;
   none_without_image = λ v h. h;
   no_image_besides = λ b h. h;

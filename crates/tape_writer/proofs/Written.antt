@@ -1,22 +1,25 @@
 -- Images, one volume after another.
 use Rattle.std.proofs.Common.{◌≡◌, ◌≢◌, ℕ, ◌+◌, List, [], ◌∷◌, ◌++◌, Bool, true, false}
 use Rattle.std.proofs.Common.{Option, Some}
-use Rattle.std.proofs.Common.{None, Ok, length, ◌%◌, replicate, refl, sym}
+use Rattle.std.proofs.Common.{inl, inr, None, Ok, Err, length, ◌%◌, replicate, refl, sym}
 use Rattle.std.proofs.Common.{ap, subst, ◌∙◌, arith, append-nil, length-append}
 use Rattle.byteorder.specs.Endian.{little_bytes}
 use Rattle.tape_image.specs.declared.item.Ending.TheVariants.{Marked}
 use Rattle.tape_image.specs.Tape.{TapeItem, block, bad, mark}
 use Rattle.tape_image.specs.Word.{end_word}
-use Rattle.tape_image.specs.Written.{written}
+use Rattle.tape_image.specs.declared.fault.ImageWriteFault.{ImageWriteFault}
+use Rattle.tape_image.specs.declared.fault.ImageWriteFault.TheVariants as faults
+use Rattle.tape_image.specs.Written.{written, is_no_block}
+use Rattle.std.specs.Prelude.{MatchBool}
 use Rattle.tape_image.specs.Writer.{Writer, Standing, writing, finished, broken}
-use Rattle.tape_image.specs.Writer.{PutsFrom, BlockFrom, PutItem}
+use Rattle.tape_image.specs.Writer.{Puts, PutsFrom, BlockFrom, PutItem}
 use Rattle.tape_image.proofs.Leads.{Leads-nil, Leads-then, Leads-before}
 use Rattle.tape_image.proofs.WrittenItems.{put_item, put_all, known_after}
 use Rattle.tape_set.specs.Sizes.{items_size, item_size}
 use Rattle.tape_set.proofs.Measures.{items_size-append}
 use Rattle.std.proofs.lemmas.List.{length-replicate}
 use Rattle.tape_writer.specs.Tapes.{Tapes, Ended, UnderWay, all_volumes}
-use Rattle.tape_writer.specs.Images.{IsImageSoFar, IsImageOf, AreImagesOf, IsUnderWay, AreImages}
+use Rattle.tape_writer.specs.Images.{IsNext, IsImageSoFar, IsImageOf, AreImagesOf, IsUnderWay, AreImages}
 
 -- an open writer has written the items and no more
 contents_open : (items : List TapeItem) (w : Writer) (s : IsImageSoFar items w)
@@ -48,6 +51,9 @@ size_push items item =
     items_size-append items (item ∷ []) in
     omega (arith, both)
 
+nothing_more : (next : List ℕ) × (rest : List ℕ) × IsNext next × (next ≡ [] ++ rest)
+nothing_more = (little_bytes 4 end_word, little_bytes 4 end_word, inl refl, refl)
+
 -- one more item
 pub one_more : (item : TapeItem) (items : List TapeItem) (old new : Writer) → old.standing ≡ writing
     → PutItem item old new → IsImageSoFar items old → IsImageSoFar (items ++ item ∷ []) new
@@ -70,6 +76,7 @@ one_more item items old new is put s =
       );
       open_at = not_writing new all.stands;
       whole = λ _. refl;
+      front = nothing_more;
     }
 
 -- the end word
@@ -139,7 +146,48 @@ started w stands size contents = record {
   sized = refl;
   open_at = not_writing w stands;
   whole = λ _. refl;
+  front = nothing_more;
 }
+
+-- a call that was refused: the items stay, and behind them stands a front of what it was to write
+put_refused : (bytes : List ℕ) (after s : Standing) (items : List TapeItem) (old new : Writer)
+    (f : ImageWriteFault) → old.standing ≡ s → IsNext bytes
+    → PutsFrom s bytes after old (Err f) new → IsImageSoFar items old → IsImageSoFar items new
+put_refused bytes after finished items old new f is next (e, same) so =
+    subst (IsImageSoFar items) (sym same) so
+put_refused bytes after broken items old new f is next (e, same) so =
+    subst (IsImageSoFar items) (sym same) so
+put_refused bytes after writing items old new faults.TooLong is next (long, same) so =
+    subst (IsImageSoFar items) (sym same) so
+put_refused bytes after writing items old new faults.BlockLength is next none so = absurd none
+put_refused bytes after writing items old new faults.Finished is next none so = absurd none
+put_refused bytes after writing items old new faults.Device is next p so = record {
+  bytes = so.bytes;
+  more = p.some;
+  contents = known_after old.contents new.contents so.bytes p.some (contents_open items old so is)
+      p.wrote;
+  leads = so.leads;
+  size = p.size ∙ so.size;
+  sized = so.sized;
+  open_at = λ e. (let f : broken ≡ finished = sym p.stands ∙ e in cc);
+  whole = λ e. absurd (let f : broken ≡ writing = sym p.stands ∙ e in cc);
+  front = (bytes, p.rest, next, p.front);
+}
+
+block_refused : (content : List ℕ) (s : Standing) (items : List TapeItem) (old new : Writer)
+    (f : ImageWriteFault) → old.standing ≡ s → BlockFrom s content old (Err f) new
+    → IsImageSoFar items old → IsImageSoFar items new
+block_refused content finished items old new f is (e, same) so =
+    subst (IsImageSoFar items) (sym same) so
+block_refused content broken items old new f is (e, same) so =
+    subst (IsImageSoFar items) (sym same) so
+block_refused content writing items old new f is put so = go _ (is_no_block content) put
+  where
+    go : (X : Type 0) (b : Bool) → MatchBool b (X × (new ≡ old))
+        (Puts (written (block content)) writing old (Err f) new) → IsImageSoFar items new
+    go X true (e, same) = subst (IsImageSoFar items) (sym same) so
+    go X false p = put_refused (written (block content)) writing writing items old new f is
+        (inr (block content, refl)) p so
 
 -- what a store holds of images that were handed on
 abbrev StoreHolds : Type 1
@@ -180,7 +228,7 @@ mark_at H image other u w volumes items there here put a =
     (put_open u.standing writing (written mark) u w put) put a
 
 -- the image here, once a call was refused
-pub kept_at : (H : StoreHolds) (image other : Option Writer) (u w : Writer) (tapes : Tapes)
+kept_at : (H : StoreHolds) (image other : Option Writer) (u w : Writer) (tapes : Tapes)
     → image ≡ Some u → other ≡ Some w
     → ((items : List TapeItem) → IsImageSoFar items u → IsImageSoFar items w)
     → AreImages H image tapes → AreImages H other tapes
@@ -188,6 +236,21 @@ kept_at H image other u w (Ended volumes) there here keeps (e, _) =
     absurd (no_image image u there e)
 kept_at H image other u w (UnderWay volumes items) there here keeps a =
     become H image other u w volumes items items there here (keeps items) a
+
+pub block_kept : (content : List ℕ) (H : StoreHolds) (image other : Option Writer) (u w : Writer)
+    (f : ImageWriteFault) (tapes : Tapes) → image ≡ Some u → other ≡ Some w
+    → BlockFrom u.standing content u (Err f) w → AreImages H image tapes → AreImages H other tapes
+block_kept content H image other u w f tapes there here put =
+    kept_at H image other u w tapes there here
+    (λ items so. block_refused content u.standing items u w f refl put so)
+
+pub put_kept : (bytes : List ℕ) (after : Standing) (H : StoreHolds) (image other : Option Writer)
+    (u w : Writer) (f : ImageWriteFault) (tapes : Tapes) → IsNext bytes → image ≡ Some u
+    → other ≡ Some w → PutsFrom u.standing bytes after u (Err f) w → AreImages H image tapes
+    → AreImages H other tapes
+put_kept bytes after H image other u w f tapes next there here put =
+    kept_at H image other u w tapes there here
+    (λ items so. put_refused bytes after u.standing items u w f refl next put so)
 
 -- the image here, once its end word was put and it was handed on
 pub end_at : (H H' : StoreHolds) (image other : Option Writer) (u w : Writer) (tapes : Tapes)

@@ -1,9 +1,12 @@
 -- What the definitions of tapes, of what a writer was told and of its refusals say of cases, so
 -- that none of them says less than it should. The call `laws::cases` has them as its contract.
 use Rattle.std.specs.Prelude.{◌≡◌, ◌≢◌, ◌≤◌, ◌+◌, ℕ, List, [], ◌∷◌, ◌++◌, length, map, take, Ok}
-use Rattle.std.specs.Prelude.{Err, Some, None, true, false}
+use Rattle.std.specs.Prelude.{Err, Some, None, true, false, ◌⊎◌}
 use Rattle.std.specs.List.{AllByRecursion}
+use Rattle.byteorder.specs.Endian.{little_bytes}
 use Rattle.tape_image.specs.Tape.{TapeItem, bad, mark}
+use Rattle.tape_image.specs.Word.{end_word}
+use Rattle.tape_image.specs.Written.{written}
 use Rattle.tape_image.specs.Spelling.{Leads, Spells}
 use Rattle.tape_image.specs.Writer.{Writer, writing, finished}
 use Rattle.tape_label.specs.declared.values.Head1.{Head1}
@@ -95,6 +98,10 @@ pub record CasesOfImages : Type 0 where
       → w.standing ≡ writing
       → (w.contents ≡ Some (i.bytes ++ i.more)) × Leads i.bytes items [] × (i.more ≡ [])
       × (w.size ≡ items_size items)
+  -- and where it failed a front of what was to be written next
+  pub front_behind : (items : List TapeItem) (w : Writer) (i : IsImageSoFar items w)
+      → (next : List ℕ) × (rest : List ℕ) × (next ≡ i.more ++ rest)
+      × ((next ≡ little_bytes 4 end_word) ⊎ ((item : TapeItem) × (next ≡ written item)))
   -- and its end word is not written yet
   pub not_ended : (items : List TapeItem) (w : Writer) → IsImageSoFar items w
       → w.standing ≡ finished → ⊥

@@ -1,8 +1,11 @@
 -- What images hold of volumes.
-use Rattle.std.specs.Prelude.{◌≡◌, ◌≢◌, ℕ, ◌+◌, List, [], ◌∷◌, ◌++◌, Bool, true, false}
+use Rattle.std.specs.Prelude.{◌≡◌, ◌≢◌, ◌⊎◌, ℕ, ◌+◌, List, [], ◌∷◌, ◌++◌, Bool, true, false}
 use Rattle.std.specs.Prelude.{Option, Some}
 use Rattle.std.specs.Prelude.{None, length}
+use Rattle.byteorder.specs.Endian.{little_bytes}
 use Rattle.tape_image.specs.Tape.{TapeItem}
+use Rattle.tape_image.specs.Word.{end_word}
+use Rattle.tape_image.specs.Written.{written}
 use Rattle.tape_image.specs.Spelling.{Leads, Spells}
 use Rattle.tape_image.specs.Writer.{Writer, writing, finished}
 use Rattle.tape_set.specs.Sizes.{items_size}
@@ -15,7 +18,11 @@ pub record Images (S : Type 0) : Type 0 where
   pub image : Option Writer
   pub failed : ℕ
 
--- These items are written, and where the device failed some bytes behind them.
+-- what is written next: an item, or the end word
+abbrev pub IsNext : List ℕ → Type 0
+IsNext bytes = (bytes ≡ little_bytes 4 end_word) ⊎ ((item : TapeItem) × (bytes ≡ written item))
+
+-- These items are written, and where the device failed a front of what comes next behind them.
 pub record IsImageSoFar (items : List TapeItem) (w : Writer) : Type 0 where
   pub bytes : List ℕ
   pub more : List ℕ
@@ -25,6 +32,7 @@ pub record IsImageSoFar (items : List TapeItem) (w : Writer) : Type 0 where
   pub sized : length bytes ≡ items_size items
   pub open_at : w.standing ≢ finished
   pub whole : w.standing ≡ writing → more ≡ []
+  pub front : (next : List ℕ) × (rest : List ℕ) × IsNext next × (next ≡ more ++ rest)
 
 -- The image spells these items, its end word last, and nothing stands behind it.
 pub record IsImageOf (items : List TapeItem) (bytes : List ℕ) : Type 0 where

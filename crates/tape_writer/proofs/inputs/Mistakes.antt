@@ -131,7 +131,7 @@ bytes_lost_at_a_failed_read R L g d h κs a s l old new none =
 read_failure_behind_the_end : (R : _) (L : _) (g : _) (d : _) (h : _) (κs : _) (a : _) (s : _)
     → next.Learnt-named R L g d h κs a (Err ReadFailed) s → a.0.now.over ≡ true → ⊥
 read_failure_behind_the_end R L g d h κs a s l over =
-    let n : true ≡ false = sym over ∙ (l.asked refl).0 in
+    let n : true ≡ false = sym over ∙ (l.due refl).0 in
     absurd (cc)
 
 -- raw_counted_as_one_record: a raw input is taken for one record of format D

@@ -84,7 +84,7 @@ impl<R: Read + Drop> Records<R> {
         ensures room { (vec_capacity self.old.record ≤ vec_capacity self.new.record)
             × (length self.new.record.items ≤ vec_capacity self.new.record) }
         // The reader is asked where nothing is read ahead, and not behind its end.
-        ensures asked { IfErr result (λ fault. fault ≡ InputFault.ReadFailed
+        ensures due { IfErr result (λ fault. fault ≡ InputFault.ReadFailed
             → (self.old.over ≡ false) × (self.new.ahead ≡ [])) }
         // Nothing of the input is lost at a refusal.
         ensures taken { OnErr result (IfKnown (left_of R.remaining self.old)

@@ -1,5 +1,6 @@
-use Rattle.std.proofs.Common.{rules, refl, Some}
-use Rattle.tape_writer.proofs.Written.{block_at}
+use Rattle.std.proofs.Common.{rules, refl, sym, subst, Some}
+use Rattle.tape_writer.proofs.Written.{block_at, block_kept}
+use Rattle.tape_writer.specs.Images.{AreImages}
 use Rattle.tape_writer.proofs.images.ImageTapesTapeOut.block.Goals as goal
 
 pub returns-in-Ok-clause-ok : goal.returns-in-Ok-clause-ok
@@ -8,3 +9,13 @@ returns-in-Ok-clause-ok g c =
     block_at c.args.bytes.now (g.S.ImageStore.holds c.self.inside.store) c.self.inside.image
     (Some c.block.new.self) c.in-Some.image c.block.new.self volumes items (search rules) refl
     c.in-Ok.ensures held)
+
+pub returns-in-Err-clause-err : goal.returns-in-Err-clause-err
+returns-in-Err-clause-err g c =
+    let H = g.S.ImageStore.holds in
+    rw (← c.self.view_is) (λ tapes held.
+    subst (λ t. AreImages (H t) c.fail-in-Err.new.self.image tapes)
+    (sym c.fail-in-Err.ensures.store)
+    (block_kept c.args.bytes.now (H c.self.inside.store) c.self.inside.image
+    c.fail-in-Err.new.self.image c.in-Some.image c.block.new.self c.in-Err.field-0 tapes
+    (search rules) c.fail-in-Err.ensures.image c.in-Err.ensures held))
