@@ -39,6 +39,7 @@ cases_of_foreign = record {
   second_behind = refl;
   left_behind_label = λ id rest left. left;
   left_unread = λ id rest. tt;
+  left_by_complete = λ id rest. tt;
   never_on_it = λ id rest left. left;
 }
 
@@ -69,6 +70,9 @@ cases_of_places = record {
   start_known = λ set file form known. absurd (cc known);
   behind_unknown = λ set file known. absurd (let e = known.1 in cc e);
   end_unknown = λ set file known. absurd (let e = known.1 in cc e);
+  told_by_sections = λ set file sect form s tells there. tells sect s there;
+  point_fits = λ point p. (p.numbered, p.stands, p.light);
+  parts_in_order = refl;
   behind_known = λ set file form known. behind_known set file form known;
   at = λ set core at. (at.of_set, at.sound, at.stands.inside, at.stands.span, at.stands.tells);
   at_by = λ set core of_set sound inside span tells. record {

@@ -13,8 +13,8 @@ use Rattle.tape_blocks.specs.Spans.{InOrder}
 use Rattle.tape_set.specs.declared.position.Position.{Position}
 use Rattle.tape_set.specs.declared.position.Position.TheVariants.{Awaits, Finished}
 use Rattle.tape_set.specs.Position.{start, awaiting, next_block, part_of}
-use Rattle.tape_set.specs.Layout.{FileSet, section_of}
-use Rattle.tape_set.specs.Lawful.{FileForm}
+use Rattle.tape_set.specs.Layout.{FileSet, Section, section_of}
+use Rattle.tape_set.specs.Lawful.{FileForm, TellsForm}
 use Rattle.tape_set.specs.Before.{before, IsIn}
 use Rattle.tape_set.specs.Reach.{far}
 use Rattle.tape_blocks.specs.Judged.{begun_behind}
@@ -23,12 +23,13 @@ use Rattle.tape_core.specs.declared.phase.Phase.TheVariants.{Over, Broken, Volum
 use Rattle.tape_core.specs.declared.phase.Phase.TheVariants.{NextFile}
 use Rattle.tape_core.specs.declared.sink.SinkFault.{SinkFault}
 use Rattle.tape_core.specs.Crash.{Returns, NoMore, OrThis, OnlyThis, AddsNothing, AddsOnly}
+use Rattle.tape_core.specs.Entries.{parts_from}
 use Rattle.tape_core.specs.Foreign.{starts_set, labels_of_set, IsForeignAt, Unmoved}
 use Rattle.tape_core.specs.Follows.{IsAt, StandsAt, KnownAt, FileTells, IsFinal, Delivers}
 use Rattle.tape_core.specs.Follows.{Gives, Checked, Idle, Kept, IsReading, reading}
-use Rattle.tape_core.specs.Known.{is_finished}
+use Rattle.tape_core.specs.Known.{is_finished, IsFileNumber, StandFits, most_staged}
 use Rattle.tape_core.specs.Place.{rest_of, place_of, IsPlaced}
-use Rattle.tape_core.specs.Point.{Point}
+use Rattle.tape_core.specs.Point.{Point, IsPoint}
 use Rattle.tape_core.specs.Stands.{Stands, weight_of, inside_block}
 use Rattle.tape_core.specs.State.{State, is_broken}
 use Rattle.tape_core.specs.Table.{Outcome, Shows}
@@ -84,6 +85,8 @@ pub record CasesOfForeign : Type 0 where
   pub left_behind_label : (id : List ℕ) (rest : List TapeItem)
       → IsForeignAt id rest (awaiting 2 1) VolumeLabels → labels_of_set id rest ≡ false
   pub left_unread : (id : List ℕ) (rest : List TapeItem) → IsForeignAt id rest start Over
+  pub left_by_complete : (id : List ℕ) (rest : List TapeItem)
+      → IsForeignAt id rest Finished NextFile
   pub never_on_it : (id : List ℕ) (rest : List TapeItem) → IsForeignAt id rest start NextFile → ⊥
 
 -- ---- where a reader stands
@@ -105,6 +108,17 @@ pub record CasesOfPlaces : Type 0 where
   pub end_unknown : (set : FileSet) (file : ℕ) → KnownAt set file Finished None → ⊥
   pub behind_known : (set : FileSet) (file : ℕ) (form : FileForm)
       → KnownAt set file (awaiting 1 1) (Some form) → FileTells set file form
+  -- each section of the file tells its form
+  pub told_by_sections : (set : FileSet) (file sect : ℕ) (form : FileForm) (s : Section)
+      → FileTells set file form → section_of set file sect ≡ Some s → TellsForm form s
+  -- what is true of each checkpoint
+  pub point_fits : (point : Point) → IsPoint point → IsFileNumber point.file
+      × StandFits point.position point.begun point.known × (point.staged ≤ most_staged)
+  -- parts in memory lie one behind another
+  pub parts_in_order : parts_from 0 (record { span = First; end = 2 }
+      ∷ record { span = Whole; end = 2 } ∷ record { span = Whole; end = 3 } ∷ [])
+      (65 ∷ 66 ∷ 67 ∷ []) ≡ record { span = First; bytes = 65 ∷ 66 ∷ [] }
+      ∷ record { span = Whole; bytes = [] } ∷ record { span = Whole; bytes = 67 ∷ [] } ∷ []
   -- what is said of a reader that stands in a file, and that this is all
   pub at : (set : FileSet) (core : State) → IsAt set core
       → (core.set_id ≡ set.set_id) × (is_broken core.phase ≡ false)
