@@ -77,24 +77,6 @@ failed_elapses m0 m1 past0 past1 leaves0 leaves1 s b stays time = record {
       (λ held. inr (held.0, stays held.0 held.1, held.2)) was;
 }
 
--- passed on, and then other bytes are held
-pub begun_elapses : (m0 m1 : ℕ) (past0 past1 : ℕ → List ℕ → Type 0)
-    (leaves0 leaves1 : List ℕ → Type 0) (s0 s1 s2 : ℕ) (b0 b1 b2 : List ℕ) → b1 ≡ []
-    → Elapses m0 m1 (LeftSince past0 leaves0 s0 b0) (LeftSince past1 leaves1 s1 b1)
-    (LeftTorn leaves1 s1 b1)
-    → Elapses m0 m1 (LeftSince past0 leaves0 s0 b0) (LeftSince past1 leaves1 s2 b2)
-    (LeftTorn leaves1 s2 b2)
-begun_elapses m0 m1 past0 past1 leaves0 leaves1 s0 s1 s2 b0 b1 b2 none time = record {
-  later = time.later;
-  nothing_else = λ t c le was. ⊎_elim
-      (λ there. ⊎_elim (λ before. inl before)
-      (λ now. inr (none_left leaves1 s2 b2 c (left_none leaves1 s1 b1 c none now)))
-      (time.nothing_else t c le (inl there))) (λ now. inr now) was;
-  keeps = λ t c le was. ⊎_elim (λ before. inl before)
-      (λ now. inr (none_left leaves1 s2 b2 c (left_none leaves1 s1 b1 c none now)))
-      (time.keeps t c le was);
-}
-
 -- passed on, and then a call of the disk
 pub then_elapses : (m0 m1 m2 : ℕ) (past0 past1 past2 : ℕ → List ℕ → Type 0)
     (leaves0 leaves1 leaves2 : List ℕ → Type 0) (s0 s1 : ℕ) (b0 b1 : List ℕ) → b1 ≡ []

@@ -1,9 +1,8 @@
 -- One frame after another.
-use Rattle.std.proofs.Common.{◌≡◌, ⊎_elim, ℕ, zero, suc, ◌+◌, ◌-◌, ◌≤◌, ◌<◌, List}
+use Rattle.std.proofs.Common.{◌≡◌, ℕ, zero, suc, ◌+◌, ◌-◌, ◌≤◌, ◌<◌, List}
 use Rattle.std.proofs.Common.{[], ◌∷◌, ◌++◌, take, drop, length, get_or, w32, refl, sym, ap, ◌∙◌}
 use Rattle.std.proofs.Common.{subst, arith}
 use Rattle.std.proofs.lemmas.List.{length-take-le, length-drop, drop-drop}
-use Rattle.std.proofs.lemmas.Bool.Decides.{eqb_tells}
 use Rattle.std.proofs.Math.Seq.{take-add}
 use Rattle.std.specs.Int.{to_be_bytes}
 use Rattle.tape_blocks.specs.Block.{Portion}
@@ -11,7 +10,6 @@ use Rattle.tape_stage.specs.Parts.{frame, frames}
 use Rattle.tape_blocks.specs.Block.{indicator}
 use Rattle.tape_stage.specs.Staged.{Holding, IsPut, WalkedTo}
 use Rattle.tape_blocks.specs.declared.part.Span.{Span}
-use Rattle.tape_blocks.specs.declared.part.Span.TheVariants.{Whole, First, Middle, Last}
 use Rattle.tape_stage.proofs.FrameLaws.{put_holding}
 
 pub walked_holding : (place : ℕ) (bytes : List ℕ) → place ≤ length bytes
@@ -55,13 +53,6 @@ walked_more place size span header bytes room read is short walked =
           (omega (arith, n, walked.low)) holding.frames_are;
       short = holding.short;
     }
-
-digit_span : (n : ℕ) → 48 ≤ n → n ≤ 51 → (s : Span) × (n ≡ indicator s)
-digit_span n low high =
-    ⊎_elim (λ is. (Whole, is.1)) (λ no0. ⊎_elim (λ is. (First, is.1))
-    (λ no1. ⊎_elim (λ is. (Middle, is.1)) (λ no2.
-    let last : n ≡ 51 = omega (arith, no0.1, no1.1, no2.1) in (Last, last))
-    (eqb_tells n 50)) (eqb_tells n 49)) (eqb_tells n 48)
 
 five : (l : List ℕ) → length l ≡ 5 → l ≡ get_or l 0 0 ∷ get_or l 1 0 ∷ get_or l 2 0 ∷ get_or l 3 0
     ∷ get_or l 4 0 ∷ []
