@@ -21,7 +21,8 @@ pub open_left : (H K : Tapes → Type 0) (vs : List Vol1) (cap : ℕ) (set_id : 
     → IsOpen H vs cap set_id file course d → IsOpen K vs cap set_id file course d
 open_left H K vs cap set_id file course d f o = record { steady = o.steady; held = f _ o.held }
 
-pub inside_left : (H K : Tapes → Type 0) (vs : List Vol1) (cap : ℕ) (set_id : List ℕ) (file : Opened)
+pub inside_left : (H K : Tapes → Type 0) (vs : List Vol1) (cap : ℕ) (set_id : List ℕ)
+    (file : Opened)
     (course : Course) (p : Packing) (fs : List (List Section)) (records : List (List ℕ))
     → ((t : Tapes) → H t → K t) → IsInside H vs cap set_id file course p fs records
     → IsInside K vs cap set_id file course p fs records
@@ -35,7 +36,8 @@ inside_left H K vs cap set_id file course p fs records f k = record {
   lengths = k.lengths;
 }
 
-pub packing_left : (H K : Tapes → Type 0) (vs : List Vol1) (cap : ℕ) (set_id : List ℕ) (file : Opened)
+pub packing_left : (H K : Tapes → Type 0) (vs : List Vol1) (cap : ℕ) (set_id : List ℕ)
+    (file : Opened)
     (course : Course) (p : Packing) (fs : List (List Section)) (records : List (List ℕ))
     (whole rest : List ℕ) → ((t : Tapes) → H t → K t)
     → IsPacking H vs cap set_id file course p fs records whole rest

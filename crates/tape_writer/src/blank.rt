@@ -14,7 +14,7 @@ pub const BLANK: usize = 100;
 pub type BlankImage = ArrayVec<u8, BLANK>;
 
 /// The three characters that the identifiers of a set's volumes begin with: `A` to `Z`, `0` to `9`.
-#[derive(Clone, Copy, Debug, PartialEq, Eq)]
+#[derive(Clone, Copy, PartialEq, Eq)]
 pub struct Prefix {
     pub characters: [u8; 3],
 }

@@ -9,7 +9,7 @@ use tape_label::{Head1, Head2};
 
 /// A file that was begun: its head, with the set's identifier, section 1 and the file's number, and
 /// its shape.
-#[derive(Clone, Copy, Debug)]
+#[derive(Clone, Copy)]
 pub struct Opened {
     /// What HDR1 tells of the file's first section.
     pub head: Head1,
@@ -18,7 +18,7 @@ pub struct Opened {
 }
 
 /// The volume and the section under way.
-#[derive(Clone, Copy, Debug)]
+#[derive(Clone, Copy)]
 pub struct Course {
     /// The volume's number, from 1; 0 before the first.
     pub volume: u16,

@@ -6,7 +6,7 @@ ghost use Rattle.tape_writer.specs.Records.{Adds, last_record};
 use memchr::memchr;
 
 /// Where an input is cut into records.
-#[derive(Clone, Copy, Debug, PartialEq, Eq)]
+#[derive(Clone, Copy)]
 pub enum Cut {
     /// Behind each line feed, which is in no record.
     Lines,
@@ -17,7 +17,7 @@ pub enum Cut {
 }
 
 /// The front of some bytes that goes on a record.
-#[derive(Clone, Copy, Debug, PartialEq, Eq)]
+#[derive(Clone, Copy)]
 pub struct Piece {
     /// How many of the bytes are in the record.
     pub content: usize,
