@@ -23,8 +23,8 @@ COMMANDS = {
     "list": ("[--places] [IMAGE]", [("IMAGE", "IMAGE"), ("--places", "PLACES")]),
     "check": ("[--from LIST [--null]] [IMAGE]...", [
         ("IMAGE", "IMAGES"), ("--from LIST", "FROM"), ("--null", "NULL")]),
-    "survey": ("[--from LIST [--null]] [IMAGE]...", [
-        ("IMAGE", "SHELF"), ("--from LIST", "FROM"), ("--null", "NULL")]),
+    "survey": ("[--tsv] [--from LIST [--null]] [IMAGE]...", [
+        ("IMAGE", "SHELF"), ("--from LIST", "FROM"), ("--null", "NULL"), ("--tsv", "ROWS")]),
     "extract": ("[OPTIONS] SET FILE OUT [IMAGE]...", [
         ("SET", "SET"), ("FILE", "FILE"), ("OUT", "OUT"), ("IMAGE", "REELS"),
         ("--from LIST", "FROM"), ("--null", "NULL"),

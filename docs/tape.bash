@@ -17,7 +17,8 @@ _tape() {
     case $command:$cur in
     help:*) COMPREPLY=($(compgen -W 'list check survey extract stage init write' -- "$cur")); return ;;
     list:-*) COMPREPLY=($(compgen -W '--places --explain --help' -- "$cur")); return ;;
-    check:-*|survey:-*) COMPREPLY=($(compgen -W '--from --null --explain --help' -- "$cur")); return ;;
+    check:-*) COMPREPLY=($(compgen -W '--from --null --explain --help' -- "$cur")); return ;;
+    survey:-*) COMPREPLY=($(compgen -W '--from --null --tsv --explain --help' -- "$cur")); return ;;
     stage:-*) COMPREPLY=($(compgen -W '--form --explain --help' -- "$cur")); return ;;
     extract:-*)
         COMPREPLY=($(compgen -W '--from --null --form --stage --again --explain --help' -- "$cur"))

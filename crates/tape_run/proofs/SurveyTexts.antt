@@ -10,60 +10,68 @@ use Rattle.std.specs.Io.KnownBytes.{Appends}
 use Rattle.std.proofs.KnownBytes.{Appends-trans, Appends-nil}
 use Rattle.std.proofs.lemmas.Bool.Decides.{nat_tests}
 use Rattle.std.proofs.lemmas.Grind.{flat_map-append}
+use Rattle.tape_run.specs.declared.survey.Wording.{Wording}
 use Rattle.tape_run.specs.declared.survey.view.Sight.{Sight}
 use Rattle.tape_run.specs.Lacks.{SetFiles}
 use Rattle.tape_run.specs.Output.{AppendsFront}
 use Rattle.tape_run.specs.Reeling.{Mounting}
-use Rattle.tape_run.specs.Survey.{image_lines, Tells, TellsAll, StopsAt, Surveys, SurveysInPart}
+use Rattle.tape_run.specs.Survey.{image_texts, Tells, TellsAll, StopsAt, Surveys, SurveysInPart}
 use Rattle.tape_run.specs.Survey.{summary_at}
 use Rattle.tape_run.specs.SurveyFiles.{Filed, any_differs}
-use Rattle.tape_run.specs.SurveyLine.{image_line}
+use Rattle.tape_run.specs.SurveyWording.{image_text, file_text, file_texts, set_text, set_texts}
+use Rattle.tape_run.specs.SurveyWording.{summary}
 use Rattle.tape_run.specs.SurveyRead.{Found, nothing_found, IsViewed, AreViewed}
-use Rattle.tape_run.specs.SurveySets.{file_line, file_lines, set_text, set_texts, is_all, summary}
+use Rattle.tape_run.specs.SurveySets.{is_all}
 use Rattle.tape_run.proofs.Listing.{take_get}
 use Rattle.tape_run.proofs.Reporting.{front_then}
 
 -- ---- files and sets
 
--- the lines from one file on
-lines_behind : (d : Found) (set_id : List ℕ) (file left : ℕ) → 0 < left
-    → file_lines d set_id file left
-    ≡ file_line d set_id file ++ file_lines d set_id (file + 1) (left - 1)
-lines_behind d set_id file zero some = absurd (omega arith)
-lines_behind d set_id file (suc n) some =
+-- the texts from one file on
+texts_behind : (y : Wording) (d : Found) (set_id : List ℕ) (file left : ℕ) → 0 < left
+    → file_texts y d set_id file left
+    ≡ file_text y d set_id file ++ file_texts y d set_id (file + 1) (left - 1)
+texts_behind y d set_id file zero some = absurd (omega arith)
+texts_behind y d set_id file (suc n) some =
     let one : n ≡ suc n - 1 = omega arith in
-    ap (λ m. file_line d set_id file ++ file_lines d set_id (file + 1) m) one
+    ap (λ m. file_text y d set_id file ++ file_texts y d set_id (file + 1) m) one
 
--- the line of one more file was added
-pub line_added : (d : Found) (set_id old new goal : List ℕ) (before greatest : ℕ)
-    → before < greatest → new ≡ old ++ file_line d set_id (before + 1)
-    → old ++ file_lines d set_id (before + 1) (greatest - before) ≡ goal
-    → new ++ file_lines d set_id (before + 1 + 1) (greatest - (before + 1)) ≡ goal
-line_added d set_id old new goal before greatest within put was =
-    let here = file_line d set_id (before + 1) in
+-- the text of one more file was added
+pub text_added : (y : Wording) (d : Found) (set_id old new goal : List ℕ) (before greatest : ℕ)
+    → before < greatest → new ≡ old ++ file_text y d set_id (before + 1)
+    → old ++ file_texts y d set_id (before + 1) (greatest - before) ≡ goal
+    → new ++ file_texts y d set_id (before + 1 + 1) (greatest - (before + 1)) ≡ goal
+text_added y d set_id old new goal before greatest within put was =
+    let here = file_text y d set_id (before + 1) in
     let fewer : greatest - (before + 1) ≡ greatest - before - 1 = omega (arith, within) in
     let some : 0 < greatest - before = omega (arith, within) in
-    ap (λ ls. ls ++ file_lines d set_id (before + 1 + 1) (greatest - (before + 1))) put
-    ∙ append_assoc old here (file_lines d set_id (before + 1 + 1) (greatest - (before + 1)))
-    ∙ ap (λ n. old ++ (here ++ file_lines d set_id (before + 1 + 1) n)) fewer
-    ∙ ap (λ ls. old ++ ls) (sym (lines_behind d set_id (before + 1) (greatest - before) some))
+    ap (λ ls. ls ++ file_texts y d set_id (before + 1 + 1) (greatest - (before + 1))) put
+    ∙ append_assoc old here (file_texts y d set_id (before + 1 + 1) (greatest - (before + 1)))
+    ∙ ap (λ n. old ++ (here ++ file_texts y d set_id (before + 1 + 1) n)) fewer
+    ∙ ap (λ ls. old ++ ls) (sym (texts_behind y d set_id (before + 1) (greatest - before) some))
     ∙ was
 
 -- and where no file is left
-pub lines_all : (d : Found) (set_id new goal : List ℕ) (file left : ℕ) → left ≡ 0
-    → new ++ file_lines d set_id file left ≡ goal → new ≡ goal
-lines_all d set_id new goal file left none was =
-    sym (append-nil new) ∙ ap (λ n. new ++ file_lines d set_id file n) (sym none) ∙ was
+pub texts_all : (y : Wording) (d : Found) (set_id new goal : List ℕ) (file left : ℕ) → left ≡ 0
+    → new ++ file_texts y d set_id file left ≡ goal → new ≡ goal
+texts_all y d set_id new goal file left none was =
+    sym (append-nil new) ∙ ap (λ n. new ++ file_texts y d set_id file n) (sym none) ∙ was
 
--- what is said of the set at a place was added
-pub set_added : (d : Found) (sets : List SetFiles) (old new : List ℕ) (i : ℕ) (x : SetFiles)
-    → Some x ≡ slice_get sets i → new ≡ old ++ set_text d x
-    → old ≡ set_texts d (take i sets) → new ≡ set_texts d (take (i + 1) sets)
-set_added d sets old new i x at put was =
-    put ∙ ap (λ ls. ls ++ set_text d x) was
-    ∙ ap (λ ls. flat_map (set_text d) (take i sets) ++ ls) (sym (append-nil (set_text d x)))
-    ∙ sym (flat_map-append (set_text d) (take i sets) (x ∷ []))
-    ∙ ap (flat_map (set_text d)) (sym (take_get sets i x at))
+-- the text of the one at a place was added
+pub flat_more : {X : Type 0} (f : X → List ℕ) (xs : List X) (old new : List ℕ) (i : ℕ) (x : X)
+    → Some x ≡ slice_get xs i → new ≡ old ++ f x
+    → old ≡ flat_map f (take i xs) → new ≡ flat_map f (take (i + 1) xs)
+flat_more f xs old new i x at put was =
+    put ∙ ap (λ ls. ls ++ f x) was
+    ∙ ap (λ ls. flat_map f (take i xs) ++ ls) (sym (append-nil (f x)))
+    ∙ sym (flat_map-append f (take i xs) (x ∷ []))
+    ∙ ap (flat_map f) (sym (take_get xs i x at))
+
+-- that of a set
+pub set_added : (y : Wording) (d : Found) (sets : List SetFiles) (old new : List ℕ) (i : ℕ)
+    (x : SetFiles) → Some x ≡ slice_get sets i → new ≡ old ++ set_text y d x
+    → old ≡ set_texts y d (take i sets) → new ≡ set_texts y d (take (i + 1) sets)
+set_added y d sets old new i x at put was = flat_more (set_text y d) sets old new i x at put was
 
 -- whether one of the files up to a place was met with labels of others
 or_false : (b : Bool) → (b || false) ≡ b
@@ -92,20 +100,21 @@ pub name_at : {X : Type 0} (f : X → List ℕ) (xs : List X) (i : ℕ) (d : X) 
 name_at f xs i d within = sym (get_or-map f xs i d [] within)
 
 -- the line of one more image
-pub line_more : (names : List (List ℕ)) (sights : List (Option Sight)) (sight : Option Sight)
+pub line_more : (y : Wording) (names : List (List ℕ)) (sights : List (Option Sight)) (sight : Option Sight)
     (name : List ℕ) → length sights < length names → name ≡ get_or names (length sights) []
-    → image_lines names (sights ++ sight ∷ []) ≡ image_lines names sights ++ image_line name sight
-line_more [] sights sight name within is = absurd (omega (arith, within))
-line_more (n ∷ names) [] sight name within is =
-    none names (image_line n sight) ∙ ap (λ m. image_line m sight) (sym is)
+    → image_texts y names (sights ++ sight ∷ []) ≡ image_texts y names sights ++ image_text y name sight
+line_more y [] sights sight name within is = absurd (omega (arith, within))
+line_more y (n ∷ names) [] sight name within is =
+    none y names (image_text y n sight) ∙ ap (λ m. image_text y m sight) (sym is)
   where
-    none : (names : List (List ℕ)) (line : List ℕ) → line ++ image_lines names [] ≡ line
-    none [] line = append-nil line
-    none (n ∷ names) line = append-nil line
-line_more (n ∷ names) (s ∷ sights) sight name within is =
-    ap (λ ls. image_line n s ++ ls)
-    (line_more names sights sight name (omega (arith, within)) is)
-    ∙ sym (append_assoc (image_line n s) (image_lines names sights) (image_line name sight))
+    none : (y : Wording) (names : List (List ℕ)) (line : List ℕ)
+        → line ++ image_texts y names [] ≡ line
+    none y [] line = append-nil line
+    none y (n ∷ names) line = append-nil line
+line_more y (n ∷ names) (s ∷ sights) sight name within is =
+    ap (λ ls. image_text y n s ++ ls)
+    (line_more y names sights sight name (omega (arith, within)) is)
+    ∙ sym (append_assoc (image_text y n s) (image_texts y names sights) (image_text y name sight))
 
 -- one more image was mounted and read
 pub viewed_more : {L R : Type 0} (gives : Mounting L R) (remaining : R → Option (List ℕ))
@@ -140,40 +149,40 @@ viewed_more gives remaining shelf number (s ∷ sights) c left mid sight image l
     )
 
 -- the first images were read, and their lines written
-pub record ToldSoFar {L R : Type 0} (gives : Mounting L R) (remaining : R → Option (List ℕ))
+pub record ToldSoFar {L R : Type 0} (y : Wording) (gives : Mounting L R) (remaining : R → Option (List ℕ))
     (names : List (List ℕ)) (shelf left : L) (number : ℕ) (d : Found) (old new : Option (List ℕ)) :
     Type 0 where
   pub sights : List (Option Sight)
   pub counted : length sights ≡ number
   pub viewed : AreViewed gives remaining shelf 0 sights nothing_found left d
-  pub wrote : Appends old new (image_lines names sights)
+  pub wrote : Appends old new (image_texts y names sights)
 
-pub tells_none : {L R : Type 0} (gives : Mounting L R) (remaining : R → Option (List ℕ))
+pub tells_none : {L R : Type 0} (y : Wording) (gives : Mounting L R) (remaining : R → Option (List ℕ))
     (names : List (List ℕ)) (shelf : L) (d : Found) (w : Option (List ℕ)) → d ≡ nothing_found
-    → ToldSoFar gives remaining names shelf shelf 0 d w w
-tells_none gives remaining names shelf d w none = record {
+    → ToldSoFar y gives remaining names shelf shelf 0 d w w
+tells_none y gives remaining names shelf d w none = record {
   sights = [];
   counted = refl;
   viewed = (refl, none);
-  wrote = subst (Appends w w) (sym (nothing names)) (Appends-nil w);
+  wrote = subst (Appends w w) (sym (nothing y names)) (Appends-nil w);
 }
   where
-    nothing : (names : List (List ℕ)) → image_lines names [] ≡ []
-    nothing [] = refl
-    nothing (n ∷ names) = refl
+    nothing : (y : Wording) (names : List (List ℕ)) → image_texts y names [] ≡ []
+    nothing y [] = refl
+    nothing y (n ∷ names) = refl
 
-pub tells_more : {L R : Type 0} (gives : Mounting L R) (remaining : R → Option (List ℕ))
+pub tells_more : {L R : Type 0} (y : Wording) (gives : Mounting L R) (remaining : R → Option (List ℕ))
     (names : List (List ℕ)) (shelf left next : L) (number : ℕ) (mid d : Found)
     (old w new : Option (List ℕ)) (image : Option R) (name : List ℕ)
     → number < length names → name ≡ get_or names number []
-    → ToldSoFar gives remaining names shelf left number mid old w
+    → ToldSoFar y gives remaining names shelf left number mid old w
     → gives left number image next
-    → Tells (Rattle.std.specs.Prelude.option_map remaining image) name mid d w new
-    → ToldSoFar gives remaining names shelf next (number + 1) d old new
-tells_more gives remaining names shelf left next number mid d old w new image name within is s g
+    → Tells y (Rattle.std.specs.Prelude.option_map remaining image) name mid d w new
+    → ToldSoFar y gives remaining names shelf next (number + 1) d old new
+tells_more y gives remaining names shelf left next number mid d old w new image name within is s g
     (sight, viewed, wrote) =
     let at : number ≡ 0 + length s.sights = omega (arith, s.counted) in
-    let lines = line_more names s.sights sight name (omega (arith, within, s.counted))
+    let lines = line_more y names s.sights sight name (omega (arith, within, s.counted))
     (subst (λ n. name ≡ get_or names n []) (sym s.counted) is) in
     record {
       sights = s.sights ++ sight ∷ [];
@@ -181,25 +190,25 @@ tells_more gives remaining names shelf left next number mid d old w new image na
       viewed = viewed_more gives remaining shelf 0 s.sights nothing_found left mid sight image next
           d s.viewed (subst (λ n. gives left n image next) at g) viewed;
       wrote = subst (Appends old new) (sym lines) (Appends-trans old w new
-          (image_lines names s.sights) (image_line name sight) s.wrote wrote);
+          (image_texts y names s.sights) (image_text y name sight) s.wrote wrote);
     }
 
 -- a front of a survey, where a front of its next text was written
-in_part : {L R : Type 0} (gives : Mounting L R) (remaining : R → Option (List ℕ))
+in_part : {L R : Type 0} (y : Wording) (gives : Mounting L R) (remaining : R → Option (List ℕ))
     (names : List (List ℕ)) (shelf left : L) (sights : List (Option Sight)) (d : Found)
     (old w new : Option (List ℕ)) (a b : List ℕ) → length sights ≤ length names
     → AreViewed gives remaining shelf 0 sights nothing_found left d
-    → Appends old w a → AppendsFront w new b → image_lines names sights ≡ a ++ b
-    → SurveysInPart gives remaining names shelf old new
-in_part gives remaining names shelf left sights d old w new a b few viewed wrote part is =
-    let more = summary_at (length sights == length names) d in
+    → Appends old w a → AppendsFront w new b → image_texts y names sights ≡ a ++ b
+    → SurveysInPart y gives remaining names shelf old new
+in_part y gives remaining names shelf left sights d old w new a b few viewed wrote part is =
+    let more = summary_at y (length sights == length names) d in
     record {
       sights = sights;
       few = few;
       found = d;
       left = left;
       viewed = viewed;
-      wrote = front_then old w new a b more (image_lines names sights ++ more) wrote part
+      wrote = front_then old w new a b more (image_texts y names sights ++ more) wrote part
           (ap (λ l. l ++ more) is);
     }
 
@@ -208,49 +217,49 @@ front_of_none : (old new : Option (List ℕ)) → Appends old new [] → Appends
 front_of_none old new wrote = ([], [], wrote, refl)
 
 -- a fault came before an image was mounted
-pub stops_before : {L R : Type 0} (gives : Mounting L R) (remaining : R → Option (List ℕ))
+pub stops_before : {L R : Type 0} (y : Wording) (gives : Mounting L R) (remaining : R → Option (List ℕ))
     (names : List (List ℕ)) (shelf left : L) (number : ℕ) (mid : Found) (old w : Option (List ℕ))
-    → number < length names → ToldSoFar gives remaining names shelf left number mid old w
-    → SurveysInPart gives remaining names shelf old w
-stops_before gives remaining names shelf left number mid old w within s =
-    in_part gives remaining names shelf left s.sights mid old w w (image_lines names s.sights) []
+    → number < length names → ToldSoFar y gives remaining names shelf left number mid old w
+    → SurveysInPart y gives remaining names shelf old w
+stops_before y gives remaining names shelf left number mid old w within s =
+    in_part y gives remaining names shelf left s.sights mid old w w (image_texts y names s.sights) []
     (omega (arith, within, s.counted)) s.viewed s.wrote (front_of_none w w (Appends-nil w))
-    (sym (append-nil (image_lines names s.sights)))
+    (sym (append-nil (image_texts y names s.sights)))
 
 -- a fault came at an image that was mounted
-pub stops_at : {L R : Type 0} (gives : Mounting L R) (remaining : R → Option (List ℕ))
+pub stops_at : {L R : Type 0} (y : Wording) (gives : Mounting L R) (remaining : R → Option (List ℕ))
     (names : List (List ℕ)) (shelf left next : L) (number : ℕ) (mid : Found)
     (old w new : Option (List ℕ)) (image : Option R) (name : List ℕ)
     → number < length names → name ≡ get_or names number []
-    → ToldSoFar gives remaining names shelf left number mid old w
+    → ToldSoFar y gives remaining names shelf left number mid old w
     → gives left number image next
-    → StopsAt (Rattle.std.specs.Prelude.option_map remaining image) name mid w new
-    → SurveysInPart gives remaining names shelf old new
-stops_at gives remaining names shelf left next number mid old w new image name within is s g
+    → StopsAt y (Rattle.std.specs.Prelude.option_map remaining image) name mid w new
+    → SurveysInPart y gives remaining names shelf old new
+stops_at y gives remaining names shelf left next number mid old w new image name within is s g
     (inl none) =
-    in_part gives remaining names shelf left s.sights mid old w new (image_lines names s.sights) []
+    in_part y gives remaining names shelf left s.sights mid old w new (image_texts y names s.sights) []
     (omega (arith, within, s.counted)) s.viewed s.wrote (front_of_none w new none)
-    (sym (append-nil (image_lines names s.sights)))
-stops_at gives remaining names shelf left next number mid old w new image name within is s g
+    (sym (append-nil (image_texts y names s.sights)))
+stops_at y gives remaining names shelf left next number mid old w new image name within is s g
     (inr (sight, d, viewed, part)) =
     let at : number ≡ 0 + length s.sights = omega (arith, s.counted) in
-    in_part gives remaining names shelf next (s.sights ++ sight ∷ []) d old w new
-    (image_lines names s.sights) (image_line name sight)
+    in_part y gives remaining names shelf next (s.sights ++ sight ∷ []) d old w new
+    (image_texts y names s.sights) (image_text y name sight)
     (omega (arith, within, s.counted, length-append s.sights (sight ∷ [])))
     (viewed_more gives remaining shelf 0 s.sights nothing_found left mid sight image next d s.viewed
     (subst (λ n. gives left n image next) at g) viewed)
     s.wrote part
-    (line_more names s.sights sight name (omega (arith, within, s.counted))
+    (line_more y names s.sights sight name (omega (arith, within, s.counted))
     (subst (λ n. name ≡ get_or names n []) (sym s.counted) is))
 
 -- ---- the whole
 
 -- all images were read
-pub tells_all : {L R : Type 0} (gives : Mounting L R) (remaining : R → Option (List ℕ))
+pub tells_all : {L R : Type 0} (y : Wording) (gives : Mounting L R) (remaining : R → Option (List ℕ))
     (names : List (List ℕ)) (shelf left : L) (number : ℕ) (d : Found) (old new : Option (List ℕ))
-    → number ≡ length names → ToldSoFar gives remaining names shelf left number d old new
-    → TellsAll gives remaining names shelf left d old new
-tells_all gives remaining names shelf left number d old new all s = record {
+    → number ≡ length names → ToldSoFar y gives remaining names shelf left number d old new
+    → TellsAll y gives remaining names shelf left d old new
+tells_all y gives remaining names shelf left number d old new all s = record {
   sights = s.sights;
   each = s.counted ∙ all;
   viewed = s.viewed;
@@ -258,12 +267,12 @@ tells_all gives remaining names shelf left number d old new all s = record {
 }
 
 -- and what stands behind them was written
-pub surveyed : {L R : Type 0} (gives : Mounting L R) (remaining : R → Option (List ℕ))
+pub surveyed : {L R : Type 0} (y : Wording) (gives : Mounting L R) (remaining : R → Option (List ℕ))
     (names : List (List ℕ)) (shelf left : L) (d : Found) (old w new : Option (List ℕ)) (all : Bool)
-    → TellsAll gives remaining names shelf left d old w → all ≡ is_all d
-    → Appends w new (summary d) → Surveys gives remaining names shelf left old new all
-surveyed gives remaining names shelf left d old w new all s is wrote = (
-  image_lines names s.sights ++ summary d,
+    → TellsAll y gives remaining names shelf left d old w → all ≡ is_all d
+    → Appends w new (summary y d) → Surveys y gives remaining names shelf left old new all
+surveyed y gives remaining names shelf left d old w new all s is wrote = (
+  image_texts y names s.sights ++ summary y d,
   record {
     sights = s.sights;
     found = d;
@@ -272,24 +281,24 @@ surveyed gives remaining names shelf left d old w new all s is wrote = (
     told = refl;
     is_so = is;
   },
-  Appends-trans old w new (image_lines names s.sights) (summary d) s.wrote wrote,
+  Appends-trans old w new (image_texts y names s.sights) (summary y d) s.wrote wrote,
 )
 
 -- a front of that was written
-pub surveyed_in_part : {L R : Type 0} (gives : Mounting L R) (remaining : R → Option (List ℕ))
+pub surveyed_in_part : {L R : Type 0} (y : Wording) (gives : Mounting L R) (remaining : R → Option (List ℕ))
     (names : List (List ℕ)) (shelf left : L) (d : Found) (old w new : Option (List ℕ))
-    → TellsAll gives remaining names shelf left d old w → AppendsFront w new (summary d)
-    → SurveysInPart gives remaining names shelf old new
-surveyed_in_part gives remaining names shelf left d old w new s part = record {
+    → TellsAll y gives remaining names shelf left d old w → AppendsFront w new (summary y d)
+    → SurveysInPart y gives remaining names shelf old new
+surveyed_in_part y gives remaining names shelf left d old w new s part = record {
   sights = s.sights;
   few = omega (arith, s.each);
   found = d;
   left = left;
   viewed = s.viewed;
-  wrote = front_then old w new (image_lines names s.sights) (summary d) []
-      (image_lines names s.sights ++ summary_at (length s.sights == length names) d) s.wrote part
-      (ap (λ b. image_lines names s.sights ++ summary_at b d) (same (length s.sights)
-      (length names) s.each) ∙ sym (append-nil (image_lines names s.sights ++ summary d)));
+  wrote = front_then old w new (image_texts y names s.sights) (summary y d) []
+      (image_texts y names s.sights ++ summary_at y (length s.sights == length names) d) s.wrote part
+      (ap (λ b. image_texts y names s.sights ++ summary_at y b d) (same (length s.sights)
+      (length names) s.each) ∙ sym (append-nil (image_texts y names s.sights ++ summary y d)));
 }
   where
     same : (a b : ℕ) → a ≡ b → (a == b) ≡ true

@@ -3,7 +3,7 @@
 use Rattle.std.specs.Prelude.{◌≡◌, ◌≢◌, ◌++◌, ◌+◌, ◌==◌, ◌≤◌, ◌&&◌, length, ℕ, Bool, true, false}
 use Rattle.std.specs.Prelude.{List, [], ◌∷◌, replicate, Option}
 use Rattle.std.specs.Prelude.{Some}
-use Rattle.std.specs.Prelude.{None, Ok, Err, codes}
+use Rattle.std.specs.Prelude.{None, Ok, Err, codes, decimal}
 use Rattle.std.specs.List.{AllByRecursion}
 use Rattle.std.specs.Io.KnownBytes.{Appends}
 use Rattle.tape_image.specs.declared.fault.ImageFault.{ImageFault}
@@ -30,24 +30,29 @@ use Rattle.tape_run.specs.declared.survey.course.Course.{Course}
 use Rattle.tape_run.specs.declared.survey.course.Course.TheVariants.{Follows, Blank, Ended, Leaves}
 use Rattle.tape_run.specs.declared.survey.sets.Standing.TheVariants.{Complete, Damaged, Behind}
 use Rattle.tape_run.specs.declared.survey.sets.Standing.TheVariants.{Missing}
+use Rattle.tape_run.specs.declared.survey.Wording.{Wording}
+use Rattle.tape_run.specs.declared.survey.Wording.TheVariants.{Rows}
 use Rattle.tape_run.specs.declared.survey.view.Sight.{Sight}
 use Rattle.tape_run.specs.CasesOfCatalogues.{met}
 use Rattle.tape_run.specs.CasesOfExtracts.{Known, Readers}
 use Rattle.tape_run.specs.Checked.{Reel}
 use Rattle.tape_run.specs.Noted.{noted_all}
 use Rattle.tape_run.specs.Output.{AppendsFront}
-use Rattle.tape_run.specs.Passing.{met_in}
+use Rattle.tape_run.specs.Passing.{met_in, Told}
 use Rattle.tape_run.specs.Reeling.{Took}
 use Rattle.tape_run.specs.SurveyFiles.{filed_in, Filed, is_other, with_head, note_at, file_key}
 use Rattle.tape_run.specs.SurveyGlance.{glance_of, blank_glance, first_of, is_ebcdic, course_with}
 use Rattle.tape_run.specs.SurveyGlance.{late_with, unread_with, unread_by, or_else, is_kind_vol1}
 use Rattle.tape_run.specs.SurveyLaws.{course_of, has_left, end_marks, IsSectionInOrder, IsBegun}
 use Rattle.tape_run.specs.SurveyLaws.{IsVolumeInOrder, IsFirstAstray, LeavesThere, EndedIsVolume}
-use Rattle.tape_run.specs.SurveyLine.{trimmed_text, named, image_line}
+use Rattle.tape_run.specs.SurveyWording.{image_text, summary, sections_text, end_text}
+use Rattle.tape_run.specs.SurveyLine.{trimmed_text, named}
+use Rattle.tape_run.specs.SurveyRows.{section_row, sight_cells, eof_cell, standing_cells}
+use Rattle.tape_run.specs.SurveyRows.{mixed_cell}
 use Rattle.tape_run.specs.SurveyRead.{Found, nothing_found, is_whole_sight, IsViewed}
 use Rattle.tape_run.specs.SurveyRead.{AreViewed}
-use Rattle.tape_run.specs.SurveySets.{standing_of, is_all, summary}
-use Rattle.tape_run.specs.Survey.{image_lines, Tells, Surveys, SurveysInPart, summary_at}
+use Rattle.tape_run.specs.SurveySets.{standing_of, is_all}
+use Rattle.tape_run.specs.Survey.{image_texts, Tells, Surveys, SurveysInPart, summary_at}
 
 -- an image that went so far and stopped so, with a file that is not read or without one
 abbrev pub sight : Course → Option ℕ → ImageStop → Sight
@@ -184,8 +189,8 @@ pub record CasesOfSurveys : Type 0 where
       × (has_left (course_of a.before) ≡ false)
       × (has_left (course_of (a.before ++ a.item ∷ [])) ≡ true)
   -- an image has a line by its name, and one that was not opened is left over
-  pub line : (name : List ℕ) (s : Option Sight)
-      → image_lines (name ∷ name ∷ []) (s ∷ []) ≡ image_line name s ++ []
+  pub line : (y : Wording) (name : List ℕ) (s : Option Sight)
+      → image_texts y (name ∷ name ∷ []) (s ∷ []) ≡ image_text y name s ++ []
   pub left_unopened : (c d : Found) → IsViewed None None c d → d ≡ record c { whole = false }
   pub unopened : (s : Sight) (c d : Found) → IsViewed None (Some s) c d → ⊥
   pub opened : (before : Option (List ℕ)) (c d : Found) → IsViewed (Some before) None c d → ⊥
@@ -193,26 +198,36 @@ pub record CasesOfSurveys : Type 0 where
       (v : IsViewed (Some before) (Some s) c d) → (s.glance ≡ glance_of v.1.items)
       × (d.sections ≡ noted_all c.sections (met_in v.1.items))
       × (d.files ≡ filed_in c.files v.1.items) × (d.whole ≡ (c.whole && is_whole_sight s))
-  pub tells : (reel : Reel) (name : List ℕ) (c d : Found) (old new : Option (List ℕ))
-      (t : Tells reel name c d old new) → IsViewed reel t.0 c d
-      × Appends old new (image_line name t.0)
+  pub tells : (y : Wording) (reel : Reel) (name : List ℕ) (c d : Found)
+      (old new : Option (List ℕ)) (t : Tells y reel name c d old new) → IsViewed reel t.0 c d
+      × Appends old new (image_text y name t.0)
   -- what stands behind the images follows where none is left
-  pub summary_last : (d : Found) → summary_at true d ≡ summary d
-  pub no_summary_before : (d : Found) → summary_at false d ≡ []
+  pub summary_last : (y : Wording) (d : Found) → summary_at y true d ≡ summary y d
+  pub no_summary_before : (y : Wording) (d : Found) → summary_at y false d ≡ []
+  -- rows have each section, and no last line; their columns stand a tab apart
+  pub sections_in_rows : (t : Told) → sections_text Rows (t ∷ []) ≡ section_row t ++ []
+  pub no_end_in_rows : end_text Rows true ≡ []
+  pub last_section : eof_cell true ≡ codes "EOF"
+  pub other_section : eof_cell false ≡ []
+  pub no_columns : sight_cells None ≡ codes "NOT OPENED\t\t\t\t\t\t\t"
+  pub wanted : (n : ℕ) → standing_cells (Behind n (codes "ABC001"))
+      ≡ codes "WANTED\t" ++ decimal n ++ codes "\t" ++ codes "ABC001"
+  pub nothing_wanted : standing_cells Complete ≡ codes "COMPLETE\t\t"
+  pub not_mixed : mixed_cell None ≡ codes "\t\n"
   -- the survey that is written is that of the images viewed, each of them in its place
-  pub surveyed : (names : List (List ℕ)) (shelf left : Readers) (old new : Known) (all : Bool)
-      (s : Surveys Took (λ r. r) names shelf left old new all)
+  pub surveyed : (y : Wording) (names : List (List ℕ)) (shelf left : Readers) (old new : Known)
+      (all : Bool) (s : Surveys y Took (λ r. r) names shelf left old new all)
       → (length s.1.sights ≡ length names)
       × AreViewed Took (λ r. r) shelf 0 s.1.sights nothing_found left s.1.found
-      × (s.0 ≡ image_lines names s.1.sights ++ summary s.1.found) × (all ≡ is_all s.1.found)
+      × (s.0 ≡ image_texts y names s.1.sights ++ summary y s.1.found) × (all ≡ is_all s.1.found)
       × Appends old new s.0
   -- at a fault a front of it is, of the first images, with the summary behind the last one
-  pub surveyed_in_part : (names : List (List ℕ)) (shelf : Readers) (old new : Known)
-      (s : SurveysInPart Took (λ r. r) names shelf old new)
+  pub surveyed_in_part : (y : Wording) (names : List (List ℕ)) (shelf : Readers) (old new : Known)
+      (s : SurveysInPart y Took (λ r. r) names shelf old new)
       → (length s.sights ≤ length names)
       × AreViewed Took (λ r. r) shelf 0 s.sights nothing_found s.left s.found
       × AppendsFront old new
-      (image_lines names s.sights ++ summary_at (length s.sights == length names) s.found)
+      (image_texts y names s.sights ++ summary_at y (length s.sights == length names) s.found)
   -- what a caller draws from the laws of a glance
   pub left_there : LeavesThere → (items : List TapeItem) (n : ℕ) (w : Wanted)
       → course_of items ≡ Leaves n w → IsFirstAstray items n

@@ -55,6 +55,8 @@ pub mod SurveyFiles
 pub mod SurveyRead
 pub mod SurveyLine
 pub mod SurveySets
+pub mod SurveyRows
+pub mod SurveyWording
 pub mod Survey
 pub mod SurveyLaws
 -- Files got back, and reports of that: to be believed, in this order.

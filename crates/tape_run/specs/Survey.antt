@@ -2,69 +2,71 @@
 use Rattle.std.specs.Prelude.{◌≡◌, ◌⊎◌, ◌≤◌, ◌==◌, ℕ, Bool, true, false, List, [], ◌∷◌, ◌++◌}
 use Rattle.std.specs.Prelude.{length, Option}
 use Rattle.std.specs.Io.KnownBytes.{Appends}
+use Rattle.tape_run.specs.declared.survey.Wording.{Wording}
 use Rattle.tape_run.specs.declared.survey.view.Sight.{Sight}
 use Rattle.tape_run.specs.Checked.{Reel}
 use Rattle.tape_run.specs.Output.{AppendsFront}
 use Rattle.tape_run.specs.Reeling.{Mounting}
-use Rattle.tape_run.specs.SurveyLine.{image_line}
+use Rattle.tape_run.specs.SurveyWording.{image_text, summary}
 use Rattle.tape_run.specs.SurveyRead.{Found, nothing_found, IsViewed, AreViewed}
-use Rattle.tape_run.specs.SurveySets.{is_all, summary}
+use Rattle.tape_run.specs.SurveySets.{is_all}
 
--- the lines of images, as far as these names and what was seen go
-abbrev pub image_lines : List (List ℕ) → List (Option Sight) → List ℕ
-image_lines [] sights = []
-image_lines (name ∷ names) [] = []
-image_lines (name ∷ names) (sight ∷ sights) = image_line name sight ++ image_lines names sights
+-- what is said of images, as far as these names and what was seen go
+abbrev pub image_texts : Wording → List (List ℕ) → List (Option Sight) → List ℕ
+image_texts y [] sights = []
+image_texts y (name ∷ names) [] = []
+image_texts y (name ∷ names) (sight ∷ sights) =
+    image_text y name sight ++ image_texts y names sights
 
 -- an image was read, and its line was written
-abbrev pub Tells : Reel → List ℕ → Found → Found → Option (List ℕ) → Option (List ℕ) → Type 0
-Tells reel name c d old new =
-    (sight : Option Sight) × IsViewed reel sight c d × Appends old new (image_line name sight)
+abbrev pub Tells : Wording → Reel → List ℕ → Found → Found → Option (List ℕ) → Option (List ℕ) → Type 0
+Tells y reel name c d old new =
+    (sight : Option Sight) × IsViewed reel sight c d × Appends old new (image_text y name sight)
 
 -- A fault came at an image: nothing more was written, or the image was read and a front of its line
 -- was written.
-abbrev pub StopsAt : Reel → List ℕ → Found → Option (List ℕ) → Option (List ℕ) → Type 0
-StopsAt reel name c old new = Appends old new [] ⊎ ((sight : Option Sight) × (d : Found)
-    × IsViewed reel sight c d × AppendsFront old new (image_line name sight))
+abbrev pub StopsAt : Wording → Reel → List ℕ → Found → Option (List ℕ) → Option (List ℕ) → Type 0
+StopsAt y reel name c old new = Appends old new [] ⊎ ((sight : Option Sight) × (d : Found)
+    × IsViewed reel sight c d × AppendsFront old new (image_text y name sight))
 
 -- the images of these names were read, and their lines were written
-pub record TellsAll {L R : Type 0} (gives : Mounting L R) (remaining : R → Option (List ℕ))
+pub record TellsAll {L R : Type 0} (y : Wording) (gives : Mounting L R) (remaining : R → Option (List ℕ))
     (names : List (List ℕ)) (shelf left : L) (d : Found) (old new : Option (List ℕ)) : Type 0 where
   pub sights : List (Option Sight)
   pub each : length sights ≡ length names
   pub viewed : AreViewed gives remaining shelf 0 sights nothing_found left d
-  pub wrote : Appends old new (image_lines names sights)
+  pub wrote : Appends old new (image_texts y names sights)
 
 -- The text is the survey of the images of a shelf that have these names, one after another, and it
 -- tells so whether nothing lacks and nothing is left over. Behind the images this was found.
-pub record IsSurvey {L R : Type 0} (gives : Mounting L R) (remaining : R → Option (List ℕ))
+pub record IsSurvey {L R : Type 0} (y : Wording) (gives : Mounting L R) (remaining : R → Option (List ℕ))
     (names : List (List ℕ)) (shelf left : L) (text : List ℕ) (all : Bool) : Type 0 where
   pub sights : List (Option Sight)
   pub found : Found
   pub each : length sights ≡ length names
   pub viewed : AreViewed gives remaining shelf 0 sights nothing_found left found
-  pub told : text ≡ image_lines names sights ++ summary found
+  pub told : text ≡ image_texts y names sights ++ summary y found
   pub is_so : all ≡ is_all found
 
 -- the survey was written
-abbrev pub Surveys : {L R : Type 0} → Mounting L R → (R → Option (List ℕ)) → List (List ℕ) → L → L
+abbrev pub Surveys : {L R : Type 0} → Wording → Mounting L R → (R → Option (List ℕ)) → List (List ℕ) → L → L
     → Option (List ℕ) → Option (List ℕ) → Bool → Type 0
-Surveys gives remaining names shelf left old new all = (text : List ℕ)
-    × IsSurvey gives remaining names shelf left text all × Appends old new text
+Surveys y gives remaining names shelf left old new all = (text : List ℕ)
+    × IsSurvey y gives remaining names shelf left text all × Appends old new text
 
 -- the summary follows where there are as many as that
-abbrev pub summary_at : Bool → Found → List ℕ
-summary_at true d = summary d
-summary_at false d = []
+abbrev pub summary_at : Wording → Bool → Found → List ℕ
+summary_at y true d = summary y d
+summary_at y false d = []
 
 -- The first images were read, and a front of their survey was written; its summary follows the line
 -- of the last.
-pub record SurveysInPart {L R : Type 0} (gives : Mounting L R) (remaining : R → Option (List ℕ))
+pub record SurveysInPart {L R : Type 0} (y : Wording) (gives : Mounting L R) (remaining : R → Option (List ℕ))
     (names : List (List ℕ)) (shelf : L) (old new : Option (List ℕ)) : Type 0 where
   pub sights : List (Option Sight)
   pub few : length sights ≤ length names
   pub found : Found
   pub left : L
   pub viewed : AreViewed gives remaining shelf 0 sights nothing_found left found
-  pub wrote : AppendsFront old new (image_lines names sights
-      ++ summary_at (length sights == length names) found)
+  pub wrote : AppendsFront old new (image_texts y names sights
+      ++ summary_at y (length sights == length names) found)

@@ -172,18 +172,13 @@ abbrev pub one_head : Option Head1 → ℕ
 one_head None = 0
 one_head (Some head) = 1
 
--- the system that wrote a header label
-abbrev pub system_of : Option Head1 → Option (List ℕ)
-system_of None = None
-system_of (Some head) = Some head.implementation
-
 -- nothing was looked at
 abbrev pub blank_glance : Glance
 blank_glance = record {
   items = 0;
   first = firsts.Nothing;
   late = None;
-  system = None;
+  head = None;
   files = 0;
   bad = 0;
   unread = None;
@@ -196,7 +191,7 @@ look_to g p x next = record {
   items = g.items + 1;
   first = first_with g.first (g.items + 1) x;
   late = late_with g.late (g.items + 1) x;
-  system = or_else g.system (system_of (head_in p x));
+  head = or_else g.head (head_in p x);
   files = g.files + one_head (head_in p x);
   bad = g.bad + one_if (is_bad x);
   unread = or_else g.unread (unread_in p x);

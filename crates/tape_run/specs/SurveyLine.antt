@@ -5,6 +5,7 @@ use Rattle.std.specs.Prelude.{Option, Some, None}
 use Rattle.tape_image.specs.declared.fault.ImageFault.{ImageFault}
 use Rattle.std.specs.List.{suffix_len}
 use Rattle.tape_image.specs.Fault.{number_of}
+use Rattle.tape_label.specs.declared.values.Head1.{Head1}
 use Rattle.tape_run.specs.declared.section.ImageStop.{ImageStop}
 use Rattle.tape_run.specs.declared.section.ImageStop.TheVariants.{Marked, Physical, Fault}
 use Rattle.tape_run.specs.declared.survey.glance.First.{First}
@@ -46,10 +47,10 @@ writer_text system = codes ", written by " ++ trimmed_text system
 abbrev pub written_text : List ℕ → List ℕ
 written_text system = if nat_lt 0 (trimmed_len system) then writer_text system else []
 
--- the same, where it is known
-abbrev pub system_text : Option (List ℕ) → List ℕ
+-- the same, where a header label tells it
+abbrev pub system_text : Option Head1 → List ℕ
 system_text None = []
-system_text (Some system) = written_text system
+system_text (Some head) = written_text head.implementation
 
 -- how many sections it has
 abbrev pub files_text : ℕ → List ℕ
@@ -89,7 +90,7 @@ unread_text (Some file) = unread_file_text file
 -- what an image holds
 abbrev pub glance_text : Glance → List ℕ
 glance_text g =
-    first_text g.first ++ system_text g.system ++ files_text g.files ++ bad_text g.bad
+    first_text g.first ++ system_text g.head ++ files_text g.files ++ bad_text g.bad
     ++ late_text g.late ++ unread_text g.unread
 
 -- what an item is not that leaves the order
@@ -149,16 +150,16 @@ stop_text Physical = []
 -- what an image is
 abbrev pub seen_text : Sight → List ℕ
 seen_text s =
-    codes ": " ++ glance_text s.glance ++ course_text s.glance.course s.stop ++ stop_text s.stop
+    glance_text s.glance ++ course_text s.glance.course s.stop ++ stop_text s.stop
 
 -- what it is, or that it was not opened
 abbrev pub met_text : Option Sight → List ℕ
 met_text (Some s) = seen_text s
-met_text None = codes ": not opened"
+met_text None = codes "not opened"
 
 -- the end of an image's line, behind its name
 abbrev pub sight_text : Option Sight → List ℕ
-sight_text s = met_text s ++ codes "\n"
+sight_text s = codes ": " ++ met_text s ++ codes "\n"
 
 -- a byte of a name: a question mark stands for one that moves the line
 abbrev pub named : ℕ → ℕ

@@ -1,7 +1,6 @@
 -- What a survey says of sets and their files. The text is for people, and may change.
-use Rattle.std.specs.Prelude.{ℕ, zero, suc, ◌+◌, ◌-◌, ◌&&◌, not, Bool, false, if◌then◌else◌}
+use Rattle.std.specs.Prelude.{ℕ, ◌-◌, ◌&&◌, not, Bool, false, if◌then◌else◌}
 use Rattle.std.specs.Prelude.{List, [], ◌++◌, codes, decimal, Option, Some, None}
-use Rattle.std.specs.List.{flat_map}
 use Rattle.tape_run.specs.declared.section.Entry.{Entry}
 use Rattle.tape_run.specs.declared.survey.files.FileNote.{FileNote}
 use Rattle.tape_run.specs.declared.survey.sets.Standing.{Standing}
@@ -9,7 +8,7 @@ use Rattle.tape_run.specs.declared.survey.sets.Standing.TheVariants.{Complete, D
 use Rattle.tape_run.specs.declared.survey.sets.Standing.TheVariants.{Missing}
 use Rattle.tape_run.specs.CheckLine.{state_text}
 use Rattle.tape_run.specs.Identifier.{identifier_text}
-use Rattle.tape_run.specs.Lacks.{SetFiles, entry_at, key_at, lack_of, sets_from, found_all}
+use Rattle.tape_run.specs.Lacks.{entry_at, key_at, lack_of, found_all}
 use Rattle.tape_run.specs.Passing.{Told}
 use Rattle.tape_run.specs.SurveyLine.{trimmed_text}
 use Rattle.tape_run.specs.SurveyFiles.{note_at, file_key, any_differs}
@@ -84,26 +83,9 @@ file_line d set_id file =
     codes "  " ++ decimal file ++ codes " " ++ known_text note ++ codes "  "
     ++ standing_text (standing_of d.sections set_id file) ++ differs_text note ++ codes "\n"
 
--- the lines of n files of a set, from this one on
-abbrev pub file_lines : Found → List ℕ → ℕ → ℕ → List ℕ
-file_lines d set_id file zero = []
-file_lines d set_id file (suc n) = file_line d set_id file ++ file_lines d set_id (file + 1) n
-
 -- the line of a set
 abbrev pub set_line : List ℕ → List ℕ
 set_line set_id = codes "Set " ++ trimmed_text set_id ++ codes "\n"
-
--- a set, and its files up to the greatest number of one
-abbrev pub set_text : Found → SetFiles → List ℕ
-set_text d x = set_line x.0 ++ file_lines d x.0 1 x.1
-
--- sets
-abbrev pub set_texts : Found → List SetFiles → List ℕ
-set_texts d sets = flat_map (set_text d) sets
-
--- all sets that were met, in the order in which they were met first
-abbrev pub sets_text : Found → List ℕ
-sets_text d = set_texts d (sets_from [] d.sections)
 
 -- Nothing lacks and nothing is left over: all images are whole, each file that was met is complete,
 -- and no two files were met under one number.
@@ -114,7 +96,3 @@ is_all d = d.whole && (found_all d.sections && not (any_differs d.files))
 abbrev pub last_text : Bool → List ℕ
 last_text all =
     if all then codes "Nothing lacks, and nothing on the images is left over.\n" else []
-
--- what stands behind the lines of images
-abbrev pub summary : Found → List ℕ
-summary d = sets_text d ++ last_text (is_all d)

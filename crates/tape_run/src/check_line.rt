@@ -52,6 +52,16 @@ fn put_items(line: &mut CheckLine, met: &ImageLine)
     put_stop(line, &met.stop);
 }
 
+/// How an image stopped, without a line around it.
+pub(crate) fn stop_text(stop: &ImageStop) -> CheckLine
+    ensures text { result.items ≡ stop_text stop.now }
+    ensures short { array_vec_len result ≤ 190 }
+{
+    let mut line = CheckLine::new();
+    put_stop(&mut line, stop);
+    line
+}
+
 /// How an image stopped.
 fn put_stop(line: &mut CheckLine, stop: &ImageStop)
     requires room { array_vec_len line.old ≤ 91 }

@@ -53,5 +53,5 @@ pub use script::{Step, run};
 pub use section::{Entry, ImageLine, ImageStop, Lack, SectionKey, SectionLine, SectionState};
 pub use session::Session;
 pub use shelf::Shelf;
-pub use survey::survey_to;
+pub use survey::{Wording, survey_to};
 pub use whole::{go_on, read_file};

@@ -3,31 +3,47 @@ ghost use Rattle.std.specs.Prelude.{◌≡◌, map, option_map, IfOk, OnOk, OnEr
 ghost use Rattle.std.specs.Io.KnownBytes.{Appends};
 ghost use Rattle.tape_run.specs.Checked.{IsCheckFault};
 ghost use Rattle.tape_run.specs.Output.{AppendsFront};
+ghost use Rattle.tape_run.specs.SurveyWording.{image_text, end_text, summary};
 ghost use Rattle.tape_run.specs.SurveyLine.{named, name_text, image_line};
 ghost use Rattle.tape_run.specs.SurveyRead.{nothing_found};
-ghost use Rattle.tape_run.specs.SurveySets.{is_all, last_text, summary};
+ghost use Rattle.tape_run.specs.SurveyRows.{image_row};
+ghost use Rattle.tape_run.specs.SurveySets.{is_all, last_text};
 ghost use Rattle.tape_run.specs.Survey.{Tells, TellsAll, StopsAt, Surveys, SurveysInPart};
 
 mod course;
 mod files;
 mod glance;
 mod line;
+mod rows;
 mod sets;
 mod text;
+mod texts;
 mod view;
 
 use crate::check::pass_on;
 use crate::fault::{EngineFault, NO_MEMORY};
 use crate::shelf::Shelf;
 use line::sight_text;
-use sets::{is_all, sets_text};
+use rows::{middle_cells, words_cell};
+use sets::is_all;
 use std::alloc::{AllocError, Global};
 use std::io::{Read, Write};
+use texts::{sections_text, sets_text};
 use view::{Findings, Sight};
+
+/// How a survey is told.
+#[derive(Clone, Copy)]
+pub enum Wording {
+    /// In words, for people.
+    Words,
+    /// In rows for scripts, whose columns stand a tab apart.
+    Rows,
+}
 
 /// Tells what the images of a shelf are, by their names: a line for each, as soon as it was read;
 /// then each set that was met, with its files, and a last line where nothing lacks and nothing on
-/// the images is left over. It answers whether that is so.
+/// the images is left over. In rows each section stands in front of the files, and there is no last
+/// line. It answers whether nothing lacks and nothing is left over.
 ///
 /// Images are mounted in the order of their names, each read to its end or to a fault, and then let
 /// go. It takes memory for the reader of one image and for a line, and else for the sections and
@@ -40,19 +56,20 @@ pub fn survey_to<R: Read + Drop, L: Shelf<R>, P: Write>(
     alloc: Global,
     images: &mut L,
     names: &[&str],
+    wording: Wording,
     report: &mut P,
 ) -> Result<bool, EngineFault>
     // Success is the whole survey, and tells whether nothing lacks and nothing is left over.
-    ensures ok { IfOk result (Surveys L.gives R.remaining (map (λ n. n.now) names.now)
+    ensures ok { IfOk result (Surveys wording L.gives R.remaining (map (λ n. n.now) names.now)
         images.old images.new (P.contents report.old) (P.contents report.new)) }
     // Whatever the fault, a front of a survey was written: of the images that were read.
-    ensures front { OnErr result (SurveysInPart L.gives R.remaining (map (λ n. n.now) names.now)
+    ensures front { OnErr result (SurveysInPart wording L.gives R.remaining (map (λ n. n.now) names.now)
         images.old (P.contents report.old) (P.contents report.new)) }
     ensures fault { IfErr result IsCheckFault }
 {
     let mut findings = Findings::new(alloc);
-    survey_images(alloc, &mut findings, images, names, report)?;
-    sum_up(alloc, &findings, report)
+    survey_images(alloc, &mut findings, images, names, wording, report)?;
+    sum_up(alloc, &findings, wording, report)
 }
 
 /// Reads the images of these names, and writes a line for each.
@@ -61,12 +78,13 @@ fn survey_images<R: Read + Drop, L: Shelf<R>, P: Write>(
     findings: &mut Findings,
     images: &mut L,
     names: &[&str],
+    wording: Wording,
     report: &mut P,
 ) -> Result<(), EngineFault>
     requires { findings.old ≡ nothing_found }
-    ensures ok { OnOk result (TellsAll L.gives R.remaining (map (λ n. n.now) names.now)
+    ensures ok { OnOk result (TellsAll wording L.gives R.remaining (map (λ n. n.now) names.now)
         images.old images.new findings.new (P.contents report.old) (P.contents report.new)) }
-    ensures front { OnErr result (SurveysInPart L.gives R.remaining (map (λ n. n.now) names.now)
+    ensures front { OnErr result (SurveysInPart wording L.gives R.remaining (map (λ n. n.now) names.now)
         images.old (P.contents report.old) (P.contents report.new)) }
     ensures fault { IfErr result IsCheckFault }
 {
@@ -74,7 +92,7 @@ fn survey_images<R: Read + Drop, L: Shelf<R>, P: Write>(
         let Ok(image) = images.mount(number) else {
             return Err(NO_MEMORY);
         };
-        survey_image(alloc, findings, image, names[number], report)?;
+        survey_image(alloc, findings, image, names[number], wording, report)?;
     }
     Ok(())
 }
@@ -85,22 +103,52 @@ fn survey_image<R: Read + Drop, P: Write>(
     findings: &mut Findings,
     image: Option<R>,
     name: &str,
+    wording: Wording,
     report: &mut P,
 ) -> Result<(), EngineFault>
-    ensures ok { OnOk result (Tells (option_map R.remaining image) name.now
+    ensures ok { OnOk result (Tells wording (option_map R.remaining image) name.now
         findings.old findings.new (P.contents report.old) (P.contents report.new)) }
-    ensures front { OnErr result (StopsAt (option_map R.remaining image) name.now
+    ensures front { OnErr result (StopsAt wording (option_map R.remaining image) name.now
         findings.old (P.contents report.old) (P.contents report.new)) }
     ensures fault { IfErr result IsCheckFault }
 {
     let Ok(sight) = findings.read(image) else {
         return Err(NO_MEMORY);
     };
-    let Ok(line) = image_line(alloc, name, &sight) else {
+    let Ok(line) = image_text(alloc, wording, name, &sight) else {
         return Err(NO_MEMORY);
     };
     pass_on(report, line.as_slice())?;
     Ok(())
+}
+
+/// What is said of the image of this name.
+fn image_text(
+    alloc: Global,
+    wording: Wording,
+    name: &str,
+    sight: &Option<Sight>,
+) -> Result<Vec<u8>, AllocError>
+    ensures { IfOk result (λ text. text.items ≡ image_text wording name.now sight.now) }
+{
+    match wording {
+        Wording::Words => image_line(alloc, name, sight),
+        Wording::Rows => image_row(alloc, name, sight),
+    }
+}
+
+/// The row of the image of this name.
+fn image_row(alloc: Global, name: &str, sight: &Option<Sight>) -> Result<Vec<u8>, AllocError>
+    ensures { IfOk result (λ row. row.items ≡ image_row name.now sight.now) }
+{
+    let mut row = Vec::from_slice(alloc, b"IMAGE\t")?;
+    let name = name_text(alloc, name)?;
+    row.extend_from_slice(name.as_slice())?;
+    let cells = middle_cells(sight);
+    row.extend_from_slice(&cells)?;
+    let words = words_cell(sight);
+    row.extend_from_slice(&words)?;
+    Ok(row)
 }
 
 /// The line of the image of this name.
@@ -137,17 +185,22 @@ fn named(byte: u8) -> u8
 
 /// Writes what stands behind the lines of the images, and answers whether nothing lacks and nothing
 /// is left over.
-fn sum_up<P: Write>(alloc: Global, findings: &Findings, report: &mut P) -> Result<bool, EngineFault>
+fn sum_up<P: Write>(
+    alloc: Global,
+    findings: &Findings,
+    wording: Wording,
+    report: &mut P,
+) -> Result<bool, EngineFault>
     ensures ok { IfOk result (λ all. (all ≡ is_all findings.now)
-        × Appends (P.contents report.old) (P.contents report.new) (summary findings.now)) }
+        × Appends (P.contents report.old) (P.contents report.new) (summary wording findings.now)) }
     ensures front { OnErr result (AppendsFront (P.contents report.old) (P.contents report.new)
-        (summary findings.now)) }
+        (summary wording findings.now)) }
     ensures fault { IfErr result IsCheckFault }
 {
     let Ok(all) = is_all(alloc, findings) else {
         return Err(NO_MEMORY);
     };
-    let Ok(text) = summary(alloc, findings, all) else {
+    let Ok(text) = summary(alloc, findings, wording, all) else {
         return Err(NO_MEMORY);
     };
     pass_on(report, text.as_slice())?;
@@ -155,13 +208,30 @@ fn sum_up<P: Write>(alloc: Global, findings: &Findings, report: &mut P) -> Resul
 }
 
 /// What stands behind the lines of the images.
-fn summary(alloc: Global, findings: &Findings, all: bool) -> Result<Vec<u8>, AllocError>
+fn summary(
+    alloc: Global,
+    findings: &Findings,
+    wording: Wording,
+    all: bool,
+) -> Result<Vec<u8>, AllocError>
     requires { all ≡ is_all findings.now }
-    ensures { IfOk result (λ text. text.items ≡ summary findings.now) }
+    ensures { IfOk result (λ text. text.items ≡ summary wording findings.now) }
 {
-    let mut text = sets_text(alloc, findings)?;
-    text.extend_from_slice(last_text(all))?;
+    let mut text = sections_text(alloc, wording, &findings.sections)?;
+    let sets = sets_text(alloc, findings, wording)?;
+    text.extend_from_slice(sets.as_slice())?;
+    text.extend_from_slice(end_text(wording, all))?;
     Ok(text)
+}
+
+/// What stands behind the sets.
+fn end_text(wording: Wording, all: bool) -> &'static [u8]
+    ensures { result.now ≡ end_text wording all }
+{
+    match wording {
+        Wording::Words => last_text(all),
+        Wording::Rows => b"",
+    }
 }
 
 /// The last line.

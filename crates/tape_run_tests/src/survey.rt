@@ -5,9 +5,26 @@ use crate::volumes::{EOF_FOUR, EOF_ONE, cut, with_items_behind};
 use std::alloc::{AllocError, Global};
 use std::process::Abort;
 use std::test::Fail;
-use tape_run::survey_to;
+use tape_run::{Wording, survey_to};
 
 /// The survey of images of these names.
+fn told<H: Abort + AllocGlobal>(
+    rt: &H,
+    images: &[Option<&[u8]>],
+    names: &[&str],
+    wording: Wording,
+    all: bool,
+    lines: &str,
+) -> Result<(), Fail> {
+    let mut shelf = Vec::from_slice(rt.alloc(), images)?;
+    let mut report = Vec::new(rt.alloc());
+    let answer = survey_to(rt.alloc(), &mut shelf, names, wording, &mut report)?;
+    assert_eq!(rt; report.as_slice(), lines.as_bytes(), "{lines}");
+    assert!(rt; answer == all, "{lines}");
+    Ok(())
+}
+
+/// The survey in words.
 fn survey<H: Abort + AllocGlobal>(
     rt: &H,
     images: &[Option<&[u8]>],
@@ -15,12 +32,7 @@ fn survey<H: Abort + AllocGlobal>(
     all: bool,
     lines: &str,
 ) -> Result<(), Fail> {
-    let mut shelf = Vec::from_slice(rt.alloc(), images)?;
-    let mut report = Vec::new(rt.alloc());
-    let answer = survey_to(rt.alloc(), &mut shelf, names, &mut report)?;
-    assert_eq!(rt; report.as_slice(), lines.as_bytes(), "{lines}");
-    assert!(rt; answer == all, "{lines}");
-    Ok(())
+    told(rt, images, names, Wording::Words, all, lines)
 }
 
 /// The survey of one image, which is not all that is wanted.
@@ -238,6 +250,45 @@ Set ABC001
         &rt,
         &[Some(first.bytes.as_slice()), Some(other.bytes.as_slice())],
         &["one.tap", "two.tap"],
+        false,
+        lines,
+    )
+}
+
+#[test]
+fn rows(rt: HostRuntime) -> Result<(), Fail> {
+    let alloc = rt.alloc();
+    let (whole, cut) = (payroll(alloc)?, cut(alloc, 2000)?);
+    let lines = "IMAGE\t1?.tap\tWHOLE\tABC001\tABC001\t\t12\t1\t0\tMARKED\tvolume ABC001, 1 file
+IMAGE\tcut.tap\tLEFT OVER\tABC001\tABC001\t\t6\t1\t0\tFAULT 1 1884\tvolume ABC001, 1 file; \
+         image fault 1 at 1884
+IMAGE\tlost.tap\tNOT OPENED\t\t\t\t\t\t\t\tnot opened
+SECTION\tABC001\t1\t1\tABC001\t3\tGOOD\tEOF
+FILE\tABC001\t1\tPAYROLL\t 00000\tCOMPLETE\t\t\t
+";
+    told(
+        &rt,
+        &[
+            Some(whole.bytes.as_slice()),
+            Some(cut.bytes.as_slice()),
+            None,
+        ],
+        &["1\t.tap", "cut.tap", "lost.tap"],
+        Wording::Rows,
+        false,
+        lines,
+    )?;
+    let counted = five_blocks(alloc, 3, EOF_FOUR)?;
+    let lines = "IMAGE\tone.tap\tWHOLE\tABC001\tABC001\t\t14\t1\t1\tMARKED\tvolume ABC001, \
+         1 file, 1 block that cannot be read
+SECTION\tABC001\t1\t1\tABC001\t5\tCOUNT\tEOF
+FILE\tABC001\t1\tPAYROLL\t 00000\tCOUNT\t1\tABC001\t
+";
+    told(
+        &rt,
+        &[Some(counted.bytes.as_slice())],
+        &["one.tap"],
+        Wording::Rows,
         false,
         lines,
     )

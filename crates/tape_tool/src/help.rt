@@ -141,6 +141,9 @@ pub const ABOUT_SURVEY: &str = "Tells in words what images are, and what is want
 /// What the IMAGEs of `survey` are.
 pub const SHELF: &str = "SIMH .tap images, up to 256, in any order";
 
+/// What `--tsv` says.
+pub const ROWS: &str = "Rows for scripts, a tab between the columns";
+
 /// Help behind the words of `survey`.
 pub const AFTER_SURVEY: &str = "Example:
   tape survey *.tap
@@ -172,6 +175,15 @@ a volume from its label to its end, and nothing else, in formats that are read;
 each file is complete; and no two files have one number. Whether files follow
 behind the last one that was met, no label tells. The text is for people, and
 may change; the exit status stays.
+
+With --tsv these rows, whose columns stay; one that is not known is empty:
+  IMAGE name state volume set system items files bad end words
+           state: WHOLE, LEFT OVER or NOT OPENED; end as in check
+  SECTION set file section volume blocks state EOF
+           state as in check; EOF where its trailer label ends the file
+  FILE set file identifier created state section volume MIXED
+           state: COMPLETE, BAD, COUNT or CUT, or WANTED: the section was not
+           met, and the one before it is on that volume
 
 Exit status: 0 nothing lacks and nothing is left over, 1 a fault, 2 a wrong
 command line, 3 something lacks, is left over, or is mixed.";

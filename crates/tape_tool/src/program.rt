@@ -85,7 +85,7 @@ fn obey<'a, R: Host>(rt: &R, order: &Order<'a>, site: &mut Site<'a>) -> End {
         Order::List(order) => list(rt, *order, site),
         Order::Init(order) => init(rt, order, site),
         Order::Check(named) => check(rt, named, site),
-        Order::Survey(named) => survey(rt, named, site),
+        Order::Survey(order) => survey(rt, order, site),
         Order::Write(order) => write_files(rt, order, site),
         Order::Extract(order) => extract(rt, order, site),
         Order::Show(order) => show(rt, order, site),

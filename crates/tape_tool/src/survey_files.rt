@@ -3,30 +3,37 @@ use crate::check_files::check_end;
 use crate::end::End;
 use crate::explain::Site;
 use crate::images::Images;
-use crate::names::{Named, names_of};
+use crate::names::names_of;
 use crate::program::refuse_unfit;
-use crate::words::SURVEY;
+use crate::words::{SURVEY, Survey};
 use std::io;
 use std::io::BufWriter;
 use std::rt::Runtime;
-use tape_run::{EngineFault, RunFault, survey_to};
+use tape_run::{EngineFault, RunFault, Wording, survey_to};
 
 /// Tells what the images are that are named. At a fault the site is where it came.
-pub fn survey<'a, R: Runtime + AllocGlobal>(rt: &R, named: &Named<'a>, site: &mut Site<'a>) -> End {
+pub fn survey<'a, R>(rt: &R, order: &Survey<'a>, site: &mut Site<'a>) -> End
+where
+    R: Runtime + AllocGlobal,
+{
     let mut text = String::new(rt.alloc());
-    let names = match names_of(rt, named, &mut text, site) {
+    let names = match names_of(rt, &order.images, &mut text, site) {
         Ok(names) => names,
         Err(unfit) => return refuse_unfit(rt, &SURVEY, unfit),
     };
     *site = Site::Lines;
-    check_end(survey_files(rt, names.as_slice()))
+    check_end(survey_files(rt, names.as_slice(), order.wording))
 }
 
 /// The same of these names, and whether nothing lacks and nothing is left over.
-fn survey_files<R: Runtime + AllocGlobal>(rt: &R, names: &[&str]) -> Result<bool, EngineFault> {
+fn survey_files<R: Runtime + AllocGlobal>(
+    rt: &R,
+    names: &[&str],
+    wording: Wording,
+) -> Result<bool, EngineFault> {
     let Ok(mut report) = BufWriter::new(rt.alloc(), io::writer(rt)) else {
         return Err(EngineFault::Run(RunFault::OutOfMemory));
     };
     let mut images = Images::new(rt, names);
-    survey_to(rt.alloc(), &mut images, names, &mut report)
+    survey_to(rt.alloc(), &mut images, names, wording, &mut report)
 }

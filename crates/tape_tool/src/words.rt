@@ -11,6 +11,7 @@ pub use outlines::{CHECK, EXTRACT, FORMS, STAGE, SURVEY};
 use std::alloc::{AllocError, Global};
 use tape_blocks::Form;
 use tape_label::Field;
+use tape_run::Wording;
 use tape_writer::Prefix;
 
 /// What a command line asks for.
@@ -31,7 +32,7 @@ pub enum Order<'a> {
     /// Tell which sections are on images.
     Check(Named<'a>),
     /// Tell what images are.
-    Survey(Named<'a>),
+    Survey(Survey<'a>),
     /// Write files on volumes.
     Write(WriteOrder<'a>),
     /// Get a file back from images.
@@ -46,6 +47,13 @@ pub struct Listing<'a> {
     pub image: Option<&'a str>,
     /// Whether the place and the size of each item are told.
     pub places: bool,
+}
+
+/// What `survey` tells of, and how.
+#[derive(Drop)]
+pub struct Survey<'a> {
+    pub images: Named<'a>,
+    pub wording: Wording,
 }
 
 /// What `init` makes: images of the volumes from 1 to the count, in a folder.
@@ -196,9 +204,20 @@ fn named<'a>(alloc: Global, matches: &ArgMatches<'a>) -> Result<Option<Named<'a>
 /// What the words behind `survey` ask for.
 fn survey_order<'a>(alloc: Global, matches: &ArgMatches<'a>) -> Result<Order<'a>, Error> {
     match named(alloc, matches)? {
-        Some(images) => Ok(Order::Survey(images)),
+        Some(images) => Ok(Order::Survey(Survey {
+            images,
+            wording: wording_of(matches),
+        })),
         None => Err(mistake(alloc, &SURVEY, help::TOO_MANY_TO_SURVEY)?),
     }
+}
+
+/// How a survey is to be told.
+fn wording_of(matches: &ArgMatches<'_>) -> Wording {
+    if matches.get_flag("tsv") {
+        return Wording::Rows;
+    }
+    Wording::Words
 }
 
 /// What the words behind `extract` ask for. The parser has seen to it that all of them are there.

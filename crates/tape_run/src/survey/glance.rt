@@ -5,14 +5,14 @@ ghost use Rattle.tape_run.specs.SurveyGlance.{blank_glance, is_ebcdic, first_of,
 ghost use Rattle.tape_run.specs.SurveyGlance.{first_other, first_block, is_vol1, is_kind_vol1};
 ghost use Rattle.tape_run.specs.SurveyGlance.{late_with, head_in, head_at, head_of, unread_in};
 ghost use Rattle.tape_run.specs.SurveyGlance.{unread_at, unread_by, unread_with, is_bad, one_if};
-ghost use Rattle.tape_run.specs.SurveyGlance.{one_head, or_else, system_of, look_to};
+ghost use Rattle.tape_run.specs.SurveyGlance.{one_head, or_else, look_to};
 ghost use Rattle.tape_label.specs.Kinds.{kind_at};
 ghost use Rattle.tape_label.specs.Reading.{head2_at};
 
 use super::course::{Course, course_with};
 use crate::passing::Phase;
 use tape_image::Item;
-use tape_label::{Field, Head1, Kind, Vol1, kind, read_head1, read_head2, read_vol1};
+use tape_label::{Head1, Kind, Vol1, kind, read_head1, read_head2, read_vol1};
 
 /// What an image begins with.
 #[derive(Clone, Copy)]
@@ -40,8 +40,8 @@ pub struct Glance {
     pub first: First,
     /// The number of the first item behind the first that is a volume label.
     pub late: Option<u32>,
-    /// The system that wrote the first section's `HDR1`.
-    pub system: Option<Field<13>>,
+    /// The first section's `HDR1`.
+    pub head: Option<Head1>,
     /// How many sections begin in it.
     pub files: u32,
     /// How many blocks could not be read.
@@ -60,7 +60,7 @@ pub(crate) fn blank_glance() -> Glance
         items: 0,
         first: First::Nothing,
         late: None,
-        system: None,
+        head: None,
         files: 0,
         bad: 0,
         unread: None,
@@ -246,26 +246,6 @@ fn or_else<T: Copy>(first: Option<T>, second: Option<T>) -> Option<T>
     }
 }
 
-/// The system that wrote a header label, if there is one.
-fn system_of(head: &Option<Head1>) -> Option<Field<13>>
-    ensures { result ≡ system_of head.now }
-{
-    match head {
-        Some(head) => Some(head.implementation),
-        None => None,
-    }
-}
-
-/// The system of the first section, behind a header label, if there is one.
-fn system_with(system: &Option<Field<13>>, head: &Option<Head1>) -> Option<Field<13>>
-    ensures { result ≡ or_else system.now (system_of head.now) }
-{
-    match system {
-        Some(system) => Some(*system),
-        None => system_of(head),
-    }
-}
-
 /// The glance behind one more item, with this phase before it and behind it.
 pub(crate) fn look(glance: &Glance, phase: &Phase, item: Item<'_>, next: &Phase) -> Glance
     requires items { glance.now.items < 4294967295 }
@@ -281,7 +261,7 @@ pub(crate) fn look(glance: &Glance, phase: &Phase, item: Item<'_>, next: &Phase)
         items: number,
         first: first_with(&glance.first, number, item),
         late: late_with(glance.late, number, item),
-        system: system_with(&glance.system, &head),
+        head: or_else(glance.head, head),
         files: glance.files + one_head(&head),
         bad: glance.bad + one_if(is_bad(item)),
         unread: or_else(glance.unread, unread_in(phase, item)),

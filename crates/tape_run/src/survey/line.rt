@@ -4,7 +4,7 @@ ghost use Rattle.arrayvec.specs.ArrayVec.{array_vec_len};
 ghost use Rattle.tape_run.specs.SurveyLine.{first_text, late_text, system_text, files_text};
 ghost use Rattle.tape_run.specs.SurveyLine.{bad_text, unread_text, wanted_text, left_text};
 ghost use Rattle.tape_run.specs.SurveyLine.{course_text, stop_text, guess_text, glance_text};
-ghost use Rattle.tape_run.specs.SurveyLine.{seen_text};
+ghost use Rattle.tape_run.specs.SurveyLine.{seen_text, met_text};
 ghost use Rattle.tape_run.specs.SurveyLine.{sight_text, written_text, early_text, is_told};
 ghost use Rattle.tape_run.specs.SurveyLine.{is_no_image, fault_text, many_bad_text, writer_text};
 ghost use Rattle.tape_run.specs.SurveyLine.{late_number_text, unread_file_text};
@@ -15,28 +15,37 @@ use super::text::{Text, put, put_number, put_trimmed, trimmed_len};
 use super::view::Sight;
 use crate::section::ImageStop;
 use tape_image::ImageFault;
-use tape_label::Field;
+use tape_label::{Field, Head1};
 
 /// What an image is, or that it was not opened, behind its name.
 pub(crate) fn sight_text(sight: &Option<Sight>) -> Text
     ensures { result.items ≡ sight_text sight.now }
 {
     let mut text = Text::new();
-    match sight {
-        Some(sight) => put_sight(&mut text, sight),
-        None => put(&mut text, b": not opened"),
-    }
+    put(&mut text, b": ");
+    put_met(&mut text, sight);
     put(&mut text, b"\n");
     text
 }
 
+/// What an image is, or that it was not opened.
+pub(crate) fn put_met(text: &mut Text, sight: &Option<Sight>)
+    requires room { array_vec_len text.old ≤ 2 }
+    ensures items { text.new.items ≡ text.old.items ++ met_text sight.now }
+    ensures len { array_vec_len text.new ≤ 900 }
+{
+    match sight {
+        Some(sight) => put_sight(text, sight),
+        None => put(text, b"not opened"),
+    }
+}
+
 /// What an image is.
 fn put_sight(text: &mut Text, sight: &Sight)
-    requires room { array_vec_len text.old ≤ 0 }
+    requires room { array_vec_len text.old ≤ 2 }
     ensures items { text.new.items ≡ text.old.items ++ seen_text sight.now }
     ensures len { array_vec_len text.new ≤ 900 }
 {
-    put(text, b": ");
     put_glance(text, &sight.glance);
     put_course(text, &sight.glance.course, &sight.stop);
     put_stop(text, &sight.stop);
@@ -49,7 +58,7 @@ fn put_glance(text: &mut Text, glance: &Glance)
     ensures len { array_vec_len text.new ≤ 500 }
 {
     put_first(text, &glance.first);
-    put_system(text, &glance.system);
+    put_system(text, &glance.head);
     put_files(text, glance.files);
     put_bad(text, glance.bad);
     put_late(text, glance.late);
@@ -80,13 +89,13 @@ fn put_first(text: &mut Text, first: &First)
 }
 
 /// What wrote it.
-fn put_system(text: &mut Text, system: &Option<Field<13>>)
+fn put_system(text: &mut Text, head: &Option<Head1>)
     requires room { array_vec_len text.old ≤ 90 }
-    ensures items { text.new.items ≡ text.old.items ++ system_text system.now }
+    ensures items { text.new.items ≡ text.old.items ++ system_text head.now }
     ensures len { array_vec_len text.new ≤ 120 }
 {
-    match system {
-        Some(system) => put_written(text, system),
+    match head {
+        Some(head) => put_written(text, &head.implementation),
         None => {}
     }
 }

@@ -1,12 +1,11 @@
 //! What a survey says of sets and their files.
-ghost use Rattle.std.specs.Prelude.{◌≡◌, ◌≤◌, ◌<◌, ◌+◌, ◌++◌, length, take, IfOk, OnOk};
+ghost use Rattle.std.specs.Prelude.{◌≡◌, ◌≤◌, ◌++◌, length, IfOk};
 ghost use Rattle.std.specs.Prelude.{option_map};
 ghost use Rattle.arrayvec.specs.ArrayVec.{array_vec_len};
 ghost use Rattle.tape_run.specs.Lacks.{entry_at, found_all};
 ghost use Rattle.tape_run.specs.SurveySets.{wanted_at, standing_of, known_text, standing_text};
 ghost use Rattle.tape_run.specs.SurveySets.{wanted_text, damaged_text, differs_text, file_line};
-ghost use Rattle.tape_run.specs.SurveySets.{set_line, file_lines, set_text, set_texts, sets_text};
-ghost use Rattle.tape_run.specs.SurveySets.{is_all, behind_by, is_mixed, missing_text};
+ghost use Rattle.tape_run.specs.SurveySets.{set_line, is_all, behind_by, is_mixed, missing_text};
 
 use super::files::{FileKey, FileNote, any_differs};
 use super::text::{Text, put, put_field, put_number, put_trimmed};
@@ -14,7 +13,7 @@ use super::view::Findings;
 use crate::check::is_found;
 use crate::check_line::state_text;
 use crate::lacks::lack_of;
-use crate::report::{Sets, report_of, sets_of};
+use crate::report::report_of;
 use crate::section::{Entry, SectionKey};
 use crate::sections::Sections;
 use std::alloc::{AllocError, Global};
@@ -60,7 +59,7 @@ fn behind_at(sections: &Sections, before: &SectionKey, sect: u16) -> Standing
 }
 
 /// What is to be said of a file.
-fn standing_of(sections: &Sections, set_id: Field<6>, file: u16) -> Standing
+pub(crate) fn standing_of(sections: &Sections, set_id: Field<6>, file: u16) -> Standing
     ensures { result ≡ standing_of sections.now.entries set_id file }
 {
     match lack_of(sections, set_id, file) {
@@ -155,7 +154,7 @@ fn put_differs(text: &mut Text, note: Option<&FileNote>)
 }
 
 /// Whether header labels of different files were met.
-fn is_mixed(note: Option<&FileNote>) -> bool
+pub(crate) fn is_mixed(note: Option<&FileNote>) -> bool
     ensures { result ≡ is_mixed (option_map (λ n. n.now) note.entry) }
 {
     match note {
@@ -165,7 +164,7 @@ fn is_mixed(note: Option<&FileNote>) -> bool
 }
 
 /// The line of a file.
-fn file_line(findings: &Findings, set_id: Field<6>, file: u16) -> Text
+pub(crate) fn file_line(findings: &Findings, set_id: Field<6>, file: u16) -> Text
     ensures { result.items ≡ file_line findings.now set_id file }
 {
     let mut text = Text::new();
@@ -183,7 +182,7 @@ fn file_line(findings: &Findings, set_id: Field<6>, file: u16) -> Text
 }
 
 /// The line of a set.
-fn set_line(set_id: Field<6>) -> Text
+pub(crate) fn set_line(set_id: Field<6>) -> Text
     ensures { result.items ≡ set_line set_id }
 {
     let mut text = Text::new();
@@ -191,81 +190,6 @@ fn set_line(set_id: Field<6>) -> Text
     put_trimmed(&mut text, &set_id);
     put(&mut text, b"\n");
     text
-}
-
-/// Adds the line of a file to those before it.
-fn add_file(
-    lines: &mut Vec<u8>,
-    findings: &Findings,
-    set_id: Field<6>,
-    file: u16,
-) -> Result<(), AllocError>
-    ensures { OnOk result (lines.new.items
-        ≡ lines.old.items ++ file_line findings.now set_id file) }
-{
-    let line = file_line(findings, set_id, file);
-    lines.extend_from_slice(&line)
-}
-
-/// Adds the lines of the files of a set, up to the greatest number of a file.
-fn add_files(
-    lines: &mut Vec<u8>,
-    findings: &Findings,
-    set_id: Field<6>,
-    greatest: u16,
-) -> Result<(), AllocError>
-    ensures { OnOk result (lines.new.items
-        ≡ lines.old.items ++ file_lines findings.now set_id 1 greatest) }
-{
-    for before in 0..greatest {
-        add_file(lines, findings, set_id, before + 1)?;
-    }
-    Ok(())
-}
-
-/// Adds the line of a set, and those of its files.
-fn add_set(
-    lines: &mut Vec<u8>,
-    findings: &Findings,
-    set_id: Field<6>,
-    greatest: u16,
-) -> Result<(), AllocError>
-    ensures { OnOk result (lines.new.items
-        ≡ lines.old.items ++ set_text findings.now (set_id, greatest)) }
-{
-    let line = set_line(set_id);
-    lines.extend_from_slice(&line)?;
-    add_files(lines, findings, set_id, greatest)?;
-    Ok(())
-}
-
-/// Adds what is said of the set at a place to what is said of those before it.
-fn add_place(
-    lines: &mut Vec<u8>,
-    findings: &Findings,
-    sets: &Sets,
-    place: usize,
-) -> Result<(), AllocError>
-    requires { place < length sets.now.entries }
-    ensures { OnOk result (lines.old.items ≡ set_texts findings.now (take place sets.now.entries)
-        → lines.new.items ≡ set_texts findings.now (take (place + 1) sets.now.entries)) }
-{
-    let Some((set_id, greatest)) = sets.get_index(place) else {
-        unreachable!()
-    };
-    add_set(lines, findings, *set_id, *greatest)?;
-    Ok(())
-}
-
-/// What is said of sets, in the order in which they were met first.
-fn texts_of(alloc: Global, findings: &Findings, sets: &Sets) -> Result<Vec<u8>, AllocError>
-    ensures { IfOk result (λ lines. lines.items ≡ set_texts findings.now sets.now.entries) }
-{
-    let mut lines = Vec::new(alloc);
-    for place in 0..sets.len() {
-        add_place(&mut lines, findings, sets, place)?;
-    }
-    Ok(lines)
 }
 
 /// Whether something was met, and nothing lacks.
@@ -284,13 +208,4 @@ pub(crate) fn is_all(alloc: Global, findings: &Findings) -> Result<bool, AllocEr
 {
     let found = is_complete(alloc, &findings.sections)?;
     Ok(findings.whole && found && !any_differs(&findings.files))
-}
-
-/// What is said of all sets that were met.
-pub(crate) fn sets_text(alloc: Global, findings: &Findings) -> Result<Vec<u8>, AllocError>
-    ensures { IfOk result (λ lines. lines.items ≡ sets_text findings.now) }
-{
-    let sets = sets_of(alloc, &findings.sections)?;
-    let lines = texts_of(alloc, findings, &sets)?;
-    Ok(lines)
 }

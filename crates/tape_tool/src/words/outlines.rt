@@ -40,6 +40,7 @@ pub const SURVEY: Outline = Outline {
         Word("IMAGE", Kind::TextsOr("from"), help::SHELF),
         Word("from", Kind::TextOption("LIST"), help::FROM),
         Word("null", Kind::FlagOf("from"), help::NULL),
+        Word("tsv", Kind::Flag, help::ROWS),
     ],
 };
 

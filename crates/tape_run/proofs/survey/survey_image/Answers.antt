@@ -7,6 +7,6 @@ pub returns-in_err-pass_on-clause-front : goal.returns-in_err-pass_on-clause-fro
 returns-in_err-pass_on-clause-front g c =
     let part = subst (AppendsFront (g.P.Write.contents c.args.report.now)
     (g.P.Write.contents c.pass_on.new.report)) (c.as_slice.ensures.value
-    ∙ c.in-Ok-image_line.ensures) c.in_err-pass_on.ensures.err in
+    ∙ c.in-Ok-image_text.ensures) c.in_err-pass_on.ensures.err in
     on_err c.from_residual.result _
     (inr (c.in-Ok.sight, c.read.new.self, c.in-Ok.ensures.ok, part))

@@ -1,0 +1,110 @@
+-- The rows of a survey, for scripts. The columns stand a tab apart, and none holds one: each byte of
+-- a name or an identifier that is no character of a line stands as a question mark.
+use Rattle.std.specs.Prelude.{ℕ, Bool, if◌then◌else◌, List, [], ◌++◌, codes, decimal}
+use Rattle.std.specs.Prelude.{Option, Some, None}
+use Rattle.tape_label.specs.declared.values.Head1.{Head1}
+use Rattle.tape_run.specs.declared.survey.files.FileNote.{FileNote}
+use Rattle.tape_run.specs.declared.survey.glance.First.{First}
+use Rattle.tape_run.specs.declared.survey.glance.First.TheVariants as firsts
+use Rattle.tape_run.specs.declared.survey.glance.Glance.{Glance}
+use Rattle.tape_run.specs.declared.survey.sets.Standing.{Standing}
+use Rattle.tape_run.specs.declared.survey.sets.Standing.TheVariants.{Complete, Damaged, Behind}
+use Rattle.tape_run.specs.declared.survey.sets.Standing.TheVariants.{Missing}
+use Rattle.tape_run.specs.declared.survey.view.Sight.{Sight}
+use Rattle.tape_run.specs.CheckLine.{state_text, stop_text}
+use Rattle.tape_run.specs.Passing.{Told}
+use Rattle.tape_run.specs.SurveyFiles.{note_at, file_key}
+use Rattle.tape_run.specs.SurveyLine.{trimmed_text, name_text, met_text}
+use Rattle.tape_run.specs.SurveyRead.{Found, is_whole_sight}
+use Rattle.tape_run.specs.SurveySets.{standing_of, is_mixed}
+
+-- whether nothing is left over on an image
+abbrev pub whole_cell : Bool → List ℕ
+whole_cell whole = if whole then codes "WHOLE" else codes "LEFT OVER"
+
+-- the volume, where there is a volume label first
+abbrev pub volume_cell : First → List ℕ
+volume_cell (firsts.Volume label) = trimmed_text label.volume
+volume_cell _ = []
+
+-- the set and the system, where a section was met
+abbrev pub head_cells : Option Head1 → List ℕ
+head_cells (Some head) =
+    trimmed_text head.set_id ++ codes "\t" ++ trimmed_text head.implementation
+head_cells None = codes "\t"
+
+-- how many items there are, sections and bad blocks
+abbrev pub count_cells : Glance → List ℕ
+count_cells g =
+    decimal g.items ++ codes "\t" ++ decimal g.files ++ codes "\t" ++ decimal g.bad
+
+-- what an image is
+abbrev pub seen_cells : Sight → List ℕ
+seen_cells s =
+    whole_cell (is_whole_sight s) ++ codes "\t" ++ volume_cell s.glance.first ++ codes "\t"
+    ++ head_cells s.glance.head ++ codes "\t" ++ count_cells s.glance ++ codes "\t"
+    ++ stop_text s.stop
+
+-- what it is, or that it was not opened
+abbrev pub sight_cells : Option Sight → List ℕ
+sight_cells (Some s) = seen_cells s
+sight_cells None = codes "NOT OPENED\t\t\t\t\t\t\t"
+
+-- what stands behind a name, but for the words at the end
+abbrev pub middle_cells : Option Sight → List ℕ
+middle_cells sight = codes "\t" ++ sight_cells sight ++ codes "\t"
+
+-- what an image is, in words, at the end of its row
+abbrev pub words_cell : Option Sight → List ℕ
+words_cell sight = met_text sight ++ codes "\n"
+
+-- the row of an image
+abbrev pub image_row : List ℕ → Option Sight → List ℕ
+image_row name sight =
+    codes "IMAGE\t" ++ name_text name ++ middle_cells sight ++ words_cell sight
+
+-- which section it is
+abbrev pub key_cells : List ℕ → ℕ → ℕ → List ℕ
+key_cells set_id file sect =
+    trimmed_text set_id ++ codes "\t" ++ decimal file ++ codes "\t" ++ decimal sect
+
+-- its trailer label ends the file
+abbrev pub eof_cell : Bool → List ℕ
+eof_cell eof = if eof then codes "EOF" else []
+
+-- the row of a section
+abbrev pub section_row : Told → List ℕ
+section_row (key, entry) =
+    codes "SECTION\t" ++ key_cells key.set_id key.file key.sect ++ codes "\t"
+    ++ trimmed_text entry.volume ++ codes "\t" ++ decimal entry.blocks ++ codes "\t"
+    ++ state_text entry.state ++ codes "\t" ++ eof_cell entry.eof ++ codes "\n"
+
+-- what is known of a file by its labels
+abbrev pub known_cells : Option FileNote → List ℕ
+known_cells (Some note) =
+    trimmed_text note.head.file_id ++ codes "\t" ++ trimmed_text note.head.created
+known_cells None = codes "\t"
+
+-- a section, in this state, and a volume
+abbrev pub wanted_cells : List ℕ → ℕ → List ℕ → List ℕ
+wanted_cells state sect volume =
+    state ++ codes "\t" ++ decimal sect ++ codes "\t" ++ trimmed_text volume
+
+-- what is to be said of a file
+abbrev pub standing_cells : Standing → List ℕ
+standing_cells Complete = codes "COMPLETE\t\t"
+standing_cells (Damaged sect entry) = wanted_cells (state_text entry.state) sect entry.volume
+standing_cells (Behind sect volume) = wanted_cells (codes "WANTED") sect volume
+standing_cells (Missing sect) = wanted_cells (codes "WANTED") sect []
+
+-- labels of different files were met under its number
+abbrev pub mixed_cell : Option FileNote → List ℕ
+mixed_cell note = if is_mixed note then codes "\tMIXED\n" else codes "\t\n"
+
+-- the row of a file
+abbrev pub file_row : Found → List ℕ → ℕ → List ℕ
+file_row d set_id file =
+    let note = note_at d.files (file_key set_id file) in
+    codes "FILE\t" ++ trimmed_text set_id ++ codes "\t" ++ decimal file ++ codes "\t"
+    ++ known_cells note ++ codes "\t" ++ standing_cells (standing_of d.sections set_id file)
+    ++ mixed_cell note

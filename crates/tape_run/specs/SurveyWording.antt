@@ -1,0 +1,59 @@
+-- What a survey says, in words or in rows.
+use Rattle.std.specs.Prelude.{ℕ, zero, suc, ◌+◌, Bool, List, [], ◌++◌, Option}
+use Rattle.std.specs.List.{flat_map}
+use Rattle.tape_run.specs.declared.survey.Wording.{Wording}
+use Rattle.tape_run.specs.declared.survey.Wording.TheVariants.{Words, Rows}
+use Rattle.tape_run.specs.declared.survey.view.Sight.{Sight}
+use Rattle.tape_run.specs.Lacks.{SetFiles, sets_from}
+use Rattle.tape_run.specs.Passing.{Told}
+use Rattle.tape_run.specs.SurveyLine.{image_line}
+use Rattle.tape_run.specs.SurveyRead.{Found}
+use Rattle.tape_run.specs.SurveyRows.{image_row, section_row, file_row}
+use Rattle.tape_run.specs.SurveySets.{file_line, set_line, is_all, last_text}
+
+-- what is said of an image
+abbrev pub image_text : Wording → List ℕ → Option Sight → List ℕ
+image_text Words name sight = image_line name sight
+image_text Rows name sight = image_row name sight
+
+-- what is said of a file
+abbrev pub file_text : Wording → Found → List ℕ → ℕ → List ℕ
+file_text Words d set_id file = file_line d set_id file
+file_text Rows d set_id file = file_row d set_id file
+
+-- of n files of a set, from this one on
+abbrev pub file_texts : Wording → Found → List ℕ → ℕ → ℕ → List ℕ
+file_texts y d set_id file zero = []
+file_texts y d set_id file (suc n) =
+    file_text y d set_id file ++ file_texts y d set_id (file + 1) n
+
+-- in front of the files of a set
+abbrev pub set_front : Wording → List ℕ → List ℕ
+set_front Words set_id = set_line set_id
+set_front Rows set_id = []
+
+-- a set, and its files up to the greatest number of one
+abbrev pub set_text : Wording → Found → SetFiles → List ℕ
+set_text y d x = set_front y x.0 ++ file_texts y d x.0 1 x.1
+
+-- sets
+abbrev pub set_texts : Wording → Found → List SetFiles → List ℕ
+set_texts y d sets = flat_map (set_text y d) sets
+
+-- all sets that were met, in the order in which they were met first
+abbrev pub sets_text : Wording → Found → List ℕ
+sets_text y d = set_texts y d (sets_from [] d.sections)
+
+-- in front of the sets: in rows each section that was met
+abbrev pub sections_text : Wording → List Told → List ℕ
+sections_text Words c = []
+sections_text Rows c = flat_map section_row c
+
+-- the last line, which rows have not
+abbrev pub end_text : Wording → Bool → List ℕ
+end_text Words all = last_text all
+end_text Rows all = []
+
+-- what stands behind the images
+abbrev pub summary : Wording → Found → List ℕ
+summary y d = sections_text y d.sections ++ (sets_text y d ++ end_text y (is_all d))

@@ -1,0 +1,254 @@
+//! The rows of a survey, for scripts: columns a tab apart.
+ghost use Rattle.std.specs.Prelude.{◌≡◌, ◌≤◌, ◌+◌, ◌++◌, length, decimal, codes};
+ghost use Rattle.std.specs.Prelude.{option_map};
+ghost use Rattle.arrayvec.specs.ArrayVec.{array_vec_len};
+ghost use Rattle.tape_run.specs.SurveyRows.{whole_cell, volume_cell, head_cells, count_cells};
+ghost use Rattle.tape_run.specs.SurveyRows.{seen_cells, middle_cells, sight_cells, words_cell};
+ghost use Rattle.tape_run.specs.SurveyRows.{key_cells, eof_cell, section_row, known_cells};
+ghost use Rattle.tape_run.specs.SurveyRows.{wanted_cells, standing_cells, mixed_cell, file_row};
+
+use super::files::{FileKey, FileNote};
+use super::glance::{First, Glance};
+use super::line::put_met;
+use super::sets::{Standing, is_mixed, standing_of};
+use super::text::{Text, put, put_number, put_trimmed};
+use super::view::{Findings, Sight};
+use crate::check_line::{state_text, stop_text};
+use crate::section::{Entry, SectionKey};
+use tape_label::{Field, Head1};
+
+/// A tab.
+fn put_tab(text: &mut Text)
+    requires { array_vec_len text.old ≤ 1000 }
+    ensures items { text.new.items ≡ text.old.items ++ codes "\t" }
+    ensures len { array_vec_len text.new ≡ array_vec_len text.old + 1 }
+{
+    put(text, b"\t");
+}
+
+/// A number that is no greater than 32 bits.
+fn put_count(text: &mut Text, number: u32)
+    requires { array_vec_len text.old ≤ 980 }
+    ensures items { text.new.items ≡ text.old.items ++ decimal number }
+    ensures len { array_vec_len text.new ≤ array_vec_len text.old + 40 }
+{
+    put_number(text, u64::from(number));
+}
+
+/// The columns of an image between its name and the words at the end.
+pub(crate) fn middle_cells(sight: &Option<Sight>) -> Text
+    ensures { result.items ≡ middle_cells sight.now }
+{
+    let mut text = Text::new();
+    put_tab(&mut text);
+    put_sight(&mut text, sight);
+    put_tab(&mut text);
+    text
+}
+
+/// What an image is, or that it was not opened.
+fn put_sight(text: &mut Text, sight: &Option<Sight>)
+    requires room { array_vec_len text.old ≤ 1 }
+    ensures items { text.new.items ≡ text.old.items ++ sight_cells sight.now }
+    ensures len { array_vec_len text.new ≤ 900 }
+{
+    match sight {
+        Some(sight) => put_seen(text, sight),
+        None => put(text, b"NOT OPENED\t\t\t\t\t\t\t"),
+    }
+}
+
+/// What an image is.
+fn put_seen(text: &mut Text, sight: &Sight)
+    requires room { array_vec_len text.old ≤ 1 }
+    ensures items { text.new.items ≡ text.old.items ++ seen_cells sight.now }
+    ensures len { array_vec_len text.new ≤ 900 }
+{
+    put(text, whole_cell(sight.is_whole()));
+    put_tab(text);
+    put_volume(text, &sight.glance.first);
+    put_tab(text);
+    put_head(text, &sight.glance.head);
+    put_tab(text);
+    put_counts(text, &sight.glance);
+    put_tab(text);
+    put(text, &stop_text(&sight.stop));
+}
+
+/// Whether nothing is left over on it.
+fn whole_cell(whole: bool) -> &'static [u8]
+    ensures text { result.now ≡ whole_cell whole }
+    ensures short { length result.now ≤ 9 }
+{
+    if whole { b"WHOLE" } else { b"LEFT OVER" }
+}
+
+/// The volume, where there is a volume label first.
+fn put_volume(text: &mut Text, first: &First)
+    requires room { array_vec_len text.old ≤ 20 }
+    ensures items { text.new.items ≡ text.old.items ++ volume_cell first.now }
+    ensures len { array_vec_len text.new ≤ 30 }
+{
+    match first {
+        First::Volume(label) => put_trimmed(text, &label.volume),
+        First::Nothing | First::Ebcdic | First::Block(_) | First::Bad | First::Mark => {}
+    }
+}
+
+/// The set and the system, where a section was met.
+fn put_head(text: &mut Text, head: &Option<Head1>)
+    requires room { array_vec_len text.old ≤ 40 }
+    ensures items { text.new.items ≡ text.old.items ++ head_cells head.now }
+    ensures len { array_vec_len text.new ≤ 80 }
+{
+    match head {
+        Some(head) => {
+            put_trimmed(text, &head.set_id);
+            put_tab(text);
+            put_trimmed(text, &head.implementation);
+        }
+        None => put_tab(text),
+    }
+}
+
+/// How many items there are, sections and bad blocks.
+fn put_counts(text: &mut Text, glance: &Glance)
+    requires room { array_vec_len text.old ≤ 90 }
+    ensures items { text.new.items ≡ text.old.items ++ count_cells glance.now }
+    ensures len { array_vec_len text.new ≤ 300 }
+{
+    put_count(text, glance.items);
+    put_tab(text);
+    put_count(text, glance.files);
+    put_tab(text);
+    put_count(text, glance.bad);
+}
+
+/// What an image is, in words, at the end of its row.
+pub(crate) fn words_cell(sight: &Option<Sight>) -> Text
+    ensures { result.items ≡ words_cell sight.now }
+{
+    let mut text = Text::new();
+    put_met(&mut text, sight);
+    put(&mut text, b"\n");
+    text
+}
+
+/// The row of a section.
+pub(crate) fn section_row(key: &SectionKey, entry: &Entry) -> Text
+    ensures { result.items ≡ section_row (key.now, entry.now) }
+{
+    let mut text = Text::new();
+    put(&mut text, b"SECTION\t");
+    put_key(&mut text, key);
+    put_tab(&mut text);
+    put_trimmed(&mut text, &entry.volume);
+    put_tab(&mut text);
+    put_count(&mut text, entry.blocks);
+    put_tab(&mut text);
+    put(&mut text, state_text(entry.state));
+    put_tab(&mut text);
+    put(&mut text, eof_cell(entry.eof));
+    put(&mut text, b"\n");
+    text
+}
+
+/// Which section it is.
+fn put_key(text: &mut Text, key: &SectionKey)
+    requires room { array_vec_len text.old ≤ 20 }
+    ensures items { text.new.items
+        ≡ text.old.items ++ key_cells key.now.set_id key.now.file key.now.sect }
+    ensures len { array_vec_len text.new ≤ 200 }
+{
+    put_trimmed(text, &key.set_id);
+    put_tab(text);
+    put_count(text, u32::from(key.file));
+    put_tab(text);
+    put_count(text, u32::from(key.sect));
+}
+
+/// Whether its trailer label ends the file.
+fn eof_cell(eof: bool) -> &'static [u8]
+    ensures text { result.now ≡ eof_cell eof }
+    ensures short { length result.now ≤ 3 }
+{
+    if eof { b"EOF" } else { b"" }
+}
+
+/// The row of a file.
+pub(crate) fn file_row(findings: &Findings, set_id: Field<6>, file: u16) -> Text
+    ensures { result.items ≡ file_row findings.now set_id file }
+{
+    let mut text = Text::new();
+    let key = FileKey { set_id, file };
+    let note = findings.files.get(&key);
+    put(&mut text, b"FILE\t");
+    put_trimmed(&mut text, &set_id);
+    put_tab(&mut text);
+    put_count(&mut text, u32::from(file));
+    put_tab(&mut text);
+    put_known(&mut text, note);
+    put_tab(&mut text);
+    put_standing(&mut text, &standing_of(&findings.sections, set_id, file));
+    put(&mut text, mixed_cell(note));
+    text
+}
+
+/// What is known of a file by its labels.
+fn put_known(text: &mut Text, note: Option<&FileNote>)
+    requires room { array_vec_len text.old ≤ 100 }
+    ensures items { text.new.items
+        ≡ text.old.items ++ known_cells (option_map (λ n. n.now) note.entry) }
+    ensures len { array_vec_len text.new ≤ 150 }
+{
+    match note {
+        Some(note) => {
+            put_trimmed(text, &note.head.file_id);
+            put_tab(text);
+            put_trimmed(text, &note.head.created);
+        }
+        None => put_tab(text),
+    }
+}
+
+/// What is to be said of a file.
+fn put_standing(text: &mut Text, standing: &Standing)
+    requires room { array_vec_len text.old ≤ 160 }
+    ensures items { text.new.items ≡ text.old.items ++ standing_cells standing.now }
+    ensures len { array_vec_len text.new ≤ 300 }
+{
+    match standing {
+        Standing::Complete => put(text, b"COMPLETE\t\t"),
+        Standing::Damaged(sect, entry) => {
+            put_wanted(text, state_text(entry.state), *sect, &entry.volume);
+        }
+        Standing::Behind(sect, volume) => put_wanted(text, b"WANTED", *sect, volume),
+        Standing::Missing(sect) => put_wanted(text, b"WANTED", *sect, &Field::of_bytes([b' '; 6])),
+    }
+}
+
+/// A section, in this state, and a volume.
+fn put_wanted(text: &mut Text, state: &[u8], sect: u16, volume: &Field<6>)
+    requires room { array_vec_len text.old ≤ 160 }
+    requires short { length state.now ≤ 6 }
+    ensures items { text.new.items ≡ text.old.items ++ wanted_cells state.now sect volume.now }
+    ensures len { array_vec_len text.new ≤ 300 }
+{
+    put(text, state);
+    put_tab(text);
+    put_count(text, u32::from(sect));
+    put_tab(text);
+    put_trimmed(text, volume);
+}
+
+/// Whether labels of different files were met under its number.
+fn mixed_cell(note: Option<&FileNote>) -> &'static [u8]
+    ensures text { result.now ≡ mixed_cell (option_map (λ n. n.now) note.entry) }
+    ensures short { length result.now ≤ 10 }
+{
+    if is_mixed(note) {
+        b"\tMIXED\n"
+    } else {
+        b"\t\n"
+    }
+}

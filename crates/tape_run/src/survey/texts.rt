@@ -1,0 +1,181 @@
+//! What a survey says behind its images: of sections, sets and files, in words or in rows.
+ghost use Rattle.std.specs.List.{flat_map};
+ghost use Rattle.std.specs.Prelude.{◌≡◌, ◌<◌, ◌+◌, ◌++◌, length, take, IfOk, OnOk};
+ghost use Rattle.tape_run.specs.SurveyWording.{file_text, file_texts, set_front, set_text, set_texts};
+ghost use Rattle.tape_run.specs.SurveyWording.{sets_text, sections_text};
+ghost use Rattle.tape_run.specs.SurveyRows.{section_row};
+
+use super::Wording;
+use super::rows::{file_row, section_row};
+use super::sets::{file_line, set_line};
+use super::text::Text;
+use super::view::Findings;
+use crate::report::{Sets, sets_of};
+use crate::section::{Entry, SectionKey};
+use crate::sections::Sections;
+use std::alloc::{AllocError, Global};
+use tape_label::Field;
+
+/// What is said of a file.
+fn file_text(findings: &Findings, wording: Wording, set_id: Field<6>, file: u16) -> Text
+    ensures { result.items ≡ file_text wording findings.now set_id file }
+{
+    match wording {
+        Wording::Words => file_line(findings, set_id, file),
+        Wording::Rows => file_row(findings, set_id, file),
+    }
+}
+
+/// What stands in front of the files of a set.
+fn set_front(wording: Wording, set_id: Field<6>) -> Text
+    ensures { result.items ≡ set_front wording set_id }
+{
+    match wording {
+        Wording::Words => set_line(set_id),
+        Wording::Rows => Text::new(),
+    }
+}
+
+/// Adds what is said of a file to what is said of those before it.
+fn add_file(
+    texts: &mut Vec<u8>,
+    findings: &Findings,
+    wording: Wording,
+    set_id: Field<6>,
+    file: u16,
+) -> Result<(), AllocError>
+    ensures { OnOk result (texts.new.items
+        ≡ texts.old.items ++ file_text wording findings.now set_id file) }
+{
+    let text = file_text(findings, wording, set_id, file);
+    texts.extend_from_slice(&text)
+}
+
+/// Adds what is said of the files of a set, up to the greatest number of a file.
+fn add_files(
+    texts: &mut Vec<u8>,
+    findings: &Findings,
+    wording: Wording,
+    set_id: Field<6>,
+    greatest: u16,
+) -> Result<(), AllocError>
+    ensures { OnOk result (texts.new.items
+        ≡ texts.old.items ++ file_texts wording findings.now set_id 1 greatest) }
+{
+    for before in 0..greatest {
+        add_file(texts, findings, wording, set_id, before + 1)?;
+    }
+    Ok(())
+}
+
+/// Adds what is said of a set, and of its files.
+fn add_set(
+    texts: &mut Vec<u8>,
+    findings: &Findings,
+    wording: Wording,
+    set_id: Field<6>,
+    greatest: u16,
+) -> Result<(), AllocError>
+    ensures { OnOk result (texts.new.items
+        ≡ texts.old.items ++ set_text wording findings.now (set_id, greatest)) }
+{
+    let front = set_front(wording, set_id);
+    texts.extend_from_slice(&front)?;
+    add_files(texts, findings, wording, set_id, greatest)?;
+    Ok(())
+}
+
+/// Adds what is said of the set at a place to what is said of those before it.
+fn add_place(
+    texts: &mut Vec<u8>,
+    findings: &Findings,
+    wording: Wording,
+    sets: &Sets,
+    place: usize,
+) -> Result<(), AllocError>
+    requires { place < length sets.now.entries }
+    ensures { OnOk result (
+        texts.old.items ≡ set_texts wording findings.now (take place sets.now.entries)
+        → texts.new.items ≡ set_texts wording findings.now (take (place + 1) sets.now.entries)) }
+{
+    let Some((set_id, greatest)) = sets.get_index(place) else {
+        unreachable!()
+    };
+    add_set(texts, findings, wording, *set_id, *greatest)?;
+    Ok(())
+}
+
+/// What is said of sets, in the order in which they were met first.
+fn texts_of(
+    alloc: Global,
+    findings: &Findings,
+    wording: Wording,
+    sets: &Sets,
+) -> Result<Vec<u8>, AllocError>
+    ensures { IfOk result (λ texts. texts.items ≡ set_texts wording findings.now sets.now.entries) }
+{
+    let mut texts = Vec::new(alloc);
+    for place in 0..sets.len() {
+        add_place(&mut texts, findings, wording, sets, place)?;
+    }
+    Ok(texts)
+}
+
+/// Adds the row of a section to those before it.
+fn put_row(rows: &mut Vec<u8>, key: &SectionKey, entry: &Entry) -> Result<(), AllocError>
+    ensures { OnOk result (rows.new.items ≡ rows.old.items ++ section_row (key.now, entry.now)) }
+{
+    let row = section_row(key, entry);
+    rows.extend_from_slice(&row)
+}
+
+/// Adds the row of the section at a place to those before it.
+fn add_row(rows: &mut Vec<u8>, sections: &Sections, place: usize) -> Result<(), AllocError>
+    requires { place < length sections.now.entries }
+    ensures { OnOk result (rows.old.items ≡ flat_map section_row (take place sections.now.entries)
+        → rows.new.items ≡ flat_map section_row (take (place + 1) sections.now.entries)) }
+{
+    let Some((key, entry)) = sections.get_index(place) else {
+        unreachable!()
+    };
+    put_row(rows, key, entry)?;
+    Ok(())
+}
+
+/// A row for each section.
+fn rows_of(alloc: Global, sections: &Sections) -> Result<Vec<u8>, AllocError>
+    ensures { IfOk result (λ rows. rows.items ≡ flat_map section_row sections.now.entries) }
+{
+    let mut rows = Vec::new(alloc);
+    for place in 0..sections.len() {
+        add_row(&mut rows, sections, place)?;
+    }
+    Ok(rows)
+}
+
+/// What stands in front of the sets.
+pub(crate) fn sections_text(
+    alloc: Global,
+    wording: Wording,
+    sections: &Sections,
+) -> Result<Vec<u8>, AllocError>
+    ensures { IfOk result (λ text. text.items ≡ sections_text wording sections.now.entries) }
+{
+    match wording {
+        Wording::Words => Ok(Vec::new(alloc)),
+        Wording::Rows => rows_of(alloc, sections),
+    }
+}
+
+/// What is said of all sets that were met.
+pub(crate) fn sets_text(
+    alloc: Global,
+    findings: &Findings,
+    wording: Wording,
+) -> Result<Vec<u8>, AllocError>
+    ensures { IfOk result (λ texts. texts.items ≡ sets_text wording findings.now) }
+{
+    let sets = sets_of(alloc, &findings.sections)?;
+    let texts = texts_of(alloc, findings, wording, &sets)?;
+    Ok(texts)
+}
