@@ -4,6 +4,7 @@
 # folder, and compares what it prints with what the page shows. An example is an indented line
 # that begins with '$ '; what stands below it in the same block is what it prints, standard output
 # and standard error together. A line of the form '    [status N]' says an exit status other than 0.
+# Last docs/page.py has to draw docs/page.html, where both are there.
 # The last line printed is the number of examples that differ. By hand, not part of the gate.
 here=$(dirname "$(readlink -f "$0")")
 top=$(dirname "$here")
@@ -70,5 +71,12 @@ page() {
 for it in README.md docs/GUIDE.md docs/RECIPES.md; do
     [ ! -f "$top/$it" ] || page "$top/$it"
 done
+# The page of three images, beside the one that is stored; bad.tap is that of RECIPES.md.
+fresh
+cp "$top/crates/tape_tool/stdin" "$folder/run/bad.tap"
+for at in 1079 1883; do
+    printf '\200' | dd of="$folder/run/bad.tap" bs=1 seek=$at conv=notrunc status=none
+done
+[ ! -f "$here/page.py" ] || try "$here/page.py cut.tap bad.tap reel.tap" "$(cat "$here/page.html")"
 echo "$differ of $examples examples differ"
 [ "$differ" -eq 0 ]
