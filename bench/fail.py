@@ -125,6 +125,7 @@ STAGE = {
     "w": {"file fault 4"},
     "y": {"file fault 4"},
     "n": {"file fault 4"},
+    "l": {"stage fault 7"},
 }
 REELS = r"(REEL \d+ .*\n)*"
 UNREAD = {"o": r"REEL \d+ NOT OPENED\n", "r": r"REEL \d+ (REEL ENDED|NOT LABELLED) IMAGE 5 \d+\n"}
