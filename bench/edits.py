@@ -204,7 +204,11 @@ def crates_below():
 def copy_tree(to, names):
     """Copies the repository, with what is kept in out/ of these crates and those below them."""
     below = crates_below()
-    kept = {crate for name in names for crate in [name, *below[name]]}
+    kept, left = set(), [*names]
+    while left:
+        crate = left.pop()
+        kept.add(crate)
+        left += [it for it in below.get(crate, []) if it not in kept]
 
     def left_out(at, files):
         is_other = os.path.dirname(at) == f"{TOP}/crates" and os.path.basename(at) not in kept
