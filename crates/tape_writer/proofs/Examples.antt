@@ -1,6 +1,8 @@
 -- The cases of tapes, of what a writer was told and of its refusals.
-use Rattle.std.proofs.Common.{◌≡◌, ℕ, List, [], refl, ap, ◌∙◌, arith, subst}
+use Rattle.std.proofs.Common.{◌≡◌, ℕ, List, [], refl, sym, ap, ◌∙◌, arith, subst, inl, inr, Some}
+use Rattle.tape_image.specs.Writer.{Writer, writing, broken}
 use Rattle.tape_blocks.specs.Spans.{Joined}
+use Rattle.tape_writer.specs.Images.{TakesNoMore}
 use Rattle.tape_writer.specs.State.{SetState, IsWriting, Stands}
 use Rattle.tape_writer.specs.Tapes.{Tapes}
 use Rattle.tape_writer.specs.Told.{Told}
@@ -28,6 +30,10 @@ cases_of_tapes = record {
   lasting = λ after f f' used' l. (l.lasts [] [] refl refl, l.count);
 }
 
+takes_more : (w : Writer) → w.standing ≡ writing → w.size ≡ 4294867287 → TakesNoMore (Some w) → ⊥
+takes_more w is size (inl not) = not is
+takes_more w is size (inr full) = omega (arith, full, size)
+
 pub cases_of_images : CasesOfImages
 cases_of_images = record {
   its_spelling = λ items bytes i. (i.spells, i.sized);
@@ -44,6 +50,10 @@ cases_of_images = record {
   one_lent = λ w v items h. absurd (let e = h.1.held in cc e);
   under_way_so_far = λ w v items h. h.0;
   under_way_is_here = λ v items h. h.0;
+  takes_more = takes_more;
+  has_failed = λ w is. inl (λ e. (let f : broken ≡ writing = sym is ∙ e in cc));
+  is_full = λ w full. inr (omega (arith, full));
+  stopped = λ left image h. h;
   room_for_the_lent = λ h. absurd (omega (arith, h.1));
   kept_as_handed = λ kept images h. h.0;
 }
@@ -68,9 +78,9 @@ cases_of_sets = record {
 
 failed_tells_nothing : (tapes : Tapes) (w : SetState ℕ) (told : List Told)
     → w.phase ≡ phases.Failed → IsWriting (λ t. t ≡ tapes) w told → ⊥
-failed_tells_nothing tapes w told failed writing = subst
+failed_tells_nothing tapes w told failed told_so = subst
     (λ phase. Stands (λ t. t ≡ tapes) w.volumes w.capacity w.set_id w.course phase told) failed
-    writing.stands
+    told_so.stands
 
 pub cases_of_refusals : CasesOfRefusals
 cases_of_refusals = record {

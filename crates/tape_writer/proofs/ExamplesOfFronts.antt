@@ -1,6 +1,6 @@
 -- The cases of what a refusal leaves on the tapes.
-use Rattle.std.proofs.Common.{◌≡◌, ◌⊎◌, ℕ, List, [], ◌∷◌, ◌++◌, Option, Some, IfSome, refl, subst}
-use Rattle.std.proofs.Common.{inl, inr, length}
+use Rattle.std.proofs.Common.{◌≡◌, ◌≢◌, ◌⊎◌, ℕ, List, [], ◌∷◌, ◌++◌, Option, Some, IfSome}
+use Rattle.std.proofs.Common.{inl, inr, length, refl, sym, subst}
 use Rattle.std.specs.List.{AllByRecursion}
 use Rattle.tape_image.specs.Tape.{TapeItem}
 use Rattle.tape_label.specs.declared.values.Head1.{Head1}
@@ -15,7 +15,8 @@ use Rattle.tape_writer.specs.State.{SetState}
 use Rattle.tape_writer.specs.Tapes.{Tapes, UnderWay}
 use Rattle.tape_writer.specs.ToldFiles.{told_files, with_file, IfAllKnown}
 use Rattle.tape_writer.specs.Front.{behind_steps, HoldsFront, IsLeftBehind, IsLeftWhole}
-use Rattle.tape_writer.specs.LeftOf.{IsLeftOf, IsLeftOfAll}
+use Rattle.tape_writer.specs.LeftOf.{IsLeftOf, IsLeftOfAll, IsLeftUnbegun}
+use Rattle.tape_writer.specs.WriteFaults.{IsOfInput}
 use Rattle.tape_writer.specs.CasesOfFronts.{CasesOfFronts}
 use Rattle.tape_writer.proofs.Fronts.{front_begins}
 
@@ -28,21 +29,21 @@ not_back u f =
 -- the one input of a set is the first of it
 first_of : (tapes : Tapes) (w : SetState ℕ) (id : List ℕ) (shape : Shape) (cut : Cut)
     (x : Head1 × List ℕ) (before after : List (Head1 × Option (List ℕ)))
-    (input : Head1 × Option (List ℕ))
+    (input : Head1 × Option (List ℕ)) (fault : SetFault)
     → (x.0, Some x.1) ∷ [] ≡ before ++ input ∷ after
     → IfAllKnown before (λ fs. IfSome input.1 (λ bytes.
-    IsLeftBehind (λ t. t ≡ tapes) w ([] ++ told_files id shape cut 1 fs)
-    ⊎ IsLeftOf (λ t. t ≡ tapes) w ⊥ ReadFailed
+    IsLeftUnbegun (λ t. t ≡ tapes) w fault ([] ++ told_files id shape cut 1 fs)
+    ⊎ IsLeftOf (λ t. t ≡ tapes) w ⊥ fault
     (with_file id ([] ++ told_files id shape cut 1 fs) input.0 shape) (records_of cut bytes)))
-    → IsLeftBehind (λ t. t ≡ tapes) w []
-    ⊎ IsLeftOf (λ t. t ≡ tapes) w ⊥ ReadFailed (with_file id [] x.0 shape) (records_of cut x.1)
-first_of tapes w id shape cut x [] after input split left =
+    → IsLeftUnbegun (λ t. t ≡ tapes) w fault []
+    ⊎ IsLeftOf (λ t. t ≡ tapes) w ⊥ fault (with_file id [] x.0 shape) (records_of cut x.1)
+first_of tapes w id shape cut x [] after input fault split left =
     let head : input ≡ (x.0, Some x.1) = cc split in
-    subst (λ i. IfSome i.1 (λ bytes. IsLeftBehind (λ t. t ≡ tapes) w []
-    ⊎ IsLeftOf (λ t. t ≡ tapes) w ⊥ ReadFailed (with_file id [] i.0 shape)
+    subst (λ i. IfSome i.1 (λ bytes. IsLeftUnbegun (λ t. t ≡ tapes) w fault []
+    ⊎ IsLeftOf (λ t. t ≡ tapes) w ⊥ fault (with_file id [] i.0 shape)
     (records_of cut bytes))) head left
-first_of tapes w id shape cut x (b ∷ []) after input split left = absurd (cc split)
-first_of tapes w id shape cut x (b ∷ c ∷ before) after input split left = absurd (cc split)
+first_of tapes w id shape cut x (b ∷ []) after input fault split left = absurd (cc split)
+first_of tapes w id shape cut x (b ∷ c ∷ before) after input fault split left = absurd (cc split)
 
 none_split : (before after : List (Head1 × Option (List ℕ))) (input : Head1 × Option (List ℕ))
     → [] ≡ before ++ input ∷ after → ⊥
@@ -51,19 +52,20 @@ none_split (b ∷ before) after input e = cc
 
 of_none : (tapes : Tapes) (w : SetState ℕ) (id : List ℕ) (shape : Shape) (cut : Cut)
     (fault : SetFault) → IsLeftOfAll (λ t. t ≡ tapes) w ⊥ fault id [] shape cut []
-    → (fault ≡ Write OutOfMemory → ⊥) × (IsLeftBehind (λ t. t ≡ tapes) w []
+    → (fault ≡ Write OutOfMemory → ⊥) × (fault ≢ ReadFailed) × (IsLeftBehind (λ t. t ≡ tapes) w []
     ⊎ IsLeftWhole (λ t. t ≡ tapes) w [])
 of_none tapes w id shape cut fault (inl g) =
     absurd (none_split g.before g.after g.input g.split)
-of_none tapes w id shape cut fault (inr h) = h
+of_none tapes w id shape cut fault (inr h) =
+    (h.0, λ e. h.1 (subst IsOfInput (sym e) tt), h.2)
 
 -- one record was told, and memory gave out
 longer : (tapes : Tapes) (w : SetState ℕ) (told : List Told) (r : List ℕ) (records : List (List ℕ))
     (g : IsLeftOf (λ t. t ≡ tapes) w ⊥ (Write OutOfMemory) told (r ∷ records))
     → g.front ≡ r ∷ [] → IsFirstLong (length r) records
 longer tapes w told r records g one =
-    let split : r ∷ records ≡ (r ∷ []) ++ g.back = subst (λ f. r ∷ records ≡ f ++ g.back) one g.split
-    in
+    let split : r ∷ records ≡ (r ∷ []) ++ g.back =
+    subst (λ f. r ∷ records ≡ f ++ g.back) one g.split in
     let back : g.back ≡ records = cc in
     elim (g.memory refl) [
       | inl none ↦ absurd none
@@ -86,8 +88,12 @@ cases_of_fronts = record {
   left_of = λ tapes w told records g. (g.split, g.left);
   no_memory = λ tapes w told r s g one. longer tapes w told r (s ∷ []) g one;
   not_at_the_end = λ tapes w told r g one. longer tapes w told r [] g one;
-  left_in = λ tapes w id shape cut x g.
-      first_of tapes w id shape cut x g.before g.after g.input g.split g.left;
+  all_held = λ tapes w told records g. g.all tt;
+  wrong_length = λ tapes w told records g. g.all tt;
+  left_in = λ tapes w id shape cut x fault g.
+      first_of tapes w id shape cut x g.before g.after g.input fault g.split g.left;
+  unbegun = λ tapes w told fault u.
+      (λ e. u.0 (subst IsOfInput (sym e) tt), λ e. u.0 (subst IsOfInput (sym e) tt), u.1);
   left_of_none = of_none;
   left_set = λ fault plan cut given g. (g.on_tapes, g.on_volumes, g.capacity, g.set_id, g.left);
 }

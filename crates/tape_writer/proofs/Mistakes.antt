@@ -22,13 +22,15 @@ use Rattle.tape_writer.proofs.set.SetWriter.finish.Reads as finish
 
 -- ---- a set
 
+made_or_not : {A B : Type 0} (a : A) (b : B) → Ok a ≡ Err b → ⊥
+made_or_not a b e = cc
+
 -- set_without_a_volume: a set without a volume is begun
 set_without_a_volume : (T : _) (L : _) (g : _) (d : _) (e : _) (κs : _) (a : _) (w : _) (s : _)
     → new.Learnt-named T L g d e κs a (Ok w) s → IsText a.1.0 → a.1.1.0.items ≡ [] → ⊥
 set_without_a_volume T L g d e κs a w s l text none =
-    let r : Ok w ≡ Err faults.OutOfVolumes
-    = l.none text (subst (λ vs. AllByRecursion IsTextVolume vs) (sym none) tt) (ap length none) in
-    absurd (cc)
+    made_or_not w _
+    (l.none text (subst (λ vs. AllByRecursion IsTextVolume vs) (sym none) tt) (ap length none))
 
 -- blocks_in_place_of_bytes: behind three blocks, 2,292 bytes, the size told is 3
 blocks_in_place_of_bytes : (T : _) (L : _) (g : _) (d : _) (e : _) (κs : _) (a : _) (s : _)

@@ -65,12 +65,16 @@ no_block_on_the_last_volume T L g d e κs a s t l writing room labels =
     (all_back (packing.IsWritten w.last.file.shape) (open_blocks w.stuck.draft) w.stuck.next
     w.stuck.of_records.each) labels least w.stuck.due
 
--- third_volume_refused: there is a device for one more volume, and there is told to be none
+-- third_volume_refused: nothing failed, there is a device for one more volume, and there is told to
+-- be none
 third_volume_refused : (S : _) (D : _) (L : _) (M : _) (g : _) (d : _) (h : _) (e : _) (f : _)
     (k : _) (κs : _) (a : _) (s : _)
-    → has_next.Learnt-named S D L M g d h e f k κs a false s → g.left a.0.now.store ≡ 1 → ⊥
-third_volume_refused S D L M g d h e f k κs a s l one =
-    absurd (let n : 0 ≡ 1 = sym l.no ∙ one in omega arith)
+    → has_next.Learnt-named S D L M g d h e f k κs a false s → a.0.now.failed ≡ 0
+    → g.left a.0.now.store ≡ 1 → ⊥
+third_volume_refused S D L M g d h e f k κs a s l none one = elim l.no [
+  | inl failed ↦ absurd (omega (arith, failed, none))
+  | inr gone ↦ absurd (let n : 0 ≡ 1 = sym gone ∙ one in omega arith)
+]
 
 -- ---- memory and the device
 

@@ -35,7 +35,7 @@ no_sects : (sects : List Section) → length sects ≤ 0 → sects ≡ []
 no_sects [] h = refl
 no_sects (s ∷ sects) h = absurd (omega (arith, h))
 
-open_of : (H : Tapes → Type 0) (vs : List Vol1) (capacity : ℕ) (set_id : List ℕ) (file : Opened)
+pub open_of : (H : Tapes → Type 0) (vs : List Vol1) (capacity : ℕ) (set_id : List ℕ) (file : Opened)
     (course : Course) (fs : List (List Section)) (records : List (List ℕ))
     → IsPartly H vs capacity set_id file course fs records
     → (d : Draft) × IsOpen H vs capacity set_id file course d × (d.files ≡ fs)

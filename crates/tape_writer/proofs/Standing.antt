@@ -13,7 +13,7 @@ use Rattle.tape_writer.specs.Draft.{Draft, IsOpen}
 use Rattle.tape_writer.specs.Inside.{IsInside, IsPacking, IsFlat, IsWaiting}
 use Rattle.tape_writer.specs.State.{SetState, Stands, IsWriting}
 use Rattle.tape_writer.specs.Refusals.{IsInFile}
-use Rattle.tape_writer.specs.Front.{HoldsFront, IsLeftInside, IsLeftBehind}
+use Rattle.tape_writer.specs.Front.{HoldsFront, IsInLast, IsLeftInside, IsLeftBehind}
 use Rattle.tape_writer.proofs.Fronts.{front_here}
 
 pub open_left : (H K : Tapes → Type 0) (vs : List Vol1) (cap : ℕ) (set_id : List ℕ) (file : Opened)
@@ -77,7 +77,27 @@ waiting_left H K vs cap set_id course told f (inr (k, some)) = inr (
   some,
 )
 
--- inside a file that is under way
+-- inside a file that is under way all that was told is held
+pub all_writing : {T : Type 0} (H : Tapes → Type 0) (w : SetState T) (file : Opened)
+    (told : List Told) → IsInFile file w.phase → IsWriting H w told
+    → IsInLast H w.volumes w.capacity w.set_id told
+all_writing H w file told is k = go w.phase is k.stands
+  where
+    go : (phase : Phase) → IsInFile file phase
+        → Stands H w.volumes w.capacity w.set_id w.course phase told
+        → IsInLast H w.volumes w.capacity w.set_id told
+    go (Filing o) is s = record {
+      past = s.past;
+      last = record { file = o.file; records = s.records };
+      is_told = s.is_told;
+      files = s.filing.files;
+      filed = s.filing.filed;
+      course = w.course;
+      partly = inl (o.packer, s.filing.inside);
+    }
+    go _ is s = absurd is
+
+-- and so a front of it
 pub inside_writing : {T : Type 0} (H : Tapes → Type 0) (w : SetState T) (file : Opened)
     (told : List Told) → IsInFile file w.phase → IsWriting H w told → IsLeftInside H w told
 inside_writing H w file told is k = go w.phase is k.stands

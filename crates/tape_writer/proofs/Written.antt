@@ -19,7 +19,8 @@ use Rattle.tape_set.specs.Sizes.{items_size, item_size}
 use Rattle.tape_set.proofs.Measures.{items_size-append}
 use Rattle.std.proofs.lemmas.List.{length-replicate}
 use Rattle.tape_writer.specs.Tapes.{Tapes, Ended, UnderWay, all_volumes}
-use Rattle.tape_writer.specs.Images.{IsNext, IsImageSoFar, IsImageOf, AreImagesOf, IsUnderWay, AreImages}
+use Rattle.tape_writer.specs.Images.{IsNext, IsImageSoFar, IsImageOf, AreImagesOf, IsUnderWay}
+use Rattle.tape_writer.specs.Images.{AreImages}
 
 -- an open writer has written the items and no more
 contents_open : (items : List TapeItem) (w : Writer) (s : IsImageSoFar items w)

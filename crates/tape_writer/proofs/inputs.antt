@@ -8,5 +8,6 @@ mod Refusing
 mod Finished
 mod Stopping
 mod Leaving
+mod Heads
 mod Mistakes
 mod MistakesOfVolumes

@@ -1,14 +1,14 @@
 -- What the definitions of tapes, of what a writer was told and of its refusals say of cases, so
 -- that none of them says less than it should. The call `laws::cases` has them as its contract.
 use Rattle.std.specs.Prelude.{◌≡◌, ◌≢◌, ◌≤◌, ◌+◌, ℕ, List, [], ◌∷◌, ◌++◌, length, map, take, Ok}
-use Rattle.std.specs.Prelude.{Err, Some, None, true, false, ◌⊎◌}
+use Rattle.std.specs.Prelude.{Err, Option, Some, None, true, false, ◌⊎◌}
 use Rattle.std.specs.List.{AllByRecursion}
 use Rattle.byteorder.specs.Endian.{little_bytes}
 use Rattle.tape_image.specs.Tape.{TapeItem, bad, mark}
 use Rattle.tape_image.specs.Word.{end_word}
 use Rattle.tape_image.specs.Written.{written}
 use Rattle.tape_image.specs.Spelling.{Leads, Spells}
-use Rattle.tape_image.specs.Writer.{Writer, writing, finished}
+use Rattle.tape_image.specs.Writer.{Writer, writing, finished, broken}
 use Rattle.tape_label.specs.declared.values.Head1.{Head1}
 use Rattle.tape_label.specs.declared.values.Kind.TheVariants as kinds
 use Rattle.tape_label.specs.declared.values.Vol1.{Vol1}
@@ -32,6 +32,7 @@ use Rattle.tape_writer.specs.Draft.{open_blocks}
 use Rattle.tape_writer.specs.Faults.{FailsByDevice, FailsWith, IsEnding}
 use Rattle.tape_writer.specs.Fields.{IsText, IsTextVolume, IsTextHead}
 use Rattle.tape_writer.specs.Images.{IsImageOf, IsImageSoFar, AreImagesOf, HandedOn, AreImages}
+use Rattle.tape_writer.specs.Images.{TakesNoMore, HasStopped}
 use Rattle.tape_writer.specs.Kept.{HoldsImages}
 use Rattle.tape_writer.specs.Inside.{Continues, IsStuck}
 use Rattle.tape_writer.specs.Labels.{first_label, second_label, trailer_label, second_kind}
@@ -125,6 +126,14 @@ pub record CasesOfImages : Type 0 where
       → AreImages (λ lent images. Unit {0}) (Some w) (UnderWay v items) → IsImageSoFar items w
   pub under_way_is_here : (v : List (List TapeItem)) (items : List TapeItem)
       → AreImages (λ lent images. Unit {0}) None (UnderWay v items) → ⊥
+  -- an image takes more while it is written and has room for the longest block
+  pub takes_more : (w : Writer) → w.standing ≡ writing → w.size ≡ 4294867287
+      → TakesNoMore (Some w) → ⊥
+  pub has_failed : (w : Writer) → w.standing ≡ broken → TakesNoMore (Some w)
+  pub is_full : (w : Writer) → w.size ≡ 4294867288 → TakesNoMore (Some w)
+  -- and a call of its tapes fails only where it does not, or where no device is left
+  pub stopped : (left : ℕ) (image : Option Writer) → HasStopped left image
+      → (left ≡ 0) ⊎ TakesNoMore image
   -- in memory there is room for the one that is lent, too
   pub room_for_the_lent : HoldsImages [] 2 2 true [] → ⊥
   pub kept_as_handed : (kept images : List (List ℕ)) → HoldsImages kept 5 1 false images

@@ -1,6 +1,6 @@
 -- What the definitions of what a refusal leaves on the tapes say of cases. The call `laws::cases`
 -- has them as its contract, too.
-use Rattle.std.specs.Prelude.{◌≡◌, ◌<◌, ◌⊎◌, ℕ, List, [], ◌∷◌, ◌++◌, Option, Some, length}
+use Rattle.std.specs.Prelude.{◌≡◌, ◌≢◌, ◌<◌, ◌⊎◌, ℕ, List, [], ◌∷◌, ◌++◌, Option, Some, length}
 use Rattle.tape_image.specs.Tape.{TapeItem}
 use Rattle.tape_label.specs.declared.values.Head1.{Head1}
 use Rattle.tape_label.specs.declared.values.Vol1.{Vol1}
@@ -11,7 +11,7 @@ use Rattle.tape_writer.specs.declared.course.Course.{Course}
 use Rattle.tape_writer.specs.declared.course.Opened.{Opened}
 use Rattle.tape_writer.specs.declared.fault.SetFault.{SetFault}
 use Rattle.tape_writer.specs.declared.fault.SetFault.TheVariants.{Write, ReadFailed}
-use Rattle.tape_writer.specs.declared.fault.WriteFault.TheVariants.{OutOfMemory}
+use Rattle.tape_writer.specs.declared.fault.WriteFault.TheVariants.{OutOfMemory, RecordLength}
 use Rattle.tape_writer.specs.declared.inputs.cut.Cut.{Cut}
 use Rattle.tape_writer.specs.declared.inputs.set.SetPlan.{SetPlan}
 use Rattle.tape_writer.specs.Inside.{IsInside, IsPacking, IsFlat, IsWaiting}
@@ -23,7 +23,7 @@ use Rattle.tape_writer.specs.ToldFiles.{with_records, with_file}
 use Rattle.tape_writer.specs.Front.{Item, Change, Close, behind_steps, HoldsFront, IsMidRecord}
 use Rattle.tape_writer.specs.Front.{IsPartly, IsInLast, IsEndingLast, IsLeftInside, IsLeftBehind}
 use Rattle.tape_writer.specs.Front.{IsLeftWhole}
-use Rattle.tape_writer.specs.LeftOf.{IsLeftOf, IsLeftIn, IsLeftOfAll, IsLeftSet}
+use Rattle.tape_writer.specs.LeftOf.{IsLeftOf, IsLeftIn, IsLeftOfAll, IsLeftSet, IsLeftUnbegun}
 
 -- of fronts, and of what is left
 pub record CasesOfFronts : Type 0 where
@@ -80,14 +80,26 @@ pub record CasesOfFronts : Type 0 where
   pub not_at_the_end : (tapes : Tapes) (w : SetState ℕ) (told : List Told) (r : List ℕ)
       (g : IsLeftOf (λ t. t ≡ tapes) w ⊥ (Write OutOfMemory) told (r ∷ []))
       → g.front ≡ r ∷ [] → ⊥
+  -- where an input failed, or a record has a wrong length, all that was told is held
+  pub all_held : (tapes : Tapes) (w : SetState ℕ) (told : List Told) (records : List (List ℕ))
+      (g : IsLeftOf (λ t. t ≡ tapes) w ⊥ ReadFailed told records)
+      → IsInLast (λ t. t ≡ tapes) w.volumes w.capacity w.set_id (with_records told g.front)
+  pub wrong_length : (tapes : Tapes) (w : SetState ℕ) (told : List Told)
+      (records : List (List ℕ))
+      (g : IsLeftOf (λ t. t ≡ tapes) w ⊥ (Write RecordLength) told records)
+      → IsInLast (λ t. t ≡ tapes) w.volumes w.capacity w.set_id (with_records told g.front)
   pub left_in : (tapes : Tapes) (w : SetState ℕ) (id : List ℕ) (shape : Shape) (cut : Cut)
-      (x : Head1 × List ℕ)
-      → IsLeftIn (λ t. t ≡ tapes) w ⊥ ReadFailed id [] shape cut ((x.0, Some x.1) ∷ [])
-      → IsLeftBehind (λ t. t ≡ tapes) w []
-      ⊎ IsLeftOf (λ t. t ≡ tapes) w ⊥ ReadFailed (with_file id [] x.0 shape) (records_of cut x.1)
+      (x : Head1 × List ℕ) (fault : SetFault)
+      → IsLeftIn (λ t. t ≡ tapes) w ⊥ fault id [] shape cut ((x.0, Some x.1) ∷ [])
+      → IsLeftUnbegun (λ t. t ≡ tapes) w fault []
+      ⊎ IsLeftOf (λ t. t ≡ tapes) w ⊥ fault (with_file id [] x.0 shape) (records_of cut x.1)
+  -- what was read of an input, or not, is no reason not to begin a file
+  pub unbegun : (tapes : Tapes) (w : SetState ℕ) (told : List Told) (fault : SetFault)
+      → IsLeftUnbegun (λ t. t ≡ tapes) w fault told
+      → (fault ≢ ReadFailed) × (fault ≢ Write RecordLength) × IsLeftBehind (λ t. t ≡ tapes) w told
   pub left_of_none : (tapes : Tapes) (w : SetState ℕ) (id : List ℕ) (shape : Shape) (cut : Cut)
       (fault : SetFault) → IsLeftOfAll (λ t. t ≡ tapes) w ⊥ fault id [] shape cut []
-      → (fault ≡ Write OutOfMemory → ⊥) × (IsLeftBehind (λ t. t ≡ tapes) w []
+      → (fault ≡ Write OutOfMemory → ⊥) × (fault ≢ ReadFailed) × (IsLeftBehind (λ t. t ≡ tapes) w []
       ⊎ IsLeftWhole (λ t. t ≡ tapes) w [])
   pub left_set : (fault : SetFault) (plan : SetPlan) (cut : Cut)
       (given : List (Head1 × Option (List ℕ)))

@@ -1,10 +1,11 @@
 -- What images hold of volumes.
-use Rattle.std.specs.Prelude.{◌≡◌, ◌≢◌, ◌⊎◌, ℕ, ◌+◌, List, [], ◌∷◌, ◌++◌, Bool, true, false}
+use Rattle.std.specs.Prelude.{◌≡◌, ◌≢◌, ◌⊎◌, ◌<◌, ℕ, ◌+◌, List, [], ◌∷◌, ◌++◌, Bool, true, false}
 use Rattle.std.specs.Prelude.{Option, Some}
 use Rattle.std.specs.Prelude.{None, length}
 use Rattle.byteorder.specs.Endian.{little_bytes}
 use Rattle.tape_image.specs.Tape.{TapeItem}
 use Rattle.tape_image.specs.Word.{end_word}
+use Rattle.tape_image.specs.Begins.{image_limit}
 use Rattle.tape_image.specs.Written.{written}
 use Rattle.tape_image.specs.Spelling.{Leads, Spells}
 use Rattle.tape_image.specs.Writer.{Writer, writing, finished}
@@ -64,6 +65,16 @@ AreImages H image (UnderWay volumes items) = IsUnderWay items image × HandedOn 
 -- the same of image tapes, where a store holds so
 abbrev pub Holds : {S : Type 0} → (S → Bool → List (List ℕ) → Type 0) → Images S → Tapes → Type 0
 Holds H t tapes = AreImages (H t.store) t.image tapes
+
+-- the image under way takes no more, if there is one: its device failed, or the longest block would
+-- pass the limit of an image
+abbrev pub TakesNoMore : Option Writer → Type 0
+TakesNoMore None = Unit {0}
+TakesNoMore (Some w) = (w.standing ≢ writing) ⊎ (image_limit < w.size + 100008)
+
+-- why a call of image tapes fails: the store has no device left, or the image takes no more
+abbrev pub HasStopped : ℕ → Option Writer → Type 0
+HasStopped left image = (left ≡ 0) ⊎ TakesNoMore image
 
 -- so many failures of a device, and no growth refused
 abbrev pub device_failures : ℕ → Failures

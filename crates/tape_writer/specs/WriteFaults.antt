@@ -34,6 +34,12 @@ StopsByDevice old result new =
 abbrev pub IsOther : Shape → List ℕ → Type 0
 IsOther shape r = HasRecordLength shape.format shape.rec_len (length r) → ⊥
 
+-- a fault of an input: its reader failed, or a record has a wrong length
+abbrev pub IsOfInput : SetFault → Type 0
+IsOfInput ReadFailed = Unit {0}
+IsOfInput (Write RecordLength) = Unit {0}
+IsOfInput (Write _) = ⊥
+
 -- one of these records is such a one
 abbrev pub OneIsOther : Shape → List (List ℕ) → Type 0
 OneIsOther shape [] = ⊥

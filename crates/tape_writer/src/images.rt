@@ -1,11 +1,11 @@
 //! Volumes as images, one after another.
 
-ghost use Rattle.std.specs.Prelude.{◌≡◌, ◌≤◌, ◌<◌, [], None, Option, false, OnOk};
+ghost use Rattle.std.specs.Prelude.{◌≡◌, ◌⊎◌, ◌≤◌, ◌<◌, [], None, Option, false, OnOk};
 ghost use Rattle.std.specs.Bool.{OnTrue, OnFalse};
 ghost use Rattle.tape_image.specs.Writer.{Writer};
 ghost use Rattle.tape_label.specs.declared.values.Vol1.{Vol1};
 ghost use Rattle.tape_writer.specs.Tapes.{Ended, Rose, Closes, Keeps, HasCause};
-ghost use Rattle.tape_writer.specs.Images.{Holds, device_failures};
+ghost use Rattle.tape_writer.specs.Images.{Holds, HasStopped, device_failures};
 
 use crate::fault::OutFault;
 use crate::out::TapeOut;
@@ -21,7 +21,8 @@ use tape_label::Vol1;
 /// handed to the store before the next volume begins, so no later failure can cost it.
 ///
 /// `Device` is answered where an image writer refuses, where no volume is under way, and where
-/// the store has no device for one more volume. It takes no memory.
+/// the store has no device for one more volume; behind it no further volume begins. It takes no
+/// memory.
 #[derive(Drop)]
 pub struct ImageTapes<S: ImageStore + Drop> {
     store: S,
@@ -30,7 +31,8 @@ pub struct ImageTapes<S: ImageStore + Drop> {
 }
 
 impl<S: ImageStore + Drop> Model for ImageTapes<S> {
-    ghost use Rattle.tape_writer.specs.Images.{Images};
+    ghost use Rattle.std.specs.Prelude.{◌<◌};
+    ghost use Rattle.tape_writer.specs.Images.{Images, HasStopped};
 
     ghost Value = { Images S };
 
@@ -39,6 +41,8 @@ impl<S: ImageStore + Drop> Model for ImageTapes<S> {
       image = t.image;
       failed = t.failed;
     } };
+
+    ghost invariant = { λ t. 0 < t.failed → HasStopped (S.left t.store) t.image };
 }
 
 impl<S: ImageStore + Drop> ImageTapes<S> {
@@ -46,6 +50,7 @@ impl<S: ImageStore + Drop> ImageTapes<S> {
     pub fn new(store: S) -> Self
         ensures store { result.store ≡ store }
         ensures image { result.image ≡ None }
+        ensures failed { result.failed ≡ 0 }
         ensures held { S.holds store false [] → Holds S.holds result (Ended []) }
     {
         ImageTapes {
@@ -60,6 +65,8 @@ impl<S: ImageStore + Drop> ImageTapes<S> {
     pub fn into_parts(self) -> (S, Option<ImageWriter<S::Device>>)
         ensures store { result.0 ≡ self.store }
         ensures image { result.1 ≡ self.image }
+        // Where a call failed the store has no device left, or the image takes no more.
+        ensures stopped { 0 < self.failed → HasStopped (S.left result.0) result.1 }
     {
         let ImageTapes { store, image, .. } = self;
         (store, image)
@@ -67,6 +74,7 @@ impl<S: ImageStore + Drop> ImageTapes<S> {
 
     /// Counts a failure.
     fn fail(&mut self) -> OutFault
+        requires stopped { HasStopped (S.left self.old.store) self.old.image }
         ensures fault { result ≡ OutFault.Device }
         ensures counted { Rose self.old.failed self.new.failed }
         ensures grew { self.old.failed ≤ self.new.failed }
@@ -77,12 +85,13 @@ impl<S: ImageStore + Drop> ImageTapes<S> {
         OutFault::Device
     }
 
-    /// Whether there is a device for one more volume.
+    /// Whether there is a device for one more volume. Where a call failed there is no next one.
     fn has_next(&self) -> bool
-        ensures yes { OnTrue result (0 < S.left self.now.store) }
-        ensures no { OnFalse result (S.left self.now.store ≡ 0) }
+        ensures yes { OnTrue result ((self.now.failed ≡ 0) × (0 < S.left self.now.store)) }
+        ensures no { OnFalse result ((0 < self.now.failed) ⊎ (S.left self.now.store ≡ 0)) }
+        ensures stopped { OnFalse result (HasStopped (S.left self.now.store) self.now.image) }
     {
-        self.store.left() > 0
+        self.failed == 0 && self.store.left() > 0
     }
 
     /// Ends the image of the volume under way, if there is one, and hands it on.
@@ -93,6 +102,7 @@ impl<S: ImageStore + Drop> ImageTapes<S> {
         ensures cause { HasCause
             (device_failures self.old.failed) result (device_failures self.new.failed) }
         ensures none { OnOk result (self.new.image ≡ None) }
+        ensures same { OnOk result (self.new.failed ≡ self.old.failed) }
         ensures left { S.left self.new.store ≡ S.left self.old.store }
         ensures asked { (v : Vol1) → S.asked self.old.store v → S.asked self.new.store v }
     {

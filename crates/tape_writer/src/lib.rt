@@ -36,5 +36,5 @@ pub use memory_images::{MemoryImage, MemoryImages};
 pub use out::TapeOut;
 pub use phase::{OpenFile, Phase};
 pub use refusing::Refusing;
-pub use set::SetWriter;
+pub use set::{RefusedWriter, SetWriter};
 pub use store::ImageStore;

@@ -71,6 +71,8 @@ impl ImageStore for MemoryImages {
 
     ghost left = { λ store. store.left };
 
+    ghost asked = { λ _ _. Unit {0} };
+
     fn left(&self) -> usize {
         self.left
     }

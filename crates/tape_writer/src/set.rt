@@ -63,6 +63,13 @@ impl<T: TapeOut + Drop> Model for SetWriter<T> {
     ghost invariant = { λ w. IsSound w.volumes.items w.capacity w.tape.course w.phase };
 }
 
+/// Why there is no writer. What it was to write to is handed back.
+#[derive(Drop)]
+pub struct RefusedWriter<T: TapeOut + Drop> {
+    pub fault: WriteFault,
+    pub out: T,
+}
+
 impl<T: TapeOut + Drop> SetWriter<T> {
     ghost use Rattle.tape_writer.specs.declared.phase.Phase.TheVariants.{Between};
 
@@ -74,23 +81,26 @@ impl<T: TapeOut + Drop> SetWriter<T> {
     ///
     /// `BadField` where the set identifier, or a field of a volume but its version, holds a byte
     /// that is no a-character; `OutOfVolumes` where there is no volume; `TooMany` for more than
-    /// 9,999. A refusal drops the arguments.
+    /// 9,999. A refusal hands `out` back, and drops the labels.
     pub fn new(
         alloc: Global,
         set_id: Field<6>,
         volumes: Vec<Vol1>,
         capacity: u32,
         out: T,
-    ) -> Result<Self, WriteFault>
+    ) -> Result<Self, RefusedWriter<T>>
         ensures field { (IsText set_id × AllByRecursion IsTextVolume volumes.items → ⊥)
-            → result ≡ Err WriteFault.BadField }
+            → result ≡ Err (record { fault = WriteFault.BadField; out = out }) }
         ensures none { IsText set_id → AllByRecursion IsTextVolume volumes.items
-            → length volumes.items ≡ 0 → result ≡ Err WriteFault.OutOfVolumes }
+            → length volumes.items ≡ 0
+            → result ≡ Err (record { fault = WriteFault.OutOfVolumes; out = out }) }
         ensures many { IsText set_id → AllByRecursion IsTextVolume volumes.items
-            → 9999 < length volumes.items → result ≡ Err WriteFault.TooMany }
+            → 9999 < length volumes.items
+            → result ≡ Err (record { fault = WriteFault.TooMany; out = out }) }
         ensures ok { IsText set_id → AllByRecursion IsTextVolume volumes.items
             → 0 < length volumes.items → length volumes.items ≤ 9999 → IsOk result }
-        ensures due { IfErr result (IsNewFault set_id volumes.items) }
+        ensures due { IfErr result (λ refused. IsNewFault set_id volumes.items refused.fault) }
+        ensures back { IfErr result (λ refused. refused.out ≡ out) }
         ensures made { IfOk result (λ w. w ≡ record {
           out = out;
           volumes = volumes.items;
@@ -105,7 +115,7 @@ impl<T: TapeOut + Drop> SetWriter<T> {
         ensures asked { IfOk result (λ w. WasAsked (T.asked w.out) w.volumes w.course.volume) }
     {
         if let Err(fault) = judge_set(&set_id, &volumes) {
-            return Err(fault);
+            return Err(RefusedWriter { fault, out });
         }
         Ok(SetWriter::judged(alloc, set_id, volumes, capacity, out))
     }

@@ -23,7 +23,7 @@ pub trait ImageStore {
 
     /// Whether the device that was lent last was asked for by this label. A store that keeps no
     /// labels says so of each.
-    ghost asked: { Self → Vol1 → Type 0 } = { λ _ _. Unit {0} };
+    ghost asked: { Self → Vol1 → Type 0 };
 
     /// For how many more images it has a device.
     fn left(&self) -> usize

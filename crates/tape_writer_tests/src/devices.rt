@@ -92,6 +92,8 @@ impl ImageStore for Narrows {
 
     ghost left = { λ store. store.count };
 
+    ghost asked = { λ _ _. Unit {0} };
+
     fn left(&self) -> usize {
         self.count
     }

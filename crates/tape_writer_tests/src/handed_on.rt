@@ -60,6 +60,8 @@ impl ImageStore for Noting {
 
     ghost left = { λ store. 2 };
 
+    ghost asked = { λ _ _. Unit {0} };
+
     fn left(&self) -> usize {
         2
     }

@@ -8,7 +8,7 @@ use std::io::Read;
 use std::test::Fail;
 use tape_blocks::{Form, Shape};
 use tape_image::ImageWriter;
-use tape_label::Format;
+use tape_label::{Field, Format, Head1};
 use tape_writer::{ImageStore, Input, MemoryImages, SetFault, WriteFault, write_set};
 
 /// Blocks that are too short.
@@ -118,6 +118,24 @@ fn no_files(rt: HostRuntime) -> Result<(), Fail> {
     let images = MemoryImages::new(rt.alloc(), 1)?;
     let told = told(rt.alloc(), FIXED, Form::Raw, &mut files, images)?;
     assert!(rt; told == Err((SetFault::Write(WriteFault::NoFile), false, 1)));
+    Ok(())
+}
+
+/// Of two files the second has a head that can't be labelled: nothing is written of the first.
+#[test]
+fn a_head_that_cannot_be_labelled(rt: HostRuntime) -> Result<(), Fail> {
+    let bad = Head1 {
+        file_id: Field::of_bytes(*b"payroll          "),
+        ..head()
+    };
+    let input = |head| Input {
+        head,
+        reader: b"AB\n".as_slice(),
+    };
+    let mut files = [input(head()), input(bad)];
+    let images = MemoryImages::new(rt.alloc(), 1)?;
+    let told = told(rt.alloc(), COUNTED, Form::Lines, &mut files, images)?;
+    assert!(rt; told == Err((SetFault::Write(WriteFault::BadField), false, 1)));
     Ok(())
 }
 

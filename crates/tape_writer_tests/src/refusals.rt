@@ -67,7 +67,10 @@ fn made(
 ) -> Result<Option<WriteFault>, Fail> {
     let labels = Vec::from_elem(alloc, volume(id), count)?;
     let out = MemoryTapes::new(alloc);
-    Ok(SetWriter::new(alloc, Field::of_bytes(set_id), labels, 2_500, out).err())
+    match SetWriter::new(alloc, Field::of_bytes(set_id), labels, 2_500, out) {
+        Ok(_) => Ok(None),
+        Err(refused) => Ok(Some(refused.fault)),
+    }
 }
 
 /// The names of a set and of its volumes, how many these are, and what `new` answers.
@@ -116,7 +119,9 @@ fn refused_behind(alloc: Global, left: usize) -> Result<Stands, Fail> {
     let volumes = volumes(alloc, 2)?;
     let out = Refusing::new(MemoryTapes::new(alloc), left);
     let set_id = Field::of_bytes(*b"ABC001");
-    let mut writer = SetWriter::new(alloc, set_id, volumes, 2_500, out)?;
+    let mut writer = SetWriter::new(alloc, set_id, volumes, 2_500, out).map_err(
+        |refused| refused.fault,
+    )?;
     let answer = write_all(&mut writer);
     let after = perform(&mut writer, Put(80));
     let tapes = writer.out().inner();

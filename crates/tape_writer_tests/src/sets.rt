@@ -4,7 +4,7 @@ use std::alloc::{AllocError, Global};
 use std::test::Fail;
 use tape_blocks::Shape;
 use tape_label::{Field, Format, Head1, Vol1};
-use tape_writer::{ImageTapes, MemoryImages, MemoryTapes, SetWriter};
+use tape_writer::{ImageTapes, MemoryImages, MemoryTapes, RefusedWriter, SetWriter, TapeOut};
 
 /// Records of 80 bytes in blocks of 800.
 pub(crate) const FIXED: Shape = Shape {
@@ -76,7 +76,7 @@ pub(crate) fn in_memory(
 ) -> Result<SetWriter<MemoryTapes>, Fail> {
     let set_id = Field::of_bytes(*b"ABC001");
     let volumes = volumes(alloc, count)?;
-    Ok(SetWriter::new(alloc, set_id, volumes, capacity, MemoryTapes::new(alloc))?)
+    made(SetWriter::new(alloc, set_id, volumes, capacity, MemoryTapes::new(alloc)))
 }
 
 /// A writer of images in memory, on so many of the three volumes.
@@ -88,5 +88,12 @@ pub(crate) fn on_images(
     let set_id = Field::of_bytes(*b"ABC001");
     let volumes = volumes(alloc, count)?;
     let out = ImageTapes::new(MemoryImages::new(alloc, count)?);
-    Ok(SetWriter::new(alloc, set_id, volumes, capacity, out)?)
+    made(SetWriter::new(alloc, set_id, volumes, capacity, out))
+}
+
+/// The writer, which is not refused.
+fn made<T: TapeOut + Drop>(
+    writer: Result<SetWriter<T>, RefusedWriter<T>>,
+) -> Result<SetWriter<T>, Fail> {
+    Ok(writer.map_err(|refused| refused.fault)?)
 }

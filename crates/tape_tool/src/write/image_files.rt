@@ -52,6 +52,8 @@ impl<'a, R: Runtime + AllocGlobal> ImageStore for ImageFiles<'a, R> {
 
     ghost left = { λ files. 256 - files.lent };
 
+    ghost asked = { λ _ _. Unit {0} };
+
     fn left(&self) -> usize {
         usize::from(VOLUMES.saturating_sub(self.lent))
     }

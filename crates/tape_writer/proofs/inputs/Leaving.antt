@@ -6,8 +6,11 @@ use Rattle.std.specs.Prelude.{◌⊎◌, IfSome}
 use Rattle.std.proofs.lemmas.List.{drop_more, map-append}
 use Rattle.tape_image.specs.Reader.{IfKnown}
 use Rattle.tape_label.specs.declared.values.Head1.{Head1}
+use Rattle.tape_label.specs.declared.values.Vol1.{Vol1}
 use Rattle.tape_blocks.specs.declared.shape.Shape.{Shape}
 use Rattle.tape_writer.specs.declared.course.Opened.{Opened}
+use Rattle.tape_writer.specs.declared.phase.Phase.{Phase}
+use Rattle.tape_writer.specs.declared.phase.Phase.TheVariants.{Filing}
 use Rattle.tape_writer.specs.declared.fault.WriteFault.{WriteFault}
 use Rattle.tape_writer.specs.declared.fault.WriteFault.TheVariants as faults
 use Rattle.tape_writer.specs.declared.fault.SetFault.{SetFault}
@@ -15,20 +18,20 @@ use Rattle.tape_writer.specs.declared.fault.SetFault.TheVariants.{Write}
 use Rattle.tape_writer.specs.declared.inputs.records.InputFault.{InputFault}
 use Rattle.tape_writer.specs.declared.inputs.records.InputFault.TheVariants as inputs
 use Rattle.std.specs.List.{AllByRecursion}
-use Rattle.tape_writer.specs.WriteFaults.{told_as}
+use Rattle.tape_writer.specs.WriteFaults.{told_as, IsOfInput}
 use Rattle.tape_writer.proofs.Lists.{all_weaken}
 use Rattle.tape_writer.proofs.inputs.Refusing.{less_long}
 use Rattle.tape_writer.specs.Tapes.{Tapes}
 use Rattle.tape_writer.specs.Faults.{IsEnding}
 use Rattle.tape_writer.specs.Told.{Told, with_record}
-use Rattle.tape_writer.specs.State.{SetState, IsWriting, Leaves}
-use Rattle.tape_writer.specs.Refusals.{IsInFile}
-use Rattle.tape_writer.specs.Front.{IsLeftInside, IsLeftBehind}
+use Rattle.tape_writer.specs.State.{SetState, IsWriting, IfFiling, Leaves}
+use Rattle.tape_writer.specs.Refusals.{IsInFile, IsNewFault, IsBeginFault, IsFinishFault}
+use Rattle.tape_writer.specs.Front.{IsInLast, IsLeftInside, IsLeftBehind}
 use Rattle.tape_writer.specs.declared.inputs.cut.Cut.{Cut}
 use Rattle.tape_writer.specs.Records.{to_come, records_of, given, IsFirstLong}
 use Rattle.tape_writer.specs.ToldFiles.{with_records, with_file, told_files}
-use Rattle.tape_writer.specs.LeftOf.{IsLeftOf, IsLeftIn, IsLeftOfAll}
-use Rattle.tape_writer.proofs.Standing.{inside_writing}
+use Rattle.tape_writer.specs.LeftOf.{IsLeftOf, IsLeftIn, IsLeftOfAll, IsLeftUnbegun}
+use Rattle.tape_writer.proofs.Standing.{inside_writing, all_writing}
 use Rattle.tape_writer.proofs.inputs.Putting.{Put, PutWithin, known_one, known_then}
 use Rattle.tape_writer.proofs.inputs.Putting.{with_records-one}
 use Rattle.tape_writer.proofs.inputs.Filing.{Wrote}
@@ -66,15 +69,17 @@ known_left : {T : Type 0} (H : Tapes → Type 0) (w : SetState T) (G : Type 0) (
     → (fault ≡ Write faults.OutOfMemory → IfSome next (λ ys.
     G ⊎ AllByRecursion (λ r. IsFirstLong (length r) (to_come cut c ys)) rs))
     → IsLeftInside H w (with_records told rs)
+    → (IsOfInput fault → IsInLast H w.volumes w.capacity w.set_id (with_records told rs))
     → IfSome all (λ xs. IsLeftOf H w G fault told (to_come cut a xs))
-known_left H w G fault told cut a c rs None next k m left = tt
-known_left H w G fault told cut a c rs (Some xs) None k m left = absurd k
-known_left H w G fault told cut a c rs (Some xs) (Some ys) k m left = record {
+known_left H w G fault told cut a c rs None next k m left all = tt
+known_left H w G fault told cut a c rs (Some xs) None k m left all = absurd k
+known_left H w G fault told cut a c rs (Some xs) (Some ys) k m left all = record {
   front = rs;
   back = to_come cut c ys;
   split = k;
   memory = m;
   left = inl left;
+  all = all;
 }
 
 memory_told : (fault : InputFault) → told_as fault ≡ Write faults.OutOfMemory
@@ -98,6 +103,37 @@ read_left H w G fault told' n file cut here a b all left old p is e same m told 
     inr (all_weaken (λ r. length r ≤ n) _ (λ r le. less_long (length r) n _ le
     (subst (λ z. IsFirstLong n (to_come z b ys)) same l)) p.put.records p.within)))
     (inside_writing H w file (with_records told p.put.records) is (p.put.told told h))
+    (λ e. all_writing H w file (with_records told p.put.records) is (p.put.told told h))
+
+-- no fault that ends the writer is one of an input
+pub ending_other : (f : WriteFault) → IsEnding f → IsOfInput (Write f) → ⊥
+ending_other faults.RecordLength ends is = ends
+ending_other _ ends is = is
+
+pub of_writer : (f g : WriteFault) → Write f ≡ Write g → f ≡ g
+of_writer f g e = cc
+
+-- nor one for which a file is not begun
+pub begin_other : (capacity n : ℕ) (head : Head1) (shape : Shape) (f : WriteFault)
+    → IsBeginFault capacity n head shape f → IsOfInput (Write f) → ⊥
+begin_other capacity n head shape faults.RecordLength due is = due
+begin_other capacity n head shape _ due is = is
+
+-- nor one for which a set is not ended, or none is written
+pub finish_other : (n : ℕ) (f : WriteFault) → IsFinishFault n f → IsOfInput (Write f) → ⊥
+finish_other n faults.RecordLength due is = due
+finish_other n _ due is = is
+
+pub new_other : (set_id : List ℕ) (volumes : List Vol1) (f : WriteFault)
+    → IsNewFault set_id volumes f → IsOfInput (Write f) → ⊥
+new_other set_id volumes faults.RecordLength due is = due
+new_other set_id volumes _ due is = is
+
+-- a fault at a file's end ends the writer
+pub end_ends : (file : Opened) (phase : Phase) (f : WriteFault) → IsInFile file phase
+    → IfFiling phase (λ _. IsEnding f) → IsEnding f
+end_ends file (Filing o) f is ends = ends
+end_ends file _ f is ends = absurd is
 
 -- the next record was not put
 pub put_left : {T : Type 0} (H : T → Tapes → Type 0) (mid w : SetState T) (G : Type 0)
@@ -120,26 +156,30 @@ put_left H mid w G file cut a b c all left next old r f p is k leaves grew ends 
     (λ same writing. known_left (H w.out) w G (Write f) told cut a b p.records all left p.known
     (memory left p.records b)
     (inside_writing (H w.out) w file (with_records told p.records)
+    (subst (λ z. IsInFile file z.phase) (sym same) is) writing)
+    (λ i. all_writing (H w.out) w file (with_records told p.records)
     (subst (λ z. IsInFile file z.phase) (sym same) is) writing))
     (λ e. known_left (H w.out) w G (Write f) told cut a c (p.records ++ r ∷ []) all next
     (known_one cut a c r p.records all next
     (known_then cut a b c true r p.records all left next p.known k))
     (memory next (p.records ++ r ∷ []) c)
     (subst (IsLeftInside (H w.out) w) (sym (with_records-one told p.records r))
-    (ends (with_records told p.records) held e)))
+    (ends (with_records told p.records) held e))
+    (λ i. absurd (ending_other f e i)))
 
 -- ---- a file
 
 -- it was begun, and no record was told
 pub none_left : {T : Type 0} (H : Tapes → Type 0) (w : SetState T) (G : Type 0) (fault : SetFault)
     (told : List Told) (records : List (List ℕ)) → IsLeftInside H w told
-    → IsLeftOf H w G fault told records
-none_left H w G fault told records left = record {
+    → (IsOfInput fault → ⊥) → IsLeftOf H w G fault told records
+none_left H w G fault told records left other = record {
   front = [];
   back = records;
   split = refl;
   memory = λ e. inr tt;
   left = inl left;
+  all = λ e. absurd (other e);
 }
 
 -- the tapes were refused a growth in a part of the call
@@ -155,6 +195,7 @@ left_more H w G G' fault told records f l = record {
     | inr longer ↦ inr longer
   ];
   left = l.left;
+  all = l.all;
 }
 
 -- its records were not all put
@@ -162,7 +203,7 @@ pub file_left : {T : Type 0} (H : Tapes → Type 0) (w : SetState T) (G G' : Typ
     (fault : SetFault) (first told : List Told) (cut here : Cut) (over : Bool)
     (input all : Option (List ℕ)) → (G → G') → all ≡ input → here ≡ cut → over ≡ false
     → IfSome all (λ xs. IsLeftOf H w G fault told (to_come here over xs))
-    → IfSome input (λ bytes. IsLeftBehind H w first
+    → IfSome input (λ bytes. IsLeftUnbegun H w fault first
     ⊎ IsLeftOf H w G' fault told (records_of cut bytes))
 file_left H w G G' fault first told cut here over input all more a e f p =
     let one = subst (λ z. IfSome z (λ xs. IsLeftOf H w G fault told (to_come here over xs))) a p in
@@ -176,12 +217,12 @@ all_left : {T : Type 0} (H : Tapes → Type 0) (w : SetState T) (G : Type 0) (fa
     (told : List Told) (cut : Cut) (over : Bool) (all next : Option (List ℕ))
     (mid : List Told → Type 0)
     → IfKnown all next (λ xs ys. mid (with_records told (to_come cut over xs)))
-    → (fault ≡ Write faults.OutOfMemory → G)
+    → (IsOfInput fault → ⊥) → (fault ≡ Write faults.OutOfMemory → G)
     → ((t : List Told) → mid t → IsLeftInside H w t ⊎ IsLeftBehind H w t)
     → IfSome all (λ xs. IsLeftOf H w G fault told (to_come cut over xs))
-all_left H w G fault told cut over None next mid put grew left = tt
-all_left H w G fault told cut over (Some xs) None mid put grew left = absurd put
-all_left H w G fault told cut over (Some xs) (Some ys) mid put grew left = record {
+all_left H w G fault told cut over None next mid put other grew left = tt
+all_left H w G fault told cut over (Some xs) None mid put other grew left = absurd put
+all_left H w G fault told cut over (Some xs) (Some ys) mid put other grew left = record {
   front = to_come cut over xs;
   back = [];
   split = sym (append-nil (to_come cut over xs));
@@ -190,6 +231,7 @@ all_left H w G fault told cut over (Some xs) (Some ys) mid put grew left = recor
     | inl inside ↦ inl inside
     | inr ended ↦ inr (refl, ended)
   ];
+  all = λ e. absurd (other e);
 }
 
 -- all its records were put, and it was not ended
@@ -197,18 +239,18 @@ pub end_left : {T : Type 0} (H : Tapes → Type 0) (w : SetState T) (G : Type 0)
     (first told : List Told) (cut here : Cut) (over : Bool) (input all next : Option (List ℕ))
     (mid : List Told → Type 0) → all ≡ input → here ≡ cut → over ≡ false
     → IfKnown all next (λ xs ys. mid (with_records told (to_come here over xs)))
-    → (fault ≡ Write faults.OutOfMemory → G)
+    → (IsOfInput fault → ⊥) → (fault ≡ Write faults.OutOfMemory → G)
     → ((t : List Told) → mid t → IsLeftInside H w t ⊎ IsLeftBehind H w t)
-    → IfSome input (λ bytes. IsLeftBehind H w first
+    → IfSome input (λ bytes. IsLeftUnbegun H w fault first
     ⊎ IsLeftOf H w G fault told (records_of cut bytes))
-end_left H w G fault first told cut here over input all next mid a e f put grew left =
+end_left H w G fault first told cut here over input all next mid a e f put other grew left =
     file_left H w G G fault first told cut here over input all (λ g. g) a e f
-    (all_left H w G fault told here over all next mid put grew left)
+    (all_left H w G fault told here over all next mid put other grew left)
 
 behind_more : {T : Type 0} (H : Tapes → Type 0) (w : SetState T) (G G' : Type 0)
     (fault : SetFault) (first told : List Told) (records : List (List ℕ)) → (G → G')
-    → IsLeftBehind H w first ⊎ IsLeftOf H w G fault told records
-    → IsLeftBehind H w first ⊎ IsLeftOf H w G' fault told records
+    → IsLeftUnbegun H w fault first ⊎ IsLeftOf H w G fault told records
+    → IsLeftUnbegun H w fault first ⊎ IsLeftOf H w G' fault told records
 behind_more H w G G' fault first told records more (inl l) = inl l
 behind_more H w G G' fault first told records more (inr l) =
     inr (left_more H w G G' fault told records more l)
@@ -223,7 +265,7 @@ pub wrote_left : {T : Type 0} (H : Tapes → Type 0) (w : SetState T) (G G' : Ty
     → at < length now → x ≡ get_or now at d → Wrote X view set_id shape cut first now at old mid
     → here ≡ set_id → (G → G')
     → ((told : List Told) → mid told → IfSome (view x).1
-    (λ bytes. IsLeftBehind H w told
+    (λ bytes. IsLeftUnbegun H w fault told
     ⊎ IsLeftOf H w G fault (with_file here told (view x).0 shape) (records_of cut bytes)))
     → (told : List Told) → old told
     → IsLeftIn H w G' fault set_id told shape cut (map view first)
@@ -239,7 +281,7 @@ wrote_left H w G G' fault X view set_id shape cut first now at old mid here x d 
           ∙ map-append view wrote.done (x ∷ drop (at + 1) now);
       left = all_known (map view wrote.done) _ _ (wrote.told told held) (λ fs m.
           subst (λ s. IfSome (view x).1 (λ bytes.
-          IsLeftBehind H w (told ++ told_files set_id shape cut (length told + 1) fs)
+          IsLeftUnbegun H w fault (told ++ told_files set_id shape cut (length told + 1) fs)
           ⊎ IsLeftOf H w G' fault
           (with_file s (told ++ told_files set_id shape cut (length told + 1) fs) (view x).0 shape)
           (records_of cut bytes))) same (if_known (view x).1 _ _ (left _ m)
@@ -262,4 +304,5 @@ left_without H w G fault set_id told shape cut given none (inl l) = inl record {
   left = all_known l.before _ _ l.left (λ fs m. if_known l.input.1 _ _ m (λ bytes k.
       behind_more H w G ⊥ fault _ _ _ none k));
 }
-left_without H w G fault set_id told shape cut given none (inr l) = inr (λ e. none (l.0 e), l.1)
+left_without H w G fault set_id told shape cut given none (inr l) =
+    inr (λ e. none (l.0 e), l.1, l.2)

@@ -15,7 +15,7 @@ use Rattle.tape_blocks.specs.declared.form.Form.TheVariants as forms
 use Rattle.tape_writer.specs.declared.inputs.cut.Cut.{Cut}
 use Rattle.tape_writer.specs.declared.inputs.cut.Cut.TheVariants.{Lines, Length, Whole}
 use Rattle.tape_writer.specs.declared.inputs.records.InputFault.TheVariants.{TooLong, ReadFailed}
-use Rattle.tape_writer.specs.declared.inputs.records.InputFault.TheVariants.{OutOfMemory as NoMemory}
+use Rattle.tape_writer.specs.declared.inputs.records.InputFault.TheVariants as inputs
 use Rattle.tape_writer.specs.Records.{to_come, records_of, given, left_of, Adds}
 use Rattle.tape_writer.specs.Records.{IsFirstLong, last_record}
 use Rattle.tape_writer.specs.ToldFiles.{IfAllKnown, told_files}
@@ -106,7 +106,7 @@ line_gathered_to_its_end R L g d h κs a answer s l w = absurd (omega (arith, l.
 -- told that there was no memory
 memory_gives_out_with_room : (R : _) (L : _) (g : _) (d : _) (h : _) (κs : _) (a : _) (s : _)
     (xs : List ℕ) (r : List ℕ) (rs : List (List ℕ))
-    → next.Learnt-named R L g d h κs a (Err NoMemory) s → left_of g.remaining a.0.now ≡ Some xs
+    → next.Learnt-named R L g d h κs a (Err inputs.OutOfMemory) s → left_of g.remaining a.0.now ≡ Some xs
     → to_come a.0.now.cut a.0.now.over xs ≡ r ∷ rs → vec_capacity a.0.now.record ≡ length r → ⊥
 memory_gives_out_with_room R L g d h κs a s xs r rs l old e room =
     let first = IsFirstLong (vec_capacity a.0.now.record) in

@@ -1,24 +1,30 @@
 -- Refusals of sets and of files from inputs that their contracts exclude: each is answered without
 -- its cause, as a wrong body would.
 use Rattle.std.proofs.Common.{◌≡◌, ◌≢◌, inl, inr, ℕ, ◌≤◌, List, [], ◌∷◌, ◌++◌, length}
-use Rattle.std.proofs.Common.{refl, subst, arith}
+use Rattle.std.proofs.Common.{refl, sym, subst, arith}
 use Rattle.std.specs.Prelude.{Option, Some, None, Err, IfSome, Bool, false, map}
 use Rattle.std.specs.List.{AllByRecursion}
+use Rattle.tape_image.specs.Writer.{Writer}
+use Rattle.tape_image.specs.Writer as standings
 use Rattle.tape_label.specs.declared.values.Head1.{Head1}
 use Rattle.tape_blocks.specs.declared.shape.Shape.{Shape}
 use Rattle.tape_writer.specs.declared.course.Opened.{Opened}
 use Rattle.tape_writer.specs.declared.fault.WriteFault.TheVariants.{OutOfVolumes, Device}
-use Rattle.tape_writer.specs.declared.fault.SetFault.TheVariants.{Write}
+use Rattle.tape_writer.specs.declared.fault.SetFault.TheVariants.{Write, ReadFailed}
 use Rattle.tape_writer.specs.declared.inputs.cut.Cut.{Cut}
 use Rattle.tape_writer.specs.declared.inputs.set.SetPlan.{SetPlan}
 use Rattle.tape_writer.specs.Tapes.{Tapes, Rose}
-use Rattle.tape_writer.specs.Images.{Holds, IsUnderWay}
+use Rattle.tape_writer.specs.Images.{Holds, IsUnderWay, TakesNoMore, HasStopped}
 use Rattle.tape_writer.specs.Told.{Told, labelled}
 use Rattle.tape_writer.specs.Draft.{Draft, IsOpen, open_items}
 use Rattle.tape_writer.specs.State.{SetState, IsWriting}
 use Rattle.tape_writer.specs.ToldFiles.{IfAllKnown}
 use Rattle.tape_writer.specs.NoVolume.{GaveUpIn, GaveUpSet, HasNoVolume}
+use Rattle.tape_writer.specs.Fields.{IsTextHead}
+use Rattle.tape_writer.specs.LeftOf.{IsLeftOfAll, IsLeftSet}
+use Rattle.tape_writer.specs.WriteFaults.{IsOfInput}
 use Rattle.tape_writer.specs.WriteSet.{cut_of}
+use Rattle.tape_writer.proofs.MistakesOfFronts.{open_of}
 use Rattle.tape_writer.proofs.inputs.files.write_files.Reads as write_files
 use Rattle.tape_writer.proofs.inputs.set.write_set.Reads as write_set
 
@@ -127,3 +133,83 @@ files_counted_as_volumes R S D LR LS LD g d h e i f j k κs a refused s cut l is
     (subst (λ v. HasNoVolume (Holds h.holds)
     (λ t. (t.store ≡ refused.images) × (t.image ≡ v)) a.1.0 inputs) none (l.stuck new is))
     one cuts known
+
+-- ---- an input or the device fails
+
+-- an image that is written takes more, and there are devices
+takes_more : (left : ℕ) (image : Option Writer) (w : Writer) → HasStopped left image → left ≡ 3
+    → image ≡ Some w → w.standing ≡ standings.writing → w.size ≡ 1000 → ⊥
+takes_more left image w (inl none) three there is size = absurd (omega (arith, none, three))
+takes_more left image w (inr stopped) three there is size =
+    elim (subst TakesNoMore there stopped) [
+      | inl not ↦ absurd (not is)
+      | inr full ↦ absurd (omega (arith, full, size))
+    ]
+
+-- refusals_told_as_device: a set is refused as if the device had failed, and it has not, and there
+-- are more devices
+refusals_told_as_device : (R : _) (S : _) (D : _) (LR : _) (LS : _) (LD : _) (g : _) (d : _)
+    (h : _) (e : _) (i : _) (f : _) (j : _) (k : _) (κs : _) (a : _) (refused : _) (s : _)
+    (w : Writer)
+    → write_set.Learnt-named R S D LR LS LD g d h e i f j k κs a (Err refused) s
+    → refused.fault ≡ Write Device → h.left refused.images ≡ 3 → refused.under_way ≡ Some w
+    → w.standing ≡ standings.writing → w.size ≡ 1000 → ⊥
+refusals_told_as_device R S D LR LS LD g d h e i f j k κs a refused s w l is three there =
+    takes_more (h.left refused.images) refused.under_way w (l.device is) three there
+
+-- where an input failed an image is under way
+image_there : {S : Type 0} (H : S → Bool → List (List ℕ) → Type 0) (store : S) (plan : SetPlan)
+    (cut : Cut) (inputs : List (Head1 × Option (List ℕ)))
+    (l : IsLeftSet (Holds H) (λ t. (t.store ≡ store) × (t.image ≡ None)) ReadFailed plan cut inputs)
+    → IsLeftOfAll (Holds H l.writer.out) l.writer ⊥ ReadFailed plan.set_id [] plan.shape cut inputs
+    → AreKnown inputs → ⊥
+image_there H store plan cut inputs l (inr end) known = absurd (end.1 tt)
+image_there H store plan cut inputs l (inl k) known =
+    let left = known_there k.before k.after k.input _ (subst AreKnown k.split known) k.left in
+    elim left.2 [
+      | inl unbegun ↦ absurd (unbegun.0 tt)
+      | inr of ↦
+          let q = of.all tt in
+          let o = open_of (Holds H l.writer.out) l.writer.volumes l.writer.capacity
+          l.writer.set_id q.last.file q.course q.files q.last.records q.partly in
+          absurd (subst (IsUnderWay (open_items (map labelled l.writer.volumes) q.last.file q.course
+          o.0)) l.on_tapes.1 o.1.held.0)
+    ]
+
+-- reader_failed_before_a_file: a set of known inputs is refused as if one had failed, and no image
+-- is under way
+reader_failed_before_a_file : (R : _) (S : _) (D : _) (LR : _) (LS : _) (LD : _) (g : _) (d : _)
+    (h : _) (e : _) (i : _) (f : _) (j : _) (k : _) (κs : _) (a : _) (refused : _) (s : _)
+    (cut : Cut)
+    → write_set.Learnt-named R S D LR LS LD g d h e i f j k κs a (Err refused) s
+    → refused.fault ≡ ReadFailed → h.holds a.1.1.1.0 false []
+    → cut_of a.1.0.form a.1.0.shape ≡ Some cut
+    → AreKnown (map {B = Head1 × Option (List ℕ)} (λ v. (v.head, g.remaining v.reader))
+    a.1.1.0.now)
+    → refused.under_way ≡ None → ⊥
+reader_failed_before_a_file R S D LR LS LD g d h e i f j k κs a refused s cut l is new cuts known
+    none =
+    let inputs = map {B = Head1 × Option (List ℕ)} (λ v. (v.head, g.remaining v.reader))
+    a.1.1.0.now in
+    elim (l.front new) [
+      | inl nothing ↦ absurd (nothing.2 (subst IsOfInput (sym is) tt))
+      | inr left ↦
+          let k = subst (λ c. IfSome c (λ d. IsLeftSet (Holds h.holds)
+          (λ t. (t.store ≡ refused.images) × (t.image ≡ refused.under_way)) refused.fault a.1.0 d
+          inputs)) cuts left in
+          let m = subst (λ v. IsLeftSet (Holds h.holds)
+          (λ t. (t.store ≡ refused.images) × (t.image ≡ v)) refused.fault a.1.0 cut inputs) none k
+          in
+          let n = subst (λ v. IsLeftSet (Holds h.holds)
+          (λ t. (t.store ≡ refused.images) × (t.image ≡ None)) v a.1.0 cut inputs) is m in
+          image_there h.holds refused.images a.1.0 cut inputs n n.left known
+    ]
+
+-- head_judged_at_its_turn: a head can't be labelled, and an image is under way
+head_judged_at_its_turn : (R : _) (S : _) (D : _) (LR : _) (LS : _) (LD : _) (g : _) (d : _)
+    (h : _) (e : _) (i : _) (f : _) (j : _) (k : _) (κs : _) (a : _) (refused : _) (s : _)
+    → write_set.Learnt-named R S D LR LS LD g d h e i f j k κs a (Err refused) s
+    → (AllByRecursion (λ v. IsTextHead v.head) a.1.1.0.now → ⊥)
+    → (refused.under_way ≡ None → ⊥) → ⊥
+head_judged_at_its_turn R S D LR LS LD g d h e i f j k κs a refused s l bad begun =
+    begun (l.nothing (inr (λ t. bad t.2))).1

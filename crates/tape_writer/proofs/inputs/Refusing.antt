@@ -102,7 +102,8 @@ too_long most limit cut here over r ahead all device s lim is not g =
     (long_known most cut r ahead r all device s.consumed s.same
     (subst (λ z. GrowsLong z cut r ahead) lim (subst (λ z. GrowsLong limit z r ahead) is g)))
 
-pub less_long : (most n : ℕ) (rs : List (List ℕ)) → most ≤ n → IsFirstLong n rs → IsFirstLong most rs
+pub less_long : (most n : ℕ) (rs : List (List ℕ)) → most ≤ n → IsFirstLong n rs
+    → IsFirstLong most rs
 less_long most n [] le l = l
 less_long most n (r ∷ rs) le l = omega (arith, le, l)
 

@@ -13,8 +13,7 @@ ghost use Rattle.tape_writer.specs.declared.phase.Phase.TheVariants.{Between};
 ghost use Rattle.tape_writer.specs.Records.{records_of, to_come, left_of, longest as longest_of};
 ghost use Rattle.tape_writer.specs.ToldFiles.{with_records, with_file, told_files, IfAllKnown};
 ghost use Rattle.tape_writer.specs.NoVolume.{GaveUp, GaveUpIn};
-ghost use Rattle.tape_writer.specs.Front.{IsLeftBehind};
-ghost use Rattle.tape_writer.specs.LeftOf.{IsLeftOf, IsLeftIn};
+ghost use Rattle.tape_writer.specs.LeftOf.{IsLeftOf, IsLeftIn, IsLeftUnbegun};
 ghost use Rattle.tape_writer.specs.WriteFaults.{OneIsOther, IsInputFault, IsFileFault};
 ghost use Rattle.tape_writer.specs.WriteFaults.{IsFilesFault, told_as, StopsByDevice};
 
@@ -121,7 +120,7 @@ fn write_file<T: TapeOut + Drop, R: Read>(
     ensures front { writer.old.phase ≡ Between
         → (told : List Told) → IsWriting (T.holds writer.old.out) writer.old told
         → IfErr result (λ fault. IfSome (R.remaining input.old) (λ bytes.
-        IsLeftBehind (T.holds writer.new.out) writer.new told
+        IsLeftUnbegun (T.holds writer.new.out) writer.new fault told
         ⊎ IsLeftOf (T.holds writer.new.out) writer.new
         (Rose (T.failures writer.old.out).memory (T.failures writer.new.out).memory) fault
         (with_file writer.old.set_id told head shape) (records_of cut bytes))) }

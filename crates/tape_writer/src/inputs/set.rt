@@ -1,11 +1,11 @@
 //! A set written as images.
 ghost use Rattle.std.specs.Prelude.{◌≡◌, ◌≢◌, ◌<◌, ◌≤◌, ◌++◌, ◌+◌, [], List, length, map, None};
-ghost use Rattle.std.specs.Prelude.{◌⊎◌, IfOk, IfErr, IfSome, OnOk, false};
+ghost use Rattle.std.specs.Prelude.{◌⊎◌, ◌↔◌, IfOk, IfErr, IfSome, IsTrue, OnOk, false};
 ghost use Rattle.std.specs.List.{AllByRecursion};
 ghost use Rattle.tape_blocks.specs.Packing.{IsWritable};
 ghost use Rattle.tape_set.specs.Tight.{least_capacity};
-ghost use Rattle.tape_writer.specs.Fields.{IsText, IsTextVolume};
-ghost use Rattle.tape_writer.specs.Images.{Holds};
+ghost use Rattle.tape_writer.specs.Fields.{IsText, IsTextVolume, IsTextHead};
+ghost use Rattle.tape_writer.specs.Images.{Holds, HasStopped};
 ghost use Rattle.tape_writer.specs.Tapes.{Rose};
 ghost use Rattle.tape_writer.specs.Told.{Told};
 ghost use Rattle.tape_writer.specs.State.{IsWriting};
@@ -14,9 +14,10 @@ ghost use Rattle.tape_writer.specs.ToldFiles.{IfAllKnown, told_files};
 ghost use Rattle.tape_writer.specs.NoVolume.{GaveUpIn, HasNoVolume};
 ghost use Rattle.tape_writer.specs.LeftOf.{IsLeftOfAll, IsLeftSet};
 ghost use Rattle.tape_writer.specs.WriteSet.{IsSetOfImages, cut_of as cut_by};
-ghost use Rattle.tape_writer.specs.WriteFaults.{IsSetFault, IsWholeFault, StopsByDevice};
+ghost use Rattle.tape_writer.specs.WriteFaults.{IsSetFault, IsWholeFault, IsOfInput, StopsByDevice};
 
 use crate::fault::{SetFault, WriteFault};
+use crate::fields::is_text_head;
 use crate::images::ImageTapes;
 use crate::inputs::cut::Cut;
 use crate::inputs::files::{Input, write_files};
@@ -67,8 +68,8 @@ pub struct RefusedSet<S: ImageStore + Drop> {
 ///
 /// `Write` with what the set writer refuses (with `OutOfVolumes` where there is no volume, with
 /// `NoFile` where there is no file); with `BadShape` where raw inputs are no records of the format,
-/// before anything is written; with `RecordLength` as soon as a record has more bytes than any of
-/// the shape, and no more is read; with `Device` also where the store has no device left.
+/// and with `BadField` for any head, before anything is written; with `RecordLength` as soon as a
+/// record has more bytes than any of the shape, and no more is read; with `Device` also where the store has no device left.
 /// `ReadFailed` where an input fails. No other fault comes, and none but `Device`, `OutOfMemory`
 /// and `ReadFailed` without its cause in the plan or the inputs: `OutOfVolumes` only where what
 /// comes next of the inputs, or a file's end behind them, does not fit the last volume.
@@ -95,10 +96,11 @@ pub fn write_set<R: Read, S: ImageStore + Drop>(
         (λ tapes. (tapes.store ≡ refused.images) × (tapes.image ≡ refused.under_way)) plan
         (map (λ f. (f.head, R.remaining f.reader)) files.old)) }
     // Whatever the fault: nothing was written; or the images that were handed on are whole, and
-    // with the one under way a front of what is written of the files told so far, and no more. Want
-    // of memory comes only where a file is begun, or a record is longer than those before it.
+    // with the one under way a front of what is written of the files told so far, and no more; all
+    // of it where an input failed or a record has a wrong length. Want of memory comes only where a
+    // file is begun, or a record is longer than those before it.
     ensures front { S.holds images false [] → IfErr result (λ refused.
-        ((refused.images ≡ images) × (refused.under_way ≡ None))
+        ((refused.images ≡ images) × (refused.under_way ≡ None) × (IsOfInput refused.fault → ⊥))
         ⊎ IfSome (cut_by plan.form plan.shape) (λ cut. IsLeftSet (Holds S.holds)
         (λ tapes. (tapes.store ≡ refused.images) × (tapes.image ≡ refused.under_way))
         refused.fault plan cut (map (λ f. (f.head, R.remaining f.reader)) files.old))) }
@@ -106,11 +108,15 @@ pub fn write_set<R: Read, S: ImageStore + Drop>(
     ensures unfit { (IsWritable plan.shape → least_capacity plan.shape ≤ plan.capacity → ⊥)
         → 0 < length files.old
         → IfErr result (λ refused. (refused.images ≡ images) × (refused.under_way ≡ None)) }
+    // The device failed: the store has none left, or no image is under way that would take more.
+    ensures device { IfErr result (λ refused. refused.fault ≡ SetFault.Write WriteFault.Device
+        → HasStopped (S.left refused.images) refused.under_way) }
     ensures raw { OnOk result (cut_by plan.form plan.shape ≢ None) }
-    // Where raw inputs are no records of the format, or the set or its volumes can't be labelled,
-    // nothing was written.
+    // Where raw inputs are no records of the format, or the set, its volumes or a file can't be
+    // labelled, nothing was written.
     ensures nothing { (cut_by plan.form plan.shape ≡ None)
-        ⊎ (IsText plan.set_id × AllByRecursion IsTextVolume plan.volumes.items → ⊥)
+        ⊎ (IsText plan.set_id × AllByRecursion IsTextVolume plan.volumes.items
+        × AllByRecursion (λ f. IsTextHead f.head) files.old → ⊥)
         → IfErr result (λ refused. (refused.images ≡ images) × (refused.under_way ≡ None)) }
 {
     let SetPlan {
@@ -126,12 +132,27 @@ pub fn write_set<R: Read, S: ImageStore + Drop>(
     if let Err(fault) = judge_set(&set_id, &volumes) {
         return Err(refused(fault, images));
     }
+    if !are_text_heads(files) {
+        return Err(refused(WriteFault::BadField, images));
+    }
     let count = files.len();
     let mut writer = SetWriter::judged(alloc, set_id, volumes, capacity, ImageTapes::new(images));
     match write_whole(alloc, &mut writer, files, shape, cut) {
         Ok(()) => Ok(written(count, writer)),
         Err(fault) => Err(left(fault, writer)),
     }
+}
+
+/// Whether the fields of all heads are a-characters.
+fn are_text_heads<R>(files: &[Input<R>]) -> bool
+    ensures { IsTrue result ↔ AllByRecursion (λ f. IsTextHead f.head) files.now }
+{
+    for file in files {
+        if !is_text_head(&file.head) {
+            return false;
+        }
+    }
+    true
 }
 
 /// A refusal before anything is written.
@@ -152,6 +173,8 @@ fn left<S: ImageStore + Drop>(fault: SetFault, writer: SetWriter<ImageTapes<S>>)
     ensures fault { result.fault ≡ fault }
     ensures images { result.images ≡ writer.out.store }
     ensures under_way { result.under_way ≡ writer.out.image }
+    ensures stopped { 0 < writer.out.failed
+        → HasStopped (S.left result.images) result.under_way }
 {
     let (images, under_way) = writer.into_out().into_parts();
     RefusedSet {

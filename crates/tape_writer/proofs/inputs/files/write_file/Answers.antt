@@ -1,46 +1,40 @@
-use Rattle.std.proofs.Common.{◌≡◌, ◌+◌, ◌∙◌, length, ap, inl, inr, arith}
-use Rattle.tape_writer.specs.declared.fault.WriteFault.TheVariants.{OutOfVolumes}
+use Rattle.std.proofs.Common.{◌≡◌, ◌+◌, ◌∙◌, length, ap, inl, inr, arith, subst, sym}
+use Rattle.tape_writer.specs.declared.fault.WriteFault.TheVariants.{OutOfVolumes, OutOfMemory}
 use Rattle.std.proofs.lemmas.Result.{err_from_is_err_and}
-use Rattle.std.specs.Io.KnownBytes.{prepend_known}
-use Rattle.std.proofs.KnownBytes.{prepend_known-nil}
 use Rattle.tape_writer.specs.State.{IsWriting}
 use Rattle.tape_writer.specs.Told.{opened_by}
 use Rattle.tape_writer.proofs.Last.{rose_from}
-use Rattle.tape_writer.proofs.inputs.Putting.{file_told}
+use Rattle.tape_writer.proofs.inputs.Putting.{file_told, all_ahead}
 use Rattle.tape_writer.specs.ToldFiles.{with_file}
 use Rattle.tape_writer.proofs.inputs.Refusing.{input_fault, end_fault}
 use Rattle.tape_writer.proofs.inputs.Stopping.{file_out, end_out}
-use Rattle.std.proofs.Common.{subst, sym}
 use Rattle.std.specs.Prelude.{◌⊎◌}
 use Rattle.tape_writer.specs.Refusals.{IsInFile}
 use Rattle.tape_writer.specs.Front.{IsLeftInside, IsLeftBehind}
 use Rattle.tape_writer.proofs.Standing.{inside_writing, behind_writing}
 use Rattle.tape_writer.proofs.inputs.Leaving.{refused_left, none_left, if_any, file_left}
-use Rattle.tape_writer.proofs.inputs.Leaving.{end_left}
+use Rattle.tape_writer.proofs.inputs.Leaving.{end_left, begin_other, ending_other}
+use Rattle.tape_writer.proofs.inputs.Leaving.{end_ends, of_writer}
 use Rattle.tape_writer.proofs.inputs.files.write_file.Goals as goal
 
 pub returns-in-Ok-end_file-clause-told : goal.returns-in-Ok-end_file-clause-told
 returns-in-Ok-end_file-clause-told g c told held =
     let file = opened_by c.args.writer.now.set_id (length told + 1) c.args.head c.args.shape in
     let made = c.in-Ok.ensures in
-    let known = g.R.Read.remaining c.args.input.now in
     let begun = c.in_default.ensures.told told held in
     let put = c.in_ok-put_records.ensures.told _ begun in
-    file_told told file c.args.cut _ _ known _ _
+    file_told told file c.args.cut _ _ _ _ _
     (IsWriting (g.T.TapeOut.holds c.put_records.new.writer.out) c.put_records.new.writer)
     (IsWriting (g.T.TapeOut.holds c.end_file.new.self.out) c.end_file.new.self)
-    (ap (λ a. prepend_known a (g.R.Read.remaining c.in-Ok.records.device.now)) made.3
-    ∙ prepend_known-nil _ ∙ ap (λ d. g.R.Read.remaining d.now) made.0)
+    (all_ahead (λ d. g.R.Read.remaining d.now) _ _ _ made.3 made.0)
     made.1 made.2 put c.in-Ok-end_file.ensures.told
 
 pub returns-in_err-put_records-clause-due : goal.returns-in_err-put_records-clause-due
 returns-in_err-put_records-clause-due g c = λ _.
     let p = err_from_is_err_and c.from_residual.result c.from_residual.ensures.1 in
     let made = c.in-Ok.ensures in
-    let known = g.R.Read.remaining c.args.input.now in
-    rw (p.1, p.2) (inr (input_fault c.args.shape c.args.cut _ _ known _ _
-    (ap (λ a. prepend_known a (g.R.Read.remaining c.in-Ok.records.device.now)) made.3
-    ∙ prepend_known-nil _ ∙ ap (λ d. g.R.Read.remaining d.now) made.0)
+    rw (p.1, p.2) (inr (input_fault c.args.shape c.args.cut _ _ _ _ _
+    (all_ahead (λ d. g.R.Read.remaining d.now) _ _ _ made.3 made.0)
     made.1 made.2 (c.in_err-put_records.ensures.due _ c.in_default.ensures.opened
     (made.4 ∙ c.longest.ensures))))
 
@@ -54,24 +48,20 @@ pub returns-in_err-put_records-clause-stuck : goal.returns-in_err-put_records-cl
 returns-in_err-put_records-clause-stuck g c =
     let p = err_from_is_err_and c.from_residual.result c.from_residual.ensures.1 in
     let made = c.in-Ok.ensures in
-    let known = g.R.Read.remaining c.args.input.now in
     rw (p.1, p.2) (λ e told held.
     file_out (g.T.TapeOut.holds c.put_records.new.writer.out) c.put_records.new.writer
-    (with_file c.args.writer.now.set_id told c.args.head c.args.shape) c.args.cut _ _ known _
-    (ap (λ a. prepend_known a (g.R.Read.remaining c.in-Ok.records.device.now)) made.3
-    ∙ prepend_known-nil _ ∙ ap (λ d. g.R.Read.remaining d.now) made.0) made.1 made.2
+    (with_file c.args.writer.now.set_id told c.args.head c.args.shape) c.args.cut _ _ _ _
+    (all_ahead (λ d. g.R.Read.remaining d.now) _ _ _ made.3 made.0) made.1 made.2
     (c.in_err-put_records.ensures.stuck e _ (c.in_default.ensures.told told held)))
 
 pub returns-clause-stuck : goal.returns-clause-stuck
 returns-clause-stuck g c = λ e told held.
     let f : c.in-Err-end_file.fault ≡ OutOfVolumes = cc in
     let made = c.in-Ok.ensures in
-    let known = g.R.Read.remaining c.args.input.now in
     end_out (g.T.TapeOut.holds c.end_file.new.self.out) c.end_file.new.self
-    (with_file c.args.writer.now.set_id told c.args.head c.args.shape) c.args.cut _ _ known _ _
+    (with_file c.args.writer.now.set_id told c.args.head c.args.shape) c.args.cut _ _ _ _ _
     (IsWriting (g.T.TapeOut.holds c.put_records.new.writer.out) c.put_records.new.writer)
-    (ap (λ a. prepend_known a (g.R.Read.remaining c.in-Ok.records.device.now)) made.3
-    ∙ prepend_known-nil _ ∙ ap (λ d. g.R.Read.remaining d.now) made.0) made.1 made.2
+    (all_ahead (λ d. g.R.Read.remaining d.now) _ _ _ made.3 made.0) made.1 made.2
     (c.in_ok-put_records.ensures.told _ (c.in_default.ensures.told told held))
     (λ t h. c.in-Err-end_file.ensures.stuck t h f)
 
@@ -86,13 +76,17 @@ returns-in-Err-clause-front g c = λ between told held.
     if_any (g.R.Read.remaining c.args.input.now) _ (λ bytes.
     refused_left (λ out. g.T.TapeOut.holds out) c.args.writer.now c.begin_file.new.self
     c.in-Err.fault _ told c.in-Err.ensures.leaves held
-    (λ same writing. inl (behind_writing (g.T.TapeOut.holds c.begin_file.new.self.out)
-    c.begin_file.new.self told (ap (λ w. w.phase) same ∙ between) writing))
+    (λ same writing. inl (
+      begin_other _ _ _ _ c.in-Err.fault (c.in-Err.ensures.due between),
+      behind_writing (g.T.TapeOut.holds c.begin_file.new.self.out)
+          c.begin_file.new.self told (ap (λ w. w.phase) same ∙ between) writing,
+    ))
     (λ e. elim (c.in-Err.ensures.front told held e) [
-      | inl same ↦ inl same
+      | inl same ↦ inl (begin_other _ _ _ _ c.in-Err.fault (c.in-Err.ensures.due between), same)
       | inr begun ↦ inr (none_left (g.T.TapeOut.holds c.begin_file.new.self.out)
           c.begin_file.new.self _ _
-          (with_file c.args.writer.now.set_id told c.args.head c.args.shape) _ begun)
+          (with_file c.args.writer.now.set_id told c.args.head c.args.shape) _ begun
+          (begin_other _ _ _ _ c.in-Err.fault (c.in-Err.ensures.due between)))
     ]))
 
 pub returns-in_default-new-clause-front : goal.returns-in_default-new-clause-front
@@ -101,36 +95,35 @@ returns-in_default-new-clause-front g c = λ between told held.
     inr (none_left (g.T.TapeOut.holds c.begin_file.new.self.out) c.begin_file.new.self _ _
     (with_file c.args.writer.now.set_id told c.args.head c.args.shape) _
     (inside_writing (g.T.TapeOut.holds c.begin_file.new.self.out) c.begin_file.new.self _ _
-    c.in_default.ensures.opened (c.in_default.ensures.told told held))))
+    c.in_default.ensures.opened (c.in_default.ensures.told told held)) (λ i. i)))
 
 pub returns-in_err-put_records-clause-front : goal.returns-in_err-put_records-clause-front
 returns-in_err-put_records-clause-front g c =
     let p = err_from_is_err_and c.from_residual.result c.from_residual.ensures.1 in
     let made = c.in-Ok.ensures in
-    let known = g.R.Read.remaining c.args.input.now in
     rw (p.1, p.2) (λ between told held.
     file_left (g.T.TapeOut.holds c.put_records.new.writer.out) c.put_records.new.writer _ _ _ told
-    (with_file c.args.writer.now.set_id told c.args.head c.args.shape) c.args.cut _ _ known _
+    (with_file c.args.writer.now.set_id told c.args.head c.args.shape) c.args.cut _ _ _ _
     (λ grew. rose_from _ _ _ c.begin_file.ensures.lasting.count.1 grew)
-    (ap (λ a. prepend_known a (g.R.Read.remaining c.in-Ok.records.device.now)) made.3
-    ∙ prepend_known-nil _ ∙ ap (λ d. g.R.Read.remaining d.now) made.0) made.1 made.2
+    (all_ahead (λ d. g.R.Read.remaining d.now) _ _ _ made.3 made.0) made.1 made.2
     (c.in_err-put_records.ensures.front _ c.in_default.ensures.opened _
     (c.in_default.ensures.told told held)))
 
 pub returns-clause-front : goal.returns-clause-front
 returns-clause-front g c = λ between told held.
     let made = c.in-Ok.ensures in
-    let known = g.R.Read.remaining c.args.input.now in
     let H = g.T.TapeOut.holds c.end_file.new.self.out in
     end_left H c.end_file.new.self _ _ told
-    (with_file c.args.writer.now.set_id told c.args.head c.args.shape) c.args.cut _ _ known _ _
+    (with_file c.args.writer.now.set_id told c.args.head c.args.shape) c.args.cut _ _ _ _ _
     (IsWriting (g.T.TapeOut.holds c.put_records.new.writer.out) c.put_records.new.writer)
-    (ap (λ a. prepend_known a (g.R.Read.remaining c.in-Ok.records.device.now)) made.3
-    ∙ prepend_known-nil _ ∙ ap (λ d. g.R.Read.remaining d.now) made.0) made.1 made.2
+    (all_ahead (λ d. g.R.Read.remaining d.now) _ _ _ made.3 made.0) made.1 made.2
     (c.in_ok-put_records.ensures.told _ (c.in_default.ensures.told told held))
+    (ending_other c.in-Err-end_file.fault (end_ends _ c.put_records.new.writer.phase _
+    (c.in_ok-put_records.ensures.stays _ c.in_default.ensures.opened)
+    c.in-Err-end_file.ensures.due))
     (λ e. rose_from _ _ _
     (omega (arith, c.begin_file.ensures.lasting.count.1, c.put_records.ensures.count.1))
-    (c.in-Err-end_file.ensures.cause.1 cc))
+    (c.in-Err-end_file.ensures.cause.1 (of_writer c.in-Err-end_file.fault OutOfMemory e)))
     (λ t h. refused_left (λ out. g.T.TapeOut.holds out) c.put_records.new.writer
     c.end_file.new.self c.in-Err-end_file.fault
     (IsLeftInside H c.end_file.new.self t ⊎ IsLeftBehind H c.end_file.new.self t) t

@@ -1,4 +1,4 @@
-use Rattle.std.proofs.Common.{◌≡◌, ◌≤◌, [], ap, sym, subst, ◌∙◌, map, inr}
+use Rattle.std.proofs.Common.{◌≡◌, ◌≤◌, [], ap, sym, subst, ◌∙◌, map, inl, inr}
 use Rattle.tape_set.specs.Tight.{least_capacity}
 use Rattle.tape_writer.specs.Images.{Holds}
 use Rattle.tape_writer.specs.NoVolume.{GaveUpIn, GaveUpSet}
@@ -7,7 +7,9 @@ use Rattle.tape_writer.specs.LeftOf.{IsLeftOfAll, IsLeftSet}
 use Rattle.tape_writer.specs.WriteSet.{IsSetOfImages}
 use Rattle.tape_writer.proofs.inputs.Finished.{set_of_images, if_cut, all_known}
 use Rattle.tape_writer.proofs.inputs.Leaving.{left_without}
+use Rattle.tape_writer.specs.WriteFaults.{IsFaultOfCut, IsFilesFault}
 use Rattle.tape_writer.proofs.Last.{rose_none}
+use Rattle.tape_writer.proofs.inputs.Heads.{head_fault}
 use Rattle.tape_writer.proofs.inputs.set.write_set.Goals as goal
 
 pub returns-in-Ok-clause-written : goal.returns-in-Ok-clause-written
@@ -75,8 +77,8 @@ returns-in-Err-write_whole-clause-front g c fresh =
       set_id = c.write_whole.ensures.same.2 ∙ ap (λ w. w.set_id) made;
       left = subst (λ s. IsLeftOfAll (Holds H whole.out) whole ⊥ c.left.result.fault s []
           plan.shape c.in-Some.cut inputs) (ap (λ w. w.set_id) made)
-          (subst (λ f. IsLeftOfAll (Holds H whole.out) whole ⊥ f c.judged-writer.result.set_id [] plan.shape c.in-Some.cut
-          inputs) (sym c.left.ensures.fault)
+          (subst (λ f. IsLeftOfAll (Holds H whole.out) whole ⊥ f c.judged-writer.result.set_id []
+          plan.shape c.in-Some.cut inputs) (sym c.left.ensures.fault)
           (left_without (Holds H whole.out) whole _ _ _ [] plan.shape c.in-Some.cut inputs
           rose_none out));
     })
@@ -93,3 +95,14 @@ returns-in-Err-write_whole-clause-unfit g c unfit some =
       c.left.ensures.under_way ∙ (ap (λ w. w.out.image) kept
           ∙ (ap (λ w. w.out.image) made ∙ c.new.ensures.image)),
     )
+
+pub returns-then-not-are_text_heads-clause-due : goal.returns-then-not-are_text_heads-clause-due
+returns-then-not-are_text_heads-clause-due g c =
+    let plan = c.args.plan in
+    let inputs = map (λ f. (f.head, g.R.Read.remaining f.reader)) c.args.files.now in
+    let fault = c.refused-then-not-are_text_heads.ensures.fault in
+    subst (λ k. IsFaultOfCut plan inputs k c.refused-then-not-are_text_heads.result.fault)
+    (sym (sym c.cut_of.ensures ∙ c.in-Some.is))
+    (inr (inl (subst (IsFilesFault plan.capacity plan.shape c.in-Some.cut 0 inputs) (sym fault)
+    (head_fault _ (λ f. (f.head, g.R.Read.remaining f.reader)) plan.capacity plan.shape
+    c.in-Some.cut 0 c.args.files.now (λ all. cc (c.if-not-are_text_heads.ensures.1 all))))))

@@ -2,7 +2,7 @@ use Rattle.std.proofs.Common.{map, inl, inr, ap, ◌∙◌}
 use Rattle.tape_writer.proofs.Last.{rose_from}
 use Rattle.tape_writer.proofs.Standing.{behind_writing}
 use Rattle.std.proofs.lemmas.Result.{err_from_is_err_and}
-use Rattle.tape_writer.proofs.inputs.Leaving.{refused_left}
+use Rattle.tape_writer.proofs.inputs.Leaving.{refused_left, finish_other}
 use Rattle.tape_writer.proofs.inputs.Finished.{all_known}
 use Rattle.tape_writer.proofs.inputs.set.write_whole.Goals as goal
 
@@ -21,6 +21,8 @@ pub returns-in-Err-clause-front : goal.returns-in-Err-clause-front
 returns-in-Err-clause-front g c = λ between told held.
     inr (
       λ e. rose_from _ _ _ c.in_ok-write_files.ensures.count.1 (c.in-Err.ensures.cause.1 cc),
+      finish_other _ c.in-Err.fault
+          (c.in-Err.ensures.due (c.in_ok-write_files.ensures.stands between).0),
       all_known (map (λ f. (f.head, g.R.Read.remaining f.reader)) c.args.files.now) _ _
           (c.in_ok-write_files.ensures.told told held) (λ fs w.
           refused_left (λ out. g.T.TapeOut.holds out) c.write_files.new.writer c.finish.new.self

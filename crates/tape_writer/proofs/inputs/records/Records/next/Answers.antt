@@ -17,8 +17,8 @@ pieces-preserved g c =
       within = search rules;
       room = omega (arith, c.pieces.invariant.room, c.in_ok-ended.ensures.room.0);
       fits = c.in_ok-ended.ensures.room.1;
-      so_far = piece_more _ c.pieces.self.cut _ _ _ _ c.take_piece.new.held.items taken.0 c.in_ok-ended.ended
-          (read_ahead _ _ _ _ _ c.pieces.invariant.so_far c.fill.ensures.bytes)
+      so_far = piece_more _ c.pieces.self.cut _ _ _ _ c.take_piece.new.held.items taken.0
+          c.in_ok-ended.ended (read_ahead _ _ _ _ _ c.pieces.invariant.so_far c.fill.ensures.bytes)
           (used _ _ _ taken.0 taken.1) c.pieces.invariant.cut c.if-ended.false (taken.2, taken.3);
     }
 
