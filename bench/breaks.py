@@ -54,8 +54,8 @@ from edits import SHAPE, TOP, copy_tree, text_of, write
 REFUSED = re.compile(r"(?:\./)?(\S+?):(\d+):\d+: (?:error: |note: (?=it is not proved))(.*)")
 OF_CASES = re.compile(r"specs/(Cases|\w*Examples)|proofs/(\w*Examples|Case|laws/cases/|\w+_laws/)")
 CASES = "laws::cases"
-UNCHECKED = re.compile(r"was not checked")
-FIELD = re.compile(r"  (\w+) = |(?:pub )?([\w-]+) :")
+UNCHECKED = re.compile(r"w(?:as|ere) not checked")
+FIELD = re.compile(r"  (\w+) =(?: |$)|(?:pub )?([\w-]+) :")
 HEAD = re.compile(r"(?m)^ *(?:pub )?(?:abbrev|unfoldable|record|data) (?:pub )?([\w']+)")
 WORD = re.compile(r"[\w']+")
 LINES = ("break", "misleads", "seen by", "call", "changes nothing", "file", "in", "old", "new")
@@ -207,11 +207,13 @@ def definition_at(crate, file, line):
         iter(HEAD.findall("\n".join(lines[first:line]))), "")
 
 
-def judged(one, said):
-    """What noticed a break: the word, the case, the place and why."""
+def judged(one, said, alone):
+    """What noticed a break: the word, the case, the place and why. In a group only a line of its
+    own definition says that it does not read."""
     whole = [it for it in said if not SHAPE.search(it[2])]
     files = {file for file, _, _, _ in one.pairs if file.startswith("specs/")}
-    unread = [it for it in said if it[1].partition(":")[0] in files and it[3] != ""]
+    unread = [it for it in said if it[1].partition(":")[0] in files and it[3] != ""
+              and (alone or it[3] in one.names())]
     of_cases = [it for it in whole if OF_CASES.match(it[1])]
     its = [it for it in of_cases if it[0] in one.cases
            or any(it[2].startswith(f"`{case}`") for case in one.cases)]
@@ -228,11 +230,11 @@ def try_group(crate, group, whole):
     words, call = [], None if whole else group[0].call
     while group:
         said = refused(crate, group, call)
-        its = {one: judged(one, said) for one in group}
+        its = {one: judged(one, said, len(group) == 1) for one in group}
         seen = [one for one in group if its[one][0] in ("by its case", "DOES NOT READ")]
         if not seen:
             seen, said = group[:1], said if len(group) == 1 else refused(crate, group[:1], call)
-            its = {one: judged(one, said) for one in seen}
+            its = {one: judged(one, said, True) for one in seen}
         for one in seen:
             words.append(its[one][0])
             print(f"{os.path.basename(crate)}/{one.name}: {': '.join(its[one])[:200]}", flush=True)
