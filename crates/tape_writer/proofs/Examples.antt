@@ -1,6 +1,8 @@
 -- The cases of tapes, of what a writer was told and of its refusals.
 use Rattle.std.proofs.Common.{◌≡◌, ℕ, List, [], refl, sym, ap, ◌∙◌, arith, subst, inl, inr, Some}
+use Rattle.std.proofs.Common.{◌≤◌, ◌⊎◌}
 use Rattle.tape_image.specs.Writer.{Writer, writing, broken}
+use Rattle.tape_blocks.specs.Packing.{HasRecordLength}
 use Rattle.tape_blocks.specs.Spans.{Joined}
 use Rattle.tape_writer.specs.Images.{TakesNoMore}
 use Rattle.tape_writer.specs.State.{SetState, IsWriting, Stands}
@@ -54,6 +56,7 @@ cases_of_images = record {
   has_failed = λ w is. inl (λ e. (let f : broken ≡ writing = sym is ∙ e in cc));
   is_full = λ w full. inr (omega (arith, full));
   stopped = λ left image h. h;
+  of_the_writer = λ t v h. (h.0, h.1.held);
   room_for_the_lent = λ h. absurd (omega (arith, h.1));
   kept_as_handed = λ kept images h. h.0;
 }
@@ -82,6 +85,11 @@ failed_tells_nothing tapes w told failed told_so = subst
     (λ phase. Stands (λ t. t ≡ tapes) w.volumes w.capacity w.set_id w.course phase told) failed
     told_so.stands
 
+-- 99 is a small letter
+is_small : ((65 ≤ 99) × (99 ≤ 90)) ⊎ ((48 ≤ 99) × (99 ≤ 57)) → ⊥
+is_small (inl h) = absurd (omega (arith, h.1))
+is_small (inr h) = absurd (omega (arith, h.1))
+
 pub cases_of_refusals : CasesOfRefusals
 cases_of_refusals = record {
   new_field = λ id volumes h text texts. h (text, texts);
@@ -100,6 +108,22 @@ cases_of_refusals = record {
   ends_for_good = λ old new. (λ h. h, λ h. h, λ h. h);
   else_the_same = λ old new. (λ h. h, λ h. h, λ h. h);
   does_not_end = (λ h. h, λ h. h);
+  refuses = λ old new result h. h;
+  of_the_open = λ o u h. h;
+  of_no_other = tt;
+  has_length = λ o fixed h. subst (λ f. HasRecordLength f o.file.shape.rec_len 0) fixed h;
+  a_text = refl;
+  no_text = λ h. absurd (cc h);
+  three = λ h. absurd (omega (arith, h.0));
+  no_small = λ h. is_small h.1.1.1.0;
+  a_prefix = (
+    refl,
+    (
+      inl (omega arith, omega arith),
+      (inr (omega arith, omega arith), (inl (omega arith, omega arith), tt)),
+    ),
+  );
+  keeps_files = λ tapes w told h. h.kept;
   failed_tells_nothing = failed_tells_nothing;
   none_under_way = λ file. (λ h. h, λ h. h, λ h. h);
   out_of_volumes = λ H w told o. (o.is_told, o.filed, o.stuck);

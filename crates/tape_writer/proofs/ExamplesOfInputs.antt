@@ -1,6 +1,7 @@
 -- The cases of sets written from inputs.
 use Rattle.std.proofs.Common.{◌≡◌, ◌⊎◌, ℕ, List, [], ◌∷◌, ◌++◌, length, Option, Some, IfSome}
-use Rattle.std.proofs.Common.{refl, inl, inr, subst, arith}
+use Rattle.std.proofs.Common.{refl, inl, inr, subst, arith, ap}
+use Rattle.std.specs.Io.KnownBytes.{prepend_known}
 use Rattle.tape_label.specs.declared.values.Head1.{Head1}
 use Rattle.tape_blocks.specs.declared.shape.Shape.{Shape}
 use Rattle.tape_blocks.specs.Packing.{HasRecordLength}
@@ -53,6 +54,7 @@ cases_of_inputs = record {
   over = λ cut bytes. refl;
   not_over = λ cut bytes. refl;
   given_first = λ r rs. (refl, refl);
+  ahead_first = λ r e. ap (λ a. prepend_known a (Some (66 ∷ []))) e;
   more_of_it = λ cut old bytes new more h. h more;
   ends_it = λ cut old bytes new more h. h more;
   told_in_order = λ id shape cut h k a b. refl;

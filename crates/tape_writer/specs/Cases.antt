@@ -1,7 +1,7 @@
 -- What the definitions of tapes, of what a writer was told and of its refusals say of cases, so
 -- that none of them says less than it should. The call `laws::cases` has them as its contract.
 use Rattle.std.specs.Prelude.{◌≡◌, ◌≢◌, ◌≤◌, ◌+◌, ℕ, List, [], ◌∷◌, ◌++◌, length, map, take, Ok}
-use Rattle.std.specs.Prelude.{Err, Option, Some, None, true, false, ◌⊎◌}
+use Rattle.std.specs.Prelude.{Err, Option, Some, None, true, false, ◌⊎◌, Result, codes}
 use Rattle.std.specs.List.{AllByRecursion}
 use Rattle.byteorder.specs.Endian.{little_bytes}
 use Rattle.tape_image.specs.Tape.{TapeItem, bad, mark}
@@ -9,6 +9,7 @@ use Rattle.tape_image.specs.Word.{end_word}
 use Rattle.tape_image.specs.Written.{written}
 use Rattle.tape_image.specs.Spelling.{Leads, Spells}
 use Rattle.tape_image.specs.Writer.{Writer, writing, finished, broken}
+use Rattle.tape_label.specs.declared.values.Format.TheVariants.{Fixed}
 use Rattle.tape_label.specs.declared.values.Head1.{Head1}
 use Rattle.tape_label.specs.declared.values.Kind.TheVariants as kinds
 use Rattle.tape_label.specs.declared.values.Vol1.{Vol1}
@@ -25,14 +26,16 @@ use Rattle.tape_set.specs.Tight.{IsTight, IsTightFile, least_capacity, takes_nex
 use Rattle.tape_writer.specs.declared.course.Course.{Course}
 use Rattle.tape_writer.specs.declared.course.Opened.{Opened}
 use Rattle.tape_writer.specs.declared.fault.OutFault.TheVariants as out
+use Rattle.tape_writer.specs.declared.fault.WriteFault.{WriteFault}
 use Rattle.tape_writer.specs.declared.fault.WriteFault.TheVariants as faults
 use Rattle.tape_writer.specs.declared.phase.OpenFile.{OpenFile}
 use Rattle.tape_writer.specs.declared.phase.Phase.TheVariants as phases
+use Rattle.tape_writer.specs.Blank.{IsPrefix}
 use Rattle.tape_writer.specs.Draft.{open_blocks}
 use Rattle.tape_writer.specs.Faults.{FailsByDevice, FailsWith, IsEnding}
 use Rattle.tape_writer.specs.Fields.{IsText, IsTextVolume, IsTextHead}
 use Rattle.tape_writer.specs.Images.{IsImageOf, IsImageSoFar, AreImagesOf, HandedOn, AreImages}
-use Rattle.tape_writer.specs.Images.{TakesNoMore, HasStopped}
+use Rattle.tape_writer.specs.Images.{TakesNoMore, HasStopped, Images, Holds}
 use Rattle.tape_writer.specs.Kept.{HoldsImages}
 use Rattle.tape_writer.specs.Inside.{Continues, IsStuck}
 use Rattle.tape_writer.specs.Labels.{first_label, second_label, trailer_label, second_kind}
@@ -40,6 +43,7 @@ use Rattle.tape_writer.specs.Lasting.{Lasts, Lasting}
 use Rattle.tape_writer.specs.Refusals.{IsNewFault, IsBeginFault, IsPutFault, IsFinishFault}
 use Rattle.tape_writer.specs.Refusals.{IsInFile}
 use Rattle.tape_writer.specs.State.{SetState, IsWriting, IsOutOfVolumes, Leaves, HasLength}
+use Rattle.tape_writer.specs.State.{Refuses, IfFiling}
 use Rattle.tape_writer.specs.Tapes.{Tapes, Ended, UnderWay, all_volumes, volume_at}
 use Rattle.tape_writer.specs.Tapes.{Takes, Changes, Closes, Keeps, Rose}
 use Rattle.tape_writer.specs.Tapes.{Failures, Grows, HasCause, WasAsked}
@@ -134,6 +138,9 @@ pub record CasesOfImages : Type 0 where
   -- and a call of its tapes fails only where it does not, or where no device is left
   pub stopped : (left : ℕ) (image : Option Writer) → HasStopped left image
       → (left ≡ 0) ⊎ TakesNoMore image
+  -- a writer of images has its own, and what its store holds
+  pub of_the_writer : (t : Images ℕ) (v : List (List TapeItem))
+      → Holds (λ n lent images. n ≡ 7) t (Ended v) → (t.image ≡ None) × (t.store ≡ 7)
   -- in memory there is room for the one that is lent, too
   pub room_for_the_lent : HoldsImages [] 2 2 true [] → ⊥
   pub kept_as_handed : (kept images : List (List ℕ)) → HoldsImages kept 5 1 false images
@@ -220,6 +227,25 @@ pub record CasesOfRefusals : Type 0 where
       × (Leaves old new faults.NoFile → new ≡ old)
       × (Leaves old new faults.BadField → new ≡ old)
   pub does_not_end : (IsEnding faults.RecordLength → ⊥) × (IsEnding faults.NoFile → ⊥)
+  -- a call that is refused tells the fault, and changes nothing
+  pub refuses : (old new : SetState ℕ) (result : Result (Unit {0}) WriteFault)
+      → Refuses old result new faults.NoFile → (result ≡ Err faults.NoFile) × (new ≡ old)
+  -- what is said of the file that is open is said of it, and of none between two,
+  pub of_the_open : (o u : OpenFile) → IfFiling (phases.Filing o) (λ f. f ≡ u) → o ≡ u
+  pub of_no_other : IfFiling phases.Between (λ f. ⊥)
+  -- and a record has a length of its shape
+  pub has_length : (o : OpenFile) → o.file.shape.format ≡ Fixed → HasLength o []
+      → 0 ≡ o.file.shape.rec_len
+  -- small letters are written in no field; a volume's identifiers begin with three capital letters
+  -- or digits
+  pub a_text : IsText (codes "AB 12")
+  pub no_text : IsText (codes "ABc") → ⊥
+  pub three : IsPrefix (codes "A1") → ⊥
+  pub no_small : IsPrefix (codes "ABc") → ⊥
+  pub a_prefix : IsPrefix (codes "A0Z")
+  -- a writer keeps the files that it was told
+  pub keeps_files : (tapes : Tapes) (w : SetState ℕ) (told : List Told)
+      → IsWriting (λ t. t ≡ tapes) w told → w.files ≡ map (λ t. t.file) told
   -- of a writer that failed nothing is told any more, and between files none is under way
   pub failed_tells_nothing : (tapes : Tapes) (w : SetState ℕ) (told : List Told)
       → w.phase ≡ phases.Failed → IsWriting (λ t. t ≡ tapes) w told → ⊥

@@ -14,9 +14,10 @@ use Rattle.tape_writer.specs.declared.fault.WriteFault.TheVariants as faults
 use Rattle.tape_writer.specs.declared.inputs.cut.Cut.{Cut}
 use Rattle.tape_writer.specs.declared.inputs.cut.Cut.TheVariants.{Lines, Length, Whole}
 use Rattle.tape_writer.specs.declared.inputs.records.InputFault.TheVariants as inputs
+use Rattle.tape_writer.specs.declared.inputs.records.Records.{Records}
 use Rattle.tape_writer.specs.declared.inputs.set.SetPlan.{SetPlan}
 use Rattle.tape_writer.specs.Records.{records_of, records_from, longest_by, longest}
-use Rattle.tape_writer.specs.Records.{IsFirstLong, GrowsLong, Adds, given, to_come}
+use Rattle.tape_writer.specs.Records.{IsFirstLong, GrowsLong, Adds, given, to_come, left_of}
 use Rattle.tape_writer.specs.Refusals.{IsNewFault}
 use Rattle.tape_writer.specs.State.{SetState, IsOutOfVolumes}
 use Rattle.tape_writer.specs.Tapes.{Tapes, Ended}
@@ -63,6 +64,9 @@ pub record CasesOfInputs : Type 0 where
   pub not_over : (cut : Cut) (bytes : List ℕ) → to_come cut false bytes ≡ records_of cut bytes
   pub given_first : (r : List ℕ) (rs : List (List ℕ)) → (given true r rs ≡ r ∷ rs)
       × (given false r rs ≡ rs)
+  -- what was read ahead is to come, and before what the reader has
+  pub ahead_first : (r : Records ℕ) → r.ahead ≡ 65 ∷ []
+      → left_of (λ n. Some (66 ∷ [])) r ≡ Some (65 ∷ 66 ∷ [])
   -- bytes are more of a record, or end it, whatever stands behind them
   pub more_of_it : (cut : Cut) (old bytes new more : List ℕ) → Adds cut old bytes new false
       → records_from cut old (bytes ++ more) ≡ records_from cut new more
