@@ -10,8 +10,10 @@ use Rattle.tape_stage.specs.declared.stage.Stage.{Stage}
 use Rattle.tape_stage.specs.Reads.{StageGave}
 use Rattle.tape_stage.specs.Stages.{IsAhead}
 use Rattle.tape_stage.specs.Body.{body_text}
+use Rattle.tape_stage.specs.Calls.{IsImage, WasImage, kept_or}
 use Rattle.tape_stage.specs.Disk.{Torn}
 use Rattle.tape_stage.specs.Frames.{NoFrameAt}
+use Rattle.tape_stage.specs.Memory.{first_of}
 use Rattle.tape_stage.specs.Staged.{HoldsNone}
 use Rattle.tape_stage.specs.Cases.{CasesOfCrashes, CasesOfMoments, CasesOfFiles, CasesOfStages}
 use Rattle.tape_stage.specs.Cases.{CasesOfFaults}
@@ -70,6 +72,10 @@ cases_of_crashes = record {
   );
   since_it_was_synced = λ e. absurd (cc e);
   worst_in_memory = refl;
+  left_in_memory = λ d c none. subst (λ calls. IsImage (first_of d.content) calls c) none;
+  left_since_then = λ d c none. subst (λ calls. WasImage (first_of d.content) calls 0 c) none;
+  began_with = λ d same. ap
+      (λ changed. kept_or changed d.content.first.items d.content.bytes.items) same;
 }
 
 not_invented : ⊥ ⊎ ⊥ → ⊥

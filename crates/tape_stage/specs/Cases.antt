@@ -19,6 +19,7 @@ use Rattle.tape_stage.specs.Body.{body_text, point_text}
 use Rattle.tape_stage.specs.Calls.{IsImage, WasImage, worst_by}
 use Rattle.tape_stage.specs.declared.disk.Disk.{Ghosts}
 use Rattle.tape_stage.specs.declared.found.Found.{Found}
+use Rattle.tape_stage.specs.declared.memory.MemoryDisk.{MemoryDisk}
 use Rattle.tape_stage.specs.declared.part_reader.PartReader.{PartReader}
 use Rattle.tape_stage.specs.declared.stage.Stage.{Stage}
 use Rattle.tape_stage.specs.declared.stage.StageFault.TheVariants.{NoPoint, BadFrame, Device}
@@ -29,6 +30,7 @@ use Rattle.tape_stage.specs.Faults.{SaysNone, IsNotDevice, OnBadFrame, sink_faul
 use Rattle.tape_stage.specs.Found.{IsBadPlace, IsFound}
 use Rattle.tape_stage.specs.Frames.{AheadIn, IsFrameAt, NoFrameAt}
 use Rattle.tape_stage.specs.Holding.{with_held, LeftTorn, LeftSince}
+use Rattle.tape_stage.specs.Memory.{memory_leaves, memory_left, memory_bytes, first_of}
 use Rattle.tape_stage.specs.Moments.{Passes, Untouched}
 use Rattle.tape_stage.specs.OnlyReading.{OnlyReads}
 use Rattle.tape_stage.specs.Parts.{IsFront, AllShort, frames}
@@ -89,6 +91,14 @@ pub record CasesOfCrashes : Type 0 where
   pub since_it_was_synced : WasImage (1 ∷ 2 ∷ []) (Cut 1 ∷ Sync ∷ []) 2 (1 ∷ 2 ∷ []) → ⊥
   -- and the worst has 255 where a byte is open
   pub worst_in_memory : worst_by (1 ∷ 2 ∷ []) (1 ∷ 2 ∷ []) (Cut 1 ∷ []) ≡ 1 ∷ 255 ∷ []
+  -- of one without a call a crash leaves the bytes that it began with, now and since then, and
+  -- these are there while nothing changes them
+  pub left_in_memory : (d : MemoryDisk) (c : List ℕ) → d.content.calls.items ≡ []
+      → memory_leaves d c → c ≡ first_of d.content
+  pub left_since_then : (d : MemoryDisk) (c : List ℕ) → d.content.calls.items ≡ []
+      → memory_left d 0 c → c ≡ first_of d.content
+  pub began_with : (d : MemoryDisk) → d.content.changed ≡ false
+      → first_of d.content ≡ memory_bytes d
 
 -- what a crash may have left at some moment
 pub record CasesOfMoments : Type 0 where
