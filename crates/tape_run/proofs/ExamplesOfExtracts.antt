@@ -182,5 +182,8 @@ cases_of_outputs = record {
   sink_takes = λ s parts t. (t.weighs, t.counted, t.begins);
   taken_text = λ form out weight records begun failed parts t. (t.begins, t.text);
   text = text;
+  tells = λ w. refl;
+  tells_nothing = λ tells. absurd (let e = tells [] in cc e);
+  refused = λ s. refl;
   ended = (refl, refl);
 }

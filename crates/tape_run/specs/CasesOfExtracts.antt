@@ -20,7 +20,7 @@ use Rattle.tape_core.specs.declared.answer.Reason.TheVariants.{BlockCount, Broke
 use Rattle.tape_core.specs.Place.{IsPlaced, rest_of}
 use Rattle.tape_core.specs.State.{State}
 use Rattle.tape_run.specs.Extracting.{IsWritten, Ends, Extracts, Stops}
-use Rattle.tape_run.specs.ExtractingNow.{IsPut, EndsNow, ExtractsNow, StopsNow, Takes}
+use Rattle.tape_run.specs.ExtractingNow.{IsPut, EndsNow, ExtractsNow, StopsNow, Takes, refused_by}
 use Rattle.tape_run.specs.Lead.{Lead, over_reel}
 use Rattle.tape_run.specs.Mount.{Happening, IsMountOf, foreign_reel, after_mount}
 use Rattle.tape_run.specs.Output.{AppendsFront}
@@ -263,4 +263,8 @@ pub record CasesOfOutputs : Type 0 where
       → (s.weight ≡ weight_of parts) × (s.records ≡ length (join parts).records)
       × (s.begun ≡ is_some (join parts).rest)
   pub text : (known : List ℕ) → IsText false (7 ∷ []) (Some known) → known ≡ 7 ∷ []
+  -- a writer that is its bytes tells them always, and one whose bytes are never known does not
+  pub tells : TellsAlways (λ (w : List ℕ). Some w)
+  pub tells_nothing : TellsAlways {W = List ℕ} (λ w. None) → ⊥
+  pub refused : (s : OutSink Known) → refused_by s ≡ s.refused
   pub ended : (with_end true 3 ≡ 3) × (with_end false 3 ≡ 4)
