@@ -251,16 +251,16 @@ as 'tape extract ABC001 1 payroll.txt *.tap'";
 
 /// Help behind the words of `extract`.
 pub const AFTER_EXTRACT: &str = "Examples:
-  tape extract ABC001 1 payroll.txt *.tap
-  find . -name '*.tap' | tape extract ABC001 1 payroll.txt --from -
+  tape extract ABC001 1 payroll.txt *.tap --again
+  find . -name '*.tap' | tape extract ABC001 1 payroll.txt --from - --again
 
 LIST has any number of names, which come behind the IMAGEs. Empty lines are
 passed over. An image is opened when it is read, one at a time.
 
 SET and FILE are the set identifier and the sequence number of HDR1: 'tape list reel.tap' shows
-them. Name all images at hand, in any order, damaged copies and second readings too: reels of other
-sets do no harm. Each is read up to what it has to give, and those behind the one that completes
-the file are not read. A line for each:
+them. Name all images at hand, with --again in any order, damaged copies and second readings too:
+reels of other sets do no harm. Each is read up to what it has to give, and those behind the one
+that completes the file are not read. A line for each:
   REEL n COMPLETE                 the file is complete
   REEL n SECTION DONE             a section is whole, and the file goes on on another reel
   REEL n NOT OPENED               is the name right, may you read it?
