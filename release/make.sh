@@ -106,7 +106,7 @@ papers() {
     for it in CHANGELOG.md CONTRIBUTING.md; do
         [ ! -f "$it" ] || cp "$it" "$1/"
     done
-    cp docs/*.md "$1/docs/"
+    cp docs/*.md docs/page.html "$1/docs/"
     cp crates/tape_tool/stdin "$1/examples/reel.tap"
 }
 
