@@ -100,9 +100,11 @@ pub name_at : {X : Type 0} (f : X → List ℕ) (xs : List X) (i : ℕ) (d : X) 
 name_at f xs i d within = sym (get_or-map f xs i d [] within)
 
 -- the line of one more image
-pub line_more : (y : Wording) (names : List (List ℕ)) (sights : List (Option Sight)) (sight : Option Sight)
-    (name : List ℕ) → length sights < length names → name ≡ get_or names (length sights) []
-    → image_texts y names (sights ++ sight ∷ []) ≡ image_texts y names sights ++ image_text y name sight
+pub line_more : (y : Wording) (names : List (List ℕ)) (sights : List (Option Sight))
+    (sight : Option Sight) (name : List ℕ) → length sights < length names
+    → name ≡ get_or names (length sights) []
+    → image_texts y names (sights ++ sight ∷ [])
+      ≡ image_texts y names sights ++ image_text y name sight
 line_more y [] sights sight name within is = absurd (omega (arith, within))
 line_more y (n ∷ names) [] sight name within is =
     none y names (image_text y n sight) ∙ ap (λ m. image_text y m sight) (sym is)
@@ -149,7 +151,8 @@ viewed_more gives remaining shelf number (s ∷ sights) c left mid sight image l
     )
 
 -- the first images were read, and their lines written
-pub record ToldSoFar {L R : Type 0} (y : Wording) (gives : Mounting L R) (remaining : R → Option (List ℕ))
+pub record ToldSoFar {L R : Type 0} (y : Wording) (gives : Mounting L R)
+    (remaining : R → Option (List ℕ))
     (names : List (List ℕ)) (shelf left : L) (number : ℕ) (d : Found) (old new : Option (List ℕ)) :
     Type 0 where
   pub sights : List (Option Sight)
@@ -157,7 +160,8 @@ pub record ToldSoFar {L R : Type 0} (y : Wording) (gives : Mounting L R) (remain
   pub viewed : AreViewed gives remaining shelf 0 sights nothing_found left d
   pub wrote : Appends old new (image_texts y names sights)
 
-pub tells_none : {L R : Type 0} (y : Wording) (gives : Mounting L R) (remaining : R → Option (List ℕ))
+pub tells_none : {L R : Type 0} (y : Wording) (gives : Mounting L R)
+    (remaining : R → Option (List ℕ))
     (names : List (List ℕ)) (shelf : L) (d : Found) (w : Option (List ℕ)) → d ≡ nothing_found
     → ToldSoFar y gives remaining names shelf shelf 0 d w w
 tells_none y gives remaining names shelf d w none = record {
@@ -171,7 +175,8 @@ tells_none y gives remaining names shelf d w none = record {
     nothing y [] = refl
     nothing y (n ∷ names) = refl
 
-pub tells_more : {L R : Type 0} (y : Wording) (gives : Mounting L R) (remaining : R → Option (List ℕ))
+pub tells_more : {L R : Type 0} (y : Wording) (gives : Mounting L R)
+    (remaining : R → Option (List ℕ))
     (names : List (List ℕ)) (shelf left next : L) (number : ℕ) (mid d : Found)
     (old w new : Option (List ℕ)) (image : Option R) (name : List ℕ)
     → number < length names → name ≡ get_or names number []
@@ -194,7 +199,8 @@ tells_more y gives remaining names shelf left next number mid d old w new image 
     }
 
 -- a front of a survey, where a front of its next text was written
-in_part : {L R : Type 0} (y : Wording) (gives : Mounting L R) (remaining : R → Option (List ℕ))
+in_part : {L R : Type 0} (y : Wording) (gives : Mounting L R)
+    (remaining : R → Option (List ℕ))
     (names : List (List ℕ)) (shelf left : L) (sights : List (Option Sight)) (d : Found)
     (old w new : Option (List ℕ)) (a b : List ℕ) → length sights ≤ length names
     → AreViewed gives remaining shelf 0 sights nothing_found left d
@@ -217,17 +223,20 @@ front_of_none : (old new : Option (List ℕ)) → Appends old new [] → Appends
 front_of_none old new wrote = ([], [], wrote, refl)
 
 -- a fault came before an image was mounted
-pub stops_before : {L R : Type 0} (y : Wording) (gives : Mounting L R) (remaining : R → Option (List ℕ))
+pub stops_before : {L R : Type 0} (y : Wording) (gives : Mounting L R)
+    (remaining : R → Option (List ℕ))
     (names : List (List ℕ)) (shelf left : L) (number : ℕ) (mid : Found) (old w : Option (List ℕ))
     → number < length names → ToldSoFar y gives remaining names shelf left number mid old w
     → SurveysInPart y gives remaining names shelf old w
 stops_before y gives remaining names shelf left number mid old w within s =
-    in_part y gives remaining names shelf left s.sights mid old w w (image_texts y names s.sights) []
+    in_part y gives remaining names shelf left s.sights mid old w w
+    (image_texts y names s.sights) []
     (omega (arith, within, s.counted)) s.viewed s.wrote (front_of_none w w (Appends-nil w))
     (sym (append-nil (image_texts y names s.sights)))
 
 -- a fault came at an image that was mounted
-pub stops_at : {L R : Type 0} (y : Wording) (gives : Mounting L R) (remaining : R → Option (List ℕ))
+pub stops_at : {L R : Type 0} (y : Wording) (gives : Mounting L R)
+    (remaining : R → Option (List ℕ))
     (names : List (List ℕ)) (shelf left next : L) (number : ℕ) (mid : Found)
     (old w new : Option (List ℕ)) (image : Option R) (name : List ℕ)
     → number < length names → name ≡ get_or names number []
@@ -237,7 +246,8 @@ pub stops_at : {L R : Type 0} (y : Wording) (gives : Mounting L R) (remaining : 
     → SurveysInPart y gives remaining names shelf old new
 stops_at y gives remaining names shelf left next number mid old w new image name within is s g
     (inl none) =
-    in_part y gives remaining names shelf left s.sights mid old w new (image_texts y names s.sights) []
+    in_part y gives remaining names shelf left s.sights mid old w new
+    (image_texts y names s.sights) []
     (omega (arith, within, s.counted)) s.viewed s.wrote (front_of_none w new none)
     (sym (append-nil (image_texts y names s.sights)))
 stops_at y gives remaining names shelf left next number mid old w new image name within is s g
@@ -255,7 +265,8 @@ stops_at y gives remaining names shelf left next number mid old w new image name
 -- ---- the whole
 
 -- all images were read
-pub tells_all : {L R : Type 0} (y : Wording) (gives : Mounting L R) (remaining : R → Option (List ℕ))
+pub tells_all : {L R : Type 0} (y : Wording) (gives : Mounting L R)
+    (remaining : R → Option (List ℕ))
     (names : List (List ℕ)) (shelf left : L) (number : ℕ) (d : Found) (old new : Option (List ℕ))
     → number ≡ length names → ToldSoFar y gives remaining names shelf left number d old new
     → TellsAll y gives remaining names shelf left d old new
@@ -267,7 +278,8 @@ tells_all y gives remaining names shelf left number d old new all s = record {
 }
 
 -- and what stands behind them was written
-pub surveyed : {L R : Type 0} (y : Wording) (gives : Mounting L R) (remaining : R → Option (List ℕ))
+pub surveyed : {L R : Type 0} (y : Wording) (gives : Mounting L R)
+    (remaining : R → Option (List ℕ))
     (names : List (List ℕ)) (shelf left : L) (d : Found) (old w new : Option (List ℕ)) (all : Bool)
     → TellsAll y gives remaining names shelf left d old w → all ≡ is_all d
     → Appends w new (summary y d) → Surveys y gives remaining names shelf left old new all
@@ -285,7 +297,8 @@ surveyed y gives remaining names shelf left d old w new all s is wrote = (
 )
 
 -- a front of that was written
-pub surveyed_in_part : {L R : Type 0} (y : Wording) (gives : Mounting L R) (remaining : R → Option (List ℕ))
+pub surveyed_in_part : {L R : Type 0} (y : Wording) (gives : Mounting L R)
+    (remaining : R → Option (List ℕ))
     (names : List (List ℕ)) (shelf left : L) (d : Found) (old w new : Option (List ℕ))
     → TellsAll y gives remaining names shelf left d old w → AppendsFront w new (summary y d)
     → SurveysInPart y gives remaining names shelf old new
@@ -296,7 +309,8 @@ surveyed_in_part y gives remaining names shelf left d old w new s part = record 
   left = left;
   viewed = s.viewed;
   wrote = front_then old w new (image_texts y names s.sights) (summary y d) []
-      (image_texts y names s.sights ++ summary_at y (length s.sights == length names) d) s.wrote part
+      (image_texts y names s.sights ++ summary_at y (length s.sights == length names) d) s.wrote
+      part
       (ap (λ b. image_texts y names s.sights ++ summary_at y b d) (same (length s.sights)
       (length names) s.each) ∙ sym (append-nil (image_texts y names s.sights ++ summary y d)));
 }

@@ -19,7 +19,8 @@ image_texts y (name ∷ names) (sight ∷ sights) =
     image_text y name sight ++ image_texts y names sights
 
 -- an image was read, and its line was written
-abbrev pub Tells : Wording → Reel → List ℕ → Found → Found → Option (List ℕ) → Option (List ℕ) → Type 0
+abbrev pub Tells : Wording → Reel → List ℕ → Found → Found → Option (List ℕ)
+    → Option (List ℕ) → Type 0
 Tells y reel name c d old new =
     (sight : Option Sight) × IsViewed reel sight c d × Appends old new (image_text y name sight)
 
@@ -30,7 +31,8 @@ StopsAt y reel name c old new = Appends old new [] ⊎ ((sight : Option Sight) �
     × IsViewed reel sight c d × AppendsFront old new (image_text y name sight))
 
 -- the images of these names were read, and their lines were written
-pub record TellsAll {L R : Type 0} (y : Wording) (gives : Mounting L R) (remaining : R → Option (List ℕ))
+pub record TellsAll {L R : Type 0} (y : Wording) (gives : Mounting L R)
+    (remaining : R → Option (List ℕ))
     (names : List (List ℕ)) (shelf left : L) (d : Found) (old new : Option (List ℕ)) : Type 0 where
   pub sights : List (Option Sight)
   pub each : length sights ≡ length names
@@ -39,7 +41,8 @@ pub record TellsAll {L R : Type 0} (y : Wording) (gives : Mounting L R) (remaini
 
 -- The text is the survey of the images of a shelf that have these names, one after another, and it
 -- tells so whether nothing lacks and nothing is left over. Behind the images this was found.
-pub record IsSurvey {L R : Type 0} (y : Wording) (gives : Mounting L R) (remaining : R → Option (List ℕ))
+pub record IsSurvey {L R : Type 0} (y : Wording) (gives : Mounting L R)
+    (remaining : R → Option (List ℕ))
     (names : List (List ℕ)) (shelf left : L) (text : List ℕ) (all : Bool) : Type 0 where
   pub sights : List (Option Sight)
   pub found : Found
@@ -49,8 +52,8 @@ pub record IsSurvey {L R : Type 0} (y : Wording) (gives : Mounting L R) (remaini
   pub is_so : all ≡ is_all found
 
 -- the survey was written
-abbrev pub Surveys : {L R : Type 0} → Wording → Mounting L R → (R → Option (List ℕ)) → List (List ℕ) → L → L
-    → Option (List ℕ) → Option (List ℕ) → Bool → Type 0
+abbrev pub Surveys : {L R : Type 0} → Wording → Mounting L R → (R → Option (List ℕ))
+    → List (List ℕ) → L → L → Option (List ℕ) → Option (List ℕ) → Bool → Type 0
 Surveys y gives remaining names shelf left old new all = (text : List ℕ)
     × IsSurvey y gives remaining names shelf left text all × Appends old new text
 
@@ -61,7 +64,8 @@ summary_at y false d = []
 
 -- The first images were read, and a front of their survey was written; its summary follows the line
 -- of the last.
-pub record SurveysInPart {L R : Type 0} (y : Wording) (gives : Mounting L R) (remaining : R → Option (List ℕ))
+pub record SurveysInPart {L R : Type 0} (y : Wording) (gives : Mounting L R)
+    (remaining : R → Option (List ℕ))
     (names : List (List ℕ)) (shelf : L) (old new : Option (List ℕ)) : Type 0 where
   pub sights : List (Option Sight)
   pub few : length sights ≤ length names

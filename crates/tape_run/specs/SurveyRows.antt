@@ -1,5 +1,5 @@
--- The rows of a survey, for scripts. The columns stand a tab apart, and none holds one: each byte of
--- a name or an identifier that is no character of a line stands as a question mark.
+-- The rows of a survey, for scripts. The columns stand a tab apart, and none holds one: each byte
+-- of a name or an identifier that is no character of a line stands as a question mark.
 use Rattle.std.specs.Prelude.{ℕ, Bool, if◌then◌else◌, List, [], ◌++◌, codes, decimal}
 use Rattle.std.specs.Prelude.{Option, Some, None}
 use Rattle.tape_label.specs.declared.values.Head1.{Head1}

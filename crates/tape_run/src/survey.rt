@@ -63,8 +63,8 @@ pub fn survey_to<R: Read + Drop, L: Shelf<R>, P: Write>(
     ensures ok { IfOk result (Surveys wording L.gives R.remaining (map (λ n. n.now) names.now)
         images.old images.new (P.contents report.old) (P.contents report.new)) }
     // Whatever the fault, a front of a survey was written: of the images that were read.
-    ensures front { OnErr result (SurveysInPart wording L.gives R.remaining (map (λ n. n.now) names.now)
-        images.old (P.contents report.old) (P.contents report.new)) }
+    ensures front { OnErr result (SurveysInPart wording L.gives R.remaining
+        (map (λ n. n.now) names.now) images.old (P.contents report.old) (P.contents report.new)) }
     ensures fault { IfErr result IsCheckFault }
 {
     let mut findings = Findings::new(alloc);
@@ -84,8 +84,8 @@ fn survey_images<R: Read + Drop, L: Shelf<R>, P: Write>(
     requires { findings.old ≡ nothing_found }
     ensures ok { OnOk result (TellsAll wording L.gives R.remaining (map (λ n. n.now) names.now)
         images.old images.new findings.new (P.contents report.old) (P.contents report.new)) }
-    ensures front { OnErr result (SurveysInPart wording L.gives R.remaining (map (λ n. n.now) names.now)
-        images.old (P.contents report.old) (P.contents report.new)) }
+    ensures front { OnErr result (SurveysInPart wording L.gives R.remaining
+        (map (λ n. n.now) names.now) images.old (P.contents report.old) (P.contents report.new)) }
     ensures fault { IfErr result IsCheckFault }
 {
     for number in 0..names.len() {

@@ -1,6 +1,7 @@
 -- Names in a list.
 use Rattle.std.proofs.Common.{◌≡◌, ℕ, ◌+◌, ◌<◌, Bool, true, false, List, [], ◌∷◌, ◌++◌, map, length}
-use Rattle.std.proofs.Common.{Result, Ok, Err, IfOk, Option, refl, sym, ap, ◌∙◌, arith, take, get_or}
+use Rattle.std.proofs.Common.{Result, Ok, Err, IfOk, Option, refl, sym, ap, ◌∙◌, arith, take}
+use Rattle.std.proofs.Common.{get_or}
 use Rattle.std.proofs.Common.{append_assoc, append-nil, cond, Vec}
 use Rattle.std.proofs.lemmas.List.{map-append}
 use Rattle.std.proofs.lemmas.List.Elements.{filter_more}

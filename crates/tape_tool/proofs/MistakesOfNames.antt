@@ -35,7 +35,8 @@ last_line_left_out : (κs : _) (a : _) (names : _) (s : _) → all_names.Learnt 
     → names.items ≡ [] → ⊥
 last_line_left_out κs a names s h none lines text empty =
     absurd (let n : 0 ≡ 1
-    = sym (ap length empty) ∙ counted (λ n. n.now) names.items _ _ _ (codes "a") h none lines text in
+    = sym (ap length empty)
+    ∙ counted (λ n. n.now) names.items _ _ _ (codes "a") h none lines text in
     omega arith)
 
 -- empty_line_is_a_name: a list is one empty line, and a name comes of it

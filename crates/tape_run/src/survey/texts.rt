@@ -1,8 +1,8 @@
 //! What a survey says behind its images: of sections, sets and files, in words or in rows.
 ghost use Rattle.std.specs.List.{flat_map};
 ghost use Rattle.std.specs.Prelude.{◌≡◌, ◌<◌, ◌+◌, ◌++◌, length, take, IfOk, OnOk};
-ghost use Rattle.tape_run.specs.SurveyWording.{file_text, file_texts, set_front, set_text, set_texts};
-ghost use Rattle.tape_run.specs.SurveyWording.{sets_text, sections_text};
+ghost use Rattle.tape_run.specs.SurveyWording.{file_text, file_texts, set_front, set_text};
+ghost use Rattle.tape_run.specs.SurveyWording.{set_texts, sets_text, sections_text};
 ghost use Rattle.tape_run.specs.SurveyRows.{section_row};
 
 use super::Wording;

@@ -61,9 +61,9 @@ pub fn way_of<R: Runtime + AllocGlobal>(
 /// # Errors
 ///
 /// `Words` where the output is the stage, also one that is not made yet, or one of the images: the
-/// file itself, whatever name or link leads there. `Faulted` with `Exists` where it may keep a tape:
-/// it holds something, and is named `.tap`, begins as an image does, or is compressed, an archive or
-/// a stage. With `NotOpened` or `ReadFailed` where that can't be seen.
+/// file itself, whatever name or link leads there. `Faulted` with `Exists` where it may keep a
+/// tape: it holds something, and is named `.tap`, begins as an image does, or is compressed, an
+/// archive or a stage. With `NotOpened` or `ReadFailed` where that can't be seen.
 pub fn way_to_out<R: Runtime + AllocGlobal>(
     rt: &R,
     out: &str,

@@ -78,12 +78,12 @@ fn show_disk<'a, R: Host>(rt: &'a R, order: &Show<'a>, way: Option<Way>, disk: S
     };
     match drafted {
         Ok(Some((name, file))) => {
-            let Ok(mut draft) = BufWriter::with_capacity(rt.alloc(), HELD, Draft { name, file })
-            else {
-                return End::Faulted(Fault::OutOfMemory);
+            let mut draft = Draft { name, file };
+            let end = match BufWriter::with_capacity(rt.alloc(), HELD, &mut draft) {
+                Ok(mut file) => show_to(rt, order, disk, &mut file),
+                Err(_) => End::Faulted(Fault::OutOfMemory),
             };
-            let end = show_to(rt, order, disk, &mut draft);
-            draft.get_ref().name.clear();
+            draft.name.clear();
             end
         }
         Ok(None) => show_in_place(rt, order, disk, out),

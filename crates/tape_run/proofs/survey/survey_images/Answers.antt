@@ -6,7 +6,8 @@ use Rattle.tape_run.proofs.SurveyTexts.{name_at}
 use Rattle.tape_run.proofs.survey.survey_images.Goals as goal
 
 pub loop-number-init : goal.loop-number-init
-loop-number-init g c = tells_none c.args.wording g.L.Shelf.gives g.R.Read.remaining _ _ _ _ c.requires
+loop-number-init g c =
+    tells_none c.args.wording g.L.Shelf.gives g.R.Read.remaining _ _ _ _ c.requires
 
 pub loop-number-preserved : goal.loop-number-preserved
 loop-number-preserved g c =
