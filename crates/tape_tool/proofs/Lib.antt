@@ -6,3 +6,4 @@ mod Mistakes
 mod MistakesOfNames
 mod Examples
 mod ExamplesOfShowing
+mod ExamplesOfWriting

@@ -7,3 +7,6 @@ pub mod Showing
 pub mod CasesOfShowing
 pub mod Report
 pub mod Names
+pub mod Writing
+pub mod CasesOfWriting
+pub mod Words

@@ -3,11 +3,13 @@
 ghost use Rattle.tape_tool.specs.Cases.{CasesOfEnds, CasesOfFaults, CasesOfLines, CasesOfNames};
 ghost use Rattle.tape_tool.specs.Cases.{CasesOfStaging};
 ghost use Rattle.tape_tool.specs.CasesOfShowing.{CasesOfShowing};
+ghost use Rattle.tape_tool.specs.CasesOfWriting.{CasesOfWriting};
 
 use tape_stage::Disk;
 
 /// What the definitions of the program say of cases: how runs end, the numbers of faults, the lines
-/// that are printed, the names in a list, what a session over a stage is, and what is shown of one.
+/// that are printed, the names in a list, what a session over a stage is, what is shown of one, and
+/// which shapes are refused.
 pub fn cases<D: Disk>()
     ensures ends { CasesOfEnds }
     ensures faults { CasesOfFaults }
@@ -15,4 +17,5 @@ pub fn cases<D: Disk>()
     ensures names { CasesOfNames }
     ensures staging { CasesOfStaging D.Disk }
     ensures showing { CasesOfShowing }
+    ensures writing { CasesOfWriting }
 {}

@@ -1,4 +1,7 @@
 //! What the words of a command line ask for.
+ghost use Rattle.std.specs.Prelude.{◌≡◌, codes};
+ghost use Rattle.clap.specs.Words.{first_value, found_of};
+
 mod outlines;
 
 use crate::help;
@@ -272,7 +275,12 @@ fn set_id_of(text: &str) -> Option<Field<6>> {
 }
 
 /// The form that was asked for.
-pub fn form_of(matches: &ArgMatches<'_>) -> Form {
+pub fn form_of(matches: &ArgMatches<'_>) -> Form
+    ensures raw { first_value (found_of matches.now) (codes "form") ≡ Some (codes "raw")
+        → result ≡ Form.Raw }
+    ensures lines { first_value (found_of matches.now) (codes "form") ≡ Some (codes "lines")
+        → result ≡ Form.Lines }
+{
     match matches.get_str("form") {
         Some("raw") => Form::Raw,
         _ => Form::Lines,

@@ -1,10 +1,42 @@
--- An answer that the contract of what `write` prints excludes: it is what a wrong body would give.
-use Rattle.std.proofs.Common.{◌≡◌, [], ◌∷◌, ap, ◌∙◌, subst, arith, codes}
-use Rattle.std.specs.Prelude.{Some, Ok, slice_index}
+-- Answers that the contracts of `write` exclude: each is what a wrong body would give.
+use Rattle.std.proofs.Common.{◌≡◌, ◌==◌, ℕ, Bool, true, false, [], ◌∷◌, length, ap, sym, ◌∙◌}
+use Rattle.std.proofs.Common.{subst, arith, codes, lit<}
+use Rattle.std.specs.List.{before_first}
+use Rattle.std.specs.Prelude.{Some, Ok, slice_index, decimal}
 use Rattle.std.specs.Fmt.{digits}
 use Rattle.std.specs.Io.KnownBytes.{Appends}
+use Rattle.clap.specs.Words.{found_of, one_text}
+use Rattle.tape_tool.specs.declared.words.Order.TheVariants as orders
 use Rattle.tape_tool.specs.Report.{report}
+use Rattle.tape_tool.proofs.write.command.split.Reads as split
 use Rattle.tape_tool.proofs.write.report.say.Reads as say
+use Rattle.tape_tool.proofs.write.words.write_order.Reads as write_order
+
+-- cut_at_the_last_equals_sign: of `A=B=C` the identifier is told as `A=B`
+cut_at_the_last_equals_sign : (κs : _) (a : _) (r : _) (s : _) → split.Learnt-named κs a r s
+    → a.0.now ≡ codes "A=B=C" → r.0.now ≡ codes "A=B" → ⊥
+cut_at_the_last_equals_sign κs a r s l word id =
+    absurd (let n : 3 ≡ 1
+    = ap length (sym id ∙ l.id ∙ ap (λ w. before_first (λ byte. byte == 61) w) word) in omega arith)
+
+-- offset_forgotten: an offset of 3 is asked for, and the blocks have none
+offset_forgotten : (κs : _) (a : _) (o : _) (s : _)
+    → write_order.Learnt κs a (Ok (orders.Write o)) s
+    → one_text (found_of a.1.0.now) (codes "offset") ≡ Some (decimal 3) → o.offset ≡ 0 → ⊥
+offset_forgotten κs a o s l asked none =
+    absurd (let n : 0 ≡ 3 = sym none ∙ l.offset 3 (lit< tt, asked) in omega arith)
+
+abbrev bit : Bool → ℕ
+bit true = 1
+bit false = 0
+
+-- pad_full_forgotten: blocks are to be filled up, and are not
+pad_full_forgotten : (κs : _) (a : _) (o : _) (s : _)
+    → write_order.Learnt κs a (Ok (orders.Write o)) s
+    → one_text (found_of a.1.0.now) (codes "pad-full") ≡ Some (codes "true")
+    → o.pad_full ≡ false → ⊥
+pad_full_forgotten κs a o s l asked none =
+    absurd (let n : 0 ≡ 1 = ap (λ b. bit b) (sym none ∙ l.padded asked) in omega arith)
 
 -- size_without_the_end_word: an image of 486 bytes is told with 482
 size_without_the_end_word : (W : _) (L : _) (h : _) (e : _) (κs : _) (a : _) (s : _)

@@ -1,4 +1,9 @@
 //! `tape write`.
+ghost use Rattle.std.specs.Prelude.{◌≡◌, ◌==◌, IfOk, IfErr};
+ghost use Rattle.std.specs.List.{before_first, after_first};
+ghost use Rattle.tape_tool.specs.Writing.{record_length, IsNoShape, plain_head};
+ghost use Rattle.tape_writer.specs.Blank.{volume_id};
+
 use crate::fault::{FileFault, ToolFault};
 use crate::write::image_files::{ImageFiles, VOLUMES};
 use crate::write::input_file::InputFile;
@@ -34,7 +39,17 @@ fn no_memory() -> ToolFault {
 }
 
 /// The shape of all files. What a shape cannot be is told of as of one that is not written.
-fn shape_of(order: &WriteOrder<'_>) -> Result<Shape, ToolFault> {
+fn shape_of(order: &WriteOrder<'_>) -> Result<Shape, ToolFault>
+    ensures format { IfOk result (λ shape. shape.format ≡ order.now.format) }
+    ensures block_len { IfOk result (λ shape. shape.block_len ≡ order.now.block) }
+    ensures rec_len { IfOk result (λ shape. shape.rec_len ≡ record_length order.now.format
+        order.now.record order.now.block order.now.offset) }
+    ensures offset { IfOk result (λ shape. shape.offset ≡ order.now.offset) }
+    ensures pad_full { IfOk result (λ shape. shape.pad_full ≡ order.now.pad_full) }
+    ensures fault { IfErr result (λ fault. fault ≡ ToolFault.Write WriteFault.BadShape) }
+    ensures due { IfErr result (λ _. IsNoShape order.now.format (record_length order.now.format
+        order.now.record order.now.block order.now.offset) order.now.pad_full) }
+{
     let bad = ToolFault::Write(WriteFault::BadShape);
     if order.pad_full && order.format != Format::Counted {
         return Err(bad);
@@ -53,7 +68,10 @@ fn shape_of(order: &WriteOrder<'_>) -> Result<Shape, ToolFault> {
 }
 
 /// The record length: with D, where none is given, the greatest for which there is room.
-fn record_length(order: &WriteOrder<'_>) -> u32 {
+fn record_length(order: &WriteOrder<'_>) -> u32
+    ensures { result ≡ record_length order.now.format order.now.record order.now.block
+        order.now.offset }
+{
     match (order.format, order.record) {
         (_, Some(length)) => length,
         (Format::Counted, None) => order
@@ -81,14 +99,19 @@ fn head_for(word: &str) -> Result<Head1, ToolFault> {
     }
 }
 
-/// A file's identifier and its path.
-pub fn split<'a>(word: &'a str) -> (&'a str, &'a str) {
+/// A file's identifier and its path, which stand round the first equals sign.
+pub fn split<'a>(word: &'a str) -> (&'a str, &'a str)
+    ensures id { result.0.now ≡ before_first (λ byte. byte == 61) word.now }
+    ensures path { result.1.now ≡ after_first (λ byte. byte == 61) word.now }
+{
     word.split_once('=').unwrap_or((word, ""))
 }
 
 /// The head of a file, with neither dates nor restrictions. The writer puts in the set's identifier
 /// and the numbers.
-fn head_of(file_id: Field<17>) -> Head1 {
+fn head_of(file_id: Field<17>) -> Head1
+    ensures { result ≡ plain_head file_id }
+{
     Head1 {
         file_id,
         set_id: Field::of_bytes([b' '; 6]),
@@ -141,7 +164,9 @@ fn plan_of<R: AllocGlobal>(
 }
 
 /// The set has the identifier of its first volume.
-fn set_id(prefix: Prefix) -> Field<6> {
+fn set_id(prefix: Prefix) -> Field<6>
+    ensures { result ≡ volume_id prefix.characters 1 }
+{
     blank_volume(prefix, 1).volume
 }
 

@@ -1,4 +1,8 @@
 //! What the words behind `write` ask for.
+ghost use Rattle.std.specs.Prelude.{◌≡◌, codes, IfOk};
+ghost use Rattle.clap.specs.Words.{found_of};
+ghost use Rattle.tape_tool.specs.Words.{AsksToWrite, IsWrite};
+
 use crate::help;
 use crate::outline::{Kind, Outline, Word, mistake};
 use crate::words::{FORMS, Order, form_of};
@@ -55,12 +59,24 @@ pub const WRITE: Outline = Outline {
 };
 
 /// What the words behind `write` ask for. The parser has seen to it that they are there.
-pub fn write_order<'a>(alloc: Global, matches: &ArgMatches<'a>) -> Result<Order<'a>, Error> {
+pub fn write_order<'a>(alloc: Global, matches: &ArgMatches<'a>) -> Result<Order<'a>, Error>
+    ensures { IfOk result (IsWrite (AsksToWrite (found_of matches.now))) }
+{
     let Some(prefix) = Prefix::new(matches.get_str("PRE").unwrap_or("")) else {
         return Err(wrong_words(alloc, help::WRONG_PREFIX)?);
     };
-    let files = files_of(alloc, matches)?;
-    let order = WriteOrder {
+    let order = asked(matches, prefix, files_of(alloc, matches)?);
+    match wrong(&order) {
+        Some(text) => Err(wrong_words(alloc, text)?),
+        None => Ok(Order::Write(order)),
+    }
+}
+
+/// The order of these words, with this prefix and these files.
+fn asked<'a>(matches: &ArgMatches<'a>, prefix: Prefix, files: Vec<&'a str>) -> WriteOrder<'a>
+    ensures { AsksToWrite (found_of matches.now) result }
+{
+    WriteOrder {
         folder: matches.get_str("DIR").unwrap_or(""),
         prefix,
         capacity: matches.get_one::<u32>("CAPACITY").unwrap_or(0),
@@ -71,10 +87,6 @@ pub fn write_order<'a>(alloc: Global, matches: &ArgMatches<'a>) -> Result<Order<
         offset: matches.get_one::<u8>("offset").unwrap_or(0),
         pad_full: matches.get_flag("pad-full"),
         form: form_of(matches),
-    };
-    match wrong(&order) {
-        Some(text) => Err(wrong_words(alloc, text)?),
-        None => Ok(Order::Write(order)),
     }
 }
 
@@ -104,7 +116,11 @@ fn wrong(order: &WriteOrder<'_>) -> Option<&'static str> {
 }
 
 /// The format with this name.
-fn format_of(name: &str) -> Format {
+fn format_of(name: &str) -> Format
+    ensures fixed { name.now ≡ codes "F" → result ≡ Format.Fixed }
+    ensures counted { name.now ≡ codes "D" → result ≡ Format.Counted }
+    ensures spanned { name.now ≡ codes "S" → result ≡ Format.Spanned }
+{
     match name {
         "F" => Format::Fixed,
         "S" => Format::Spanned,

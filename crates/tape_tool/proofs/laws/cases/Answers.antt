@@ -1,6 +1,7 @@
 use Rattle.tape_tool.proofs.Examples.{cases_of_ends, cases_of_faults, cases_of_lines}
 use Rattle.tape_tool.proofs.Examples.{cases_of_names, cases_of_staging}
 use Rattle.tape_tool.proofs.ExamplesOfShowing.{cases_of_showing}
+use Rattle.tape_tool.proofs.ExamplesOfWriting.{cases_of_writing}
 use Rattle.tape_tool.proofs.laws.cases.Goals as goal
 
 pub returns-clause-ends : goal.returns-clause-ends
@@ -20,3 +21,6 @@ returns-clause-staging g c = cases_of_staging g.D.Disk
 
 pub returns-clause-showing : goal.returns-clause-showing
 returns-clause-showing g c = cases_of_showing
+
+pub returns-clause-writing : goal.returns-clause-writing
+returns-clause-writing g c = cases_of_writing
