@@ -49,6 +49,8 @@ mod SurveyOrder
 mod SurveyStands
 mod SurveyVolumes
 mod ExamplesOfSurveys
+mod UnpackedFiles
+mod UnpackedNames
 mod WholeReports
 mod Streams
 mod Turns

@@ -59,6 +59,10 @@ pub mod SurveyRows
 pub mod SurveyWording
 pub mod Survey
 pub mod SurveyLaws
+-- Files unpacked: to be believed, in this order.
+pub mod Unpacking
+pub mod UnpackLine
+pub mod UnpackLaws
 -- Files got back, and reports of that: to be believed, in this order.
 pub mod ReelLine
 pub mod RecordText

@@ -33,6 +33,8 @@ mod session;
 mod shelf;
 mod survey;
 pub mod survey_laws;
+mod unpack;
+pub mod unpack_laws;
 mod whole;
 
 pub use answer::ReelAnswer;
@@ -54,4 +56,7 @@ pub use section::{Entry, ImageLine, ImageStop, Lack, SectionKey, SectionLine, Se
 pub use session::Session;
 pub use shelf::Shelf;
 pub use survey::{Wording, survey_to};
+pub use unpack::line::{Fate, fate_text, file_line, left_over_line};
+pub use unpack::name::file_name;
+pub use unpack::{Heading, SetFile, ShelfFiles, files_on};
 pub use whole::{go_on, read_file};

@@ -11,14 +11,14 @@ ghost use Rattle.tape_run.specs.SurveySets.{is_all, last_text};
 ghost use Rattle.tape_run.specs.Survey.{Tells, TellsAll, StopsAt, Surveys, SurveysInPart};
 
 mod course;
-mod files;
+pub(crate) mod files;
 mod glance;
 mod line;
 mod rows;
 mod sets;
-mod text;
+pub(crate) mod text;
 mod texts;
-mod view;
+pub(crate) mod view;
 
 use crate::check::pass_on;
 use crate::fault::{EngineFault, NO_MEMORY};
@@ -162,7 +162,7 @@ fn image_line(alloc: Global, name: &str, sight: &Option<Sight>) -> Result<Vec<u8
 }
 
 /// A name.
-fn name_text(alloc: Global, name: &str) -> Result<Vec<u8>, AllocError>
+pub(crate) fn name_text(alloc: Global, name: &str) -> Result<Vec<u8>, AllocError>
     ensures { IfOk result (λ line. line.items ≡ name_text name.now) }
 {
     let mut line = Vec::new(alloc);

@@ -1,0 +1,91 @@
+-- The files of a shelf, image by image and file by file.
+use Rattle.std.proofs.Common.{◌≡◌, ℕ, zero, suc, ◌+◌, ◌-◌, ◌<◌, List, [], ◌∷◌, ◌++◌, length, take}
+use Rattle.std.proofs.Common.{slice_get, Option, Some, refl, sym, ap, subst, ◌∙◌, arith}
+use Rattle.std.proofs.Common.{append_assoc, append-nil, length-append}
+use Rattle.std.specs.List.{flat_map}
+use Rattle.std.specs.Prelude.{option_map}
+use Rattle.std.proofs.lemmas.Grind.{flat_map-append}
+use Rattle.tape_run.specs.declared.survey.view.Sight.{Sight}
+use Rattle.tape_run.specs.declared.unpack.SetFile.{SetFile}
+use Rattle.tape_run.specs.Lacks.{SetFiles}
+use Rattle.tape_run.specs.Reeling.{Mounting}
+use Rattle.tape_run.specs.SurveyRead.{Found, nothing_found, IsViewed, AreViewed}
+use Rattle.tape_run.specs.Unpacking.{file_of, files_from, set_files, ViewsAll}
+use Rattle.tape_run.proofs.Listing.{take_get}
+use Rattle.tape_run.proofs.SurveyTexts.{viewed_more}
+
+-- the first images were read
+pub record ViewedSoFar {L R : Type 0} (gives : Mounting L R) (remaining : R → Option (List ℕ))
+    (shelf left : L) (number : ℕ) (d : Found) : Type 0 where
+  pub sights : List (Option Sight)
+  pub counted : length sights ≡ number
+  pub viewed : AreViewed gives remaining shelf 0 sights nothing_found left d
+
+pub views_none : {L R : Type 0} (gives : Mounting L R) (remaining : R → Option (List ℕ))
+    (shelf : L) (d : Found) → d ≡ nothing_found → ViewedSoFar gives remaining shelf shelf 0 d
+views_none gives remaining shelf d none =
+    record { sights = []; counted = refl; viewed = (refl, none) }
+
+pub views_more : {L R : Type 0} (gives : Mounting L R) (remaining : R → Option (List ℕ))
+    (shelf left next : L) (number : ℕ) (mid d : Found) (image : Option R) (sight : Option Sight)
+    → ViewedSoFar gives remaining shelf left number mid → gives left number image next
+    → IsViewed (option_map remaining image) sight mid d
+    → ViewedSoFar gives remaining shelf next (number + 1) d
+views_more gives remaining shelf left next number mid d image sight s g viewed =
+    let at : number ≡ 0 + length s.sights = omega (arith, s.counted) in
+    record {
+      sights = s.sights ++ sight ∷ [];
+      counted = length-append s.sights (sight ∷ []) ∙ ap (λ n. n + 1) s.counted;
+      viewed = viewed_more gives remaining shelf 0 s.sights nothing_found left mid sight image next
+          d s.viewed (subst (λ n. gives left n image next) at g) viewed;
+    }
+
+-- all were
+pub views_all : {L R : Type 0} (size : L → ℕ) (gives : Mounting L R)
+    (remaining : R → Option (List ℕ)) (shelf left : L) (number : ℕ) (d : Found)
+    → number ≡ size shelf → ViewedSoFar gives remaining shelf left number d
+    → ViewsAll size gives remaining shelf left d
+views_all size gives remaining shelf left number d all s =
+    record { sights = s.sights; all = s.counted ∙ all; viewed = s.viewed }
+
+-- ---- files and sets
+
+files_behind : (d : Found) (set_id : List ℕ) (file left : ℕ) → 0 < left
+    → files_from d set_id file left
+    ≡ file_of d set_id file ∷ files_from d set_id (file + 1) (left - 1)
+files_behind d set_id file zero some = absurd (omega arith)
+files_behind d set_id file (suc n) some =
+    let one : n ≡ suc n - 1 = omega arith in
+    ap (λ m. file_of d set_id file ∷ files_from d set_id (file + 1) m) one
+
+-- one more file was added
+pub file_added : (d : Found) (set_id : List ℕ) (old new goal : List SetFile) (before greatest : ℕ)
+    → before < greatest → new ≡ old ++ file_of d set_id (before + 1) ∷ []
+    → old ++ files_from d set_id (before + 1) (greatest - before) ≡ goal
+    → new ++ files_from d set_id (before + 1 + 1) (greatest - (before + 1)) ≡ goal
+file_added d set_id old new goal before greatest within put was =
+    let here = file_of d set_id (before + 1) ∷ [] in
+    let fewer : greatest - (before + 1) ≡ greatest - before - 1 = omega (arith, within) in
+    let some : 0 < greatest - before = omega (arith, within) in
+    ap (λ ls. ls ++ files_from d set_id (before + 1 + 1) (greatest - (before + 1))) put
+    ∙ append_assoc old here (files_from d set_id (before + 1 + 1) (greatest - (before + 1)))
+    ∙ ap (λ n. old ++ (here ++ files_from d set_id (before + 1 + 1) n)) fewer
+    ∙ ap (λ ls. old ++ ls) (sym (files_behind d set_id (before + 1) (greatest - before) some))
+    ∙ was
+
+-- and none is left
+pub files_all : (d : Found) (set_id : List ℕ) (new goal : List SetFile) (file left : ℕ) → left ≡ 0
+    → new ++ files_from d set_id file left ≡ goal → new ≡ goal
+files_all d set_id new goal file left none was =
+    sym (append-nil new) ∙ ap (λ n. new ++ files_from d set_id file n) (sym none) ∙ was
+
+-- the files of the set at a place were added
+pub set_added : (d : Found) (sets : List SetFiles) (old new : List SetFile) (i : ℕ) (x : SetFiles)
+    → Some x ≡ slice_get sets i → new ≡ old ++ files_from d x.0 1 x.1
+    → old ≡ set_files d (take i sets) → new ≡ set_files d (take (i + 1) sets)
+set_added d sets old new i x at put was =
+    let f = λ (y : SetFiles). files_from d y.0 1 y.1 in
+    put ∙ ap (λ ls. ls ++ f x) was
+    ∙ ap (λ ls. set_files d (take i sets) ++ ls) (sym (append-nil (f x)))
+    ∙ sym (flat_map-append f (take i sets) (x ∷ []))
+    ∙ ap (set_files d) (sym (take_get sets i x at))

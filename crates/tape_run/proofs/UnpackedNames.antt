@@ -1,0 +1,228 @@
+-- Names of files that are unpacked: each is of one file, and stays in its folder.
+use Rattle.std.proofs.Common.{◌≡◌, ℕ, suc, ◌+◌, ◌*◌, ◌<◌, ◌≤◌, ◌/◌, ◌%◌, ◌^◌}
+use Rattle.std.proofs.Common.{Bool, true, false, List, [], ◌∷◌, ◌++◌, length, map, take}
+use Rattle.std.proofs.Common.{refl, sym, ap, subst, ◌∙◌, arith, append_assoc, codes}
+use Rattle.std.proofs.Common.{length-append}
+use Rattle.std.specs.Prelude.{◌==◌, decimal, if◌then◌else◌}
+use Rattle.std.specs.List.{AllByRecursion}
+use Rattle.std.proofs.lemmas.Bool.Decides.{nat_tests}
+use Rattle.std.proofs.lemmas.Fmt.{decimal_by_steps, decimal_injective, decimal_nonempty}
+use Rattle.std.proofs.lemmas.Nat.{div-add-mod', mod_below, div_below}
+use Rattle.tape_run.specs.Unpacking.{is_plain, hex, escaped, escaped_all, fit, fit_text, file_name}
+use Rattle.tape_run.specs.SurveyLine.{trimmed_len}
+use Rattle.tape_run.specs.UnpackLaws.{NamesDiffer, NamesStay, AreBytes, MayStand}
+
+-- ---- lists
+
+abbrev first_of : (x : ℕ) (xs : List ℕ) → ℕ
+first_of x [] = x
+first_of x (y ∷ ys) = y
+
+abbrev rest_of : List ℕ → List ℕ
+rest_of [] = []
+rest_of (y ∷ ys) = ys
+
+heads : (a b : ℕ) (xs ys : List ℕ) → a ∷ xs ≡ b ∷ ys → a ≡ b
+heads a b xs ys e = ap (first_of a) e
+
+tails : (a b : ℕ) (xs ys : List ℕ) → a ∷ xs ≡ b ∷ ys → xs ≡ ys
+tails a b xs ys e = ap rest_of e
+
+-- ---- set identifiers
+
+-- two bytes that are told by one text are one
+hex_one : (a b : ℕ) → a < 16 → b < 16 → hex a ≡ hex b → a ≡ b
+hex_one a b p q e = grind (arith, nat_tests)
+
+both : (a b : ℕ) → a < 256 → b < 256 → a / 16 ≡ b / 16 → a % 16 ≡ b % 16 → a ≡ b
+both a b p q high low =
+    sym (div-add-mod' a 16) ∙ ap (λ h. h * 16 + a % 16) high
+    ∙ ap (λ l. b / 16 * 16 + l) low ∙ div-add-mod' b 16
+
+record Split (a b : ℕ) (xs ys : List ℕ) : Type 0 where
+  same : a ≡ b
+  rest : xs ≡ ys
+
+split_hex : (a b : ℕ) (xs ys : List ℕ) → a < 256 → b < 256
+    → 37 ∷ hex (a / 16) ∷ hex (a % 16) ∷ xs ≡ 37 ∷ hex (b / 16) ∷ hex (b % 16) ∷ ys
+    → Split a b xs ys
+split_hex a b xs ys p q e =
+    let behind = tails 37 37 _ _ e in
+    let low = tails _ _ _ _ behind in
+    record {
+      same = both a b p q
+          (hex_one (a / 16) (b / 16) (div_below a 16 16 (omega arith) p)
+          (div_below b 16 16 (omega arith) q) (heads _ _ _ _ behind))
+          (hex_one (a % 16) (b % 16) (mod_below a 16 (omega arith)) (mod_below b 16 (omega arith))
+          (heads _ _ _ _ low));
+      rest = tails _ _ _ _ low;
+    }
+
+-- the text of a byte, by whether it is plain and whether it is a space
+abbrev by_kind : Bool → Bool → ℕ → List ℕ
+by_kind plain space b =
+    if plain then b ∷ [] else if space then codes "_"
+    else 37 ∷ hex (b / 16) ∷ hex (b % 16) ∷ []
+
+split_by : (a b : ℕ) (xs ys : List ℕ) → a < 256 → b < 256 → (p q u v : Bool)
+    → is_plain a ≡ p → is_plain b ≡ q → (a == 32) ≡ u → (b == 32) ≡ v
+    → by_kind p u a ++ xs ≡ by_kind q v b ++ ys → Split a b xs ys
+split_by a b xs ys la lb true true u v pa pb sa sb e =
+    record { same = heads a b xs ys e; rest = tails a b xs ys e }
+split_by a b xs ys la lb true false u true pa pb sa sb e =
+    absurd (let h : a ≡ 95 = heads a 95 xs ys e in grind (arith, nat_tests))
+split_by a b xs ys la lb true false u false pa pb sa sb e =
+    absurd (let h : a ≡ 37 = heads a 37 xs _ e in grind (arith, nat_tests))
+split_by a b xs ys la lb false true true v pa pb sa sb e =
+    absurd (let h : 95 ≡ b = heads 95 b xs ys e in grind (arith, nat_tests))
+split_by a b xs ys la lb false true false v pa pb sa sb e =
+    absurd (let h : 37 ≡ b = heads 37 b _ ys e in grind (arith, nat_tests))
+split_by a b xs ys la lb false false true true pa pb sa sb e = record {
+  same = grind (arith, nat_tests);
+  rest = tails 95 95 xs ys e;
+}
+split_by a b xs ys la lb false false true false pa pb sa sb e =
+    absurd (let h : 95 ≡ 37 = heads 95 37 xs _ e in omega (arith, h))
+split_by a b xs ys la lb false false false true pa pb sa sb e =
+    absurd (let h : 37 ≡ 95 = heads 37 95 _ ys e in omega (arith, h))
+split_by a b xs ys la lb false false false false pa pb sa sb e = split_hex a b xs ys la lb e
+
+split_one : (a b : ℕ) (xs ys : List ℕ) → a < 256 → b < 256
+    → escaped a ++ xs ≡ escaped b ++ ys → Split a b xs ys
+split_one a b xs ys la lb e =
+    split_by a b xs ys la lb (is_plain a) (is_plain b) (a == 32) (b == 32) refl refl refl refl e
+
+-- identifiers of one length whose texts begin one text are one
+record SplitAll (s t xs ys : List ℕ) : Type 0 where
+  same : s ≡ t
+  rest : xs ≡ ys
+
+split_all : (s t xs ys : List ℕ) → AreBytes s → AreBytes t → length s ≡ length t
+    → escaped_all s ++ xs ≡ escaped_all t ++ ys → SplitAll s t xs ys
+split_all [] [] xs ys ss ts n e = record { same = refl; rest = e }
+split_all [] (b ∷ t) xs ys ss ts n e = absurd (omega (arith, n))
+split_all (a ∷ s) [] xs ys ss ts n e = absurd (omega (arith, n))
+split_all (a ∷ s) (b ∷ t) xs ys (la, ss) (lb, ts) n e =
+    let one = split_one a b (escaped_all s ++ xs) (escaped_all t ++ ys) la lb
+    (sym (append_assoc (escaped a) (escaped_all s) xs) ∙ e
+    ∙ append_assoc (escaped b) (escaped_all t) ys) in
+    let more = split_all s t xs ys ss ts (omega (arith, n)) one.rest in
+    record {
+      same = ap (λ c. c ∷ s) one.same ∙ ap (λ r. b ∷ r) more.same;
+      rest = more.rest;
+    }
+
+-- ---- numbers
+
+abbrev IsDigit : ℕ → Type 0
+IsDigit b = (48 ≤ b) × (b ≤ 57)
+
+digits_more : (xs : List ℕ) (d : ℕ) → AllByRecursion IsDigit xs → IsDigit d
+    → AllByRecursion IsDigit (xs ++ d ∷ [])
+digits_more [] d all is = (is, tt)
+digits_more (x ∷ xs) d (one, all) is = (one, digits_more xs d all is)
+
+digits_are : (n : ℕ) → n < 2 ^ 64 → AllByRecursion IsDigit (decimal n)
+digits_are = decimal_by_steps (λ n ds. AllByRecursion IsDigit ds)
+    (λ n small. ((omega arith, omega (arith, small)), tt))
+    (λ n ds some all. let low : n % 10 < 10 = mod_below n 10 (omega arith) in
+    digits_more ds (48 + n % 10) all (omega arith, omega (arith, low)))
+
+-- what stands before the first full stop
+before_stop : (p q xs ys : List ℕ) → AllByRecursion IsDigit p → AllByRecursion IsDigit q
+    → p ++ 46 ∷ xs ≡ q ++ 46 ∷ ys → p ≡ q
+before_stop [] [] xs ys ps qs e = refl
+before_stop [] (b ∷ q) xs ys ps (is, qs) e =
+    absurd (let h : 46 ≡ b = heads 46 b xs _ e in omega (arith, h, is.0))
+before_stop (a ∷ p) [] xs ys (is, ps) qs e =
+    absurd (let h : a ≡ 46 = heads a 46 _ ys e in omega (arith, h, is.0))
+before_stop (a ∷ p) (b ∷ q) xs ys (pa, ps) (qb, qs) e =
+    ap (λ c. c ∷ p) (heads a b _ _ e)
+    ∙ ap (λ r. b ∷ r) (before_stop p q xs ys ps qs (tails a b _ _ e))
+
+wide : (n : ℕ) → n < 2 ^ 16 → n < 2 ^ 64
+wide n p = omega (arith, p)
+
+-- what stands behind the set identifier
+abbrev numbered : ℕ → List ℕ → List ℕ
+numbered n a = decimal n ++ 46 ∷ fit_text a
+
+grouped : (s a : List ℕ) (n : ℕ) → file_name s n a ≡ escaped_all s ++ 46 ∷ numbered n a
+grouped s a n =
+    let dot : List ℕ = 46 ∷ [] in
+    append_assoc (((escaped_all s ++ dot) ++ decimal n)) dot (fit_text a)
+    ∙ append_assoc (escaped_all s ++ dot) (decimal n) (dot ++ fit_text a)
+    ∙ append_assoc (escaped_all s) dot (decimal n ++ (dot ++ fit_text a))
+
+pub names_differ : NamesDiffer
+names_differ s t m n a b ss ts long lm ln e =
+    let all = split_all s t (46 ∷ numbered m a) (46 ∷ numbered n b) ss ts long
+    (sym (grouped s a m) ∙ e ∙ grouped t b n) in
+    let behind = tails 46 46 (numbered m a) (numbered n b) all.rest in (
+      all.same,
+      decimal_injective m n (wide m lm) (wide n ln)
+          (before_stop (decimal m) (decimal n) (fit_text a) (fit_text b) (digits_are m (wide m lm))
+          (digits_are n (wide n ln)) behind),
+    )
+
+-- ---- folders
+
+stands_more : (xs ys : List ℕ) → AllByRecursion MayStand xs → AllByRecursion MayStand ys
+    → AllByRecursion MayStand (xs ++ ys)
+stands_more [] ys xsa ysa = ysa
+stands_more (x ∷ xs) ys (one, xsa) ysa = (one, stands_more xs ys xsa ysa)
+
+hex_stands : (n : ℕ) → n < 16 → MayStand (hex n)
+hex_stands n small = grind (arith, nat_tests)
+
+kind_stands : (b : ℕ) → b < 256 → (plain space : Bool) → is_plain b ≡ plain
+    → AllByRecursion MayStand (by_kind plain space b)
+kind_stands b small true space is = (grind (arith, nat_tests), tt)
+kind_stands b small false true is = ((omega arith, omega arith, λ e. omega (arith, e)), tt)
+kind_stands b small false false is =
+    let high = hex_stands (b / 16) (div_below b 16 16 (omega arith) small) in
+    let low = hex_stands (b % 16) (mod_below b 16 (omega arith)) in
+    ((omega arith, omega arith, λ e. omega (arith, e)), (high, (low, tt)))
+
+set_stands : (s : List ℕ) → AreBytes s → AllByRecursion MayStand (escaped_all s)
+set_stands [] ss = tt
+set_stands (b ∷ s) (small, ss) =
+    stands_more (escaped b) (escaped_all s)
+    (kind_stands b small (is_plain b) (b == 32) refl) (set_stands s ss)
+
+digits_stand : (ds : List ℕ) → AllByRecursion IsDigit ds → AllByRecursion MayStand ds
+digits_stand [] all = tt
+digits_stand (d ∷ ds) ((low, high), all) =
+    ((omega (arith, low), omega (arith, high), λ e. omega (arith, e, low)), digits_stand ds all)
+
+fit_stands : (b : ℕ) → MayStand (fit b)
+fit_stands b = grind (arith, nat_tests)
+
+all_fit : (bs : List ℕ) → AllByRecursion MayStand (map fit bs)
+all_fit [] = tt
+all_fit (b ∷ bs) = (fit_stands b, all_fit bs)
+
+long : (s a : List ℕ) (n : ℕ) → n < 2 ^ 16 → 3 ≤ length (file_name s n a)
+long s a n small =
+    let all : length (file_name s n a) ≡ length (escaped_all s) + suc (length (numbered n a)) =
+    ap length (grouped s a n) ∙ length-append (escaped_all s) (46 ∷ numbered n a) in
+    let behind : length (numbered n a) ≡ length (decimal n) + suc (length (fit_text a)) =
+    length-append (decimal n) (46 ∷ fit_text a) in
+    omega (arith, decimal_nonempty n (wide n small), all, behind)
+
+pub names_stay : NamesStay
+names_stay s n a ss small =
+    let most = long s a n small in
+    let full : MayStand 46 = (omega arith, omega arith, λ e. omega (arith, e)) in
+    record {
+      bytes = subst (AllByRecursion MayStand) (sym (grouped s a n))
+          (stands_more (escaped_all s) (46 ∷ numbered n a) (set_stands s ss) (
+            full,
+            stands_more (decimal n) (46 ∷ fit_text a)
+                (digits_stand (decimal n) (digits_are n (wide n small)))
+                (full, all_fit (take (trimmed_len a) a)),
+          ));
+      some = λ e. omega (arith, most, ap length e);
+      not_itself = λ e. omega (arith, most, ap length e);
+      not_above = λ e. omega (arith, most, ap length e);
+    }

@@ -1,0 +1,5 @@
+use Rattle.tape_run.proofs.UnpackedNames.{names_stay}
+use Rattle.tape_run.proofs.unpack_laws.names_stay.Goals as goal
+
+pub returns : goal.returns
+returns c = names_stay

@@ -1,0 +1,93 @@
+-- Which files are unpacked from images, and under which names.
+use Rattle.std.specs.Prelude.{◌≡◌, ◌==◌, ◌&&◌, ◌||◌, not, ℕ, zero, suc, ◌+◌, ◌/◌, ◌%◌, nat_le, nat_lt}
+use Rattle.std.specs.Prelude.{Bool, if◌then◌else◌, List, [], ◌∷◌, ◌++◌, length, map, take, Option, Some}
+use Rattle.std.specs.Prelude.{None}
+use Rattle.std.specs.Prelude.{codes, decimal}
+use Rattle.std.specs.List.{flat_map}
+use Rattle.tape_run.specs.declared.survey.view.Sight.{Sight}
+use Rattle.tape_run.specs.declared.survey.files.FileNote.{FileNote}
+use Rattle.tape_run.specs.declared.unpack.Heading.{Heading}
+use Rattle.tape_run.specs.declared.unpack.Heading.TheVariants.{NotMet, Differs, Named}
+use Rattle.tape_run.specs.declared.unpack.SetFile.{SetFile}
+use Rattle.tape_run.specs.declared.unpack.ShelfFiles.{ShelfFiles}
+use Rattle.tape_run.specs.Lacks.{SetFiles, sets_from}
+use Rattle.tape_run.specs.Reeling.{Mounting}
+use Rattle.tape_run.specs.SurveyFiles.{note_at, file_key}
+use Rattle.tape_run.specs.SurveyLine.{trimmed_len}
+use Rattle.tape_run.specs.SurveyRead.{Found, nothing_found, AreViewed}
+
+-- what header labels tell of which this is known
+abbrev pub heading_of : Option FileNote → Heading
+heading_of None = NotMet
+heading_of (Some note) = if note.differs then Differs else Named note.head.file_id
+
+-- a file, and what is known of it
+abbrev pub file_of : Found → List ℕ → ℕ → SetFile
+file_of d set_id file = record {
+  set_id = set_id;
+  file = file;
+  heading = heading_of (note_at d.files (file_key set_id file));
+}
+
+-- n files of a set, from this one on
+abbrev pub files_from : Found → List ℕ → ℕ → ℕ → List SetFile
+files_from d set_id file zero = []
+files_from d set_id file (suc n) = file_of d set_id file ∷ files_from d set_id (file + 1) n
+
+-- the files of sets, each from 1 to the greatest number that was met
+abbrev pub set_files : Found → List SetFiles → List SetFile
+set_files d sets = flat_map (λ x. files_from d x.0 1 x.1) sets
+
+-- the files of all sets that were met, in the order in which they were met first
+abbrev pub files_of : Found → List SetFile
+files_of d = set_files d (sets_from [] d.sections)
+
+-- All images of a shelf were mounted and read, one after another, and this was found.
+pub record ViewsAll {L R : Type 0} (size : L → ℕ) (gives : Mounting L R)
+    (remaining : R → Option (List ℕ)) (shelf left : L) (found : Found) : Type 0 where
+  pub sights : List (Option Sight)
+  pub all : length sights ≡ size shelf
+  pub viewed : AreViewed gives remaining shelf 0 sights nothing_found left found
+
+-- These are the files of all sets that were met on them, and it is told so whether nothing on them
+-- is left over.
+pub record FilesOn {L R : Type 0} (size : L → ℕ) (gives : Mounting L R)
+    (remaining : R → Option (List ℕ)) (shelf left : L) (met : ShelfFiles) : Type 0 where
+  pub found : Found
+  pub viewed : ViewsAll size gives remaining shelf left found
+  pub files : met.files ≡ files_of found
+  pub whole : met.whole ≡ found.whole
+
+-- ---- names
+
+-- a digit or a letter
+abbrev pub is_plain : ℕ → Bool
+is_plain b = (nat_le 48 b && nat_le b 57)
+    || ((nat_le 65 b && nat_le b 90) || (nat_le 97 b && nat_le b 122))
+
+-- a hexadecimal digit
+abbrev pub hex : ℕ → ℕ
+hex n = if nat_lt n 10 then 48 + n else 55 + n
+
+-- a byte of a set identifier
+abbrev pub escaped : ℕ → List ℕ
+escaped b =
+    if is_plain b then b ∷ [] else if b == 32 then codes "_"
+    else 37 ∷ hex (b / 16) ∷ hex (b % 16) ∷ []
+
+-- a set identifier
+abbrev pub escaped_all : List ℕ → List ℕ
+escaped_all set_id = flat_map escaped set_id
+
+-- a byte of a file identifier
+abbrev pub fit : ℕ → ℕ
+fit b = if nat_le 32 b && (nat_le b 126 && not (b == 47)) then b else 95
+
+-- a file identifier, without the spaces at its end
+abbrev pub fit_text : List ℕ → List ℕ
+fit_text bytes = map fit (take (trimmed_len bytes) bytes)
+
+-- the name under which a file is unpacked
+abbrev pub file_name : List ℕ → ℕ → List ℕ → List ℕ
+file_name set_id file file_id =
+    escaped_all set_id ++ codes "." ++ decimal file ++ codes "." ++ fit_text file_id

@@ -1,0 +1,191 @@
+//! `unpack`: which files are on the images of a shelf.
+ghost use Rattle.std.specs.Prelude.{◌≡◌, ◌<◌, ◌+◌, ◌++◌, ◌∷◌, [], length, take, IfOk, OnOk, option_map};
+ghost use Rattle.std.specs.Result.{IsOkUnless};
+ghost use Rattle.tape_run.specs.SurveyRead.{nothing_found};
+ghost use Rattle.tape_run.specs.Unpacking.{heading_of, file_of, files_from, set_files};
+ghost use Rattle.tape_run.specs.Unpacking.{files_of, FilesOn, ViewsAll};
+ghost use Rattle.tape_run.specs.declared.fault.RunFault.TheVariants as faults;
+
+pub mod line;
+pub mod name;
+
+use crate::fault::RunFault;
+use crate::report::{Sets, sets_of};
+use crate::shelf::Shelf;
+use crate::survey::files::{FileKey, FileNote};
+use crate::survey::view::Findings;
+use std::alloc::{AllocError, Global};
+use std::io::Read;
+use tape_label::Field;
+use tape_set::Sequence;
+
+/// What header labels tell under the number of a file.
+#[derive(Clone, Copy)]
+pub enum Heading {
+    /// None was met.
+    NotMet,
+    /// Labels of different files were met.
+    Differs,
+    /// Those that were met are of one file, with this file identifier.
+    Named(Field<17>),
+}
+
+/// A file of a set.
+#[derive(Clone, Copy)]
+pub struct SetFile {
+    pub set_id: Field<6>,
+    /// Its number in the set, from 1.
+    pub file: u16,
+    pub heading: Heading,
+}
+
+/// What was met on the images of a shelf.
+#[derive(Drop)]
+pub struct ShelfFiles {
+    /// The files: set by set in the order in which the sets were met first, and file by file from 1
+    /// to the greatest number that was met.
+    pub files: Sequence<SetFile>,
+    /// Whether nothing on the images is left over: each was opened, and is a volume from its label
+    /// to its end, in formats that are read.
+    pub whole: bool,
+}
+
+/// The files of all sets that were met on the images of a shelf: just those of which `survey` tells.
+///
+/// Images are mounted in their order, each read to its end or to a fault, and then let go. It takes
+/// memory for the reader of one image, and else for the sections and files that were met alone.
+///
+/// # Errors
+///
+/// `OutOfMemory`, and nothing else.
+pub fn files_on<R: Read + Drop, L: Shelf<R>>(
+    alloc: Global,
+    images: &mut L,
+) -> Result<ShelfFiles, RunFault>
+    ensures ok { IfOk result
+        (FilesOn L.size L.gives R.remaining images.old images.new) }
+    ensures fault { IsOkUnless result faults.OutOfMemory }
+{
+    let mut findings = Findings::new(alloc);
+    view_images(&mut findings, images)?;
+    let whole = findings.whole;
+    match files_of(alloc, &findings) {
+        Ok(files) => Ok(ShelfFiles {
+            files: Sequence::of_vec(files),
+            whole,
+        }),
+        Err(_) => Err(RunFault::OutOfMemory),
+    }
+}
+
+/// Reads the images of a shelf.
+fn view_images<R: Read + Drop, L: Shelf<R>>(
+    findings: &mut Findings,
+    images: &mut L,
+) -> Result<(), RunFault>
+    requires { findings.old ≡ nothing_found }
+    ensures ok { OnOk result
+        (ViewsAll L.size L.gives R.remaining images.old images.new findings.new) }
+    ensures fault { IsOkUnless result faults.OutOfMemory }
+{
+    for number in 0..images.count() {
+        let Ok(image) = images.mount(number) else {
+            return Err(RunFault::OutOfMemory);
+        };
+        findings.read(image)?;
+    }
+    Ok(())
+}
+
+/// What header labels tell of which this is known.
+fn heading_of(note: Option<&FileNote>) -> Heading
+    ensures { result ≡ heading_of (option_map (λ n. n.now) note.entry) }
+{
+    match note {
+        None => Heading::NotMet,
+        Some(note) if note.differs => Heading::Differs,
+        Some(note) => Heading::Named(note.head.file_id),
+    }
+}
+
+/// Adds a file to those before it.
+fn add_file(
+    files: &mut Vec<SetFile>,
+    findings: &Findings,
+    set_id: Field<6>,
+    file: u16,
+) -> Result<(), AllocError>
+    ensures { OnOk result (files.new.items
+        ≡ files.old.items ++ file_of findings.now set_id file ∷ []) }
+{
+    let key = FileKey { set_id, file };
+    let heading = heading_of(findings.files.get(&key));
+    let added = files.push(SetFile {
+        set_id,
+        file,
+        heading,
+    });
+    match added {
+        Ok(()) => Ok(()),
+        Err(_) => Err(AllocError),
+    }
+}
+
+/// Adds the files of a set, up to the greatest number of one.
+fn add_files(
+    files: &mut Vec<SetFile>,
+    findings: &Findings,
+    set_id: Field<6>,
+    greatest: u16,
+) -> Result<(), AllocError>
+    ensures { OnOk result (files.new.items
+        ≡ files.old.items ++ files_from findings.now set_id 1 greatest) }
+{
+    for before in 0..greatest {
+        add_file(files, findings, set_id, before + 1)?;
+    }
+    Ok(())
+}
+
+/// Adds the files of the set at a place to those of the sets before it.
+fn add_place(
+    files: &mut Vec<SetFile>,
+    findings: &Findings,
+    sets: &Sets,
+    place: usize,
+) -> Result<(), AllocError>
+    requires { place < length sets.now.entries }
+    ensures { OnOk result (
+        files.old.items ≡ set_files findings.now (take place sets.now.entries)
+        → files.new.items ≡ set_files findings.now (take (place + 1) sets.now.entries)) }
+{
+    let Some((set_id, greatest)) = sets.get_index(place) else {
+        unreachable!()
+    };
+    add_files(files, findings, *set_id, *greatest)?;
+    Ok(())
+}
+
+/// The files of these sets.
+fn files_of_sets(
+    alloc: Global,
+    findings: &Findings,
+    sets: &Sets,
+) -> Result<Vec<SetFile>, AllocError>
+    ensures { IfOk result (λ files. files.items ≡ set_files findings.now sets.now.entries) }
+{
+    let mut files = Vec::new(alloc);
+    for place in 0..sets.len() {
+        add_place(&mut files, findings, sets, place)?;
+    }
+    Ok(files)
+}
+
+/// The files of all sets that were met.
+fn files_of(alloc: Global, findings: &Findings) -> Result<Vec<SetFile>, AllocError>
+    ensures { IfOk result (λ files. files.items ≡ files_of findings.now) }
+{
+    let sets = sets_of(alloc, &findings.sections)?;
+    let files = files_of_sets(alloc, findings, &sets)?;
+    Ok(files)
+}

@@ -1,0 +1,91 @@
+//! The lines that `unpack` tells.
+ghost use Rattle.std.specs.Prelude.{◌≡◌, ◌≤◌, ◌++◌, length, IfOk};
+ghost use Rattle.arrayvec.specs.ArrayVec.{array_vec_len};
+ghost use Rattle.tape_run.specs.UnpackLine.{file_front, path_text, file_line, fate_text};
+ghost use Rattle.tape_run.specs.UnpackLine.{left_over_line};
+
+use crate::survey::name_text;
+use crate::survey::text::{Text, put, put_field, put_number};
+use std::alloc::{AllocError, Global};
+use tape_label::Field;
+
+/// What became of a file that was not gathered.
+#[derive(Clone, Copy, PartialEq, Eq)]
+pub enum Fate {
+    /// Something of its name is there, and is left as it is.
+    Kept,
+    /// Labels of different files were met under its number.
+    Differs,
+    /// No label of it was met.
+    NotMet,
+    /// A fault ended it.
+    Failed,
+}
+
+/// What is told of a file of which this became.
+pub fn fate_text(fate: Fate) -> &'static [u8]
+    ensures { result.now ≡ fate_text fate }
+{
+    match fate {
+        Fate::Kept => b"KEPT",
+        Fate::Differs => b"DIFFERS",
+        Fate::NotMet => b"NOT MET",
+        Fate::Failed => b"FAILED",
+    }
+}
+
+/// The line of a file: its set, its number, what became of it, and the path of its records or of its
+/// stage where there is one. A question mark stands for each byte of the set identifier that can't
+/// be printed, and for each of the path that would move the line.
+///
+/// # Errors
+///
+/// `AllocError`: a growth was refused.
+pub fn file_line(
+    alloc: Global,
+    set_id: &Field<6>,
+    file: u16,
+    told: &[u8],
+    path: &str,
+) -> Result<Vec<u8>, AllocError>
+    ensures { IfOk result (λ line. line.items ≡ file_line set_id.now file told.now path.now) }
+{
+    let front = file_front(set_id, file);
+    let mut line = Vec::from_slice(alloc, &front)?;
+    line.extend_from_slice(told)?;
+    put_path(alloc, &mut line, path)?;
+    line.push(b'\n')?;
+    Ok(line)
+}
+
+/// The words in front.
+fn file_front(set_id: &Field<6>, file: u16) -> Text
+    ensures { result.items ≡ file_front set_id.now file }
+{
+    let mut text = Text::new();
+    put(&mut text, b"FILE ");
+    put_field(&mut text, set_id);
+    put(&mut text, b" ");
+    put_number(&mut text, u64::from(file));
+    put(&mut text, b" ");
+    text
+}
+
+/// A path, if it is one.
+fn put_path(alloc: Global, line: &mut Vec<u8>, path: &str) -> Result<(), AllocError>
+    ensures { IfOk result (λ _. line.new.items ≡ line.old.items ++ path_text path.now) }
+{
+    if path.is_empty() {
+        return Ok(());
+    }
+    let name = name_text(alloc, path)?;
+    line.push(b' ')?;
+    line.extend_from_slice(name.as_slice())
+}
+
+/// The last line, which there is where something on the images is left over.
+pub fn left_over_line(whole: bool) -> &'static [u8]
+    ensures { result.now ≡ left_over_line whole }
+{
+    if whole { b"" } else { b"LEFT OVER\n" }
+}

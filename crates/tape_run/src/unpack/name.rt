@@ -1,0 +1,93 @@
+//! The names under which files are unpacked.
+ghost use Rattle.std.specs.Prelude.{◌≡◌, ◌≤◌, ◌<◌, ◌+◌, ◌*◌, ◌++◌, length};
+ghost use Rattle.arrayvec.specs.ArrayVec.{array_vec_len};
+ghost use Rattle.tape_run.specs.Unpacking.{is_plain, hex, escaped, escaped_all, fit, fit_text};
+ghost use Rattle.tape_run.specs.Unpacking.{file_name};
+
+use crate::survey::text::{Text, put, put_number, trimmed_len};
+use tape_label::Field;
+
+/// The name of a file, `SET.FILE.NAME`: its set identifier, its number there and its file
+/// identifier, as `ABC001.1.PAYROLL`.
+///
+/// It is a name of its own in a folder: files of different numbers or of different sets never have
+/// one name (`names_differ`), and none leads out of the folder (`names_stay`). In the set identifier
+/// digits and letters stand as they are; `_` stands for a space, and `%` with two hexadecimal digits
+/// for any other byte. The file identifier stands without the spaces at its end, with `_` for `/`
+/// and for each byte that can't be printed.
+pub fn file_name(set_id: &Field<6>, file: u16, file_id: &Field<17>) -> Text
+    ensures { result.items ≡ file_name set_id.now file file_id.now }
+{
+    let mut text = Text::new();
+    put_escaped(&mut text, set_id);
+    put(&mut text, b".");
+    put_number(&mut text, u64::from(file));
+    put(&mut text, b".");
+    put_fit(&mut text, file_id);
+    text
+}
+
+/// Whether the byte is a digit or a letter.
+fn is_plain(byte: u8) -> bool
+    ensures { result ≡ is_plain byte }
+{
+    (b'0'..=b'9').contains(&byte) || (b'A'..=b'Z').contains(&byte) || (b'a'..=b'z').contains(&byte)
+}
+
+/// A hexadecimal digit.
+fn hex(digit: u8) -> u8
+    requires { digit < 16 }
+    ensures { result ≡ hex digit }
+{
+    if digit < 10 { b'0' + digit } else { 55 + digit }
+}
+
+/// A byte of a set identifier.
+fn put_byte(text: &mut Text, byte: u8)
+    requires { array_vec_len text.old ≤ 100 }
+    ensures items { text.new.items ≡ text.old.items ++ escaped byte }
+    ensures len { array_vec_len text.new ≤ array_vec_len text.old + 3 }
+{
+    if is_plain(byte) {
+        text.push(byte);
+    } else if byte == b' ' {
+        text.push(b'_');
+    } else {
+        text.push(b'%');
+        text.push(hex(byte / 16));
+        text.push(hex(byte % 16));
+    }
+}
+
+/// A set identifier.
+fn put_escaped(text: &mut Text, set_id: &Field<6>)
+    requires { array_vec_len text.old ≤ 50 }
+    ensures items { text.new.items ≡ text.old.items ++ escaped_all set_id.now }
+    ensures len { array_vec_len text.new ≤ array_vec_len text.old + 18 }
+{
+    for byte in set_id.bytes() {
+        put_byte(text, *byte);
+    }
+}
+
+/// A byte of a file identifier.
+fn fit(byte: u8) -> u8
+    ensures { result ≡ fit byte }
+{
+    if (b' '..=b'~').contains(&byte) && byte != b'/' {
+        byte
+    } else {
+        b'_'
+    }
+}
+
+/// A file identifier, without the spaces at its end.
+fn put_fit(text: &mut Text, file_id: &Field<17>)
+    requires { array_vec_len text.old ≤ 200 }
+    ensures items { text.new.items ≡ text.old.items ++ fit_text file_id.now }
+{
+    let bytes = file_id.bytes();
+    for byte in &bytes[..trimmed_len(bytes)] {
+        text.push(fit(*byte));
+    }
+}
