@@ -25,6 +25,8 @@ pub enum Site<'a> {
     Out(&'a str),
     /// Where what was gathered is kept.
     Stage(&'a str),
+    /// The folder that files are unpacked into.
+    Folder(&'a str),
 }
 
 impl fmt::Display for Site<'_> {
@@ -43,6 +45,7 @@ impl fmt::Display for Site<'_> {
             Site::List(Some(path)) => writeln!(f, "  List: {path}"),
             Site::Out(path) => writeln!(f, "  OUT: {path}"),
             Site::Stage(path) => writeln!(f, "  Stage: {path}"),
+            Site::Folder(path) => writeln!(f, "  DIR: {path}"),
         }
     }
 }
@@ -108,6 +111,7 @@ fn files_at(site: Site<'_>) -> &'static [&'static str] {
         Site::List(_) => FILE_OF_LIST,
         Site::Out(_) => FILE_OF_OUT,
         Site::Stage(_) => FILE_OF_STAGE,
+        Site::Folder(_) => FILE_OF_FOLDER,
         Site::Lines => FILE_OF_LINES,
         Site::File(_) | Site::Unknown => FILE,
     }
@@ -283,6 +287,17 @@ const FILE_OF_STAGE: &[&str] = &[
     NEVER,
 ];
 
+const FILE_OF_FOLDER: &[&str] = &[
+    NEVER,
+    "  It, or a file in it, could not be opened or made. Files told before stay.
+  Is DIR there, and may you read and write there?
+",
+    NEVER,
+    "  A file in it, or standard output, takes no more: a full disk, or a closed
+  pipe. Files told before stay, and what stages keep. Make room, and call again.
+",
+];
+
 const RUN: &[&str] = &[
     "  What was gathered could not be kept: no memory, or a full or failing disk.
   What the stage had saved before stays.
@@ -329,6 +344,7 @@ pub const TEXTS: &[&[&str]] = &[
     FILE_OF_LIST,
     FILE_OF_OUT,
     FILE_OF_STAGE,
+    FILE_OF_FOLDER,
     RUN,
     STAGE,
 ];

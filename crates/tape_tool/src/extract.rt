@@ -9,4 +9,4 @@ mod stage_file;
 pub use draft::{Draft, OutName};
 pub use guard::{Way, way_to_out};
 pub use out_file::OutFile;
-pub use program::extract;
+pub use program::{extract, extract_file};

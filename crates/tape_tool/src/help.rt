@@ -1,9 +1,13 @@
 //! The texts of help, and of mistakes in words that the program finds itself.
 mod lists;
+mod unpack;
 mod volumes;
 
 pub use lists::{
     FROM, NO_IMAGE, NO_TEXT_IN_LIST, NUL_IN_LINES, NULL, TOO_MANY_TO_CHECK, TOO_MANY_TO_SURVEY,
+};
+pub use unpack::{
+    ABOUT_UNPACK, AFTER_UNPACK, DIR_IS_NO_FOLDER, FOLDER_OF_FILES, FORM_OF_FILES, TOO_MANY_TO_UNPACK,
 };
 pub use volumes::{
     ABOUT_INIT, ABOUT_WRITE, AFTER_INIT, AFTER_WRITE, BLOCK, CAPACITY, COUNT, FILES, FOLDER, FORM,

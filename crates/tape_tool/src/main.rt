@@ -21,6 +21,7 @@ mod telling;
 #[cfg(test)]
 mod tests;
 mod unfit;
+mod unpack;
 mod words;
 mod write;
 

@@ -11,6 +11,7 @@ use crate::outline::{Outline, mistake};
 use crate::show::show;
 use crate::survey_files::survey;
 use crate::unfit::Unfit;
+use crate::unpack::unpack;
 use crate::words::{Listing, Order, call_of};
 use crate::write::command::write;
 use crate::write::guard::{look_ahead, wrong_file};
@@ -88,6 +89,7 @@ fn obey<'a, R: Host>(rt: &R, order: &Order<'a>, site: &mut Site<'a>) -> End {
         Order::Survey(order) => survey(rt, order, site),
         Order::Write(order) => write_files(rt, order, site),
         Order::Extract(order) => extract(rt, order, site),
+        Order::Unpack(order) => unpack(rt, order, site),
         Order::Show(order) => show(rt, order, site),
     }
 }

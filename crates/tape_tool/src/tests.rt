@@ -11,6 +11,7 @@ mod program;
 mod showing;
 mod staged_program;
 mod staging;
+mod unpack_program;
 mod volumes;
 mod words;
 mod write;

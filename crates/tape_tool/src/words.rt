@@ -10,7 +10,7 @@ use crate::outline::{command_of, mistake};
 use crate::write::words::{WRITE, WriteOrder, write_order};
 use clap::{Arg, ArgAction, ArgMatches, Command, Error};
 use outlines::{INIT, LIST};
-pub use outlines::{CHECK, EXTRACT, FORMS, STAGE, SURVEY};
+pub use outlines::{CHECK, EXTRACT, FORMS, STAGE, SURVEY, UNPACK};
 use std::alloc::{AllocError, Global};
 use tape_blocks::Form;
 use tape_label::Field;
@@ -40,6 +40,8 @@ pub enum Order<'a> {
     Write(WriteOrder<'a>),
     /// Get a file back from images.
     Extract(Extract<'a>),
+    /// Get every file back from images.
+    Unpack(Unpack<'a>),
     /// Tell what a stage holds.
     Show(Show<'a>),
 }
@@ -73,15 +75,29 @@ const MOST_IMAGES: usize = 256;
 /// What `extract` gets back, and from what: a file of a set, from images in their order.
 #[derive(Drop)]
 pub struct Extract<'a> {
+    pub task: Task<'a>,
+    pub images: Named<'a>,
+}
+
+/// A file of a set to be got back, and how.
+#[derive(Clone, Copy)]
+pub struct Task<'a> {
     pub set_id: Field<6>,
     pub file: u16,
     pub out: &'a str,
-    pub images: Named<'a>,
     pub form: Form,
     /// Where what was gathered is kept.
     pub stage: Option<&'a str>,
     /// Whether the images are read round by round.
     pub again: bool,
+}
+
+/// What `unpack` gets back, and from what: every file, into a folder.
+#[derive(Drop)]
+pub struct Unpack<'a> {
+    pub folder: &'a str,
+    pub images: Named<'a>,
+    pub form: Form,
 }
 
 /// What `stage` tells of, and where the records go that are there.
@@ -95,7 +111,7 @@ pub struct Show<'a> {
 /// The commands and their words.
 fn command<'a>(alloc: Global) -> Result<Command<'a>, AllocError> {
     let mut command = tape_command(alloc)?.arg(explain_option(alloc))?;
-    for outline in [&LIST, &CHECK, &SURVEY, &EXTRACT, &STAGE, &INIT, &WRITE] {
+    for outline in [&LIST, &CHECK, &SURVEY, &EXTRACT, &UNPACK, &STAGE, &INIT, &WRITE] {
         command = command.subcommand(command_of(alloc, outline)?)?;
     }
     Ok(command)
@@ -151,6 +167,9 @@ fn order_of<'a>(alloc: Global, matches: &ArgMatches<'a>) -> Result<Order<'a>, Er
     }
     if let Some(extract) = matches.subcommand_matches("extract") {
         return extract_order(alloc, extract);
+    }
+    if let Some(unpack) = matches.subcommand_matches("unpack") {
+        return unpack_order(alloc, unpack);
     }
     if let Some(stage) = matches.subcommand_matches("stage") {
         return stage_order(alloc, stage);
@@ -235,14 +254,30 @@ fn extract_order<'a>(alloc: Global, matches: &ArgMatches<'a>) -> Result<Order<'a
     if out == "-" {
         return Err(mistake(alloc, &EXTRACT, help::OUT_IS_DASH)?);
     }
-    Ok(Order::Extract(Extract {
+    let task = Task {
         set_id,
         file: matches.get_one::<u16>("FILE").unwrap_or(0),
         out,
-        images,
         form: form_of(matches),
         stage: matches.get_str("stage"),
         again: matches.get_flag("again"),
+    };
+    Ok(Order::Extract(Extract { task, images }))
+}
+
+/// What the words behind `unpack` ask for. The parser has seen to it that all of them are there.
+fn unpack_order<'a>(alloc: Global, matches: &ArgMatches<'a>) -> Result<Order<'a>, Error> {
+    let Some(images) = named(alloc, matches)? else {
+        return Err(mistake(alloc, &UNPACK, help::TOO_MANY_TO_UNPACK)?);
+    };
+    let folder = matches.get_str("DIR").unwrap_or("");
+    if folder.is_empty() {
+        return Err(mistake(alloc, &UNPACK, help::NO_FOLDER)?);
+    }
+    Ok(Order::Unpack(Unpack {
+        folder,
+        images,
+        form: form_of(matches),
     }))
 }
 

@@ -34,6 +34,8 @@ const FRONT: usize = 148;
 pub enum Way {
     /// A new file takes its name once it is complete.
     Renamed,
+    /// The same, where nothing stands under the name: it is never written in place.
+    New,
     /// What stands there is no plain file, as a pipe, a device or a link: it is written to.
     InPlace,
 }
@@ -49,10 +51,10 @@ pub fn way_of<R: Runtime + AllocGlobal>(
     images: &[&str],
 ) -> Result<Way, Unfit> {
     let list = order.images.list.and_then(|list| list.file);
-    if let (Some(list), Ok(found)) = (list, fs::metadata(rt, order.out)) {
+    if let (Some(list), Ok(found)) = (list, fs::metadata(rt, order.task.out)) {
         differs(rt, &found, list, help::OUT_IS_LIST)?;
     }
-    way_to_out(rt, order.out, order.stage, images)
+    way_to_out(rt, order.task.out, order.task.stage, images)
 }
 
 /// How an output of what the stage and the images hold is to be written. Nothing is made or

@@ -74,7 +74,7 @@ fn show_disk<'a, R: Host>(rt: &'a R, order: &Show<'a>, way: Option<Way>, disk: S
     };
     let drafted = match way {
         Way::InPlace => Ok(None),
-        Way::Renamed => OutName::make(rt.alloc(), rt, out),
+        Way::Renamed | Way::New => OutName::make(rt.alloc(), rt, out),
     };
     match drafted {
         Ok(Some((name, file))) => {

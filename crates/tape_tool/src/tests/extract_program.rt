@@ -225,9 +225,10 @@ const WRONG: &[&str] = &[
 
 /// What `extract AB 9999 out.txt a.tap b.tap` asks for.
 fn is_order<A: Abort>(rt: &A, order: &Extract<'_>) {
-    assert!(rt; order.set_id.bytes() == b"AB    ".as_slice());
-    assert!(rt; order.file == 9999 && order.form == Form::Lines);
-    assert!(rt; order.out == "out.txt");
+    let task = &order.task;
+    assert!(rt; task.set_id.bytes() == b"AB    ".as_slice());
+    assert!(rt; task.file == 9999 && task.form == Form::Lines);
+    assert!(rt; task.out == "out.txt");
     assert!(rt; matches!(order.images.words.as_slice(), ["a.tap", "b.tap"]));
 }
 

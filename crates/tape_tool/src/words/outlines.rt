@@ -68,6 +68,26 @@ pub const EXTRACT: Outline = Outline {
     ],
 };
 
+/// `unpack`.
+pub const UNPACK: Outline = Outline {
+    name: "unpack",
+    called: "tape unpack",
+    about: help::ABOUT_UNPACK,
+    after_help: help::AFTER_UNPACK,
+    usage: None,
+    words: &[
+        Word("DIR", Kind::Text, help::FOLDER_OF_FILES),
+        Word("IMAGE", Kind::TextsOr("from"), help::SHELF),
+        Word("from", Kind::TextOption("LIST"), help::FROM),
+        Word("null", Kind::FlagOf("from"), help::NULL),
+        Word(
+            "form",
+            Kind::NameOption("FORM", FORMS, "lines"),
+            help::FORM_OF_FILES,
+        ),
+    ],
+};
+
 /// `stage`. It takes any number of outputs, so that a second one is answered in words.
 pub const STAGE: Outline = Outline {
     name: "stage",
