@@ -49,6 +49,7 @@ mod SurveyOrder
 mod SurveyStands
 mod SurveyVolumes
 mod ExamplesOfSurveys
+mod ExamplesOfUnpacking
 mod UnpackedFiles
 mod UnpackedNames
 mod WholeReports

@@ -82,3 +82,4 @@ pub mod CasesOfExtracts
 pub mod CasesOfRounds
 pub mod CasesOfLaws
 pub mod CasesOfSurveys
+pub mod CasesOfUnpacking

@@ -11,6 +11,7 @@ ghost use Rattle.tape_run.specs.CasesOfExtracts.{CasesOfTurns, CasesOfOutputs};
 ghost use Rattle.tape_run.specs.CasesOfRounds.{CasesOfRounds};
 ghost use Rattle.tape_run.specs.CasesOfLaws.{CasesOfRunLaws, CasesOfCatalogueLaws};
 ghost use Rattle.tape_run.specs.CasesOfSurveys.{CasesOfGlances, CasesOfWholes, CasesOfSurveys};
+ghost use Rattle.tape_run.specs.CasesOfUnpacking.{CasesOfUnpacking};
 ghost use Rattle.tape_run.specs.Fronts.{FrontsAreMounts, GivenIsHistory};
 ghost use Rattle.tape_run.specs.Lead.{ItemsAreThere};
 ghost use Rattle.tape_run.specs.Lives.{StoodComesBack, StandsAcrossCrashes};
@@ -59,7 +60,7 @@ pub fn items_are_there()
 {}
 
 /// What the definitions say of cases: of histories and runs, of a reel's answer and the table, of
-/// catalogues and reports, of surveys, of files got back, and of the laws.
+/// catalogues and reports, of surveys, of unpacking, of files got back, and of the laws.
 pub fn cases()
     ensures mounts { CasesOfMounts }
     ensures histories { CasesOfHistories }
@@ -80,6 +81,7 @@ pub fn cases()
     ensures glances { CasesOfGlances }
     ensures wholes { CasesOfWholes }
     ensures surveys { CasesOfSurveys }
+    ensures unpacking { CasesOfUnpacking }
     ensures turns { CasesOfTurns }
     ensures outputs { CasesOfOutputs }
     ensures rounds { CasesOfRounds }

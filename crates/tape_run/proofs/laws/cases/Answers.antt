@@ -5,6 +5,7 @@ use Rattle.tape_run.proofs.ExamplesOfReels.{cases_of_answers, cases_of_table, ca
 use Rattle.tape_run.proofs.ExamplesOfCatalogues.{cases_of_catalogues, cases_of_images}
 use Rattle.tape_run.proofs.ExamplesOfCatalogues.{cases_of_copies, cases_of_reports}
 use Rattle.tape_run.proofs.ExamplesOfSections.{cases_of_sections}
+use Rattle.tape_run.proofs.ExamplesOfUnpacking.{cases_of_unpacking}
 use Rattle.tape_run.proofs.ExamplesOfSurveys.{cases_of_glances, cases_of_wholes, cases_of_surveys}
 use Rattle.tape_run.proofs.ExamplesOfExtracts.{cases_of_turns, cases_of_outputs}
 use Rattle.tape_run.proofs.ExamplesOfRounds.{cases_of_rounds}
@@ -64,6 +65,9 @@ returns-clause-glances c = cases_of_glances
 
 pub returns-clause-wholes : goal.returns-clause-wholes
 returns-clause-wholes c = cases_of_wholes
+
+pub returns-clause-unpacking : goal.returns-clause-unpacking
+returns-clause-unpacking c = cases_of_unpacking
 
 pub returns-clause-surveys : goal.returns-clause-surveys
 returns-clause-surveys c = cases_of_surveys

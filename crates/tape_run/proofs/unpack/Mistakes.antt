@@ -1,0 +1,89 @@
+-- Answers that the contracts of unpacking exclude: each is what a wrong body would give.
+use Rattle.std.proofs.Common.{◌≡◌, ◌∙◌, ℕ, List, [], ◌∷◌, length, true, false, sym, ap}
+use Rattle.std.proofs.Common.{arith, codes}
+use Rattle.std.specs.Prelude.{Ok, Option, slice_index}
+use Rattle.std.specs.Fmt.{digits}
+use Rattle.tape_run.specs.declared.survey.view.Sight.{Sight}
+use Rattle.tape_run.specs.declared.unpack.line.Fate.TheVariants as fates
+use Rattle.tape_run.specs.declared.unpack.SetFile.{SetFile}
+use Rattle.tape_run.specs.Reeling.{Mounting}
+use Rattle.tape_run.specs.SurveyRead.{Found, nothing_found, AreViewed}
+use Rattle.tape_run.specs.Unpacking as unpacking
+use Rattle.tape_run.specs.UnpackLine as lines
+use Rattle.tape_run.proofs.unpack.files_on.Reads as files_on
+use Rattle.tape_run.proofs.unpack.name.file_name.Reads as file_name
+use Rattle.tape_run.proofs.unpack.line.file_line.Reads as file_line
+use Rattle.tape_run.proofs.unpack.line.fate_text.Reads as fate_text
+use Rattle.tape_run.proofs.unpack.line.left_over_line.Reads as left_over_line
+
+-- slash_kept: the name of a file leads into another folder
+slash_kept : (κs : _) (a : _) (z : _) (s : _) → file_name.Learnt κs a z s
+    → a.0.now ≡ codes "ABC001" → a.1.0 ≡ 1 → a.1.1.0.now ≡ codes "A/B              "
+    → z.items ≡ codes "ABC001.1.A/B" → ⊥
+unfolding digits
+slash_kept κs a z s h set file name w =
+    absurd (let e : 47 ≡ 95 = ap (λ v. slice_index v 10) (sym w ∙ h
+    ∙ ap (λ x. unpacking.file_name x a.1.0 a.1.1.0.now) set
+    ∙ ap (λ n. unpacking.file_name (codes "ABC001") n a.1.1.0.now) file
+    ∙ ap (unpacking.file_name (codes "ABC001") 1) name) in omega arith)
+
+-- stop_of_a_set_kept: file 2 of set A.1 has the name that file 1 of set A may have
+stop_of_a_set_kept : (κs : _) (a : _) (z : _) (s : _) → file_name.Learnt κs a z s
+    → a.0.now ≡ codes "A.1   " → a.1.0 ≡ 2 → a.1.1.0.now ≡ codes "B                "
+    → z.items ≡ codes "A.1___.2.B" → ⊥
+unfolding digits
+stop_of_a_set_kept κs a z s h set file name w =
+    absurd (let e : 46 ≡ 37 = ap (λ v. slice_index v 1) (sym w ∙ h
+    ∙ ap (λ x. unpacking.file_name x a.1.0 a.1.1.0.now) set
+    ∙ ap (λ n. unpacking.file_name (codes "A.1   ") n a.1.1.0.now) file
+    ∙ ap (unpacking.file_name (codes "A.1   ") 2) name) in omega arith)
+
+-- path_left_out: it is not told where the records of a file are
+path_left_out : (κs : _) (a : _) (z : _) (s : _) → file_line.Learnt κs a (Ok z) s
+    → a.1.0.now ≡ codes "ABC001" → a.1.1.0 ≡ 1 → a.1.1.1.0.now ≡ codes "KEPT"
+    → a.1.1.1.1.0.now ≡ codes "out/ABC001.1.PAYROLL"
+    → z.items ≡ codes "FILE ABC001 1 KEPT\n" → ⊥
+unfolding digits
+path_left_out κs a z s h set file told path w =
+    absurd (let e : 10 ≡ 32 = ap (λ v. slice_index v 18) (sym w ∙ h
+    ∙ ap (λ x. lines.file_line x a.1.1.0 a.1.1.1.0.now a.1.1.1.1.0.now) set
+    ∙ ap (λ n. lines.file_line (codes "ABC001") n a.1.1.1.0.now a.1.1.1.1.0.now) file
+    ∙ ap (λ x. lines.file_line (codes "ABC001") 1 x a.1.1.1.1.0.now) told
+    ∙ ap (lines.file_line (codes "ABC001") 1 (codes "KEPT")) path) in omega arith)
+
+-- mixed_told_as_kept: labels of different files were met, and that is not told
+mixed_told_as_kept : (κs : _) (z : _) (s : _) → fate_text.Learnt κs (fates.Differs, tt) z s
+    → z.now ≡ codes "KEPT" → ⊥
+mixed_told_as_kept κs z s h w =
+    absurd (let e : 75 ≡ 68 = ap (λ v. slice_index v 0) (sym w ∙ h) in omega arith)
+
+-- left_over_not_told: something on the images is left over, and that is not told
+left_over_not_told : (κs : _) (z : _) (s : _) → left_over_line.Learnt κs (false, tt) z s
+    → z.now ≡ [] → ⊥
+left_over_not_told κs z s h w =
+    absurd (let e : 0 ≡ 10 = ap length (sym w ∙ h) in omega arith)
+
+-- of no image nothing was found
+none_found : {L R : Type 0} (gives : Mounting L R) (remaining : R → Option (List ℕ))
+    (shelf left : L) (sights : List (Option Sight)) (d : Found) → length sights ≡ 0
+    → AreViewed gives remaining shelf 0 sights nothing_found left d → d ≡ nothing_found
+none_found gives remaining shelf left [] d none (same, found) = found
+none_found gives remaining shelf left (s ∷ sights) d none are = absurd (omega (arith, none))
+
+-- left_over_turned: there is no image, and something on the images is told to be left over
+left_over_turned : (R : _) (L : _) (LR : _) (LL : _) (g : _) (d : _) (h : _) (i : _) (j : _) (κs : _)
+    (a : _) (met : _) (s : _) → files_on.Learnt-named R L LR LL g d h i j κs a (Ok met) s
+    → h.size a.1.0.now ≡ 0 → met.whole ≡ false → ⊥
+left_over_turned R L LR LL g d h i j κs a met s l empty told =
+    let f = l.ok in
+    let none = none_found _ _ _ _ f.viewed.sights f.found (f.viewed.all ∙ empty) f.viewed.viewed in
+    absurd (let e : false ≡ true = sym told ∙ f.whole ∙ ap (λ (x : Found). x.whole) none in cc e)
+
+-- file_of_no_image: there is no image, and a file was met
+file_of_no_image : (R : _) (L : _) (LR : _) (LL : _) (g : _) (d : _) (h : _) (i : _) (j : _) (κs : _)
+    (a : _) (met : _) (s : _) → files_on.Learnt-named R L LR LL g d h i j κs a (Ok met) s
+    → h.size a.1.0.now ≡ 0 → (f : SetFile) (fs : List SetFile) → met.files ≡ f ∷ fs → ⊥
+file_of_no_image R L LR LL g d h i j κs a met s l empty one more told =
+    let f = l.ok in
+    let none = none_found _ _ _ _ f.viewed.sights f.found (f.viewed.all ∙ empty) f.viewed.viewed in
+    absurd (let e : (one ∷ more) ≡ [] = sym told ∙ f.files ∙ ap unpacking.files_of none in cc e)

@@ -1,0 +1,58 @@
+-- What the definitions of unpacking say of cases. The call `laws::cases` has them as its contract.
+use Rattle.std.specs.Prelude.{◌≡◌, ◌≢◌, ℕ, ◌<◌, ◌^◌, List, [], ◌∷◌, length, true, false, Some, None}
+use Rattle.std.specs.Prelude.{codes}
+use Rattle.tape_run.specs.declared.survey.files.FileNote.{FileNote}
+use Rattle.tape_run.specs.declared.unpack.Heading.TheVariants.{NotMet, Differs, Named}
+use Rattle.tape_run.specs.declared.unpack.ShelfFiles.{ShelfFiles}
+use Rattle.tape_run.specs.declared.unpack.line.Fate.TheVariants as fates
+use Rattle.tape_run.specs.CasesOfExtracts.{Readers}
+use Rattle.tape_run.specs.Reeling.{Took}
+use Rattle.tape_run.specs.SurveyFiles.{note_at, file_key}
+use Rattle.tape_run.specs.SurveyRead.{Found, nothing_found, AreViewed}
+use Rattle.tape_run.specs.Unpacking.{heading_of, file_of, set_files, files_of, file_name, FilesOn}
+use Rattle.tape_run.specs.UnpackLine.{file_line, fate_text, left_over_line}
+use Rattle.tape_run.specs.UnpackLaws.{NamesDiffer, NamesStay, AreBytes, IsNameOfOne}
+
+-- what unpacking says of files, names and lines
+pub record CasesOfUnpacking : Type 0 where
+  -- what header labels tell
+  pub no_label : heading_of None ≡ NotMet
+  pub one_file : (n : FileNote) → n.differs ≡ false → heading_of (Some n) ≡ Named n.head.file_id
+  pub two_files : (n : FileNote) → n.differs ≡ true → heading_of (Some n) ≡ Differs
+  -- each set has its files from 1 on, up to the greatest, and a file is told by its own labels
+  pub files : (d : Found) → set_files d ((codes "ABC001", 2) ∷ (codes "DEF001", 1) ∷ [])
+      ≡ file_of d (codes "ABC001") 1 ∷ file_of d (codes "ABC001") 2
+      ∷ file_of d (codes "DEF001") 1 ∷ []
+  pub own_labels : (d : Found) (set_id : List ℕ) (file : ℕ)
+      → (file_of d set_id file).heading ≡ heading_of (note_at d.files (file_key set_id file))
+  pub no_files : files_of nothing_found ≡ []
+  -- names
+  pub name : file_name (codes "ABC001") 1 (codes "PAYROLL          ") ≡ codes "ABC001.1.PAYROLL"
+  pub escaped : file_name (codes "A/_. -") 12 (codes "A/B C.D          ")
+      ≡ codes "A%2F%5F%2E_%2D.12.A_B C.D"
+  pub control : file_name (0 ∷ 10 ∷ 31 ∷ 127 ∷ 200 ∷ 255 ∷ []) 1 (10 ∷ 200 ∷ codes "Z              ")
+      ≡ codes "%00%0A%1F%7F%C8%FF.1.__Z"
+  pub spaces : file_name (codes "      ") 9999 (codes "                 ")
+      ≡ codes "______.9999."
+  -- lines
+  pub line : file_line (codes "ABC001") 1 (codes "COMPLETE 25") (codes "out/ABC001.1.PAYROLL")
+      ≡ codes "FILE ABC001 1 COMPLETE 25 out/ABC001.1.PAYROLL\n"
+  pub no_path : file_line (codes "AB 001") 2 (fate_text fates.Differs) []
+      ≡ codes "FILE AB 001 2 DIFFERS\n"
+  pub kept : fate_text fates.Kept ≡ codes "KEPT"
+  pub not_met : fate_text fates.NotMet ≡ codes "NOT MET"
+  pub failed : fate_text fates.Failed ≡ codes "FAILED"
+  pub left_over : left_over_line false ≡ codes "LEFT OVER\n"
+  pub nothing_left : left_over_line true ≡ []
+  -- the files are those of the images, all of which were viewed, each in its place
+  pub on_images : (shelf left : Readers) (met : ShelfFiles)
+      (f : FilesOn length Took (λ r. r) shelf left met)
+      → (length f.viewed.sights ≡ length shelf)
+      × AreViewed Took (λ r. r) shelf 0 f.viewed.sights nothing_found left f.found
+      × (met.files ≡ files_of f.found) × (met.whole ≡ f.found.whole)
+  -- what a caller draws from the laws of names
+  pub own_name : NamesDiffer → (s t : List ℕ) (m n : ℕ) (a b : List ℕ) → AreBytes s → AreBytes t
+      → length s ≡ length t → m < 2 ^ 16 → n < 2 ^ 16 → s ≢ t
+      → file_name s m a ≢ file_name t n b
+  pub stays : NamesStay → (s : List ℕ) (n : ℕ) (a : List ℕ) → AreBytes s → n < 2 ^ 16
+      → IsNameOfOne (file_name s n a)
