@@ -37,5 +37,6 @@ IsWrite P (orders.List _) = ⊥
 IsWrite P (orders.Init _) = ⊥
 IsWrite P (orders.Check _) = ⊥
 IsWrite P (orders.Survey _) = ⊥
+IsWrite P (orders.Unpack _) = ⊥
 IsWrite P (orders.Extract _) = ⊥
 IsWrite P (orders.Show _) = ⊥
