@@ -1,0 +1,187 @@
+#!/usr/bin/env python3
+"""A shelf of some 400 images, and what `tape survey` and `tape unpack` make of it. By hand; the gate does not run it.
+
+    ./shelf.py [--program PATH] [--seed N] [--sets N] [--keep FOLDER] [--times]
+
+The images are made here, from docs/FORMATS.md alone: sets of files in the three formats on one to four volumes, one
+or two copies of each volume, whole, cut at some byte, with blocks that cannot be read in one copy or in both, a file
+whose header cannot be read, reels that are lost, two sets under one identifier, and reels that are no volumes of ours.
+They lie on the shelf in no order. What is to be had of them is reckoned here too, by positions and readings.
+
+Three commands follow: `survey`, `unpack`, and `unpack` again with the lost reels found. Each file that can be had
+must be there, byte for byte, and no other; of each other one what is wanted is told. What `survey --tsv` tells of
+files must be what the catalogue's description says. Prints each wrong answer, and counts; status 1 where there is one.
+
+--times: `survey` against `list` of each image, `unpack` against `extract` of each file, and 10,000 names from a list.
+"""
+
+import argparse
+import resource
+import subprocess
+import sys
+import tempfile
+import time
+from pathlib import Path
+
+sys.dont_write_bytecode = True
+from reels import headers_of, lacking, make_shelf, sections_of, wanted
+
+HERE = Path(__file__).resolve().parent
+
+
+class Trial:
+    """What was asked of the program, and what was wrong."""
+
+    def __init__(self, options, folder):
+        self.options, self.folder, self.wrong, self.seen = options, folder, 0, 0
+
+    def is_so(self, holds, what):
+        self.seen += 1
+        if not holds:
+            self.wrong += 1
+            print(what)
+
+    def run(self, *words, names=None):
+        text = None if names is None else "\0".join(names)
+        listed = [] if names is None else ["--from", "-", "--null"]
+        return subprocess.run([self.options.program, *words, *listed], cwd=self.folder, input=text, capture_output=True,
+            text=True, check=False)
+
+
+def check_survey(trial, shelf, there, names):
+    """The rows of files, each against the catalogue's description."""
+    done = trial.run("survey", "--tsv", names=names)
+    trial.is_so((done.returncode, done.stderr) == (3, ""), f"survey: status {done.returncode}, {done.stderr!r}")
+    rows = [line.split("\t") for line in done.stdout.splitlines()]
+    told = {(row[1], int(row[2])): row for row in rows if row[0] == "FILE"}
+    for set_id, files in shelf.files.items():
+        if set_id == shelf.mixed:
+            trial.is_so(told[set_id, 1][8] == "MIXED", f"survey: {told[set_id, 1]}")
+            continue
+        reels = [reel for reel in there if reel.set_id == set_id]
+        met = {key[0] for reel in reels for key in sections_of(reel)}
+        for file in files:
+            row = told.get((set_id, file.number))
+            trial.is_so((row is None) == (file.number > max(met, default=0)), f"survey: {set_id} {file.number}: {row}")
+            if row is not None:
+                section = lacking(file.number, reels)
+                want = ["COMPLETE", ""] if section is None else [row[5], str(section)]
+                right = row[5:7] == want and (section is None) == (row[5] == "COMPLETE")
+                trial.is_so(right, f"survey: {set_id} {file.number}: {row}, {section}")
+    return len(rows)
+
+
+def check_unpack(trial, shelf, there, names, day):
+    """The files that are there, byte for byte, and what is told of each other one."""
+    out = trial.folder / "out"
+    before = {path.name: path.read_bytes() for path in out.iterdir()}
+    done = trial.run("unpack", "out", names=names)
+    trial.is_so(done.stderr == "" and done.returncode in (0, 3), f"unpack: status {done.returncode}, {done.stderr!r}")
+    lines = done.stdout.splitlines()
+    trial.is_so(lines[-1] == "LEFT OVER", f"unpack: the last line {lines[-1]!r}")
+    lines = [line.split(" ", 3) for line in lines[:-1]]
+    trial.is_so(all(line[0] == "FILE" for line in lines), f"unpack: {done.stdout[:200]!r}")
+    told = {(line[1], int(line[2])): line[3] for line in lines}
+    trial.is_so(len(told) == len(lines), "unpack: a file is told twice")
+    counts = dict.fromkeys(["complete", "kept", "wanted", "not met", "mixed"], 0)
+    for set_id, files in shelf.files.items():
+        reels = [reel for reel in there if reel.set_id == set_id]
+        greatest = max((key[0] for reel in reels for key in sections_of(reel)), default=0)
+        headers = set().union(*(headers_of(reel) for reel in reels))
+        for file in files:
+            line = told.pop((set_id, file.number), "")
+            made = [path for path in out.glob(f"{set_id}.{file.number}.*") if path.suffix != ".stage"]
+            kept = any(path.name in before for path in made)
+            want = wanted(file.number, reels)
+            if set_id == shelf.mixed:
+                fate, right = "mixed", line == "DIFFERS" and not made
+            elif file.number > greatest:
+                fate, right = "not met", not line and not made
+            elif file.number not in headers:
+                fate, right = "not met", line == "NOT MET" and not made
+            elif want is None:
+                fate = "kept" if kept else "complete"
+                right = line.startswith(fate.upper()) and [path.read_bytes() for path in made] == [file.text]
+            else:
+                fate, right = "wanted", line.startswith(f"AWAITS {file.number} {want[0]} {want[1]} ") and not made
+            counts[fate] += 1
+            trial.is_so(right, f"unpack, day {day}: {set_id} {file.number}: {line!r}, {fate}, wanted {want}")
+    trial.is_so(not told, f"unpack: of no file: {told}")
+    trial.is_so(done.returncode == 3, f"unpack: status {done.returncode}")
+    for name, content in before.items():
+        if not name.endswith(".stage"):
+            trial.is_so((out / name).read_bytes() == content, f"unpack: {name} was written over")
+    trial.is_so(not list(out.glob("*.part*")), "unpack: a draft was left")
+    return counts
+
+
+def take_times(trial, shelf, names):
+    """Seconds of `survey` and of `list`, of `unpack` and of `extract`, and the memory of 10,000 names."""
+
+    def seconds(call):
+        best = []
+        for _ in range(3):
+            start = time.perf_counter()
+            call()
+            best.append(time.perf_counter() - start)
+        return min(best)
+
+    def list_each():
+        for name in names:
+            trial.run("list", name)
+
+    def unpack_all():
+        for path in (trial.folder / "out").iterdir():
+            path.unlink()
+        trial.run("unpack", "out", names=names)
+
+    def extract_each():
+        for set_id, files in shelf.files.items():
+            reels = [reel.name for reel in shelf.reels if reel.set_id == set_id]
+            for file in files:
+                (trial.folder / "one").unlink(missing_ok=True)
+                trial.run("extract", set_id, str(file.number), "one", *reels, "--again")
+
+    print(f"survey {seconds(lambda: trial.run('survey', names=names)):.3f} s, list of each {seconds(list_each):.3f} s")
+    print(f"unpack {seconds(unpack_all):.3f} s, extract of each file from the reels of its set {seconds(extract_each):.3f} s")
+    many = (names * (10_000 // len(names) + 1))[:10_000]
+    for words in (["survey"], ["check"], ["unpack", "out"]):
+        trial.run(*words, names=many)
+        print(f"{words[0]} of 10,000 names: at most {resource.getrusage(resource.RUSAGE_CHILDREN).ru_maxrss / 1024:.1f} MB so far")
+
+
+def main():
+    parser = argparse.ArgumentParser(description=__doc__.split("\n", maxsplit=1)[0])
+    parser.add_argument("--program", default=HERE.parent / "crates/tape_tool/out/tape_tool", type=Path)
+    parser.add_argument("--seed", type=int, default=1)
+    parser.add_argument("--sets", type=int, default=66)
+    parser.add_argument("--keep", type=Path, help="make the shelf in this folder, which is not there, and leave it")
+    parser.add_argument("--times", action="store_true")
+    options = parser.parse_args()
+    options.program = options.program.resolve()
+    with tempfile.TemporaryDirectory(prefix="tape-shelf-") as place:
+        folder = options.keep or Path(place) / "shelf"
+        (folder / "out").mkdir(parents=True)
+        shelf, trial = make_shelf(options.seed, options.sets), Trial(options, folder)
+        for name, content in shelf.others.items():
+            (folder / name).write_bytes(content)
+        there = [reel for reel in shelf.reels if not reel.lost]
+        for reel in there:
+            (folder / reel.name).write_bytes(reel.image())
+        names = [*(reel.name for reel in there), *shelf.others]
+        count = sum(map(len, shelf.files.values()))
+        print(f"{len(names)} images, {len(shelf.reels) - len(there)} lost, {count} files of {len(shelf.files)} sets")
+        print(f"survey: {check_survey(trial, shelf, there, names)} rows")
+        print(f"unpack: {check_unpack(trial, shelf, there, names, 1)}")
+        for reel in shelf.reels:
+            (folder / reel.name).write_bytes(reel.image())
+        names = [*(reel.name for reel in shelf.reels), *shelf.others]
+        print(f"unpack with the lost reels: {check_unpack(trial, shelf, shelf.reels, names, 2)}")
+        if options.times:
+            take_times(trial, shelf, names)
+        print(f"{trial.seen} seen, {trial.wrong} wrong")
+    return 1 if trial.wrong else 0
+
+
+if __name__ == "__main__":
+    sys.exit(main())
