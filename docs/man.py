@@ -30,6 +30,9 @@ COMMANDS = {
         ("--from LIST", "FROM"), ("--null", "NULL"),
         ("--form lines|raw", "FORM_OF_OUT"), ("--stage PATH", "STAGE"),
         ("--again", "AGAIN")]),
+    "unpack": ("[--form FORM] [--from LIST [--null]] DIR [IMAGE]...", [
+        ("DIR", "FOLDER_OF_FILES"), ("IMAGE", "SHELF"), ("--from LIST", "FROM"),
+        ("--null", "NULL"), ("--form lines|raw", "FORM_OF_FILES")]),
     "stage": ("[--form FORM] PATH [OUT]", [
         ("PATH", "STAGE_READ"), ("OUT", "OUT_OF_STAGE"), ("--form lines|raw", "FORM_OF_OUT")]),
     "init": ("DIR PRE COUNT", [("DIR", "FOLDER"), ("PRE", "PREFIX"), ("COUNT", "COUNT")]),
@@ -50,7 +53,7 @@ def read(*path):
 
 def texts():
     """The texts of help.rt and help/ by their names."""
-    parts = (("help.rt",), ("help", "lists.rt"), ("help", "volumes.rt"))
+    parts = (("help.rt",), ("help", "lists.rt"), ("help", "unpack.rt"), ("help", "volumes.rt"))
     source = "".join(read(SOURCE, *part) for part in parts)
     found = re.findall(r'pub const (\w+): &str =\s*"((?:[^"\\]|\\.)*)";', source, re.S)
     return {name: unescaped(text) for name, text in found}

@@ -111,7 +111,9 @@ pub struct Show<'a> {
 /// The commands and their words.
 fn command<'a>(alloc: Global) -> Result<Command<'a>, AllocError> {
     let mut command = tape_command(alloc)?.arg(explain_option(alloc))?;
-    for outline in [&LIST, &CHECK, &SURVEY, &EXTRACT, &UNPACK, &STAGE, &INIT, &WRITE] {
+    for outline in [
+        &LIST, &CHECK, &SURVEY, &EXTRACT, &UNPACK, &STAGE, &INIT, &WRITE,
+    ] {
         command = command.subcommand(command_of(alloc, outline)?)?;
     }
     Ok(command)

@@ -1,15 +1,15 @@
 -- Answers that the contracts of unpacking exclude: each is what a wrong body would give.
-use Rattle.std.proofs.Common.{◌≡◌, ◌∙◌, ℕ, List, [], ◌∷◌, length, true, false, sym, ap}
+use Rattle.std.proofs.Common.{◌≡◌, ◌∙◌, ℕ, List, [], ◌∷◌, ◌++◌, length, true, false, sym, ap}
 use Rattle.std.proofs.Common.{arith, codes}
 use Rattle.std.specs.Prelude.{Ok, Option, slice_index}
 use Rattle.std.specs.Fmt.{digits}
 use Rattle.tape_run.specs.declared.survey.view.Sight.{Sight}
 use Rattle.tape_run.specs.declared.unpack.line.Fate.TheVariants as fates
-use Rattle.tape_run.specs.declared.unpack.SetFile.{SetFile}
 use Rattle.tape_run.specs.Reeling.{Mounting}
 use Rattle.tape_run.specs.SurveyRead.{Found, nothing_found, AreViewed}
 use Rattle.tape_run.specs.Unpacking as unpacking
 use Rattle.tape_run.specs.UnpackLine as lines
+use Rattle.tape_run.proofs.unpack.add_files.Reads as add_files
 use Rattle.tape_run.proofs.unpack.files_on.Reads as files_on
 use Rattle.tape_run.proofs.unpack.name.file_name.Reads as file_name
 use Rattle.tape_run.proofs.unpack.line.file_line.Reads as file_line
@@ -79,11 +79,11 @@ left_over_turned R L LR LL g d h i j κs a met s l empty told =
     let none = none_found _ _ _ _ f.viewed.sights f.found (f.viewed.all ∙ empty) f.viewed.viewed in
     absurd (let e : false ≡ true = sym told ∙ f.whole ∙ ap (λ (x : Found). x.whole) none in cc e)
 
--- file_of_no_image: there is no image, and a file was met
-file_of_no_image : (R : _) (L : _) (LR : _) (LL : _) (g : _) (d : _) (h : _) (i : _) (j : _) (κs : _)
-    (a : _) (met : _) (s : _) → files_on.Learnt-named R L LR LL g d h i j κs a (Ok met) s
-    → h.size a.1.0.now ≡ 0 → (f : SetFile) (fs : List SetFile) → met.files ≡ f ∷ fs → ⊥
-file_of_no_image R L LR LL g d h i j κs a met s l empty one more told =
-    let f = l.ok in
-    let none = none_found _ _ _ _ f.viewed.sights f.found (f.viewed.all ∙ empty) f.viewed.viewed in
-    absurd (let e : (one ∷ more) ≡ [] = sym told ∙ f.files ∙ ap unpacking.files_of none in cc e)
+-- first_file_left_out: a set has one file, and none is added
+first_file_left_out : (κs : _) (a : _) (s : _) → add_files.Learnt κs a (Ok tt) s
+    → a.1.1.1.0 ≡ 1 → a.0.now.items ≡ [] → s.0.now.items ≡ [] → ⊥
+first_file_left_out κs a s h one old new =
+    let d = a.1.0.now in
+    absurd (let e : 0 ≡ 1 = ap length (sym new ∙ h
+    ∙ ap (λ xs. xs ++ unpacking.files_from d a.1.1.0 1 a.1.1.1.0) old
+    ∙ ap (λ n. [] ++ unpacking.files_from d a.1.1.0 1 n) one) in omega arith)

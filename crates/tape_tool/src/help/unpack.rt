@@ -7,7 +7,8 @@ pub const ABOUT_UNPACK: &str = "Gets every file of every set back into a folder"
 pub const FOLDER_OF_FILES: &str = "The folder, which is there, for the files and their stages";
 
 /// What the form is.
-pub const FORM_OF_FILES: &str = "How records stand in a file: each with a line feed, or just joined";
+pub const FORM_OF_FILES: &str =
+    "How records stand in a file: each with a line feed, or just joined";
 
 /// Too many images.
 pub const TOO_MANY_TO_UNPACK: &str = "unpack takes up to 256 images as words, and any number from \

@@ -42,7 +42,10 @@ const FAILED: &[Step<'_>] = &[
     Step::Folder("failed"),
     Step::PutDamaged("failed1.tap", 1),
     Step::Put("failed/ABC001.1.PAYROLL.stage", b"noise"),
-    Step::Fails("unpack failed failed1.tap", ToolFault::Stage(StageFault::NoPoint)),
+    Step::Fails(
+        "unpack failed failed1.tap",
+        ToolFault::Stage(StageFault::NoPoint),
+    ),
     Step::Holds("failed/ABC001.1.PAYROLL.stage", b"noise"),
     Step::IsMissing("failed/ABC001.1.PAYROLL"),
 ];
@@ -63,10 +66,13 @@ const WORDS: &[Step<'_>] = &[
 
 #[test]
 fn every_file_is_unpacked(rt: HostRuntime) -> Result<(), Fail> {
-    follow_all(&rt, &[
-        ("at once", AT_ONCE),
-        ("day by day", DAY_BY_DAY),
-        ("failed", FAILED),
-        ("words", WORDS),
-    ])
+    follow_all(
+        &rt,
+        &[
+            ("at once", AT_ONCE),
+            ("day by day", DAY_BY_DAY),
+            ("failed", FAILED),
+            ("words", WORDS),
+        ],
+    )
 }
