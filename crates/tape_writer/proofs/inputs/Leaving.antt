@@ -10,7 +10,7 @@ use Rattle.tape_label.specs.declared.values.Vol1.{Vol1}
 use Rattle.tape_blocks.specs.declared.shape.Shape.{Shape}
 use Rattle.tape_writer.specs.declared.course.Opened.{Opened}
 use Rattle.tape_writer.specs.declared.phase.Phase.{Phase}
-use Rattle.tape_writer.specs.declared.phase.Phase.TheVariants.{Filing}
+use Rattle.tape_writer.specs.declared.phase.Phase.TheVariants.{Between, Filing}
 use Rattle.tape_writer.specs.declared.fault.WriteFault.{WriteFault}
 use Rattle.tape_writer.specs.declared.fault.WriteFault.TheVariants as faults
 use Rattle.tape_writer.specs.declared.fault.SetFault.{SetFault}
@@ -31,7 +31,7 @@ use Rattle.tape_writer.specs.declared.inputs.cut.Cut.{Cut}
 use Rattle.tape_writer.specs.Records.{to_come, records_of, given, IsFirstLong}
 use Rattle.tape_writer.specs.ToldFiles.{with_records, with_file, told_files}
 use Rattle.tape_writer.specs.LeftOf.{IsLeftOf, IsLeftIn, IsLeftOfAll, IsLeftUnbegun}
-use Rattle.tape_writer.proofs.Standing.{inside_writing, all_writing}
+use Rattle.tape_writer.proofs.Standing.{inside_writing, all_writing, behind_writing}
 use Rattle.tape_writer.proofs.inputs.Putting.{Put, PutWithin, known_one, known_then}
 use Rattle.tape_writer.proofs.inputs.Putting.{with_records-one}
 use Rattle.tape_writer.proofs.inputs.Filing.{Wrote}
@@ -182,6 +182,25 @@ none_left H w G fault told records left other = record {
   all = λ e. absurd (other e);
 }
 
+-- it was not begun, or no record was told
+pub begin_left : {T : Type 0} (H : T → Tapes → Type 0) (old w : SetState T) (G : Type 0)
+    (f : WriteFault) (told more : List Told) (records : List (List ℕ)) (capacity n : ℕ)
+    (head : Head1) (shape : Shape) → IsBeginFault capacity n head shape f → Leaves old w f
+    → IsWriting (H old.out) old told → old.phase ≡ Between
+    → (IsEnding f → IsLeftBehind (H w.out) w told ⊎ IsLeftInside (H w.out) w more)
+    → IsLeftUnbegun (H w.out) w (Write f) told ⊎ IsLeftOf (H w.out) w G (Write f) more records
+begin_left H old w G f told more records capacity n head shape due leaves held between ends =
+    let other = begin_other capacity n head shape f due in
+    refused_left H old w f _ told leaves held
+    (λ same writing. inl (
+      other,
+      behind_writing (H w.out) w told (ap (λ z. z.phase) same ∙ between) writing,
+    ))
+    (λ e. elim (ends e) [
+      | inl same ↦ inl (other, same)
+      | inr begun ↦ inr (none_left (H w.out) w G (Write f) more records begun other)
+    ])
+
 -- the tapes were refused a growth in a part of the call
 pub left_more : {T : Type 0} (H : Tapes → Type 0) (w : SetState T) (G G' : Type 0)
     (fault : SetFault) (told : List Told) (records : List (List ℕ)) → (G → G')
@@ -233,6 +252,19 @@ all_left H w G fault told cut over (Some xs) (Some ys) mid put other grew left =
   ];
   all = λ e. absurd (other e);
 }
+
+-- it was to be ended
+pub ended_left : {T : Type 0} (H : T → Tapes → Type 0) (mid w : SetState T) (f : WriteFault)
+    (file : Opened) → IsInFile file mid.phase → Leaves mid w f
+    → ((told : List Told) → IsWriting (H mid.out) mid told → IsEnding f
+    → IsLeftInside (H w.out) w told ⊎ IsLeftBehind (H w.out) w told)
+    → (told : List Told) → IsWriting (H mid.out) mid told
+    → IsLeftInside (H w.out) w told ⊎ IsLeftBehind (H w.out) w told
+ended_left H mid w f file is leaves ends told held =
+    refused_left H mid w f _ told leaves held
+    (λ same writing. inl (inside_writing (H w.out) w file told
+    (subst (λ z. IsInFile file z.phase) (sym same) is) writing))
+    (ends told held)
 
 -- all its records were put, and it was not ended
 pub end_left : {T : Type 0} (H : Tapes → Type 0) (w : SetState T) (G : Type 0) (fault : SetFault)

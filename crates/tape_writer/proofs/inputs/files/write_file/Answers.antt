@@ -1,19 +1,15 @@
-use Rattle.std.proofs.Common.{◌≡◌, ◌+◌, ◌∙◌, length, ap, inl, inr, arith, subst, sym}
+use Rattle.std.proofs.Common.{◌≡◌, ◌+◌, ◌∙◌, length, inr, arith}
 use Rattle.tape_writer.specs.declared.fault.WriteFault.TheVariants.{OutOfVolumes, OutOfMemory}
 use Rattle.std.proofs.lemmas.Result.{err_from_is_err_and}
 use Rattle.tape_writer.specs.State.{IsWriting}
 use Rattle.tape_writer.specs.Told.{opened_by}
 use Rattle.tape_writer.proofs.Last.{rose_from}
 use Rattle.tape_writer.proofs.inputs.Putting.{file_told, all_ahead}
-use Rattle.tape_writer.specs.ToldFiles.{with_file}
 use Rattle.tape_writer.proofs.inputs.Refusing.{input_fault, end_fault}
 use Rattle.tape_writer.proofs.inputs.Stopping.{file_out, end_out}
-use Rattle.std.specs.Prelude.{◌⊎◌}
-use Rattle.tape_writer.specs.Refusals.{IsInFile}
-use Rattle.tape_writer.specs.Front.{IsLeftInside, IsLeftBehind}
-use Rattle.tape_writer.proofs.Standing.{inside_writing, behind_writing}
-use Rattle.tape_writer.proofs.inputs.Leaving.{refused_left, none_left, if_any, file_left}
-use Rattle.tape_writer.proofs.inputs.Leaving.{end_left, begin_other, ending_other}
+use Rattle.tape_writer.proofs.Standing.{inside_writing}
+use Rattle.tape_writer.proofs.inputs.Leaving.{begin_left, none_left, if_any, file_left}
+use Rattle.tape_writer.proofs.inputs.Leaving.{end_left, ended_left, ending_other}
 use Rattle.tape_writer.proofs.inputs.Leaving.{end_ends, of_writer}
 use Rattle.tape_writer.proofs.inputs.files.write_file.Goals as goal
 
@@ -50,7 +46,7 @@ returns-in_err-put_records-clause-stuck g c =
     let made = c.in-Ok.ensures in
     rw (p.1, p.2) (λ e told held.
     file_out (g.T.TapeOut.holds c.put_records.new.writer.out) c.put_records.new.writer
-    (with_file c.args.writer.now.set_id told c.args.head c.args.shape) c.args.cut _ _ _ _
+    _ c.args.cut _ _ _ _
     (all_ahead (λ d. g.R.Read.remaining d.now) _ _ _ made.3 made.0) made.1 made.2
     (c.in_err-put_records.ensures.stuck e _ (c.in_default.ensures.told told held)))
 
@@ -59,7 +55,7 @@ returns-clause-stuck g c = λ e told held.
     let f : c.in-Err-end_file.fault ≡ OutOfVolumes = cc in
     let made = c.in-Ok.ensures in
     end_out (g.T.TapeOut.holds c.end_file.new.self.out) c.end_file.new.self
-    (with_file c.args.writer.now.set_id told c.args.head c.args.shape) c.args.cut _ _ _ _ _
+    _ c.args.cut _ _ _ _ _
     (IsWriting (g.T.TapeOut.holds c.put_records.new.writer.out) c.put_records.new.writer)
     (all_ahead (λ d. g.R.Read.remaining d.now) _ _ _ made.3 made.0) made.1 made.2
     (c.in_ok-put_records.ensures.told _ (c.in_default.ensures.told told held))
@@ -74,27 +70,15 @@ returns-in_err-put_records-clause-cause g c =
 pub returns-in-Err-clause-front : goal.returns-in-Err-clause-front
 returns-in-Err-clause-front g c = λ between told held.
     if_any (g.R.Read.remaining c.args.input.now) _ (λ bytes.
-    refused_left (λ out. g.T.TapeOut.holds out) c.args.writer.now c.begin_file.new.self
-    c.in-Err.fault _ told c.in-Err.ensures.leaves held
-    (λ same writing. inl (
-      begin_other _ _ _ _ c.in-Err.fault (c.in-Err.ensures.due between),
-      behind_writing (g.T.TapeOut.holds c.begin_file.new.self.out)
-          c.begin_file.new.self told (ap (λ w. w.phase) same ∙ between) writing,
-    ))
-    (λ e. elim (c.in-Err.ensures.front told held e) [
-      | inl same ↦ inl (begin_other _ _ _ _ c.in-Err.fault (c.in-Err.ensures.due between), same)
-      | inr begun ↦ inr (none_left (g.T.TapeOut.holds c.begin_file.new.self.out)
-          c.begin_file.new.self _ _
-          (with_file c.args.writer.now.set_id told c.args.head c.args.shape) _ begun
-          (begin_other _ _ _ _ c.in-Err.fault (c.in-Err.ensures.due between)))
-    ]))
+    begin_left (λ out. g.T.TapeOut.holds out) c.args.writer.now c.begin_file.new.self _
+    c.in-Err.fault told _ _ _ _ _ _ (c.in-Err.ensures.due between) c.in-Err.ensures.leaves held
+    between (c.in-Err.ensures.front told held))
 
 pub returns-in_default-new-clause-front : goal.returns-in_default-new-clause-front
 returns-in_default-new-clause-front g c = λ between told held.
     if_any (g.R.Read.remaining c.args.input.now) _ (λ bytes.
     inr (none_left (g.T.TapeOut.holds c.begin_file.new.self.out) c.begin_file.new.self _ _
-    (with_file c.args.writer.now.set_id told c.args.head c.args.shape) _
-    (inside_writing (g.T.TapeOut.holds c.begin_file.new.self.out) c.begin_file.new.self _ _
+    _ _ (inside_writing (g.T.TapeOut.holds c.begin_file.new.self.out) c.begin_file.new.self _ _
     c.in_default.ensures.opened (c.in_default.ensures.told told held)) (λ i. i)))
 
 pub returns-in_err-put_records-clause-front : goal.returns-in_err-put_records-clause-front
@@ -103,7 +87,7 @@ returns-in_err-put_records-clause-front g c =
     let made = c.in-Ok.ensures in
     rw (p.1, p.2) (λ between told held.
     file_left (g.T.TapeOut.holds c.put_records.new.writer.out) c.put_records.new.writer _ _ _ told
-    (with_file c.args.writer.now.set_id told c.args.head c.args.shape) c.args.cut _ _ _ _
+    _ c.args.cut _ _ _ _
     (λ grew. rose_from _ _ _ c.begin_file.ensures.lasting.count.1 grew)
     (all_ahead (λ d. g.R.Read.remaining d.now) _ _ _ made.3 made.0) made.1 made.2
     (c.in_err-put_records.ensures.front _ c.in_default.ensures.opened _
@@ -114,7 +98,7 @@ returns-clause-front g c = λ between told held.
     let made = c.in-Ok.ensures in
     let H = g.T.TapeOut.holds c.end_file.new.self.out in
     end_left H c.end_file.new.self _ _ told
-    (with_file c.args.writer.now.set_id told c.args.head c.args.shape) c.args.cut _ _ _ _ _
+    _ c.args.cut _ _ _ _ _
     (IsWriting (g.T.TapeOut.holds c.put_records.new.writer.out) c.put_records.new.writer)
     (all_ahead (λ d. g.R.Read.remaining d.now) _ _ _ made.3 made.0) made.1 made.2
     (c.in_ok-put_records.ensures.told _ (c.in_default.ensures.told told held))
@@ -124,15 +108,9 @@ returns-clause-front g c = λ between told held.
     (λ e. rose_from _ _ _
     (omega (arith, c.begin_file.ensures.lasting.count.1, c.put_records.ensures.count.1))
     (c.in-Err-end_file.ensures.cause.1 (of_writer c.in-Err-end_file.fault OutOfMemory e)))
-    (λ t h. refused_left (λ out. g.T.TapeOut.holds out) c.put_records.new.writer
-    c.end_file.new.self c.in-Err-end_file.fault
-    (IsLeftInside H c.end_file.new.self t ⊎ IsLeftBehind H c.end_file.new.self t) t
-    c.in-Err-end_file.ensures.leaves h
-    (λ same writing. inl (inside_writing H c.end_file.new.self _ t
-    (subst (λ z. IsInFile (opened_by c.args.writer.now.set_id
-    (length c.args.writer.now.files + 1) c.args.head c.args.shape) z.phase) (sym same)
-    (c.in_ok-put_records.ensures.stays _ c.in_default.ensures.opened)) writing))
-    (c.in-Err-end_file.ensures.front t h))
+    (ended_left (λ out. g.T.TapeOut.holds out) c.put_records.new.writer c.end_file.new.self _ _
+    (c.in_ok-put_records.ensures.stays _ c.in_default.ensures.opened)
+    c.in-Err-end_file.ensures.leaves c.in-Err-end_file.ensures.front)
 
 pub returns-in_default-new-clause-unfit : goal.returns-in_default-new-clause-unfit
 returns-in_default-new-clause-unfit g c = λ between unfit.
