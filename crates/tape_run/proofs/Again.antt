@@ -7,6 +7,7 @@ use Rattle.tape_blocks.specs.Block.{Portion}
 use Rattle.tape_blocks.specs.declared.form.Form.{Form}
 use Rattle.tape_set.specs.declared.position.Want.{Want}
 use Rattle.tape_set.specs.Position.{want_at}
+use Rattle.tape_core.specs.Crash.{Returns}
 use Rattle.tape_core.specs.State.{State}
 use Rattle.tape_run.specs.Seen.{Seen, seen}
 use Rattle.tape_run.specs.Story.{Story}
@@ -18,6 +19,7 @@ use Rattle.tape_run.specs.Extracting.{EndsFile, StopsAtEnd}
 use Rattle.tape_run.specs.ExtractingAgain.{ExtractsAgain, StopsAgain}
 use Rattle.tape_run.proofs.Fitting.{front_more, front_then}
 use Rattle.tape_run.proofs.Extracted.{ended}
+use Rattle.tape_run.proofs.Lasting.{last_then, stood_then}
 use Rattle.tape_run.proofs.Turns.{follows_then}
 use Rattle.tape_run.proofs.Rounds.{all_turns, lines_of_all, front_of_all}
 
@@ -30,18 +32,23 @@ in_a_row back core old rounds mid turns last new f g =
     follows_then back core old (turns_of rounds) (core_behind core rounds) mid turns last new
     (all_turns back core old rounds mid f) g
 
-pub extracted_again : {S L R : Type 0} (holds : S → List Portion → Type 0) (refusals : S → ℕ)
+pub extracted_again : {S L R : Type 0} {returns : S → Returns}
+    {survives : S → Type 0} (holds : S → List Portion → Type 0) (refusals : S → ℕ)
     (size : L → ℕ) (gives : Mounting L R) (remaining : R → Option (List ℕ)) (old new : Story S)
     (shelf left : L) (form : Form)
     (out written said between says : Option (List ℕ)) (want : Option Want)
     (back : Bool) → back ≡ goes_back old.notes
-    → TakesRounds holds refusals (size shelf) gives remaining back old new shelf left said between
+    → TakesRounds holds refusals returns survives (size shelf) gives remaining back old new shelf
+    left said between
     → EndsFile holds new form out written between says want
-    → ExtractsAgain holds refusals size gives remaining old shelf left form out written said says
+    → ExtractsAgain holds refusals returns survives size gives remaining old shelf left form out
+    written said says
     want
-extracted_again holds refusals size gives remaining old new shelf left form out written said between
+extracted_again {S} {L} {R} {returns} {survives} holds refusals size gives remaining old new shelf
+    left form out written said between
     says want back same took e =
-    let t = subst (λ b. TakesRounds holds refusals (size shelf) gives remaining b old new shelf left
+    let t = subst (λ b. TakesRounds holds refusals returns survives (size shelf) gives remaining b
+    old new shelf left
     said between) same took in
     record {
       rounds = t.rounds;
@@ -61,8 +68,8 @@ extracted_again holds refusals size gives remaining old new shelf left form out 
           (lines_of_all said t.told between (turns_of t.rounds) t.last.turns t.gone.lines
           t.last.lines) e.line;
       ends = λ held was kept.
-          let (mid, has, still, f) = t.gone.follows held was kept in
-          let (now, has_now, then, one) = t.last.follows mid has still in
+          let (mid, has, still, f, before) = t.gone.follows held was kept in
+          let (now, has_now, then, one, last) = t.last.follows mid has still in
           let first = seen refusals old held in
           let g = subst (λ c. Follows (goes_back old.notes) c (seen refusals t.mid mid) t.last.turns
           new.core (seen refusals new now)) t.gone.at one in (
@@ -71,18 +78,30 @@ extracted_again holds refusals size gives remaining old new shelf left form out 
                 (in_a_row (goes_back old.notes) old.core first t.rounds (seen refusals t.mid mid)
                 t.last.turns new.core (seen refusals new now) f g),
             (seen refusals t.mid mid, f, g),
+            (
+              new,
+              now,
+              has_now,
+              refl,
+              last_then refusals returns survives old t.mid new held mid now before last,
+            ),
           );
     }
 
-pub stops_in_round : {S L R W : Type 0} (holds : S → List Portion → Type 0)
+pub stops_in_round : {S L R W : Type 0} {returns : S → Returns}
+    {survives : S → Type 0} (holds : S → List Portion → Type 0)
     (refusals : S → ℕ) (size : L → ℕ) (gives : Mounting L R) (remaining : R → Option (List ℕ))
     (old : Story S) (shelf left : L) (form : Form) (contents : W → Option (List ℕ))
     (out : W) (said says : Option (List ℕ)) (back : Bool) → back ≡ goes_back old.notes
-    → StopsInRound holds refusals (size shelf) gives remaining back old shelf left said says
-    → StopsAgain holds refusals size gives remaining old shelf left form contents out out said says
-stops_in_round holds refusals size gives remaining old shelf left form contents out said says back
+    → StopsInRound holds refusals returns survives (size shelf) gives remaining back old shelf left
+    said says
+    → StopsAgain holds refusals returns survives size gives remaining old shelf left form contents
+    out out said says
+stops_in_round {S} {L} {R} {W} {returns} {survives} holds refusals size gives remaining old shelf
+    left form contents out said says back
     same stopped =
-    let s = subst (λ b. StopsInRound holds refusals (size shelf) gives remaining b old shelf left
+    let s = subst (λ b. StopsInRound holds refusals returns survives (size shelf) gives remaining b
+    old shelf left
     said says) same stopped in
     record {
       rounds = s.rounds;
@@ -100,8 +119,8 @@ stops_in_round holds refusals size gives remaining old shelf left form contents 
           (front_of_all said s.told says (turns_of s.rounds) s.last.turns s.last.more s.gone.lines
           s.last.lines);
       follows = λ held was kept.
-          let (mid, has, still, f) = s.gone.follows held was kept in
-          let (core, now, one) = s.last.follows mid has still in (
+          let (mid, has, still, f, before) = s.gone.follows held was kept in
+          let (core, now, one, stood) = s.last.follows mid has still in (
             core,
             now,
             (
@@ -110,22 +129,28 @@ stops_in_round holds refusals size gives remaining old shelf left form contents 
               subst (λ c. Follows (goes_back old.notes) c (seen refusals s.mid mid) s.last.turns
                   core now) s.gone.at one,
             ),
+            stood_then holds refusals returns survives old s.mid held mid now before stood,
             inl refl,
           );
     }
 
-pub stops_at_end_again : {S L R W : Type 0} (holds : S → List Portion → Type 0) (refusals : S → ℕ)
+pub stops_at_end_again : {S L R W : Type 0} {returns : S → Returns}
+    {survives : S → Type 0} (holds : S → List Portion → Type 0) (refusals : S → ℕ)
     (size : L → ℕ) (gives : Mounting L R) (remaining : R → Option (List ℕ)) (old new : Story S)
     (shelf left : L) (form : Form)
     (contents : W → Option (List ℕ)) (out written : W) (said between says : Option (List ℕ))
     (back : Bool) → back ≡ goes_back old.notes
-    → TakesRounds holds refusals (size shelf) gives remaining back old new shelf left said between
+    → TakesRounds holds refusals returns survives (size shelf) gives remaining back old new shelf
+    left said between
     → StopsAtEnd holds new form contents out written between says
-    → StopsAgain holds refusals size gives remaining old shelf left form contents out written said
+    → StopsAgain holds refusals returns survives size gives remaining old shelf left form contents
+    out written said
     says
-stops_at_end_again holds refusals size gives remaining old new shelf left form contents out written
+stops_at_end_again {S} {L} {R} {W} {returns} {survives} holds refusals size gives remaining old new
+    shelf left form contents out written
     said between says back same took e =
-    let t = subst (λ b. TakesRounds holds refusals (size shelf) gives remaining b old new shelf left
+    let t = subst (λ b. TakesRounds holds refusals returns survives (size shelf) gives remaining b
+    old new shelf left
     said between) same took in
     record {
       rounds = t.rounds;
@@ -145,8 +170,8 @@ stops_at_end_again holds refusals size gives remaining old new shelf left form c
           (lines_of_all said t.told between (turns_of t.rounds) t.last.turns t.gone.lines
           t.last.lines)) e.line;
       follows = λ held was kept.
-          let (mid, has, still, f) = t.gone.follows held was kept in
-          let (now, has_now, then, one) = t.last.follows mid has still in (
+          let (mid, has, still, f, before) = t.gone.follows held was kept in
+          let (now, has_now, then, one, last) = t.last.follows mid has still in (
             new.core,
             seen refusals new now,
             (
@@ -154,6 +179,13 @@ stops_at_end_again holds refusals size gives remaining old new shelf left form c
               f,
               subst (λ c. Follows (goes_back old.notes) c (seen refusals t.mid mid) t.last.turns
                   new.core (seen refusals new now)) t.gone.at one,
+            ),
+            (
+              new,
+              now,
+              has_now,
+              refl,
+              last_then refusals returns survives old t.mid new held mid now before last,
             ),
             e.is_written now has_now,
           );

@@ -9,7 +9,7 @@ use Rattle.tape_core.specs.Crash.{AddsNothing, AddsOnly, OrThis}
 use Rattle.tape_run.specs.declared.script.Step.{Step}
 use Rattle.tape_run.specs.declared.script.Step.TheVariants.{Reel, Save, Restart}
 use Rattle.tape_run.specs.Seen.{Seen, IsKept}
-use Rattle.tape_run.specs.Crash.{IsOf, StoodAt}
+use Rattle.tape_run.specs.Crash.{IsOf, IsHere, IsNoteOf, StoodAt}
 use Rattle.tape_run.proofs.Sessions.{kept_at}
 
 pub adds_same : (r : Point → List Portion → Type 0) (v : Type 0) → AddsNothing r r v v
@@ -36,6 +36,18 @@ only_more these those r s t u v w f (a, b) (d, e) =
     either back there (inl h) = a back there h
     either back there (inr h) = inr (f back there h)
 
+-- where the session stands, or a note of it, is of it
+pub only_of : (these : Point → List Portion → Type 0) (s : Seen)
+    → ((back : Point) (there : List Portion) → these back there → IsOf s back there)
+    → (r t : Point → List Portion → Type 0) (u v : Type 0)
+    → AddsOnly these r t u v → AddsOnly (IsOf s) r t u v
+only_of these s f r t u v (a, b) = ((λ back there h. either back there (a back there h)), b)
+  where
+    either : (back : Point) (there : List Portion) → r back there ⊎ these back there
+        → r back there ⊎ IsOf s back there
+    either back there (inl h) = inl h
+    either back there (inr h) = inr (f back there h)
+
 -- it is of the session that makes the steps
 pub stood_here : (s : Seen) (steps : List Step) (reels : List (Option (List ℕ)))
     (back : Point) (there : List Portion)
@@ -51,13 +63,13 @@ stood_here s (Restart n ∷ steps) reels back there h = inl h
 pub noted_only : (s : Seen) (c : Point) (n : ℕ) (ps : List Portion) → slice_get s.notes n ≡ Some c
     → IsFront ps s.parts → weight_of ps ≡ c.staged
     → (r t : Point → List Portion → Type 0) (u v : Type 0) → OrThis c ps r t → (u → v)
-    → AddsOnly (IsOf s) r t u v
+    → AddsOnly (IsNoteOf n s) r t u v
 noted_only s c n ps e f w r t u v a b = ((λ back there h. either back there (a back there h)), b)
   where
     either : (back : Point) (there : List Portion) → r back there ⊎ ((back ≡ c) × (there ≡ ps))
-        → r back there ⊎ IsOf s back there
+        → r back there ⊎ IsNoteOf n s back there
     either back there (inl h) = inl h
-    either back there (inr (p, q)) = inr (inr ((n, rw p e, rw q f, rw (p, q) w)))
+    either back there (inr (p, q)) = inr ((rw p e, rw q f, rw (p, q) w))
 
 -- the sink may come back with the note that it was cut to
 pub cut_only : (s : Seen) (n : ℕ) (c : Point) → slice_get s.notes n ≡ Some c → IsKept s
@@ -66,7 +78,7 @@ pub cut_only : (s : Seen) (n : ℕ) (c : Point) → slice_get s.notes n ≡ Some
     → ((front rest : List Portion) → holds (front ++ rest) → weight_of front ≡ c.staged
     → OrThis c front r t)
     → ((front rest : List Portion) → holds (front ++ rest) → weight_of front ≡ c.staged → u → v)
-    → AddsOnly (IsOf s) r t u v
+    → AddsOnly (IsNoteOf n s) r t u v
 cut_only s n c noted kept holds was r t u v crash after =
     let at = kept_at s.place [] s.notes n c s.parts noted kept in
     let front = subst holds at.is_front.1 was in

@@ -226,13 +226,13 @@ none_noted (suc n) c e = absurd (cc e)
 of_session : (s : Seen) (back : Point) (there : List Portion) → s.notes ≡ [] → IsOf s back there
     → (back ≡ saved s.place (weight_of s.parts)) × (there ≡ s.parts)
 of_session s back there none (inl here) = here
-of_session s back there none (inr (n, noted, front, weighs)) =
+of_session s back there none (inr (n, (noted, front, weighs))) =
     absurd (none_noted n back (subst (λ notes. slice_get notes n ≡ Some back) none noted))
 
 of_a_note : (s : Seen) (back : Point) (there : List Portion) → s.notes ≡ back ∷ []
     → IsFront there s.parts → weight_of there ≡ back.staged
     → IsOf s back there
-of_a_note s back there one front weighs = inr (0, (rw one refl), front, weighs)
+of_a_note s back there one front weighs = inr ((0, (rw one refl, front, weighs)))
 
 pub cases_of_crashes : CasesOfCrashes
 cases_of_crashes = record {

@@ -1,18 +1,22 @@
 -- The cases of files got back.
 use Rattle.std.proofs.Common.{◌≡◌, ◌⊎◌, inl, inr, ℕ, List, [], ◌∷◌, Some, None}
 use Rattle.std.proofs.Common.{refl, sym, ap, subst, ◌∙◌, false, true, length, arith}
-use Rattle.std.specs.Prelude.{IfSome, Option, get_or, set}
+use Rattle.std.specs.Prelude.{IfSome, Option, get_or, set, slice_get, ⊤}
 use Rattle.tape_set.specs.Layout.{FileSet}
 use Rattle.tape_set.specs.Lawful.{IsLawful}
-use Rattle.tape_core.specs.Place.{IsPlaced}
+use Rattle.tape_core.specs.Place.{IsPlaced, rest_of}
+use Rattle.tape_core.specs.Stands.{weight_of}
+use Rattle.tape_core.specs.Weight.{IsFront}
+use Rattle.tape_run.specs.Crash.{IsNoteOf, BringsLast, KeepsLast}
 use Rattle.tape_run.specs.Given.{is_device, IsGiven}
 use Rattle.tape_run.specs.Mount.{IsMountOf, foreign_reel}
 use Rattle.tape_run.specs.OutSinks.{IsText}
 use Rattle.tape_run.specs.Reeling.{Opened, AreGiven, AreMounts, Gathers, IsNoted, goes_back}
 use Rattle.tape_run.specs.Reeling.{IsKeptFor, AreSure, is_doubtful, Turn, IsTurn, Took}
-use Rattle.tape_run.specs.Reeling.{AreTurns, AreFirstTurns}
+use Rattle.tape_run.specs.Reeling.{AreTurns, AreFirstTurns, StoodSaved}
 use Rattle.tape_run.specs.Seen.{Seen, seen}
 use Rattle.tape_run.specs.Steps.{WentBack}
+use Rattle.tape_run.specs.Story.{Story}
 use Rattle.tape_core.specs.Point.{Point}
 use Rattle.tape_blocks.specs.Block.{Portion}
 use Rattle.tape_run.specs.Output.{AppendsFront}
@@ -20,7 +24,7 @@ use Rattle.tape_run.specs.RecordText.{output_of}
 use Rattle.tape_blocks.specs.declared.form.Form.{Form}
 use Rattle.tape_set.specs.declared.position.Position.TheVariants.{Finished}
 use Rattle.tape_run.specs.CasesOfExtracts.{CasesOfTurns, CasesOfOutputs, Listed, Known, Readers}
-use Rattle.tape_run.specs.CasesOfExtracts.{StopsListed, StopsListedNow}
+use Rattle.tape_run.specs.CasesOfExtracts.{StopsListed, StopsListedNow, CasesOfSaved, brings}
 
 foreign_turn : (set : FileSet) (o : Opened) (bytes : List ℕ) → o.had ≡ Some bytes
     → IsMountOf set bytes foreign_reel
@@ -140,7 +144,7 @@ output_stopped session shelf left form out now said says none s =
     (seen {S = List Portion} (λ s. 0) session session.sink) =
     subst (λ n. IsKeptFor (goes_back n) (seen {S = List Portion} (λ s. 0) session session.sink))
     (sym none) tt in
-    let (last, seen, follows, wrote) = s.follows session.sink refl kept in elim wrote [
+    let (last, seen, follows, stood, wrote) = s.follows session.sink refl kept in elim wrote [
       | inl same ↦ inl same
       | inr more ↦ inr (seen, more.0, more.1)
     ]
@@ -186,4 +190,83 @@ cases_of_outputs = record {
   tells_nothing = λ tells. absurd (let e = tells [] in cc e);
   refused = λ s. refl;
   ended = (refl, refl);
+}
+
+-- ---- what comes back
+
+only_first : (s : Seen) (c d back : Point) (there : List Portion) → s.notes ≡ c ∷ d ∷ []
+    → IsNoteOf 0 s back there
+    → (back ≡ c) × IsFront there s.parts × (weight_of there ≡ back.staged)
+only_first s c d back there two (is, front, weighs) =
+    (let e = is in let f = ap (λ l. slice_get l 0) two in cc, front, weighs)
+
+last_of_two : (s : Seen) (c d p : Point) (ps : List Portion) → s.notes ≡ c ∷ d ∷ []
+    → BringsLast (brings ps p) s → (p ≡ d) × IsFront ps s.parts × (weight_of ps ≡ p.staged)
+last_of_two s c d p ps two last =
+    let (n, count, (is, front, weighs)) = last p ps (refl, refl) in
+    let second : n ≡ 1 = omega (arith, count, ap length two) in
+    let here : slice_get s.notes 1 ≡ Some p = subst (λ z. slice_get s.notes z ≡ Some p) second is in
+    (let f = ap (λ l. slice_get l 1) two in cc, front, weighs)
+
+none_is_brought : (s : Seen) (p : Point) (ps : List Portion) → s.notes ≡ []
+    → BringsLast (brings ps p) s → ⊥
+none_is_brought s p ps none last =
+    let (n, count, i) = last p ps (refl, refl) in absurd (omega (arith, count, ap length none))
+
+-- of one note it is the last
+pub one_note : (s : Seen) (c p : Point) (ps : List Portion) → s.notes ≡ c ∷ []
+    → BringsLast (brings ps p) s → (p ≡ c) × IsFront ps s.parts
+one_note s c p ps one last =
+    let (n, count, (is, front, weighs)) = last p ps (refl, refl) in
+    let first : n ≡ 0 = omega (arith, count, ap length one) in
+    let here : slice_get s.notes 0 ≡ Some p = subst (λ z. slice_get s.notes z ≡ Some p) first is in
+    (let f = ap (λ l. slice_get l 0) one in cc, front)
+
+came_alone : (old new : Story Point) (held now ps : List Portion) (c : Point)
+    → old.notes ≡ c ∷ [] → new.notes ≡ c ∷ [] → old.sink ≡ c → IsFront ps held
+    → weight_of ps ≡ c.staged → KeepsLast (λ s. 0) (brings ps) (λ s. ⊤) old held new now
+    → new.sink ≡ c
+came_alone old new held now ps c had has came front weighs (last, after) =
+    (one_note (seen (λ s. 0) new now) c new.sink ps has (last (λ same back there (b, t). (
+      0,
+      ap length had,
+      (
+        ap (λ l. slice_get l 0) had ∙ ap Some (sym came) ∙ ap Some (sym b),
+        subst (λ z. IsFront z held) (sym t) front,
+        ap weight_of t ∙ weighs ∙ ap (λ (z : Point). z.staged) (sym came ∙ sym b),
+      ),
+    )))).0
+
+on_the_way : (old new : Story Point) (held now ps : List Portion) (c : Point)
+    → old.notes ≡ [] → new.notes ≡ c ∷ []
+    → KeepsLast (λ s. 0) (brings ps) (λ s. ⊤) old held new now
+    → (new.sink ≡ c) × IsFront ps now
+on_the_way old new held now ps c none has (last, after) =
+    one_note (seen (λ s. 0) new now) c new.sink ps has (last (λ same. absurd (let e : 1 ≡ 0 =
+    sym (ap length has) ∙ same ∙ ap length none in omega (arith, e))))
+
+stood_so : (session : Story Point) (held ps : List Portion) (now : Seen) (c : Point)
+    → session.notes ≡ [] → now.notes ≡ c ∷ []
+    → StoodSaved (λ s parts. ⊤) (λ s. 0) (brings ps) (λ s. ⊤) session held now
+    → (mid : Story Point) × (mid.sink ≡ c) × (now.place ≡ rest_of mid.core)
+    × IsFront ps now.parts
+stood_so session held ps now c none has (mid, parts, holds, is, keeps) =
+    let (same, front) = on_the_way session mid held parts ps c none
+    (sym (ap (λ (z : Seen). z.notes) is) ∙ has) keeps in (
+      mid,
+      same,
+      ap (λ (z : Seen). z.place) is,
+      subst (IsFront ps) (sym (ap (λ (z : Seen). z.parts) is)) front,
+    )
+
+pub cases_of_saved : CasesOfSaved
+cases_of_saved = record {
+  first_note = only_first;
+  brings_last = last_of_two;
+  brings_none = none_is_brought;
+  brings_nothing = λ s back there none. absurd none;
+  noted_on_the_way = on_the_way;
+  none_on_the_way = came_alone;
+  survives = λ old new held now keeps. keeps.1;
+  stood = stood_so;
 }

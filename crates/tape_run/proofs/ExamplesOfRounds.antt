@@ -48,12 +48,13 @@ cases_of_rounds = record {
       (e.wanted, e.line, e.is_written session.sink refl);
   file_stopped = λ session form out now said says s. (s.line, s.is_written session.sink refl);
   again_ends = λ session shelf left form out now said says want e kept.
-      e.ends session.sink refl kept;
+      let (ends, goes, stood) = e.ends session.sink refl kept in (ends, goes);
   again = λ session shelf left form out now said says want e.
       (e.lines, e.are_rounds, e.are_turns, e.brought);
   again_left = λ session shelf left form out now said says want e. (e.most, e.all, e.enough);
   again_stopped = λ session shelf left form out now said says s.
       (s.few, s.most, s.are_rounds, s.are_turns, s.brought, s.lines);
   again_output = λ session shelf left form out now said says s kept.
-      s.follows session.sink refl kept;
+      let (last, now, goes, stood, wrote) = s.follows session.sink refl kept in
+      (last, now, goes, wrote);
 }

@@ -10,6 +10,7 @@ use Rattle.tape_set.specs.declared.position.Position.TheVariants.{Awaits, Finish
 use Rattle.tape_set.specs.declared.position.Want.{Want}
 use Rattle.tape_set.specs.Position.{want_at}
 use Rattle.tape_core.specs.Point.{Point}
+use Rattle.tape_core.specs.Crash.{Returns}
 use Rattle.tape_core.specs.State.{State}
 use Rattle.tape_run.specs.Seen.{Seen, seen}
 use Rattle.tape_run.specs.Story.{Story}
@@ -54,17 +55,22 @@ ended holds refusals mid core old turns form out written said says want now e ha
       is_written = e.is_written now has;
     }
 
-pub extracted : {S L R : Type 0} (holds : S → List Portion → Type 0) (refusals : S → ℕ)
+pub extracted : {S L R : Type 0} {returns : S → Returns}
+    {survives : S → Type 0} (holds : S → List Portion → Type 0) (refusals : S → ℕ)
     (size : L → ℕ) (gives : Mounting L R) (remaining : R → Option (List ℕ)) (old mid : Story S)
     (shelf left : L) (form : Form)
     (out written said between says : Option (List ℕ)) (want : Option Want)
     (back : Bool) → back ≡ goes_back old.notes
-    → TakesAll holds refusals (size shelf) 0 gives remaining back old mid shelf left said between
+    → TakesAll holds refusals returns survives (size shelf) 0 gives remaining back old mid shelf
+    left said between
     → EndsFile holds mid form out written between says want
-    → Extracts holds refusals size gives remaining old shelf left form out written said says want
-extracted holds refusals size gives remaining old mid shelf left form out written said between says
+    → Extracts holds refusals returns survives size gives remaining old shelf left form out written
+    said says want
+extracted {S} {L} {R} {returns} {survives} holds refusals size gives remaining old mid shelf left
+    form out written said between says
     want back same took e =
-    let t = subst (λ b. TakesAll holds refusals (size shelf) 0 gives remaining b old mid shelf left
+    let t = subst (λ b. TakesAll holds refusals returns survives (size shelf) 0 gives remaining b
+    old mid shelf left
     said between) same took in
     record {
       turns = t.turns;
@@ -74,22 +80,28 @@ extracted holds refusals size gives remaining old mid shelf left form out writte
       records = e.records;
       lines = Appends-trans said between says _ _ t.lines e.line;
       ends = λ held was kept.
-          let (now, has, still, f) = t.follows held was kept in
-          ended holds refusals mid old.core (seen refusals old held) t.turns form out written
-          between
-          says want now e has f;
+          let (now, has, still, f, last) = t.follows held was kept in (
+            ended holds refusals mid old.core (seen refusals old held) t.turns form out written
+                between says want now e has f,
+            (mid, now, has, refl, last),
+          );
     }
 
-pub stops_reading : {S L R W : Type 0} (holds : S → List Portion → Type 0)
+pub stops_reading : {S L R W : Type 0} {returns : S → Returns}
+    {survives : S → Type 0} (holds : S → List Portion → Type 0)
     (refusals : S → ℕ) (size : L → ℕ) (gives : Mounting L R) (remaining : R → Option (List ℕ))
     (old : Story S) (shelf left : L) (form : Form) (contents : W → Option (List ℕ))
     (out : W) (said says : Option (List ℕ)) (back : Bool) → back ≡ goes_back old.notes
-    → StopsReading holds refusals (size shelf) 0 gives remaining back old shelf left said says
-    → Stops holds refusals size gives remaining old shelf left form contents out out said says
-stops_reading holds refusals size gives remaining old shelf left form contents out said says back
+    → StopsReading holds refusals returns survives (size shelf) 0 gives remaining back old shelf
+    left said says
+    → Stops holds refusals returns survives size gives remaining old shelf left form contents out
+    out said says
+stops_reading {S} {L} {R} {W} {returns} {survives} holds refusals size gives remaining old shelf
+    left form contents out said says back
     same
     stopped =
-    let s = subst (λ b. StopsReading holds refusals (size shelf) 0 gives remaining b old shelf left
+    let s = subst (λ b. StopsReading holds refusals returns survives (size shelf) 0 gives remaining
+    b old shelf left
     said says) same stopped in
     record {
       turns = s.turns;
@@ -101,21 +113,26 @@ stops_reading holds refusals size gives remaining old shelf left form contents o
       records = 0;
       lines = front_more said says _ (last_line None 0) s.lines;
       follows = λ held was kept.
-          let (core, now, f) = s.follows held was kept in
-          (core, now, f, inl refl);
+          let (core, now, f, stood) = s.follows held was kept in
+          (core, now, f, stood, inl refl);
     }
 
-pub stops_at_end : {S L R W : Type 0} (holds : S → List Portion → Type 0) (refusals : S → ℕ)
+pub stops_at_end : {S L R W : Type 0} {returns : S → Returns}
+    {survives : S → Type 0} (holds : S → List Portion → Type 0) (refusals : S → ℕ)
     (size : L → ℕ) (gives : Mounting L R) (remaining : R → Option (List ℕ)) (old mid : Story S)
     (shelf left : L) (form : Form)
     (contents : W → Option (List ℕ)) (out written : W) (said between says : Option (List ℕ))
     (back : Bool) → back ≡ goes_back old.notes
-    → TakesAll holds refusals (size shelf) 0 gives remaining back old mid shelf left said between
+    → TakesAll holds refusals returns survives (size shelf) 0 gives remaining back old mid shelf
+    left said between
     → StopsAtEnd holds mid form contents out written between says
-    → Stops holds refusals size gives remaining old shelf left form contents out written said says
-stops_at_end holds refusals size gives remaining old mid shelf left form contents out written said
+    → Stops holds refusals returns survives size gives remaining old shelf left form contents out
+    written said says
+stops_at_end {S} {L} {R} {W} {returns} {survives} holds refusals size gives remaining old mid shelf
+    left form contents out written said
     between says back same took e =
-    let t = subst (λ b. TakesAll holds refusals (size shelf) 0 gives remaining b old mid shelf left
+    let t = subst (λ b. TakesAll holds refusals returns survives (size shelf) 0 gives remaining b
+    old mid shelf left
     said between) same took in
     record {
       turns = t.turns;
@@ -129,8 +146,8 @@ stops_at_end holds refusals size gives remaining old mid shelf left form content
           (subst (λ l. Appends said between (reel_lines 1 l))
           (sym (append-nil (map answer_of t.turns))) t.lines) e.line;
       follows = λ held was kept.
-          let (now, has, still, f) = t.follows held was kept in
-          (mid.core, seen refusals mid now, f, e.is_written now has);
+          let (now, has, still, f, last) = t.follows held was kept in
+          (mid.core, seen refusals mid now, f, (mid, now, has, refl, last), e.is_written now has);
     }
 
 -- the last line, or the output, was written in part

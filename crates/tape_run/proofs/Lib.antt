@@ -29,6 +29,7 @@ pub mod WholeVolumes
 pub mod WholeSets
 pub mod WholeCopies
 pub mod Lacking
+pub mod Lasting
 pub mod Listing
 pub mod Fronts
 pub mod Completes

@@ -31,7 +31,7 @@ of_stands : (set : FileSet) (s : Seen) (back : Point) (there : List Portion) →
     → IsOf s back there → Stands set s.place.file back there × IsPlaceOf (course_of s) back.position
 of_stands set s back there is (inl (e, f)) =
     (rw (e, f) (noted set s.place s.parts is.at), inl (ap (λ (c : Point). c.position) e))
-of_stands set s back there is (inr (n, e, f, w)) =
+of_stands set s back there is (inr (n, (e, f, w))) =
     let note = note_at set s.place.file [] s.notes n back s.parts e is.notes in
     let same : there ≡ note.ps =
     same_front there note.ps s.parts f note.is_front (w ∙ note.stands.staged) in

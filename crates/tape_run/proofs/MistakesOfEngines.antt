@@ -130,7 +130,7 @@ image_read_behind_the_completing_one : (S : _) (R : _) (L : _) (W : _) (P : _) (
 image_read_behind_the_completing_one S R L W P LS LR LL LW LP g d g' d' h e m n w f p i j k κs a s
     held text
     l over holds kept old new =
-    let ends = l.ok.ends held holds kept in
+    let (ends, stood) = l.ok.ends held holds kept in
     let none : l.ok.turns ≡ []
     = no_turn (goes_back a.0.notes) l.ok.turns a.0.core _ ends.last ends.now ends.follows over in
     let lines : List ℕ = reel_lines 1 (map answer_of l.ok.turns) ++ last_line None l.ok.records in

@@ -217,7 +217,7 @@ count_passed_over S R LS LR g d h e κs a answer s held bytes end stop items mor
     let all : List TapeItem = items ++ trailer ∷ more in
     let led : rest_of s.0.now.core ≡ rest_of (behind_items front all)
     = led_there (seen g.refusals a.0.now held) (seen g.refusals s.0.now r.0)
-    (h.remaining a.1.0.now) bytes all end stop answer.fault r.3 known none image in
+    (h.remaining a.1.0.now) bytes all end stop answer.fault r.4 known none image in
     not_finished (behind_items front items) trailer more (BlockCount 9 6) counts
     (sym (ap (λ c. c.position) (behind_app front items (trailer ∷ more)))
     ∙ sym (ap (λ c. c.position) led) ∙ finished)
@@ -241,7 +241,7 @@ broken_reader_mended S R LS LR g d h e κs a answer s held bytes end stop items 
     let front : State = mount_of (rest_of a.0.now.core) in
     let led : rest_of s.0.now.core ≡ rest_of (behind_items front items)
     = led_there (seen g.refusals a.0.now held) (seen g.refusals s.0.now r.0)
-    (h.remaining a.1.0.now) bytes items end stop answer.fault r.3 known none image in
+    (h.remaining a.1.0.now) bytes items end stop answer.fault r.4 known none image in
     let still : front.phase ≡ Broken
     = ap (λ f. mounted (resting f) a.0.now.core.position) broken in
     let idle : IsIdle front.position front.phase

@@ -4,6 +4,7 @@ use Rattle.std.proofs.Common.{None, refl, sym, ap, subst, ◌∙◌, inl, arith,
 use Rattle.std.specs.Io.KnownBytes.{Appends}
 use Rattle.std.proofs.KnownBytes.{Appends-trans}
 use Rattle.tape_blocks.specs.Block.{Portion}
+use Rattle.tape_core.specs.Crash.{Returns}
 use Rattle.tape_set.specs.declared.position.Position.TheVariants.{Finished}
 use Rattle.tape_set.specs.declared.position.Want.{Want}
 use Rattle.tape_set.specs.Position.{want_at}
@@ -18,16 +19,19 @@ use Rattle.tape_run.specs.ExtractingNow.{IsPut, ExtractsNow, StopsNow}
 use Rattle.tape_run.proofs.Fitting.{front_more, front_then}
 use Rattle.tape_run.proofs.Turns.{gathers}
 
-pub extracted_now : {S L R : Type 0} (holds : S → List Portion → Type 0) (refusals : S → ℕ)
+pub extracted_now : {S L R : Type 0} {returns : S → Returns}
+    {survives : S → Type 0} (holds : S → List Portion → Type 0) (refusals : S → ℕ)
     (size : L → ℕ) (gives : Mounting L R) (remaining : R → Option (List ℕ)) (old mid : Story S)
     (shelf left : L) (form : Form) (tells : Type 0)
     (stands said between says : Option (List ℕ)) (want : Option Want) (records : ℕ)
-    → TakesAll holds refusals (size shelf) 0 gives remaining false old mid shelf left said between
+    → TakesAll holds refusals returns survives (size shelf) 0 gives remaining false old mid shelf
+    left said between
     → want ≡ want_at mid.core.file mid.core.position → Appends between says (last_line want records)
     → ((held : List Portion) → holds mid.sink held → IsPut want tells records form stands held)
     → ExtractsNow holds refusals size gives remaining old shelf left form tells stands said says
     want
-extracted_now holds refusals size gives remaining old mid shelf left form tells stands said between
+extracted_now {S} {L} {R} {returns} {survives} holds refusals size gives remaining old mid shelf
+    left form tells stands said between
     says want records t is last wrote = record {
       turns = t.turns;
       are_turns = t.are_turns;
@@ -36,7 +40,7 @@ extracted_now holds refusals size gives remaining old mid shelf left form tells 
       records = records;
       lines = Appends-trans said between says _ _ t.lines last;
       ends = λ held was.
-          let (now, has, still, f) = t.follows held was tt in
+          let (now, has, still, f, last) = t.follows held was tt in
           record {
             last = mid.core;
             now = seen refusals mid now;
@@ -49,14 +53,17 @@ extracted_now holds refusals size gives remaining old mid shelf left form tells 
           };
     }
 
-pub stops_reading_now : {S L R O : Type 0} (holds : S → List Portion → Type 0)
+pub stops_reading_now : {S L R O : Type 0} {returns : S → Returns}
+    {survives : S → Type 0} (holds : S → List Portion → Type 0)
     (refusals : S → ℕ) (size : L → ℕ) (gives : Mounting L R) (remaining : R → Option (List ℕ))
     (old : Story S) (shelf left : L) (form : Form) (tells : Type 0)
     (stands : O → Option (List ℕ)) (out : O) (said says : Option (List ℕ))
-    → StopsReading holds refusals (size shelf) 0 gives remaining false old shelf left said says
+    → StopsReading holds refusals returns survives (size shelf) 0 gives remaining false old shelf
+    left said says
     → StopsNow holds refusals size gives remaining old shelf left form tells stands out out said
     says
-stops_reading_now holds refusals size gives remaining old shelf left form tells stands out said
+stops_reading_now {S} {L} {R} {O} {returns} {survives} holds refusals size gives remaining old shelf
+    left form tells stands out said
     says s =
     record {
       turns = s.turns;
@@ -67,22 +74,31 @@ stops_reading_now holds refusals size gives remaining old shelf left form tells 
       want = None;
       records = 0;
       lines = front_more said says _ (last_line None 0) s.lines;
-      follows = λ held was. let (core, now, f) = s.follows held was tt in (core, now, f, inl refl);
+      follows = λ held was. let (core, now, f, stood) = s.follows held was tt in (
+        core,
+        now,
+        f,
+        inl
+            refl,
+      );
     }
 
-pub stops_at_end_now : {S L R O : Type 0} (holds : S → List Portion → Type 0) (refusals : S → ℕ)
+pub stops_at_end_now : {S L R O : Type 0} {returns : S → Returns}
+    {survives : S → Type 0} (holds : S → List Portion → Type 0) (refusals : S → ℕ)
     (size : L → ℕ) (gives : Mounting L R) (remaining : R → Option (List ℕ)) (old mid : Story S)
     (shelf left : L) (form : Form) (tells : Type 0)
     (stands : O → Option (List ℕ)) (out put : O) (said between says : Option (List ℕ))
     (want : Option Want) (records : ℕ)
-    → TakesAll holds refusals (size shelf) 0 gives remaining false old mid shelf left said between
+    → TakesAll holds refusals returns survives (size shelf) 0 gives remaining false old mid shelf
+    left said between
     → AppendsFront between says (last_line want records)
     → ((held : List Portion) → holds mid.sink held → (put ≡ out) ⊎ ((mid.core.position
     ≡ Finished) × ((stands put ≡ stands out)
     ⊎ (tells → stands put ≡ Some (output_of form held)))))
     → StopsNow holds refusals size gives remaining old shelf left form tells stands out put said
     says
-stops_at_end_now holds refusals size gives remaining old mid shelf left form tells stands out put
+stops_at_end_now {S} {L} {R} {O} {returns} {survives} holds refusals size gives remaining old mid
+    shelf left form tells stands out put
     said between says want records t last wrote = record {
       turns = t.turns;
       are_turns = (left, t.are_turns, inl refl);
@@ -95,6 +111,6 @@ stops_at_end_now holds refusals size gives remaining old mid shelf left form tel
           (subst (λ l. Appends said between (reel_lines 1 l))
           (sym (append-nil (map answer_of t.turns))) t.lines) last;
       follows = λ held was.
-          let (now, has, still, f) = t.follows held was tt in
+          let (now, has, still, f, last) = t.follows held was tt in
           (mid.core, seen refusals mid now, f, wrote now has);
     }

@@ -11,6 +11,7 @@ use Rattle.tape_blocks.specs.Block.{Portion}
 use Rattle.tape_set.specs.declared.position.Position.TheVariants.{Finished}
 use Rattle.tape_set.specs.declared.position.Want.{Want}
 use Rattle.tape_set.specs.Position.{want_at}
+use Rattle.tape_core.specs.Crash.{Returns}
 use Rattle.tape_core.specs.State.{State}
 use Rattle.tape_run.specs.Seen.{Seen, seen}
 use Rattle.tape_run.specs.Story.{Story}
@@ -23,6 +24,7 @@ use Rattle.tape_run.specs.Rounds.{Round, turns_of, core_behind, wanted, AreRound
 use Rattle.tape_run.specs.Rounds.{BroughtSomething, FollowsRounds, HasGone, TakesRounds}
 use Rattle.tape_run.specs.Rounds.{StopsInRound}
 use Rattle.tape_run.proofs.Fitting.{front_then}
+use Rattle.tape_run.proofs.Lasting.{last_same, last_then}
 use Rattle.tape_run.proofs.Turns.{lines_more, follows_then}
 
 -- ---- one more round
@@ -120,32 +122,48 @@ whole_round turns size core most all some = elim (cases_lt (length turns) size) 
 ]
 
 -- nothing has come yet
-pub none_gone : {S L R : Type 0} (holds : S → List Portion → Type 0) (refusals : S → ℕ)
+pub none_gone : {S L R : Type 0} {returns : S → Returns}
+    {survives : S → Type 0} (holds : S → List Portion → Type 0) (refusals : S → ℕ)
     (size : ℕ) (gives : Mounting L R) (remaining : R → Option (List ℕ)) (back : Bool)
     (old : Story S) (shelf : L) (said : Option (List ℕ))
-    → HasGone holds refusals size gives remaining back old old shelf shelf said said []
-none_gone holds refusals size gives remaining back old shelf said = record {
-  are_rounds = refl;
-  brought = tt;
-  at = refl;
-  lines = Appends-nil said;
-  follows = λ held was kept. (held, was, kept, refl);
-}
+    → HasGone holds refusals returns survives size gives remaining back old old shelf shelf said
+    said []
+none_gone {S} {L} {R} {returns} {survives} holds refusals size gives remaining back old shelf said =
+    record {
+      are_rounds = refl;
+      brought = tt;
+      at = refl;
+      lines = Appends-nil said;
+      follows = λ held was kept. (
+        held,
+        was,
+        kept,
+        refl,
+        last_same refusals returns survives old
+            held,
+      );
+    }
 
 -- one more round was made, and it was not enough
-pub gone_on : {S L R : Type 0} (holds : S → List Portion → Type 0) (refusals : S → ℕ)
+pub gone_on : {S L R : Type 0} {returns : S → Returns}
+    {survives : S → Type 0} (holds : S → List Portion → Type 0) (refusals : S → ℕ)
     (size before : ℕ) (gives : Mounting L R) (remaining : R → Option (List ℕ)) (back : Bool)
     (old mid new : Story S) (shelf between left : L) (said told says : Option (List ℕ))
     (rounds : List Round)
-    → HasGone holds refusals size gives remaining back old mid shelf between said told rounds
+    → HasGone holds refusals returns survives size gives remaining back old mid shelf between said
+    told rounds
     → before ≡ length (turns_of rounds)
-    → TakesAll holds refusals size before gives remaining back mid new between left told says
+    → TakesAll holds refusals returns survives size before gives remaining back mid new between left
+    told says
     → wanted new.core ≢ None → wanted new.core ≢ wanted mid.core
     → (more : List Round) × (before + size ≡ length (turns_of more))
-    × HasGone holds refusals size gives remaining back old new shelf left said says more
-gone_on holds refusals size before gives remaining back old mid new shelf between left said told
+    × HasGone holds refusals returns survives size gives remaining back old new shelf left said says
+    more
+gone_on {S} {L} {R} {returns} {survives} holds refusals size before gives remaining back old mid new
+    shelf between left said told
     says rounds h count took some other =
-    let t = subst (λ n. TakesAll holds refusals size n gives remaining back mid new between left
+    let t = subst (λ n. TakesAll holds refusals returns survives size n gives remaining back mid new
+    between left
     told says) count took in
     let whole = whole_round t.turns size new.core t.most t.all some in
     let r : Round = record { turns = t.turns; behind = new.core } in (
@@ -167,8 +185,8 @@ gone_on holds refusals size before gives remaining back old mid new shelf betwee
             (sym (turns_push rounds r))
             (lines_of_all said told says (turns_of rounds) t.turns h.lines t.lines);
         follows = λ held was kept.
-            let (between, has, still, f) = h.follows held was kept in
-            let (now, has_now, then, one) = t.follows between has still in (
+            let (between, has, still, f, before) = h.follows held was kept in
+            let (now, has_now, then, one, last) = t.follows between has still in (
               now,
               has_now,
               then,
@@ -176,17 +194,21 @@ gone_on holds refusals size before gives remaining back old mid new shelf betwee
                   r (seen refusals new now) f
                   (subst (λ c. Follows back c (seen refusals mid between) t.turns new.core
                   (seen refusals new now)) h.at one),
+              last_then refusals returns survives old mid new held between now before last,
             );
       },
     )
 
 -- where a round brought something there are images
-pub some_images : {S L R : Type 0} (holds : S → List Portion → Type 0) (refusals : S → ℕ)
+pub some_images : {S L R : Type 0} {returns : S → Returns}
+    {survives : S → Type 0} (holds : S → List Portion → Type 0) (refusals : S → ℕ)
     (size before : ℕ) (gives : Mounting L R) (remaining : R → Option (List ℕ)) (back : Bool)
     (mid new : Story S) (between left : L) (told says : Option (List ℕ))
-    → TakesAll holds refusals size before gives remaining back mid new between left told says
+    → TakesAll holds refusals returns survives size before gives remaining back mid new between left
+    told says
     → wanted new.core ≢ wanted mid.core → 0 < size
-some_images {S} holds refusals size before gives remaining back mid new between left told says t
+some_images {S} {L} {R} {returns} {survives} holds refusals size before gives remaining back mid new
+    between left told says t
     other = elim (cases_lt 0 size) [
       | inl some ↦ some
       | inr none ↦ absurd (other (ap (λ (s : Story S). wanted s.core) (t.none (omega (
@@ -196,46 +218,60 @@ some_images {S} holds refusals size before gives remaining back mid new between 
     ]
 
 -- one more round was made, and it was enough
-pub takes_rounds : {S L R : Type 0} (holds : S → List Portion → Type 0) (refusals : S → ℕ)
+pub takes_rounds : {S L R : Type 0} {returns : S → Returns}
+    {survives : S → Type 0} (holds : S → List Portion → Type 0) (refusals : S → ℕ)
     (size count before : ℕ) (gives : Mounting L R) (remaining : R → Option (List ℕ)) (back : Bool)
     (old mid new : Story S) (shelf between left : L) (said told says : Option (List ℕ))
     (rounds : List Round) → count ≡ size → before ≡ length (turns_of rounds)
-    → HasGone holds refusals count gives remaining back old mid shelf between said told rounds
-    → TakesAll holds refusals count before gives remaining back mid new between left told says
+    → HasGone holds refusals returns survives count gives remaining back old mid shelf between said
+    told rounds
+    → TakesAll holds refusals returns survives count before gives remaining back mid new between
+    left told says
     → IsEnough count before (wanted mid.core) (wanted new.core)
-    → TakesRounds holds refusals size gives remaining back old new shelf left said says
-takes_rounds holds refusals size count before gives remaining back old mid new shelf between left
+    → TakesRounds holds refusals returns survives size gives remaining back old new shelf left said
+    says
+takes_rounds {S} {L} {R} {returns} {survives} holds refusals size count before gives remaining back
+    old mid new shelf between left
     said told says rounds all lines h took enough =
-    subst (λ n. TakesRounds holds refusals n gives remaining back old new shelf left said says) all
+    subst (λ n. TakesRounds holds refusals returns survives n gives remaining back old new shelf
+    left said says) all
     (record {
       rounds = rounds;
       mid = mid;
       between = between;
       told = told;
       gone = h;
-      last = subst (λ n. TakesAll holds refusals count n gives remaining back mid new between left
+      last = subst (λ n. TakesAll holds refusals returns survives count n gives remaining back mid
+          new between left
           told says) lines took;
       enough = subst (λ n. IsEnough count n (wanted mid.core) (wanted new.core)) lines enough;
     })
 
 -- a fault ended one more round
-pub stops_round : {S L R : Type 0} (holds : S → List Portion → Type 0) (refusals : S → ℕ)
+pub stops_round : {S L R : Type 0} {returns : S → Returns}
+    {survives : S → Type 0} (holds : S → List Portion → Type 0) (refusals : S → ℕ)
     (size count before : ℕ) (gives : Mounting L R) (remaining : R → Option (List ℕ)) (back : Bool)
     (old mid : Story S) (shelf between left : L) (said told says : Option (List ℕ))
     (rounds : List Round) → count ≡ size → before ≡ length (turns_of rounds)
-    → HasGone holds refusals count gives remaining back old mid shelf between said told rounds
-    → StopsReading holds refusals count before gives remaining back mid between left told says
-    → StopsInRound holds refusals size gives remaining back old shelf left said says
-stops_round holds refusals size count before gives remaining back old mid shelf between left said
+    → HasGone holds refusals returns survives count gives remaining back old mid shelf between said
+    told rounds
+    → StopsReading holds refusals returns survives count before gives remaining back mid between
+    left told says
+    → StopsInRound holds refusals returns survives size gives remaining back old shelf left said
+    says
+stops_round {S} {L} {R} {returns} {survives} holds refusals size count before gives remaining back
+    old mid shelf between left said
     told says rounds all lines h stopped =
-    subst (λ n. StopsInRound holds refusals n gives remaining back old shelf left said says) all
+    subst (λ n. StopsInRound holds refusals returns survives n gives remaining back old shelf left
+    said says) all
     (record {
       rounds = rounds;
       mid = mid;
       between = between;
       told = told;
       gone = h;
-      last = subst (λ n. StopsReading holds refusals count n gives remaining back mid between left
+      last = subst (λ n. StopsReading holds refusals returns survives count n gives remaining back
+          mid between left
           told says) lines stopped;
     })
 

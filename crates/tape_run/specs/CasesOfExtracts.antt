@@ -19,6 +19,7 @@ use Rattle.tape_core.specs.declared.answer.Answer.TheVariants.{SectionDone, Usel
 use Rattle.tape_core.specs.declared.answer.Reason.TheVariants.{BlockCount, Broken, BadItem}
 use Rattle.tape_core.specs.Place.{IsPlaced, rest_of}
 use Rattle.tape_core.specs.State.{State}
+use Rattle.tape_run.specs.Crash.{IsNoteOf, BringsLast, KeepsLast}
 use Rattle.tape_run.specs.Extracting.{IsWritten, Ends, Extracts, Stops}
 use Rattle.tape_run.specs.ExtractingNow.{IsPut, EndsNow, ExtractsNow, StopsNow, Takes, refused_by}
 use Rattle.tape_run.specs.Lead.{Lead, over_reel}
@@ -31,7 +32,7 @@ use Rattle.tape_run.specs.Reeling.{Opened, Turn, answer_of, AreTurns, IsTurn, Fo
 use Rattle.tape_run.specs.Reeling.{AreMounts, AreTapes, over_tapes, IsThere, Gathers}
 use Rattle.tape_run.specs.Reeling.{reached, is_doubtful, IsNoted, ReadsReel}
 use Rattle.tape_run.specs.Reeling.{goes_back, IsKeptFor, AreSure}
-use Rattle.tape_run.specs.Reeling.{AreFirstTurns, Took}
+use Rattle.tape_run.specs.Reeling.{AreFirstTurns, Took, StoodSaved}
 use Rattle.tape_run.specs.Reeling.{step_behind, notes_behind, steps_of, AreTold, AreSteps}
 use Rattle.tape_run.specs.Reels.{Reads}
 use Rattle.tape_run.specs.Seen.{Seen, IsKept}
@@ -41,6 +42,7 @@ use Rattle.tape_run.specs.declared.script.Step.TheVariants.{Reel, Save, Restart}
 use Rattle.tape_core.specs.Point.{Point}
 use Rattle.tape_run.specs.Story.{Story}
 use Rattle.tape_core.specs.Stands.{weight_of}
+use Rattle.tape_core.specs.Weight.{IsFront}
 
 -- ---- images one after another
 
@@ -154,12 +156,14 @@ Readers = List (Option Known)
 abbrev pub ExtractsListed : Listed → Readers → Readers → Form → Known → Known → Known → Known
     → Option Want → Type 0
 ExtractsListed session shelf left form out written said says want =
-    Extracts (λ s ps. s ≡ ps) (λ s. 0) length Took (λ r. r) session shelf left form out written
+    Extracts (λ s ps. s ≡ ps) (λ s. 0) (λ s back there. ⊥) (λ s. ⊥) length Took (λ r. r) session
+    shelf left form out written
     said says want
 
 abbrev pub StopsListed : Listed → Readers → Readers → Form → Known → Known → Known → Known → Type 0
 StopsListed session shelf left form out written said says =
-    Stops (λ s ps. s ≡ ps) (λ s. 0) length Took (λ r. r) session shelf left form (λ w. w) out
+    Stops (λ s ps. s ≡ ps) (λ s. 0) (λ s back there. ⊥) (λ s. ⊥) length Took (λ r. r) session shelf
+    left form (λ w. w) out
     written
     said says
 
@@ -268,3 +272,41 @@ pub record CasesOfOutputs : Type 0 where
   pub tells_nothing : TellsAlways {W = List ℕ} (λ w. None) → ⊥
   pub refused : (s : OutSink Known) → refused_by s ≡ s.refused
   pub ended : (with_end true 3 ≡ 3) × (with_end false 3 ≡ 4)
+
+-- ---- what comes back
+
+-- a sink that brings back one checkpoint, with these parts, and holds any parts
+abbrev pub brings : List Portion → Point → Point → List Portion → Type 0
+brings ps c back there = (back ≡ c) × (there ≡ ps)
+
+-- of what comes back of a session that was saved
+pub record CasesOfSaved : Type 0 where
+  -- of two notes the first comes back with its own parts, and the last alone is brought
+  pub first_note : (s : Seen) (c d back : Point) (there : List Portion) → s.notes ≡ c ∷ d ∷ []
+      → IsNoteOf 0 s back there
+      → (back ≡ c) × IsFront there s.parts × (weight_of there ≡ back.staged)
+  pub brings_last : (s : Seen) (c d p : Point) (ps : List Portion) → s.notes ≡ c ∷ d ∷ []
+      → BringsLast (brings ps p) s → (p ≡ d) × IsFront ps s.parts × (weight_of ps ≡ p.staged)
+  pub brings_none : (s : Seen) (p : Point) (ps : List Portion) → s.notes ≡ []
+      → BringsLast (brings ps p) s → ⊥
+  pub brings_nothing : (s : Seen) → BringsLast (λ back there. ⊥) s
+  -- the note that was made on the way is brought
+  pub noted_on_the_way : (old new : Story Point) (held now ps : List Portion) (c : Point)
+      → old.notes ≡ [] → new.notes ≡ c ∷ []
+      → KeepsLast (λ s. 0) (brings ps) (λ s. ⊤) old held new now
+      → (new.sink ≡ c) × IsFront ps now
+  -- where none was made the one that came back alone still does
+  pub none_on_the_way : (old new : Story Point) (held now ps : List Portion) (c : Point)
+      → old.notes ≡ c ∷ [] → new.notes ≡ c ∷ [] → old.sink ≡ c → IsFront ps held
+      → weight_of ps ≡ c.staged → KeepsLast (λ s. 0) (brings ps) (λ s. ⊤) old held new now
+      → new.sink ≡ c
+  -- where something came back whatever a crash left it does so still
+  pub survives : (old new : Story Point) (held now : List Portion)
+      → KeepsLast (λ s. 0) (brings []) (λ s. s.position ≡ Finished) old held new now
+      → old.sink.position ≡ Finished → new.sink.position ≡ Finished
+  -- what a session came to is a state of it
+  pub stood : (session : Story Point) (held ps : List Portion) (now : Seen) (c : Point)
+      → session.notes ≡ [] → now.notes ≡ c ∷ []
+      → StoodSaved (λ s parts. ⊤) (λ s. 0) (brings ps) (λ s. ⊤) session held now
+      → (mid : Story Point) × (mid.sink ≡ c) × (now.place ≡ rest_of mid.core)
+      × IsFront ps now.parts

@@ -23,13 +23,15 @@ use Rattle.tape_run.specs.Seen.{Seen, seen}
 abbrev pub AgainListed : Listed → Readers → Readers → Form → Known → Known → Known → Known
     → Option Want → Type 0
 AgainListed session shelf left form out written said says want =
-    ExtractsAgain (λ s ps. s ≡ ps) (λ s. 0) length Took (λ r. r) session shelf left form out
+    ExtractsAgain (λ s ps. s ≡ ps) (λ s. 0) (λ s back there. ⊥) (λ s. ⊥) length Took (λ r. r)
+    session shelf left form out
     written said says want
 
 abbrev pub StopsAgainListed : Listed → Readers → Readers → Form → Known → Known → Known → Known
     → Type 0
 StopsAgainListed session shelf left form out written said says =
-    StopsAgain (λ s ps. s ≡ ps) (λ s. 0) length Took (λ r. r) session shelf left form (λ w. w) out
+    StopsAgain (λ s ps. s ≡ ps) (λ s. 0) (λ s back there. ⊥) (λ s. ⊥) length Took (λ r. r) session
+    shelf left form (λ w. w) out
     written said says
 
 -- of rounds

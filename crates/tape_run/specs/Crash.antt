@@ -1,23 +1,45 @@
 -- What a crash brings back of a session.
-use Rattle.std.specs.Prelude.{◌≡◌, ◌⊎◌, ℕ, List, [], ◌∷◌, Option, Some, None, slice_get, ⊤, Bool}
+use Rattle.std.specs.Prelude.{◌≡◌, ◌⊎◌, ℕ, ◌+◌, List, [], ◌∷◌, length, Option, Some, None}
+use Rattle.std.specs.Prelude.{slice_get, ⊤, Bool}
 use Rattle.tape_blocks.specs.Block.{Portion}
+use Rattle.tape_core.specs.Crash.{Returns}
 use Rattle.tape_core.specs.Point.{Point}
 use Rattle.tape_core.specs.Stands.{weight_of}
 use Rattle.tape_core.specs.Table.{saved}
 use Rattle.tape_core.specs.Weight.{IsFront}
 use Rattle.tape_run.specs.declared.script.Step.{Step}
 use Rattle.tape_run.specs.declared.script.Step.TheVariants.{Reel, Save, Restart}
-use Rattle.tape_run.specs.Seen.{Seen}
+use Rattle.tape_run.specs.Seen.{Seen, seen}
 use Rattle.tape_run.specs.Steps.{Reeled, Saved, WentBack}
+use Rattle.tape_run.specs.Story.{Story}
 
 -- where the session stands, with its parts
 abbrev pub IsHere : Seen → Point → List Portion → Type 0
 IsHere s back there = (back ≡ saved s.place (weight_of s.parts)) × (there ≡ s.parts)
 
--- a note of the session, with the front of its parts that this weighs
-abbrev pub IsNoted : Seen → Point → List Portion → Type 0
-IsNoted s back there = (n : ℕ) × (slice_get s.notes n ≡ Some back) × IsFront there s.parts
+-- the note of this number of the session, with the front of its parts that this weighs
+abbrev pub IsNoteOf : ℕ → Seen → Point → List Portion → Type 0
+IsNoteOf n s back there = (slice_get s.notes n ≡ Some back) × IsFront there s.parts
     × (weight_of there ≡ back.staged)
+
+-- a note of the session, with its parts
+abbrev pub IsNoted : Seen → Point → List Portion → Type 0
+IsNoted s back there = (n : ℕ) × IsNoteOf n s back there
+
+-- Nothing comes back but the note that was made last, with its parts.
+abbrev pub BringsLast : Returns → Seen → Type 0
+BringsLast returns s = (back : Point) (there : List Portion) → returns back there
+    → (n : ℕ) × (length s.notes ≡ n + 1) × IsNoteOf n s back there
+
+-- Nothing comes back but the note that was made last, where it was made on the way or nothing but
+-- the note made last came back before; and where something came back whatever a crash leaves it
+-- does so still.
+abbrev pub KeepsLast : {S : Type 0} → (S → ℕ) → (S → Returns) → (S → Type 0) → Story S
+    → List Portion → Story S → List Portion → Type 0
+KeepsLast refusals returns survives old held new now =
+    ((length new.notes ≡ length old.notes → BringsLast (returns old.sink) (seen refusals old held))
+    → BringsLast (returns new.sink) (seen refusals new now))
+    × (survives old.sink → survives new.sink)
 
 -- where the session stands, or a note of it
 abbrev pub IsOf : Seen → Point → List Portion → Type 0

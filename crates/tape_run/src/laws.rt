@@ -7,7 +7,7 @@ ghost use Rattle.tape_run.specs.CasesOfReels.{CasesOfAnswers, CasesOfTable, Case
 ghost use Rattle.tape_run.specs.CasesOfCatalogues.{CasesOfCatalogues, CasesOfImages};
 ghost use Rattle.tape_run.specs.CasesOfCatalogues.{CasesOfCopies, CasesOfReports};
 ghost use Rattle.tape_run.specs.CasesOfSections.{CasesOfSections};
-ghost use Rattle.tape_run.specs.CasesOfExtracts.{CasesOfTurns, CasesOfOutputs};
+ghost use Rattle.tape_run.specs.CasesOfExtracts.{CasesOfTurns, CasesOfOutputs, CasesOfSaved};
 ghost use Rattle.tape_run.specs.CasesOfRounds.{CasesOfRounds};
 ghost use Rattle.tape_run.specs.CasesOfLaws.{CasesOfRunLaws, CasesOfCatalogueLaws};
 ghost use Rattle.tape_run.specs.CasesOfSurveys.{CasesOfGlances, CasesOfWholes, CasesOfSurveys};
@@ -84,6 +84,7 @@ pub fn cases()
     ensures unpacking { CasesOfUnpacking }
     ensures turns { CasesOfTurns }
     ensures outputs { CasesOfOutputs }
+    ensures saved { CasesOfSaved }
     ensures rounds { CasesOfRounds }
     ensures run_laws { CasesOfRunLaws }
     ensures catalogue_laws { CasesOfCatalogueLaws }

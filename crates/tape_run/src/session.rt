@@ -11,7 +11,8 @@ ghost use Rattle.tape_core.specs.Place.{rest_of};
 ghost use Rattle.tape_core.specs.Stands.{Stands, weight_of};
 ghost use Rattle.tape_core.specs.Table.{saved, reader_of};
 ghost use Rattle.tape_core.specs.Crash.{AddsNothing, AddsOnly, OnlyThis};
-ghost use Rattle.tape_run.specs.Crash.{IsOf};
+ghost use Rattle.tape_core.specs.Weight.{IsFront};
+ghost use Rattle.tape_run.specs.Crash.{IsHere, IsNoteOf};
 ghost use Rattle.tape_run.specs.Given.{is_device, counted};
 ghost use Rattle.tape_run.specs.Headline.{IsStart};
 ghost use Rattle.tape_run.specs.Lives.{IsResumed};
@@ -142,15 +143,16 @@ impl<S: PartSink> Session<S> {
     /// buffer was refused: nothing changed, and nothing was read.
     pub fn reel<R: Read>(&mut self, device: &mut R) -> Result<ReelAnswer, RunFault>
         ensures ok { IfOk result (λ answer. (held : List Portion) → S.holds self.old.sink held
-            → (now : List Portion) × S.holds self.new.sink now
+            → (now : List Portion) × S.holds self.new.sink now × IsFront held now
             × (IsKept (seen S.refusals self.old held) → IsKept (seen S.refusals self.new now))
             × IfSome (R.remaining device.old) (λ bytes. Reeled bytes (is_device answer.fault)
             (seen S.refusals self.old held) (seen S.refusals self.new now))) }
         ensures err { IfErr result (λ fault. (held : List Portion) → S.holds self.old.sink held
-            → (now : List Portion) × S.holds self.new.sink now
+            → (now : List Portion) × S.holds self.new.sink now × IsFront held now
             × (IsKept (seen S.refusals self.old held) → IsKept (seen S.refusals self.new now))
             × IfSome (R.remaining device.old) (λ bytes. ReelFails bytes fault
             (seen S.refusals self.old held) (seen S.refusals self.new now))) }
+        ensures notes { self.new.notes ≡ self.old.notes }
         // The answer is the core's last one, and no byte behind what ended the reading was read.
         ensures answer { IfOk result (λ answer. IfKnown (R.remaining device.old)
             (R.remaining device.new)
@@ -196,6 +198,7 @@ impl<S: PartSink> Session<S> {
     pub fn save(&mut self) -> Result<Checkpoint, RunFault>
         ensures ok { OnOk result ((held : List Portion) → S.holds self.old.sink held
             → (now : List Portion) × S.holds self.new.sink now
+            × (IsKept (seen S.refusals self.old held) → IsKept (seen S.refusals self.new now))
             × Saved (seen S.refusals self.old held) (seen S.refusals self.new now)) }
         ensures point { IfOk result (λ point. (held : List Portion) → S.holds self.old.sink held
             → point ≡ saved (rest_of self.old.core) (weight_of held)) }
@@ -210,8 +213,10 @@ impl<S: PartSink> Session<S> {
         // Behind an Ok a crash brings back the checkpoint that was saved, with its parts, alone.
         ensures kept { IfOk result (λ point. (held : List Portion) → S.holds self.old.sink held
             → OnlyThis point held (S.returns self.new.sink)) }
+        // Whatever it answered: a crash behind it brings back where the session stands, with the
+        // parts delivered, or what one before it could.
         ensures crash { (held : List Portion) → S.holds self.old.sink held
-            → AddsOnly (IsOf (seen S.refusals self.old held)) (S.returns self.old.sink)
+            → AddsOnly (IsHere (seen S.refusals self.old held)) (S.returns self.old.sink)
             (S.returns self.new.sink) (S.survives self.old.sink) (S.survives self.new.sink) }
     {
         let point = self.intake.core.save(self.intake.sink.weight());
@@ -266,15 +271,18 @@ impl<S: PartSink> Session<S> {
         ensures ok { OnOk result ((held : List Portion) → S.holds self.old.sink held
             → IsKept (seen S.refusals self.old held)
             → (now : List Portion) × S.holds self.new.sink now
+            × IsKept (seen S.refusals self.new now)
             × WentBack n (seen S.refusals self.old held) (seen S.refusals self.new now)) }
         ensures err { IfErr result (λ fault. (held : List Portion) → S.holds self.old.sink held
             → IsKept (seen S.refusals self.old held)
             → (fault ≢ RunFault.Sink SinkFault.Device → S.holds self.new.sink held)
             × RestartFails n fault (seen S.refusals self.old held)
             (seen S.refusals self.new held)) }
+        // Whatever it answered: a crash behind it brings back the note of this number, with its
+        // parts, or what one before it could.
         ensures crash { (held : List Portion) → S.holds self.old.sink held
             → IsKept (seen S.refusals self.old held)
-            → AddsOnly (IsOf (seen S.refusals self.old held)) (S.returns self.old.sink)
+            → AddsOnly (IsNoteOf n (seen S.refusals self.old held)) (S.returns self.old.sink)
             (S.returns self.new.sink) (S.survives self.old.sink) (S.survives self.new.sink) }
     {
         if n >= self.notes.len() {

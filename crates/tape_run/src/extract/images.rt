@@ -2,6 +2,7 @@
 ghost use Rattle.std.specs.Prelude.{◌≡◌, ◌≢◌, ◌≤◌, ◌+◌, Some, List, OnOk, OnErr, true, false};
 ghost use Rattle.tape_set.specs.declared.position.Position.TheVariants.{Finished};
 ghost use Rattle.tape_blocks.specs.Block.{Portion};
+ghost use Rattle.tape_run.specs.Crash.{KeepsLast};
 ghost use Rattle.tape_run.specs.Seen.{seen, IsKept};
 ghost use Rattle.tape_run.specs.Reeling.{Takes, TakesAll, StopsReading, IsReported};
 ghost use Rattle.tape_run.specs.Reeling.{is_doubtful, IsNoted, WentToLast, IsKeptFor};
@@ -23,11 +24,11 @@ pub fn read_images<S: PartSink, R: Read + Drop, L: Shelf<R>, P: Write>(
     back: bool,
     report: &mut P,
 ) -> Result<(), EngineFault>
-    ensures ok { OnOk result (TakesAll S.holds S.refusals (L.size images.old) 0 L.gives R.remaining
-        back session.old session.new images.old images.new
+    ensures ok { OnOk result (TakesAll S.holds S.refusals S.returns S.survives (L.size images.old) 0
+        L.gives R.remaining back session.old session.new images.old images.new
         (P.contents report.old) (P.contents report.new)) }
-    ensures err { OnErr result (StopsReading S.holds S.refusals (L.size images.old) 0 L.gives
-        R.remaining back session.old images.old images.new
+    ensures err { OnErr result (StopsReading S.holds S.refusals S.returns S.survives (L.size
+        images.old) 0 L.gives R.remaining back session.old images.old images.new
         (P.contents report.old) (P.contents report.new)) }
 {
     let count = images.count();
@@ -44,11 +45,12 @@ pub fn read_round<S: PartSink, R: Read + Drop, L: Shelf<R>, P: Write>(
     report: &mut P,
 ) -> Result<(), EngineFault>
     requires room { lines + count ≤ 18446744073709551615 }
-    ensures ok { OnOk result (TakesAll S.holds S.refusals count lines L.gives R.remaining back
-        session.old session.new images.old images.new
+    ensures ok { OnOk result (TakesAll S.holds S.refusals S.returns S.survives count lines L.gives
+        R.remaining back session.old session.new images.old images.new
         (P.contents report.old) (P.contents report.new)) }
-    ensures err { OnErr result (StopsReading S.holds S.refusals count lines L.gives R.remaining back
-        session.old images.old images.new (P.contents report.old) (P.contents report.new)) }
+    ensures err { OnErr result (StopsReading S.holds S.refusals S.returns S.survives count lines
+        L.gives R.remaining back session.old images.old images.new
+        (P.contents report.old) (P.contents report.new)) }
 {
     for number in 0..count {
         if session.want().is_none() {
@@ -71,8 +73,8 @@ fn take_image<S: PartSink, R: Read + Drop, P: Write>(
     report: &mut P,
 ) -> Result<(), EngineFault>
     requires waits { session.old.core.position ≢ Finished }
-    ensures ok { OnOk result (Takes S.holds S.refusals R.remaining back session.old
-        session.new image number (P.contents report.old) (P.contents report.new)) }
+    ensures ok { OnOk result (Takes S.holds S.refusals S.returns S.survives R.remaining back
+        session.old session.new image number (P.contents report.old) (P.contents report.new)) }
     ensures err { OnErr result (IsReported number (P.contents report.old) (P.contents report.new)) }
 {
     match image {
@@ -90,8 +92,8 @@ fn take_reel<S: PartSink, R: Read, P: Write>(
     report: &mut P,
 ) -> Result<(), EngineFault>
     requires waits { session.old.core.position ≢ Finished }
-    ensures ok { OnOk result (Takes S.holds S.refusals R.remaining back session.old
-        session.new (Some device.old) number
+    ensures ok { OnOk result (Takes S.holds S.refusals S.returns S.survives R.remaining back
+        session.old session.new (Some device.old) number
         (P.contents report.old) (P.contents report.new)) }
     ensures err { OnErr result (IsReported number (P.contents report.old) (P.contents report.new)) }
 {
@@ -112,7 +114,8 @@ fn settle<S: PartSink>(
         → IsKeptFor back (seen S.refusals session.old held)
         → (now : List Portion) × S.holds session.new.sink now
         × IsNoted back (is_doubtful answer.now.answer) (seen S.refusals session.old held)
-        (seen S.refusals session.new now)) }
+        (seen S.refusals session.new now)
+        × KeepsLast S.refusals S.returns S.survives session.old held session.new now) }
 {
     if back && is_doubtful(answer) {
         return go_back(session);
@@ -125,7 +128,8 @@ fn go_back<S: PartSink>(session: &mut Session<S>) -> Result<(), RunFault>
     ensures ok { OnOk result ((held : List Portion) → S.holds session.old.sink held
         → IsKept (seen S.refusals session.old held)
         → (now : List Portion) × S.holds session.new.sink now
-        × WentToLast (seen S.refusals session.old held) (seen S.refusals session.new now)) }
+        × WentToLast (seen S.refusals session.old held) (seen S.refusals session.new now)
+        × KeepsLast S.refusals S.returns S.survives session.old held session.new now) }
 {
     let notes = session.notes();
     if notes == 0 {
@@ -141,7 +145,8 @@ fn note<S: PartSink>(session: &mut Session<S>, answer: &ReelAnswer) -> Result<()
     ensures ok { OnOk result ((held : List Portion) → S.holds session.old.sink held
         → (now : List Portion) × S.holds session.new.sink now
         × IsNoted false (is_doubtful answer.now.answer) (seen S.refusals session.old held)
-        (seen S.refusals session.new now)) }
+        (seen S.refusals session.new now)
+        × KeepsLast S.refusals S.returns S.survives session.old held session.new now) }
 {
     if is_doubtful(answer) {
         return Ok(());

@@ -1,16 +1,22 @@
 -- Answers that the contracts of a round, and of what is done behind a reel, exclude: each is what a
 -- wrong body would give.
-use Rattle.std.proofs.Common.{◌≡◌, ◌+◌, length, ap, ◌∙◌, sym, arith, subst, true, Bool}
+use Rattle.std.proofs.Common.{◌≡◌, ◌+◌, length, ap, ◌∙◌, sym, arith, subst, true, false, Bool}
 use Rattle.std.proofs.Common.{ℕ, List, [], ◌∷◌, ◌++◌, refl, codes}
-use Rattle.std.specs.Prelude.{Ok, Option, Some, None, map, slice_index, ◌<◌}
+use Rattle.std.specs.Prelude.{Ok, Option, Some, None, map, slice_get, slice_index, ◌<◌}
 use Rattle.std.specs.Fmt.{digits}
 use Rattle.std.specs.Io.KnownBytes.{Appends}
 use Rattle.tape_set.specs.declared.position.Position.{Position}
-use Rattle.tape_set.specs.declared.position.Position.TheVariants.{Finished}
-use Rattle.tape_core.specs.declared.answer.Answer.TheVariants.{Useless}
+use Rattle.tape_set.specs.declared.position.Position.TheVariants.{Awaits, Finished}
+use Rattle.tape_core.specs.declared.answer.Answer.TheVariants.{SectionDone, Useless}
 use Rattle.tape_core.specs.declared.answer.Reason.TheVariants.{BlockCount}
 use Rattle.tape_core.specs.declared.phase.Phase.TheVariants.{Broken, Over}
 use Rattle.tape_core.specs.Place.{resting}
+use Rattle.tape_core.specs.Point.{Point}
+use Rattle.tape_core.specs.Stands.{weight_of}
+use Rattle.tape_core.specs.Table.{saved as saved_point}
+use Rattle.tape_blocks.specs.Block.{Portion}
+use Rattle.tape_set.specs.Position.{block_of}
+use Rattle.tape_run.specs.Steps.{Saved}
 use Rattle.tape_run.specs.Seen.{Seen, seen, IsKept}
 use Rattle.tape_run.specs.ReelLine.{reel_lines}
 use Rattle.tape_run.specs.Reeling.{is_doubtful, IsNoted, IsKeptFor, WentToLast}
@@ -31,6 +37,33 @@ saved_behind_a_wrong_count S L g d κs a s label seen l count more =
       sym more ∙ ap (λ z. length z.notes) (l.doubtful (ap is_doubtful count)),
     ))
 
+-- saved_in_the_list_alone: behind a section the session stands at block 5, its first note is made,
+-- and the sink comes back with the start of the file
+saved_in_the_list_alone : (S : _) (L : _) (g : _) (d : _) (κs : _) (a : _) (s : _)
+    (held there : List Portion) (older : Point) → note.Learnt-named S L g d κs a (Ok tt) s
+    → a.1.0.now.answer ≡ SectionDone → g.holds a.0.now.sink held → a.0.now.notes ≡ []
+    → a.0.now.core.position ≡ Awaits 1 5 0
+    → g.returns s.0.now.sink older there → older.position ≡ Awaits 1 0 0 → ⊥
+saved_in_the_list_alone S L g d κs a s held there older l done was none five back start =
+    let old = seen g.refusals a.0.now held in
+    let (now, has, noted, last) = l.ok held was in
+    let saved : Saved old (seen g.refusals s.0.now now) =
+    subst (λ b. IsNoted false b old (seen g.refusals s.0.now now)) (ap is_doubtful done) noted in
+    let here = saved_point old.place (weight_of held) in
+    let one : s.0.now.notes ≡ here ∷ [] = saved.notes ∙ ap (λ l. l ++ here ∷ []) none in
+    let (n, count, (is, front, weighs)) = last.0 (λ same. absurd (omega (
+      arith,
+      ap length one,
+      same,
+      ap length none,
+    ))) older there back in
+    let first : n ≡ 0 = omega (arith, count, ap length one) in
+    let at : slice_get s.0.now.notes 0 ≡ Some older =
+    subst (λ z. slice_get s.0.now.notes z ≡ Some older) first is in
+    let e : older ≡ here = let f = ap (λ l. slice_get l 0) one in cc in
+    let n : 0 ≡ 5 = ap block_of (sym start ∙ ap (λ c. c.position) e ∙ five) in
+    absurd (omega (arith, n))
+
 -- where a session goes back behind such a reel it is at the note made last
 went : (back doubtful : Bool) (old new : Seen) → back ≡ true → doubtful ≡ true
     → IsNoted back doubtful old new → WentToLast old new
@@ -45,7 +78,7 @@ wrong_count_not_taken_back : (S : _) (L : _) (g : _) (d : _) (κs : _) (a : _) (
     → s.0.now.core.phase ≡ Broken → ⊥
 wrong_count_not_taken_back S L g d κs a s label count held l told back was kept broken =
     let old = seen g.refusals a.0.now held in
-    let (now, has, noted) = l.ok held was (subst (λ b. IsKeptFor b old) (sym back) kept) in
+    let (now, has, noted, last) = l.ok held was (subst (λ b. IsKeptFor b old) (sym back) kept) in
     let (n, one, w) = went a.1.1.0 (is_doubtful a.1.0.now.answer) old (seen g.refusals s.0.now now)
     back (ap is_doubtful told) noted in
     absurd (let e : Broken ≡ Over = sym (ap resting broken) ∙ ap (λ p. p.phase) w.place in cc)
@@ -58,7 +91,7 @@ taken_back_to_the_beginning : (S : _) (L : _) (g : _) (d : _) (κs : _) (a : _) 
     → length a.0.now.notes ≡ 2 → length s.0.now.notes ≡ 1 → ⊥
 taken_back_to_the_beginning S L g d κs a s label count held l told back was kept two left =
     let old = seen g.refusals a.0.now held in
-    let (now, has, noted) = l.ok held was (subst (λ b. IsKeptFor b old) (sym back) kept) in
+    let (now, has, noted, last) = l.ok held was (subst (λ b. IsKeptFor b old) (sym back) kept) in
     let (n, one, w) = went a.1.1.0 (is_doubtful a.1.0.now.answer) old (seen g.refusals s.0.now now)
     back (ap is_doubtful told) noted in
     absurd (omega (

@@ -4,7 +4,6 @@ use Rattle.tape_run.specs.Given.{is_device}
 use Rattle.tape_run.proofs.Crashes.{only_nothing}
 use Rattle.tape_run.proofs.Made.{reel_makes, save_makes, restart_makes, reel_failed, save_failed}
 use Rattle.tape_run.proofs.Made.{restart_failed}
-use Rattle.tape_run.proofs.Sessions.{kept_save, kept_restart}
 use Rattle.tape_run.proofs.Stopped.{told_err, kept_save_fails, kept_restart_fails}
 use Rattle.tape_run.proofs.script.make.Goals as goal
 
@@ -19,7 +18,7 @@ returns-in_ok-reel-in-Reel-clause-ok g c = λ held was kept.
     c.if-used-reels.false) in
     let left = ap (map rem) (drop-set-lt (c.args.used + 1) reels c.args.used c.reel.new.device
     (omega arith)) in
-    let (now, has, keeps, reeled) = c.in_ok-reel-in-Reel.ensures.ok held was in (
+    let (now, has, front, keeps, reeled) = c.in_ok-reel-in-Reel.ensures.ok held was in (
       now,
       has,
       keeps kept,
@@ -37,7 +36,7 @@ returns-in_err-reel-in-Reel-clause-err g c =
     c.if-used-reels.false) in
     told_err c.from_residual.result fault _
     c.from_residual.ensures.1 (λ held was kept.
-    let (now, has, keeps, fails) = c.in_err-reel-in-Reel.ensures.err held was in (
+    let (now, has, front, keeps, fails) = c.in_err-reel-in-Reel.ensures.err held was in (
       now,
       (λ ne. has),
       keeps kept,
@@ -65,10 +64,10 @@ returns-then-used-reels-clause-crash g c = λ held was kept. ((λ back there h. 
 
 pub returns-in_ok-save-in-Save-clause-ok : goal.returns-in_ok-save-in-Save-clause-ok
 returns-in_ok-save-in-Save-clause-ok g c = λ held was kept.
-    let (now, has, saved) = c.in_ok-save-in-Save.ensures.ok held was in (
+    let (now, has, keeps, saved) = c.in_ok-save-in-Save.ensures.ok held was in (
       now,
       has,
-      kept_save _ _ saved kept,
+      keeps kept,
       λ rest. rw c.in-Save.is (save_makes _ _ saved _ rest),
     )
 
@@ -88,10 +87,10 @@ returns-in_err-save-in-Save-clause-err g c =
 
 pub returns-in_ok-restart-in-Restart-clause-ok : goal.returns-in_ok-restart-in-Restart-clause-ok
 returns-in_ok-restart-in-Restart-clause-ok g c = λ held was kept.
-    let (now, has, went) = c.in_ok-restart-in-Restart.ensures.ok held was kept in (
+    let (now, has, still, went) = c.in_ok-restart-in-Restart.ensures.ok held was kept in (
       now,
       has,
-      kept_restart _ _ c.in-Restart.n went kept,
+      still,
       λ rest. rw c.in-Restart.is (restart_makes _ _ c.in-Restart.n went _ rest),
     )
 

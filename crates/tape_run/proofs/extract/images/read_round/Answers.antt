@@ -9,6 +9,7 @@ use Rattle.tape_run.proofs.Extracted.{all_of_it}
 use Rattle.tape_run.proofs.Fitting.{on_err}
 use Rattle.tape_run.proofs.Turns.{front_behind, line_behind, one_mounted}
 use Rattle.tape_run.proofs.Turns.{follows_then}
+use Rattle.tape_run.proofs.Lasting.{last_same, last_then}
 use Rattle.tape_run.proofs.extract.images.read_round.Goals as goal
 
 pub returns-in_err-take_image-clause-err : goal.returns-in_err-take_image-clause-err
@@ -27,10 +28,11 @@ returns-in_err-take_image-clause-err g c =
       few = few;
       lines = front_behind (c.args.lines + 1) _ _ _ turns more _ number lines part;
       follows = λ held was kept.
-          let (now, has, still, follows) = f held was kept in (
+          let (now, has, still, follows, lasts) = f held was kept in (
             c.loop-number.session.core,
             seen g.S.PartSink.refusals c.loop-number.session now,
             follows,
+            (c.loop-number.session, now, has, refl, lasts),
           );
     })
 
@@ -49,16 +51,30 @@ returns-in_default-clause-err g c =
           (g.P.Write.contents c.loop-number.report) (reel_lines (c.args.lines + 1) l))
           (sym (append-nil (map answer_of turns))) lines);
       follows = λ held was kept.
-          let (now, has, still, follows) = f held was kept in (
+          let (now, has, still, follows, lasts) = f held was kept in (
             c.loop-number.session.core,
             seen g.S.PartSink.refusals c.loop-number.session now,
             follows,
+            (c.loop-number.session, now, has, refl, lasts),
           );
     }
 
 pub loop-number-init : goal.loop-number-init
-loop-number-init g c =
-    ([], refl, refl, Appends-nil _, λ zero. refl, λ held was kept. (held, was, kept, (refl, refl)))
+loop-number-init g c = (
+  [],
+  refl,
+  refl,
+  Appends-nil _,
+  λ zero. refl,
+  λ held was kept. (
+    held,
+    was,
+    kept,
+    (refl, refl),
+    last_same g.S.PartSink.refusals
+        g.S.PartSink.returns g.S.PartSink.survives c.args.session.now held,
+  ),
+)
 
 pub loop-number-preserved : goal.loop-number-preserved
 loop-number-preserved g c =
@@ -77,11 +93,14 @@ loop-number-preserved g c =
       line_behind (c.args.lines + 1) _ _ _ turns taken.turn _ number lines taken.line,
       λ zero. absurd (omega (arith, zero)),
       λ held was kept.
-          let (now, has, still, follows) = f held was kept in
-          let (next, has_next, then, one) = taken.follows now has still in (
+          let (now, has, still, follows, lasts) = f held was kept in
+          let (next, has_next, then, one, last) = taken.follows now has still in (
             next,
             has_next,
             then,
             follows_then c.args.back _ _ turns _ _ (taken.turn ∷ []) _ _ follows one,
+            last_then g.S.PartSink.refusals g.S.PartSink.returns g.S.PartSink.survives
+                c.args.session.now c.loop-number.session c.take_image.new.session held now next
+                lasts last,
           ),
     )

@@ -1,6 +1,7 @@
 use Rattle.std.proofs.Common.{◌≡◌, ◌+◌, List, map, length}
 use Rattle.std.specs.Io.KnownBytes.{Appends}
 use Rattle.tape_blocks.specs.Block.{Portion}
+use Rattle.tape_run.specs.Crash.{KeepsLast}
 use Rattle.tape_run.specs.Seen.{seen}
 use Rattle.tape_run.specs.ReelLine.{reel_lines}
 use Rattle.tape_run.specs.Reeling.{Turn, answer_of, AreTurns, Follows, IsKeptFor}
@@ -17,4 +18,6 @@ invariant-loop-number g l = (turns : List Turn) × (length turns ≡ l.number)
     × g.S.PartSink.holds l.session.sink now
     × IsKeptFor l.fn.back (seen g.S.PartSink.refusals l.session now)
     × Follows l.fn.back l.fn.session.core (seen g.S.PartSink.refusals l.fn.session held) turns
-    l.session.core (seen g.S.PartSink.refusals l.session now))
+    l.session.core (seen g.S.PartSink.refusals l.session now)
+    × KeepsLast g.S.PartSink.refusals g.S.PartSink.returns g.S.PartSink.survives l.fn.session held
+    l.session now)

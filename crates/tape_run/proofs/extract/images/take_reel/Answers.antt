@@ -6,6 +6,7 @@ use Rattle.tape_run.specs.ReelLine.{reel_line}
 use Rattle.tape_run.specs.Reeling.{Opened, is_doubtful}
 use Rattle.tape_run.proofs.Fitting.{on_err}
 use Rattle.tape_run.proofs.Turns.{part_line, whole_line, noted, kept_for, kept_behind}
+use Rattle.tape_run.proofs.Lasting.{last_stays, last_then}
 use Rattle.tape_run.proofs.extract.images.take_reel.Goals as goal
 
 pub returns-in_err-write_text-clause-err : goal.returns-in_err-write_text-clause-err
@@ -42,12 +43,12 @@ returns-clause-ok g c =
       line = subst (Appends (g.P.Write.contents c.args.report.now)
           (g.P.Write.contents c.write_text.new.writer)) text c.in_ok-write_text.ensures.ok;
       follows = λ held was kept.
-          let (now, has, keeps, reeled) = c.in_ok-answer.ensures.ok held was in
+          let (now, has, front, keeps, reeled) = c.in_ok-answer.ensures.ok held was in
           let back = c.args.back in
           let doubtful = is_doubtful c.in_ok-answer.answer.answer in
           let mid = seen refusals c.reel.new.self now in
           let still = kept_for back (seen refusals c.args.session.now held) mid keeps kept in
-          let (behind, has_behind, saved) = c.in_ok-settle.ensures.ok now has still in (
+          let (behind, has_behind, saved, lasts) = c.in_ok-settle.ensures.ok now has still in (
             behind,
             has_behind,
             kept_behind back doubtful mid (seen refusals c.settle.new.session behind) saved still,
@@ -64,5 +65,10 @@ returns-clause-ok g c =
               },
               (refl, refl),
             ),
+            last_then refusals g.S.PartSink.returns g.S.PartSink.survives c.args.session.now
+                c.reel.new.self c.settle.new.session held now behind
+                (last_stays refusals g.S.PartSink.returns g.S.PartSink.survives
+                c.args.session.now c.reel.new.self held now c.in_ok-answer.ensures.notes front
+                (c.reel.ensures.crash held was)) lasts,
           );
     }

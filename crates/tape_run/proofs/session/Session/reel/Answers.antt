@@ -3,6 +3,7 @@ use Rattle.std.specs.Prelude.{is_some}
 use Rattle.tape_blocks.specs.Block.{Portion}
 use Rattle.tape_core.specs.State.{State}
 use Rattle.tape_core.specs.Place.{rest_of}
+use Rattle.tape_core.specs.Weight.{IsFront}
 use Rattle.tape_run.specs.Given.{is_device, counted}
 use Rattle.tape_run.specs.Story.{Story}
 use Rattle.tape_run.specs.Seen.{seen, IsKept}
@@ -13,6 +14,7 @@ use Rattle.tape_run.proofs.Sessions.{cut_short}
 use Rattle.tape_run.proofs.Sessions.{kept_grow, kept_place}
 use Rattle.tape_run.proofs.ByTable.{mount_rest}
 use Rattle.tape_run.proofs.Mounts.{begins}
+use Rattle.tape_run.proofs.Notes.{front_self}
 use Rattle.tape_run.proofs.session.Session.reel.Goals as goal
 
 pub returns-then-is_none-clause-ok : goal.returns-then-is_none-clause-ok
@@ -26,7 +28,8 @@ returns-then-is_none-clause-ok g c =
       failures = c.self.inside.failures;
     } in
     subst (λ z. (held : List Portion) → g.S.PartSink.holds z.sink held
-    → (now : List Portion) × g.S.PartSink.holds z.sink now × (IsKept (seen refusals z held)
+    → (now : List Portion) × g.S.PartSink.holds z.sink now × IsFront held now × (IsKept (seen
+    refusals z held)
     → IsKept (seen refusals z now)) × IfSome (g.R.Read.remaining c.args.device.now) (λ bytes.
     Reeled bytes (is_device c.new.result.fault) (seen refusals z held) (seen refusals z now)))
     c.self.view_is (λ held was.
@@ -34,6 +37,7 @@ returns-then-is_none-clause-ok g c =
     (ap is_some (sym c.want.ensures.value) ∙ c.is_none.ensures) c.if-is_none.true in (
       held,
       was,
+      front_self held,
       (λ k. k),
       some_all _ _ (λ bytes. not_read bytes (seen refusals story held)
           c.self.inside.intake.core (is_device c.new.result.fault)
@@ -51,8 +55,9 @@ returns-in-Ok-read-clause-ok g c =
       failures = c.counted-self-inside.result;
     } in
     subst (λ z. (held : List Portion) → g.S.PartSink.holds z.sink held → (now : List Portion)
-    × g.S.PartSink.holds new.sink now × (IsKept (seen refusals z held) → IsKept (seen refusals new
-    now)) × IfSome (g.R.Read.remaining c.args.device.now) (λ bytes. Reeled bytes
+    × g.S.PartSink.holds new.sink now × IsFront held now × (IsKept (seen refusals z held)
+    → IsKept (seen refusals new now)) × IfSome (g.R.Read.remaining c.args.device.now) (λ bytes.
+    Reeled bytes
     (is_device c.in-Ok-read.answer.fault) (seen refusals z held) (seen refusals new now)))
     c.self.view_is (λ held was.
     let p = rest_of c.self.inside.intake.core in
@@ -62,6 +67,7 @@ returns-in-Ok-read-clause-ok g c =
     let (now, has, front, reads) = end.ok held was in (
       now,
       has,
+      front,
       (λ k. kept_place p (rest_of c.read-read.new.self.core) [] c.self.inside.notes.items now set_id
           file (kept_grow p [] c.self.inside.notes.items held now front k)),
       some_at _ c.over-image.result.left _ _ c.over-image.ensures.unread
@@ -87,7 +93,8 @@ returns-in-Err-clause-err g c =
       failures = c.self.inside.failures;
     } in
     subst (λ z. (held : List Portion) → g.S.PartSink.holds z.sink held
-    → (now : List Portion) × g.S.PartSink.holds new.sink now × (IsKept (seen refusals z held)
+    → (now : List Portion) × g.S.PartSink.holds new.sink now × IsFront held now × (IsKept (seen
+    refusals z held)
     → IsKept (seen refusals new now)) × IfSome (g.R.Read.remaining c.args.device.now) (λ bytes.
     ReelFails bytes (Sink c.in-Err.cause) (seen refusals z held) (seen refusals new now)))
     c.self.view_is (λ held was.
@@ -98,6 +105,7 @@ returns-in-Err-clause-err g c =
     let (now, has, front, refuses, cuts) = end.err held was in (
       now,
       has,
+      front,
       (λ k. kept_place p (rest_of c.read-read.new.self.core) [] c.self.inside.notes.items now set_id
           file (kept_grow p [] c.self.inside.notes.items held now front k)),
       some_at _ c.over-image.result.left _ _ c.over-image.ensures.unread

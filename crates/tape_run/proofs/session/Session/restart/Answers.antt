@@ -8,9 +8,9 @@ use Rattle.tape_run.specs.Story.{Story}
 use Rattle.tape_run.specs.Seen.{seen, IsKept}
 use Rattle.tape_run.specs.Steps.{WentBack}
 use Rattle.tape_run.proofs.Notes.{front_weighs}
-use Rattle.tape_run.proofs.Sessions.{kept_at}
+use Rattle.tape_run.proofs.Sessions.{kept_at, kept_restart}
 use Rattle.tape_core.specs.Crash.{AddsOnly}
-use Rattle.tape_run.specs.Crash.{IsOf}
+use Rattle.tape_run.specs.Crash.{IsNoteOf}
 use Rattle.tape_run.proofs.Crashes.{cut_only}
 use Rattle.tape_run.proofs.session.Session.restart.Goals as goal
 
@@ -26,6 +26,7 @@ returns-clause-ok g c =
     } in
     subst (λ z. (held : List Portion) → g.S.PartSink.holds z.sink held
     → IsKept (seen refusals z held) → (now : List Portion) × g.S.PartSink.holds new.sink now
+    × IsKept (seen refusals new now)
     × WentBack c.args.n (seen refusals z held) (seen refusals new now))
     c.self.view_is
     (λ held was kept.
@@ -35,20 +36,28 @@ returns-clause-ok g c =
     let at = kept_at (rest_of c.self.inside.intake.core) [] notes c.args.n c.index.result.now held
     noted kept in
     let there = from_taken c.restart.result _ c.restart.ensures.there
-    (c.restart.ensures.taken at.note.of_set at.note.of_file) in (
+    (c.restart.ensures.taken at.note.of_set at.note.of_file) in
+    let old : Story _ = record {
+      core = c.self.inside.intake.core;
+      sink = c.self.inside.intake.sink;
+      notes = notes;
+      failures = c.self.inside.failures;
+    } in
+    let went : WentBack c.args.n (seen refusals old held) (seen refusals new at.ps) = record {
+      point = c.index.result.now;
+      noted = noted;
+      place = there;
+      front = at.is_front;
+      weighs = sym at.note.staged;
+      notes = c.truncate.ensures.items;
+      count = refl;
+      calm = c.in-Ok.ensures.calm;
+    } in (
       at.ps,
       c.in-Ok.ensures.ok at.ps at.is_front.0 (subst (g.S.PartSink.holds c.self.inside.intake.sink)
           at.is_front.1 was) (sym at.note.staged),
-      record {
-        point = c.index.result.now;
-        noted = noted;
-        place = there;
-        front = at.is_front;
-        weighs = sym at.note.staged;
-        notes = c.truncate.ensures.items;
-        count = refl;
-        calm = c.in-Ok.ensures.calm;
-      },
+      kept_restart _ _ c.args.n went kept,
+      went,
     ))
 
 pub returns-then-point-weight-clause-err : goal.returns-then-point-weight-clause-err
@@ -77,7 +86,7 @@ pub returns-in-Err-clause-crash : goal.returns-in-Err-clause-crash
 returns-in-Err-clause-crash g c =
     subst (λ z. (held : List Portion) → g.S.PartSink.holds z.sink held
     → IsKept (seen g.S.PartSink.refusals z held)
-    → AddsOnly (IsOf (seen g.S.PartSink.refusals z held)) (g.S.PartSink.returns z.sink)
+    → AddsOnly (IsNoteOf c.args.n (seen g.S.PartSink.refusals z held)) (g.S.PartSink.returns z.sink)
     (g.S.PartSink.returns c.cut_to.new.self) (g.S.PartSink.survives z.sink)
     (g.S.PartSink.survives c.cut_to.new.self)) c.self.view_is (λ held was kept.
     let notes = c.self.inside.notes.items in
@@ -98,7 +107,7 @@ pub returns-clause-crash : goal.returns-clause-crash
 returns-clause-crash g c =
     subst (λ z. (held : List Portion) → g.S.PartSink.holds z.sink held
     → IsKept (seen g.S.PartSink.refusals z held)
-    → AddsOnly (IsOf (seen g.S.PartSink.refusals z held)) (g.S.PartSink.returns z.sink)
+    → AddsOnly (IsNoteOf c.args.n (seen g.S.PartSink.refusals z held)) (g.S.PartSink.returns z.sink)
     (g.S.PartSink.returns c.cut_to.new.self) (g.S.PartSink.survives z.sink)
     (g.S.PartSink.survives c.cut_to.new.self)) c.self.view_is (λ held was kept.
     let notes = c.self.inside.notes.items in

@@ -1,0 +1,30 @@
+use Rattle.std.proofs.Common.{◌≡◌, ◌+◌, ◌-◌, length, ap, sym, ◌∙◌, arith}
+use Rattle.std.proofs.lemmas.List.{take_all}
+use Rattle.tape_run.specs.Seen.{seen}
+use Rattle.tape_run.proofs.Lasting.{last_back}
+use Rattle.tape_run.proofs.Lives.{on_ok}
+use Rattle.tape_run.proofs.extract.images.go_back.Goals as goal
+
+pub returns : goal.returns
+returns g c =
+    let refusals = g.S.PartSink.refusals in
+    let old = c.args.session.now in
+    let new = c.restart.new.self in
+    let n = c.notes-notes.result - 1 in
+    let count : length old.notes ≡ n + 1 =
+    omega (arith, c.notes-notes.ensures, c.if-notes-eq0.false) in
+    record {
+      ok = on_ok c.restart.result _ _
+          (λ ok held was kept.
+          let (now, has, still, went) = ok held was kept in (
+            now,
+            has,
+            (n, count, went),
+            (
+              (λ nothing. last_back (seen refusals old held) (seen refusals new now) n _ _ _ _
+                  count went (c.restart.ensures.crash held was kept) (nothing (ap length
+                  (went.notes ∙ take_all (n + 1) old.notes (omega (arith, count)))))),
+              (c.restart.ensures.crash held was kept).1,
+            ),
+          )) c.restart.ensures.ok;
+    }

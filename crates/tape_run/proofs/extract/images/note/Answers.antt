@@ -1,0 +1,22 @@
+use Rattle.std.proofs.Common.{false, sym, subst, ◌∙◌}
+use Rattle.tape_run.specs.Reeling.{IsNoted}
+use Rattle.tape_run.specs.Seen.{seen}
+use Rattle.tape_run.proofs.Lasting.{last_saved}
+use Rattle.tape_run.proofs.extract.images.note.Goals as goal
+
+pub returns-clause-ok : goal.returns-clause-ok
+returns-clause-ok g c = λ held was.
+    let refusals = g.S.PartSink.refusals in
+    let old = c.args.session.now in
+    let (now, has, keeps, saved) = c.in_ok-save.ensures.ok held was in (
+      now,
+      has,
+      subst (λ b. IsNoted false b (seen refusals old held) (seen refusals c.save.new.self now))
+          (sym (sym c.is_doubtful.ensures ∙ c.if-is_doubtful.false)) saved,
+      (
+        (λ same. last_saved (seen refusals old held) (seen refusals c.save.new.self now)
+            c.in_ok-save.field-0 _ (c.in_ok-save.ensures.point held was)
+            (c.in_ok-save.ensures.kept held was) saved),
+        (c.save.ensures.crash held was).1,
+      ),
+    )
