@@ -247,16 +247,19 @@ on_the_way old new held now ps c none has (last, after) =
 
 stood_so : (session : Story Point) (held ps : List Portion) (now : Seen) (c : Point)
     → session.notes ≡ [] → now.notes ≡ c ∷ []
-    → StoodSaved (λ s parts. ⊤) (λ s. 0) (brings ps) (λ s. ⊤) session held now
+    → StoodSaved (λ s parts. s.staged ≡ weight_of parts) (λ s. 0) (brings ps) (λ s. ⊤) session
+    held now
     → (mid : Story Point) × (mid.sink ≡ c) × (now.place ≡ rest_of mid.core)
-    × IsFront ps now.parts
+    × IsFront ps now.parts × (c.staged ≡ weight_of now.parts)
 stood_so session held ps now c none has (mid, parts, holds, is, keeps) =
     let (same, front) = on_the_way session mid held parts ps c none
-    (sym (ap (λ (z : Seen). z.notes) is) ∙ has) keeps in (
+    (sym (ap (λ (z : Seen). z.notes) is) ∙ has) keeps in
+    let all : now.parts ≡ parts = ap (λ (z : Seen). z.parts) is in (
       mid,
       same,
       ap (λ (z : Seen). z.place) is,
-      subst (IsFront ps) (sym (ap (λ (z : Seen). z.parts) is)) front,
+      subst (IsFront ps) (sym all) front,
+      ap (λ (z : Point). z.staged) (sym same) ∙ holds ∙ ap weight_of (sym all),
     )
 
 pub cases_of_saved : CasesOfSaved
@@ -269,4 +272,9 @@ cases_of_saved = record {
   none_on_the_way = came_alone;
   survives = λ old new held now keeps. keeps.1;
   stood = stood_so;
+  read_since = refl;
+  went_back_since = refl;
+  never_saved = refl;
+  saved_before = refl;
+  saved_again = refl;
 }

@@ -4,7 +4,7 @@ use Rattle.std.proofs.Common.{refl, sym, ap, subst, ◌∙◌, arith, inl, inr, 
 use Rattle.std.proofs.lemmas.List.{take_all}
 use Rattle.std.specs.List.{slice_get}
 use Rattle.tape_blocks.specs.Block.{Portion}
-use Rattle.tape_core.specs.Crash.{Returns, AddsNothing, AddsOnly, OnlyThis}
+use Rattle.tape_core.specs.Crash.{Returns, NoMore, AddsNothing, AddsOnly, OnlyThis}
 use Rattle.tape_core.specs.Point.{Point}
 use Rattle.tape_core.specs.Stands.{weight_of}
 use Rattle.tape_core.specs.Table.{saved}
@@ -28,18 +28,23 @@ pub last_then : {S : Type 0} (refusals : S → ℕ) (returns : S → Returns) (s
 last_then refusals returns survives a b c held mid now (f, u) (g, v) =
     ((λ h. g (λ d. f (λ e. h (d ∙ e)))), (λ x. v (u x)))
 
--- a reel was read, or nothing was done: the notes are as they were, and no part went
+-- a reel was read: the notes are as they were, and no part went
+pub brings_still : (r t : Returns) (old new : Seen) → new.notes ≡ old.notes
+    → IsFront old.parts new.parts → NoMore r t → BringsLast r old → BringsLast t new
+brings_still r t old new notes front none last = λ back there x.
+    let (n, count, (is, f, w)) = last back there (none back there x) in (
+      n,
+      ap length notes ∙ count,
+      (ap (λ z. slice_get z n) notes ∙ is, front_trans there old.parts new.parts f front, w),
+    )
+
 pub last_stays : {S : Type 0} (refusals : S → ℕ) (returns : S → Returns) (survives : S → Type 0)
     (a b : Story S) (held now : List Portion) → b.notes ≡ a.notes → IsFront held now
     → AddsNothing (returns a.sink) (returns b.sink) (survives a.sink) (survives b.sink)
     → KeepsLast refusals returns survives a held b now
 last_stays refusals returns survives a b held now notes front (none, after) = (
-  (λ h back there x.
-      let (n, count, (is, f, w)) = h (ap length notes) back there (none back there x) in (
-        n,
-        ap length notes ∙ count,
-        (ap (λ z. slice_get z n) notes ∙ is, front_trans there held now f front, w),
-      )),
+  (λ h. brings_still (returns a.sink) (returns b.sink) (seen refusals a held)
+      (seen refusals b now) notes front none (h (ap length notes))),
   after,
 )
 

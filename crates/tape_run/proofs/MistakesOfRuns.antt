@@ -1,12 +1,27 @@
 -- Answers that the contracts of a run and of whole readings exclude: each is what a wrong body
 -- would give.
-use Rattle.std.proofs.Common.{◌≡◌, ◌⊎◌, inl, inr, ℕ, List, [], ◌∷◌, map, Bool, true, false, refl}
+use Rattle.std.proofs.Common.{
+  ◌≡◌,
+  ◌⊎◌,
+  inl,
+  inr,
+  ℕ,
+  List,
+  [],
+  ◌∷◌,
+  ◌++◌,
+  map,
+  Bool,
+  true,
+  false,
+  refl,
+}
 use Rattle.std.proofs.Common.{sym, ap, ◌∙◌, subst, arith, codes, length}
 use Rattle.std.specs.Prelude.{Option, Some, Ok, Err, IsSome, slice_get, option_map}
 use Rattle.tape_blocks.specs.declared.part.Span.TheVariants as spans
 use Rattle.tape_blocks.specs.Block.{Portion}
 use Rattle.tape_set.specs.declared.position.Position.TheVariants.{Awaits}
-use Rattle.tape_set.specs.Position.{part_of, start}
+use Rattle.tape_set.specs.Position.{part_of, start, block_of}
 use Rattle.tape_set.specs.Before.{before}
 use Rattle.tape_set.specs.Layout.{FileSet, file_of}
 use Rattle.tape_set.specs.Lawful.{IsLawful}
@@ -14,11 +29,13 @@ use Rattle.tape_set.specs.Reach.{far}
 use Rattle.tape_set.proofs.Reaching.{far_keeps_part}
 use Rattle.tape_core.specs.Place.{rest_of}
 use Rattle.tape_core.specs.Point.{Point}
-use Rattle.tape_core.specs.Stands.{Stands}
+use Rattle.tape_core.specs.Stands.{Stands, weight_of}
+use Rattle.tape_core.specs.Table.{saved}
 use Rattle.tape_core.specs.State.{State}
 use Rattle.tape_run.specs.declared.fault.RunFault.TheVariants as run_faults
 use Rattle.tape_run.specs.declared.script.Step.{Step}
-use Rattle.tape_run.specs.declared.script.Step.TheVariants.{Reel}
+use Rattle.tape_run.specs.declared.script.Step.TheVariants.{Reel, Save}
+use Rattle.tape_run.specs.Crash.{is_saved}
 use Rattle.tape_run.specs.Given.{IsGiven, AreGiven}
 use Rattle.tape_run.specs.Headline.{begins, IsRead, IsStart}
 use Rattle.tape_run.specs.History.{IsHistory, course, after}
@@ -81,6 +98,39 @@ same_reel_read_again S R LS LR g d h e κs a s held bytes l was fresh two one =
     let new : Seen = seen g.refusals s.0.now r.0 in
     second_reel old new bytes (subst (λ v. Runs old v (Some bytes ∷ []) (Ok tt) new) two
     (subst (λ v. Runs old a.1.0.now v (Ok tt) new) one r.2))
+
+-- a save that was made is noted
+saved_alone : (old new : Seen) (reels : List (Option (List ℕ)))
+    → Runs old (Save ∷ []) reels (Ok tt) new
+    → new.notes ≡ old.notes ++ saved old.place (weight_of old.parts) ∷ []
+saved_alone old new reels (inl (mid, v, (ok, same))) = ap (λ (z : Seen). z.notes) same ∙ v.notes
+saved_alone old new reels (inr (fault, e, why)) = absurd (cc e)
+
+-- script_notes_in_the_list_alone: at block 5 a script saves, and the sink comes back with the start
+-- of the file.
+script_notes_in_the_list_alone : (S : _) (R : _) (LS : _) (LR : _) (g : _) (d : _) (h : _) (e : _)
+    (κs : _) (a : _) (s : _) (held there : List Portion) (older : Point)
+    → run.Learnt-named S R LS LR g d h e κs a (Ok tt) s
+    → g.holds a.0.now.sink held → a.0.now.notes ≡ [] → a.1.0.now ≡ Save ∷ []
+    → a.0.now.core.position ≡ Awaits 1 5 0
+    → g.returns s.0.now.sink older there → older.position ≡ Awaits 1 0 0 → ⊥
+script_notes_in_the_list_alone S R LS LR g d h e κs a s held there older l was fresh steps five
+    back began =
+    let kept = kept_without (rest_of a.0.now.core) held a.0.now.notes fresh in
+    let r = l.runs held was kept in
+    let old : Seen = seen g.refusals a.0.now held in
+    let new : Seen = seen g.refusals s.0.now r.0 in
+    let here = saved old.place (weight_of held) in
+    let one : s.0.now.notes ≡ here ∷ [] = saved_alone old new (map h.remaining a.1.1.0.now)
+    (subst (λ v. Runs old v (map h.remaining a.1.1.0.now) (Ok tt) new) steps r.2)
+    ∙ ap (λ l. l ++ here ∷ []) fresh in
+    let (n, count, (is, front, weighs)) = r.3 (ap (is_saved false) steps) older there back in
+    let number : n ≡ 0 = omega (arith, count, ap length one) in
+    let at : slice_get s.0.now.notes 0 ≡ Some older =
+    subst (λ z. slice_get s.0.now.notes z ≡ Some older) number is in
+    let e : older ≡ here = let f = ap (λ l. slice_get l 0) one in cc in
+    let n : 0 ≡ 5 = ap block_of (sym began ∙ ap (λ c. c.position) e ∙ five) in
+    absurd (omega (arith, n))
 
 -- ---- what is delivered
 
@@ -168,10 +218,10 @@ partial_file_given : (R : _) (LR : _) (h : _) (d : _) (κs : _) (a : _) (session
     → session.core.position ≡ Awaits 1 0 3 → ⊥
 partial_file_given R LR h d κs a session s set bytes k lawful id file all one known stands =
     let r = k.read (bytes ∷ []) known in
-    let (m, history, front) = one_given set bytes r.3.failed r.3.given all r.3.are_given in
-    let steps : IsHistory set 0 a.1.1.1.0.now r.3.given (m ∷ [])
-    = subst (λ v. IsHistory set 0 v r.3.given (m ∷ [])) (sym one) history in
-    let c = (r.3.reads set (m ∷ []) lawful id file steps).0 in
+    let (m, history, front) = one_given set bytes r.5.failed r.5.given all r.5.are_given in
+    let steps : IsHistory set 0 a.1.1.1.0.now r.5.given (m ∷ [])
+    = subst (λ v. IsHistory set 0 v r.5.given (m ∷ [])) (sym one) history in
+    let c = (r.5.reads set (m ∷ []) lawful id file steps).0 in
     let n : 3 ≡ 0 = sym (ap part_of stands) ∙ sym (ap (λ v. part_of v.position) r.2)
     ∙ ap (λ v. part_of v.at) c ∙ front a.1.1.0 in
     absurd (omega (arith, n))

@@ -19,7 +19,7 @@ use Rattle.tape_core.specs.declared.answer.Answer.TheVariants.{SectionDone, Usel
 use Rattle.tape_core.specs.declared.answer.Reason.TheVariants.{BlockCount, Broken, BadItem}
 use Rattle.tape_core.specs.Place.{IsPlaced, rest_of}
 use Rattle.tape_core.specs.State.{State}
-use Rattle.tape_run.specs.Crash.{IsNoteOf, BringsLast, KeepsLast}
+use Rattle.tape_run.specs.Crash.{IsNoteOf, BringsLast, KeepsLast, is_saved}
 use Rattle.tape_run.specs.Extracting.{IsWritten, Ends, Extracts, Stops}
 use Rattle.tape_run.specs.ExtractingNow.{IsPut, EndsNow, ExtractsNow, StopsNow, Takes, refused_by}
 use Rattle.tape_run.specs.Lead.{Lead, over_reel}
@@ -307,6 +307,13 @@ pub record CasesOfSaved : Type 0 where
   -- what a session came to is a state of it
   pub stood : (session : Story Point) (held ps : List Portion) (now : Seen) (c : Point)
       → session.notes ≡ [] → now.notes ≡ c ∷ []
-      → StoodSaved (λ s parts. ⊤) (λ s. 0) (brings ps) (λ s. ⊤) session held now
+      → StoodSaved (λ s parts. s.staged ≡ weight_of parts) (λ s. 0) (brings ps) (λ s. ⊤) session
+      held now
       → (mid : Story Point) × (mid.sink ≡ c) × (now.place ≡ rest_of mid.core)
-      × IsFront ps now.parts
+      × IsFront ps now.parts × (c.staged ≡ weight_of now.parts)
+  -- whether nothing but reels was read since the last save
+  pub read_since : is_saved false (Reel ∷ Save ∷ Reel ∷ []) ≡ true
+  pub went_back_since : is_saved true (Save ∷ Restart 0 ∷ Reel ∷ []) ≡ false
+  pub never_saved : is_saved false (Reel ∷ Reel ∷ []) ≡ false
+  pub saved_before : is_saved true (Reel ∷ []) ≡ true
+  pub saved_again : is_saved false (Restart 0 ∷ Save ∷ []) ≡ true

@@ -1,6 +1,6 @@
 -- What a crash brings back of a session.
 use Rattle.std.specs.Prelude.{◌≡◌, ◌⊎◌, ℕ, ◌+◌, List, [], ◌∷◌, length, Option, Some, None}
-use Rattle.std.specs.Prelude.{slice_get, ⊤, Bool}
+use Rattle.std.specs.Prelude.{slice_get, ⊤, Bool, true, false}
 use Rattle.tape_blocks.specs.Block.{Portion}
 use Rattle.tape_core.specs.Crash.{Returns}
 use Rattle.tape_core.specs.Point.{Point}
@@ -40,6 +40,13 @@ KeepsLast refusals returns survives old held new now =
     ((length new.notes ≡ length old.notes → BringsLast (returns old.sink) (seen refusals old held))
     → BringsLast (returns new.sink) (seen refusals new now))
     × (survives old.sink → survives new.sink)
+
+-- whether nothing but reels was read behind the save made last, where that was so before or not
+abbrev pub is_saved : Bool → List Step → Bool
+is_saved saved [] = saved
+is_saved saved (Reel ∷ steps) = is_saved saved steps
+is_saved saved (Save ∷ steps) = is_saved true steps
+is_saved saved (Restart n ∷ steps) = is_saved false steps
 
 -- where the session stands, or a note of it
 abbrev pub IsOf : Seen → Point → List Portion → Type 0

@@ -1,10 +1,11 @@
 -- Steps of a run that were made.
-use Rattle.std.specs.Prelude.{ℕ, List, Option, Result}
+use Rattle.std.specs.Prelude.{◌≡◌, ℕ, Bool, true, List, ◌∷◌, Option, Result}
 use Rattle.tape_blocks.specs.Block.{Portion}
+use Rattle.tape_core.specs.Crash.{Returns}
 use Rattle.tape_core.specs.Point.{Point}
 use Rattle.tape_run.specs.declared.fault.RunFault.{RunFault}
 use Rattle.tape_run.specs.declared.script.Step.{Step}
-use Rattle.tape_run.specs.Crash.{StoodAt}
+use Rattle.tape_run.specs.Crash.{StoodAt, BringsLast, is_saved}
 use Rattle.tape_run.specs.Runs.{Runs}
 use Rattle.tape_run.specs.Seen.{Seen}
 
@@ -17,3 +18,11 @@ pub record HasMade (old : Seen) (steps : List Step) (readers : List (Option (Lis
       → Runs old steps readers result end
   pub stood : (back : Point) (there : List Portion) → StoodAt new left others back there
       → StoodAt old steps readers back there
+
+-- A step was made: where a crash brought back the note made last alone, if it is said to, it does
+-- so still, if that is said behind the step.
+abbrev pub StaysSaved : Step → Returns → Seen → Returns → Seen → Type 0
+StaysSaved step returned old returns new = (saved : Bool)
+    → (saved ≡ true → BringsLast returned old) → (still : Bool)
+    × ((rest : List Step) → is_saved saved (step ∷ rest) ≡ is_saved still rest)
+    × (still ≡ true → BringsLast returns new)

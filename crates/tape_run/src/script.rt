@@ -1,7 +1,7 @@
 //! Scripts: steps of a session, one after another.
 
 ghost use Rattle.std.specs.Prelude.{◌≡◌, [], ◌∷◌, ◌≢◌, ℕ, List, Some, None, Ok, Err, OnOk, IfOk};
-ghost use Rattle.std.specs.Prelude.{IfErr, map, drop};
+ghost use Rattle.std.specs.Prelude.{IfErr, map, drop, true, false};
 ghost use Rattle.tape_blocks.specs.Block.{Portion};
 ghost use Rattle.tape_blocks.specs.Spans.{join};
 ghost use Rattle.tape_set.specs.declared.position.Position.TheVariants.{Finished};
@@ -11,9 +11,9 @@ ghost use Rattle.tape_set.specs.Before.{section_parts};
 ghost use Rattle.tape_core.specs.Place.{rest_of};
 ghost use Rattle.tape_core.specs.Crash.{AddsOnly};
 ghost use Rattle.tape_run.specs.Back.{reels_of, AreVolumes};
-ghost use Rattle.tape_run.specs.Crash.{IsOf, StoodAt};
+ghost use Rattle.tape_run.specs.Crash.{IsOf, StoodAt, BringsLast, is_saved};
 ghost use Rattle.tape_run.specs.Headline.{IsStart, IsRead, HasRun, HasStopped, HasRestart};
-ghost use Rattle.tape_run.specs.Made.{HasMade};
+ghost use Rattle.tape_run.specs.Made.{HasMade, StaysSaved};
 ghost use Rattle.tape_run.specs.Runs.{Runs};
 ghost use Rattle.tape_run.specs.Seen.{seen, IsKept};
 
@@ -83,12 +83,14 @@ pub fn run<S: PartSink, R: Read>(
         → HasStopped (seen S.refusals session.old held) steps.now bytes fault
         (seen S.refusals session.new now))) }
     // Whatever the set and the history are: each step did, or left, what `reel`, `save` and
-    // `restart` promise.
+    // `restart` promise; and behind a save, and reels, a crash brings back what was saved, alone.
     ensures runs { OnOk result ((held : List Portion) → S.holds session.old.sink held
         → IsKept (seen S.refusals session.old held)
         → (now : List Portion) × S.holds session.new.sink now
         × Runs (seen S.refusals session.old held) steps.now (map R.remaining reels.old) (Ok tt)
-        (seen S.refusals session.new now)) }
+        (seen S.refusals session.new now)
+        × (is_saved false steps.now ≡ true
+        → BringsLast (S.returns session.new.sink) (seen S.refusals session.new now))) }
     ensures faults { IfErr result (λ fault. (held : List Portion) → S.holds session.old.sink held
         → IsKept (seen S.refusals session.old held)
         → (now : List Portion)
@@ -126,7 +128,9 @@ fn make<S: PartSink, R: Read>(
         × IsKept (seen S.refusals session.new now)
         × ((rest : List Step) → HasMade (seen S.refusals session.old held) (step ∷ rest)
         (map R.remaining (drop used reels.old)) (seen S.refusals session.new now) rest
-        (map R.remaining (drop now_used reels.new)))) }
+        (map R.remaining (drop now_used reels.new)))
+        × StaysSaved step (S.returns session.old.sink) (seen S.refusals session.old held)
+        (S.returns session.new.sink) (seen S.refusals session.new now)) }
     ensures err { IfErr result (λ fault. (held : List Portion) → S.holds session.old.sink held
         → IsKept (seen S.refusals session.old held)
         → (now : List Portion)

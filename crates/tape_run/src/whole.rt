@@ -38,6 +38,7 @@ pub fn read_file<R: Read>(
     ensures read { IfOk result (λ read. OnOk read.1 ((bytes : List (List ℕ))
         → map R.remaining reels.old ≡ map Some bytes
         → (now : Seen) × (now.parts ≡ portions read.0.sink) × (now.place ≡ rest_of read.0.core)
+        × (now.notes ≡ read.0.notes) × (now.failures ≡ read.0.failures)
         × IsRead set_id file steps.now bytes now)) }
     // A fault ended the steps: the same of those before it.
     ensures stopped { IfOk result (λ read. IfErr read.1 (λ fault. (bytes : List (List ℕ))

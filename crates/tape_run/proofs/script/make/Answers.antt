@@ -1,7 +1,9 @@
-use Rattle.std.proofs.Common.{◌+◌, map, get_or, inl, refl, ap, arith}
+use Rattle.std.proofs.Common.{◌+◌, map, get_or, inl, true, false, refl, ap, arith}
 use Rattle.std.proofs.lemmas.List.{drop_more, drop_all, drop-set-lt}
 use Rattle.tape_run.specs.Given.{is_device}
+use Rattle.tape_run.specs.Seen.{seen}
 use Rattle.tape_run.proofs.Crashes.{only_nothing}
+use Rattle.tape_run.proofs.Lasting.{brings_still, last_saved}
 use Rattle.tape_run.proofs.Made.{reel_makes, save_makes, restart_makes, reel_failed, save_failed}
 use Rattle.tape_run.proofs.Made.{restart_failed}
 use Rattle.tape_run.proofs.Stopped.{told_err, kept_save_fails, kept_restart_fails}
@@ -24,6 +26,14 @@ returns-in_ok-reel-in-Reel-clause-ok g c = λ held was kept.
       keeps kept,
       λ rest. rw (here, left, c.in-Reel.is) (reel_makes _ _ (rem device)
           (is_device c.in_ok-reel-in-Reel.field-0.fault) reeled _ rest),
+      λ saved before. (
+        saved,
+        λ rest. rw c.in-Reel.is refl,
+        λ is. brings_still _ _ (seen g.S.PartSink.refusals c.args.session.now held)
+            (seen g.S.PartSink.refusals c.reel.new.self now) c.in_ok-reel-in-Reel.ensures.notes
+            front
+            (c.reel.ensures.crash held was).0 (before is),
+      ),
     )
 
 pub returns-in_err-reel-in-Reel-clause-err : goal.returns-in_err-reel-in-Reel-clause-err
@@ -69,6 +79,13 @@ returns-in_ok-save-in-Save-clause-ok g c = λ held was kept.
       has,
       keeps kept,
       λ rest. rw c.in-Save.is (save_makes _ _ saved _ rest),
+      λ before had. (
+        true,
+        λ rest. rw c.in-Save.is refl,
+        λ is. last_saved _ _ c.in_ok-save-in-Save.field-0 _
+            (c.in_ok-save-in-Save.ensures.point held was)
+            (c.in_ok-save-in-Save.ensures.kept held was) saved,
+      ),
     )
 
 pub returns-in_err-save-in-Save-clause-err : goal.returns-in_err-save-in-Save-clause-err
@@ -92,6 +109,7 @@ returns-in_ok-restart-in-Restart-clause-ok g c = λ held was kept.
       has,
       still,
       λ rest. rw c.in-Restart.is (restart_makes _ _ c.in-Restart.n went _ rest),
+      λ saved before. (false, λ rest. rw c.in-Restart.is refl, λ is. absurd (cc is)),
     )
 
 pub returns-in_err-restart-in-Restart-clause-err : goal.returns-in_err-restart-in-Restart-clause-err

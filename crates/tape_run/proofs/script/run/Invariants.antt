@@ -1,7 +1,7 @@
-use Rattle.std.proofs.Common.{List, map, drop}
+use Rattle.std.proofs.Common.{◌≡◌, Bool, true, false, List, map, drop}
 use Rattle.tape_blocks.specs.Block.{Portion}
 use Rattle.tape_core.specs.Crash.{AddsOnly}
-use Rattle.tape_run.specs.Crash.{StoodAt}
+use Rattle.tape_run.specs.Crash.{StoodAt, BringsLast, is_saved}
 use Rattle.tape_run.specs.Made.{HasMade}
 use Rattle.tape_run.specs.Seen.{seen, IsKept}
 use Rattle.tape_run.proofs.script.run.Given as goal
@@ -18,3 +18,6 @@ invariant-loop-step g l = (held : List Portion) → g.S.PartSink.holds l.fn.sess
     (map g.R.Read.remaining l.fn.reels)) (g.S.PartSink.returns l.fn.session.sink)
     (g.S.PartSink.returns l.session.sink) (g.S.PartSink.survives l.fn.session.sink)
     (g.S.PartSink.survives l.session.sink)
+    × ((saved : Bool) × (is_saved false l.steps ≡ is_saved saved (drop l.step-index l.steps))
+    × (saved ≡ true → BringsLast (g.S.PartSink.returns l.session.sink)
+    (seen g.S.PartSink.refusals l.session now)))

@@ -13,6 +13,8 @@ returns-clause-read g c = on_ok c.run-made.result _ _ (λ start bytes e.
       seen (λ (s : MemorySink). s.refused) c.run-made.new.session now,
       has,
       refl,
+      refl,
+      refl,
       reads bytes e,
     ))
     c.run-made.ensures.start
