@@ -185,7 +185,7 @@ cases_of_made = record {
   restart_fails = λ old new. (λ x. x, λ x. x, λ x. x);
   no_such_note = λ old new n f. f;
   reel_refused = λ cause bytes old new c. (c.rose, c.grows, c.notes, c.count, c.same_file);
-  stopped_by = λ set old new xs h s. (s.at, s.refused, s.position);
+  stopped_by = λ set old new xs h s. (s.at, s.refused, s.awaited, s.position);
   reel_fails = λ bytes old new. (λ x. x, λ x. x, λ x. x, λ e. e);
 }
 
@@ -203,7 +203,7 @@ cases_of_stops = record {
   restarts_stop = λ set old new hs readers n. (λ x. x, λ x. x, λ x. x);
   sinks_stop = λ set old new hs readers cause. (λ r. r, λ r. r);
   part_refused = λ set old new hs xs h r.
-      (r.session.at.all, r.same_file, r.refused, r.position, r.notes);
+      (r.session.at.all, r.same_file, r.refused, r.awaited, r.position, r.notes);
   stopped_at = λ old new steps bytes fault s. (s.all, s.are_given, s.count);
   stopped_so = λ old new steps bytes fault set hs s. s.stops set hs;
   nothing_stops_none = nothing_stops_none;

@@ -1,21 +1,7 @@
 -- Answers that the contracts of a run and of whole readings exclude: each is what a wrong body
 -- would give.
-use Rattle.std.proofs.Common.{
-  ◌≡◌,
-  ◌⊎◌,
-  inl,
-  inr,
-  ℕ,
-  List,
-  [],
-  ◌∷◌,
-  ◌++◌,
-  map,
-  Bool,
-  true,
-  false,
-  refl,
-}
+use Rattle.std.proofs.Common.{◌≡◌, ◌⊎◌, inl, inr, ℕ, List, [], ◌∷◌, ◌++◌, map, Bool, true, false}
+use Rattle.std.proofs.Common.{refl}
 use Rattle.std.proofs.Common.{sym, ap, ◌∙◌, subst, arith, codes, length}
 use Rattle.std.specs.Prelude.{Option, Some, Ok, Err, IsSome, slice_get, option_map}
 use Rattle.tape_blocks.specs.declared.part.Span.TheVariants as spans

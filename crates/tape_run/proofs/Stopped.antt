@@ -1,5 +1,5 @@
 -- A run that a fault ended is where its steps before lead, or at a part that was refused.
-use Rattle.std.proofs.Common.{◌≡◌, ℕ, suc, ◌≤◌, List, [], ◌∷◌, ◌++◌, length, map, drop, Option}
+use Rattle.std.proofs.Common.{◌≡◌, ℕ, suc, ◌+◌, ◌≤◌, List, [], ◌∷◌, ◌++◌, length, map, drop, Option}
 use Rattle.std.proofs.Common.{Some, Result, Ok, Err, refl, sym, ap, subst, ◌∙◌, inl, inr, arith}
 use Rattle.std.specs.Result.{IfErr, IsErrAnd}
 use Rattle.tape_image.specs.Tape.{TapeItem}
@@ -7,7 +7,7 @@ use Rattle.tape_image.specs.Begins.{Stop, Begins}
 use Rattle.tape_set.specs.Layout.{FileSet}
 use Rattle.tape_set.specs.Lawful.{IsLawful}
 use Rattle.tape_set.specs.declared.position.Position.{Position}
-use Rattle.tape_set.specs.Position.{at_part}
+use Rattle.tape_set.specs.Position.{at_part, next_block}
 use Rattle.tape_core.specs.Point.{Point}
 use Rattle.tape_run.specs.Mount.{Happening, IsMount, cut, after_mount}
 use Rattle.tape_run.specs.declared.script.Step.{Step}
@@ -76,6 +76,11 @@ put_refused set old mid new hs bytes c l r xs end stop h b m =
       n = there.n;
       content = there.content;
       refused = there.refused;
+      awaited = subst (λ (q : Position). after_mount set old.place.file q (cut (there.n + 1) h)
+          ≡ next_block (after_mount set old.place.file q (cut there.n h))) start
+          (subst (λ (f : ℕ). after_mount set f mid.place.position (cut (there.n + 1) h)
+          ≡ next_block (after_mount set f mid.place.position (cut there.n h))) r.same_file
+          there.awaited);
       part = there.part;
       notes = rw c.notes (ap (λ (z : Course). z.notes) (sym r.reached));
       position = there.position ∙ (ap (λ (f : ℕ). at_part there.part (after_mount set f

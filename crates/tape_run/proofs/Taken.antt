@@ -1,11 +1,12 @@
 -- What an intake does with an item of a mount under way, by what its core answered.
-use Rattle.std.proofs.Common.{◌≡◌, ◌≢◌, ◌<◌, ◌≤◌, ◌++◌, ℕ, List, length, take, drop, Option, Some}
+use Rattle.std.proofs.Common.{◌≡◌, ◌≢◌, ◌+◌, ◌<◌, ◌≤◌, ◌++◌, ℕ, List, length, take, drop, Option}
+use Rattle.std.proofs.Common.{Some}
 use Rattle.std.proofs.Common.{sym, ap, subst, ◌∙◌}
 use Rattle.tape_blocks.specs.Block.{Portion, Holds}
 use Rattle.tape_blocks.specs.Judged.{begun_behind}
 use Rattle.tape_image.specs.Tape.{TapeItem, block}
 use Rattle.tape_set.specs.Lawful.{FileForm}
-use Rattle.tape_set.specs.Position.{part_of, at_part}
+use Rattle.tape_set.specs.Position.{part_of, at_part, next_block}
 use Rattle.tape_core.specs.declared.answer.Answer.{Answer}
 use Rattle.tape_core.specs.declared.answer.Answer.TheVariants.{Deliver}
 use Rattle.tape_core.specs.Place.{place_of, rest_of, IsPlaced}
@@ -76,6 +77,12 @@ refuses_block core new back answer came step deliver bytes is k known parts hold
     let b = both core (answer, new) came step set held p xs i h l m at under lt e in
     let (x, came_x, gives) = b.took.gives in
     let d = gives_block set x answer (rest_of core) (rest_of new) deliver gives in
+    let begins : (rest_of core).position ≡ after_mount set back.file p (cut i h) =
+    reached core set p xs i h l m under ∙ ap (λ (f : ℕ). after_mount set f p (cut i h))
+    (sym file) in
+    let ends : (rest_of new).position ≡ after_mount set back.file p (cut (i + 1) h) =
+    reached new set p xs (i + 1) h l m b.under
+    ∙ ap (λ (f : ℕ). after_mount set f p (cut (i + 1) h)) (same ∙ sym file) in
     record {
       at = subst (λ (z : State). IsPlaced set z (held ++ drop first (take n parts))) (sym there)
           (refused_at set x (rest_of core) (rest_of new) held parts first n bytes k d at b.took.at
@@ -83,6 +90,7 @@ refuses_block core new back answer came step deliver bytes is k known parts hold
       n = i;
       content = bytes;
       refused = sym e ∙ is;
+      awaited = sym ends ∙ d.behind ∙ ap next_block (sym d.awaited ∙ begins);
       part = n;
       position = ap (λ (z : State). z.position) there
           ∙ (refused_position (rest_of core) (rest_of new) n _

@@ -1,6 +1,6 @@
 -- What the definitions of a session and of its history say of cases, so that none of them says
 -- less, or asks more, than it should. The call `laws::cases` has them as its contract.
-use Rattle.std.specs.Prelude.{◌≡◌, ◌≤◌, ℕ, Bool, true, false, List, [], ◌∷◌, ◌++◌}
+use Rattle.std.specs.Prelude.{◌≡◌, ◌≤◌, ℕ, ◌+◌, Bool, true, false, List, [], ◌∷◌, ◌++◌}
 use Rattle.std.specs.Prelude.{length, take, drop, slice_get, Some, None, IsSome}
 use Rattle.std.specs.Prelude.{Result, Ok, Err}
 use Rattle.tape_image.specs.declared.fault.ImageCause.TheVariants.{Truncated}
@@ -10,7 +10,7 @@ use Rattle.tape_image.specs.Tape.{TapeItem, block, mark}
 use Rattle.tape_image.specs.Begins.{Stop, Begins}
 use Rattle.tape_blocks.specs.Block.{Portion}
 use Rattle.tape_set.specs.declared.position.Position.{Position}
-use Rattle.tape_set.specs.Position.{start, awaiting, at_part}
+use Rattle.tape_set.specs.Position.{start, awaiting, at_part, next_block}
 use Rattle.tape_set.specs.Layout.{FileSet, Volume, Section, items, entries, file_of}
 use Rattle.tape_set.specs.Lawful.{IsLawful}
 use Rattle.tape_set.specs.Before.{before}
@@ -237,6 +237,8 @@ pub record CasesOfMade : Type 0 where
       (s : StoppedBy set old.place.file old.place.position xs h new.place new.parts)
       → IsPlaced set new.place new.parts
       × (slice_get xs s.n ≡ Some (block s.content))
+      × (after_mount set old.place.file old.place.position (cut (s.n + 1) h)
+      ≡ next_block (after_mount set old.place.file old.place.position (cut s.n h)))
       × (new.place.position
       ≡ at_part s.part (after_mount set old.place.file old.place.position (cut s.n h)))
   pub reel_fails : (bytes : List ℕ) (old new : Seen) → (ReelFails bytes NoSuchPoint old new → ⊥)
@@ -275,6 +277,9 @@ pub record CasesOfStops : Type 0 where
       (h : Happening) (r : PutRefused set old hs xs h new)
       → (new.parts ≡ before set new.place.file new.place.position)
       × (new.place.file ≡ old.place.file) × (slice_get xs r.n ≡ Some (block r.content))
+      × (after_mount set old.place.file (course set old.place.file (course_of old) hs).at
+      (cut (r.n + 1) h) ≡ next_block (after_mount set old.place.file
+      (course set old.place.file (course_of old) hs).at (cut r.n h)))
       × (new.place.position ≡ at_part r.part (after_mount set old.place.file
       (course set old.place.file (course_of old) hs).at (cut r.n h)))
       × ((course_of new).notes ≡ (course set old.place.file (course_of old) hs).notes)

@@ -5,11 +5,12 @@
 -- none of the set (`IsHistory`); the notes that the script goes back to exist (`IsHistory`); the
 -- sink holds the parts of the session before (`IsSession`, `IsNew`); no call was refused (`HasRun`,
 -- `IsRead`), or the first one that was ended the run (`HasStopped`).
-use Rattle.std.specs.Prelude.{◌≡◌, ℕ, suc, ◌≤◌, List, [], ◌∷◌, ◌++◌, length, drop, IsSome, Some}
+use Rattle.std.specs.Prelude.{◌≡◌, ℕ, suc, ◌+◌, ◌≤◌, List, [], ◌∷◌, ◌++◌, length, drop, IsSome}
+use Rattle.std.specs.Prelude.{Some}
 use Rattle.std.specs.Prelude.{slice_get, ⊤}
 use Rattle.tape_image.specs.Tape.{TapeItem, block}
 use Rattle.tape_image.specs.Begins.{Stop, Begins}
-use Rattle.tape_set.specs.Position.{start, at_part}
+use Rattle.tape_set.specs.Position.{start, at_part, next_block}
 use Rattle.tape_set.specs.Layout.{FileSet, file_of}
 use Rattle.tape_set.specs.Lawful.{IsLawful}
 use Rattle.tape_set.specs.Before.{before}
@@ -101,9 +102,9 @@ HasRestart (Reel ∷ steps) = HasRestart steps
 HasRestart (Save ∷ steps) = HasRestart steps
 HasRestart (Restart n ∷ steps) = ⊤
 
--- Behind these happenings a part of the block that stands behind n items of the reel was refused:
--- the session is where the n items lead, in the block at the refused part, with just the parts
--- before that position.
+-- Behind these happenings a part of the block that stands behind n items of the reel was refused,
+-- which is the one that is awaited there: the session is where the n items lead, in the block at
+-- the refused part, with just the parts before that position.
 pub record PutRefused (set : FileSet) (old : Seen) (hs : List Happening) (xs : List TapeItem)
     (h : Happening) (new : Seen) : Type 0 where
   pub session : IsSession set new
@@ -111,6 +112,9 @@ pub record PutRefused (set : FileSet) (old : Seen) (hs : List Happening) (xs : L
   pub n : ℕ
   pub content : List ℕ
   pub refused : slice_get xs n ≡ Some (block content)
+  pub awaited : after_mount set old.place.file (course set old.place.file (course_of old) hs).at
+      (cut (n + 1) h) ≡ next_block (after_mount set old.place.file
+      (course set old.place.file (course_of old) hs).at (cut n h))
   pub part : ℕ
   pub notes : (course_of new).notes ≡ (course set old.place.file (course_of old) hs).notes
   pub position : new.place.position

@@ -7,7 +7,7 @@ use Rattle.tape_set.specs.Layout.{FileSet}
 use Rattle.tape_set.specs.Lawful.{IsLawful}
 use Rattle.tape_blocks.specs.Block.{Portion}
 use Rattle.tape_set.specs.declared.position.Position.{Position}
-use Rattle.tape_set.specs.Position.{at_part}
+use Rattle.tape_set.specs.Position.{at_part, next_block}
 use Rattle.tape_core.specs.Point.{Point}
 use Rattle.tape_core.specs.State.{State}
 use Rattle.tape_core.specs.Place.{IsPlaced, place_of}
@@ -69,14 +69,16 @@ pub record WentBack (n : ℕ) (old new : Seen) : Type 0 where
 
 -- ---- steps that were not made
 
--- A mount that began at p was read up to a block, the n-th item counted from 0, of which this part
--- was refused: the reader is at that part of the block, with the parts before it.
+-- A mount that began at p was read up to the block that it awaits, the n-th item counted from 0, of
+-- which this part was refused: the reader is at that part of the block, with the parts before it.
 pub record StoppedBy (set : FileSet) (file : ℕ) (p : Position) (xs : List TapeItem) (h : Happening)
     (place : State) (parts : List Portion) : Type 0 where
   pub at : IsPlaced set place parts
   pub n : ℕ
   pub content : List ℕ
   pub refused : slice_get xs n ≡ Some (block content)
+  pub awaited : after_mount set file p (cut (n + 1) h) ≡ next_block (after_mount set file p (cut n
+      h))
   pub part : ℕ
   pub position : place.position ≡ at_part part (after_mount set file p (cut n h))
 

@@ -1,18 +1,5 @@
-use Rattle.std.proofs.Common.{
-  ℕ,
-  ◌+◌,
-  ◌≤◌,
-  List,
-  [],
-  length,
-  drop,
-  Option,
-  Ok,
-  Err,
-  subst,
-  inl,
-  false,
-}
+use Rattle.std.proofs.Common.{ℕ, ◌+◌, ◌≤◌, List, [], length, drop, Option, Ok, Err, subst, inl}
+use Rattle.std.proofs.Common.{false}
 use Rattle.std.proofs.Common.{refl, sym, ap, ◌∙◌, arith}
 use Rattle.std.proofs.lemmas.List.{drop_more, drop_all}
 use Rattle.tape_run.specs.Crash.{is_saved}
