@@ -1,6 +1,6 @@
 -- The cases of unpacking.
 use Rattle.std.proofs.Common.{refl, ap}
-use Rattle.std.specs.Prelude.{if◌then◌else◌}
+use Rattle.std.specs.Prelude.{if◌then◌else◌, option_map}
 use Rattle.std.specs.Fmt.{digits}
 use Rattle.tape_run.specs.declared.unpack.Heading.TheVariants.{Differs, Named}
 use Rattle.tape_run.specs.CasesOfUnpacking.{CasesOfUnpacking}
@@ -25,7 +25,11 @@ cases_of_unpacking = record {
   failed = refl;
   left_over = refl;
   nothing_left = refl;
-  on_images = λ shelf left met f. (f.viewed.all, f.viewed.viewed, f.files, f.whole);
+  on_images = λ shelf left met f.
+      (f.viewed.all, f.viewed.viewed, f.files, f.whole, f.viewed.sets_are);
+  of_no_set = λ s none. ap (λ h. option_map (λ x. x.set_id) h) none;
+  of_a_set = λ s h is. ap (λ o. option_map (λ x. x.set_id) o) is;
+  not_opened = refl;
   own_name = λ law s t m n a b ss ts long lm ln other e.
       other (law s t m n a b ss ts long lm ln e).0;
   stays = λ law. law;

@@ -1,6 +1,8 @@
 -- What the definitions of unpacking say of cases. The call `laws::cases` has them as its contract.
 use Rattle.std.specs.Prelude.{◌≡◌, ◌≢◌, ℕ, ◌<◌, ◌^◌, List, [], ◌∷◌, length, true, false, Some, None}
-use Rattle.std.specs.Prelude.{codes}
+use Rattle.std.specs.Prelude.{codes, map}
+use Rattle.tape_label.specs.declared.values.Head1.{Head1}
+use Rattle.tape_run.specs.declared.survey.view.Sight.{Sight}
 use Rattle.tape_run.specs.declared.survey.files.FileNote.{FileNote}
 use Rattle.tape_run.specs.declared.unpack.Heading.TheVariants.{NotMet, Differs, Named}
 use Rattle.tape_run.specs.declared.unpack.ShelfFiles.{ShelfFiles}
@@ -10,6 +12,7 @@ use Rattle.tape_run.specs.Reeling.{Took}
 use Rattle.tape_run.specs.SurveyFiles.{note_at, file_key}
 use Rattle.tape_run.specs.SurveyRead.{Found, nothing_found, AreViewed}
 use Rattle.tape_run.specs.Unpacking.{heading_of, file_of, set_files, files_of, file_name, FilesOn}
+use Rattle.tape_run.specs.Unpacking.{set_of}
 use Rattle.tape_run.specs.UnpackLine.{file_line, fate_text, left_over_line}
 use Rattle.tape_run.specs.UnpackLaws.{NamesDiffer, NamesStay, AreBytes, IsNameOfOne}
 
@@ -50,6 +53,12 @@ pub record CasesOfUnpacking : Type 0 where
       → (length f.viewed.sights ≡ length shelf)
       × AreViewed Took (λ r. r) shelf 0 f.viewed.sights nothing_found left f.found
       × (met.files ≡ files_of f.found) × (met.whole ≡ f.found.whole)
+      × (met.sets ≡ map set_of f.viewed.sights)
+  -- an image on which no section begins is of no set, and another of that of its first one
+  pub of_no_set : (s : Sight) → s.glance.head ≡ None → set_of (Some s) ≡ None
+  pub of_a_set : (s : Sight) (h : Head1) → s.glance.head ≡ Some h
+      → set_of (Some s) ≡ Some h.set_id
+  pub not_opened : set_of None ≡ None
   -- what a caller draws from the laws of names
   pub own_name : NamesDiffer → (s t : List ℕ) (m n : ℕ) (a b : List ℕ) → AreBytes s → AreBytes t
       → length s ≡ length t → m < 2 ^ 16 → n < 2 ^ 16 → s ≢ t

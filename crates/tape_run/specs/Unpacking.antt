@@ -1,7 +1,7 @@
 -- Which files are unpacked from images, and under which names.
 use Rattle.std.specs.Prelude.{◌≡◌, ◌==◌, ◌&&◌, ◌||◌, not, ℕ, zero, suc, ◌+◌, ◌/◌, ◌%◌, nat_le, nat_lt}
 use Rattle.std.specs.Prelude.{Bool, if◌then◌else◌, List, [], ◌∷◌, ◌++◌, length, map, take, Option, Some}
-use Rattle.std.specs.Prelude.{None}
+use Rattle.std.specs.Prelude.{None, option_map}
 use Rattle.std.specs.Prelude.{codes, decimal}
 use Rattle.std.specs.List.{flat_map}
 use Rattle.tape_run.specs.declared.survey.view.Sight.{Sight}
@@ -42,19 +42,26 @@ set_files d sets = flat_map (λ x. files_from d x.0 1 x.1) sets
 abbrev pub files_of : Found → List SetFile
 files_of d = set_files d (sets_from [] d.sections)
 
+-- the set of the section that begins first on an image, where one does
+abbrev pub set_of : Option Sight → Option (List ℕ)
+set_of None = None
+set_of (Some sight) = option_map (λ head. head.set_id) sight.glance.head
+
 -- All images of a shelf were mounted and read, one after another, and this was found.
 pub record ViewsAll {L R : Type 0} (size : L → ℕ) (gives : Mounting L R)
-    (remaining : R → Option (List ℕ)) (shelf left : L) (found : Found) : Type 0 where
+    (remaining : R → Option (List ℕ)) (shelf left : L) (found : Found)
+    (sets : List (Option (List ℕ))) : Type 0 where
   pub sights : List (Option Sight)
   pub all : length sights ≡ size shelf
   pub viewed : AreViewed gives remaining shelf 0 sights nothing_found left found
+  pub sets_are : sets ≡ map set_of sights
 
--- These are the files of all sets that were met on them, and it is told so whether nothing on them
--- is left over.
+-- These are the files of all sets that were met on them, and it is told so of which set each image
+-- is, and whether nothing on them is left over.
 pub record FilesOn {L R : Type 0} (size : L → ℕ) (gives : Mounting L R)
     (remaining : R → Option (List ℕ)) (shelf left : L) (met : ShelfFiles) : Type 0 where
   pub found : Found
-  pub viewed : ViewsAll size gives remaining shelf left found
+  pub viewed : ViewsAll size gives remaining shelf left found met.sets
   pub files : met.files ≡ files_of found
   pub whole : met.whole ≡ found.whole
 

@@ -3,7 +3,7 @@ ghost use Rattle.std.specs.Prelude.{◌≡◌, ◌<◌, ◌+◌, ◌++◌, ◌�
 ghost use Rattle.std.specs.Result.{IsOkUnless};
 ghost use Rattle.tape_run.specs.SurveyRead.{nothing_found};
 ghost use Rattle.tape_run.specs.Unpacking.{heading_of, file_of, files_from, set_files};
-ghost use Rattle.tape_run.specs.Unpacking.{files_of, FilesOn, ViewsAll};
+ghost use Rattle.tape_run.specs.Unpacking.{files_of, set_of, FilesOn, ViewsAll};
 ghost use Rattle.tape_run.specs.declared.fault.RunFault.TheVariants as faults;
 
 pub mod line;
@@ -13,7 +13,7 @@ use crate::fault::RunFault;
 use crate::report::{Sets, sets_of};
 use crate::shelf::Shelf;
 use crate::survey::files::{FileKey, FileNote};
-use crate::survey::view::Findings;
+use crate::survey::view::{Findings, Sight};
 use std::alloc::{AllocError, Global};
 use std::io::Read;
 use tape_label::Field;
@@ -45,6 +45,9 @@ pub struct ShelfFiles {
     /// The files: set by set in the order in which the sets were met first, and file by file from 1
     /// to the greatest number that was met.
     pub files: Sequence<SetFile>,
+    /// For each image the set of the section that begins first on it, where one does. Of a file of
+    /// another set it has nothing.
+    pub sets: Sequence<Option<Field<6>>>,
     /// Whether nothing on the images is left over: each was opened, and is a volume from its label
     /// to its end, in formats that are read.
     pub whole: bool,
@@ -53,7 +56,8 @@ pub struct ShelfFiles {
 /// The files of all sets that were met on the images of a shelf: just those of which `survey` tells.
 ///
 /// Images are mounted in their order, each read to its end or to a fault, and then let go. It takes
-/// memory for the reader of one image, and else for the sections and files that were met alone.
+/// memory for the reader of one image, for the sections and files that were met, and for the set of
+/// each image.
 ///
 /// # Errors
 ///
@@ -67,34 +71,49 @@ pub fn files_on<R: Read + Drop, L: Shelf<R>>(
     ensures fault { IsOkUnless result faults.OutOfMemory }
 {
     let mut findings = Findings::new(alloc);
-    view_images(&mut findings, images)?;
+    let sets = view_images(&mut findings, images)?;
     let whole = findings.whole;
     match files_of(alloc, &findings) {
         Ok(files) => Ok(ShelfFiles {
             files: Sequence::of_vec(files),
+            sets: Sequence::of_vec(sets),
             whole,
         }),
         Err(_) => Err(RunFault::OutOfMemory),
     }
 }
 
-/// Reads the images of a shelf.
+/// Reads the images of a shelf, and says of which set each of them is.
 fn view_images<R: Read + Drop, L: Shelf<R>>(
     findings: &mut Findings,
     images: &mut L,
-) -> Result<(), RunFault>
+) -> Result<Vec<Option<Field<6>>>, RunFault>
     requires { findings.old ≡ nothing_found }
-    ensures ok { OnOk result
-        (ViewsAll L.size L.gives R.remaining images.old images.new findings.new) }
+    ensures ok { IfOk result (λ sets.
+        ViewsAll L.size L.gives R.remaining images.old images.new findings.new sets.items) }
     ensures fault { IsOkUnless result faults.OutOfMemory }
 {
+    let mut sets = Vec::new(findings.alloc);
     for number in 0..images.count() {
         let Ok(image) = images.mount(number) else {
             return Err(RunFault::OutOfMemory);
         };
-        findings.read(image)?;
+        let sight = findings.read(image)?;
+        let Ok(()) = sets.push(set_of(sight)) else {
+            return Err(RunFault::OutOfMemory);
+        };
     }
-    Ok(())
+    Ok(sets)
+}
+
+/// The set of the section that begins first on an image, where one does.
+fn set_of(sight: Option<Sight>) -> Option<Field<6>>
+    ensures { result ≡ set_of sight }
+{
+    match sight {
+        Some(sight) => sight.glance.head.map(|head| head.set_id),
+        None => None,
+    }
 }
 
 /// What header labels tell of which this is known.

@@ -16,8 +16,10 @@ use crate::unfit::{Unfit, refused};
 use crate::words::{Task, UNPACK, Unpack};
 use last_line::LastLine;
 use paths::{Paths, is_there, paths_of};
+use std::alloc::{AllocError, Global};
 use std::io::Write;
 use std::{fs, io};
+use tape_label::Field;
 use tape_run::{
     Fate, Heading, SetFile, ShelfFiles, WriteFailed, fate_text, file_line, file_name, files_on,
     flush, left_over_line, write_text,
@@ -35,9 +37,8 @@ pub fn unpack<'a, R: Host>(rt: &R, order: &Unpack<'a>, site: &mut Site<'a>) -> E
     if let Err(unfit) = is_folder(rt, order.folder) {
         return refuse_unfit(rt, &UNPACK, unfit);
     }
-    let mut images = Images::new(rt, names.as_slice());
-    match files_on(rt.alloc(), &mut images) {
-        Ok(met) => unpack_all(rt, order, &mut images, &met),
+    match files_on(rt.alloc(), &mut Images::new(rt, names.as_slice())) {
+        Ok(met) => unpack_all(rt, order, names.as_slice(), &met),
         Err(fault) => end_of(Err(ToolFault::Run(fault))),
     }
 }
@@ -51,17 +52,16 @@ fn is_folder<R: Host>(rt: &R, path: &str) -> Result<(), Unfit> {
     }
 }
 
-/// Unpacks the files that were met, and says whether something is left over.
-fn unpack_all<R: Host>(
-    rt: &R,
-    order: &Unpack<'_>,
-    images: &mut Images<'_, R>,
-    met: &ShelfFiles,
-) -> End {
+/// Unpacks the files that were met, each from the images of its set, and says whether something is
+/// left over.
+fn unpack_all<R: Host>(rt: &R, order: &Unpack<'_>, names: &[&str], met: &ShelfFiles) -> End {
     let files = met.files.as_slice();
     let mut all = met.whole && !files.is_empty();
     for file in files {
-        match unpack_file(rt, order, images, file) {
+        let Ok(own) = names_of_set(rt.alloc(), names, met.sets.as_slice(), &file.set_id) else {
+            return End::Faulted(Fault::OutOfMemory);
+        };
+        match unpack_file(rt, order, &mut Images::new(rt, own.as_slice()), file) {
             End::Done => {}
             End::Incomplete => all = false,
             end => return end,
@@ -71,6 +71,22 @@ fn unpack_all<R: Host>(
         Ok(()) => check_end(Ok(all)),
         Err(WriteFailed) => end_of(Err(ToolFault::File(FileFault::WriteFailed))),
     }
+}
+
+/// The names of the images that are of this set.
+fn names_of_set<'n>(
+    alloc: Global,
+    names: &[&'n str],
+    sets: &[Option<Field<6>>],
+    set_id: &Field<6>,
+) -> Result<Vec<&'n str>, AllocError> {
+    let mut own = Vec::new(alloc);
+    for (name, set) in names.iter().zip(sets) {
+        if *set == Some(*set_id) {
+            own.push(*name)?;
+        }
+    }
+    Ok(own)
 }
 
 /// Unpacks a file, and tells what became of it.

@@ -1,7 +1,7 @@
 -- Answers that the contracts of unpacking exclude: each is what a wrong body would give.
 use Rattle.std.proofs.Common.{◌≡◌, ◌∙◌, ℕ, List, [], ◌∷◌, ◌++◌, length, true, false, sym, ap}
 use Rattle.std.proofs.Common.{arith, codes}
-use Rattle.std.specs.Prelude.{Ok, Option, slice_index}
+use Rattle.std.specs.Prelude.{Ok, Option, Some, None, slice_index, unwrap_or, option_map}
 use Rattle.std.specs.Fmt.{digits}
 use Rattle.tape_run.specs.declared.survey.view.Sight.{Sight}
 use Rattle.tape_run.specs.declared.unpack.line.Fate.TheVariants as fates
@@ -11,6 +11,7 @@ use Rattle.tape_run.specs.Unpacking as unpacking
 use Rattle.tape_run.specs.UnpackLine as lines
 use Rattle.tape_run.proofs.unpack.add_files.Reads as add_files
 use Rattle.tape_run.proofs.unpack.files_on.Reads as files_on
+use Rattle.tape_run.proofs.unpack.set_of.Reads as set_of
 use Rattle.tape_run.proofs.unpack.name.file_name.Reads as file_name
 use Rattle.tape_run.proofs.unpack.line.file_line.Reads as file_line
 use Rattle.tape_run.proofs.unpack.line.fate_text.Reads as fate_text
@@ -87,3 +88,10 @@ first_file_left_out κs a s h one old new =
     absurd (let e : 0 ≡ 1 = ap length (sym new ∙ h
     ∙ ap (λ xs. xs ++ unpacking.files_from d a.1.1.0 1 a.1.1.1.0) old
     ∙ ap (λ n. [] ++ unpacking.files_from d a.1.1.0 1 n) one) in omega arith)
+
+-- image_of_no_set: a section begins on an image, and it is told to be of no set
+image_of_no_set : (κs : _) (sight : _) (s : _) (h : _) → set_of.Learnt κs (Some sight, tt) None s
+    → sight.glance.head ≡ Some h → ⊥
+image_of_no_set κs sight s h l is =
+    absurd (let e : 0 ≡ 1 = ap (λ o. unwrap_or (option_map (λ _. 1) o) 0)
+    (l ∙ ap (λ o. option_map (λ x. x.set_id) o) is) in omega arith)
