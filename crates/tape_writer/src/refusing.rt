@@ -1,6 +1,6 @@
 //! Tapes that refuse a call, for tests.
 
-ghost use Rattle.std.specs.Prelude.{◌≡◌, ◌+◌, ◌≤◌};
+ghost use Rattle.std.specs.Prelude.{◌≡◌, ◌+◌, ◌≤◌, MatchBool};
 ghost use Rattle.std.specs.Bool.{OnTrue, OnFalse};
 ghost use Rattle.tape_writer.specs.Tapes.{Rose};
 
@@ -39,6 +39,7 @@ impl<T: TapeOut> Refusing<T> {
 
     /// Whether this call is the one.
     fn is_refused(&mut self) -> bool
+        ensures when { MatchBool result (self.old.left ≡ 0) (self.old.left ≡ self.new.left + 1) }
         ensures inner { self.new.inner ≡ self.old.inner }
         ensures yes { OnTrue result (Rose self.old.refused self.new.refused) }
         ensures no { OnFalse result (self.new.refused ≡ self.old.refused) }
