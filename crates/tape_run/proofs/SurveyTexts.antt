@@ -104,7 +104,7 @@ pub line_more : (y : Wording) (names : List (List ℕ)) (sights : List (Option S
     (sight : Option Sight) (name : List ℕ) → length sights < length names
     → name ≡ get_or names (length sights) []
     → image_texts y names (sights ++ sight ∷ [])
-      ≡ image_texts y names sights ++ image_text y name sight
+    ≡ image_texts y names sights ++ image_text y name sight
 line_more y [] sights sight name within is = absurd (omega (arith, within))
 line_more y (n ∷ names) [] sight name within is =
     none y names (image_text y n sight) ∙ ap (λ m. image_text y m sight) (sym is)
