@@ -294,7 +294,7 @@ const FILE_OF_FOLDER: &[&str] = &[
 ",
     NEVER,
     "  A file in it, or standard output, takes no more: a full disk, or a closed
-  pipe. Files told before stay, and what stages keep. Make room, and call again.
+  pipe. Files told before stay, and the stages. Make room, and call again.
 ",
 ];
 
