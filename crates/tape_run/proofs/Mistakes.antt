@@ -1,6 +1,6 @@
 -- Answers that the contracts of a session exclude: each is what a wrong body would give.
 use Rattle.std.proofs.Common.{◌≡◌, ℕ, ◌+◌, ◌≤◌, List, [], ◌∷◌, length, true, false, refl, sym, ap}
-use Rattle.std.proofs.Common.{◌∙◌, subst, arith}
+use Rattle.std.proofs.Common.{◌∙◌, subst, arith, inl, inr}
 use Rattle.std.specs.Prelude.{Option, Some, None, Ok, Err, slice_get, IfSome}
 use Rattle.tape_blocks.specs.Block.{Portion}
 use Rattle.tape_image.specs.declared.fault.ImageCause.TheVariants as causes
@@ -182,3 +182,26 @@ restart_keeps_complete S LS g d κs a s held point l was kept noted start end =
     = ap (λ c. c.position) w.place ∙ ap (λ c. c.position) p in
     let f : Finished ≡ Awaits 1 0 0 = sym end ∙ e ∙ start in
     absurd (cc f)
+
+-- saves_before_going_back: a session at block 5 goes back to a note at the start of the file, which
+-- was all that could come back, and what comes back stands at block 5.
+saves_before_going_back : (S : _) (LS : _) (g : _) (d : _) (κs : _) (a : _) (s : _)
+    (held there : List Portion) (note back : Point)
+    → restart.Learnt-named S LS g d κs a (Ok tt) s
+    → g.holds a.0.now.sink held → IsKept (seen g.refusals a.0.now held)
+    → slice_get a.0.now.notes a.1.0 ≡ Some note → note.position ≡ Awaits 1 0 0
+    → ((old : Point) (parts : List Portion) → g.returns a.0.now.sink old parts
+    → old.position ≡ Awaits 1 0 0)
+    → g.returns s.0.now.sink back there → back.position ≡ Awaits 1 5 0 → ⊥
+saves_before_going_back S LS g d κs a s held there note back l was kept noted first alone comes
+    five = elim ((l.crash held was kept).0 back there comes) [
+      | inl old ↦ absurd (
+          let n : 0 ≡ 5 = ap block_of (sym (alone back there old) ∙ five) in
+          omega (arith, n)
+          )
+      | inr (is, front, weighs) ↦ absurd (
+          let same : note ≡ back = cc (noted, is) in
+          let n : 0 ≡ 5 = ap block_of (sym first ∙ ap (λ c. c.position) same ∙ five) in
+          omega (arith, n)
+          )
+    ]
