@@ -33,7 +33,8 @@ pub record CasesOfUnpacking : Type 0 where
   pub name : file_name (codes "ABC001") 1 (codes "PAYROLL          ") ≡ codes "ABC001.1.PAYROLL"
   pub escaped : file_name (codes "A/_. -") 12 (codes "A/B C.D          ")
       ≡ codes "A%2F%5F%2E_%2D.12.A_B C.D"
-  pub control : file_name (0 ∷ 10 ∷ 31 ∷ 127 ∷ 200 ∷ 255 ∷ []) 1 (10 ∷ 200 ∷ codes "Z              ")
+  pub control : file_name (0 ∷ 10 ∷ 31 ∷ 127 ∷ 200 ∷ 255 ∷ []) 1
+      (10 ∷ 200 ∷ codes "Z              ")
       ≡ codes "%00%0A%1F%7F%C8%FF.1.__Z"
   pub spaces : file_name (codes "      ") 9999 (codes "                 ")
       ≡ codes "______.9999."

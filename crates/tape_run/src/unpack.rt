@@ -1,5 +1,6 @@
 //! `unpack`: which files are on the images of a shelf.
-ghost use Rattle.std.specs.Prelude.{◌≡◌, ◌<◌, ◌+◌, ◌++◌, ◌∷◌, [], length, take, IfOk, OnOk, option_map};
+ghost use Rattle.std.specs.Prelude.{◌≡◌, ◌<◌, ◌+◌, ◌++◌, ◌∷◌, [], length, take, IfOk, OnOk};
+ghost use Rattle.std.specs.Prelude.{option_map};
 ghost use Rattle.std.specs.Result.{IsOkUnless};
 ghost use Rattle.tape_run.specs.SurveyRead.{nothing_found};
 ghost use Rattle.tape_run.specs.Unpacking.{heading_of, file_of, files_from, set_files};
@@ -53,7 +54,7 @@ pub struct ShelfFiles {
     pub whole: bool,
 }
 
-/// The files of all sets that were met on the images of a shelf: just those of which `survey` tells.
+/// The files of all sets that were met on the images of a shelf: just those that `survey` tells of.
 ///
 /// Images are mounted in their order, each read to its end or to a fault, and then let go. It takes
 /// memory for the reader of one image, for the sections and files that were met, and for the set of

@@ -72,8 +72,8 @@ none_found gives remaining shelf left [] d none (same, found) = found
 none_found gives remaining shelf left (s ∷ sights) d none are = absurd (omega (arith, none))
 
 -- left_over_turned: there is no image, and something on the images is told to be left over
-left_over_turned : (R : _) (L : _) (LR : _) (LL : _) (g : _) (d : _) (h : _) (i : _) (j : _) (κs : _)
-    (a : _) (met : _) (s : _) → files_on.Learnt-named R L LR LL g d h i j κs a (Ok met) s
+left_over_turned : (R : _) (L : _) (LR : _) (LL : _) (g : _) (d : _) (h : _) (i : _) (j : _)
+    (κs : _) (a : _) (met : _) (s : _) → files_on.Learnt-named R L LR LL g d h i j κs a (Ok met) s
     → h.size a.1.0.now ≡ 0 → met.whole ≡ false → ⊥
 left_over_turned R L LR LL g d h i j κs a met s l empty told =
     let f = l.ok in

@@ -34,9 +34,9 @@ pub fn fate_text(fate: Fate) -> &'static [u8]
     }
 }
 
-/// The line of a file: its set, its number, what became of it, and the path of its records or of its
-/// stage where there is one. A question mark stands for each byte of the set identifier that can't
-/// be printed, and for each of the path that would move the line.
+/// The line of a file: its set, its number, what became of it, and the path of its records or of
+/// its stage where there is one. A question mark stands for each byte of the set identifier that
+/// can't be printed, and for each of the path that would move the line.
 ///
 /// # Errors
 ///

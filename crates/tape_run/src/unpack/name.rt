@@ -11,10 +11,10 @@ use tape_label::Field;
 /// identifier, as `ABC001.1.PAYROLL`.
 ///
 /// It is a name of its own in a folder: files of different numbers or of different sets never have
-/// one name (`names_differ`), and none leads out of the folder (`names_stay`). In the set identifier
-/// digits and letters stand as they are; `_` stands for a space, and `%` with two hexadecimal digits
-/// for any other byte. The file identifier stands without the spaces at its end, with `_` for `/`
-/// and for each byte that can't be printed.
+/// one name (`names_differ`), and none leads out of the folder (`names_stay`). In the identifier of
+/// the set digits and letters stand as they are; `_` stands for a space, and `%` with two
+/// hexadecimal digits for any other byte. That of the file stands without the spaces at its end,
+/// with `_` for `/` and for each byte that can't be printed.
 pub fn file_name(set_id: &Field<6>, file: u16, file_id: &Field<17>) -> Text
     ensures { result.items ≡ file_name set_id.now file file_id.now }
 {

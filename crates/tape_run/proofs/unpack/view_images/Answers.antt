@@ -14,6 +14,7 @@ loop-number-preserved g c =
 
 pub returns-clause-ok : goal.returns-clause-ok
 returns-clause-ok g c =
+    let count = c.count-number-end.ensures in
     views_all g.L.Shelf.size g.L.Shelf.gives g.R.Read.remaining _ _ c.loop-number.number _ _
-    (omega (arith, c.loop-number-test.false, c.loop-number.auto.number-end, c.count-number-end.ensures))
+    (omega (arith, c.loop-number-test.false, c.loop-number.auto.number-end, count))
     c.loop-number.invariant
