@@ -106,8 +106,9 @@ line_gathered_to_its_end R L g d h κs a answer s l w = absurd (omega (arith, l.
 -- told that there was no memory
 memory_gives_out_with_room : (R : _) (L : _) (g : _) (d : _) (h : _) (κs : _) (a : _) (s : _)
     (xs : List ℕ) (r : List ℕ) (rs : List (List ℕ))
-    → next.Learnt-named R L g d h κs a (Err inputs.OutOfMemory) s → left_of g.remaining a.0.now ≡ Some xs
-    → to_come a.0.now.cut a.0.now.over xs ≡ r ∷ rs → vec_capacity a.0.now.record ≡ length r → ⊥
+    → next.Learnt-named R L g d h κs a (Err inputs.OutOfMemory) s
+    → left_of g.remaining a.0.now ≡ Some xs → to_come a.0.now.cut a.0.now.over xs ≡ r ∷ rs
+    → vec_capacity a.0.now.record ≡ length r → ⊥
 memory_gives_out_with_room R L g d h κs a s xs r rs l old e room =
     let first = IsFirstLong (vec_capacity a.0.now.record) in
     let w : first (r ∷ rs) = subst first e

@@ -69,10 +69,11 @@ pub struct RefusedSet<S: ImageStore + Drop> {
 /// `Write` with what the set writer refuses (with `OutOfVolumes` where there is no volume, with
 /// `NoFile` where there is no file); with `BadShape` where raw inputs are no records of the format,
 /// and with `BadField` for any head, before anything is written; with `RecordLength` as soon as a
-/// record has more bytes than any of the shape, and no more is read; with `Device` also where the store has no device left.
-/// `ReadFailed` where an input fails. No other fault comes, and none but `Device`, `OutOfMemory`
-/// and `ReadFailed` without its cause in the plan or the inputs: `OutOfVolumes` only where what
-/// comes next of the inputs, or a file's end behind them, does not fit the last volume.
+/// record has more bytes than any of the shape, and no more is read; with `Device` also where the
+/// store has no device left. `ReadFailed` where an input fails. No other fault comes, and none but
+/// `Device`, `OutOfMemory` and `ReadFailed` without its cause in the plan or the inputs:
+/// `OutOfVolumes` only where what comes next of the inputs, or a file's end behind them, does not
+/// fit the last volume.
 pub fn write_set<R: Read, S: ImageStore + Drop>(
     alloc: Global,
     plan: SetPlan,
