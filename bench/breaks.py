@@ -51,7 +51,8 @@ import time
 
 from edits import SHAPE, TOP, copy_tree, text_of, write
 
-REFUSED = re.compile(r"(?:\./)?(\S+?):(\d+):\d+: (?:error: |note: (?=it is not proved))(.*)")
+REFUSED = re.compile(r"(?:note: )?(?:\./)?([^\s:]+):(\d+):\d+: "
+                     r"(?:error: |(?:note: )?(?=it is not proved))(.*)")
 OF_CASES = re.compile(r"specs/(Cases|\w*Examples)|proofs/(\w*Examples|Case|laws/cases/|\w+_laws/)")
 CASES = "laws::cases"
 UNCHECKED = re.compile(r"w(?:as|ere) not checked")
