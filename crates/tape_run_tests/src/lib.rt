@@ -51,4 +51,6 @@ mod survey;
 #[cfg(test)]
 mod taken_back;
 #[cfg(test)]
+mod unpack;
+#[cfg(test)]
 mod volumes;

@@ -1,0 +1,76 @@
+//! The files that are on the images of a shelf, by their names.
+use crate::image::{Image, payroll};
+use crate::sections::{first_of_two, one_section, second_of_two};
+use crate::volumes::EOF_ONE;
+use std::alloc::{AllocError, Global};
+use std::process::Abort;
+use std::test::Fail;
+use tape_run::{Fate, Heading, SetFile, fate_text, file_line, file_name, files_on};
+
+/// The line of a file: its name, or what is told in its place.
+fn line_of(alloc: Global, file: &SetFile) -> Result<Vec<u8>, AllocError> {
+    let (set_id, number) = (&file.set_id, file.file);
+    match file.heading {
+        Heading::NotMet => file_line(alloc, set_id, number, fate_text(Fate::NotMet), ""),
+        Heading::Differs => file_line(alloc, set_id, number, fate_text(Fate::Differs), ""),
+        Heading::Named(file_id) => {
+            let name = file_name(set_id, number, &file_id);
+            file_line(alloc, set_id, number, &name, "out/a\n")
+        }
+    }
+}
+
+/// On these images are these files, and nothing is left over or something is.
+fn found<H: Abort + AllocGlobal>(
+    rt: &H,
+    images: &[Option<&[u8]>],
+    whole: bool,
+    lines: &str,
+) -> Result<(), Fail> {
+    let mut shelf = Vec::from_slice(rt.alloc(), images)?;
+    let met = files_on(rt.alloc(), &mut shelf)?;
+    let mut told = Vec::new(rt.alloc());
+    for file in met.files.as_slice() {
+        let line = line_of(rt.alloc(), file)?;
+        told.extend_from_slice(line.as_slice())?;
+    }
+    assert_eq!(rt; told.as_slice(), lines.as_bytes(), "{lines}");
+    assert!(rt; met.whole == whole, "{lines}");
+    Ok(())
+}
+
+/// The third file of a set, alone on its volume.
+fn third(alloc: Global) -> Result<Image, AllocError> {
+    one_section(
+        alloc,
+        "HDR1TH/RD            AB. 0100010003000100 00000 00000 000000",
+        "EOF1TH/RD            AB. 0100010003000100 00000 00000 000001",
+    )
+}
+
+#[test]
+fn files_of_shelves(rt: HostRuntime) -> Result<(), Fail> {
+    let alloc = rt.alloc();
+    let (first, second) = (first_of_two(alloc)?, second_of_two(alloc)?);
+    let (whole, third) = (payroll(alloc)?, third(alloc)?);
+    let other = one_section(
+        alloc,
+        "HDR1LEDGER           ABC00100010001000100 00000 00000 000000",
+        EOF_ONE,
+    )?;
+    let [first, second, whole, third, other] = [&first, &second, &whole, &third, &other].map(
+        |image| Some(image.bytes.as_slice()),
+    );
+    let payroll = "FILE ABC001 1 ABC001.1.PAYROLL out/a?\n";
+    let thirds = "FILE AB. 01 1 NOT MET
+FILE AB. 01 2 NOT MET
+FILE AB. 01 3 AB%2E_01.3.TH_RD out/a?
+";
+    let mixed = "FILE ABC001 1 DIFFERS\n";
+    found(&rt, &[], true, "")?;
+    found(&rt, &[None], false, "")?;
+    found(&rt, &[second, first], true, payroll)?;
+    found(&rt, &[whole, None], false, payroll)?;
+    found(&rt, &[third], true, thirds)?;
+    found(&rt, &[whole, other], true, mixed)
+}
