@@ -1,7 +1,7 @@
 -- Answers that the contracts of unpacking exclude: each is what a wrong body would give.
 use Rattle.std.proofs.Common.{◌≡◌, ◌∙◌, ℕ, List, [], ◌∷◌, ◌++◌, length, true, false, sym, ap}
 use Rattle.std.proofs.Common.{arith, codes}
-use Rattle.std.specs.Prelude.{Ok, Option, Some, None, slice_index, unwrap_or, option_map}
+use Rattle.std.specs.Prelude.{Ok, Option, Some, None, slice_index, option_map}
 use Rattle.std.specs.Fmt.{digits}
 use Rattle.tape_run.specs.declared.survey.view.Sight.{Sight}
 use Rattle.tape_run.specs.declared.unpack.line.Fate.TheVariants as fates
@@ -89,9 +89,13 @@ first_file_left_out κs a s h one old new =
     ∙ ap (λ xs. xs ++ unpacking.files_from d a.1.1.0 1 a.1.1.1.0) old
     ∙ ap (λ n. [] ++ unpacking.files_from d a.1.1.0 1 n) one) in omega arith)
 
+abbrev told : Option (List ℕ) → ℕ
+told (Some set_id) = 1
+told None = 0
+
 -- image_of_no_set: a section begins on an image, and it is told to be of no set
 image_of_no_set : (κs : _) (sight : _) (s : _) (h : _) → set_of.Learnt κs (Some sight, tt) None s
     → sight.glance.head ≡ Some h → ⊥
 image_of_no_set κs sight s h l is =
-    absurd (let e : 0 ≡ 1 = ap (λ o. unwrap_or (option_map (λ _. 1) o) 0)
-    (l ∙ ap (λ o. option_map (λ x. x.set_id) o) is) in omega arith)
+    absurd (let e : 0 ≡ 1 = ap (λ o. told o) (l ∙ ap (λ o. option_map (λ x. x.set_id) o) is) in
+    omega arith)
