@@ -277,10 +277,10 @@ def make_shelf(seed, sets):
             names = [f"reel {number} {at}{copy}.tap" for copy in ("", " again")]
             reels += damaged(rng, *[Reel(name, set_id, items) for name in names])
     # Two weekly backups, which have one identifier.
-    files["BCK001"] = []
     for week in (100, 107):
         made = [file_of(rng, 1, f" 85{week}")]
         made[0].name = "WEEKLY.BCK"
+        files["BCK001"] = made
         for at, items in enumerate(volumes_of("BCK001", made, rng, "BCK0"), 1):
             reels.append(Reel(f"week {week} {at}.tap", "BCK001", items))
     rng.shuffle(reels)
