@@ -24,6 +24,7 @@ pub mod Examples
 pub mod ExamplesOfInputs
 pub mod ExamplesOfWritten
 pub mod ExamplesOfFronts
+pub mod ExamplesOfDrafts
 mod Mistakes
 mod MistakesOfBlanks
 mod MistakesOfRecords

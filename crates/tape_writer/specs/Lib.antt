@@ -25,6 +25,7 @@ pub mod Cases
 pub mod CasesOfInputs
 pub mod CasesOfWritten
 pub mod CasesOfFronts
+pub mod CasesOfDrafts
 -- what is written so far, in the proofs' own words:
 pub mod Draft
 pub mod Inside

@@ -6,6 +6,7 @@ ghost use Rattle.tape_writer.specs.Cases.{CasesOfRefusals};
 ghost use Rattle.tape_writer.specs.CasesOfInputs.{CasesOfInputs, CasesOfSetFaults};
 ghost use Rattle.tape_writer.specs.CasesOfWritten.{CasesOfWritten, CasesOfRecordLaws};
 ghost use Rattle.tape_writer.specs.CasesOfFronts.{CasesOfFronts};
+ghost use Rattle.tape_writer.specs.CasesOfDrafts.{CasesOfDrafts, CasesOfInside};
 
 /// What the definitions of tapes and images, of what was told and written, of refusals, of inputs
 /// and of what is left say of cases: each says all that it should.
@@ -19,4 +20,6 @@ pub fn cases()
     ensures written { CasesOfWritten }
     ensures record_laws { CasesOfRecordLaws }
     ensures fronts { CasesOfFronts }
+    ensures drafts { CasesOfDrafts }
+    ensures inside { CasesOfInside }
 {}

@@ -3,6 +3,7 @@ use Rattle.tape_writer.proofs.Examples.{cases_of_refusals}
 use Rattle.tape_writer.proofs.ExamplesOfInputs.{cases_of_inputs, cases_of_set_faults}
 use Rattle.tape_writer.proofs.ExamplesOfWritten.{cases_of_written, cases_of_record_laws}
 use Rattle.tape_writer.proofs.ExamplesOfFronts.{cases_of_fronts}
+use Rattle.tape_writer.proofs.ExamplesOfDrafts.{cases_of_drafts, cases_of_inside}
 use Rattle.tape_writer.proofs.laws.cases.Goals as goal
 
 pub returns-clause-tapes : goal.returns-clause-tapes
@@ -31,3 +32,9 @@ returns-clause-record_laws c = cases_of_record_laws
 
 pub returns-clause-fronts : goal.returns-clause-fronts
 returns-clause-fronts c = cases_of_fronts
+
+pub returns-clause-drafts : goal.returns-clause-drafts
+returns-clause-drafts c = cases_of_drafts
+
+pub returns-clause-inside : goal.returns-clause-inside
+returns-clause-inside c = cases_of_inside

@@ -1,0 +1,200 @@
+-- The cases of sets that are being written.
+use Rattle.std.proofs.Common.{◌≡◌, ◌≤◌, ℕ, ◌+◌, List, [], ◌∷◌, refl, sym, arith}
+use Rattle.std.proofs.Common.{inl, inr, false}
+use Rattle.tape_image.specs.Tape.{block}
+use Rattle.tape_label.specs.declared.values.Vol1.{Vol1}
+use Rattle.tape_blocks.specs.Packing.{the_packing}
+use Rattle.tape_blocks.proofs.RunLaws.{run_begins}
+use Rattle.tape_set.specs.Layout.{Placed, Volume}
+use Rattle.tape_set.specs.Sizes.{items_size}
+use Rattle.tape_writer.specs.declared.course.Opened.{Opened}
+use Rattle.tape_writer.specs.declared.course.Course.{Course}
+use Rattle.tape_writer.specs.CasesOfDrafts.{CasesOfDrafts, CasesOfInside, nothing_yet}
+use Rattle.tape_writer.specs.CasesOfDrafts.{as_placed, first_course, first_items}
+use Rattle.tape_writer.specs.Draft.{OfLast, IsDone, Steady, IsOpen, IsResting}
+use Rattle.tape_writer.specs.Inside.{IsBetween, IsFiling, IsFlat, IsWaiting}
+use Rattle.tape_writer.specs.Labels.{IsReady, volume_label}
+use Rattle.tape_writer.specs.Tapes.{Tapes, Ended, UnderWay}
+use Rattle.tape_writer.specs.Told.{Told, labelled}
+
+of_none : (P : List Placed → Placed → Type 0) → OfLast [] P
+of_none P [] x e = absurd (cc e)
+of_none P (y ∷ ys) x e = absurd (cc e)
+
+done_none : (volumes : List Volume) (capacity : ℕ) (id : List ℕ) (n : ℕ)
+    → IsDone volumes capacity id n []
+done_none volumes capacity id n =
+    record { each = tt; first = tt; chain = tt; ends = tt; changes = tt }
+
+resting_first : (v : Vol1) (capacity : ℕ) (id : List ℕ) (used : ℕ)
+    → used ≡ items_size (block (volume_label v) ∷ []) → used + 372 ≤ capacity
+    → IsResting (λ t. t ≡ UnderWay [] (block (volume_label v) ∷ [])) (v ∷ []) capacity id
+    (record { volume = 1; sect = 0; count = 0; used = used }) nothing_yet
+resting_first v capacity id used size room = record {
+  between = record {
+    no_sects = refl;
+    no_blocks = refl;
+    volume = refl;
+    few = omega arith;
+    done = done_none (labelled v ∷ []) capacity id 1;
+    last = of_none _;
+    fresh = λ e. refl;
+    within = tt;
+    used = size;
+    room = room;
+  };
+  held = refl;
+}
+
+steady_first : (v : Vol1) (capacity : ℕ) (file : Opened) (used : ℕ) → IsReady file
+    → file.head.sequence ≡ 1 → used ≡ items_size (first_items v file) → used + 192 ≤ capacity
+    → Steady (labelled v ∷ []) capacity file.head.set_id file (first_course used) nothing_yet
+steady_first v capacity file used ready number size room = record {
+  inside = record {
+    ready = ready;
+    of_set = refl;
+    sequence = number;
+    volume = refl;
+    few = omega arith;
+    sect = refl;
+    sect_most = omega arith;
+    count = refl;
+    count_most = omega arith;
+    sized = tt;
+    done = done_none (labelled v ∷ []) capacity file.head.set_id 1;
+    goes = of_none _;
+    fresh = λ e. refl;
+    change = of_none _;
+    going = tt;
+    within = tt;
+    used = size;
+    room = room;
+  };
+  begins = λ e. of_none _;
+}
+
+open_first : (v : Vol1) (capacity : ℕ) (file : Opened) (used : ℕ) → IsReady file
+    → file.head.sequence ≡ 1 → used ≡ items_size (first_items v file) → used + 192 ≤ capacity
+    → IsOpen (λ t. t ≡ UnderWay [] (first_items v file)) (v ∷ []) capacity file.head.set_id file
+    (first_course used) nothing_yet
+open_first v capacity file used ready number size room =
+    record { steady = steady_first v capacity file used ready number size room; held = refl }
+
+begun_first : (v : Vol1) (capacity : ℕ) (file : Opened) (used : ℕ) → IsReady file
+    → file.head.sequence ≡ 1 → used ≡ items_size (first_items v file) → used + 192 ≤ capacity
+    → IsFiling (λ t. t ≡ UnderWay [] (first_items v file)) (v ∷ []) capacity file.head.set_id file
+    (first_course used) (the_packing file.shape [] false false) [] []
+begun_first v capacity file used ready number size room = record {
+  files = [];
+  filed = tt;
+  inside = record {
+    draft = nothing_yet;
+    is_open = open_first v capacity file used ready number size room;
+    files = refl;
+    shape = refl;
+    ended = refl;
+    run = λ n. run_begins (the_packing file.shape [] false false) n refl refl refl;
+    lengths = tt;
+  };
+}
+
+flat_first : (v : Vol1) (capacity : ℕ) (file : Opened) (used : ℕ) → IsReady file
+    → file.head.sequence ≡ 1 → used ≡ items_size (first_items v file) → used + 192 ≤ capacity
+    → IsFlat (λ t. t ≡ UnderWay [] (first_items v file)) (v ∷ []) capacity file.head.set_id file
+    (first_course used) [] []
+flat_first v capacity file used ready number size room = record {
+  draft = nothing_yet;
+  is_open = open_first v capacity file used ready number size room;
+  files = refl;
+  tight = record { joins = refl; order = refl; each = tt; closed = tt };
+  lengths = tt;
+}
+
+waiting_first : (tapes : Tapes) (volumes : List Vol1) (capacity : ℕ) (id : List ℕ)
+    (course : Course) → IsWaiting (λ t. t ≡ tapes) volumes capacity id course []
+    → (course.volume ≡ 0) × (Ended [] ≡ tapes)
+waiting_first tapes volumes capacity id course (inl w) = (w.0, w.1)
+waiting_first tapes volumes capacity id course (inr w) = absurd (w.1 refl)
+
+waiting_behind : (tapes : Tapes) (volumes : List Vol1) (capacity : ℕ) (id : List ℕ)
+    (course : Course) (t : Told)
+    → IsWaiting (λ u. u ≡ tapes) volumes capacity id course (t ∷ [])
+    → IsBetween (λ u. u ≡ tapes) volumes capacity id course (t ∷ [])
+waiting_behind tapes volumes capacity id course t (inl w) = absurd (let e = w.2 in cc e)
+waiting_behind tapes volumes capacity id course t (inr w) = w.0
+
+pub cases_of_drafts : CasesOfDrafts
+cases_of_drafts = record {
+  in_their_order = λ u v s blocks. refl;
+  blocks_of_file = λ other file a b c d e. refl;
+  volumes_ended = λ v w x other file a b c d e. refl;
+  volume_open = λ v w x other file course a b c d e. refl;
+  volume_resting = λ v file a. refl;
+  section_here = λ file course blocks. (refl, refl, refl, refl);
+  of_last = λ x y z xs h. h (x ∷ []) y refl;
+  done = λ volumes capacity id n x y d.
+      (d.each.0, d.each.1.0, d.first, d.chain.0, d.ends.0, d.ends.1.0, d.changes.0);
+  between_files = λ volumes capacity id course u v b. (
+    b.volume,
+    b.few,
+    b.done,
+    (b.last (as_placed 1 1 u ∷ []) (as_placed 2 1 v) refl).1,
+    b.within,
+    b.used,
+    b.room,
+  );
+  none_open = λ volumes capacity id course d b. (b.no_sects, b.no_blocks);
+  none_empty = λ volumes capacity id course u past b.
+      let last : 1 ≡ 2 = (b.last [] (as_placed 1 1 u) refl).0 in omega (arith, last);
+  none_ended = λ volumes capacity id course past b. b.fresh refl;
+  inside_file = λ volumes capacity id file course next u v s b w. (
+    w.sequence,
+    w.volume,
+    w.sect,
+    w.count,
+    w.of_set,
+    w.ready,
+    w.few,
+    w.sect_most,
+    w.count_most,
+    w.sized.0,
+  );
+  behind_sections = λ volumes capacity id file course next u v s b w.
+      let before = as_placed 1 1 u ∷ as_placed 2 1 v ∷ [] in (
+        w.done,
+        w.goes before (as_placed 3 1 s) refl,
+        w.change before (as_placed 3 1 s) refl,
+        w.going.0.0,
+        w.going.0.1,
+      );
+  inside_room = λ volumes capacity id file course next d w. (w.within, w.used, w.room);
+  none_ended_inside = λ volumes capacity id file course next blocks past w. w.fresh refl;
+  some_block = λ volumes capacity id file course u v s k.
+      k.begins refl (as_placed 1 1 u ∷ as_placed 2 1 v ∷ []) (as_placed 3 1 s) refl
+      (sym k.inside.sequence);
+  begins_with = λ volumes capacity id file course d k. k.inside;
+  roomy = λ capacity volumes course r. (r.room, r.count, r.some, r.sect, r.volume);
+  open_held = λ tapes volumes capacity id file course d o. (o.held, o.steady);
+  resting_held = λ tapes volumes capacity id course d r. (r.held, r.between);
+  resting_first = resting_first;
+}
+
+pub cases_of_inside : CasesOfInside
+cases_of_inside = record {
+  inside = λ tapes volumes capacity id file course p fs records i.
+      (i.files, i.shape, i.ended, i.run, i.lengths, i.is_open);
+  middle = λ tapes volumes capacity id file course p fs records whole rest i.
+      (i.files, i.shape, i.going, i.lengths, i.is_open);
+  flat = λ tapes volumes capacity id file course fs records i.
+      (i.files, i.tight, i.lengths, i.is_open);
+  lengths = λ shape r s h. (h.0, h.1.0);
+  between = λ tapes volumes capacity id course told b. (b.filed, b.resting);
+  filing = λ tapes volumes capacity id file course p past records f. (f.filed, f.inside);
+  waiting_first = waiting_first;
+  waiting_behind = waiting_behind;
+  nothing_told = λ volumes capacity id. inl (refl, refl, refl);
+  begun_first = begun_first;
+  flat_first = flat_first;
+  stuck_open = λ tapes volumes capacity id file course fs records s. s.is_open;
+  whole_records = λ shape records blocks next c. c.order;
+}
