@@ -15,3 +15,5 @@ mod packing;
 mod readings;
 #[cfg(test)]
 mod reel;
+#[cfg(test)]
+mod staged;
