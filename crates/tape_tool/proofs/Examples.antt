@@ -25,7 +25,8 @@ pub cases_of_faults : CasesOfFaults
 cases_of_faults = record {
   of_files = refl;
   of_writers = refl;
-  of_sets = λ fault. (refl, refl);
+  of_sets = λ fault. refl;
+  of_files_written = λ fault. refl;
   of_engines = λ fault. (refl, refl);
   of_lists = λ fault. (refl, refl);
 }

@@ -2,7 +2,7 @@
 use Rattle.std.proofs.Common.{◌≡◌, ℕ, ◌+◌, ◌<◌, List, [], ◌∷◌, ◌++◌, length, take, get_or, sym, ap}
 use Rattle.std.proofs.Common.{◌∙◌, append_assoc, append-nil}
 use Rattle.std.proofs.lemmas.List.{take_more}
-use Rattle.tape_tool.specs.declared.write.report.Ended.{Ended}
+use Rattle.tape_writer.specs.declared.system.image_files.Ended.{Ended}
 use Rattle.tape_tool.specs.Report.{volume_line, volume_lines}
 
 lines_push : (xs : List Ended) (x : Ended)

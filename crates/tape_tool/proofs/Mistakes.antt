@@ -15,7 +15,7 @@ use Rattle.tape_set.specs.Position.{sect_of}
 use Rattle.tape_stage.specs.Staged.{Staged}
 use Rattle.tape_writer.specs.declared.fault.WriteFault.TheVariants as write_faults
 use Rattle.tape_tool.specs.declared.end.End.TheVariants as ends
-use Rattle.tape_tool.specs.declared.fault.FileFault.TheVariants as file_faults
+use Rattle.tape_writer.specs.declared.system.fault.FileFault.TheVariants as file_faults
 use Rattle.tape_tool.specs.declared.fault.ToolFault.TheVariants as tool_faults
 use Rattle.tape_tool.specs.declared.fault.Fault.TheVariants as faults
 use Rattle.tape_tool.specs.Ends.{exit_status}
@@ -27,7 +27,7 @@ use Rattle.tape_tool.proofs.end.extract_end.Reads as extract_end
 use Rattle.tape_tool.proofs.end.words_end.Reads as words_end
 use Rattle.tape_tool.proofs.end.no_words_end.Reads as no_words_end
 use Rattle.tape_tool.proofs.check_files.check_end.Reads as check_end
-use Rattle.tape_tool.proofs.fault.FileFault.number.Reads as number
+use Rattle.tape_tool.proofs.fault.number_of_file.Reads as number_of_file
 use Rattle.tape_tool.proofs.fault.number_of_write.Reads as number_of_write
 use Rattle.tape_tool.proofs.telling.fault_line.Reads as fault_line
 use Rattle.tape_tool.proofs.staging.open_session.Reads as open_session
@@ -97,10 +97,9 @@ no_memory_for_words_told_as_wrong_words κs s h =
 -- ---- how a fault is told
 
 -- exists_is_number_two: a file that is there is told as one that could not be opened
-exists_is_number_two : (κs : _) (a : _) (s : _) → number.Learnt κs a 2 s
-    → a.0.now ≡ file_faults.Exists → ⊥
-exists_is_number_two κs a s h e =
-    absurd (let d : 2 ≡ 1 = h ∙ ap file_number e in omega arith)
+exists_is_number_two : (κs : _) (s : _)
+    → number_of_file.Learnt κs (file_faults.Exists, tt) 2 s → ⊥
+exists_is_number_two κs s h = absurd (let d : 2 ≡ 1 = h in omega arith)
 
 -- no_memory_told_as_device: the writer's want of memory is told as a device that failed
 no_memory_told_as_device : (κs : _) (s : _)

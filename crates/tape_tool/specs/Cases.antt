@@ -16,7 +16,10 @@ use Rattle.tape_core.specs.Place.{place_of, rest_of}
 use Rattle.tape_core.specs.Point.{Point}
 use Rattle.tape_writer.specs.declared.fault.WriteFault.{WriteFault}
 use Rattle.tape_writer.specs.declared.fault.WriteFault.TheVariants as writes
-use Rattle.tape_writer.specs.declared.fault.SetFault.TheVariants as sets
+use Rattle.tape_writer.specs.declared.system.fault.FileFault.{FileFault}
+use Rattle.tape_writer.specs.declared.system.fault.FileFault.TheVariants.{Exists, NotOpened, ReadFailed}
+use Rattle.tape_writer.specs.declared.system.fault.FileFault.TheVariants.{WriteFailed}
+use Rattle.tape_writer.specs.declared.system.fault.SystemFault.TheVariants as system
 use Rattle.tape_run.specs.declared.fault.RunFault.{RunFault}
 use Rattle.tape_run.specs.declared.fault.RunFault.TheVariants as runs
 use Rattle.tape_run.specs.declared.fault.EngineFault.TheVariants as engine
@@ -33,12 +36,10 @@ use Rattle.tape_tool.specs.declared.fault.Fault.TheVariants.{Tool, OutOfMemory}
 use Rattle.tape_tool.specs.declared.fault.ToolFault.{ToolFault}
 use Rattle.tape_tool.specs.declared.fault.ToolFault.TheVariants.{Image, Label, Write, File, Run}
 use Rattle.tape_tool.specs.declared.fault.ToolFault.TheVariants.{Stage as OfStage, StageInUse}
-use Rattle.tape_tool.specs.declared.fault.FileFault.TheVariants.{Exists, NotOpened, ReadFailed}
-use Rattle.tape_tool.specs.declared.fault.FileFault.TheVariants.{WriteFailed}
 use Rattle.tape_tool.specs.declared.staging.StagingFault.TheVariants as staging
 use Rattle.tape_tool.specs.Ends.{exit_status, end_of, check_end, extract_end, help_end, words_end}
 use Rattle.tape_tool.specs.Ends.{no_words_end}
-use Rattle.tape_tool.specs.Fault.{file_number, write_number, of_set, of_engine, of_list}
+use Rattle.tape_tool.specs.Fault.{file_number, write_number, of_system, of_engine, of_list}
 use Rattle.tape_tool.specs.Names.{end_byte, pieces_of, names_in}
 use Rattle.tape_tool.specs.Report.{report}
 use Rattle.tape_tool.specs.Staging.{IsOfFile, first_point, StandsAt, GoesOn, Says, IsUnopened}
@@ -105,9 +106,9 @@ pub record CasesOfFaults : Type 0 where
       ∷ writes.RecordLength ∷ writes.NoFile ∷ writes.FileBegun ∷ writes.OutOfVolumes
       ∷ writes.TooMany ∷ writes.Device ∷ writes.OutOfMemory ∷ writes.Failed ∷ writes.Finished
       ∷ []) ≡ 1 ∷ 2 ∷ 3 ∷ 4 ∷ 5 ∷ 6 ∷ 7 ∷ 8 ∷ 9 ∷ 10 ∷ 11 ∷ 12 ∷ []
-  -- an input that could not be read on is a file's fault, and all else the writer's
-  pub of_sets : (fault : WriteFault) → (of_set (sets.Write fault) ≡ Write fault)
-      × (of_set sets.ReadFailed ≡ File ReadFailed)
+  -- a file's fault stays one, and so does the writer's
+  pub of_sets : (fault : WriteFault) → of_system (system.Write fault) ≡ Write fault
+  pub of_files_written : (fault : FileFault) → of_system (system.File fault) ≡ File fault
   -- output that could not be written is a file's fault, and all else the run's or the image's
   pub of_engines : (fault : RunFault) → (of_engine (engine.Run fault) ≡ Run fault)
       × (of_engine engine.WriteFailed ≡ File WriteFailed)

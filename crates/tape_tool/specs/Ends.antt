@@ -8,7 +8,7 @@ use Rattle.tape_set.specs.declared.position.Want.{Want}
 use Rattle.tape_run.specs.declared.fault.EngineFault.{EngineFault}
 use Rattle.tape_tool.specs.declared.end.End.{End}
 use Rattle.tape_tool.specs.declared.end.End.TheVariants.{Done, Faulted, WrongWords, Incomplete}
-use Rattle.tape_tool.specs.declared.fault.FileFault.TheVariants.{WriteFailed}
+use Rattle.tape_writer.specs.declared.system.fault.FileFault.TheVariants.{WriteFailed}
 use Rattle.tape_tool.specs.declared.fault.ToolFault.{ToolFault}
 use Rattle.tape_tool.specs.declared.fault.ToolFault.TheVariants.{File}
 use Rattle.tape_tool.specs.declared.fault.Fault.TheVariants.{Tool, OutOfMemory}

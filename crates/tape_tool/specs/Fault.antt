@@ -2,15 +2,15 @@
 use Rattle.std.specs.Prelude.{ℕ}
 use Rattle.tape_writer.specs.declared.fault.WriteFault.{WriteFault}
 use Rattle.tape_writer.specs.declared.fault.WriteFault.TheVariants as writes
-use Rattle.tape_writer.specs.declared.fault.SetFault.{SetFault}
-use Rattle.tape_writer.specs.declared.fault.SetFault.TheVariants as sets
+use Rattle.tape_writer.specs.declared.system.fault.SystemFault.{SystemFault}
+use Rattle.tape_writer.specs.declared.system.fault.SystemFault.TheVariants as system
 use Rattle.tape_run.specs.declared.fault.EngineFault.{EngineFault}
 use Rattle.tape_run.specs.declared.fault.EngineFault.TheVariants as engine
 use Rattle.tape_run.specs.declared.fault.ListFault.{ListFault}
 use Rattle.tape_run.specs.declared.fault.ListFault.TheVariants as list
-use Rattle.tape_tool.specs.declared.fault.FileFault.{FileFault}
-use Rattle.tape_tool.specs.declared.fault.FileFault.TheVariants.{Exists, NotOpened, ReadFailed}
-use Rattle.tape_tool.specs.declared.fault.FileFault.TheVariants.{WriteFailed}
+use Rattle.tape_writer.specs.declared.system.fault.FileFault.{FileFault}
+use Rattle.tape_writer.specs.declared.system.fault.FileFault.TheVariants.{Exists, NotOpened, ReadFailed}
+use Rattle.tape_writer.specs.declared.system.fault.FileFault.TheVariants.{WriteFailed}
 use Rattle.tape_tool.specs.declared.fault.ToolFault.{ToolFault}
 use Rattle.tape_tool.specs.declared.fault.ToolFault.TheVariants.{Image, Write, File, Run}
 
@@ -37,9 +37,9 @@ write_number writes.Failed = 11
 write_number writes.Finished = 12
 
 -- what ends a command where a set was not written
-abbrev pub of_set : SetFault → ToolFault
-of_set (sets.Write fault) = Write fault
-of_set sets.ReadFailed = File ReadFailed
+abbrev pub of_system : SystemFault → ToolFault
+of_system (system.Write fault) = Write fault
+of_system (system.File fault) = File fault
 
 -- the fault of an engine, as one of a command
 abbrev pub of_engine : EngineFault → ToolFault

@@ -1,6 +1,6 @@
 -- What `write` prints.
 use Rattle.std.specs.Prelude.{ℕ, List, [], ◌∷◌, ◌++◌, length, codes, decimal}
-use Rattle.tape_tool.specs.declared.write.report.Ended.{Ended}
+use Rattle.tape_writer.specs.declared.system.image_files.Ended.{Ended}
 
 -- a volume: its identifier, and how many bytes its image has
 abbrev pub volume_line : Ended → List ℕ

@@ -1,5 +1,5 @@
 //! What a fault means, in words: behind its one line, where `--explain` asks for them.
-use crate::fault::{Fault, ToolFault, number_of_write};
+use crate::fault::{Fault, ToolFault, number_of_file, number_of_write};
 use std::fmt;
 use tape_image::{ImageCause, ImageFault};
 use tape_writer::Prefix;
@@ -85,7 +85,7 @@ pub fn text_of(fault: Fault, site: Site<'_>) -> &'static str {
         ToolFault::Image(fault) => image_text(fault),
         ToolFault::Label(fault) => nth(LABEL, fault.number()),
         ToolFault::Write(fault) => nth(WRITE, number_of_write(fault)),
-        ToolFault::File(fault) => nth(files_at(site), fault.number()),
+        ToolFault::File(fault) => nth(files_at(site), number_of_file(fault)),
         ToolFault::Run(fault) => nth(RUN, fault.number()),
         ToolFault::Stage(fault) => nth(STAGE, fault.number()),
         ToolFault::StageInUse => nth(STAGE, 7),

@@ -1,6 +1,5 @@
 //! `extract` as the program runs it: a file of a set, from the files of its reels' images.
 mod draft;
-pub mod folder;
 mod guard;
 mod out_file;
 mod program;

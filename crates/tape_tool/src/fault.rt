@@ -1,44 +1,26 @@
 //! What can go wrong, and how it is told.
 ghost use Rattle.std.specs.Prelude.{◌≡◌};
-ghost use Rattle.tape_tool.specs.Fault.{file_number, write_number, of_set, of_engine, of_list};
-ghost use Rattle.tape_tool.specs.declared.fault.FileFault.TheVariants as files;
+ghost use Rattle.tape_writer.specs.declared.system.fault.FileFault.TheVariants as files;
+ghost use Rattle.tape_tool.specs.Fault.{file_number, write_number, of_system, of_engine, of_list};
 ghost use Rattle.tape_tool.specs.declared.fault.ToolFault.TheVariants.{Image, File};
 
 use tape_image::ImageFault;
 use tape_label::LabelFault;
 use tape_run::{EngineFault, ListFault, RunFault, WriteFailed};
 use tape_stage::StageFault;
-use tape_writer::{SetFault, WriteFault};
-use thiserror::Error;
+use tape_writer::WriteFault;
+pub use tape_writer::system::FileFault;
+use tape_writer::system::SystemFault;
 
-/// Why a file or a stream that the program was given is of no use.
-#[derive(Clone, Copy, Debug, PartialEq, Eq, Error)]
-pub enum FileFault {
-    /// It is there already, and would be overwritten.
-    #[error("the file is there already")]
-    Exists,
-    /// It could not be opened or made.
-    #[error("the file could not be opened")]
-    NotOpened,
-    /// Reading from it failed.
-    #[error("reading the file failed")]
-    ReadFailed,
-    /// Writing to it failed, or the last flush did.
-    #[error("writing the file failed")]
-    WriteFailed,
-}
-
-impl FileFault {
-    /// The number of the fault, as the program prints it.
-    pub fn number(&self) -> u8
-        ensures { result ≡ file_number self.now }
-    {
-        match self {
-            FileFault::Exists => 1,
-            FileFault::NotOpened => 2,
-            FileFault::ReadFailed => 3,
-            FileFault::WriteFailed => 4,
-        }
+/// The number of a file's fault, as the program prints it.
+pub fn number_of_file(fault: FileFault) -> u8
+    ensures { result ≡ file_number fault }
+{
+    match fault {
+        FileFault::Exists => 1,
+        FileFault::NotOpened => 2,
+        FileFault::ReadFailed => 3,
+        FileFault::WriteFailed => 4,
     }
 }
 
@@ -79,14 +61,6 @@ pub enum ToolFault {
     Stage(StageFault),
     /// Another run has the stage open.
     StageInUse,
-}
-
-impl From<WriteFailed> for FileFault {
-    ghost from_gives = { λ _ e. e ≡ files.WriteFailed };
-
-    fn from(_fault: WriteFailed) -> FileFault {
-        FileFault::WriteFailed
-    }
 }
 
 impl From<ImageFault> for ToolFault {
@@ -135,13 +109,13 @@ impl From<ListFault> for ToolFault {
     }
 }
 
-impl From<SetFault> for ToolFault {
-    ghost from_gives = { λ fault e. e ≡ of_set fault };
+impl From<SystemFault> for ToolFault {
+    ghost from_gives = { λ fault e. e ≡ of_system fault };
 
-    fn from(fault: SetFault) -> ToolFault {
+    fn from(fault: SystemFault) -> ToolFault {
         match fault {
-            SetFault::Write(fault) => ToolFault::Write(fault),
-            SetFault::ReadFailed => ToolFault::File(FileFault::ReadFailed),
+            SystemFault::Write(fault) => ToolFault::Write(fault),
+            SystemFault::File(fault) => ToolFault::File(fault),
         }
     }
 }

@@ -4,7 +4,7 @@ ghost use Rattle.arrayvec.specs.ArrayString.{array_string_len};
 ghost use Rattle.tape_tool.specs.Telling.{numbered, place_text, image_text, tool_text, fault_text};
 ghost use Rattle.tape_tool.specs.Telling.{fault_line};
 
-use crate::fault::{Fault, ToolFault, number_of_write};
+use crate::fault::{Fault, ToolFault, number_of_file, number_of_write};
 use arrayvec::ArrayString;
 use tape_image::ImageFault;
 
@@ -44,7 +44,7 @@ fn put_tool_fault(line: &mut FaultLine, fault: ToolFault)
         ToolFault::Image(fault) => put_image_fault(line, fault),
         ToolFault::Label(fault) => put_numbered(line, "label", fault.number()),
         ToolFault::Write(fault) => put_numbered(line, "write", number_of_write(fault)),
-        ToolFault::File(fault) => put_numbered(line, "file", fault.number()),
+        ToolFault::File(fault) => put_numbered(line, "file", number_of_file(fault)),
         ToolFault::Run(fault) => put_numbered(line, "run", fault.number()),
         ToolFault::Stage(fault) => put_numbered(line, "stage", fault.number()),
         // Behind the numbers of the stage's own faults, 1 to 6.

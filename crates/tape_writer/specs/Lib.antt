@@ -20,6 +20,8 @@ pub mod LeftOf
 pub mod WriteFaults
 -- volumes without files:
 pub mod Blank
+-- images that are files:
+pub mod System
 -- what these say of cases:
 pub mod Cases
 pub mod CasesOfInputs

@@ -20,6 +20,7 @@ mod refusing;
 mod section;
 mod set;
 mod store;
+pub mod system;
 mod tape;
 mod volume;
 

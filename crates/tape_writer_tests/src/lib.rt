@@ -10,6 +10,8 @@ mod capacity;
 #[cfg(test)]
 mod devices;
 #[cfg(test)]
+mod folders;
+#[cfg(test)]
 mod handed_on;
 #[cfg(test)]
 mod images;

@@ -1,12 +1,12 @@
 //! A new file beside an output, which takes its name once it is complete.
 ghost use Rattle.std.specs.Prelude.{None};
 
-use super::folder::sync_folder_of;
 use std::alloc::{AllocError, Global};
 use std::fs::{File, Files, OpenFile};
 use std::io::{BufWriter, ErrorKind, Write};
 use std::{fs, io};
 use tape_run::{Place, WriteFailed};
+use tape_writer::system::sync_folder_of;
 
 /// Behind so many drafts of one output, left there by runs that were killed, none is made.
 const MOST_DRAFTS: u8 = 99;

@@ -1,16 +1,15 @@
 //! What `extract` looks at before it reads: its output may cost no tape and no stage.
-use super::folder::{folder_of, name_in_folder};
 use crate::fault::{Fault, FileFault};
 use crate::help;
 use crate::unfit::{Unfit, refused, same_file};
 use crate::words::Extract;
-use crate::write::image_file::fill;
 use std::alloc::Global;
 use std::fs;
 use std::fs::{File, Metadata};
 use std::io::Read;
 use std::rt::Runtime;
 use tape_image::{Ending, ImageCause, ImageFault, ImageReader};
+use tape_writer::system::{fill, folder_of, name_in_folder};
 
 /// How the front of a file is told that may keep a tape although it is no image: the place and the
 /// bytes that stand there. The last two are the checkpoints in the slots of a stage.

@@ -1,5 +1,4 @@
 //! The file in which a session is kept from day to day.
-use super::folder::sync_folder_of;
 use crate::fault::{FileFault, ToolFault};
 use crate::host::Host;
 use crate::staging::{StagingFault, open_session};
@@ -7,6 +6,7 @@ use std::fs::{File, OpenOptions, TryLockError};
 use tape_label::Field;
 use tape_run::{RunFault, Session};
 use tape_stage::{HeldFile, Stage, StageFault, held_file};
+use tape_writer::system::sync_folder_of;
 
 /// A session over the stage in a file.
 type FileSession = Session<Stage<HeldFile<File>>>;

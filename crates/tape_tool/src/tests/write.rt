@@ -1,8 +1,9 @@
 //! What `write` prints.
-use crate::write::report::{Ended, say};
+use crate::write::report::say;
 use std::process::Abort;
 use std::test::Fail;
 use tape_label::Field;
+use tape_writer::system::Ended;
 
 #[test]
 fn what_is_printed(rt: HostRuntime) -> Result<(), Fail> {

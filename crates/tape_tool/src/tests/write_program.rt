@@ -1,13 +1,7 @@
 //! `write` with files. Each test has a prefix of its own.
-use super::calls::{
-    Step, each_fails, each_is_wrong, end_of, ends, follow_all, holds, put, take_all,
-};
+use super::calls::{Step, each_fails, each_is_wrong, ends, follow_all, put};
 use crate::end::End;
-use crate::fault::{Fault, FileFault, ToolFault};
-use crate::host::Host;
-use std::alloc::{AllocError, Global};
-use std::fs;
-use std::process::Abort;
+use crate::fault::{FileFault, ToolFault};
 use std::test::Fail;
 use tape_label::LabelFault;
 use tape_writer::WriteFault;
@@ -33,42 +27,6 @@ const WORKED_VOLUME: &[Step<'_>] = &[
     Step::IsWorked("worked/ABC001.tap"),
     Step::Ends("list worked/ABC001.tap", End::Done),
 ];
-
-/// The image with so many of its bytes, and zeros behind them.
-fn changed(alloc: Global, image: &[u8], kept: usize, zeros: u8) -> Result<Vec<u8>, AllocError> {
-    let mut bytes = Vec::from_slice(alloc, image)?;
-    bytes.truncate(kept);
-    for _ in 0..zeros {
-        bytes.push(0)?;
-    }
-    Ok(bytes)
-}
-
-/// An image of these bytes is not written over.
-fn is_left_alone<H: Host + Abort>(rt: &H, image: &[u8]) -> Result<(), Fail> {
-    put(rt, "THR001.tap", image)?;
-    let end = end_of(rt, "write . THR 100000 A=there.txt")?;
-    let stays = holds(rt, "THR001.tap", image)?;
-    assert!(rt;
-        stays && end == End::Faulted(Fault::Tool(EXISTS)),
-        "{} bytes",
-        image.len()
-    );
-    Ok(())
-}
-
-/// A volume that is blank but for one byte, or for one byte more, or one less, is left alone.
-#[test]
-fn images_that_are_there(rt: HostRuntime) -> Result<(), Fail> {
-    put(&rt, "there.txt", b"AB\n")?;
-    ends(&rt, "init . THR 1", End::Done)?;
-    let blank = fs::read(&rt, "THR001.tap")?;
-    for (kept, zeros) in [(100, 1), (99, 0), (99, 1)] {
-        let image = changed(rt.alloc(), blank.as_slice(), kept, zeros)?;
-        is_left_alone(&rt, image.as_slice())?;
-    }
-    Ok(())
-}
 
 /// What cannot be read as a file is no image that could be written over.
 const FOLDER: &[Step<'_>] = &[
@@ -238,23 +196,4 @@ fn faults_of_write(rt: HostRuntime) -> Result<(), Fail> {
     each_fails(&rt, FAULTS)?;
     let line = "write . FLC 1042 A=nine.txt --format S --block 18";
     ends(&rt, line, End::Done)
-}
-
-const FULL: &[Step<'_>] = &[
-    Step::Folder("full"),
-    Step::Fails(
-        "write full FUL 1042 A=full.bin --format S --block 18 --form raw",
-        ToolFault::Write(WriteFault::OutOfVolumes),
-    ),
-    Step::HasLength("full/FUL255.tap", 1032),
-    Step::IsMissing("full/FUL257.tap"),
-];
-
-/// Volumes 1 to 256 are there, and no more: each takes 22 blocks of 18 bytes, of which 13 are the
-/// record's.
-#[test]
-fn the_last_volume(rt: HostRuntime) -> Result<(), Fail> {
-    let bytes = Vec::from_elem(rt.alloc(), b'9', 13 * 22 * 256)?;
-    put(&rt, "full.bin", bytes.as_slice())?;
-    take_all(&rt, FULL)
 }

@@ -2,40 +2,39 @@
 ghost use Rattle.std.specs.Prelude.{◌≡◌, ◌==◌, IfOk, IfErr};
 ghost use Rattle.std.specs.List.{before_first, after_first};
 ghost use Rattle.tape_tool.specs.Writing.{record_length, IsNoShape, plain_head};
-ghost use Rattle.tape_writer.specs.Blank.{volume_id};
 
-use crate::fault::{FileFault, ToolFault};
-use crate::write::image_files::{ImageFiles, VOLUMES};
-use crate::write::input_file::InputFile;
+use crate::fault::ToolFault;
 use crate::write::report::say;
 use crate::write::words::WriteOrder;
 use std::io;
 use std::rt::Runtime;
 use tape_blocks::Shape;
 use tape_label::{Field, Format, Head1};
-use tape_writer::{
-    Input, Prefix, RefusedSet, SetPlan, WriteFault, WrittenSet, blank_volume, write_set,
-};
+use tape_writer::system::{FolderPlan, InputFile, write_in_folder};
+use tape_writer::{Input, WriteFault};
 
 /// Writes the files on volumes, and says on which. One input and one image are open at a time.
 ///
 /// Faults are looked for in this order: the shape, the files' identifiers, their inputs, and then
 /// what the engine finds.
 pub fn write<R: Runtime + AllocGlobal>(rt: &R, order: &WriteOrder<'_>) -> Result<(), ToolFault> {
-    let shape = shape_of(order)?;
+    let plan = plan_of(order)?;
     check_ids(order)?;
     let mut files = find_inputs(rt, order)?;
-    let plan = plan_of(rt, order, shape)?;
-    let images = ImageFiles::new(rt, order.folder, order.prefix).map_err(|_| no_memory())?;
-    match write_set(rt.alloc(), plan, files.as_mut_slice(), images) {
-        Ok(done) => end(rt, &done),
-        Err(refused) => Err(told(refused)),
-    }
+    let ended = write_in_folder(rt, &plan, files.as_mut_slice())?;
+    let count = files.len() as u64;
+    Ok(say(&mut io::writer(rt), count, ended.as_slice())?)
 }
 
-/// No memory for what the command itself holds.
-fn no_memory() -> ToolFault {
-    ToolFault::Write(WriteFault::OutOfMemory)
+/// Where and how the set is to be written.
+fn plan_of<'a>(order: &WriteOrder<'a>) -> Result<FolderPlan<'a>, ToolFault> {
+    Ok(FolderPlan {
+        folder: order.folder,
+        prefix: order.prefix,
+        capacity: order.capacity,
+        shape: shape_of(order)?,
+        form: order.form,
+    })
 }
 
 /// The shape of all files. What a shape cannot be is told of as of one that is not written.
@@ -134,65 +133,10 @@ fn find_inputs<'a, R: Runtime + AllocGlobal>(
     let mut inputs = Vec::new(rt.alloc());
     for word in order.files.as_slice() {
         let (head, (_, path)) = (head_for(word)?, split(word));
-        let reader = InputFile::find(rt, path).map_err(ToolFault::File)?;
-        inputs
-            .push(Input { head, reader })
-            .map_err(|_| no_memory())?;
+        let reader = InputFile::find(rt, path)?;
+        if inputs.push(Input { head, reader }).is_err() {
+            return Err(ToolFault::Write(WriteFault::OutOfMemory));
+        }
     }
     Ok(inputs)
-}
-
-/// The plan of the set, on as many volumes as it may have.
-fn plan_of<R: AllocGlobal>(
-    rt: &R,
-    order: &WriteOrder<'_>,
-    shape: Shape,
-) -> Result<SetPlan, ToolFault> {
-    let mut volumes = Vec::new(rt.alloc());
-    for number in 1..=VOLUMES {
-        volumes
-            .push(blank_volume(order.prefix, number))
-            .map_err(|_| no_memory())?;
-    }
-    Ok(SetPlan {
-        set_id: set_id(order.prefix),
-        volumes,
-        capacity: order.capacity,
-        shape,
-        form: order.form,
-    })
-}
-
-/// The set has the identifier of its first volume.
-fn set_id(prefix: Prefix) -> Field<6>
-    ensures { result ≡ volume_id prefix.characters 1 }
-{
-    blank_volume(prefix, 1).volume
-}
-
-/// Says what was written.
-fn end<R: Runtime + AllocGlobal>(
-    rt: &R,
-    done: &WrittenSet<ImageFiles<'_, R>>,
-) -> Result<(), ToolFault> {
-    say(&mut io::writer(rt), done.files as u64, done.images.ended()).map_err(ToolFault::File)
-}
-
-/// What to tell of a refusal: in place of a device's fault, that of the file. What is held of the
-/// volume under way is written first.
-fn told<R: Runtime + AllocGlobal>(refused: RefusedSet<ImageFiles<'_, R>>) -> ToolFault {
-    let RefusedSet {
-        fault,
-        images: _ended,
-        under_way,
-    } = refused;
-    let fault = ToolFault::from(fault);
-    let of_file = match under_way {
-        Some(image) => image.into_device().end(),
-        None => None,
-    };
-    match of_file {
-        Some(of_file) if fault == ToolFault::Write(WriteFault::Device) => of_file,
-        _ => fault,
-    }
 }

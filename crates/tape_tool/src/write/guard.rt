@@ -2,15 +2,14 @@
 use crate::explain::Site;
 use crate::fault::{Fault, FileFault};
 use crate::help;
-use crate::init::put_image_path;
 use crate::unfit::{Unfit, refused, same_file};
 use crate::write::command::split;
-use crate::write::image_files::VOLUMES;
 use crate::write::words::WriteOrder;
 use std::fs;
 use std::fs::Metadata;
 use std::rt::Runtime;
 use tape_label::Field;
+use tape_writer::system::{VOLUMES, put_image_path};
 
 /// Judges the files that the words name. None is opened, made or changed.
 ///

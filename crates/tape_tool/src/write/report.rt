@@ -4,29 +4,20 @@ ghost use Rattle.std.specs.Io.KnownBytes.{Appends};
 ghost use Rattle.arrayvec.specs.ArrayVec.{array_vec_len};
 ghost use Rattle.tape_tool.specs.Report.{volume_line, files_line, report};
 
-use crate::fault::FileFault;
 use arrayvec::ArrayVec;
 use std::io::Write;
-use tape_label::Field;
-use tape_run::{flush, write_text};
+use tape_run::{WriteFailed, flush, write_text};
+use tape_writer::system::Ended;
 
 /// Room for the longest line, which is that of all.
 type Line = ArrayVec<u8, 64>;
-
-/// A volume that was written.
-#[derive(Clone, Copy)]
-pub struct Ended {
-    pub volume: Field<6>,
-    /// How many bytes its image has, its end word included.
-    pub size: u64,
-}
 
 /// Prints a line for each volume, and one that says how many files and volumes there are.
 ///
 /// # Errors
 ///
 /// `WriteFailed` where the writer fails, also where its flush does.
-pub fn say<W: Write>(writer: &mut W, files: u64, ended: &[Ended]) -> Result<(), FileFault>
+pub fn say<W: Write>(writer: &mut W, files: u64, ended: &[Ended]) -> Result<(), WriteFailed>
     ensures ok { OnOk result
         (Appends (W.contents writer.old) (W.contents writer.new) (report files ended.now)) }
 {
@@ -34,7 +25,7 @@ pub fn say<W: Write>(writer: &mut W, files: u64, ended: &[Ended]) -> Result<(), 
         write_text(writer, &volume_line(volume))?;
     }
     write_text(writer, &files_line(files, ended.len() as u64))?;
-    Ok(flush(writer)?)
+    flush(writer)
 }
 
 /// The line of a volume.

@@ -1,5 +1,5 @@
 //! Inputs, each opened when its turn comes.
-use crate::fault::FileFault;
+use crate::system::fault::FileFault;
 use std::fs::{File, Files};
 use std::io::{Read, Result};
 use std::{fs, mem};

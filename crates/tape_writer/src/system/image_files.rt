@@ -1,15 +1,23 @@
 //! The files of a set's images, one after another.
 ghost use Rattle.std.specs.Prelude.{◌-◌};
 
-use crate::write::image_file::ImageFile;
-use crate::write::report::Ended;
+use crate::blank::{Prefix, blank_volume};
+use crate::store::ImageStore;
+use crate::system::image_file::ImageFile;
 use std::alloc::{AllocError, Global};
 use std::rt::Runtime;
-use tape_label::Vol1;
-use tape_writer::{ImageStore, Prefix, blank_volume};
+use tape_label::{Field, Vol1};
 
-/// How many volumes a set has at most.
+/// How many volumes a set in a folder has at most.
 pub const VOLUMES: u16 = 256;
+
+/// A volume that was written.
+#[derive(Clone, Copy)]
+pub struct Ended {
+    pub volume: Field<6>,
+    /// How many bytes its image has, its end word included.
+    pub size: u64,
+}
 
 /// Lends the file of each image in turn. One that has ended is closed, and noted. Of what stands in
 /// files nothing is claimed.
@@ -40,8 +48,8 @@ impl<'a, R: Runtime + AllocGlobal> ImageFiles<'a, R> {
     }
 
     /// The volumes whose images ended, and their sizes.
-    pub fn ended(&self) -> &[Ended] {
-        self.ended.as_slice()
+    pub fn into_ended(self) -> Vec<Ended> {
+        self.ended
     }
 }
 

@@ -1,17 +1,20 @@
 //! Files of images, made when they are first written to.
-ghost use Rattle.std.specs.Prelude.{◌≤◌, length, IfOk};
-
-use crate::extract::folder::sync_folder_of;
-use crate::fault::{FileFault, ToolFault};
-use crate::init::image_path;
+use crate::blank::{BLANK, BlankImage, Prefix, blank_image, blank_volume};
+use crate::fault::WriteFault;
+use crate::system::bytes::{fill, put_all};
+use crate::system::fault::{FileFault, SystemFault};
+use crate::system::folder::sync_folder_of;
+use crate::system::paths::image_path;
 use std::fs::{Files, OpenFile, OpenOptions};
-use std::io::{Error, ErrorKind, Read, Result, Write};
+use std::io;
+use std::io::{Error, ErrorKind, Read, Write};
 use std::rt::Runtime;
-use tape_run::write_text;
-use tape_writer::{BLANK, Prefix, WriteFault, blank_image, blank_volume};
 
 /// How many bytes are held before they are written to the file, at most.
 const ROOM: usize = 8_192;
+
+/// A growth was refused.
+pub const NO_MEMORY: SystemFault = SystemFault::Write(WriteFault::OutOfMemory);
 
 /// The file of an image. It is made at the first write; one that is there has to be a blank volume.
 ///
@@ -26,7 +29,7 @@ pub struct ImageFile<'a, R: Runtime + AllocGlobal> {
     file: Option<<R as Files>::File>,
     held: Vec<u8>,
     size: u64,
-    fault: Option<ToolFault>,
+    fault: Option<SystemFault>,
 }
 
 impl<'a, R: Runtime + AllocGlobal> ImageFile<'a, R> {
@@ -50,7 +53,7 @@ impl<'a, R: Runtime + AllocGlobal> ImageFile<'a, R> {
     }
 
     /// Writes what is held, and says what failed, if anything did.
-    pub fn end(&mut self) -> Option<ToolFault> {
+    pub fn end(&mut self) -> Option<SystemFault> {
         if self.fault.is_none() {
             self.pass_on();
         }
@@ -58,22 +61,23 @@ impl<'a, R: Runtime + AllocGlobal> ImageFile<'a, R> {
     }
 
     /// Has the disk keep what was written, and the file's name.
-    fn sync(&self) -> std::result::Result<(), ToolFault> {
+    fn sync(&self) -> Result<(), SystemFault> {
         let Some(file) = &self.file else {
             return Ok(());
         };
         let path = self.path()?;
         if file.sync_all().is_err() || sync_folder_of(self.rt, path.as_str()).is_err() {
-            return Err(ToolFault::File(FileFault::WriteFailed));
+            return Err(SystemFault::File(FileFault::WriteFailed));
         }
         Ok(())
     }
 
     /// Where the file stands.
-    fn path(&self) -> std::result::Result<String, ToolFault> {
-        image_path(self.rt, self.folder, self.prefix, self.number).map_err(|_| ToolFault::Write(
-            WriteFault::OutOfMemory,
-        ))
+    fn path(&self) -> Result<String, SystemFault> {
+        match image_path(self.rt.alloc(), self.folder, self.prefix, self.number) {
+            Ok(path) => Ok(path),
+            Err(_) => Err(NO_MEMORY),
+        }
     }
 
     /// Opens the file, once.
@@ -82,7 +86,7 @@ impl<'a, R: Runtime + AllocGlobal> ImageFile<'a, R> {
             return;
         }
         if self.held.reserve(ROOM).is_err() {
-            self.fault = Some(ToolFault::Write(WriteFault::OutOfMemory));
+            self.fault = Some(NO_MEMORY);
             return;
         }
         match self.open() {
@@ -92,16 +96,18 @@ impl<'a, R: Runtime + AllocGlobal> ImageFile<'a, R> {
     }
 
     /// Makes the file, or takes the one that is there, if it is a blank volume.
-    fn open(&self) -> std::result::Result<<R as Files>::File, ToolFault> {
+    fn open(&self) -> Result<<R as Files>::File, SystemFault> {
         let path = self.path()?;
         let mut options = OpenOptions::new();
         options.write(true).create_new(true);
         match options.open(self.rt, path.as_str()) {
             Ok(file) => Ok(file),
             Err(error) if error.kind() == ErrorKind::AlreadyExists => {
-                Ok(open_blank(self.rt, path.as_str(), self.prefix, self.number)?)
+                open_blank(self.rt, path.as_str(), self.prefix, self.number).map_err(
+                    SystemFault::File,
+                )
             }
-            Err(_) => Err(ToolFault::File(FileFault::NotOpened)),
+            Err(_) => Err(SystemFault::File(FileFault::NotOpened)),
         }
     }
 
@@ -110,8 +116,8 @@ impl<'a, R: Runtime + AllocGlobal> ImageFile<'a, R> {
         let Some(file) = &mut self.file else {
             return;
         };
-        if let Err(fault) = write_text(file, self.held.as_slice()) {
-            self.fault = Some(ToolFault::from(fault));
+        if let Err(fault) = put_all(file, self.held.as_slice()) {
+            self.fault = Some(SystemFault::File(fault));
         }
         self.held.clear();
     }
@@ -127,14 +133,14 @@ impl<'a, R: Runtime + AllocGlobal> ImageFile<'a, R> {
         let Some(file) = &mut self.file else {
             return;
         };
-        if let Err(fault) = write_text(file, bytes) {
-            self.fault = Some(ToolFault::from(fault));
+        if let Err(fault) = put_all(file, bytes) {
+            self.fault = Some(SystemFault::File(fault));
         }
     }
 }
 
 impl<R: Runtime + AllocGlobal> Write for ImageFile<'_, R> {
-    fn write(&mut self, buf: &[u8]) -> Result<usize> {
+    fn write(&mut self, buf: &[u8]) -> io::Result<usize> {
         self.make_ready();
         if self.fault.is_none() {
             self.hold(buf);
@@ -146,7 +152,7 @@ impl<R: Runtime + AllocGlobal> Write for ImageFile<'_, R> {
         Err(Error::from(ErrorKind::Other))
     }
 
-    fn flush(&mut self) -> Result<()> {
+    fn flush(&mut self) -> io::Result<()> {
         if self.end().is_none() {
             self.fault = self.sync().err();
         }
@@ -163,7 +169,7 @@ fn open_blank<R: Runtime>(
     path: &str,
     prefix: Prefix,
     number: u16,
-) -> std::result::Result<<R as Files>::File, FileFault> {
+) -> Result<<R as Files>::File, FileFault> {
     let mut options = OpenOptions::new();
     options.read(true).write(true);
     let Ok(mut there) = options.open(rt, path) else {
@@ -180,29 +186,35 @@ fn open_blank<R: Runtime>(
 }
 
 /// Whether the reader gives just the image of this blank volume.
-fn is_blank<R: Read>(
-    reader: &mut R,
-    prefix: Prefix,
-    number: u16,
-) -> std::result::Result<bool, FileFault> {
+fn is_blank<R: Read>(reader: &mut R, prefix: Prefix, number: u16) -> Result<bool, FileFault> {
     // One byte more than a blank volume has.
     let mut bytes = [0; BLANK + 1];
     let count = fill(reader, &mut bytes)?;
-    let blank = blank_image(&blank_volume(prefix, number.min(999)));
-    Ok(&bytes[..count] == blank.as_slice())
+    Ok(&bytes[..count] == image_of(prefix, number).as_slice())
 }
 
-/// Reads until the room is full or nothing follows, and says how many bytes came.
-pub fn fill<R: Read>(reader: &mut R, room: &mut [u8]) -> std::result::Result<usize, FileFault>
-    ensures within { IfOk result (λ count. count ≤ length room.new) }
-{
-    let mut count = 0;
-    'reads: for _ in 0..room.len() {
-        match reader.read(&mut room[count..]) {
-            Ok(0) => break,
-            Ok(more) => count += more,
-            Err(_) => return Err(FileFault::ReadFailed),
-        }
+/// Makes the image of a volume without files, with this number from 1 to 999, in a new file.
+///
+/// # Errors
+///
+/// `Exists` where something is there, `NotOpened` where the file can't be made, `WriteFailed` where
+/// it takes not all.
+pub fn make_image<R: Runtime>(
+    rt: &R,
+    path: &str,
+    prefix: Prefix,
+    number: u16,
+) -> Result<(), FileFault> {
+    let mut options = OpenOptions::new();
+    options.write(true).create_new(true);
+    match options.open(rt, path) {
+        Ok(mut file) => put_all(&mut file, &image_of(prefix, number)),
+        Err(error) if error.kind() == ErrorKind::AlreadyExists => Err(FileFault::Exists),
+        Err(_) => Err(FileFault::NotOpened),
     }
-    Ok(count)
+}
+
+/// The image of a volume without files.
+fn image_of(prefix: Prefix, number: u16) -> BlankImage {
+    blank_image(&blank_volume(prefix, number.min(999)))
 }

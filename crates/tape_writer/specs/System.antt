@@ -1,0 +1,11 @@
+-- Why a set was not written on images that are files.
+use Rattle.tape_writer.specs.declared.fault.SetFault.{SetFault}
+use Rattle.tape_writer.specs.declared.fault.SetFault.TheVariants as sets
+use Rattle.tape_writer.specs.declared.system.fault.FileFault.TheVariants as files
+use Rattle.tape_writer.specs.declared.system.fault.SystemFault.{SystemFault}
+use Rattle.tape_writer.specs.declared.system.fault.SystemFault.TheVariants.{File, Write}
+
+-- what is told where a set was not written
+abbrev pub of_set : SetFault → SystemFault
+of_set (sets.Write fault) = Write fault
+of_set sets.ReadFailed = File files.ReadFailed

@@ -1,0 +1,32 @@
+//! Where the images of a set stand.
+use crate::blank::Prefix;
+use std::alloc::{AllocError, Global};
+use std::io::Write;
+
+/// Where the image of a volume stands: in this folder, under its identifier and `.tap`.
+pub fn image_path(
+    alloc: Global,
+    folder: &str,
+    prefix: Prefix,
+    number: u16,
+) -> Result<String, AllocError> {
+    let mut path = String::new(alloc);
+    put_image_path(&mut path, folder, prefix, number)?;
+    Ok(path)
+}
+
+/// Writes behind a text where the image of a volume stands.
+pub fn put_image_path(
+    path: &mut String,
+    folder: &str,
+    prefix: Prefix,
+    number: u16,
+) -> Result<(), AllocError> {
+    path.push_str(folder)?;
+    path.push_str("/")?;
+    for byte in prefix.characters {
+        path.push(char::from(byte))?;
+    }
+    write!(path, "{number:03}.tap")?;
+    Ok(())
+}

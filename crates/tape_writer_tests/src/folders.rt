@@ -1,0 +1,212 @@
+//! Images and inputs that are files. Each test has a folder of its own.
+
+use crate::inputs::payroll;
+use crate::sets::{FIXED, head, spanned};
+use crate::volumes::one_volume;
+use std::alloc::{AllocError, Global};
+use std::fs;
+use std::fs::File;
+use std::io::{Read, Write};
+use std::process::Abort;
+use std::rt::Runtime;
+use std::test::Fail;
+use tape_blocks::{Form, Shape};
+use tape_writer::system::{
+    FileFault, FolderPlan, InputFile, SystemFault, image_path, make_image, write_in_folder,
+};
+use tape_writer::{Input, Prefix, WriteFault};
+
+/// The image of the first volume without files: its label, two tape marks and the end of medium.
+const BLANK: &[u8] = b"\
+    P\0\0\0VOL1ABC001                                                                     4P\0\0\0\
+    \0\0\0\0\0\0\0\0\xFF\xFF\xFF\xFF";
+
+const ABC: Prefix = Prefix {
+    characters: *b"ABC",
+};
+
+/// A file of these bytes.
+fn put<R: Runtime>(rt: &R, path: &str, bytes: &[u8]) -> Result<(), Fail> {
+    let mut file = File::create(rt, path)?;
+    Ok(file.write_all(bytes)?)
+}
+
+/// The file has these bytes.
+fn holds<R: Runtime + AllocGlobal + Abort>(rt: &R, path: &str, bytes: &[u8]) -> Result<(), Fail> {
+    let found = fs::read(rt, path)?;
+    assert!(rt; found.as_slice() == bytes, "{path}");
+    Ok(())
+}
+
+/// Folders and numbers of volumes, what comes of making their images, and where each stands. The
+/// second and the third are there.
+const MADE: &[(&str, u16, Option<FileFault>, &str)] = &[
+    ("made", 1, None, "made/ABC001.tap"),
+    ("made", 1, Some(FileFault::Exists), "made/ABC001.tap"),
+    ("made", 20, Some(FileFault::Exists), "made/ABC020.tap"),
+    (
+        "missing",
+        1,
+        Some(FileFault::NotOpened),
+        "missing/ABC001.tap",
+    ),
+];
+
+#[test]
+fn blank_images(rt: HostRuntime) -> Result<(), Fail> {
+    fs::create_dir(&rt, "made")?;
+    put(&rt, "made/ABC020.tap", b"kept")?;
+    for (folder, number, wanted, place) in MADE {
+        let path = image_path(rt.alloc(), *folder, ABC, *number)?;
+        let fault = make_image(&rt, path.as_str(), ABC, *number).err();
+        assert!(rt;
+            fault == *wanted && path.as_str() == *place,
+            "{place}: {fault:?}"
+        );
+    }
+    holds(&rt, "made/ABC001.tap", BLANK)?;
+    holds(&rt, "made/ABC020.tap", b"kept")
+}
+
+/// Writes the bytes as a file on volumes of this folder, and says on how many, of which the last
+/// has so many bytes.
+fn write<R: Runtime + AllocGlobal>(
+    rt: &R,
+    folder: &str,
+    capacity: u32,
+    shape: Shape,
+    bytes: &[u8],
+) -> Result<(usize, u64), SystemFault> {
+    let plan = FolderPlan {
+        folder,
+        prefix: ABC,
+        capacity,
+        shape,
+        form: Form::Raw,
+    };
+    let mut files = [Input {
+        head: head(),
+        reader: bytes,
+    }];
+    let ended = write_in_folder(rt, &plan, &mut files)?;
+    let size = match ended.as_slice() {
+        [.., last] => last.size,
+        [] => 0,
+    };
+    Ok((ended.len(), size))
+}
+
+/// So many of the first bytes of the blank image, and zeros behind them.
+fn changed(alloc: Global, kept: usize, zeros: u8) -> Result<Vec<u8>, AllocError> {
+    let mut bytes = Vec::from_slice(alloc, BLANK)?;
+    bytes.truncate(kept);
+    for _ in 0..zeros {
+        bytes.push(0)?;
+    }
+    Ok(bytes)
+}
+
+/// How many bytes of the blank image are there, and how many zeros behind them. All but the last
+/// are left alone.
+const THERE: &[(usize, u8)] = &[(100, 1), (99, 0), (99, 1), (0, 0), (100, 0)];
+
+#[test]
+fn images_that_are_there(rt: HostRuntime) -> Result<(), Fail> {
+    let path = "there/ABC001.tap";
+    fs::create_dir(&rt, "there")?;
+    for (kept, zeros) in THERE {
+        let image = changed(rt.alloc(), *kept, *zeros)?;
+        put(&rt, path, image.as_slice())?;
+        let fault = write(&rt, "there", 100_000, spanned(800), b"AB").err();
+        let stays = fs::read(&rt, path)?.as_slice() == image.as_slice();
+        let wanted = (*kept, *zeros) != (100, 0);
+        let left = fault == Some(SystemFault::File(FileFault::Exists));
+        assert!(rt;
+            stays == wanted && left == wanted,
+            "{kept} {zeros}: {fault:?}"
+        );
+    }
+    Ok(())
+}
+
+/// Writes the worked records, and this comes of it.
+fn comes_to<R: Runtime + AllocGlobal + Abort>(
+    rt: &R,
+    folder: &str,
+    capacity: u32,
+    wanted: Result<(usize, u64), SystemFault>,
+) -> Result<(), Fail> {
+    let records = payroll(rt.alloc(), b"")?;
+    let written = write(rt, folder, capacity, FIXED, records.as_slice());
+    assert!(rt; written == wanted, "{folder}: {written:?}");
+    Ok(())
+}
+
+/// The worked volume; over it no more; on two volumes, of which the second is there already; and
+/// where something else stands in the place of the first.
+#[test]
+fn a_set_in_a_folder(rt: HostRuntime) -> Result<(), Fail> {
+    let exists = Err(SystemFault::File(FileFault::Exists));
+    let not_opened = Err(SystemFault::File(FileFault::NotOpened));
+    for folder in ["one", "second", "folder", "folder/ABC001.tap"] {
+        fs::create_dir(&rt, folder)?;
+    }
+    put(&rt, "second/ABC002.tap", b"kept")?;
+    comes_to(&rt, "one", 100_000, Ok((1, 2_484)))?;
+    comes_to(&rt, "one", 100_000, exists)?;
+    comes_to(&rt, "second", 2_500, exists)?;
+    comes_to(&rt, "folder", 100_000, not_opened)?;
+    comes_to(&rt, "missing", 100_000, not_opened)?;
+    let records = payroll(rt.alloc(), b"")?;
+    let wanted = one_volume(rt.alloc(), records.as_slice())?;
+    holds(&rt, "one/ABC001.tap", wanted.as_slice())?;
+    holds(&rt, "second/ABC002.tap", b"kept")
+}
+
+/// Volumes 1 to 256 are there, and no more: each takes 22 blocks of 18 bytes, of which 13 are the
+/// record's.
+#[test]
+fn the_last_volume(rt: HostRuntime) -> Result<(), Fail> {
+    fs::create_dir(&rt, "full")?;
+    let bytes = Vec::from_elem(rt.alloc(), b'9', 13 * 22 * 256)?;
+    let fault = write(&rt, "full", 1_042, spanned(18), bytes.as_slice()).err();
+    let full = SystemFault::Write(WriteFault::OutOfVolumes);
+    assert!(rt; fault == Some(full), "{fault:?}");
+    assert!(rt; fs::read(&rt, "full/ABC255.tap")?.len() == 1_032);
+    assert!(rt; fs::metadata(&rt, "full/ABC257.tap").is_err());
+    Ok(())
+}
+
+/// Paths of inputs, and the fault at which there is none.
+const INPUTS: &[(&str, Option<FileFault>)] = &[
+    ("input.txt", None),
+    ("missing.txt", Some(FileFault::NotOpened)),
+    (".", Some(FileFault::ReadFailed)),
+];
+
+#[test]
+fn inputs_are_looked_for(rt: HostRuntime) -> Result<(), Fail> {
+    put(&rt, "input.txt", b"AB\n")?;
+    for (path, wanted) in INPUTS {
+        let fault = InputFile::find(&rt, *path).err();
+        assert!(rt; fault == *wanted, "{path}: {fault:?}");
+    }
+    Ok(())
+}
+
+/// An input is opened when it is first read, and stays at its end.
+#[test]
+fn an_input_is_read(rt: HostRuntime) -> Result<(), Fail> {
+    put(&rt, "late.txt", b"AB\n")?;
+    let Ok(mut input) = InputFile::find(&rt, "late.txt") else {
+        return Err(Fail::from("an input"));
+    };
+    put(&rt, "late.txt", b"CDE\n")?;
+    let mut room = [0; 3];
+    for wanted in [3, 1, 0, 0] {
+        let count = input.read(&mut room)?;
+        assert!(rt; count == wanted, "{count}");
+    }
+    assert!(rt; room == *b"\nDE");
+    Ok(())
+}
