@@ -9,6 +9,7 @@ use Rattle.tape_stage.specs.Body.{body_of}
 use Rattle.tape_stage.specs.Staged.{gate_at, body_at, read_slot, slot_at, best, Staged, StagedIn}
 use Rattle.tape_stage.specs.Staged.{Holding, Loses, Ready, StandsLike}
 use Rattle.tape_stage.specs.Found.{IsFound}
+use Rattle.tape_stage.specs.Salvaged.{RemainsNone}
 use Rattle.tape_core.specs.Point.{Point}
 use Rattle.tape_stage.specs.declared.found.Found.{Found}
 use Rattle.tape_stage.proofs.Tears.{slot_alike, gate_alike, closed_none, open_reads}
@@ -30,17 +31,17 @@ found_alike found old new same is = record {
       (sym (gate_alike (not found.in_second) 256 old new (omega arith) same));
 }
 
-pub none_staged : (front bytes : List ℕ) (g : ℕ) (point : Point) (parts : List Portion)
-    → take 256 front ≡ take 256 bytes → slot_at false front ≡ None → slot_at true front ≡ None
-    → Staged bytes g point parts → ⊥
-none_staged front bytes g point parts same no_first no_second staged =
+-- nothing remains where no slot counts
+pub none_remains : (front bytes : List ℕ) → take 256 front ≡ take 256 bytes
+    → slot_at false front ≡ None → slot_at true front ≡ None → RemainsNone bytes
+none_remains front bytes same no_first no_second g point broken parts remains =
     let first : slot_at false bytes ≡ None =
     sym (slot_alike false 256 bytes front (omega arith) same) ∙ no_first in
     let second : slot_at true bytes ≡ None =
     sym (slot_alike true 256 bytes front (omega arith) same) ∙ no_second in
     let none : best (slot_at false bytes) (slot_at true bytes) ≡ None =
     ap (λ (s : Option Slot). best s (slot_at true bytes)) first ∙ second in
-    cc (none, staged.slot)
+    cc (none, remains.slot)
 
 slot_gate : (gate : ℕ) (body : List ℕ) (found : Slot) → read_slot gate body ≡ Some found
     → (gate ≡ 79) × (body_of body ≡ Some found)

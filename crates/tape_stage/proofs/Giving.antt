@@ -67,6 +67,16 @@ length-between : (place end : ℕ) (bytes : List ℕ) → place ≤ end → end 
 length-between place end bytes low high =
     length-take-le (end - place) (drop place bytes) (omega (arith, length-drop place bytes))
 
+-- where nothing is ahead is the end
+pub none_ends : (place end : ℕ) (bytes : List ℕ) → AheadIn place end bytes [] → end ≡ place
+none_ends place end bytes ahead =
+    omega (
+      arith,
+      length-between place end bytes ahead.low ahead.high,
+      ap length ahead.frames_are,
+      ahead.low,
+    )
+
 split_ahead : (place end : ℕ) (bytes : List ℕ) (part : Portion) (rest : List Portion) → place ≤ end
     → end ≤ length bytes → take (end - place) (drop place bytes) ≡ frame part ++ frames rest
     → length part.bytes ≤ 99999 → AllShort rest

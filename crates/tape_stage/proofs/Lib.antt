@@ -1,4 +1,3 @@
-pub mod Ahead
 pub mod Assembled
 pub mod Backs
 pub mod Bodies
@@ -6,6 +5,7 @@ pub mod CallLaws
 pub mod Did
 pub mod Examples
 pub mod ExamplesOfLaws
+pub mod ExamplesOfSalvage
 pub mod FieldLaws
 pub mod Finds
 pub mod FrameLaws
@@ -23,6 +23,7 @@ pub mod Passing
 pub mod PointFields
 pub mod PointLaws
 pub mod Refusals
+pub mod Remaining
 pub mod Results
 pub mod SlotSteps
 pub mod Spellings
@@ -34,3 +35,4 @@ pub mod TextLaws
 pub mod Torn
 pub mod Walks
 mod MistakesOfRefusals
+mod MistakesOfSalvage

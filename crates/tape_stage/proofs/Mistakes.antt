@@ -17,6 +17,7 @@ use Rattle.tape_stage.specs.Parts.{frames, IsFront}
 use Rattle.tape_stage.specs.Staged.{best, blank, body_at, gate_at, slot_at, Staged}
 use Rattle.tape_stage.specs.Stages.{IsStage, Holds}
 use Rattle.tape_stage.specs.declared.stage.StageFault.TheVariants.{Device, Full, NoPoint}
+use Rattle.tape_stage.proofs.Once.{staged_remains}
 use Rattle.tape_stage.proofs.opening.find_on.Reads as find_on
 use Rattle.tape_stage.proofs.sinking.StagePartWalk.next_part.Reads as next_part
 use Rattle.tape_stage.proofs.sinking.StagePartWalk.rewind.Reads as rewind
@@ -135,7 +136,8 @@ no_stage_emptied D L g d κs a refused s l w ten none =
 no_point_of_256_bytes : (D : _) (L : _) (g : _) (d : _) (κs : _) (a : _) (s : _) (point : Point)
     → find_on.Learnt-named D L g d κs a (Err NoPoint) s → g.is_honest a.0.now
     → g.length_of a.0.now ≡ 256 → Staged (g.seen a.0.now) 1 point [] → ⊥
-no_point_of_256_bytes D L g d κs a s point l honest size staged = l.none honest tt 1 point [] staged
+no_point_of_256_bytes D L g d κs a s point l honest size staged =
+    l.none honest tt 1 point None [] (staged_remains (g.seen a.0.now) 1 point [] staged)
 
 -- ---- what is durable
 

@@ -1,66 +1,153 @@
 -- A stage file stands for one thing.
-use Rattle.std.proofs.Common.{◌≡◌, inl, inr, ℕ, not, ◌+◌, List}
-use Rattle.std.proofs.Common.{[], ◌∷◌, length, Some, refl, sym, ap, ◌∙◌, subst}
+use Rattle.std.proofs.Common.{◌≡◌, inl, inr, ℕ, not, ◌+◌, ◌-◌, ◌≤◌, ◌<◌, min, List}
+use Rattle.std.proofs.Common.{[], ◌∷◌, length, Some, refl, sym, ap, ◌∙◌, subst, arith}
+use Rattle.std.specs.Prelude.{Option, None, IfSome}
+use Rattle.tape_blocks.specs.declared.part.Span.{Span}
 use Rattle.tape_blocks.specs.Block.{Portion}
 use Rattle.tape_stage.specs.Body.{Slot}
-use Rattle.tape_stage.specs.Staged.{Holding}
-use Rattle.tape_stage.specs.Frames.{AheadIn}
+use Rattle.tape_stage.specs.Frames.{AheadIn, IsFrameAt, NoFrameAt}
+use Rattle.tape_stage.specs.Salvaged.{BreaksAt, FramedTo, Remains, RemainsOnce}
+use Rattle.tape_stage.specs.Staged.{Staged}
 use Rattle.tape_stage.specs.StageLaws.{StandsOnce, ReadsOneOf, NamedStands}
 use Rattle.tape_stage.specs.StageLaws.{EitherStands}
 use Rattle.tape_core.specs.Point.{Point}
 use Rattle.tape_stage.proofs.Tears.{staged_named}
-use Rattle.tape_stage.proofs.Giving.{one_ahead, one_frame, more_ahead, held_ahead}
+use Rattle.tape_stage.proofs.Giving.{one_ahead, one_frame, more_ahead, held_ahead, none_ends}
 
 same_parts : (a b : Portion) (xs ys : List Portion) → a.span ≡ b.span → a.bytes ≡ b.bytes → xs ≡ ys
     → a ∷ xs ≡ b ∷ ys
 same_parts a b xs ys first second rest = rw (first, second, rest) refl
 
--- what is ahead is ahead in one way
-pub ahead_once : (parts more : List Portion) (place end : ℕ) (bytes : List ℕ)
-    → AheadIn place end bytes parts → AheadIn place end bytes more → parts ≡ more
-ahead_once [] [] place end bytes first second = refl
-ahead_once [] (b ∷ ys) place end bytes first second =
-    let low = more_ahead place end bytes b ys second in
-    let one = one_ahead place end bytes [] low first in
-    absurd (cc one.is)
-ahead_once (a ∷ xs) more place end bytes first second =
-    let low = more_ahead place end bytes a xs first in
-    let one = one_ahead place end bytes (a ∷ xs) low first in
-    let two = one_ahead place end bytes more low second in
-    let same = one_frame place end bytes one.part.span two.part.span one.part.bytes two.part.bytes
-    one.frame_is two.frame_is in
-    let rest_is : xs ≡ one.rest = cc one.is in
-    let next : AheadIn (place + (5 + length one.part.bytes)) end bytes xs =
-    subst (AheadIn (place + (5 + length one.part.bytes)) end bytes) (sym rest_is) one.next in
-    let size : place + (5 + length two.part.bytes) ≡ place + (5 + length one.part.bytes) =
-    ap (λ (l : List ℕ). place + (5 + length l)) (sym same.1) in
-    let other : AheadIn (place + (5 + length one.part.bytes)) end bytes two.rest =
-    subst (λ (p : ℕ). AheadIn p end bytes two.rest) size two.next in
-    one.is ∙ same_parts one.part two.part one.rest two.rest same.0 same.1
-    (sym rest_is ∙ ahead_once xs two.rest (place + (5 + length one.part.bytes)) end bytes next
-    other) ∙ sym two.is
+-- a frame that ends early enough
+widen : (place end limit : ℕ) (bytes : List ℕ) (span : Span) (content : List ℕ) → end ≤ limit
+    → IsFrameAt place end bytes span content → IsFrameAt place limit bytes span content
+widen place end limit bytes span content le frame = record {
+  room = omega (arith, le, frame.room);
+  header = frame.header;
+  content_is = frame.content_is;
+  short = frame.short;
+}
 
-pub holding_once : (weight : ℕ) (parts more : List Portion) (bytes : List ℕ)
-    → Holding weight parts bytes → Holding weight more bytes → parts ≡ more
-holding_once weight parts more bytes first second =
-    ahead_once parts more (256 + 0) (256 + weight) bytes (held_ahead weight parts bytes first)
-    (held_ahead weight more bytes second)
+-- frames that go on where none stands are none of those
+no_further : (place end limit : ℕ) (bytes : List ℕ) (part : Portion) (rest : List Portion)
+    → end ≤ limit → AheadIn place end bytes (part ∷ rest) → NoFrameAt place limit bytes → ⊥
+no_further place end limit bytes part rest le ahead none =
+    let low = more_ahead place end bytes part rest ahead in
+    let one = one_ahead place end bytes (part ∷ rest) low ahead in
+    none one.part.span one.part.bytes
+    (widen place end limit bytes one.part.span one.part.bytes le one.frame_is)
+
+-- From a place on the frames stand up to one end, behind which no other is, and in one way.
+pub frames_once : (parts more : List Portion) (place a b limit : ℕ) (bytes : List ℕ)
+    → a ≤ limit → b ≤ limit → AheadIn place a bytes parts → AheadIn place b bytes more
+    → NoFrameAt a limit bytes → NoFrameAt b limit bytes → (a ≡ b) × (parts ≡ more)
+frames_once [] [] place a b limit bytes le high first second none other =
+    (none_ends place a bytes first ∙ sym (none_ends place b bytes second), refl)
+frames_once [] (y ∷ ys) place a b limit bytes le high first second none other =
+    absurd (no_further place b limit bytes y ys high second
+    (subst (λ (n : ℕ). NoFrameAt n limit bytes) (none_ends place a bytes first) none))
+frames_once (x ∷ xs) [] place a b limit bytes le high first second none other =
+    absurd (no_further place a limit bytes x xs le first
+    (subst (λ (n : ℕ). NoFrameAt n limit bytes) (none_ends place b bytes second) other))
+frames_once (x ∷ xs) (y ∷ ys) place a b limit bytes le high first second none other =
+    let one = one_ahead place a bytes (x ∷ xs) (more_ahead place a bytes x xs first) first in
+    let two = one_ahead place b bytes (y ∷ ys) (more_ahead place b bytes y ys second) second in
+    let same = one_frame place limit bytes one.part.span two.part.span one.part.bytes two.part.bytes
+    (widen place a limit bytes one.part.span one.part.bytes le one.frame_is)
+    (widen place b limit bytes two.part.span two.part.bytes high two.frame_is) in
+    let rest_is : xs ≡ one.rest = cc one.is in
+    let further = place + (5 + length one.part.bytes) in
+    let next : AheadIn further a bytes xs =
+    subst (AheadIn further a bytes) (sym rest_is) one.next in
+    let size : place + (5 + length two.part.bytes) ≡ further =
+    ap (λ (l : List ℕ). place + (5 + length l)) (sym same.1) in
+    let then : AheadIn further b bytes two.rest =
+    subst (λ (p : ℕ). AheadIn p b bytes two.rest) size two.next in
+    let all = frames_once xs two.rest further a b limit bytes le high next then none other in (
+      all.0,
+      one.is ∙ same_parts one.part two.part one.rest two.rest same.0 same.1
+          (sym rest_is ∙ all.1) ∙ sym two.is,
+    )
 
 some_same : (a b : Slot) → Some a ≡ Some b → a ≡ b
 some_same a b e = cc
 
--- what is staged is staged once
-pub staged_once : (bytes : List ℕ) → StandsOnce bytes
-staged_once bytes g h point next parts more first second =
+-- where frames end of which so many should stand
+abbrev end_of : ℕ → Option ℕ → ℕ
+end_of staged None = 256 + staged
+end_of staged (Some place) = place
+
+-- up to there the parts are ahead, and no frame stands there that ends in time
+ends : (staged : ℕ) (broken : Option ℕ) (parts : List Portion) (bytes : List ℕ)
+    → FramedTo staged broken parts bytes
+    → (end_of staged broken ≤ min (256 + staged) (length bytes))
+    × AheadIn (256 + 0) (end_of staged broken) bytes parts
+    × NoFrameAt (end_of staged broken) (min (256 + staged) (length bytes)) bytes
+ends staged None parts bytes framed = (
+  omega (arith, framed.holds.long),
+  held_ahead staged parts bytes framed.holds,
+  λ span content frame. omega (arith, frame.room),
+)
+ends staged (Some place) parts bytes framed =
+    let low : 256 + (place - 256) ≡ place = omega (arith, framed.breaks.low) in (
+      omega (arith, framed.holds.long, framed.breaks.low, framed.breaks.high),
+      subst (λ (n : ℕ). AheadIn (256 + 0) n bytes parts) low
+          (held_ahead (place - 256) parts bytes framed.holds),
+      framed.breaks.none,
+    )
+
+-- two breaks at one end are one
+same_break : (staged : ℕ) (broken other : Option ℕ)
+    → IfSome broken (λ place. place < 256 + staged) → IfSome other (λ place. place < 256 + staged)
+    → end_of staged broken ≡ end_of staged other → broken ≡ other
+same_break staged None None low high e = refl
+same_break staged None (Some place) low high e = absurd (omega (arith, high, e))
+same_break staged (Some place) None low high e = absurd (omega (arith, low, e))
+same_break staged (Some a) (Some b) low high e = ap Some e
+
+before_end : (staged : ℕ) (broken : Option ℕ) (bytes : List ℕ)
+    → IfSome broken (λ place. BreaksAt staged place bytes)
+    → IfSome broken (λ place. place < 256 + staged)
+before_end staged None bytes breaks = tt
+before_end staged (Some place) bytes breaks = breaks.high
+
+framed_once : (staged : ℕ) (broken other : Option ℕ) (parts more : List Portion) (bytes : List ℕ)
+    → FramedTo staged broken parts bytes → FramedTo staged other more bytes
+    → (broken ≡ other) × (parts ≡ more)
+framed_once staged broken other parts more bytes first second =
+    let one = ends staged broken parts bytes first in
+    let two = ends staged other more bytes second in
+    let same = frames_once parts more (256 + 0) (end_of staged broken) (end_of staged other)
+    (min (256 + staged) (length bytes)) bytes one.0 two.0 one.1 two.1 one.2 two.2 in (
+      same_break staged broken other (before_end staged broken bytes first.breaks)
+          (before_end staged other bytes second.breaks) same.0,
+      same.1,
+    )
+
+-- what remains remains once
+pub remains_once : (bytes : List ℕ) → RemainsOnce bytes
+remains_once bytes g h point next broken other parts more first second =
     let slots = some_same (g, point) (h, next) (sym first.slot ∙ second.slot) in
     let points : point ≡ next = ap (λ (s : Slot). s.1) slots in
-    let other : Holding point.staged more bytes = subst (λ (c : Point). Holding c.staged more bytes)
-    (sym points) second.parts_are in (
-      ap (λ (s : Slot). s.0) slots,
-      points,
-      holding_once point.staged parts more bytes
-          first.parts_are other,
-    )
+    let then : FramedTo point.staged other more bytes =
+    subst (λ (c : Point). FramedTo c.staged other more bytes) (sym points) second.framed in
+    let same = framed_once point.staged broken other parts more bytes first.framed then in
+    (ap (λ (s : Slot). s.0) slots, points, same.0, same.1)
+
+-- of what is staged all remains
+pub staged_remains : (bytes : List ℕ) (g : ℕ) (point : Point) (parts : List Portion)
+    → Staged bytes g point parts → Remains bytes g point None parts
+staged_remains bytes g point parts staged = record {
+  slot = staged.slot;
+  framed = record { holds = staged.parts_are; breaks = tt };
+}
+
+-- so it is staged once
+pub staged_once : (bytes : List ℕ) → StandsOnce bytes
+staged_once bytes g h point next parts more first second =
+    let same = remains_once bytes g h point next None None parts more
+    (staged_remains bytes g point parts first) (staged_remains bytes h next more second) in
+    (same.0, same.1, same.3)
 
 pub read_one_of : (bytes : List ℕ) → ReadsOneOf bytes
 read_one_of bytes point next parts more (inl was) g read there staged =

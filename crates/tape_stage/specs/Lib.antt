@@ -2,6 +2,7 @@ pub mod Body
 pub mod Calls
 pub mod Cases
 pub mod CasesOfLaws
+pub mod CasesOfSalvage
 pub mod Disk
 pub mod Faults
 pub mod Fields
@@ -17,6 +18,7 @@ pub mod PointFaults
 pub mod Range
 pub mod Reading
 pub mod Reads
+pub mod Salvaged
 pub mod Same
 pub mod StageLaws
 pub mod Staged

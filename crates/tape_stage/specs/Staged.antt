@@ -125,12 +125,6 @@ KeepsStaged old new = (g : ℕ) (point : Point) (parts : List Portion) → Stage
 abbrev pub blank : List ℕ
 blank = replicate 15 48 ++ replicate 112 32
 
--- From the place to the end stand the frames of some parts.
-pub record Ahead (place end : ℕ) (bytes : List ℕ) : Type 0 where
-  pub parts : List Portion
-  pub frames_are : take (end - place) (drop place bytes) ≡ frames parts
-  pub short : AllShort parts
-
 -- the five bytes are the header of no part of at most 99,999 bytes
 abbrev pub IsNoHeader : List ℕ → Type 0
 IsNoHeader header = (span : Span) (size : ℕ) → size ≤ 99999

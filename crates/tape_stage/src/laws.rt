@@ -4,7 +4,9 @@ ghost use Rattle.std.specs.Prelude.{◌≡◌, Ok, ℕ, List};
 ghost use Rattle.tape_stage.specs.Cases.{CasesOfCrashes, CasesOfMoments, CasesOfFiles};
 ghost use Rattle.tape_stage.specs.Cases.{CasesOfStages, CasesOfFaults};
 ghost use Rattle.tape_stage.specs.CasesOfLaws.{CasesOfLaws};
+ghost use Rattle.tape_stage.specs.CasesOfSalvage.{CasesOfSalvage};
 ghost use Rattle.tape_stage.specs.Laws.{HasBothTexts, IsTextOfOne, IsTextOnce};
+ghost use Rattle.tape_stage.specs.Salvaged.{RemainsOnce};
 ghost use Rattle.tape_stage.specs.StageLaws.{EitherStands, NamedStands, ReadsOneOf, StandsOnce};
 
 use crate::disk::Disk;
@@ -40,6 +42,12 @@ pub fn stands_once()
     ensures { (bytes : List ℕ) → StandsOnce bytes }
 {}
 
+/// Of the bytes of a stage whose frames break off one generation, checkpoint and list of parts
+/// remain at most, and they break off at one place.
+pub fn remains_once()
+    ensures { (bytes : List ℕ) → RemainsOnce bytes }
+{}
+
 /// Bytes of which a named slot stands for a checkpoint and its parts stand for these.
 pub fn named_slots_stand()
     ensures { (bytes : List ℕ) → NamedStands bytes }
@@ -56,7 +64,8 @@ pub fn reads_one_of()
 {}
 
 /// What the definitions of disks and stages say of cases: what a crash may leave, at which moments,
-/// what bytes stand for, what comes back of a stage, what faults say, and what the laws are for.
+/// what bytes stand for, what comes back of a stage, what faults say, what the laws are for, and
+/// what remains of a stage whose frames break off.
 pub fn cases<D: Disk>()
     ensures crashes { CasesOfCrashes }
     ensures moments { CasesOfMoments }
@@ -64,4 +73,5 @@ pub fn cases<D: Disk>()
     ensures stages { CasesOfStages D.Disk }
     ensures faults { CasesOfFaults }
     ensures laws { CasesOfLaws }
+    ensures salvage { CasesOfSalvage D.Disk }
 {}

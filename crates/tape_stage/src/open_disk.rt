@@ -25,7 +25,7 @@ use tape_core::Checkpoint;
 const ROOM: usize = 100_000;
 
 /// The buffer that parts are lent from.
-fn buffer_of(alloc: Global) -> Result<Vec<u8>, AllocError>
+pub(crate) fn buffer_of(alloc: Global) -> Result<Vec<u8>, AllocError>
     ensures room { IfOk result (λ buffer. 99999 ≤ length buffer.items) }
 {
     Vec::from_elem(alloc, 0u8, ROOM)

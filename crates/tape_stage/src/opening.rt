@@ -1,11 +1,12 @@
 //! How a stage is found again on a disk.
-ghost use Rattle.std.specs.Prelude.{◌≡◌, ◌+◌, ◌≤◌, ◌==◌, ◌⊎◌, ℕ, List, length, min, take, OnOk};
+ghost use Rattle.std.specs.Prelude.{◌≡◌, ◌+◌, ◌≤◌, ◌==◌, ◌⊎◌, ℕ, List, length, take, OnOk};
 ghost use Rattle.std.specs.Prelude.{OnErr, IfOk, IfErr, IsErrOf, IfSome, MatchOption, None, Some};
 ghost use Rattle.std.specs.Prelude.{false, true, not};
 ghost use Rattle.tape_stage.specs.Moments.{Passes};
 ghost use Rattle.tape_blocks.specs.Block.{Portion};
 ghost use Rattle.tape_stage.specs.Staged.{read_slot, slot_at, HoldsNone, Holding, Loses};
 ghost use Rattle.tape_stage.specs.Found.{IsFound, IsBadPlace};
+ghost use Rattle.tape_stage.specs.Salvaged.{RemainsNone};
 ghost use Rattle.tape_stage.specs.Faults.{SaysNone, OnBadFrame};
 ghost use Rattle.tape_stage.specs.Disk.{CutShort, Only};
 ghost use Rattle.tape_stage.specs.OnlyReading.{OnlyReads};
@@ -15,7 +16,7 @@ use crate::body::read_body;
 use crate::disk::{Disk, DiskFault};
 use crate::found::Found;
 use crate::stage::{OPEN, StageFault};
-use crate::walking::walk;
+use crate::walking::break_of;
 use tape_core::Checkpoint;
 
 /// What a slot says, where its gate is open.
@@ -121,7 +122,7 @@ pub(crate) fn find_on<D: Disk>(disk: &mut D) -> Result<Found, StageFault>
     ensures generation { IfOk result (λ found. found.generation ≤ 999999999999999) }
     ensures staged { IfOk result (λ found. found.point.staged ≤ 999999999999999) }
     ensures none { D.is_honest disk.old → IfErr result
-        (λ fault. SaysNone fault → HoldsNone (D.seen disk.old)) }
+        (λ fault. SaysNone fault → RemainsNone (D.seen disk.old)) }
     ensures no_frame { IfErr result (λ fault. OnBadFrame fault (λ place. ⊥)) }
     ensures durable { D.is_honest disk.old
         → OnOk result (Only (D.seen disk.new) (D.may_leave disk.new)) }
@@ -144,13 +145,6 @@ pub(crate) fn find_on<D: Disk>(disk: &mut D) -> Result<Found, StageFault>
         Some(found) => Ok(found),
         None => Err(StageFault::NoPoint),
     }
-}
-
-/// The lesser of two numbers.
-fn lesser(a: u64, b: u64) -> u64
-    ensures { result ≡ min a b }
-{
-    if a < b { a } else { b }
 }
 
 /// Finds what is staged. It only reads.
@@ -176,8 +170,8 @@ pub(crate) fn look<D: Disk>(disk: &mut D) -> Result<Found, StageFault>
     ensures honest { OnOk result (D.is_honest disk.old → D.is_honest disk.new) }
 {
     let found = find_on(disk)?;
-    let len = disk.len()?;
-    let end = 256 + found.staged();
-    walk(disk, end, lesser(end, len))?;
-    Ok(found)
+    match break_of(disk, found.staged())? {
+        None => Ok(found),
+        Some(place) => Err(StageFault::BadFrame(place)),
+    }
 }

@@ -1,21 +1,17 @@
 //! Walks the frames of a stage.
 ghost use Rattle.std.specs.Prelude.{◌≡◌, ◌+◌, ◌-◌, ◌≤◌, ◌<◌, ◌^◌, ◌∷◌, List, length, min, OnOk};
-ghost use Rattle.std.specs.Prelude.{IfErr, IsErrOf, MatchOption};
+ghost use Rattle.std.specs.Prelude.{OnErr, IfOk, MatchOption};
 ghost use Rattle.std.specs.Int.{to_be_bytes};
 ghost use Rattle.std.proofs.Common.{w32};
-ghost use Rattle.tape_stage.specs.Moments.{Passes};
 ghost use Rattle.tape_blocks.specs.Block.{Portion};
 ghost use Rattle.tape_blocks.specs.Block.{indicator};
-ghost use Rattle.tape_stage.specs.Staged.{Holding, IsNoHeader, WalkedTo};
-ghost use Rattle.tape_stage.specs.Frames.{NoFrameAt};
-ghost use Rattle.tape_stage.specs.Faults.{SaysNone, OnBadFrame};
+ghost use Rattle.tape_stage.specs.Staged.{IsNoHeader};
+ghost use Rattle.tape_stage.specs.Salvaged.{FramedTo, WalkedIn};
 ghost use Rattle.tape_blocks.specs.declared.part.Span.{Span};
-ghost use Rattle.tape_stage.specs.Disk.{Only, SameFact};
 ghost use Rattle.tape_stage.specs.OnlyReading.{OnlyReads};
 ghost use Rattle.tape_core.specs.Weight.{Rose};
 
-use crate::disk::Disk;
-use crate::stage::StageFault;
+use crate::disk::{Disk, DiskFault};
 use tape_blocks::Span;
 
 /// The span that a digit names.
@@ -57,43 +53,58 @@ fn part_size(header: &[u8; 5]) -> Option<u64>
     }
 }
 
-/// Walks the frames up to an end, as far as the file goes. `BadFrame` names the first place where
-/// no frame stands, and only where no parts are framed up to the end.
-pub(crate) fn walk<D: Disk>(disk: &mut D, end: u64, limit: u64) -> Result<(), StageFault>
+/// Walks frames that should weigh so much, as far as the file goes: the first place where no frame
+/// stands that ends where they should or before; `None` where all of them stand.
+pub(crate) fn walk<D: Disk>(disk: &mut D, staged: u64, limit: u64) -> Result<Option<u64>, DiskFault>
     requires low { 256 ≤ limit }
-    requires there { limit ≡ min end (D.length_of disk.old) }
-    requires fits { end < 2 ^ 60 }
-    ensures not_full { IsErrOf result StageFault.Full → ⊥ }
-    ensures not_failed { IsErrOf result StageFault.Failed → ⊥ }
-    ensures reached { OnOk result (end ≤ D.length_of disk.new) }
-    ensures ok { D.is_honest disk.old → OnOk result
-        ((parts : List Portion) × Holding (end - 256) parts (D.seen disk.old)) }
-    ensures bad { D.is_honest disk.old → IfErr result
-        (λ fault. SaysNone fault → (parts : List Portion)
-        → Holding (end - 256) parts (D.seen disk.old) → ⊥) }
-    ensures at { D.is_honest disk.old → IfErr result
-        (λ fault. OnBadFrame fault (λ place. WalkedTo place (D.seen disk.old)
-        × NoFrameAt place limit (D.seen disk.old))) }
-    ensures cause { IsErrOf result StageFault.Device
-        → Rose (D.faults disk.old) (D.faults disk.new) }
+    requires there { limit ≡ min (256 + staged) (D.length_of disk.old) }
+    requires fits { staged ≤ 999999999999999 }
+    ensures within { IfOk result (λ broken. WalkedIn staged limit broken) }
+    ensures framed { D.is_honest disk.old → IfOk result
+        (λ broken. (parts : List Portion) × FramedTo staged broken parts (D.seen disk.old)) }
+    ensures cause { OnErr result (Rose (D.faults disk.old) (D.faults disk.new)) }
     ensures calm { OnOk result (D.faults disk.new ≡ D.faults disk.old) }
     ensures reads { OnlyReads D.Disk disk.old disk.new }
     ensures honest { D.is_honest disk.old → D.is_honest disk.new }
 {
+    let end = 256 + staged;
     let mut place: u64 = 256;
     while place < end {
         if limit - place < 5 {
-            return Err(StageFault::BadFrame(place));
+            return Ok(Some(place));
         }
         let mut header = [0; 5];
         disk.read(place, &mut header)?;
         let Some(size) = part_size(&header) else {
-            return Err(StageFault::BadFrame(place));
+            return Ok(Some(place));
         };
         if size > limit - place - 5 {
-            return Err(StageFault::BadFrame(place));
+            return Ok(Some(place));
         }
         place += 5 + size;
     }
-    Ok(())
+    Ok(None)
+}
+
+/// The lesser of two numbers.
+fn lesser(a: u64, b: u64) -> u64
+    ensures { result ≡ min a b }
+{
+    if a < b { a } else { b }
+}
+
+/// Where the frames break off that should weigh so much, if they do.
+pub(crate) fn break_of<D: Disk>(disk: &mut D, staged: u64) -> Result<Option<u64>, DiskFault>
+    requires long { 256 ≤ D.length_of disk.old }
+    requires fits { staged ≤ 999999999999999 }
+    ensures within { IfOk result (λ broken. WalkedIn staged (D.length_of disk.new) broken) }
+    ensures framed { D.is_honest disk.old → IfOk result
+        (λ broken. (parts : List Portion) × FramedTo staged broken parts (D.seen disk.old)) }
+    ensures cause { OnErr result (Rose (D.faults disk.old) (D.faults disk.new)) }
+    ensures calm { OnOk result (D.faults disk.new ≡ D.faults disk.old) }
+    ensures reads { OnlyReads D.Disk disk.old disk.new }
+    ensures honest { D.is_honest disk.old → D.is_honest disk.new }
+{
+    let len = disk.len()?;
+    walk(disk, staged, lesser(256 + staged, len))
 }

@@ -110,6 +110,25 @@ pub fn disk_of(alloc: Global, bytes: &[u8]) -> Result<MemoryDisk, AllocError> {
     Ok(MemoryDisk::from_bytes(alloc, bytes.to_vec(alloc)?))
 }
 
+/// A stage file whose first slot has this gate, generation 1 and this checkpoint, and whose second
+/// slot never counted.
+pub fn first_slot(
+    alloc: Global,
+    gate: u8,
+    point: &[u8; 80],
+    frames: &[u8],
+) -> Result<Vec<u8>, AllocError> {
+    let mut bytes = Vec::new(alloc);
+    bytes.push(gate)?;
+    bytes.extend_from_slice(b"000000000000001")?;
+    bytes.extend_from_slice(point)?;
+    bytes.extend_from_slice(&[b' '; 32])?;
+    bytes.extend_from_slice(b"C000000000000000")?;
+    bytes.extend_from_slice(&[b' '; 112])?;
+    bytes.extend_from_slice(frames)?;
+    Ok(bytes)
+}
+
 /// A record of 80 bytes, staged.
 pub fn put<D: Disk>(stage: &mut Stage<D>, record: u8) -> bool {
     let part = Part {

@@ -15,6 +15,8 @@ mod held;
 #[cfg(test)]
 mod points;
 #[cfg(test)]
+mod salvage;
+#[cfg(test)]
 mod sinks;
 #[cfg(test)]
 mod stages;

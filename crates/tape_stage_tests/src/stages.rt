@@ -116,25 +116,6 @@ fn fault_of(alloc: Global, bytes: &[u8]) -> Result<Option<StageFault>, AllocErro
     }
 }
 
-/// A stage file whose first slot has this gate, generation 1 and this checkpoint, and whose second
-/// slot never counted.
-fn first_slot(
-    alloc: Global,
-    gate: u8,
-    point: &[u8; 80],
-    frames: &[u8],
-) -> Result<Vec<u8>, AllocError> {
-    let mut bytes = Vec::new(alloc);
-    bytes.push(gate)?;
-    bytes.extend_from_slice(b"000000000000001")?;
-    bytes.extend_from_slice(point)?;
-    bytes.extend_from_slice(&[b' '; 32])?;
-    bytes.extend_from_slice(b"C000000000000000")?;
-    bytes.extend_from_slice(&[b' '; 112])?;
-    bytes.extend_from_slice(frames)?;
-    Ok(bytes)
-}
-
 // One whole record of two bytes, of format D, is staged.
 const SEVEN_2: &[u8; 80] =
     b"TPCK2ABC00100010001000000000000001R01D0000000PAYROLL          000000000000007   ";

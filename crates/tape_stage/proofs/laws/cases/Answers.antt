@@ -1,6 +1,7 @@
 use Rattle.tape_stage.proofs.Examples.{cases_of_crashes, cases_of_moments, cases_of_files}
 use Rattle.tape_stage.proofs.Examples.{cases_of_stages, cases_of_faults}
 use Rattle.tape_stage.proofs.ExamplesOfLaws.{cases_of_laws}
+use Rattle.tape_stage.proofs.ExamplesOfSalvage.{cases_of_salvage}
 use Rattle.tape_stage.proofs.laws.cases.Goals as goal
 
 pub returns-clause-crashes : goal.returns-clause-crashes
@@ -20,3 +21,6 @@ returns-clause-faults g c = cases_of_faults
 
 pub returns-clause-laws : goal.returns-clause-laws
 returns-clause-laws g c = cases_of_laws
+
+pub returns-clause-salvage : goal.returns-clause-salvage
+returns-clause-salvage g c = cases_of_salvage g.D.Disk

@@ -1,8 +1,7 @@
-use Rattle.std.proofs.Common.{◌≡◌, ◌-◌, ◌≤◌, List}
+use Rattle.std.proofs.Common.{◌≡◌, ◌-◌, ◌≤◌}
 use Rattle.tape_stage.specs.Disk.{SameFact}
 use Rattle.tape_stage.specs.Moments.{Passes}
-use Rattle.tape_blocks.specs.Block.{Portion}
-use Rattle.tape_stage.specs.Staged.{WalkedTo, Holding, Ahead}
+use Rattle.tape_stage.specs.Staged.{WalkedTo}
 use Rattle.tape_stage.proofs.walking.walk.Given as goal
 
 abbrev pub invariant-loop-place : goal.invariant-loop-place
@@ -15,8 +14,6 @@ invariant-loop-place g l = record {
   seen : g.D.Disk.is_honest l.fn.disk → g.D.Disk.seen l.disk ≡ g.D.Disk.seen l.fn.disk;
   moments : g.D.Disk.is_honest l.fn.disk → Passes g.D.Disk.may_leave g.D.Disk.moment
       g.D.Disk.left_since l.fn.disk l.disk (g.D.Disk.may_leave l.fn.disk);
-  ahead : g.D.Disk.is_honest l.fn.disk → (parts : List Portion) → Holding (l.end - 256) parts
-      (g.D.Disk.seen l.fn.disk) → Ahead l.place l.end (g.D.Disk.seen l.fn.disk);
   walked : g.D.Disk.is_honest l.fn.disk → WalkedTo l.place (g.D.Disk.seen l.fn.disk);
 }
 

@@ -1,0 +1,55 @@
+-- Answers that the contract of opening what remains of a stage excludes: each is what a wrong body
+-- would give.
+use Rattle.std.proofs.Common.{◌≡◌, ℕ, List, [], ◌∷◌, sym, ap, ◌∙◌, arith}
+use Rattle.std.specs.Prelude.{Option, Some, None, Ok, Err}
+use Rattle.tape_blocks.specs.Block.{Portion}
+use Rattle.tape_core.specs.Point.{Point}
+use Rattle.tape_core.specs.Stands.{weight_of}
+use Rattle.tape_stage.specs.Salvaged.{Remains, HoldsRest}
+use Rattle.tape_stage.specs.declared.stage.StageFault.TheVariants.{NoPoint}
+use Rattle.tape_stage.proofs.Held.{holding_weighs}
+use Rattle.tape_stage.proofs.Once.{remains_once}
+use Rattle.tape_stage.proofs.salvage.Salvage.open_disk.Reads as open_disk
+
+-- break_told_as_whole: frames break off at 262, and all of them are told to stand
+break_told_as_whole : (D : _) (L : _) (g : _) (d : _) (κs : _) (a : _) (opened : _) (s : _)
+    (n : ℕ) (point : Point) (parts : List Portion)
+    → open_disk.Learnt-named D L g d κs a (Ok opened) s → g.is_honest a.1.0
+    → Remains (g.seen a.1.0) n point (Some 262) parts → opened.0.broken ≡ None → ⊥
+break_told_as_whole D L g d κs a opened s n point parts l honest is whole =
+    let found = l.remains honest in
+    let same = remains_once (g.seen a.1.0) found.0 n opened.1 point opened.0.broken (Some 262)
+    found.1 parts found.2 is in
+    let e : None ≡ Some 262 = sym whole ∙ same.2 in
+    absurd (cc)
+
+-- part_before_break_left_out: two parts stand before a break, and the first alone is held
+part_before_break_left_out : (D : _) (L : _) (g : _) (d : _) (κs : _) (a : _) (opened : _) (s : _)
+    (n : ℕ) (point : Point) (broken : Option ℕ) (first second : Portion)
+    → open_disk.Learnt-named D L g d κs a (Ok opened) s → g.is_honest a.1.0
+    → Remains (g.seen a.1.0) n point broken (first ∷ second ∷ [])
+    → HoldsRest opened.0 (first ∷ []) → ⊥
+part_before_break_left_out D L g d κs a opened s n point broken first second l honest is holds =
+    let found = l.remains honest in
+    let same = remains_once (g.seen a.1.0) found.0 n opened.1 point opened.0.broken broken found.1
+    (first ∷ second ∷ []) found.2 is in
+    let both : opened.0.weight ≡ weight_of (first ∷ second ∷ []) =
+    holding_weighs opened.0.weight found.1 (g.seen opened.0.disk) found.3.1 ∙ ap weight_of same.3 in
+    let one : opened.0.weight ≡ weight_of (first ∷ []) =
+    holding_weighs opened.0.weight (first ∷ []) (g.seen opened.0.disk) holds.1 in
+    omega (arith, both, one)
+
+-- damaged_stage_told_as_none: something remains before a break, and it is told that no slot counts
+damaged_stage_told_as_none : (D : _) (L : _) (g : _) (d : _) (κs : _) (a : _) (refused : _) (s : _)
+    (n : ℕ) (point : Point) (parts : List Portion)
+    → open_disk.Learnt-named D L g d κs a (Err refused) s → g.is_honest a.1.0
+    → Remains (g.seen a.1.0) n point (Some 262) parts → refused.fault ≡ NoPoint → ⊥
+damaged_stage_told_as_none D L g d κs a refused s n point parts l honest is w =
+    l.none honest (rw w tt) n point (Some 262) parts is
+
+-- damaged_stage_cut_by_reading: ten bytes are there, and none behind the opening
+damaged_stage_cut_by_reading : (D : _) (L : _) (g : _) (d : _) (κs : _) (a : _) (opened : _)
+    (s : _) → open_disk.Learnt-named D L g d κs a (Ok opened) s
+    → g.length_of a.1.0 ≡ 10 → g.length_of opened.0.disk ≡ 0 → ⊥
+damaged_stage_cut_by_reading D L g d κs a opened s l ten none =
+    absurd (let n : 0 ≡ 10 = sym none ∙ l.reads.same_length ∙ ten in omega arith)

@@ -1,0 +1,61 @@
+-- What remains of a stage whose frames break off.
+use Rattle.std.specs.Prelude.{◌≡◌, ℕ, ◌+◌, ◌-◌, ◌≤◌, ◌<◌, min, length, true, false, List}
+use Rattle.std.specs.Prelude.{Option, Some, None, IfSome}
+use Rattle.tape_blocks.specs.Block.{Portion}
+use Rattle.tape_core.specs.Point.{Point}
+use Rattle.tape_stage.specs.Frames.{AheadIn, NoFrameAt}
+use Rattle.tape_stage.specs.Staged.{Holding, best, slot_at}
+use Rattle.tape_stage.specs.declared.disk.Disk.{Ghosts}
+use Rattle.tape_stage.specs.declared.salvage.Salvage.{Salvage}
+
+-- Behind 256 bytes the frames should weigh so much, and break off before: no frame stands at this
+-- place that ends where they should, and where the file does, or before.
+pub record BreaksAt (staged place : ℕ) (bytes : List ℕ) : Type 0 where
+  pub low : 256 ≤ place
+  pub high : place < 256 + staged
+  pub none : NoFrameAt place (min (256 + staged) (length bytes)) bytes
+
+-- what the frames weigh that stand there: what they should, or what is before the break
+abbrev pub standing : ℕ → Option ℕ → ℕ
+standing staged None = staged
+standing staged (Some place) = place - 256
+
+-- The frames are those of these parts up to where they should end, or up to where they break off.
+pub record FramedTo (staged : ℕ) (broken : Option ℕ) (parts : List Portion)
+    (bytes : List ℕ) : Type 0 where
+  pub holds : Holding (standing staged broken) parts bytes
+  pub breaks : IfSome broken (λ place. BreaksAt staged place bytes)
+
+-- What remains of a stage: the checkpoint of the slot that counts, and the parts whose frames stand
+-- there, all that it tells or those before the break.
+pub record Remains (bytes : List ℕ) (g : ℕ) (point : Point) (broken : Option ℕ)
+    (parts : List Portion) : Type 0 where
+  pub slot : best (slot_at false bytes) (slot_at true bytes) ≡ Some (g, point)
+  pub framed : FramedTo point.staged broken parts bytes
+
+-- nothing remains: no slot counts
+abbrev pub RemainsNone : List ℕ → Type 0
+RemainsNone bytes = (g : ℕ) (point : Point) (broken : Option ℕ) (parts : List Portion)
+    → Remains bytes g point broken parts → ⊥
+
+-- of bytes one generation and checkpoint remain at most, one break and one list of parts
+abbrev pub RemainsOnce : List ℕ → Type 0
+RemainsOnce bytes = (g h : ℕ) (point next : Point) (broken other : Option ℕ)
+    (parts more : List Portion) → Remains bytes g point broken parts
+    → Remains bytes h next other more
+    → (g ≡ h) × (point ≡ next) × (broken ≡ other) × (parts ≡ more)
+
+-- on any disk: a walk found all frames within a limit, or ended at a place within it and the end
+abbrev pub WalkedIn : ℕ → ℕ → Option ℕ → Type 0
+WalkedIn staged limit None = 256 + staged ≤ limit
+WalkedIn staged limit (Some place) = (256 ≤ place) × (place ≤ limit) × (place < 256 + staged)
+
+-- these parts remain on a disk that can be believed
+abbrev pub HoldsRest : {D : Type 0} {disk : Ghosts D} → Salvage D disk → List Portion → Type 0
+HoldsRest {D} {disk} salvage parts = disk.is_honest salvage.disk
+    × Holding salvage.weight parts (disk.seen salvage.disk)
+
+-- these of them are still to come
+abbrev pub RestAhead : {D : Type 0} {disk : Ghosts D} → Salvage D disk → List Portion → Type 0
+RestAhead {D} {disk} salvage parts = disk.is_honest salvage.disk
+    × AheadIn (256 + salvage.walked) (256 + salvage.weight) (disk.seen salvage.disk) parts

@@ -1,0 +1,168 @@
+//! What remains of stages whose frames break off.
+
+use crate::fixtures::*;
+use std::alloc::{AllocError, Global};
+use std::test::*;
+use tape_blocks::{Part, Span};
+use tape_core::{PartSink, PartWalk, SinkFault};
+use tape_stage::{MemoryDisk, Salvage, StageFault};
+
+// Two whole records of two bytes each, of format D, are staged.
+const FOURTEEN_2: &[u8; 80] =
+    b"TPCK2ABC00100010001000000000000002R01D0000000PAYROLL          000000000000014   ";
+
+/// Whether the walk gives these parts, each a whole record, and no others; and so again.
+fn gives_parts(salvage: &mut Salvage<MemoryDisk>, parts: &[&[u8]]) -> bool {
+    for _ in 0..2 {
+        salvage.rewind();
+        for bytes in parts {
+            match salvage.next_part() {
+                Ok(Some(part)) => {
+                    if part.span != Span::Whole || part.bytes != *bytes {
+                        return false;
+                    }
+                }
+                _ => return false,
+            }
+        }
+        if !matches!(salvage.next_part(), Ok(None)) {
+            return false;
+        }
+    }
+    true
+}
+
+/// Frames, the place where they break off, and the parts before it.
+struct Row {
+    name: &'static str,
+    frames: &'static [u8],
+    broken: Option<u64>,
+    parts: &'static [&'static [u8]],
+}
+
+const ROWS: &[Row] = &[
+    Row {
+        name: "whole",
+        frames: b"0\x00\x00\x00\x02AB0\x00\x00\x00\x02CD",
+        broken: None,
+        parts: &[b"AB", b"CD"],
+    },
+    Row {
+        name: "whole, and more behind",
+        frames: b"0\x00\x00\x00\x02AB0\x00\x00\x00\x02CD4",
+        broken: None,
+        parts: &[b"AB", b"CD"],
+    },
+    Row {
+        name: "no digit of a span, second",
+        frames: b"0\x00\x00\x00\x02AB4\x00\x00\x00\x02CD",
+        broken: Some(263),
+        parts: &[b"AB"],
+    },
+    Row {
+        name: "a byte lacks",
+        frames: b"0\x00\x00\x00\x02AB0\x00\x00\x00\x02C",
+        broken: Some(263),
+        parts: &[b"AB"],
+    },
+    Row {
+        name: "cut between two frames",
+        frames: b"0\x00\x00\x00\x02AB",
+        broken: Some(263),
+        parts: &[b"AB"],
+    },
+    Row {
+        name: "too long a part",
+        frames: b"0\x00\x00\x00\x02AB0\x00\x01\x86\xa0CD",
+        broken: Some(263),
+        parts: &[b"AB"],
+    },
+    Row {
+        name: "past the staged end",
+        frames: b"0\x00\x00\x00\x02AB0\x00\x00\x00\x03CDE",
+        broken: Some(263),
+        parts: &[b"AB"],
+    },
+    Row {
+        name: "no digit of a span, first",
+        frames: b"4\x00\x00\x00\x02AB0\x00\x00\x00\x02CD",
+        broken: Some(256),
+        parts: &[],
+    },
+    Row {
+        name: "no frames",
+        frames: b"",
+        broken: Some(256),
+        parts: &[],
+    },
+];
+
+/// Whether of a stage with these frames this remains, and its bytes stay.
+fn remains(alloc: Global, row: &Row) -> Result<bool, AllocError> {
+    let bytes = first_slot(alloc, b'O', FOURTEEN_2, row.frames)?;
+    let Ok((mut salvage, point)) = Salvage::open_disk(alloc, disk_of(alloc, &bytes)?) else {
+        return Ok(false);
+    };
+    let told = point.staged == 14 && salvage.broken() == row.broken;
+    let given = gives_parts(&mut salvage, row.parts);
+    Ok(told && given && salvage.into_disk().bytes() == bytes.as_slice())
+}
+
+#[test]
+fn what_remains_before_a_break(rt: HostRuntime) -> Result<(), AllocError> {
+    for row in ROWS {
+        let name = row.name;
+        assert!(rt; remains(rt.alloc(), row)?, "{name}");
+    }
+    Ok(())
+}
+
+#[test]
+fn nothing_remains_where_no_slot_counts(rt: HostRuntime) -> Result<(), AllocError> {
+    let alloc = rt.alloc();
+    let bytes = first_slot(alloc, b'C', FOURTEEN_2, b"0\x00\x00\x00\x02AB")?;
+    let short = bytes.get(..255).unwrap_or_default();
+    for bytes in [bytes.as_slice(), short, b""] {
+        let fault = match Salvage::open_disk(alloc, disk_of(alloc, bytes)?) {
+            Ok(_) => None,
+            Err(refused) => Some(refused.fault),
+        };
+        assert!(rt; fault == Some(StageFault::NoPoint));
+    }
+    Ok(())
+}
+
+#[test]
+fn each_failing_call_of_the_disk_is_told(rt: HostRuntime) -> Result<(), AllocError> {
+    let alloc = rt.alloc();
+    let bytes = first_slot(alloc, b'O', FOURTEEN_2, b"0\x00\x00\x00\x02AB")?;
+    // A sync, the length, the slots, the length again, and the header of the frame.
+    for count in 0..5 {
+        let mut disk = disk_of(alloc, &bytes)?;
+        disk.stop_after(count);
+        let fault = match Salvage::open_disk(alloc, disk) {
+            Ok(_) => None,
+            Err(refused) => Some(refused.fault),
+        };
+        assert!(rt; fault == Some(StageFault::Device), "{count}");
+    }
+    Ok(())
+}
+
+#[test]
+fn a_salvage_takes_nothing(rt: HostRuntime) -> Result<(), AllocError> {
+    let alloc = rt.alloc();
+    let bytes = first_slot(alloc, b'O', FOURTEEN_2, b"0\x00\x00\x00\x02AB")?;
+    let Ok((mut salvage, _)) = Salvage::open_disk(alloc, disk_of(alloc, &bytes)?) else {
+        assert!(rt; false);
+        return Ok(());
+    };
+    let part = Part {
+        span: Span::Whole,
+        bytes: b"CD",
+    };
+    assert!(rt; salvage.put(part) == Err(SinkFault::Failed));
+    assert!(rt; salvage.cut_to(&start()) == Err(SinkFault::Failed));
+    assert!(rt; salvage.weight() == 7 && gives_parts(&mut salvage, &[b"AB"]));
+    Ok(())
+}
