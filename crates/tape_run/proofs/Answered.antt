@@ -1,6 +1,8 @@
 -- A script that names what exists is refused only by a sink or by want of memory.
-use Rattle.std.proofs.Common.{◌≡◌, ℕ, ◌+◌, ◌<◌, List, [], ◌∷◌, length, map, Some, Result, Err, refl}
-use Rattle.std.proofs.Common.{ap, subst, ◌∙◌, inl, inr, arith, length-append}
+use Rattle.std.proofs.Common.{◌≡◌, ℕ, zero, suc, ◌+◌, ◌<◌, List, [], ◌∷◌, length, map}
+use Rattle.std.proofs.Common.{take, drop, Some, ap, subst, ◌∙◌, arith, length-append}
+use Rattle.std.specs.List.{slice_get}
+use Rattle.std.proofs.lemmas.Option.{slice_get_within}
 use Rattle.tape_set.specs.Layout.{FileSet}
 use Rattle.tape_run.specs.Mount.{Happening}
 use Rattle.tape_run.specs.declared.script.Step.{Step}
@@ -8,9 +10,10 @@ use Rattle.tape_run.specs.declared.script.Step.TheVariants.{Reel, Save, Restart}
 use Rattle.tape_run.specs.declared.fault.RunFault.{RunFault}
 use Rattle.tape_run.specs.declared.fault.RunFault.TheVariants.{Sink, NoSuchPoint, TooFewReels}
 use Rattle.tape_run.specs.declared.fault.RunFault.TheVariants.{OutOfMemory, OtherFile}
+use Rattle.tape_run.specs.Headline.{reels_in}
 use Rattle.tape_run.specs.Seen.{Seen}
 use Rattle.tape_run.specs.History.{IsHistory}
-use Rattle.tape_run.specs.Runs.{Runs, IsRefusal}
+use Rattle.tape_run.specs.Runs.{Runs, RunsUpTo, Fails, IsRefusal}
 use Rattle.tape_run.specs.Steps.{ReelFails, SaveFails, RestartFails}
 use Rattle.tape_run.proofs.Headline.{took_so_many}
 
@@ -37,34 +40,54 @@ restart_refusal TooFewReels n old new lt h = h
 restart_refusal OutOfMemory n old new lt h = absurd h
 restart_refusal OtherFile n old new lt h = h
 
-same_fault : (fault other : RunFault) → (r s : Result (Unit {0}) RunFault) → r ≡ Err fault
-    → s ≡ Err other → r ≡ s → IsRefusal other → IsRefusal fault
-same_fault fault other r s a b e h = let same : other ≡ fault = cc in subst IsRefusal same h
+-- of the first step
+first_refusal : (step : Step) (steps : List Step) (bytes given : List (List ℕ)) (fault : RunFault)
+    (old new : Seen) (set : FileSet) (h : Happening) (hs : List Happening)
+    → length given ≡ length bytes → Fails step (map Some bytes) fault old new
+    → IsHistory set (length old.notes) (step ∷ steps) given (h ∷ hs) → IsRefusal fault
+first_refusal Reel steps bytes [] fault old new set x hs m f h = absurd h
+first_refusal Reel steps [] (g ∷ given) fault old new set x hs m f h = absurd (omega (arith, m))
+first_refusal Reel steps (b ∷ bs) (g ∷ given) fault old new set x hs m f h =
+    reel_refusal fault b old new f
+first_refusal Save steps bytes given fault old new set x hs m f h = save_refusal fault old new f
+first_refusal (Restart k) steps bytes given fault old new set x hs m f (e, less, h) =
+    restart_refusal fault k old new less f
 
-pub answered : (old new : Seen) (steps : List Step) (bytes given : List (List ℕ))
-    (fault : RunFault) (set : FileSet) (hs : List Happening)
-    → length given ≡ length bytes → Runs old steps (map Some bytes) (Err fault) new
+same_step : (step other : Step) → Some step ≡ Some other → other ≡ step
+same_step step other e = cc
+
+at_step : (n : ℕ) (step : Step) (old mid new : Seen) (steps : List Step)
+    (bytes given : List (List ℕ)) (fault : RunFault) (set : FileSet) (hs : List Happening)
+    → length given ≡ length bytes → slice_get steps n ≡ Some step
+    → Runs old (take n steps) (map Some bytes) mid
+    → Fails step (drop (reels_in (take n steps)) (map Some bytes)) fault mid new
     → IsHistory set (length old.notes) steps given hs → IsRefusal fault
-answered old new [] bytes given fault set hs n (e, same) h = absurd (cc)
-answered old new (s ∷ steps) bytes given fault set [] n r h = absurd h
-answered old new (Reel ∷ steps) bytes [] fault set (x ∷ hs) n r h = absurd h
-answered old new (Reel ∷ steps) [] (g ∷ given) fault set (x ∷ hs) n r h = absurd (omega (arith, n))
-answered old new (Reel ∷ steps) (b ∷ bs) (g ∷ given) fault set (x ∷ hs) n
-    (inl (failed, mid, r, runs)) (m, h) =
-    answered mid new steps bs given fault set hs (omega (arith, n)) runs (rw r.notes h)
-answered old new (Reel ∷ steps) (b ∷ bs) (g ∷ given) fault set
-    (x ∷ hs) n (inr (other, e, why)) (m, h) =
-    same_fault fault other (Err fault) (Err other) refl refl e (reel_refusal other b old new why)
-answered old new (Save ∷ steps) bytes given fault set (x ∷ hs) n (inl (mid, v, runs)) (e, h) =
-    let count : length mid.notes ≡ length old.notes + 1 =
+at_step n step old mid new [] bytes given fault set hs m is r f h = absurd (omega (arith, slice_get_within [] n step is))
+at_step n step old mid new (s ∷ steps) bytes given fault set [] m is r f h = absurd h
+at_step zero step old mid new (s ∷ steps) bytes given fault set (x ∷ hs) m is r f h =
+    first_refusal s steps bytes given fault old new set x hs m
+    (subst (λ (z : Step). Fails z (map Some bytes) fault old new) (same_step s step is)
+    (subst (λ (z : Seen). Fails step (map Some bytes) fault z new) r f)) h
+at_step (suc n) step old mid new (Reel ∷ steps) bytes [] fault set (x ∷ hs) m is r f h = absurd h
+at_step (suc n) step old mid new (Reel ∷ steps) [] (g ∷ given) fault set (x ∷ hs) m is r f h =
+    absurd r
+at_step (suc n) step old mid new (Reel ∷ steps) (b ∷ bs) (g ∷ given) fault set (x ∷ hs) m is
+    (failed, first, reeled, r) f (mount, h) =
+    at_step n step first mid new steps bs given fault set hs (omega (arith, m)) is r f
+    (rw reeled.notes h)
+at_step (suc n) step old mid new (Save ∷ steps) bytes given fault set (x ∷ hs) m is (first, v, r) f
+    (e, h) =
+    let count : length first.notes ≡ length old.notes + 1 =
     ap length v.notes ∙ length-append old.notes _ in
-    answered mid new steps bytes given fault set hs n runs (rw count h)
-answered old new (Save ∷ steps) bytes given fault set (x ∷ hs) n (inr (other, e, why)) (f, h) =
-    same_fault fault other (Err fault) (Err other) refl refl e (save_refusal other old new why)
-answered old new (Restart k ∷ steps) bytes given fault set (x ∷ hs) n
-    (inl (mid, w, runs)) (e, less, h) =
-    let count : length mid.notes ≡ k + 1 = ap length w.notes ∙ took_so_many k old.notes less in
-    answered mid new steps bytes given fault set hs n runs (rw count h)
-answered old new (Restart k ∷ steps) bytes given fault set (x ∷ hs) n
-    (inr (other, e, why)) (f, less, h) = same_fault fault other (Err fault) (Err other) refl refl e
-    (restart_refusal other k old new less why)
+    at_step n step first mid new steps bytes given fault set hs m is r f (rw count h)
+at_step (suc n) step old mid new (Restart k ∷ steps) bytes given fault set (x ∷ hs) m is
+    (first, w, r) f (e, less, h) =
+    let count : length first.notes ≡ k + 1 = ap length w.notes ∙ took_so_many k old.notes less in
+    at_step n step first mid new steps bytes given fault set hs m is r f (rw count h)
+
+pub answered : (old new : Seen) (steps : List Step) (bytes given : List (List ℕ)) (n : ℕ)
+    (fault : RunFault) (set : FileSet) (hs : List Happening)
+    → length given ≡ length bytes → RunsUpTo old steps (map Some bytes) n fault new
+    → IsHistory set (length old.notes) steps given hs → IsRefusal fault
+answered old new steps bytes given n fault set hs m r h =
+    at_step n r.step old r.mid new steps bytes given fault set hs m r.at r.runs r.fails h

@@ -1,9 +1,10 @@
 -- The cases of a session and of its history.
-use Rattle.std.proofs.Common.{◌≡◌, ℕ, zero, suc, List, [], ◌∷◌, ◌++◌}
+use Rattle.std.proofs.Common.{◌≡◌, ℕ, zero, suc, Bool, List, [], ◌∷◌, ◌++◌, ◌∙◌}
 use Rattle.std.proofs.Common.{length, true, Some, refl, sym, ap, subst, inl}
 use Rattle.std.proofs.Common.{inr, arith}
 use Rattle.std.proofs.Common.{append-nil, length-append}
 use Rattle.std.specs.Prelude.{slice_get, slice_index}
+use Rattle.std.proofs.lemmas.Option.{slice_get_within}
 use Rattle.tape_image.specs.declared.item.Ending.TheVariants as endings
 use Rattle.tape_image.specs.Tape.{TapeItem, block}
 use Rattle.tape_image.specs.Begins.{Begins, ends, nothing}
@@ -19,14 +20,20 @@ use Rattle.tape_core.specs.Point.{Point}
 use Rattle.tape_core.specs.Stands.{weight_of}
 use Rattle.tape_core.specs.Table.{saved}
 use Rattle.tape_core.specs.Weight.{IsFront}
+use Rattle.tape_set.specs.Lawful.{IsLawful}
 use Rattle.tape_run.specs.declared.fault.RunFault.{RunFault}
+use Rattle.tape_run.specs.declared.fault.RunFault.TheVariants.{TooFewReels}
+use Rattle.tape_run.specs.declared.script.Step.{Step}
+use Rattle.tape_run.specs.declared.script.Step.TheVariants.{Reel, Save, Restart}
 use Rattle.tape_run.specs.Crash.{IsOf}
 use Rattle.tape_run.specs.Given.{IsGiven, AreGiven}
-use Rattle.tape_run.specs.History.{course_of}
-use Rattle.tape_run.specs.Headline.{HasStopped}
+use Rattle.tape_run.specs.History.{course_of, IsHistory}
+use Rattle.tape_run.specs.Headline.{HasStopped, Stops}
 use Rattle.tape_run.specs.Lives.{IsPlaceOf}
-use Rattle.tape_run.specs.Mount.{foreign_reel, reads, IsMount}
-use Rattle.tape_run.specs.Seen.{Seen, IsKept, KeepsNotes}
+use Rattle.tape_run.specs.Mount.{Happening, foreign_reel, reads, IsMount}
+use Rattle.tape_run.specs.Runs.{Runs, RunsUpTo, Fails}
+use Rattle.tape_run.specs.Seen.{Seen, IsKept, IsSession, KeepsNotes}
+use Rattle.tape_run.specs.Steps.{Reeled, ReelFails, Saved, WentBack}
 use Rattle.tape_run.specs.WorkedHistory.{worked_set, vol1, hdr1}
 use Rattle.tape_run.specs.Cases.{CasesOfMounts, CasesOfHistories, CasesOfGiven, CasesOfVolumes}
 use Rattle.tape_run.specs.Cases.{CasesOfSessions, CasesOfMade, CasesOfStops, CasesOfCrashes}
@@ -168,14 +175,49 @@ cases_of_sessions = record {
 
 -- ---- steps that were made, and runs that were stopped
 
+-- the step that is told
+step_is : (step told : Step) → Some step ≡ Some told → told ≡ step
+step_is step told e = cc
+
+two_were_made : (old new : Seen) (bytes : List ℕ)
+    → Runs old (Save ∷ Reel ∷ Restart 1 ∷ []) (Some bytes ∷ []) new
+    → (failed : Bool) × (first : Seen) × (second : Seen) × Saved old first
+    × Reeled bytes failed first second × WentBack 1 second new
+two_were_made old new bytes (first, saved, (failed, second, reeled, (last, went, same))) =
+    (failed, first, second, saved, reeled, rw same went)
+
+second_was_not : (old new : Seen) (fault : RunFault) (bytes : List ℕ)
+    → RunsUpTo old (Reel ∷ Reel ∷ Save ∷ []) (Some bytes ∷ []) 1 fault new
+    → (failed : Bool) × (mid : Seen) × Reeled bytes failed old mid
+    × (fault ≡ TooFewReels) × (new ≡ mid)
+second_was_not old new fault bytes r =
+    let (failed, mid, reeled, same) = r.runs in
+    let f = subst (λ z. Fails z [] fault r.mid new) (step_is Reel r.step r.at) r.fails in
+    (failed, mid, reeled, f.0, f.1 ∙ same)
+
+third_was_not : (old new : Seen) (fault : RunFault) (bytes other : List ℕ)
+    → RunsUpTo old (Save ∷ Reel ∷ Reel ∷ []) (Some bytes ∷ Some other ∷ []) 2 fault new
+    → (failed : Bool) × (first : Seen) × (mid : Seen) × Saved old first
+    × Reeled bytes failed first mid × ReelFails other fault mid new
+third_was_not old new fault bytes other r =
+    let (first, saved, (failed, mid, reeled, same)) = r.runs in
+    let f = subst (λ z. Fails z (Some other ∷ []) fault r.mid new) (step_is Reel r.step r.at)
+    r.fails in
+    (failed, first, mid, saved, reeled, subst (λ z. ReelFails other fault z new) same f)
+
 pub cases_of_made : CasesOfMade
 cases_of_made = record {
   was_reeled = λ bytes failed old new r. (r.is_given, r.count, r.notes, r.calm, r.grows);
   same_reader = λ bytes failed old new r. (r.same_set, r.same_file);
   mount_was_read = λ bytes failed old new set h r lawful mount placed.
       let by = r.reads set h lawful mount placed in (by.at, by.position);
-  nothing_was_made = λ old new result r. r;
-  no_reel_was_there = λ old new result r. r;
+  nothing_was_made = λ old new r. r;
+  no_reel_was_there = λ old new bytes r. r.3;
+  two_were_made = two_were_made;
+  second_was_not = second_was_not;
+  third_was_not = third_was_not;
+  none_behind = λ old new fault r. absurd (let e = r.at in cc);
+  fails = λ old new fault reels. (λ f. f, λ f. f);
   was_saved = λ old new s. (s.notes, s.place, s.parts, s.count, s.calm);
   went_back = λ old new w.
       (w.noted, w.place, w.front, w.weighs, w.notes, w.count, w.calm);
@@ -189,11 +231,14 @@ cases_of_made = record {
   reel_fails = λ bytes old new. (λ x. x, λ x. x, λ x. x, λ e. e);
 }
 
-nothing_stops_none : (old new : Seen) (bytes : List (List ℕ)) (fault : RunFault)
-    → HasStopped old [] bytes fault new → ⊥
-nothing_stops_none old new bytes fault s =
-    let e : 0 ≡ length (s.made ++ s.step ∷ s.rest) = ap length s.all in
-    absurd (omega (arith, e, length-append s.made (s.step ∷ s.rest)))
+stopped_so : (old new : Seen) (a b c : List ℕ) (fault : RunFault) (set : FileSet)
+    (hs : List Happening)
+    (s : HasStopped old (Reel ∷ Reel ∷ Save ∷ Reel ∷ []) (a ∷ b ∷ c ∷ []) 2 fault new)
+    → IsLawful set → IsHistory set (length old.notes) (Reel ∷ Reel ∷ []) s.given hs
+    → IsSession set old → Stops set old hs Save (c ∷ []) fault new
+stopped_so old new a b c fault set hs s lawful history is =
+    subst (λ z. Stops set old hs z (c ∷ []) fault new) (step_is Save s.step s.at)
+    (s.stops set hs lawful history is)
 
 pub cases_of_stops : CasesOfStops
 cases_of_stops = record {
@@ -204,12 +249,15 @@ cases_of_stops = record {
   sinks_stop = λ set old new hs readers cause. (λ r. r, λ r. r);
   part_refused = λ set old new hs xs h r.
       (r.session.at.all, r.same_file, r.refused, r.awaited, r.position, r.notes);
-  stopped_at = λ old new steps bytes fault s. (s.all, s.are_given, s.count);
-  stopped_so = λ old new steps bytes fault set hs s. s.stops set hs;
-  nothing_stops_none = nothing_stops_none;
+  stopped_at = λ old new bytes fault s. (step_is Save s.step s.at, s.are_given, s.count);
+  stopped_so = stopped_so;
+  nothing_stops_none = λ old new bytes n fault s.
+      absurd (omega (arith, slice_get_within [] n s.step s.at));
   two_reels = refl;
-  goes_back = tt;
-  goes_on = λ x. x;
+  loses = ((4, refl), refl);
+  mount_keeps = λ l. absurd (let e = l.0.1 in cc);
+  save_keeps = λ l. absurd (let e = l.0.1 in cc);
+  other_keeps = (λ l. absurd (let e = l.1 in cc), λ l. absurd (let e = l.1 in cc));
 }
 
 -- ---- crashes

@@ -190,8 +190,8 @@ restart_then old mid new n steps given w rest set (x ∷ hs) l (e, less, h) s =
 
 -- All steps of a run that answered Ok were made.
 pub headline : (old new : Seen) (steps : List Step) (bytes : List (List ℕ))
-    → Runs old steps (map Some bytes) (Ok tt) new → HasRun old steps bytes new
-headline old new [] bytes (e, same) = record {
+    → Runs old steps (map Some bytes) new → HasRun old steps bytes new
+headline old new [] bytes same = record {
   given = bytes;
   failed = 0;
   are_given = all_given bytes;
@@ -199,11 +199,10 @@ headline old new [] bytes (e, same) = record {
   ran = λ set hs l h s. nothing_ran set old new bytes hs same h s;
   led = led_nothing old new bytes same;
 }
-headline old new (Reel ∷ steps) [] (e, same) = absurd (cc e)
-headline old new (Reel ∷ steps) (b ∷ bs) (inl (failed, mid, r, runs)) =
+headline old new (Reel ∷ steps) [] none = absurd none
+headline old new (Reel ∷ steps) (b ∷ bs) (failed, mid, r, runs) =
     reel_given old mid new steps b bs failed r (headline mid new steps bs runs)
-headline old new (Reel ∷ steps) (b ∷ bs) (inr (fault, e, why)) = absurd (cc e)
-headline old new (Save ∷ steps) bytes (inl (mid, v, runs)) =
+headline old new (Save ∷ steps) bytes (mid, v, runs) =
     let rest = headline mid new steps bytes runs in
     record {
       given = rest.given;
@@ -213,8 +212,7 @@ headline old new (Save ∷ steps) bytes (inl (mid, v, runs)) =
       ran = save_then old mid new steps rest.given v rest.ran;
       led = led_save old mid new steps rest.given v rest.led;
     }
-headline old new (Save ∷ steps) bytes (inr (fault, e, why)) = absurd (cc e)
-headline old new (Restart n ∷ steps) bytes (inl (mid, w, runs)) =
+headline old new (Restart n ∷ steps) bytes (mid, w, runs) =
     let rest = headline mid new steps bytes runs in
     record {
       given = rest.given;
@@ -224,4 +222,3 @@ headline old new (Restart n ∷ steps) bytes (inl (mid, w, runs)) =
       ran = restart_then old mid new n steps rest.given w rest.ran;
       led = led_restart old mid new n steps rest.given w rest.led;
     }
-headline old new (Restart n ∷ steps) bytes (inr (fault, e, why)) = absurd (cc e)

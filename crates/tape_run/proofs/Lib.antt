@@ -7,7 +7,7 @@ pub mod Images
 pub mod Mounts
 pub mod Taken
 pub mod Reels
-pub mod Stopped
+pub mod Ended
 pub mod Lead
 pub mod Headline
 pub mod Sessions

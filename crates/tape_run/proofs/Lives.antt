@@ -46,14 +46,14 @@ record Behind (old : Seen) (steps : List Step) (reels : List (Option (List ℕ))
   rest : List Step
   all : steps ≡ done ++ rest
   mid : Seen
-  runs : Runs old done reels (Ok tt) mid
+  runs : Runs old done reels mid
   is_of : IsOf mid back there
 
 none_made : (old : Seen) (steps : List Step) (reels : List (Option (List ℕ)))
     (back : Point) (there : List Portion)
     → IsOf old back there → Behind old steps reels back there
 none_made old steps reels back there h =
-    record { done = []; rest = steps; all = refl; mid = old; runs = (refl, refl); is_of = h }
+    record { done = []; rest = steps; all = refl; mid = old; runs = refl; is_of = h }
 
 behind : (old : Seen) (steps : List Step) (bytes : List (List ℕ))
     (back : Point) (there : List Portion)
@@ -68,7 +68,7 @@ behind old (Reel ∷ steps) (b ∷ bs) back there (inr (failed, mid, r, h)) =
       rest = n.rest;
       all = ap (λ (l : List Step). Reel ∷ l) n.all;
       mid = n.mid;
-      runs = inl ((failed, mid, r, n.runs));
+      runs = (failed, mid, r, n.runs);
       is_of = n.is_of;
     }
 behind old (Save ∷ steps) bytes back there (inl h) = none_made old (Save ∷ steps) _ back there h
@@ -79,7 +79,7 @@ behind old (Save ∷ steps) bytes back there (inr (mid, v, h)) =
       rest = n.rest;
       all = ap (λ (l : List Step). Save ∷ l) n.all;
       mid = n.mid;
-      runs = inl ((mid, v, n.runs));
+      runs = (mid, v, n.runs);
       is_of = n.is_of;
     }
 behind old (Restart k ∷ steps) bytes back there (inl h) =
@@ -91,7 +91,7 @@ behind old (Restart k ∷ steps) bytes back there (inr (mid, w, h)) =
       rest = n.rest;
       all = ap (λ (l : List Step). Restart k ∷ l) n.all;
       mid = n.mid;
-      runs = inl ((mid, w, n.runs));
+      runs = (mid, w, n.runs);
       is_of = n.is_of;
     }
 

@@ -1,8 +1,9 @@
 -- Answers that the contracts of a run and of whole readings exclude: each is what a wrong body
 -- would give.
-use Rattle.std.proofs.Common.{◌≡◌, ◌⊎◌, inl, inr, ℕ, List, [], ◌∷◌, ◌++◌, map, Bool, true, false}
-use Rattle.std.proofs.Common.{refl}
+use Rattle.std.proofs.Common.{◌≡◌, ◌⊎◌, inl, inr, ℕ, zero, suc, List, [], ◌∷◌, ◌++◌, map, take, drop}
+use Rattle.std.proofs.Common.{Bool, true, false, refl}
 use Rattle.std.proofs.Common.{sym, ap, ◌∙◌, subst, arith, codes, length}
+use Rattle.std.proofs.lemmas.Option.{slice_get_within}
 use Rattle.std.specs.Prelude.{Option, Some, Ok, Err, IsSome, slice_get, option_map}
 use Rattle.tape_blocks.specs.declared.part.Span.TheVariants as spans
 use Rattle.tape_blocks.specs.Block.{Portion}
@@ -18,15 +19,17 @@ use Rattle.tape_core.specs.Point.{Point}
 use Rattle.tape_core.specs.Stands.{Stands, weight_of}
 use Rattle.tape_core.specs.Table.{saved}
 use Rattle.tape_core.specs.State.{State}
-use Rattle.tape_run.specs.declared.fault.RunFault.TheVariants as run_faults
+use Rattle.tape_run.specs.declared.fault.RunFault.{RunFault}
+use Rattle.tape_run.specs.declared.fault.RunFault.TheVariants.{NoSuchPoint, TooFewReels}
+use Rattle.tape_run.specs.declared.fault.Stopped.{Stopped}
 use Rattle.tape_run.specs.declared.script.Step.{Step}
-use Rattle.tape_run.specs.declared.script.Step.TheVariants.{Reel, Save}
+use Rattle.tape_run.specs.declared.script.Step.TheVariants.{Reel, Save, Restart}
 use Rattle.tape_run.specs.Crash.{is_saved}
 use Rattle.tape_run.specs.Given.{IsGiven, AreGiven}
-use Rattle.tape_run.specs.Headline.{begins, IsRead, IsStart}
+use Rattle.tape_run.specs.Headline.{begins, reels_in, IsRead, IsStart}
 use Rattle.tape_run.specs.History.{IsHistory, course, after}
 use Rattle.tape_run.specs.Mount.{Happening, reads, foreign_reel, saves, restarts, IsMountOf}
-use Rattle.tape_run.specs.Runs.{Runs}
+use Rattle.tape_run.specs.Runs.{Runs, RunsUpTo, Fails}
 use Rattle.tape_run.specs.Seen.{Seen, seen, KeepsNotes}
 use Rattle.tape_run.specs.WorkedHistory.{worked_steps, worked_reels, first, middle, last}
 use Rattle.tape_run.proofs.WorkedHistory.{is_worked}
@@ -46,30 +49,82 @@ kept_without : (place : State) (held : List Portion) (notes : List Point) → no
 kept_without place held notes none =
     subst (λ v. KeepsNotes place [] v held) (sym none) (held, refl)
 
+-- where a run stopped
+abbrev stopped : ℕ → RunFault → Stopped
+stopped n fault = record { step = n; fault = fault }
+
+-- the step of this number was not made, of these steps and with these readers
+abbrev StopsAt : List Step → List (Option (List ℕ)) → Step → ℕ → RunFault → Type 0
+StopsAt steps left step n fault = (mid : Seen) × (new : Seen)
+    × (slice_get steps n ≡ Some step)
+    × Fails step (drop (reels_in (take n steps)) left) fault mid new
+
+stops_at : (old new : Seen) (is steps : List Step) (are left : List (Option (List ℕ))) (n : ℕ)
+    (fault : RunFault) → is ≡ steps → are ≡ left → RunsUpTo old is are n fault new
+    → (step : Step) × StopsAt steps left step n fault
+stops_at old new is steps are left n fault same these r =
+    let h = subst (λ v. RunsUpTo old v left n fault new) same
+    (subst (λ v. RunsUpTo old is v n fault new) these r) in
+    (h.step, (h.mid, new, h.at, h.fails))
+
 -- a run that asks for a reel where no reader is left is not ended by another fault
-other_fault : (old new : Seen) (steps : List Step) (left : List (Option (List ℕ)))
-    → steps ≡ Reel ∷ [] → left ≡ [] → Runs old steps left (Err run_faults.NoSuchPoint) new → ⊥
-other_fault old new steps left one none r =
-    let w = subst (λ v. Runs old v [] (Err run_faults.NoSuchPoint) new) one
-    (subst (λ v. Runs old steps v (Err run_faults.NoSuchPoint) new) none r) in
-    absurd (cc (w.0))
+other_fault : (step : Step) (n : ℕ) (fault : RunFault) → StopsAt (Reel ∷ []) [] step n fault
+    → fault ≡ TooFewReels
+other_fault Reel zero fault (mid, new, is, (e, same)) = e
+other_fault Save zero fault (mid, new, is, h) = absurd (cc is)
+other_fault (Restart k) zero fault (mid, new, is, h) = absurd (cc is)
+other_fault step (suc n) fault (mid, new, is, h) =
+    absurd (omega (arith, slice_get_within (Reel ∷ []) (suc n) step is))
 
 -- no_reel_told_as_no_point: a reel is asked for and there is no reader, and it is told that no such
 -- point was saved.
 no_reel_told_as_no_point : (S : _) (R : _) (LS : _) (LR : _) (g : _) (d : _) (h : _) (e : _)
-    (κs : _) (a : _) (s : _) (held : List Portion)
-    → run.Learnt-named S R LS LR g d h e κs a (Err run_faults.NoSuchPoint) s
+    (κs : _) (a : _) (s : _) (held : List Portion) (n : ℕ)
+    → run.Learnt-named S R LS LR g d h e κs a (Err (stopped n NoSuchPoint)) s
     → g.holds a.0.now.sink held → a.0.now.notes ≡ []
     → a.1.0.now ≡ Reel ∷ [] → map h.remaining a.1.1.0.now ≡ [] → ⊥
-no_reel_told_as_no_point S R LS LR g d h e κs a s held l was fresh one none =
+no_reel_told_as_no_point S R LS LR g d h e κs a s held n l was fresh one none =
     let kept = kept_without (rest_of a.0.now.core) held a.0.now.notes fresh in
-    other_fault _ _ a.1.0.now (map h.remaining a.1.1.0.now) one none (l.faults held was kept).3
+    let (step, stops) = stops_at _ _ a.1.0.now (Reel ∷ []) (map h.remaining a.1.1.0.now) []
+    n NoSuchPoint one none (l.faults held was kept).3 in
+    absurd (cc (other_fault step n NoSuchPoint stops))
+
+-- a save is not stopped for want of a reel
+saves_need_none : (step : Step) (mid new : Seen) → Some Save ≡ Some step
+    → Fails step [] TooFewReels mid new → ⊥
+saves_need_none Save mid new is h = h
+saves_need_none Reel mid new is h = absurd (cc is)
+saves_need_none (Restart k) mid new is h = absurd (cc is)
+
+-- step_told_one_too_low: behind a save a reel is asked for and there is no reader, and it is told
+-- that the save was not made.
+step_told_one_too_low : (S : _) (R : _) (LS : _) (LR : _) (g : _) (d : _) (h : _) (e : _)
+    (κs : _) (a : _) (s : _) (held : List Portion)
+    → run.Learnt-named S R LS LR g d h e κs a (Err (stopped 0 TooFewReels)) s
+    → g.holds a.0.now.sink held → a.0.now.notes ≡ []
+    → a.1.0.now ≡ Save ∷ Reel ∷ [] → map h.remaining a.1.1.0.now ≡ [] → ⊥
+step_told_one_too_low S R LS LR g d h e κs a s held l was fresh two none =
+    let kept = kept_without (rest_of a.0.now.core) held a.0.now.notes fresh in
+    let (step, (mid, new, is, fails)) = stops_at _ _ a.1.0.now (Save ∷ Reel ∷ [])
+    (map h.remaining a.1.1.0.now) [] 0 TooFewReels two none (l.faults held was kept).3 in
+    saves_need_none step mid new is fails
+
+-- steps_counted_from_1: the only step was not made, and step 1 is told
+steps_counted_from_1 : (S : _) (R : _) (LS : _) (LR : _) (g : _) (d : _) (h : _) (e : _)
+    (κs : _) (a : _) (s : _) (held : List Portion) (fault : RunFault)
+    → run.Learnt-named S R LS LR g d h e κs a (Err (stopped 1 fault)) s
+    → g.holds a.0.now.sink held → a.0.now.notes ≡ []
+    → a.1.0.now ≡ Reel ∷ [] → map h.remaining a.1.1.0.now ≡ [] → ⊥
+steps_counted_from_1 S R LS LR g d h e κs a s held fault l was fresh one none =
+    let kept = kept_without (rest_of a.0.now.core) held a.0.now.notes fresh in
+    let (step, (mid, new, is, fails)) = stops_at _ _ a.1.0.now (Reel ∷ [])
+    (map h.remaining a.1.1.0.now) [] 1 fault one none (l.faults held was kept).3 in
+    absurd (omega (arith, slice_get_within (Reel ∷ []) 1 step is))
 
 -- of two reels that a script asks for the second is not made where there is one reader
 second_reel : (old new : Seen) (bytes : List ℕ)
-    → Runs old (Reel ∷ Reel ∷ []) (Some bytes ∷ []) (Ok tt) new → ⊥
-second_reel old new bytes (inl (failed, mid, r, runs)) = absurd (cc (runs.0))
-second_reel old new bytes (inr (fault, e, why)) = absurd (cc e)
+    → Runs old (Reel ∷ Reel ∷ []) (Some bytes ∷ []) new → ⊥
+second_reel old new bytes (failed, mid, r, none) = none
 
 -- same_reel_read_again: there is one reader, and both reels of a script are told as read.
 same_reel_read_again : (S : _) (R : _) (LS : _) (LR : _) (g : _) (d : _) (h : _) (e : _)
@@ -82,15 +137,14 @@ same_reel_read_again S R LS LR g d h e κs a s held bytes l was fresh two one =
     let r = l.runs held was kept in
     let old : Seen = seen g.refusals a.0.now held in
     let new : Seen = seen g.refusals s.0.now r.0 in
-    second_reel old new bytes (subst (λ v. Runs old v (Some bytes ∷ []) (Ok tt) new) two
-    (subst (λ v. Runs old a.1.0.now v (Ok tt) new) one r.2))
+    second_reel old new bytes (subst (λ v. Runs old v (Some bytes ∷ []) new) two
+    (subst (λ v. Runs old a.1.0.now v new) one r.2))
 
 -- a save that was made is noted
 saved_alone : (old new : Seen) (reels : List (Option (List ℕ)))
-    → Runs old (Save ∷ []) reels (Ok tt) new
+    → Runs old (Save ∷ []) reels new
     → new.notes ≡ old.notes ++ saved old.place (weight_of old.parts) ∷ []
-saved_alone old new reels (inl (mid, v, (ok, same))) = ap (λ (z : Seen). z.notes) same ∙ v.notes
-saved_alone old new reels (inr (fault, e, why)) = absurd (cc e)
+saved_alone old new reels (mid, v, same) = ap (λ (z : Seen). z.notes) same ∙ v.notes
 
 -- script_notes_in_the_list_alone: at block 5 a script saves, and the sink comes back with the start
 -- of the file.
@@ -108,7 +162,7 @@ script_notes_in_the_list_alone S R LS LR g d h e κs a s held there older l was 
     let new : Seen = seen g.refusals s.0.now r.0 in
     let here = saved old.place (weight_of held) in
     let one : s.0.now.notes ≡ here ∷ [] = saved_alone old new (map h.remaining a.1.1.0.now)
-    (subst (λ v. Runs old v (map h.remaining a.1.1.0.now) (Ok tt) new) steps r.2)
+    (subst (λ v. Runs old v (map h.remaining a.1.1.0.now) new) steps r.2)
     ∙ ap (λ l. l ++ here ∷ []) fresh in
     let (n, count, (is, front, weighs)) = r.3 (ap (is_saved false) steps) older there back in
     let number : n ≡ 0 = omega (arith, count, ap length one) in

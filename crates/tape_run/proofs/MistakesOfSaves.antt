@@ -1,8 +1,8 @@
 -- Answers that the contracts of a session exclude where it saves, where it is complete and where a
 -- trailer counts other blocks: each is what a wrong body would give.
 use Rattle.std.proofs.Common.{◌≡◌, inl, inr, ℕ, List, [], ◌∷◌, ◌++◌, length, false, refl, sym, ap}
-use Rattle.std.proofs.Common.{◌∙◌, subst, arith}
-use Rattle.std.specs.Prelude.{Option, Some, None, Ok, Err, IfSome, map}
+use Rattle.std.proofs.Common.{◌∙◌, ◌+◌, subst, arith, length-append}
+use Rattle.std.specs.Prelude.{Option, Some, None, Ok, Err, IfSome, map, slice_get}
 use Rattle.tape_blocks.specs.Block.{Portion}
 use Rattle.tape_image.specs.declared.fault.ImageFault.{ImageFault}
 use Rattle.tape_image.specs.Begins.{Begins, Stop}
@@ -24,12 +24,14 @@ use Rattle.tape_core.specs.State.{State}
 use Rattle.tape_core.specs.Stands.{weight_of}
 use Rattle.tape_core.specs.Table.{step_of, mount_of, mounted, saved}
 use Rattle.tape_run.specs.declared.fault.RunFault.TheVariants as faults
-use Rattle.tape_run.specs.declared.script.Step.TheVariants.{Save}
+use Rattle.tape_run.specs.declared.fault.RunFault.{RunFault}
+use Rattle.tape_run.specs.declared.fault.Stopped.{Stopped}
+use Rattle.tape_run.specs.declared.script.Step.{Step}
+use Rattle.tape_run.specs.declared.script.Step.TheVariants.{Reel, Save, Restart}
 use Rattle.tape_run.specs.Given as given
 use Rattle.tape_run.specs.Given.{IsGiven}
-use Rattle.tape_run.specs.Headline.{HasRestart}
 use Rattle.tape_run.specs.Reels.{behind_items}
-use Rattle.tape_run.specs.Runs.{Runs}
+use Rattle.tape_run.specs.Runs.{RunsUpTo, Fails}
 use Rattle.tape_run.specs.Seen.{Seen, seen, IsSession, KeepsNotes}
 use Rattle.tape_run.specs.Steps.{Reeled}
 use Rattle.tape_run.proofs.ByTable.{behind_app}
@@ -112,35 +114,70 @@ last_note_not_counted S LS g d κs a s told l one = absurd (omega (arith, l, ap 
 abbrev HoldsOne : (List Portion → Type 0) → Type 0
 HoldsOne holds = (xs ys : List Portion) → holds xs → holds ys → xs ≡ ys
 
--- where the one step is a save that the sink refused, the parts are as before
-as_before : (old new : Seen) (left : List (Option (List ℕ)))
-    → Runs old (Save ∷ []) left (Err (faults.Sink Device)) new → new.parts ≡ old.parts
-as_before old new left (inl (mid, saved, runs)) = absurd (cc (runs.0))
-as_before old new left (inr (faults.Sink cause, e, why)) = why.0.parts
-as_before old new left (inr (faults.NoSuchPoint, e, why)) = absurd why
-as_before old new left (inr (faults.TooFewReels, e, why)) = absurd why
-as_before old new left (inr (faults.OutOfMemory, e, why)) = ap (λ s. s.parts) why
-as_before old new left (inr (faults.OtherFile, e, why)) = absurd why
+-- the first step was not made, as the sink's device failed
+abbrev at_first : Stopped
+at_first = record { step = 0; fault = faults.Sink Device }
 
--- refused_save_loses_the_parts: the disk of the sink failed in a save, and the part that it held is
--- gone
-refused_save_loses_the_parts : (S : _) (R : _) (LS : _) (LR : _) (g : _) (d : _) (h : _) (e : _)
-    (κs : _) (a : _) (s : _) (part : Portion)
-    → run.Learnt-named S R LS LR g d h e κs a (Err (faults.Sink Device)) s
-    → g.holds a.0.now.sink (part ∷ []) → a.0.now.notes ≡ [] → a.1.0.now ≡ Save ∷ []
-    → HoldsOne (g.holds s.0.now.sink) → g.holds s.0.now.sink [] → ⊥
-refused_save_loses_the_parts S R LS LR g d h e κs a s part l was fresh one alone gone =
-    let held : List Portion = part ∷ [] in
+-- how the step failed that was not made, where it is the first one
+first_fails : (old new : Seen) (step : Step) (is steps : List Step)
+    (are left : List (Option (List ℕ))) (fault : RunFault) → is ≡ step ∷ steps → are ≡ left
+    → RunsUpTo old is are 0 fault new → Fails step left fault old new
+first_fails old new step is steps are left fault same these r =
+    let h = subst (λ v. RunsUpTo old v left 0 fault new) same
+    (subst (λ v. RunsUpTo old is v 0 fault new) these r) in
+    let same_step : h.step ≡ step = let e = h.at in cc in
+    subst (λ z. Fails z left fault old new) same_step
+    (subst (λ z. Fails h.step left fault z new) h.runs h.fails)
+
+-- a run whose first step was not made, as the sink's device failed: what the sink holds then, where
+-- the step is no going back, and how it failed
+stopped_first : (S : _) (R : _) (LS : _) (LR : _) (g : _) (d : _) (h : _) (e : _) (κs : _) (a : _)
+    (s : _) (step : Step) (steps : List Step) (held : List Portion) (left : List (Option (List ℕ)))
+    → run.Learnt-named S R LS LR g d h e κs a (Err at_first) s
+    → g.holds a.0.now.sink held → a.0.now.notes ≡ [] → a.1.0.now ≡ step ∷ steps
+    → map h.remaining a.1.1.0.now ≡ left
+    → ((note : ℕ) → Some step ≡ Some (Restart note) → ⊥)
+    → (now : List Portion) × g.holds s.0.now.sink now
+    × Fails step left (faults.Sink Device) (seen g.refusals a.0.now held)
+    (seen g.refusals s.0.now now)
+stopped_first S R LS LR g d h e κs a s step steps held left l was fresh one known other =
     let kept : KeepsNotes (rest_of a.0.now.core) [] a.0.now.notes held
     = subst (λ v. KeepsNotes (rest_of a.0.now.core) [] v held) (sym fresh) (held, refl) in
-    let r = l.faults held was kept in
-    let old : Seen = seen g.refusals a.0.now held in
-    let new : Seen = seen g.refusals s.0.now r.0 in
-    let left : List (Option (List ℕ)) = map h.remaining a.1.1.0.now in
-    let same : r.0 ≡ held = as_before old new left
-    (subst (λ v. Runs old v left (Err (faults.Sink Device)) new) one r.3) in
-    let now : g.holds s.0.now.sink r.0 = r.1 (λ back. absurd (subst HasRestart one back)) in
-    let n : 0 ≡ 1 = ap length (alone [] r.0 gone now ∙ same) in
+    let r = l.faults held was kept in (
+      r.0,
+      r.1 (λ lost. other lost.0.0 (sym (ap (λ v. slice_get v 0) one) ∙ lost.0.1)),
+      first_fails (seen g.refusals a.0.now held) (seen g.refusals s.0.now r.0) step a.1.0.now steps
+          (map h.remaining a.1.1.0.now) left (faults.Sink Device) one known r.3,
+    )
+
+-- refused_save_loses_the_parts: the disk of the sink failed in a save, and the part that it held is
+-- gone. (The script goes back later.)
+refused_save_loses_the_parts : (S : _) (R : _) (LS : _) (LR : _) (g : _) (d : _) (h : _) (e : _)
+    (κs : _) (a : _) (s : _) (part : Portion)
+    → run.Learnt-named S R LS LR g d h e κs a (Err at_first) s
+    → g.holds a.0.now.sink (part ∷ []) → a.0.now.notes ≡ [] → a.1.0.now ≡ Save ∷ Restart 0 ∷ []
+    → HoldsOne (g.holds s.0.now.sink) → g.holds s.0.now.sink [] → ⊥
+refused_save_loses_the_parts S R LS LR g d h e κs a s part l was fresh two alone gone =
+    let (now, has, fails) = stopped_first S R LS LR g d h e κs a s Save (Restart 0 ∷ [])
+    (part ∷ []) (map h.remaining a.1.1.0.now) l was fresh two refl (λ note is. cc is) in
+    let n : 0 ≡ 1 = ap length (alone [] now gone has ∙ fails.0.parts) in
+    absurd (omega (arith, n))
+
+-- refused_mount_loses_the_parts: the disk of the sink failed while a part of a mount was put, and
+-- the part that it held before is gone
+refused_mount_loses_the_parts : (S : _) (R : _) (LS : _) (LR : _) (g : _) (d : _) (h : _) (e : _)
+    (κs : _) (a : _) (s : _) (part : Portion) (bytes : List ℕ)
+    → run.Learnt-named S R LS LR g d h e κs a (Err at_first) s
+    → g.holds a.0.now.sink (part ∷ []) → a.0.now.notes ≡ [] → a.1.0.now ≡ Reel ∷ Restart 0 ∷ []
+    → map h.remaining a.1.1.0.now ≡ Some bytes ∷ []
+    → HoldsOne (g.holds s.0.now.sink) → g.holds s.0.now.sink [] → ⊥
+refused_mount_loses_the_parts S R LS LR g d h e κs a s part bytes l was fresh two known alone
+    gone =
+    let (now, has, fails) = stopped_first S R LS LR g d h e κs a s Reel (Restart 0 ∷ [])
+    (part ∷ []) (Some bytes ∷ []) l was fresh two known (λ note is. cc is) in
+    let (rest, grows) = fails.grows in
+    let n : 0 ≡ 1 + length rest =
+    ap length (alone [] now gone has ∙ grows) ∙ length-append (part ∷ []) rest in
     absurd (omega (arith, n))
 
 -- ---- what a reel answers

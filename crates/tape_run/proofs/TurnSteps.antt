@@ -20,28 +20,28 @@ pub step_made : (back doubtful failed : Bool) (old mid behind new : Seen) (b : L
     (bs : List (List ℕ)) (steps : List Step) → Reeled b failed old mid
     → IsNoted back doubtful mid behind
     → (length behind.notes ≡ notes_behind doubtful (length old.notes)
-    → Runs behind steps (map Some bs) (Ok tt) new)
+    → Runs behind steps (map Some bs) new)
     → Runs old (Reel ∷ step_behind back doubtful (length old.notes) ++ steps) (map Some (b ∷ bs))
-    (Ok tt) new
+    new
 step_made back false failed old mid behind new b bs steps r s rest =
     let count : length behind.notes ≡ length old.notes + 1 =
     ap length s.notes ∙ length-append mid.notes _ ∙ ap (λ n. length n + 1) r.notes in
-    inl ((failed, mid, r, inl ((behind, s, rest count))))
+    (failed, mid, r, (behind, s, rest count))
 step_made false true failed old mid behind new b bs steps r s rest =
     let count : length behind.notes ≡ length old.notes =
     ap (λ (z : Seen). length z.notes) s ∙ ap length r.notes in
-    inl ((failed, mid, r, subst (λ z. Runs z steps (map Some bs) (Ok tt) new) s (rest count)))
+    (failed, mid, r, subst (λ z. Runs z steps (map Some bs) new) s (rest count))
 step_made true true failed old mid behind new b bs steps r (n, one, w) rest =
     let had : length old.notes ≡ suc n = omega (arith, one, ap length r.notes) in
     let count : length behind.notes ≡ length old.notes =
     ap length w.notes ∙ took_so_many n mid.notes (omega (arith, one)) ∙ omega (arith, had) in
-    subst (λ m. Runs old (Reel ∷ step_behind true true m ++ steps) (map Some (b ∷ bs)) (Ok tt) new)
-    (sym had) (inl ((failed, mid, r, inl ((behind, w, rest count)))))
+    subst (λ m. Runs old (Reel ∷ step_behind true true m ++ steps) (map Some (b ∷ bs)) new)
+    (sym had) ((failed, mid, r, (behind, w, rest count)))
 
 made : (back : Bool) (core : State) (old : Seen) (turns : List Turn) (last : State) (new : Seen)
     (bytes : List (List ℕ)) → Follows back core old turns last new → AreTold turns bytes
-    → Runs old (steps_of back (length old.notes) turns) (map Some bytes) (Ok tt) new
-made back core old [] last new bytes (same_core, same) told = (refl, same)
+    → Runs old (steps_of back (length old.notes) turns) (map Some bytes) new
+made back core old [] last new bytes (same_core, same) told = same
 made back core old (None ∷ turns) last new bytes (waits, f) told =
     made back core old turns last new bytes f told
 made back core old (Some o ∷ turns) last new [] f told = absurd told
@@ -51,7 +51,7 @@ made back core old (Some o ∷ turns) last new (b ∷ bs) (next, behind, r, f) (
     × Reeled bytes (is_device o.answer.fault) old mid
     × IsNoted back doubtful mid behind)) had r.reeled in
     step_made back doubtful (is_device o.answer.fault) old mid behind new b bs _ reeled noted
-    (λ count. subst (λ n. Runs behind (steps_of back n turns) (map Some bs) (Ok tt) new) count
+    (λ count. subst (λ n. Runs behind (steps_of back n turns) (map Some bs) new) count
     (made back next behind turns last new bs f told))
 
 -- What was done is a run.

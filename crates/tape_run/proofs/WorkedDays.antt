@@ -4,6 +4,7 @@ use Rattle.std.proofs.Common.{refl, sym, ap, ◌∙◌, subst, inl, inr, lit≤,
 use Rattle.std.proofs.Common.{Some, length, length-append}
 use Rattle.std.specs.Prelude.{replicate, drop, min, ⊤}
 use Rattle.std.proofs.lemmas.List.{take_all}
+use Rattle.std.proofs.lemmas.Option.{slice_get_within}
 use Rattle.tape_blocks.specs.Block.{Portion}
 use Rattle.tape_set.proofs.Worked as w
 use Rattle.tape_set.proofs.Worked.{made_form}
@@ -26,7 +27,7 @@ use Rattle.tape_run.specs.Given.{AreGiven, counted_up}
 use Rattle.tape_run.specs.Headline.{begins, IsStart, IsRead, HasRun, HasStopped, Stops}
 use Rattle.tape_run.specs.Headline.{reels_in}
 use Rattle.tape_run.specs.Lives.{GoesOn}
-use Rattle.tape_run.specs.Seen.{Seen}
+use Rattle.tape_run.specs.Seen.{Seen, IsSession}
 use Rattle.tape_run.specs.WorkedHistory.{worked_set, section_1, section_2, first, middle, last}
 use Rattle.tape_run.specs.WorkedHistory.{reel_1, reading}
 use Rattle.tape_run.specs.WorkedDays.{DaysAreWorked, IsWhole, once, twice, two_reels, four_reels}
@@ -162,33 +163,30 @@ failed s r one =
 
 -- ---- a part that was refused
 
-step_is : (step : Step) (rest : List Step) → Reel ∷ [] ≡ step ∷ rest → Reel ≡ step
-step_is step rest e = cc
+step_is : (step : Step) → Some Reel ≡ Some step → Reel ≡ step
+step_is step e = cc
 
 -- the one step was not made
-at_first : (old mid : Seen) (made : List Step) (step : Step) (rest : List Step)
-    (given : List (List ℕ)) (cause : SinkFault) → Reel ∷ [] ≡ made ++ step ∷ rest
-    → ((hs : List Happening) → IsHistory worked_set (length old.notes) made given hs
-    → Stops worked_set old hs step (drop (reels_in made) (reel_1 ∷ [])) (Sink cause) mid)
+at_first : (old mid : Seen) (n : ℕ) (cause : SinkFault)
+    → HasStopped old (Reel ∷ []) (reel_1 ∷ []) n (Sink cause) mid → IsSession worked_set old
     → Stops worked_set old [] Reel (reel_1 ∷ []) (Sink cause) mid
-at_first old mid [] step rest given cause e stops =
+at_first old mid zero cause halt fresh =
     subst (λ z. Stops worked_set old [] z (reel_1 ∷ []) (Sink cause) mid)
-    (sym (step_is step rest e)) (stops [] tt)
-at_first old mid (m ∷ made) step rest given cause e stops =
-    absurd (omega (arith, ap length e, length-append made (step ∷ rest)))
+    (sym (step_is halt.step halt.at)) (halt.stops worked_set [] is_lawful tt fresh)
+at_first old mid (suc n) cause halt fresh =
+    absurd (omega (arith, slice_get_within (Reel ∷ []) (suc n) halt.step halt.at))
 
 none_up : (n c : ℕ) → 0 ≡ counted_up n c → n ≡ 0
 none_up zero c e = refl
 none_up (suc n) c e = absurd
     (let h = counts_up n (min (c + 1) 18446744073709551615) (omega arith) in omega (arith, e, h))
 
-refused : (old mid new : Seen) (cause : SinkFault) → IsStart (codes "ABC001") 1 old
-    → HasStopped old (Reel ∷ []) (reel_1 ∷ []) (Sink cause) mid
+refused : (old mid new : Seen) (n : ℕ) (cause : SinkFault) → IsStart (codes "ABC001") 1 old
+    → HasStopped old (Reel ∷ []) (reel_1 ∷ []) n (Sink cause) mid
     → HasRun mid two_reels once new → new.failures ≡ 0 → IsWhole new
-refused old mid new cause begun halt ran none =
+refused old mid new n cause begun halt ran none =
     let fresh = begun.each worked_set is_lawful refl refl in
-    let put = at_first old mid halt.made halt.step halt.rest halt.given cause halt.all
-    (λ hs is. halt.stops worked_set hs is_lawful is fresh.session)
+    let put = at_first old mid n cause halt fresh.session
     whole_1.0 whole_1.1 whole_1.2 vol_1 whole_1.3 whole_1.4 in
     let cut_1 = reading 1 (take put.n (replicate 11 true)) in
     let at : mid.place.position ≡ behind_1 put.n put.part =

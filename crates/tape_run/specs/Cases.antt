@@ -2,7 +2,7 @@
 -- less, or asks more, than it should. The call `laws::cases` has them as its contract.
 use Rattle.std.specs.Prelude.{◌≡◌, ◌≤◌, ℕ, ◌+◌, Bool, true, false, List, [], ◌∷◌, ◌++◌}
 use Rattle.std.specs.Prelude.{length, take, drop, slice_get, Some, None, IsSome}
-use Rattle.std.specs.Prelude.{Result, Ok, Err}
+use Rattle.std.specs.Prelude.{Option}
 use Rattle.tape_image.specs.declared.fault.ImageCause.TheVariants.{Truncated}
 use Rattle.tape_image.specs.declared.fault.ImageCause.TheVariants.{Device}
 use Rattle.tape_image.specs.declared.fault.ImageCause.TheVariants.{OutOfMemory as NoMemory}
@@ -17,6 +17,7 @@ use Rattle.tape_set.specs.Before.{before}
 use Rattle.tape_set.specs.Reach.{passes}
 use Rattle.tape_set.specs.Reading.{Reading, IsReadingOf, as_read}
 use Rattle.tape_core.specs.declared.sink.SinkFault.{SinkFault}
+use Rattle.tape_core.specs.declared.sink.SinkFault.TheVariants as sinks
 use Rattle.tape_core.specs.Place.{IsPlaced, place_of, rest_of}
 use Rattle.tape_core.specs.Point.{Point}
 use Rattle.tape_core.specs.Stands.{Stands, weight_of}
@@ -31,12 +32,12 @@ use Rattle.tape_run.specs.Back.{reels_of, AreVolumes}
 use Rattle.tape_run.specs.Crash.{IsOf, StoodAt}
 use Rattle.tape_run.specs.Given.{is_device, IsGiven, AreGiven, counted, counted_up}
 use Rattle.tape_run.specs.Headline.{Ran, HasRun, IsStart, IsRead, PutRefused, Stops}
-use Rattle.tape_run.specs.Headline.{HasStopped, HasRestart, begins, reels_in}
+use Rattle.tape_run.specs.Headline.{HasStopped, LosesParts, begins, reels_in}
 use Rattle.tape_run.specs.History.{Course, IsHistory, course, course_of}
 use Rattle.tape_run.specs.Lives.{IsPlaceOf, ComesBack, IsResumed, AreHistories, GoesOn}
 use Rattle.tape_run.specs.Mount.{Happening, reads, foreign_reel, saves, restarts, IsMount}
 use Rattle.tape_run.specs.Mount.{IsMountOf, after_mount, cut}
-use Rattle.tape_run.specs.Runs.{Runs}
+use Rattle.tape_run.specs.Runs.{Runs, RunsUpTo, Fails}
 use Rattle.tape_run.specs.Seen.{Seen, AreNotes, IsSession, IsKept, seen}
 use Rattle.tape_run.specs.Steps.{Reeled, ReelFails, SaveFails, RestartFails, WentBack, Saved}
 use Rattle.tape_run.specs.Steps.{StoppedBy}
@@ -201,10 +202,14 @@ pub record CasesOfMade : Type 0 where
       (h : Happening) (r : Reeled bytes failed old new) → IsLawful set → IsMountOf set r.given h
       → IsPlaced set old.place old.parts → IsPlaced set new.place new.parts
       × (new.place.position ≡ after_mount set old.place.file old.place.position h)
-  pub nothing_was_made : (old new : Seen) (result : Result (Unit {0}) RunFault)
-      → Runs old [] [] result new → (result ≡ Ok tt) × (new ≡ old)
-  pub no_reel_was_there : (old new : Seen) (result : Result (Unit {0}) RunFault)
-      → Runs old (Reel ∷ []) [] result new → (result ≡ Err TooFewReels) × (new ≡ old)
+  pub nothing_was_made : (old new : Seen) → Runs old [] [] new → new ≡ old
+  pub no_reel_was_there : (old new : Seen) (bytes : List ℕ)
+      → Runs old (Reel ∷ Reel ∷ []) (Some bytes ∷ []) new → ⊥
+  -- a step is made behind the one before it, with the reader that this left
+  pub two_were_made : (old new : Seen) (bytes : List ℕ)
+      → Runs old (Save ∷ Reel ∷ Restart 1 ∷ []) (Some bytes ∷ []) new
+      → (failed : Bool) × (first : Seen) × (second : Seen) × Saved old first
+      × Reeled bytes failed first second × WentBack 1 second new
   -- what is noted is where the session stands, with the weight of its parts
   pub was_saved : (old new : Seen) → Saved old new
       → (new.notes ≡ old.notes ++ saved old.place (weight_of old.parts) ∷ [])
@@ -215,6 +220,21 @@ pub record CasesOfMade : Type 0 where
       × IsFront new.parts old.parts × (weight_of new.parts ≡ w.point.staged)
       × (new.notes ≡ take 2 old.notes) × (new.failures ≡ old.failures)
       × (new.refusals ≡ old.refusals)
+  -- The step of the number that is told is the one that was not made, and those before it were, each
+  -- with its reader. There is no such step behind the last one.
+  pub second_was_not : (old new : Seen) (fault : RunFault) (bytes : List ℕ)
+      → RunsUpTo old (Reel ∷ Reel ∷ Save ∷ []) (Some bytes ∷ []) 1 fault new
+      → (failed : Bool) × (mid : Seen) × Reeled bytes failed old mid
+      × (fault ≡ TooFewReels) × (new ≡ mid)
+  pub third_was_not : (old new : Seen) (fault : RunFault) (bytes other : List ℕ)
+      → RunsUpTo old (Save ∷ Reel ∷ Reel ∷ []) (Some bytes ∷ Some other ∷ []) 2 fault new
+      → (failed : Bool) × (first : Seen) × (mid : Seen) × Saved old first
+      × Reeled bytes failed first mid × ReelFails other fault mid new
+  pub none_behind : (old new : Seen) (fault : RunFault)
+      → RunsUpTo old (Save ∷ Save ∷ []) [] 2 fault new → ⊥
+  pub fails : (old new : Seen) (fault : RunFault) (reels : List (Option (List ℕ)))
+      → (Fails Save reels fault old new → SaveFails fault old new)
+      × (Fails (Restart 3) reels fault old new → RestartFails 3 fault old new)
   -- why one was not made, and what it left
   pub save_refused : (cause : SinkFault) (old new : Seen) → SaveFails (Sink cause) old new
       → (new.place ≡ old.place) × (new.parts ≡ old.parts) × (new.notes ≡ old.notes)
@@ -283,20 +303,26 @@ pub record CasesOfStops : Type 0 where
       × (new.place.position ≡ at_part r.part (after_mount set old.place.file
       (course set old.place.file (course_of old) hs).at (cut r.n h)))
       × ((course_of new).notes ≡ (course set old.place.file (course_of old) hs).notes)
-  -- the steps that were made and the one that was not are those of the script
-  pub stopped_at : (old new : Seen) (steps : List Step) (bytes : List (List ℕ)) (fault : RunFault)
-      (s : HasStopped old steps bytes fault new) → (steps ≡ s.made ++ s.step ∷ s.rest)
+  -- the step that was not made is the one of the number that is told
+  pub stopped_at : (old new : Seen) (bytes : List (List ℕ)) (fault : RunFault)
+      (s : HasStopped old (Reel ∷ Save ∷ Restart 0 ∷ []) bytes 1 fault new) → (s.step ≡ Save)
       × AreGiven s.failed bytes s.given × (new.failures ≡ counted_up s.failed old.failures)
-  pub stopped_so : (old new : Seen) (steps : List Step) (bytes : List (List ℕ)) (fault : RunFault)
-      (set : FileSet) (hs : List Happening) (s : HasStopped old steps bytes fault new)
-      → IsLawful set → IsHistory set (length old.notes) s.made s.given hs → IsSession set old
-      → Stops set old hs s.step (drop (reels_in s.made) bytes) fault new
-  pub nothing_stops_none : (old new : Seen) (bytes : List (List ℕ)) (fault : RunFault)
-      → HasStopped old [] bytes fault new → ⊥
-  -- readers are counted, and it is told which scripts go back
+  -- two reels were read before it, and the third reader is left
+  pub stopped_so : (old new : Seen) (a b c : List ℕ) (fault : RunFault)
+      (set : FileSet) (hs : List Happening)
+      (s : HasStopped old (Reel ∷ Reel ∷ Save ∷ Reel ∷ []) (a ∷ b ∷ c ∷ []) 2 fault new)
+      → IsLawful set → IsHistory set (length old.notes) (Reel ∷ Reel ∷ []) s.given hs
+      → IsSession set old → Stops set old hs Save (c ∷ []) fault new
+  pub nothing_stops_none : (old new : Seen) (bytes : List (List ℕ)) (n : ℕ) (fault : RunFault)
+      → HasStopped old [] bytes n fault new → ⊥
+  -- readers are counted
   pub two_reels : reels_in (Reel ∷ Save ∷ Restart 0 ∷ Reel ∷ []) ≡ 2
-  pub goes_back : HasRestart (Reel ∷ Save ∷ Restart 0 ∷ [])
-  pub goes_on : HasRestart (Reel ∷ Save ∷ Reel ∷ []) → ⊥
+  -- only a going back in which the device of the sink failed loses what it holds
+  pub loses : LosesParts (Reel ∷ Restart 4 ∷ []) 1 (Sink sinks.Device)
+  pub mount_keeps : LosesParts (Reel ∷ Restart 4 ∷ []) 0 (Sink sinks.Device) → ⊥
+  pub save_keeps : LosesParts (Save ∷ Restart 4 ∷ []) 0 (Sink sinks.Device) → ⊥
+  pub other_keeps : (LosesParts (Restart 4 ∷ []) 0 (Sink sinks.Failed) → ⊥)
+      × (LosesParts (Restart 4 ∷ []) 0 NoSuchPoint → ⊥)
 
 -- ---- crashes
 

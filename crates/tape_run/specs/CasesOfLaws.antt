@@ -34,7 +34,7 @@ use Rattle.tape_run.specs.Mount.{Happening, IsMountOf, cut}
 use Rattle.tape_run.specs.Noted.{noted_all, StandsIn}
 use Rattle.tape_run.specs.OneEntry.{HasOneEach, OneEntryASection}
 use Rattle.tape_run.specs.Passing.{Told, met_in}
-use Rattle.tape_run.specs.Runs.{Runs, OnlyRefusalsStop, IsRefusal}
+use Rattle.tape_run.specs.Runs.{RunsUpTo, OnlyRefusalsStop, IsRefusal}
 use Rattle.tape_run.specs.Seen.{Seen}
 use Rattle.tape_run.specs.Shown.{Shown, GoodAreShown}
 use Rattle.tape_run.specs.WholeReels.{WholeSetIsTold, GoodWasSeen, AreWholeCopies, IsToldWhole}
@@ -51,8 +51,8 @@ pub record CasesOfRunLaws : Type 0 where
       (bytes given : List (List ℕ)) (hs : List Happening) → IsHistory set 0 steps bytes hs
       → AreGiven 2 bytes given → (others : List Happening) × IsHistory set 0 steps given others
   pub a_refusal : OnlyRefusalsStop → (old new : Seen) (steps : List Step)
-      (bytes : List (List ℕ)) (fault : RunFault) (set : FileSet) (hs : List Happening)
-      → Runs old steps (map Some bytes) (Err fault) new
+      (bytes : List (List ℕ)) (n : ℕ) (fault : RunFault) (set : FileSet) (hs : List Happening)
+      → RunsUpTo old steps (map Some bytes) n fault new
       → IsHistory set (length old.notes) steps bytes hs → IsRefusal fault
   pub refusals : (cause : SinkFault) → IsRefusal (Sink cause) × IsRefusal OutOfMemory
   pub no_refusals : (IsRefusal NoSuchPoint → ⊥) × (IsRefusal TooFewReels → ⊥)

@@ -5,11 +5,11 @@
 -- none of the set (`IsHistory`); the notes that the script goes back to exist (`IsHistory`); the
 -- sink holds the parts of the session before (`IsSession`, `IsNew`); no call was refused (`HasRun`,
 -- `IsRead`), or the first one that was ended the run (`HasStopped`).
-use Rattle.std.specs.Prelude.{◌≡◌, ℕ, suc, ◌+◌, ◌≤◌, List, [], ◌∷◌, ◌++◌, length, drop, IsSome}
-use Rattle.std.specs.Prelude.{Some}
-use Rattle.std.specs.Prelude.{slice_get, ⊤}
+use Rattle.std.specs.Prelude.{◌≡◌, ℕ, suc, ◌+◌, ◌≤◌, List, [], ◌∷◌, length, take, drop, IsSome}
+use Rattle.std.specs.Prelude.{Some, slice_get}
 use Rattle.tape_image.specs.Tape.{TapeItem, block}
 use Rattle.tape_image.specs.Begins.{Stop, Begins}
+use Rattle.tape_core.specs.declared.sink.SinkFault.TheVariants.{Device}
 use Rattle.tape_set.specs.Position.{start, at_part, next_block}
 use Rattle.tape_set.specs.Layout.{FileSet, file_of}
 use Rattle.tape_set.specs.Lawful.{IsLawful}
@@ -95,12 +95,11 @@ reels_in (Reel ∷ steps) = suc (reels_in steps)
 reels_in (Save ∷ steps) = reels_in steps
 reels_in (Restart n ∷ steps) = reels_in steps
 
--- the steps go back to a note
-abbrev pub HasRestart : List Step → Type 0
-HasRestart [] = ⊥
-HasRestart (Reel ∷ steps) = HasRestart steps
-HasRestart (Save ∷ steps) = HasRestart steps
-HasRestart (Restart n ∷ steps) = ⊤
+-- The step of this number, which was not made for this reason, goes back to a note, and the sink's
+-- device failed in it: of what the sink holds then nothing is said.
+abbrev pub LosesParts : List Step → ℕ → RunFault → Type 0
+LosesParts steps n fault =
+    ((note : ℕ) × (slice_get steps n ≡ Some (Restart note))) × (fault ≡ Sink Device)
 
 -- Behind these happenings a part of the block that stands behind n items of the reel was refused,
 -- which is the one that is awaited there: the session is where the n items lead, in the block at
@@ -136,21 +135,20 @@ Stops set old hs (Restart n) readers NoSuchPoint new =
 Stops set old hs (Restart n) readers (Sink cause) new = Ran set old hs new
 Stops set old hs step readers fault new = ⊥
 
--- The steps before one of them were made, and this one was not: of every lawful set and every
--- history that the steps made and the bytes given are, the session is where this leads, or at a
--- part that the sink refused.
-pub record HasStopped (old : Seen) (steps : List Step) (bytes : List (List ℕ)) (fault : RunFault)
-    (new : Seen) : Type 0 where
-  pub made : List Step
+-- The first n steps were made, and the next one was not: of every lawful set and every history that
+-- the steps made and the bytes given are, the session is where this leads, or at a part that the
+-- sink refused.
+pub record HasStopped (old : Seen) (steps : List Step) (bytes : List (List ℕ)) (n : ℕ)
+    (fault : RunFault) (new : Seen) : Type 0 where
   pub step : Step
-  pub rest : List Step
-  pub all : steps ≡ made ++ step ∷ rest
+  pub at : slice_get steps n ≡ Some step
   pub given : List (List ℕ)
   pub failed : ℕ
   pub are_given : AreGiven failed bytes given
   pub count : new.failures ≡ counted_up failed old.failures
   pub stops : (set : FileSet) (hs : List Happening) → IsLawful set
-      → IsHistory set (length old.notes) made given hs
-      → IsSession set old → Stops set old hs step (drop (reels_in made) bytes) fault new
+      → IsHistory set (length old.notes) (take n steps) given hs
+      → IsSession set old
+      → Stops set old hs step (drop (reels_in (take n steps)) bytes) fault new
   pub led : (t : Lead) (reels : List (List TapeItem)) → AreItems given reels → StandsThere t old
-      → StopsBy (lead t made reels) step (drop (reels_in made) bytes) fault new
+      → StopsBy (lead t (take n steps) reels) step (drop (reels_in (take n steps)) bytes) fault new

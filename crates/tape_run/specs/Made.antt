@@ -1,21 +1,22 @@
 -- Steps of a run that were made.
-use Rattle.std.specs.Prelude.{◌≡◌, ℕ, Bool, true, List, ◌∷◌, Option, Result}
+use Rattle.std.specs.Prelude.{◌≡◌, ℕ, ◌+◌, Bool, true, List, ◌∷◌, Option}
 use Rattle.tape_blocks.specs.Block.{Portion}
 use Rattle.tape_core.specs.Crash.{Returns}
 use Rattle.tape_core.specs.Point.{Point}
 use Rattle.tape_run.specs.declared.fault.RunFault.{RunFault}
 use Rattle.tape_run.specs.declared.script.Step.{Step}
 use Rattle.tape_run.specs.Crash.{StoodAt, BringsLast, is_saved}
-use Rattle.tape_run.specs.Runs.{Runs}
+use Rattle.tape_run.specs.Runs.{Runs, RunsUpTo}
 use Rattle.tape_run.specs.Seen.{Seen}
 
--- The first of the steps were made, with the first of the readers: whatever the steps that are left
--- do from here, all steps do from before, and where the session stands between those it stands
--- between these.
-pub record HasMade (old : Seen) (steps : List Step) (readers : List (Option (List ℕ))) (new : Seen)
-    (left : List Step) (others : List (Option (List ℕ))) : Type 0 where
-  pub runs : (result : Result (Unit {0}) RunFault) (end : Seen) → Runs new left others result end
-      → Runs old steps readers result end
+-- The first so many steps were made, with the first of the readers: whatever the steps that are left
+-- do from here, all steps do from before, where those stop these stop so many steps later, and where
+-- the session stands between those it stands between these.
+pub record HasMade (made : ℕ) (old : Seen) (steps : List Step) (readers : List (Option (List ℕ)))
+    (new : Seen) (left : List Step) (others : List (Option (List ℕ))) : Type 0 where
+  pub runs : (end : Seen) → Runs new left others end → Runs old steps readers end
+  pub stops : (n : ℕ) (fault : RunFault) (end : Seen) → RunsUpTo new left others n fault end
+      → RunsUpTo old steps readers (made + n) fault end
   pub stood : (back : Point) (there : List Portion) → StoodAt new left others back there
       → StoodAt old steps readers back there
 

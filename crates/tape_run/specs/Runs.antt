@@ -1,33 +1,46 @@
 -- What the steps of a run do, one after another.
-use Rattle.std.specs.Prelude.{◌≡◌, ◌⊎◌, ℕ, Bool, List, [], ◌∷◌, length, map, Option, Some, None}
-use Rattle.std.specs.Prelude.{Result, Ok, Err, ⊤}
+use Rattle.std.specs.Prelude.{◌≡◌, ℕ, Bool, List, [], ◌∷◌, length, map, take, drop, Option, Some}
+use Rattle.std.specs.Prelude.{None, slice_get, ⊤}
 use Rattle.tape_set.specs.Layout.{FileSet}
 use Rattle.tape_run.specs.declared.fault.RunFault.{RunFault}
 use Rattle.tape_run.specs.declared.fault.RunFault.TheVariants.{Sink, NoSuchPoint, TooFewReels}
 use Rattle.tape_run.specs.declared.fault.RunFault.TheVariants.{OutOfMemory, OtherFile}
 use Rattle.tape_run.specs.declared.script.Step.{Step}
 use Rattle.tape_run.specs.declared.script.Step.TheVariants.{Reel, Save, Restart}
+use Rattle.tape_run.specs.Headline.{reels_in}
 use Rattle.tape_run.specs.Mount.{Happening}
 use Rattle.tape_run.specs.History.{IsHistory}
 use Rattle.tape_run.specs.Seen.{Seen}
 use Rattle.tape_run.specs.Steps.{Reeled, Saved, WentBack, ReelFails, SaveFails, RestartFails}
 
--- The steps were made, each with the next reader where it is a reel, and the first fault ended
--- them. Behind a reader that does not tell its bytes nothing is known.
-abbrev pub Runs : Seen → List Step → List (Option (List ℕ)) → Result (Unit {0}) RunFault → Seen
-    → Type 0
-Runs old [] reels result new = (result ≡ Ok tt) × (new ≡ old)
-Runs old (Reel ∷ steps) [] result new = (result ≡ Err TooFewReels) × (new ≡ old)
-Runs old (Reel ∷ steps) (None ∷ reels) result new = ⊤
-Runs old (Reel ∷ steps) (Some bytes ∷ reels) result new =
-    ((failed : Bool) × (mid : Seen) × Reeled bytes failed old mid × Runs mid steps reels result new)
-    ⊎ ((fault : RunFault) × (result ≡ Err fault) × ReelFails bytes fault old new)
-Runs old (Save ∷ steps) reels result new =
-    ((mid : Seen) × Saved old mid × Runs mid steps reels result new)
-    ⊎ ((fault : RunFault) × (result ≡ Err fault) × SaveFails fault old new)
-Runs old (Restart n ∷ steps) reels result new =
-    ((mid : Seen) × WentBack n old mid × Runs mid steps reels result new)
-    ⊎ ((fault : RunFault) × (result ≡ Err fault) × RestartFails n fault old new)
+-- All steps were made, one after another, each with the next reader where it is a reel. Behind a
+-- reader that does not tell its bytes nothing is known.
+abbrev pub Runs : Seen → List Step → List (Option (List ℕ)) → Seen → Type 0
+Runs old [] reels new = new ≡ old
+Runs old (Reel ∷ steps) [] new = ⊥
+Runs old (Reel ∷ steps) (None ∷ reels) new = ⊤
+Runs old (Reel ∷ steps) (Some bytes ∷ reels) new =
+    (failed : Bool) × (mid : Seen) × Reeled bytes failed old mid × Runs mid steps reels new
+Runs old (Save ∷ steps) reels new = (mid : Seen) × Saved old mid × Runs mid steps reels new
+Runs old (Restart n ∷ steps) reels new =
+    (mid : Seen) × WentBack n old mid × Runs mid steps reels new
+
+-- The step was not made, with these readers left, for this reason.
+abbrev pub Fails : Step → List (Option (List ℕ)) → RunFault → Seen → Seen → Type 0
+Fails Reel [] fault old new = (fault ≡ TooFewReels) × (new ≡ old)
+Fails Reel (None ∷ reels) fault old new = ⊤
+Fails Reel (Some bytes ∷ reels) fault old new = ReelFails bytes fault old new
+Fails Save reels fault old new = SaveFails fault old new
+Fails (Restart n) reels fault old new = RestartFails n fault old new
+
+-- The first n steps were made, and the next one was not, for this reason.
+pub record RunsUpTo (old : Seen) (steps : List Step) (reels : List (Option (List ℕ))) (n : ℕ)
+    (fault : RunFault) (new : Seen) : Type 0 where
+  pub step : Step
+  pub at : slice_get steps n ≡ Some step
+  pub mid : Seen
+  pub runs : Runs old (take n steps) reels mid
+  pub fails : Fails step (drop (reels_in (take n steps)) reels) fault mid new
 
 -- the sink refused, or memory was wanting
 abbrev pub IsRefusal : RunFault → Type 0
@@ -41,7 +54,7 @@ IsRefusal OtherFile = ⊥
 -- alone.
 abbrev pub OnlyRefusalsStop : Type 0
 OnlyRefusalsStop = (old new : Seen) (steps : List Step) (bytes given : List (List ℕ))
-    (fault : RunFault) (set : FileSet)
+    (n : ℕ) (fault : RunFault) (set : FileSet)
     (hs : List Happening) → length given ≡ length bytes
-    → Runs old steps (map Some bytes) (Err fault) new
+    → RunsUpTo old steps (map Some bytes) n fault new
     → IsHistory set (length old.notes) steps given hs → IsRefusal fault

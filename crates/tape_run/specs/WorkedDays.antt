@@ -57,8 +57,9 @@ pub record DaysAreWorked : Type 0 where
       → IsWhole s
   -- A part of volume 1 was refused, whichever it was, and then both volumes were read: the file is
   -- whole, and no part is there twice.
-  pub refused_part : (old mid new : Seen) (cause : SinkFault) → IsStart (codes "ABC001") 1 old
-      → HasStopped old (Reel ∷ []) (reel_1 ∷ []) (Sink cause) mid
+  pub refused_part : (old mid new : Seen) (n : ℕ) (cause : SinkFault)
+      → IsStart (codes "ABC001") 1 old
+      → HasStopped old (Reel ∷ []) (reel_1 ∷ []) n (Sink cause) mid
       → HasRun mid two_reels once new → new.failures ≡ 0 → IsWhole new
   -- The checkpoint stands, with the part before it. A session that is resumed there, over readers
   -- of which none fails, has all three parts in the end.

@@ -47,6 +47,17 @@ impl RunFault {
     }
 }
 
+/// Where a run stopped: the step that was not made, by its number in the script counted from 0, and
+/// why it was not. The steps before it stand, and none behind it was begun.
+#[derive(Clone, Copy, Debug, PartialEq, Eq, Error)]
+#[error("step {step}: {fault}")]
+pub struct Stopped {
+    /// How many steps were made: the number of the step that was not.
+    pub step: usize,
+    /// Why it was not made.
+    pub fault: RunFault,
+}
+
 /// A writer refused a write or a flush, or took nothing of what was written.
 #[derive(Clone, Copy, Debug, PartialEq, Eq, Error)]
 #[error("a write failed")]

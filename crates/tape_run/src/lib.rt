@@ -44,7 +44,7 @@ pub use extract::{
     OutSink, Place, ReportLine, extract_again, extract_now, extract_to, last_line, reel_line,
     write_file,
 };
-pub use fault::{EngineFault, ListFault, RunFault, WriteFailed};
+pub use fault::{EngineFault, ListFault, RunFault, Stopped, WriteFailed};
 pub use identifier::printed;
 pub use laws::{only_refusals_stop, stands_across_crashes, stood_comes_back};
 pub use list::list_to;

@@ -1,7 +1,7 @@
 //! Scripts: steps of a session, one after another.
 
-ghost use Rattle.std.specs.Prelude.{◌≡◌, [], ◌∷◌, ◌≢◌, ℕ, List, Some, None, Ok, Err, OnOk, IfOk};
-ghost use Rattle.std.specs.Prelude.{IfErr, map, drop, true, false};
+ghost use Rattle.std.specs.Prelude.{◌≡◌, [], ◌∷◌, ℕ, List, Some, None, OnOk, IfOk, IfErr};
+ghost use Rattle.std.specs.Prelude.{map, drop, true, false};
 ghost use Rattle.tape_blocks.specs.Block.{Portion};
 ghost use Rattle.tape_blocks.specs.Spans.{join};
 ghost use Rattle.tape_set.specs.declared.position.Position.TheVariants.{Finished};
@@ -12,15 +12,15 @@ ghost use Rattle.tape_core.specs.Place.{rest_of};
 ghost use Rattle.tape_core.specs.Crash.{AddsOnly};
 ghost use Rattle.tape_run.specs.Back.{reels_of, AreVolumes};
 ghost use Rattle.tape_run.specs.Crash.{IsOf, StoodAt, BringsLast, is_saved};
-ghost use Rattle.tape_run.specs.Headline.{IsStart, IsRead, HasRun, HasStopped, HasRestart};
+ghost use Rattle.tape_run.specs.Headline.{IsStart, IsRead, HasRun, HasStopped, LosesParts};
 ghost use Rattle.tape_run.specs.Made.{HasMade, StaysSaved};
-ghost use Rattle.tape_run.specs.Runs.{Runs};
+ghost use Rattle.tape_run.specs.Runs.{Runs, RunsUpTo, Fails};
 ghost use Rattle.tape_run.specs.Seen.{seen, IsKept};
 
-use crate::fault::RunFault;
+use crate::fault::{RunFault, Stopped};
 use crate::session::Session;
 use std::io::Read;
-use tape_core::{PartSink, SinkFault};
+use tape_core::PartSink;
 
 /// One step of a script.
 #[derive(Clone, Copy)]
@@ -38,13 +38,14 @@ pub enum Step {
 ///
 /// # Errors
 ///
-/// The fault of the step that was not made, as `reel`, `save` and `restart` answer it, or
-/// `TooFewReels` where a reel is asked for and no reader is left. The steps before it stand.
+/// The first step that was not made, counted from 0, with its fault: as `reel`, `save` and
+/// `restart` answer it, or `TooFewReels` where a reel is asked for and no reader is left. The steps
+/// before it stand, and none behind it was begun.
 pub fn run<S: PartSink, R: Read>(
     session: &mut Session<S>,
     steps: &[Step],
     reels: &mut [R],
-) -> Result<(), RunFault>
+) -> Result<(), Stopped>
     // The headline: the sink holds the parts before the position that the history leads to, and the
     // session stands there with the notes of the history.
     ensures headline { OnOk result ((held : List Portion) → S.holds session.old.sink held
@@ -71,34 +72,34 @@ pub fn run<S: PartSink, R: Read>(
         → S.holds session.new.sink (section_parts f)
         × ((rest_of session.new.core).position ≡ Finished)
         × ((join (section_parts f)).rest ≡ None)) }
-    // Where a fault ended it the headline holds of the steps before; a part that was refused is
-    // where the session stands.
-    ensures stopped { IfErr result (λ fault. (held : List Portion) → S.holds session.old.sink held
+    // Where it stopped at a step the headline holds of the steps before; a part that was refused is
+    // where the session stands. Only a going back that failed may lose what the sink holds.
+    ensures stopped { IfErr result (λ end. (held : List Portion) → S.holds session.old.sink held
         → IsKept (seen S.refusals session.old held)
         → (now : List Portion)
-        × ((HasRestart steps.now → fault ≢ RunFault.Sink SinkFault.Device)
-        → S.holds session.new.sink now)
+        × ((LosesParts steps.now end.step end.fault → ⊥) → S.holds session.new.sink now)
         × IsKept (seen S.refusals session.new now)
         × ((bytes : List (List ℕ)) → map R.remaining reels.old ≡ map Some bytes
-        → HasStopped (seen S.refusals session.old held) steps.now bytes fault
+        → HasStopped (seen S.refusals session.old held) steps.now bytes end.step end.fault
         (seen S.refusals session.new now))) }
-    // Whatever the set and the history are: each step did, or left, what `reel`, `save` and
-    // `restart` promise; and behind a save, and reels, a crash brings back what was saved, alone.
+    // Whatever the set and the history are: each step did what `reel`, `save` and `restart` promise;
+    // and behind a save, and reels, a crash brings back what was saved, alone.
     ensures runs { OnOk result ((held : List Portion) → S.holds session.old.sink held
         → IsKept (seen S.refusals session.old held)
         → (now : List Portion) × S.holds session.new.sink now
-        × Runs (seen S.refusals session.old held) steps.now (map R.remaining reels.old) (Ok tt)
+        × Runs (seen S.refusals session.old held) steps.now (map R.remaining reels.old)
         (seen S.refusals session.new now)
         × (is_saved false steps.now ≡ true
         → BringsLast (S.returns session.new.sink) (seen S.refusals session.new now))) }
-    ensures faults { IfErr result (λ fault. (held : List Portion) → S.holds session.old.sink held
+    // Where it stopped: the same of the steps before, and the step that is told left what its call
+    // promises.
+    ensures faults { IfErr result (λ end. (held : List Portion) → S.holds session.old.sink held
         → IsKept (seen S.refusals session.old held)
         → (now : List Portion)
-        × ((HasRestart steps.now → fault ≢ RunFault.Sink SinkFault.Device)
-        → S.holds session.new.sink now)
+        × ((LosesParts steps.now end.step end.fault → ⊥) → S.holds session.new.sink now)
         × IsKept (seen S.refusals session.new now)
-        × Runs (seen S.refusals session.old held) steps.now (map R.remaining reels.old) (Err fault)
-        (seen S.refusals session.new now)) }
+        × RunsUpTo (seen S.refusals session.old held) steps.now (map R.remaining reels.old) end.step
+        end.fault (seen S.refusals session.new now)) }
     // Whatever it answered: what a crash behind it brings back could come back before, or is where
     // the session stood between two steps, or one of its notes there.
     ensures crash { (held : List Portion) → S.holds session.old.sink held
@@ -109,8 +110,11 @@ pub fn run<S: PartSink, R: Read>(
         (S.survives session.old.sink) (S.survives session.new.sink) }
 {
     let mut used = 0usize;
-    for step in steps {
-        used = make(session, *step, reels, used)?;
+    for (step, asked) in steps.iter().enumerate() {
+        match make(session, *asked, reels, used) {
+            Ok(now_used) => used = now_used,
+            Err(fault) => return Err(Stopped { step, fault }),
+        }
     }
     Ok(())
 }
@@ -126,7 +130,7 @@ fn make<S: PartSink, R: Read>(
         → IsKept (seen S.refusals session.old held)
         → (now : List Portion) × S.holds session.new.sink now
         × IsKept (seen S.refusals session.new now)
-        × ((rest : List Step) → HasMade (seen S.refusals session.old held) (step ∷ rest)
+        × ((rest : List Step) → HasMade 1 (seen S.refusals session.old held) (step ∷ rest)
         (map R.remaining (drop used reels.old)) (seen S.refusals session.new now) rest
         (map R.remaining (drop now_used reels.new)))
         × StaysSaved step (S.returns session.old.sink) (seen S.refusals session.old held)
@@ -134,11 +138,10 @@ fn make<S: PartSink, R: Read>(
     ensures err { IfErr result (λ fault. (held : List Portion) → S.holds session.old.sink held
         → IsKept (seen S.refusals session.old held)
         → (now : List Portion)
-        × ((HasRestart (step ∷ []) → fault ≢ RunFault.Sink SinkFault.Device)
-        → S.holds session.new.sink now)
+        × ((LosesParts (step ∷ []) 0 fault → ⊥) → S.holds session.new.sink now)
         × IsKept (seen S.refusals session.new now)
-        × ((rest : List Step) → Runs (seen S.refusals session.old held) (step ∷ rest)
-        (map R.remaining (drop used reels.old)) (Err fault) (seen S.refusals session.new now))) }
+        × Fails step (map R.remaining (drop used reels.old)) fault
+        (seen S.refusals session.old held) (seen S.refusals session.new now)) }
     ensures crash { (held : List Portion) → S.holds session.old.sink held
         → IsKept (seen S.refusals session.old held)
         → AddsOnly (IsOf (seen S.refusals session.old held))

@@ -1,6 +1,6 @@
 //! Whole readings, each in one call.
 
-ghost use Rattle.std.specs.Prelude.{◌≡◌, ◌≢◌, [], ◌∷◌, ℕ, List, Option, Some, None, map};
+ghost use Rattle.std.specs.Prelude.{◌≡◌, [], ◌∷◌, ℕ, List, Option, Some, None, map};
 ghost use Rattle.std.specs.Prelude.{Err, IsOk, IfOk, OnOk, IfErr};
 ghost use Rattle.tape_blocks.specs.Block.{Portion};
 ghost use Rattle.tape_core.specs.Known.{IsFileNumber};
@@ -8,16 +8,16 @@ ghost use Rattle.tape_core.specs.Place.{rest_of};
 ghost use Rattle.tape_core.specs.Point.{Point};
 ghost use Rattle.tape_core.specs.Crash.{OnlyThis};
 ghost use Rattle.tape_core.specs.Memory.{portions};
-ghost use Rattle.tape_run.specs.Headline.{IsRead, IsStart, HasStopped, HasRestart};
+ghost use Rattle.tape_run.specs.Headline.{IsRead, IsStart, HasStopped, LosesParts};
 ghost use Rattle.tape_run.specs.Lives.{Life, IsResumed, Outlives, GoesOn};
 ghost use Rattle.tape_run.specs.Seen.{Seen, seen};
 
-use crate::fault::RunFault;
+use crate::fault::Stopped;
 use crate::script::{Step, run};
 use crate::session::Session;
 use std::alloc::Global;
 use std::io::Read;
-use tape_core::{Checkpoint, CoreFault, MemorySink, PartSink, SinkFault};
+use tape_core::{Checkpoint, CoreFault, MemorySink, PartSink};
 use tape_label::Field;
 
 /// Reads a file into memory: a session from the file's start, and a run over the steps. The session
@@ -32,7 +32,7 @@ pub fn read_file<R: Read>(
     file: u16,
     steps: &[Step],
     reels: &mut [R],
-) -> Result<(Session<MemorySink>, Result<(), RunFault>), CoreFault>
+) -> Result<(Session<MemorySink>, Result<(), Stopped>), CoreFault>
     // The headline with no premise on a sink: what is in memory are the parts before the position
     // that the history leads to.
     ensures read { IfOk result (λ read. OnOk read.1 ((bytes : List (List ℕ))
@@ -40,14 +40,13 @@ pub fn read_file<R: Read>(
         → (now : Seen) × (now.parts ≡ portions read.0.sink) × (now.place ≡ rest_of read.0.core)
         × (now.notes ≡ read.0.notes) × (now.failures ≡ read.0.failures)
         × IsRead set_id file steps.now bytes now)) }
-    // A fault ended the steps: the same of those before it.
-    ensures stopped { IfOk result (λ read. IfErr read.1 (λ fault. (bytes : List (List ℕ))
+    // It stopped at a step: the same of those before it.
+    ensures stopped { IfOk result (λ read. IfErr read.1 (λ end. (bytes : List (List ℕ))
         → map R.remaining reels.old ≡ map Some bytes
         → (began : Seen) × IsStart set_id file began
         × (now : Seen) × (now.place ≡ rest_of read.0.core)
-        × ((HasRestart steps.now → fault ≢ RunFault.Sink SinkFault.Device)
-        → now.parts ≡ portions read.0.sink)
-        × HasStopped began steps.now bytes fault now)) }
+        × ((LosesParts steps.now end.step end.fault → ⊥) → now.parts ≡ portions read.0.sink)
+        × HasStopped began steps.now bytes end.step end.fault now)) }
     ensures number { IsFileNumber file → IsOk result }
     ensures refused { (IsFileNumber file → ⊥) → result ≡ Err CoreFault.FileNumber }
 {
@@ -65,20 +64,19 @@ pub fn go_on<S: PartSink, R: Read>(
     sink: S,
     steps: &[Step],
     reels: &mut [R],
-) -> (Session<S>, Result<(), RunFault>)
+) -> (Session<S>, Result<(), Stopped>)
     // The steps were made: the sink holds the parts before the position that the history leads to
     // from the checkpoint.
     ensures delivers { OnOk result.1 ((held : List Portion) → S.holds sink held
         → (now : List Portion) × S.holds result.0.sink now
         × ((bytes : List (List ℕ)) → map R.remaining reels.old ≡ map Some bytes
         → GoesOn point.now held steps.now bytes now)) }
-    // A fault ended them: the same of the steps before it.
-    ensures stopped { IfErr result.1 (λ fault. (held : List Portion) → S.holds sink held
+    // It stopped at one of them: the same of the steps before it.
+    ensures stopped { IfErr result.1 (λ end. (held : List Portion) → S.holds sink held
         → (began : Seen) × IsResumed point.now held began × (now : List Portion)
-        × ((HasRestart steps.now → fault ≢ RunFault.Sink SinkFault.Device)
-        → S.holds result.0.sink now)
+        × ((LosesParts steps.now end.step end.fault → ⊥) → S.holds result.0.sink now)
         × ((bytes : List (List ℕ)) → map R.remaining reels.old ≡ map Some bytes
-        → HasStopped began steps.now bytes fault (seen S.refusals result.0 now))) }
+        → HasStopped began steps.now bytes end.step end.fault (seen S.refusals result.0 now))) }
     // Whatever it answered: what a crash behind it brings back is what was there, or outlives this
     // life.
     ensures crash { (held : List Portion) → S.holds sink held

@@ -5,10 +5,28 @@ use crate::sessions::begun;
 use std::alloc::Global;
 use std::test::Fail;
 use tape_core::{Checkpoint, CoreFault, MemorySink, PartSink};
-use tape_run::{RunFault, Step, go_on, read_file, run};
+use tape_run::{RunFault, Step, Stopped, go_on, read_file, run};
 use tape_set::Position;
 
 const TWO: &[Step] = &[Step::Reel, Step::Reel];
+
+/// A note that was forgotten is gone back to in step 1.
+const NO_NOTE: Stopped = Stopped {
+    step: 1,
+    fault: RunFault::NoSuchPoint,
+};
+
+/// A third reel is asked for in step 2, and there are two readers.
+const NO_THIRD_REEL: Stopped = Stopped {
+    step: 2,
+    fault: RunFault::TooFewReels,
+};
+
+/// The same of a second reel.
+const NO_SECOND_REEL: Stopped = Stopped {
+    step: 1,
+    fault: RunFault::TooFewReels,
+};
 
 const SCRIPTS: &[Script<'_>] = &[
     // Note 0 is behind two blocks; note 1 is forgotten with it.
@@ -27,7 +45,9 @@ const SCRIPTS: &[Script<'_>] = &[
             Do::Holds(20, Some((1, 2))),
             Do::Runs(&[Step::Reel], &[Reel::Worked], Ok(())),
             Do::Holds(25, None),
-            Do::Runs(&[Step::Restart(1)], &[], Err(RunFault::NoSuchPoint)),
+            Do::Runs(&[Step::Restart(0), Step::Restart(1)], &[], Err(NO_NOTE)),
+            Do::Holds(20, Some((1, 2))),
+            Do::Runs(&[Step::Reel], &[Reel::Worked], Ok(())),
             Do::Holds(25, None),
         ],
     ),
@@ -39,7 +59,7 @@ const SCRIPTS: &[Script<'_>] = &[
             Do::Runs(
                 &[Step::Reel, Step::Reel, Step::Reel],
                 &[Reel::Cut(1884), Reel::Worked],
-                Err(RunFault::TooFewReels),
+                Err(NO_THIRD_REEL),
             ),
             Do::Holds(25, None),
             Do::Restarts(0, Err(RunFault::NoSuchPoint)),
@@ -95,7 +115,7 @@ fn is_whole(alloc: Global, first: &[u8], second: &[u8]) -> Result<bool, CoreFaul
 /// Whether it is told that a reel lacks, and something of the file is wanted.
 fn lacks_a_reel(alloc: Global, first: &[u8]) -> Result<bool, CoreFault> {
     let (session, made) = read_file(alloc, set_id(), 1, TWO, &mut [first])?;
-    Ok(made == Err(RunFault::TooFewReels) && session.want().is_some())
+    Ok(made == Err(NO_SECOND_REEL) && session.want().is_some())
 }
 
 /// Whether there is no file of this number.

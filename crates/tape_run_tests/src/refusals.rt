@@ -5,7 +5,7 @@ use crate::image::{
 use std::alloc::{AllocError, Global};
 use std::test::Fail;
 use tape_core::{CoreFault, MemorySink, PartSink, Refusing, SinkFault};
-use tape_run::{RunFault, Session, Step, run};
+use tape_run::{RunFault, Session, Step, Stopped, run};
 use tape_set::Want;
 
 /// A session over a sink in memory whose call of this number is refused, counted from 0.
@@ -25,7 +25,15 @@ fn part_of(block: u32, part: u32) -> Option<Want> {
 }
 
 /// The device of the sink failed.
-const FAILED: Result<(), RunFault> = Err(RunFault::Sink(SinkFault::Device));
+const FAILED: RunFault = RunFault::Sink(SinkFault::Device);
+
+/// The device of the sink failed in the step of this number, counted from 0.
+fn failed_at(step: usize) -> Result<(), Stopped> {
+    Err(Stopped {
+        step,
+        fault: FAILED,
+    })
+}
 
 const ONE: &[Step] = &[Step::Reel];
 
@@ -37,7 +45,7 @@ fn has(session: &Session<Refusing<MemorySink>>, count: u8, want: Option<Want>) -
 /// Whether the reel stops at the put that is refused, and completes the file when read again.
 fn completes(alloc: Global, whole: &[u8], refused: u8) -> Result<bool, Fail> {
     let mut session = refusing(alloc, refused as usize)?;
-    let failed = run(&mut session, ONE, &mut [whole]) == FAILED;
+    let failed = run(&mut session, ONE, &mut [whole]) == failed_at(0);
     // Ten records stand in a block.
     let place = part_of((refused / 10) as u32, (refused % 10) as u32);
     let stopped = failed && has(&session, refused, place);
@@ -57,11 +65,11 @@ fn each_put_refused_in_turn(rt: HostRuntime) -> Result<(), Fail> {
     Ok(())
 }
 
-/// The same of both volumes of the long record.
+/// The same of both volumes of the long record, of which the first has 22 parts.
 fn completes_long(alloc: Global, volumes: [&[u8]; 2], refused: usize) -> Result<bool, Fail> {
     let mut session = refusing(alloc, refused)?;
     let steps = [Step::Reel, Step::Reel];
-    let failed = run(&mut session, &steps, &mut { volumes }) == FAILED;
+    let failed = run(&mut session, &steps, &mut { volumes }) == failed_at(refused / 22);
     let stopped = failed && holds_long(session.sink().inner(), refused);
     run(&mut session, &steps, &mut { volumes })?;
     Ok(stopped && session.want().is_none() && holds_long(session.sink().inner(), 23))
@@ -92,15 +100,30 @@ const SCRIPT: &[Step] = &[
 /// How many calls the script makes: 1 for each save and the restart, 20 puts, 5 puts, and 25 again.
 const CALLS: usize = 53;
 
-/// Whether the script stops at the refused call, and one reel more completes the file: the sink
-/// holds what lies before the place, and nothing is put twice. Behind the last call it is complete.
+/// How the script ends where this call is refused: in the step that makes it. Going back, the sink
+/// answers Failed.
+fn end_at(call: usize) -> Result<(), Stopped> {
+    match call {
+        0 => failed_at(0),
+        1..=20 => failed_at(1),
+        21 => failed_at(2),
+        22..=26 => failed_at(3),
+        27 => Err(Stopped {
+            step: 4,
+            fault: RunFault::Sink(SinkFault::Failed),
+        }),
+        28..=52 => failed_at(5),
+        _ => Ok(()),
+    }
+}
+
+/// Whether the script stops in the step of the refused call, and one reel more completes the file:
+/// the sink holds what lies before the place, and nothing is put twice. Behind the last call it is
+/// complete.
 fn completes_script(alloc: Global, whole: &[u8], refused: usize) -> Result<bool, Fail> {
     let mut session = refusing(alloc, refused)?;
     let mut reels = [front(whole, 1884), whole, whole];
-    let stopped = match run(&mut session, SCRIPT, &mut reels) {
-        Ok(()) => refused == CALLS,
-        Err(fault) => refused < CALLS && matches!(fault, RunFault::Sink(_)),
-    };
+    let stopped = run(&mut session, SCRIPT, &mut reels) == end_at(refused);
     if refused < CALLS {
         run(&mut session, ONE, &mut [whole])?;
     }
@@ -127,7 +150,7 @@ fn save(session: &mut Session<Refusing<MemorySink>>) -> Result<(), RunFault> {
 
 /// Whether a save is refused, so that there is no note to go back to, and nothing changed.
 fn is_refused(session: &mut Session<Refusing<MemorySink>>) -> bool {
-    save(session) == FAILED
+    save(session) == Err(FAILED)
         && session.restart(0) == Err(RunFault::NoSuchPoint)
         && has(session, 20, part_of(2, 0))
 }
@@ -180,7 +203,7 @@ fn weighs(
 /// is not.
 fn goes_on_inside(alloc: Global, whole: &[u8]) -> Result<bool, Fail> {
     let mut session = refusing(alloc, 1)?;
-    let failed = run(&mut session, ONE, &mut [whole]) == FAILED;
+    let failed = run(&mut session, ONE, &mut [whole]) == failed_at(0);
     let stopped = failed && weighs(&session, part_of(0, 1), 1, 7);
     run(&mut session, ONE, &mut [whole])?;
     Ok(stopped && weighs(&session, None, 2, 12))

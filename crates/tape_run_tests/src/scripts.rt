@@ -12,7 +12,7 @@ use std::alloc::{AllocError, Global};
 use std::process::Abort;
 use std::test::Fail;
 use tape_core::{Answer, MemorySink, PartSink};
-use tape_run::{ReelAnswer, RunFault, Session, Step, run};
+use tape_run::{ReelAnswer, RunFault, Session, Step, Stopped, run};
 use tape_set::{Position, Want};
 
 /// An image that is read.
@@ -62,7 +62,7 @@ pub enum Do<'a> {
     /// The same, where the image has a fault.
     Breaks(Reel<'a>, ReelAnswer, Wanted),
     /// These steps are taken over these reels, and end so.
-    Runs(&'a [Step], &'a [Reel<'a>], Result<(), RunFault>),
+    Runs(&'a [Step], &'a [Reel<'a>], Result<(), Stopped>),
     /// The first two of these reels were read by such steps, and of each so many bytes are left.
     Leaves(&'a [Step], &'a [Reel<'a>], [usize; 2]),
     /// A note is taken of this position, where so much is staged.
@@ -193,7 +193,7 @@ fn runs(
     session: &mut Session<MemorySink>,
     steps: &[Step],
     reels: &[Reel<'_>],
-) -> Result<Result<(), RunFault>, AllocError> {
+) -> Result<Result<(), Stopped>, AllocError> {
     let images = images_of(alloc, reels)?;
     let mut readers = readers_of(alloc, images.as_slice())?;
     Ok(run(session, steps, readers.as_mut_slice()))

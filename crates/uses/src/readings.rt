@@ -7,6 +7,17 @@ use tape_blocks::Form;
 use tape_label::Field;
 use tape_run::{EngineFault, Step, read_file, write_file};
 
+/// What came of two readings.
+#[derive(Clone, Copy, PartialEq, Eq)]
+enum Outcome {
+    /// All of the file was read.
+    Written,
+    /// Something of it is wanted still.
+    Wanting,
+    /// This reading could not be taken, counted from 0.
+    Stopped(usize),
+}
+
 /// The records of a file from two readings, a line feed behind each, where all of it was read.
 fn lines_of<R: Read>(
     alloc: Global,
@@ -14,13 +25,15 @@ fn lines_of<R: Read>(
     file: u16,
     readings: &mut [R],
     lines: &mut Vec<u8>,
-) -> Result<bool, EngineFault> {
+) -> Result<Outcome, EngineFault> {
     match read_file(alloc, set_id, file, &[Step::Reel, Step::Reel], readings) {
         Ok((session, Ok(()))) if session.want().is_none() => {
             write_file(&mut session.into_sink(), Form::Lines, lines)?;
-            Ok(true)
+            Ok(Outcome::Written)
         }
-        _ => Ok(false),
+        // Each step is a reading.
+        Ok((_, Err(stopped))) => Ok(Outcome::Stopped(stopped.step)),
+        _ => Ok(Outcome::Wanting),
     }
 }
 
@@ -29,7 +42,17 @@ fn two_readings_make_a_file(rt: HostRuntime) -> Result<(), Fail> {
     let readings = &mut [SECOND_BAD, FIRST_BAD];
     let mut lines = Vec::new(rt.alloc());
     let set_id = Field::of_bytes(*b"ABC001");
-    assert!(rt; lines_of(rt.alloc(), set_id, 1, readings, &mut lines)?);
+    assert!(rt; lines_of(rt.alloc(), set_id, 1, readings, &mut lines)? == Outcome::Written);
     assert!(rt; lines.as_slice() == b"KITE\nKIWI\nKNOT\nCROW\nSWAN\n".as_slice());
+    Ok(())
+}
+
+#[test]
+fn one_reading_is_not_there(rt: HostRuntime) -> Result<(), Fail> {
+    let mut lines = Vec::new(rt.alloc());
+    let set_id = Field::of_bytes(*b"ABC001");
+    let outcome = lines_of(rt.alloc(), set_id, 1, &mut [SECOND_BAD], &mut lines)?;
+    assert!(rt; outcome == Outcome::Stopped(1));
+    assert!(rt; lines.is_empty());
     Ok(())
 }

@@ -1,12 +1,11 @@
-use Rattle.std.proofs.Common.{◌+◌, map, get_or, inl, true, false, refl, ap, arith}
+use Rattle.std.proofs.Common.{◌+◌, map, get_or, Some, inl, true, false, refl, ap, arith}
 use Rattle.std.proofs.lemmas.List.{drop_more, drop_all, drop-set-lt}
 use Rattle.tape_run.specs.Given.{is_device}
 use Rattle.tape_run.specs.Seen.{seen}
 use Rattle.tape_run.proofs.Crashes.{only_nothing}
 use Rattle.tape_run.proofs.Lasting.{brings_still, last_saved}
-use Rattle.tape_run.proofs.Made.{reel_makes, save_makes, restart_makes, reel_failed, save_failed}
-use Rattle.tape_run.proofs.Made.{restart_failed}
-use Rattle.tape_run.proofs.Stopped.{told_err, kept_save_fails, kept_restart_fails}
+use Rattle.tape_run.proofs.Made.{reel_makes, save_makes, restart_makes, reel_failed}
+use Rattle.tape_run.proofs.Ended.{told_err, kept_save_fails, kept_restart_fails}
 use Rattle.tape_run.proofs.script.make.Goals as goal
 
 -- ---- a reel
@@ -50,14 +49,14 @@ returns-in_err-reel-in-Reel-clause-err g c =
       now,
       (λ ne. has),
       keeps kept,
-      λ rest. rw (here, c.in-Reel.is) (reel_failed _ _ (rem device) _ fault fails rest),
+      rw (here, c.in-Reel.is) (reel_failed _ _ (rem device) _ fault fails),
     ))
 
 pub returns-then-used-reels-clause-err : goal.returns-then-used-reels-clause-err
 returns-then-used-reels-clause-err g c = λ held was kept.
     let none = ap (map g.R.Read.remaining) (drop_all c.args.used c.args.reels.now
     (omega (arith, c.if-used-reels.true))) in
-    (held, (λ ne. was), kept, λ rest. rw (none, c.in-Reel.is) ((refl, refl)))
+    (held, (λ ne. was), kept, rw (none, c.in-Reel.is) ((refl, refl)))
 
 pub returns-in_ok-reel-in-Reel-clause-crash : goal.returns-in_ok-reel-in-Reel-clause-crash
 returns-in_ok-reel-in-Reel-clause-crash g c = λ held was kept.
@@ -97,7 +96,7 @@ returns-in_err-save-in-Save-clause-err g c =
       now,
       (λ ne. has),
       kept_save_fails fault _ _ fails kept,
-      λ rest. rw c.in-Save.is (save_failed _ _ _ fault fails rest),
+      rw c.in-Save.is fails,
     ))
 
 -- ---- going back
@@ -119,7 +118,7 @@ returns-in_err-restart-in-Restart-clause-err g c =
     c.from_residual-in_err-restart-in-Restart.ensures.1 (λ held was kept.
     let (ok, fails) = c.in_err-restart-in-Restart.ensures.err held was kept in (
       held,
-      (λ ne. ok (ne (rw c.in-Restart.is tt))),
+      (λ keeps. ok (λ device. keeps (((c.in-Restart.n, ap Some c.in-Restart.is), device)))),
       kept_restart_fails c.in-Restart.n fault _ _ fails kept,
-      λ rest. rw c.in-Restart.is (restart_failed _ _ c.in-Restart.n _ fault fails rest),
+      rw c.in-Restart.is fails,
     ))

@@ -11,13 +11,13 @@ invariant-loop-step g l = (held : List Portion) → g.S.PartSink.holds l.fn.sess
     → IsKept (seen g.S.PartSink.refusals l.fn.session held)
     → (now : List Portion) × g.S.PartSink.holds l.session.sink now
     × IsKept (seen g.S.PartSink.refusals l.session now)
-    × HasMade (seen g.S.PartSink.refusals l.fn.session held) l.steps
+    × HasMade l.step (seen g.S.PartSink.refusals l.fn.session held) l.steps
     (map g.R.Read.remaining l.fn.reels) (seen g.S.PartSink.refusals l.session now)
-    (drop l.step-index l.steps) (map g.R.Read.remaining (drop l.used l.reels))
+    (drop l.step l.steps) (map g.R.Read.remaining (drop l.used l.reels))
     × AddsOnly (StoodAt (seen g.S.PartSink.refusals l.fn.session held) l.steps
     (map g.R.Read.remaining l.fn.reels)) (g.S.PartSink.returns l.fn.session.sink)
     (g.S.PartSink.returns l.session.sink) (g.S.PartSink.survives l.fn.session.sink)
     (g.S.PartSink.survives l.session.sink)
-    × ((saved : Bool) × (is_saved false l.steps ≡ is_saved saved (drop l.step-index l.steps))
+    × ((saved : Bool) × (is_saved false l.steps ≡ is_saved saved (drop l.step l.steps))
     × (saved ≡ true → BringsLast (g.S.PartSink.returns l.session.sink)
     (seen g.S.PartSink.refusals l.session now)))

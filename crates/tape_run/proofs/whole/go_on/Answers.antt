@@ -2,7 +2,7 @@ use Rattle.std.proofs.Common.{sym, subst}
 use Rattle.tape_core.specs.Crash.{OnlyThis}
 use Rattle.tape_run.specs.Seen.{seen}
 use Rattle.tape_run.proofs.Lives.{one_more_life, goes_on, on_ok}
-use Rattle.tape_run.proofs.Stopped.{if_err}
+use Rattle.tape_run.proofs.Ended.{if_err}
 use Rattle.tape_run.proofs.whole.go_on.Goals as goal
 
 pub returns-clause-crash : goal.returns-clause-crash

@@ -1,6 +1,7 @@
 -- A run that a fault ended is where its steps before lead, or at a part that was refused.
-use Rattle.std.proofs.Common.{◌≡◌, ℕ, suc, ◌+◌, ◌≤◌, List, [], ◌∷◌, ◌++◌, length, map, drop, Option}
-use Rattle.std.proofs.Common.{Some, Result, Ok, Err, refl, sym, ap, subst, ◌∙◌, inl, inr, arith}
+use Rattle.std.proofs.Common.{◌≡◌, ℕ, suc, ◌+◌, ◌≤◌, List, [], ◌∷◌, length, map, take, drop, Option}
+use Rattle.std.proofs.Common.{Some, Result, Ok, Err, refl, sym, ap, subst, ◌∙◌, arith}
+use Rattle.std.proofs.lemmas.List.{drop-map}
 use Rattle.std.specs.Result.{IfErr, IsErrAnd}
 use Rattle.tape_image.specs.Tape.{TapeItem}
 use Rattle.tape_image.specs.Begins.{Stop, Begins}
@@ -19,7 +20,7 @@ use Rattle.tape_run.specs.Seen.{Seen, AreNotes, IsKept}
 use Rattle.tape_run.specs.History.{Course, course, course_of}
 use Rattle.tape_run.specs.Headline.{Ran, HasStopped, Stops, PutRefused, reels_in}
 use Rattle.tape_run.specs.Steps.{CutShort, Unmoved, ReelFails, SaveFails, RestartFails}
-use Rattle.tape_run.specs.Runs.{Runs}
+use Rattle.tape_run.specs.Runs.{RunsUpTo, Fails}
 use Rattle.tape_blocks.specs.Block.{Portion}
 use Rattle.tape_core.specs.State.{State}
 use Rattle.tape_core.specs.Table.{mount_of}
@@ -175,44 +176,7 @@ restart_led t old new n bs TooFewReels h s = absurd h
 restart_led t old new n bs OutOfMemory h s = absurd h
 restart_led t old new n bs OtherFile h s = absurd h
 
--- ---- the steps before it
-
--- the steps before one were made, and this one was not
-record Front (old : Seen) (steps : List Step) (bytes : List (List ℕ))
-    (fault : RunFault) (new : Seen) : Type 0 where
-  made : List Step
-  step : Step
-  rest : List Step
-  all : steps ≡ made ++ step ∷ rest
-  mid : Seen
-  runs : Runs old made (map Some bytes) (Ok tt) mid
-  count : new.failures ≡ mid.failures
-  stops : (o : Seen) (set : FileSet) (hs : List Happening) → IsLawful set → Ran set o hs mid
-      → Stops set o hs step (drop (reels_in made) bytes) fault new
-  led : (t : Lead) → StandsThere t mid → StopsBy t step (drop (reels_in made) bytes) fault new
-
-first_stops : (old new : Seen) (step : Step) (rest : List Step) (bytes : List (List ℕ))
-    (fault : RunFault)
-    → new.failures ≡ old.failures
-    → ((o : Seen) (set : FileSet) (hs : List Happening) → IsLawful set → Ran set o hs old
-    → Stops set o hs step bytes fault new)
-    → ((t : Lead) → StandsThere t old → StopsBy t step bytes fault new)
-    → Front old (step ∷ rest) bytes fault new
-first_stops old new step rest bytes fault count stops led = record {
-  made = [];
-  step = step;
-  rest = rest;
-  all = refl;
-  mid = old;
-  runs = (refl, refl);
-  count = count;
-  stops = stops;
-  led = led;
-}
-
-same_error : (fault other : RunFault) (r : Result (Unit {0}) RunFault) → r ≡ Err fault
-    → r ≡ Err other → other ≡ fault
-same_error fault other r e f = cc
+-- ---- its count of failed readers
 
 reel_count : (b : List ℕ) (fault : RunFault) (old new : Seen) → ReelFails b fault old new
     → new.failures ≡ old.failures
@@ -238,93 +202,55 @@ restart_count n TooFewReels old new h = absurd h
 restart_count n OutOfMemory old new h = absurd h
 restart_count n OtherFile old new h = absurd h
 
-front : (old new : Seen) (steps : List Step) (bytes : List (List ℕ)) (fault : RunFault)
-    → Runs old steps (map Some bytes) (Err fault) new → Front old steps bytes fault new
-front old new [] bytes fault (e, same) = absurd (cc e)
-front old new (Reel ∷ steps) [] fault (e, same) =
-    let is = same_error fault TooFewReels (Err fault) refl e in
-    first_stops old new Reel steps [] fault (ap (λ (s : Seen). s.failures) same)
-    (λ o set hs l r. subst (λ (z : RunFault). Stops set o hs Reel [] z new) is
-    (same_there set o old new hs same r))
-    (λ t s. subst (λ (z : RunFault). StopsBy t Reel [] z new) is (still_there t old new same s))
-front old new (Reel ∷ steps) (b ∷ bs) fault (inl (failed, mid, read, runs)) =
-    let n = front mid new steps bs fault runs in
-    record {
-      made = Reel ∷ n.made;
-      step = n.step;
-      rest = n.rest;
-      all = ap (λ (l : List Step). Reel ∷ l) n.all;
-      mid = n.mid;
-      runs = inl ((failed, mid, read, n.runs));
-      count = n.count;
-      stops = n.stops;
-      led = n.led;
-    }
-front old new (Reel ∷ steps) (b ∷ bs) fault (inr (other, e, why)) =
-    let is = same_error fault other (Err fault) refl e in
-    first_stops old new Reel steps (b ∷ bs) fault (reel_count b other old new why)
-    (λ o set hs l r. subst (λ (z : RunFault). Stops set o hs Reel (b ∷ bs) z new) is
-    (reel_stops set o old new hs b bs other why l r))
-    (λ t s. subst (λ (z : RunFault). StopsBy t Reel (b ∷ bs) z new) is
-    (reel_led t old new b bs other why s))
-front old new (Save ∷ steps) bytes fault (inl (mid, v, runs)) =
-    let n = front mid new steps bytes fault runs in
-    record {
-      made = Save ∷ n.made;
-      step = n.step;
-      rest = n.rest;
-      all = ap (λ (l : List Step). Save ∷ l) n.all;
-      mid = n.mid;
-      runs = inl ((mid, v, n.runs));
-      count = n.count;
-      stops = n.stops;
-      led = n.led;
-    }
-front old new (Save ∷ steps) bytes fault (inr (other, e, why)) =
-    let is = same_error fault other (Err fault) refl e in
-    first_stops old new Save steps bytes fault (save_count other old new why)
-    (λ o set hs l r. subst (λ (z : RunFault). Stops set o hs Save bytes z new) is
-    (save_stops set o old new hs bytes other why r))
-    (λ t s. subst (λ (z : RunFault). StopsBy t Save bytes z new) is
-    (save_led t old new bytes other why s))
-front old new (Restart k ∷ steps) bytes fault (inl (mid, w, runs)) =
-    let n = front mid new steps bytes fault runs in
-    record {
-      made = Restart k ∷ n.made;
-      step = n.step;
-      rest = n.rest;
-      all = ap (λ (l : List Step). Restart k ∷ l) n.all;
-      mid = n.mid;
-      runs = inl ((mid, w, n.runs));
-      count = n.count;
-      stops = n.stops;
-      led = n.led;
-    }
-front old new (Restart k ∷ steps) bytes fault (inr (other, e, why)) =
-    let is = same_error fault other (Err fault) refl e in
-    first_stops old new (Restart k) steps bytes fault (restart_count k other old new why)
-    (λ o set hs l r. subst (λ (z : RunFault). Stops set o hs (Restart k) bytes z new) is
-    (restart_stops set o old new hs k bytes other why r))
-    (λ t s. subst (λ (z : RunFault). StopsBy t (Restart k) bytes z new) is
-    (restart_led t old new k bytes other why s))
+-- ---- of whatever kind it is
 
--- The steps before the one that was not made, and why it was not.
-pub stopped : (old new : Seen) (steps : List Step) (bytes : List (List ℕ)) (fault : RunFault)
-    → Runs old steps (map Some bytes) (Err fault) new → HasStopped old steps bytes fault new
-stopped old new steps bytes fault runs =
-    let f = front old new steps bytes fault runs in
-    let run = headline old f.mid f.made bytes f.runs in
+fails_count : (step : Step) (bs : List (List ℕ)) (fault : RunFault) (mid new : Seen)
+    → Fails step (map Some bs) fault mid new → new.failures ≡ mid.failures
+fails_count Reel [] fault mid new (is, same) = ap (λ (s : Seen). s.failures) same
+fails_count Reel (b ∷ bs) fault mid new h = reel_count b fault mid new h
+fails_count Save bs fault mid new h = save_count fault mid new h
+fails_count (Restart n) bs fault mid new h = restart_count n fault mid new h
+
+fails_stops : (step : Step) (bs : List (List ℕ)) (fault : RunFault) (set : FileSet)
+    (old mid new : Seen) (hs : List Happening) → Fails step (map Some bs) fault mid new
+    → IsLawful set → Ran set old hs mid → Stops set old hs step bs fault new
+fails_stops Reel [] fault set old mid new hs (is, same) l r =
+    subst (λ (z : RunFault). Stops set old hs Reel [] z new) (sym is)
+    (same_there set old mid new hs same r)
+fails_stops Reel (b ∷ bs) fault set old mid new hs h l r =
+    reel_stops set old mid new hs b bs fault h l r
+fails_stops Save bs fault set old mid new hs h l r = save_stops set old mid new hs bs fault h r
+fails_stops (Restart n) bs fault set old mid new hs h l r =
+    restart_stops set old mid new hs n bs fault h r
+
+fails_led : (step : Step) (bs : List (List ℕ)) (fault : RunFault) (t : Lead) (mid new : Seen)
+    → Fails step (map Some bs) fault mid new → StandsThere t mid → StopsBy t step bs fault new
+fails_led Reel [] fault t mid new (is, same) s =
+    subst (λ (z : RunFault). StopsBy t Reel [] z new) (sym is) (still_there t mid new same s)
+fails_led Reel (b ∷ bs) fault t mid new h s = reel_led t mid new b bs fault h s
+fails_led Save bs fault t mid new h s = save_led t mid new bs fault h s
+fails_led (Restart n) bs fault t mid new h s = restart_led t mid new n bs fault h s
+
+-- Where the steps before the one that was not made lead, and why it was not.
+stopped : (old new : Seen) (steps : List Step) (bytes : List (List ℕ)) (n : ℕ) (fault : RunFault)
+    → RunsUpTo old steps (map Some bytes) n fault new → HasStopped old steps bytes n fault new
+stopped old new steps bytes n fault r =
+    let left = drop (reels_in (take n steps)) bytes in
+    let fails : Fails r.step (map Some left) fault r.mid new =
+    subst (λ (z : List (Option (List ℕ))). Fails r.step z fault r.mid new)
+    (drop-map Some (reels_in (take n steps)) bytes) r.fails in
+    let run = headline old r.mid (take n steps) bytes r.runs in
     record {
-      made = f.made;
-      step = f.step;
-      rest = f.rest;
-      all = f.all;
+      step = r.step;
+      at = r.at;
       given = run.given;
       failed = run.failed;
       are_given = run.are_given;
-      count = f.count ∙ run.count;
-      stops = λ set hs l h s. f.stops old set hs l (run.ran set hs l h s);
-      led = λ t reels a s. f.led (lead t f.made reels) (run.led t reels a s);
+      count = fails_count r.step left fault r.mid new fails ∙ run.count;
+      stops = λ set hs l h s.
+          fails_stops r.step left fault set old r.mid new hs fails l (run.ran set hs l h s);
+      led = λ t reels a s. fails_led r.step left fault (lead t (take n steps) reels) r.mid new fails
+          (run.led t reels a s);
     }
 
 -- ---- what is true of each session stays so
@@ -348,9 +274,9 @@ kept_restart_fails n TooFewReels old new h k = absurd h
 kept_restart_fails n OutOfMemory old new h k = absurd h
 kept_restart_fails n OtherFile old new h k = absurd h
 
--- at a fault of whatever kind: what all steps did or left, and so where the steps before it lead
-pub stopped_so : (old new : Seen) (steps : List Step) (reels : List (Option (List ℕ)))
-    (fault : RunFault) → Runs old steps reels (Err fault) new → (bytes : List (List ℕ))
-    → reels ≡ map Some bytes → HasStopped old steps bytes fault new
-stopped_so old new steps reels fault runs bytes e = stopped old new steps bytes fault
-    (subst (λ (z : List (Option (List ℕ))). Runs old steps z (Err fault) new) e runs)
+-- over readers that tell their bytes
+pub stopped_so : (old new : Seen) (steps : List Step) (reels : List (Option (List ℕ))) (n : ℕ)
+    (fault : RunFault) → RunsUpTo old steps reels n fault new → (bytes : List (List ℕ))
+    → reels ≡ map Some bytes → HasStopped old steps bytes n fault new
+stopped_so old new steps reels n fault runs bytes e = stopped old new steps bytes n fault
+    (subst (λ (z : List (Option (List ℕ))). RunsUpTo old steps z n fault new) e runs)
