@@ -8,7 +8,7 @@ use Rattle.std.proofs.Common.{Bool, true, false, ap}
 use Rattle.tape_stage.specs.Calls.{after, left_after, seen_by, left_by, since_by, IsImage, WasImage}
 use Rattle.tape_stage.specs.Calls.{Fits, AllFit, worst_after, worst_by, worst_longer, kept_or}
 use Rattle.tape_stage.specs.Calls.{IsRight}
-use Rattle.tape_stage.specs.declared.content.Call.{Call}
+use Rattle.tape_stage.specs.declared.disk.content.Call.{Call}
 
 pub seen_more : (seen : List ℕ) (calls : List Call) (call : Call)
     → seen_by seen (calls ++ call ∷ []) ≡ after (seen_by seen calls) call

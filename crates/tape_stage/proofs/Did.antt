@@ -6,9 +6,9 @@ use Rattle.tape_stage.specs.Disk.{Torn, CutShort, Elapses}
 use Rattle.tape_stage.specs.Calls.{kept_or, left_after, IsImage, WasImage, seen_image, worst_image}
 use Rattle.tape_stage.specs.Memory.{first_of}
 use Rattle.tape_stage.specs.Same.{DidCall}
-use Rattle.tape_stage.specs.declared.content.Call.{Call}
-use Rattle.tape_stage.specs.declared.content.Call.TheVariants.{Look, Write, Cut, Sync}
-use Rattle.tape_stage.specs.declared.content.Content.{Content}
+use Rattle.tape_stage.specs.declared.disk.content.Call.{Call}
+use Rattle.tape_stage.specs.declared.disk.content.Call.TheVariants.{Look, Write, Cut, Sync}
+use Rattle.tape_stage.specs.declared.disk.content.Content.{Content}
 use Rattle.tape_stage.proofs.CallLaws.{image_back, image_more, elapses_more}
 
 abbrev Leaves : Content → List ℕ → Type 0

@@ -11,8 +11,8 @@ use Rattle.tape_stage.specs.Staged.{body_at, gate_at, read_slot, slot_at, FrontO
 use Rattle.tape_stage.specs.Staged.{Ready, StagedIn}
 use Rattle.tape_stage.specs.Stages.{IsStage}
 use Rattle.tape_stage.proofs.Torn.{alike_byte}
-use Rattle.tape_stage.proofs.putting.write_frame.Reads as write_frame
-use Rattle.tape_stage.proofs.slots.close_gate.Reads as close_gate
+use Rattle.tape_stage.proofs.stage.putting.write_frame.Reads as write_frame
+use Rattle.tape_stage.proofs.stage.slots.close_gate.Reads as close_gate
 use Rattle.tape_stage.proofs.stage.Stage.restart.Reads as restart
 use Rattle.tape_stage.proofs.stage.Stage.save.Reads as save
 

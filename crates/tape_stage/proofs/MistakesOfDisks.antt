@@ -6,17 +6,17 @@ use Rattle.tape_core.specs.Weight.{Rose}
 use Rattle.tape_stage.specs.Calls.{worst_by}
 use Rattle.tape_stage.specs.Holding.{with_held, LeftTorn}
 use Rattle.tape_stage.specs.Memory.{first_of, memory_bytes}
-use Rattle.tape_stage.specs.declared.content.Call.TheVariants.{Write}
+use Rattle.tape_stage.specs.declared.disk.content.Call.TheVariants.{Write}
 use Rattle.tape_stage.specs.declared.disk.DiskFault.TheVariants.{Device}
-use Rattle.tape_stage.proofs.file_disk.FileDisk.fail.Reads as fail
-use Rattle.tape_stage.proofs.file_disk.FileDisk.new.Reads as new
-use Rattle.tape_stage.proofs.file_disk.FileDiskDisk.write_at.Reads as write_at
-use Rattle.tape_stage.proofs.memory.MemoryDisk.crash.Reads as crash
-use Rattle.tape_stage.proofs.read_ahead.ReadAhead.give.Reads as give
-use Rattle.tape_stage.proofs.write_behind.WriteBehind.hold.Reads as hold
-use Rattle.tape_stage.proofs.write_behind.WriteBehind.pass_on.Reads as pass_on
-use Rattle.tape_stage.proofs.write_behind.WriteBehind.takes.Reads as takes
-use Rattle.tape_stage.proofs.write_behind.WriteBehindDisk.sync.Reads as sync
+use Rattle.tape_stage.proofs.disk.file.FileDisk.fail.Reads as fail
+use Rattle.tape_stage.proofs.disk.file.FileDisk.new.Reads as new
+use Rattle.tape_stage.proofs.disk.file.FileDiskDisk.write_at.Reads as write_at
+use Rattle.tape_stage.proofs.disk.memory.MemoryDisk.crash.Reads as crash
+use Rattle.tape_stage.proofs.disk.read_ahead.ReadAhead.give.Reads as give
+use Rattle.tape_stage.proofs.disk.write_behind.WriteBehind.hold.Reads as hold
+use Rattle.tape_stage.proofs.disk.write_behind.WriteBehind.pass_on.Reads as pass_on
+use Rattle.tape_stage.proofs.disk.write_behind.WriteBehind.takes.Reads as takes
+use Rattle.tape_stage.proofs.disk.write_behind.WriteBehindDisk.sync.Reads as sync
 
 -- ---- a disk in memory
 

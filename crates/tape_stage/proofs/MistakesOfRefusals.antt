@@ -5,7 +5,7 @@ use Rattle.std.specs.Prelude.{Option, Some, None, Err, option_map, unwrap_or}
 use Rattle.tape_core.specs.Point.{Point}
 use Rattle.tape_stage.specs.declared.disk.DiskFault.TheVariants as disk_faults
 use Rattle.tape_stage.specs.declared.stage.StageFault.TheVariants.{Device, Full}
-use Rattle.tape_stage.proofs.file_disk.FileDisk.sync_file.Reads as sync_file
+use Rattle.tape_stage.proofs.disk.file.FileDisk.sync_file.Reads as sync_file
 use Rattle.tape_stage.proofs.stage.Stage.create.Reads as create
 use Rattle.tape_stage.proofs.stage.Stage.open_disk.Reads as open_disk
 use Rattle.tape_stage.proofs.stage.Stage.save.Reads as save

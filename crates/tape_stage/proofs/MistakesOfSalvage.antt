@@ -9,7 +9,7 @@ use Rattle.tape_stage.specs.Salvaged.{Remains, HoldsRest}
 use Rattle.tape_stage.specs.declared.stage.StageFault.TheVariants.{NoPoint}
 use Rattle.tape_stage.proofs.Held.{holding_weighs}
 use Rattle.tape_stage.proofs.Once.{remains_once}
-use Rattle.tape_stage.proofs.salvage.Salvage.open_disk.Reads as open_disk
+use Rattle.tape_stage.proofs.stage.salvage.Salvage.open_disk.Reads as open_disk
 
 -- break_told_as_whole: frames break off at 262, and all of them are told to stand
 break_told_as_whole : (D : _) (L : _) (g : _) (d : _) (κs : _) (a : _) (opened : _) (s : _)

@@ -10,7 +10,7 @@ use Rattle.tape_stage.specs.Found.{IsFound, IsBadPlace}
 use Rattle.tape_stage.specs.Frames.{NoFrameAt}
 use Rattle.tape_stage.specs.Salvaged.{FramedTo, Remains, RemainsNone}
 use Rattle.tape_stage.specs.Staged.{Holding, HoldsNone, WalkedTo}
-use Rattle.tape_stage.specs.declared.found.Found.{Found}
+use Rattle.tape_stage.specs.declared.stage.found.Found.{Found}
 use Rattle.tape_stage.proofs.Finds.{best_of}
 use Rattle.tape_stage.proofs.Once.{remains_once, staged_remains}
 use Rattle.tape_stage.proofs.Walks.{walked_holding}

@@ -9,8 +9,8 @@ use Rattle.std.proofs.lemmas.List.{length-take-le, take-append-le, take_at, drop
 use Rattle.std.proofs.lemmas.List.{length-replicate}
 use Rattle.std.proofs.Props.{props}
 use Rattle.tape_stage.specs.Disk.{Torn, CutShort}
-use Rattle.tape_stage.specs.declared.content.Call.{Call}
-use Rattle.tape_stage.specs.declared.content.Call.TheVariants.{Look, Write, Cut, Sync}
+use Rattle.tape_stage.specs.declared.disk.content.Call.{Call}
+use Rattle.tape_stage.specs.declared.disk.content.Call.TheVariants.{Look, Write, Cut, Sync}
 
 -- what stood first: kept apart once there was a change
 abbrev pub kept_or : Bool → List ℕ → List ℕ → List ℕ

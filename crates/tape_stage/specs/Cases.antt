@@ -14,13 +14,13 @@ use Rattle.tape_core.specs.Point.{Point}
 use Rattle.tape_core.specs.Stands.{weight_of}
 use Rattle.tape_core.specs.declared.sink.SinkFault.{SinkFault}
 use Rattle.tape_core.specs.declared.sink.SinkFault.TheVariants as sink
-use Rattle.tape_stage.specs.declared.content.Call.TheVariants.{Cut, Sync}
+use Rattle.tape_stage.specs.declared.disk.content.Call.TheVariants.{Cut, Sync}
 use Rattle.tape_stage.specs.Body.{body_text, point_text}
 use Rattle.tape_stage.specs.Calls.{IsImage, WasImage, worst_by}
 use Rattle.tape_stage.specs.declared.disk.Disk.{Ghosts}
-use Rattle.tape_stage.specs.declared.found.Found.{Found}
-use Rattle.tape_stage.specs.declared.memory.MemoryDisk.{MemoryDisk}
-use Rattle.tape_stage.specs.declared.part_reader.PartReader.{PartReader}
+use Rattle.tape_stage.specs.declared.stage.found.Found.{Found}
+use Rattle.tape_stage.specs.declared.disk.memory.MemoryDisk.{MemoryDisk}
+use Rattle.tape_stage.specs.declared.stage.part_reader.PartReader.{PartReader}
 use Rattle.tape_stage.specs.declared.stage.Stage.{Stage}
 use Rattle.tape_stage.specs.declared.stage.StageFault.TheVariants.{NoPoint, BadFrame, Device}
 use Rattle.tape_stage.specs.declared.stage.StageFault.TheVariants.{OutOfMemory, Failed, Full}

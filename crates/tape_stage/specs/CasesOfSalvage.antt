@@ -11,7 +11,7 @@ use Rattle.tape_stage.specs.Salvaged.{FramedTo, HoldsRest, Remains, RemainsNone,
 use Rattle.tape_stage.specs.Salvaged.{RestAhead}
 use Rattle.tape_stage.specs.Staged.{Holding, Staged, best, slot_at}
 use Rattle.tape_stage.specs.declared.disk.Disk.{Ghosts}
-use Rattle.tape_stage.specs.declared.salvage.Salvage.{Salvage}
+use Rattle.tape_stage.specs.declared.stage.salvage.Salvage.{Salvage}
 
 -- a whole record of one byte, A
 abbrev pub one_part : Portion

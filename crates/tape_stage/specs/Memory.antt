@@ -1,8 +1,8 @@
 -- What a disk in memory stands for.
 use Rattle.std.specs.Prelude.{ℕ, List}
 use Rattle.tape_stage.specs.Calls.{kept_or, worst_by, IsImage, WasImage}
-use Rattle.tape_stage.specs.declared.content.Content.{Content}
-use Rattle.tape_stage.specs.declared.memory.MemoryDisk.{MemoryDisk}
+use Rattle.tape_stage.specs.declared.disk.content.Content.{Content}
+use Rattle.tape_stage.specs.declared.disk.memory.MemoryDisk.{MemoryDisk}
 
 abbrev pub first_of : Content → List ℕ
 first_of content = kept_or content.changed content.first.items content.bytes.items

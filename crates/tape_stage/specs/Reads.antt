@@ -9,8 +9,8 @@ use Rattle.tape_blocks.specs.declared.part.Part.{Part}
 use Rattle.tape_core.specs.declared.sink.SinkFault.{SinkFault}
 use Rattle.tape_stage.specs.Stages.{Holds, Returns, Survives, IsAhead}
 use Rattle.tape_stage.specs.declared.stage.Stage.{Stage}
-use Rattle.tape_stage.specs.declared.part_reader.PartReader.{PartReader}
-use Rattle.tape_stage.specs.contracts.part_reader.PartReader.{the_row}
+use Rattle.tape_stage.specs.declared.stage.part_reader.PartReader.{PartReader}
+use Rattle.tape_stage.specs.contracts.stage.part_reader.PartReader.{the_row}
 
 -- the stage gave its next part, or was refused
 abbrev pub StageGave : {D : Type 0} {disk : Ghosts D} → Stage D disk

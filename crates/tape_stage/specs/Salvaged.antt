@@ -6,7 +6,7 @@ use Rattle.tape_core.specs.Point.{Point}
 use Rattle.tape_stage.specs.Frames.{AheadIn, NoFrameAt}
 use Rattle.tape_stage.specs.Staged.{Holding, best, slot_at}
 use Rattle.tape_stage.specs.declared.disk.Disk.{Ghosts}
-use Rattle.tape_stage.specs.declared.salvage.Salvage.{Salvage}
+use Rattle.tape_stage.specs.declared.stage.salvage.Salvage.{Salvage}
 
 -- Behind 256 bytes the frames should weigh so much, and break off before: no frame stands at this
 -- place that ends where they should, and where the file does, or before.

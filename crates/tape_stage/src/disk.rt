@@ -1,4 +1,14 @@
 //! A disk: what a read gives, what a crash may leave, and how often it failed.
+pub mod changes;
+pub mod content;
+pub mod file;
+pub mod kept;
+pub mod memory;
+pub mod memory_disk;
+pub mod read_ahead;
+pub mod whole;
+pub mod write_behind;
+
 ghost use Rattle.std.specs.Prelude.{◌≡◌, ◌+◌, ◌≤◌, ℕ, List, length, take, max, slice_range, IfOk};
 ghost use Rattle.std.specs.Prelude.{OnOk, OnErr};
 ghost use Rattle.tape_stage.specs.Disk.{Holds, Torn, CutShort, Follows, Allows, NoMore, Only};

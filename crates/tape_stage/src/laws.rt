@@ -10,8 +10,8 @@ ghost use Rattle.tape_stage.specs.Salvaged.{RemainsOnce};
 ghost use Rattle.tape_stage.specs.StageLaws.{EitherStands, NamedStands, ReadsOneOf, StandsOnce};
 
 use crate::disk::Disk;
+use crate::point::fault::PointFault;
 use crate::point::{read_point, write_point};
-use crate::point_fault::PointFault;
 use tape_core::Checkpoint;
 
 /// A checkpoint that was written is read again.

@@ -1,17 +1,25 @@
 //! Checkpoints read and written.
+pub mod characters;
+pub mod fault;
+pub mod fields;
+pub mod groups;
+pub mod range;
+pub mod reading;
+pub mod to_fields;
+pub mod writing;
 
 ghost use Rattle.std.specs.Prelude.{◌≡◌, IfOk, Ok};
 ghost use Rattle.tape_core.specs.Point.{Point};
 ghost use Rattle.tape_stage.specs.Reading.{reading};
 ghost use Rattle.tape_stage.specs.Text.{IsPointText};
-ghost use Rattle.tape_stage.specs.declared.fields.Version.{Version};
-ghost use Rattle.tape_stage.specs.declared.fields.Version.TheVariants.{Two};
+ghost use Rattle.tape_stage.specs.declared.point.fields.Version.{Version};
+ghost use Rattle.tape_stage.specs.declared.point.fields.Version.TheVariants.{Two};
 
-use crate::point_fault::PointFault;
-use crate::range::checkpoint_of;
-use crate::reading::text_at;
-use crate::to_fields::fields_of;
-use crate::writing::fields_text;
+use crate::point::fault::PointFault;
+use crate::point::range::checkpoint_of;
+use crate::point::reading::text_at;
+use crate::point::to_fields::fields_of;
+use crate::point::writing::fields_text;
 use tape_core::Checkpoint;
 
 /// Reads the text of a checkpoint, in version 1 or 2. A text of version 1 has part 0.

@@ -1,4 +1,35 @@
 //! A stage: parts on a disk, and the checkpoint that was acknowledged last.
+//!
+//! The bytes of the disk, from 0:
+//!
+//! | Places | Content |
+//! |---|---|
+//! | 0 | the gate of the first slot: `O` where it counts, else closed |
+//! | 1-127 | its generation (15 digits), a checkpoint (80 characters), spaces |
+//! | 128 | the gate of the second slot |
+//! | 129-255 | its generation, checkpoint and spaces |
+//! | from 256 | frames, one for each part: its span (1 byte), its length (4 bytes), its bytes |
+//!
+//! Of two slots that count the one with the greater generation is meant. To save is to write the
+//! other one, in an order that leaves one of the two whole at any moment:
+//!
+//! 1. its gate is closed where it stands open; sync, which keeps the frames put before, too
+//! 2. its generation and its checkpoint are written; sync
+//! 3. its gate is opened; sync
+pub mod body;
+pub mod cutting;
+pub mod found;
+pub mod frame;
+pub mod open_disk;
+pub mod opening;
+pub mod part_reader;
+pub mod putting;
+pub mod salvage;
+pub mod salvaging;
+pub mod saving;
+pub mod sinking;
+pub mod slots;
+pub mod walking;
 
 ghost use Rattle.std.specs.Prelude.{◌≡◌, ◌+◌, ◌≤◌, false, length, None};
 ghost use Rattle.tape_stage.specs.Faults.{number};

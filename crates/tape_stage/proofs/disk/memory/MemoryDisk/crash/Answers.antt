@@ -1,0 +1,35 @@
+use Rattle.std.proofs.Common.{◌≡◌, Bool, true, false, List, ℕ, subst, sym, ◌∙◌, ap}
+use Rattle.tape_stage.specs.Calls.{kept_or}
+use Rattle.tape_stage.specs.Memory.{memory_leaves}
+use Rattle.tape_stage.proofs.Did.{worst_left_now}
+use Rattle.tape_stage.proofs.disk.memory.MemoryDisk.crash.Goals as goal
+
+chosen : (changed is : Bool) (worst bytes : List ℕ) → changed ≡ is → kept_or changed worst bytes
+    ≡ kept_or is worst bytes
+chosen changed is worst bytes same = ap (λ (b : Bool). kept_or b worst bytes) same
+
+pub returns-then-content-clause-possible : goal.returns-then-content-clause-possible
+returns-then-content-clause-possible c =
+    let d = c.args.self.content in
+    subst (λ (b : List ℕ). memory_leaves c.args.self b)
+    (chosen d.changed true d.worst.items d.bytes.items c.if-content.true ∙ sym
+    c.from_bytes.ensures) (worst_left_now d)
+
+pub returns-else-content-clause-possible : goal.returns-else-content-clause-possible
+returns-else-content-clause-possible c =
+    let d = c.args.self.content in
+    subst (λ (b : List ℕ). memory_leaves c.args.self b)
+    (chosen d.changed false d.worst.items d.bytes.items c.if-content.false ∙ sym
+    c.from_bytes-else-content.ensures) (worst_left_now d)
+
+pub returns-then-content-clause-worst : goal.returns-then-content-clause-worst
+returns-then-content-clause-worst c =
+    let d = c.args.self.content in
+    c.from_bytes.ensures ∙ sym (chosen d.changed true d.worst.items d.bytes.items
+    c.if-content.true) ∙ sym d.right.worst_is
+
+pub returns-else-content-clause-worst : goal.returns-else-content-clause-worst
+returns-else-content-clause-worst c =
+    let d = c.args.self.content in
+    c.from_bytes-else-content.ensures ∙ sym (chosen d.changed false d.worst.items d.bytes.items
+    c.if-content.false) ∙ sym d.right.worst_is

@@ -1,0 +1,12 @@
+use Rattle.tape_stage.specs.declared.disk.content.Call.TheVariants.{Look}
+use Rattle.tape_stage.proofs.Did.{did_elapses, looked_left}
+use Rattle.tape_stage.proofs.disk.memory_disk.MemoryDiskDisk.read.Goals as goal
+
+pub returns-in-Ok-clause-crash : goal.returns-in-Ok-clause-crash
+returns-in-Ok-clause-crash c _ d now =
+    looked_left c.args.self.now.content c.is_stopped.new.self.content c.look.new.self
+    c.is_stopped.ensures.content c.in-Ok.ensures.ok d now
+
+pub returns-in-Ok-clause-time : goal.returns-in-Ok-clause-time
+returns-in-Ok-clause-time c _ = did_elapses c.args.self.now.content c.is_stopped.new.self.content
+    c.look.new.self Look c.is_stopped.ensures.content c.in-Ok.ensures.ok

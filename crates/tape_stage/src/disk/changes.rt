@@ -1,0 +1,120 @@
+//! How calls change what a disk in memory holds.
+ghost use Rattle.std.specs.Prelude.{◌≡◌, ◌≤◌, ◌+◌, ◌-◌, [], ◌∷◌, ◌++◌, length, take, drop};
+ghost use Rattle.std.specs.Prelude.{replicate, true, OnOk, OnErr, IfOk};
+ghost use Rattle.tape_stage.specs.Same.{SameContent, DidCall};
+
+use crate::disk::content::{Call, Content};
+use std::alloc::{AllocError, Global};
+
+/// The old bytes with others over them from a place on.
+fn written(alloc: Global, old: &[u8], place: usize, bytes: &[u8]) -> Result<Vec<u8>, AllocError>
+    requires { place ≤ length old.now }
+    ensures { IfOk result (λ v. v.items ≡ take place old.now ++ bytes.now ++ drop
+        (place + length bytes.now) old.now) }
+{
+    let mut next = old[..place].to_vec(alloc)?;
+    next.extend_from_slice(bytes)?;
+    if bytes.len() < old.len() - place {
+        next.extend_from_slice(&old[place + bytes.len()..])?;
+    }
+    Ok(next)
+}
+
+/// So many bytes that may be anything: 255 each.
+fn unknown(alloc: Global, count: usize) -> Result<Vec<u8>, AllocError>
+    ensures { IfOk result (λ v. v.items ≡ replicate count 255) }
+{
+    Ok(vec![in alloc; 0xFFu8; count]?)
+}
+
+impl Content {
+    /// These bytes, all of them durable.
+    pub fn new(alloc: Global, bytes: Vec<u8>) -> Self
+        ensures bytes { result.bytes ≡ bytes }
+        ensures calls { result.calls.items ≡ [] }
+    {
+        Content {
+            alloc,
+            bytes,
+            changed: false,
+            first: Vec::new(alloc),
+            worst: Vec::new(alloc),
+            calls: Vec::new(alloc),
+        }
+    }
+
+    /// Keeps what stood first apart, before the first change.
+    fn keep_first(&mut self) -> Result<(), AllocError>
+        ensures same { SameContent self.old self.new }
+        ensures ok { OnOk result (self.new.changed ≡ true) }
+    {
+        if self.changed {
+            return Ok(());
+        }
+        let first = self.bytes.to_vec(self.alloc)?;
+        let worst = self.bytes.to_vec(self.alloc)?;
+        self.first = first;
+        self.worst = worst;
+        self.changed = true;
+        Ok(())
+    }
+
+    /// Notes a call that changes nothing.
+    pub fn look(&mut self) -> Result<(), AllocError>
+        ensures ok { OnOk result (DidCall Call.Look self.old self.new) }
+        ensures err { OnErr result (SameContent self.old self.new) }
+    {
+        self.calls.push(Call::Look)?;
+        Ok(())
+    }
+
+    /// Writes, and notes it.
+    pub fn write(&mut self, place: usize, bytes: &[u8]) -> Result<(), AllocError>
+        requires { place ≤ length self.old.bytes.items }
+        ensures ok { OnOk result ((b : _) × (b.items ≡ bytes.now)
+            × DidCall (Call.Write place b) self.old self.new) }
+        ensures err { OnErr result (SameContent self.old self.new) }
+    {
+        self.keep_first()?;
+        let next = written(self.alloc, &self.bytes, place, bytes)?;
+        let open = unknown(self.alloc, bytes.len())?;
+        let worst = written(self.alloc, &self.worst, place, &open)?;
+        let copy = bytes.to_vec(self.alloc)?;
+        self.calls.push(Call::Write {
+            place: place as u64,
+            bytes: copy,
+        })?;
+        self.bytes = next;
+        self.worst = worst;
+        Ok(())
+    }
+
+    /// Cuts, and notes it.
+    pub fn cut(&mut self, len: usize) -> Result<(), AllocError>
+        requires { len ≤ length self.old.bytes.items }
+        ensures ok { OnOk result (DidCall (Call.Cut len) self.old self.new) }
+        ensures err { OnErr result (SameContent self.old self.new) }
+    {
+        self.keep_first()?;
+        let next = self.bytes[..len].to_vec(self.alloc)?;
+        let mut worst = self.worst[..len].to_vec(self.alloc)?;
+        let open = unknown(self.alloc, self.worst.len() - len)?;
+        worst.extend_from_slice(&open)?;
+        self.calls.push(Call::Cut { len: len as u64 })?;
+        self.bytes = next;
+        self.worst = worst;
+        Ok(())
+    }
+
+    /// Notes a sync: what is there is durable.
+    pub fn sync(&mut self) -> Result<(), AllocError>
+        ensures ok { OnOk result (DidCall Call.Sync self.old self.new) }
+        ensures err { OnErr result (SameContent self.old self.new) }
+    {
+        self.keep_first()?;
+        let worst = self.bytes.to_vec(self.alloc)?;
+        self.calls.push(Call::Sync)?;
+        self.worst = worst;
+        Ok(())
+    }
+}

@@ -1,0 +1,212 @@
+//! A disk over a file.
+ghost use Rattle.std.specs.Prelude.{◌≡◌, ◌+◌, ◌≤◌, [], false, length, true, IfOk, IfSome, OnErr};
+ghost use Rattle.std.specs.Prelude.{OnOk};
+ghost use Rattle.tape_core.specs.Weight.{Rose};
+
+use crate::disk::read_ahead::ReadAhead;
+use crate::disk::whole::{read_from, write_from};
+use crate::disk::write_behind::WriteBehind;
+use crate::disk::{Disk, DiskFault};
+use std::fs::OpenFile;
+use std::io::{Read, Seek, SeekFrom, Write};
+
+/// A file as a disk, each call at once one of the file.
+///
+/// It counts its length itself, so that no call asks for a place that was never there, and names
+/// each failure of the file `Device`: an error, an interruption, and an end or a write that takes
+/// nothing where bytes are due. What becomes of the bytes of a file nothing here can say: it claims
+/// no honesty, and what is proved of stages on honest disks is a promise for a file whose system
+/// keeps what it synced.
+///
+/// Behind a sync that failed every call but `len` is `Device`: a system may have dropped what it
+/// could not keep, and answer the next sync with Ok.
+#[derive(Drop)]
+pub struct FileDisk<F> {
+    file: F,
+    len: u64,
+    failed: u64,
+    lost: bool,
+}
+
+/// A file as a disk, up to 8,192 bytes of which are held before they are written, and as many read
+/// ahead.
+pub type HeldFile<F> = ReadAhead<WriteBehind<FileDisk<F>>>;
+
+/// The whole file, behind windows. It has to be open for reading and writing, and nobody else may
+/// change its length.
+///
+/// # Errors
+///
+/// `Device`, where the file does not tell its length; it is dropped.
+pub fn held_file<F: Read + Write + Seek + OpenFile + Drop>(
+    file: F,
+) -> Result<HeldFile<F>, DiskFault> {
+    Ok(ReadAhead::new(WriteBehind::new(FileDisk::new(file)?)))
+}
+
+impl<F: Seek + Drop> FileDisk<F> {
+    /// The whole file, which has to be open for reading and writing. Nobody else may change its
+    /// length.
+    ///
+    /// # Errors
+    ///
+    /// `Device`, where the file does not tell its length; it is dropped.
+    pub fn new(file: F) -> Result<FileDisk<F>, DiskFault>
+        ensures long { IfSome (F.stream_position file) (λ _. IfSome (F.stream_bytes file)
+            (λ bytes. IfOk result (λ disk. disk.len ≡ length bytes))) }
+    {
+        let mut file = file;
+        match file.seek(SeekFrom::End(0)) {
+            Ok(len) => Ok(FileDisk {
+                file,
+                len,
+                failed: 0,
+                lost: false,
+            }),
+            Err(_) => Err(DiskFault::Device),
+        }
+    }
+}
+
+impl<F> FileDisk<F> {
+    /// Hands the file back.
+    pub fn into_file(self) -> F
+        ensures { result ≡ self.file }
+    {
+        self.file
+    }
+
+    /// Counts a call that failed.
+    fn fail(&mut self) -> DiskFault
+        ensures same_length { self.new.len ≡ self.old.len }
+        ensures counted { Rose self.old.failed self.new.failed }
+    {
+        self.failed = self.failed.saturating_add(1);
+        DiskFault::Device
+    }
+}
+
+impl<F: Read + Write + Seek + OpenFile> FileDisk<F> {
+    /// Fills the buffer from a place on.
+    fn look(&mut self, place: u64, buf: &mut [u8]) -> Result<(), DiskFault>
+        ensures same_size { length buf.new ≡ length buf.old }
+        ensures same_length { self.new.len ≡ self.old.len }
+        ensures same_count { self.new.failed ≡ self.old.failed }
+        ensures alive { OnOk result (self.old.lost ≡ false) }
+    {
+        if self.lost {
+            return Err(DiskFault::Device);
+        }
+        read_from(&mut self.file, place, buf)
+    }
+
+    /// Writes bytes from a place on.
+    fn put(&mut self, place: u64, bytes: &[u8]) -> Result<(), DiskFault>
+        ensures same_length { self.new.len ≡ self.old.len }
+        ensures same_count { self.new.failed ≡ self.old.failed }
+        ensures alive { OnOk result (self.old.lost ≡ false) }
+    {
+        if self.lost {
+            return Err(DiskFault::Device);
+        }
+        write_from(&mut self.file, place, bytes)
+    }
+
+    /// Cuts the file.
+    fn cut_file(&mut self, len: u64) -> Result<(), DiskFault>
+        ensures same_length { self.new.len ≡ self.old.len }
+        ensures same_count { self.new.failed ≡ self.old.failed }
+        ensures alive { OnOk result (self.old.lost ≡ false) }
+    {
+        if self.lost {
+            return Err(DiskFault::Device);
+        }
+        match self.file.set_len(len) {
+            Ok(()) => Ok(()),
+            Err(_) => Err(DiskFault::Device),
+        }
+    }
+
+    /// Syncs the file.
+    fn sync_file(&mut self) -> Result<(), DiskFault>
+        ensures same_length { self.new.len ≡ self.old.len }
+        ensures same_count { self.new.failed ≡ self.old.failed }
+        ensures alive { OnOk result (self.old.lost ≡ false) }
+        ensures lost { OnErr result (self.new.lost ≡ true) }
+    {
+        if self.lost {
+            return Err(DiskFault::Device);
+        }
+        self.lost = self.file.sync_all().is_err();
+        if self.lost {
+            return Err(DiskFault::Device);
+        }
+        Ok(())
+    }
+}
+
+impl<F: Read + Write + Seek + OpenFile> Disk for FileDisk<F> {
+    ghost is_honest = { λ _. ⊥ };
+
+    ghost length_of = { λ d. d.len };
+
+    ghost seen = { λ _. [] };
+
+    ghost may_leave = { λ _ _. ⊥ };
+
+    ghost moment = { λ _. 0 };
+
+    ghost left_since = { λ _ _ _. ⊥ };
+
+    ghost faults = { λ d. d.failed };
+
+    ghost long_as_seen = { λ _ honest. absurd honest };
+
+    ghost seen_now = { λ _ honest. absurd honest };
+
+    ghost counts_now = { λ _ _ _ honest _ _. absurd honest };
+
+    ghost only_now = { λ _ _ honest _. absurd honest };
+
+    fn len(&mut self) -> Result<u64, DiskFault> {
+        Ok(self.len)
+    }
+
+    fn read(&mut self, place: u64, buf: &mut [u8]) -> Result<(), DiskFault> {
+        match self.look(place, buf) {
+            Ok(()) => Ok(()),
+            Err(_) => Err(self.fail()),
+        }
+    }
+
+    fn write_at(&mut self, place: u64, bytes: &[u8]) -> Result<(), DiskFault> {
+        let Some(end) = place.checked_add(bytes.len() as u64) else {
+            return Err(self.fail());
+        };
+        match self.put(place, bytes) {
+            Ok(()) => {
+                self.len = self.len.max(end);
+                Ok(())
+            }
+            Err(_) => Err(self.fail()),
+        }
+    }
+
+    fn cut(&mut self, len: u64) -> Result<(), DiskFault> {
+        match self.cut_file(len) {
+            Ok(()) => {
+                self.len = len;
+                Ok(())
+            }
+            Err(_) => Err(self.fail()),
+        }
+    }
+
+    // The length and the bytes: both belong to what a crash leaves.
+    fn sync(&mut self) -> Result<(), DiskFault> {
+        match self.sync_file() {
+            Ok(()) => Ok(()),
+            Err(_) => Err(self.fail()),
+        }
+    }
+}

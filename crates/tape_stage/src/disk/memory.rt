@@ -1,0 +1,93 @@
+//! A disk in memory, which keeps a record of its calls.
+ghost use Rattle.std.specs.Prelude.{◌≡◌, ◌≤◌, [], length, Some};
+ghost use Rattle.std.specs.Bool.{OnTrue, OnFalse};
+ghost use Rattle.tape_core.specs.Weight.{Rose};
+
+use crate::disk::DiskFault;
+use crate::disk::content::Content;
+use std::alloc::Global;
+
+#[derive(Drop)]
+pub struct MemoryDisk {
+    pub(crate) content: Content,
+    left: Option<u64>,
+    pub(crate) failed: u64,
+}
+
+impl MemoryDisk {
+    ghost use Rattle.tape_stage.specs.Memory.{memory_bytes, memory_leaves, memory_worst};
+
+    /// A disk that holds nothing. It takes no memory.
+    pub fn new(alloc: Global) -> Self
+        ensures { memory_bytes result ≡ [] }
+    {
+        MemoryDisk::from_bytes(alloc, Vec::new(alloc))
+    }
+
+    /// A disk with these bytes, all of them durable. It takes no memory.
+    pub fn from_bytes(alloc: Global, bytes: Vec<u8>) -> Self
+        ensures { memory_bytes result ≡ bytes.items }
+    {
+        MemoryDisk {
+            content: Content::new(alloc, bytes),
+            left: None,
+            failed: 0,
+        }
+    }
+
+    pub fn bytes(&self) -> &[u8]
+        ensures { result.now ≡ memory_bytes self.now }
+    {
+        &self.content.bytes
+    }
+
+    /// After the next `count` calls each call fails.
+    pub fn stop_after(&mut self, count: u64)
+        ensures left { self.new.left ≡ Some count }
+        ensures bytes { memory_bytes self.new ≡ memory_bytes self.old }
+    {
+        self.left = Some(count);
+    }
+
+    /// The worst that a crash may leave: 255 wherever a byte is open, and nothing absent.
+    pub fn crash(self) -> MemoryDisk
+        ensures possible { memory_leaves self (memory_bytes result) }
+        ensures worst { memory_bytes result ≡ memory_worst self }
+        ensures longest { length (memory_bytes self) ≤ length (memory_bytes result) }
+    {
+        let content = self.content;
+        if content.changed {
+            MemoryDisk::from_bytes(content.alloc, content.worst)
+        } else {
+            MemoryDisk::from_bytes(content.alloc, content.bytes)
+        }
+    }
+
+    /// Whether the disk stands still by now; such a call fails.
+    pub(crate) fn is_stopped(&mut self) -> bool
+        ensures content { self.new.content ≡ self.old.content }
+        ensures yes { OnTrue result (Rose self.old.failed self.new.failed) }
+        ensures no { OnFalse result (self.new.failed ≡ self.old.failed) }
+    {
+        match self.left {
+            None => false,
+            Some(left) => {
+                if left == 0 {
+                    self.failed = self.failed.saturating_add(1);
+                    return true;
+                }
+                self.left = Some(left - 1);
+                false
+            }
+        }
+    }
+
+    /// A call that found no memory fails.
+    pub(crate) fn fail(&mut self) -> DiskFault
+        ensures content { self.new.content ≡ self.old.content }
+        ensures counted { Rose self.old.failed self.new.failed }
+    {
+        self.failed = self.failed.saturating_add(1);
+        DiskFault::Device
+    }
+}

@@ -1,0 +1,227 @@
+//! Opening.
+ghost use Rattle.std.specs.Prelude.{◌≡◌, ◌⊎◌, ◌+◌, ◌≤◌, ◌∷◌, ◌++◌, [], ℕ, List, length, false};
+ghost use Rattle.std.specs.Prelude.{take, IfOk, IfErr, OnOk, OnErr, IsErrOf};
+ghost use Rattle.tape_stage.specs.Moments.{Passes, Untouched};
+ghost use Rattle.tape_blocks.specs.Block.{Portion};
+ghost use Rattle.tape_stage.specs.Staged.{Staged, StandsLike, HoldsNone, KeepsStaged, Ready};
+ghost use Rattle.tape_stage.specs.Staged.{blank};
+ghost use Rattle.tape_stage.specs.Faults.{SaysNone, IsNotDevice, OnBadFrame};
+ghost use Rattle.tape_stage.specs.Found.{IsBadPlace};
+ghost use Rattle.tape_stage.specs.Stages.{IsStage, IsOpened, Holds, Survives, Returns};
+ghost use Rattle.tape_stage.specs.Body.{body_text, FitBody};
+ghost use Rattle.tape_stage.specs.Disk.{Only};
+ghost use Rattle.tape_core.specs.Weight.{Rose};
+ghost use Rattle.tape_core.specs.Point.{Point};
+
+use crate::disk::Disk;
+use crate::disk::kept::write_kept;
+use crate::stage::body::body_bytes;
+use crate::stage::found::Found;
+use crate::stage::opening::{cut_kept, look};
+use crate::stage::{CLOSED, OPEN, Stage, StageFault};
+use std::alloc::{AllocError, Global};
+use tape_core::Checkpoint;
+
+const ROOM: usize = 100_000;
+
+/// The buffer that parts are lent from.
+pub(crate) fn buffer_of(alloc: Global) -> Result<Vec<u8>, AllocError>
+    ensures room { IfOk result (λ buffer. 99999 ≤ length buffer.items) }
+{
+    Vec::from_elem(alloc, 0u8, ROOM)
+}
+
+/// Finds what is staged, reserves the buffer, and cuts what follows.
+fn recover<D: Disk>(alloc: Global, disk: &mut D) -> Result<(Found, Vec<u8>), StageFault>
+    ensures not_full { IsErrOf result StageFault.Full → ⊥ }
+    ensures not_failed { IsErrOf result StageFault.Failed → ⊥ }
+    ensures found { D.is_honest disk.old → IfOk result
+        (λ opened. IsOpened D.seen D.may_leave opened.0 disk.old disk.new) }
+    ensures room { IfOk result (λ opened. 99999 ≤ length opened.1.items) }
+    ensures long { IfOk result (λ opened. 256 + opened.0.point.staged ≤ D.length_of disk.new) }
+    ensures generation { IfOk result (λ opened. opened.0.generation ≤ 999999999999999) }
+    ensures staged { IfOk result (λ opened. opened.0.point.staged ≤ 999999999999999) }
+    ensures none { D.is_honest disk.old → IfErr result
+        (λ fault. SaysNone fault → HoldsNone (D.seen disk.old)) }
+    ensures at { D.is_honest disk.old → IfErr result
+        (λ fault. OnBadFrame fault (IsBadPlace (D.seen disk.old))) }
+    ensures any_moment { D.is_honest disk.old
+        → Passes D.may_leave D.moment D.left_since disk.old disk.new
+        (λ c. D.may_leave disk.old c ⊎ StandsLike (D.seen disk.old) c) }
+    ensures cut { D.is_honest disk.old → IfOk result (λ opened.
+        D.seen disk.new ≡ take (256 + opened.0.point.staged) (D.seen disk.old)) }
+    ensures untouched { D.is_honest disk.old → IfErr result (λ fault. IsNotDevice fault
+        → Untouched D.seen D.may_leave D.moment D.left_since disk.old disk.new) }
+    ensures foreign { D.is_honest disk.old → HoldsNone (D.seen disk.old)
+        → OnErr result (Untouched D.seen D.may_leave D.moment D.left_since disk.old disk.new) }
+    ensures kept { D.is_honest disk.old
+        → OnErr result (KeepsStaged (D.seen disk.old) (D.seen disk.new)) }
+    ensures same_length { IfErr result (λ fault. IsNotDevice fault
+        → D.length_of disk.new ≡ D.length_of disk.old) }
+    ensures cause { IsErrOf result StageFault.Device
+        → Rose (D.faults disk.old) (D.faults disk.new) }
+    ensures honest { OnOk result (D.is_honest disk.old → D.is_honest disk.new) }
+    ensures back { D.is_honest disk.new → D.is_honest disk.old }
+{
+    // The buffer before the cut: a refusal leaves the disk as it was.
+    let found = look(disk)?;
+    let buffer = buffer_of(alloc)?;
+    cut_kept(disk, 256 + found.staged())?;
+    Ok((found, buffer))
+}
+
+/// Both slots with closed gates, the first with generation 1 and the checkpoint.
+fn header(alloc: Global, point: Checkpoint) -> Result<Vec<u8>, AllocError>
+    ensures text { IfOk result (λ v. v.items ≡ (67 ∷ []) ++
+        (body_text 1 point ++ ((67 ∷ []) ++ blank))) }
+    ensures fit { FitBody 1 point }
+{
+    let mut header = Vec::new(alloc);
+    header.push(CLOSED)?;
+    header.extend_from_slice(&body_bytes(1, point))?;
+    header.push(CLOSED)?;
+    header.extend_from_slice(&[b'0'; 15])?;
+    header.extend_from_slice(&[b' '; 112])?;
+    Ok(header)
+}
+
+/// Writes both slots, and then opens the first gate.
+fn make<D: Disk>(alloc: Global, disk: &mut D, point: Checkpoint) -> Result<(), StageFault>
+    requires empty { D.length_of disk.old ≡ 0 }
+    requires none { point.staged ≡ 0 }
+    ensures made { D.is_honest disk.old → OnOk result
+        (Ready false 1 point [] false (D.seen disk.new) (D.may_leave disk.new)) }
+    ensures long { OnOk result (D.length_of disk.new ≡ 256) }
+    ensures cause { IsErrOf result StageFault.Device
+        → Rose (D.faults disk.old) (D.faults disk.new) }
+    ensures honest { OnOk result (D.is_honest disk.old → D.is_honest disk.new) }
+    ensures back { D.is_honest disk.new → D.is_honest disk.old }
+    ensures not_full { IsErrOf result StageFault.Full → ⊥ }
+    ensures not_failed { IsErrOf result StageFault.Failed → ⊥ }
+{
+    // The gate is opened when both slots are kept.
+    let header = header(alloc, point)?;
+    write_kept(disk, 0, &header)?;
+    Ok(write_kept(disk, 0, &[OPEN])?)
+}
+
+/// What was handed in, and why it was refused.
+#[derive(Drop)]
+pub struct Refused<D> {
+    pub disk: D,
+    pub fault: StageFault,
+}
+
+impl<D: Disk> Stage<D> {
+    /// Finds the stage that a disk holds, and cuts what follows it. It may crash too.
+    pub fn open_disk(alloc: Global, disk: D) -> Result<(Stage<D>, Checkpoint), Refused<D>>
+        ensures not_full { IfErr result (λ refused. refused.fault ≡ StageFault.Full → ⊥) }
+        ensures not_failed { IfErr result (λ refused. refused.fault ≡ StageFault.Failed → ⊥) }
+        ensures ok { D.is_honest disk → IfOk result (λ opened. (parts : List Portion)
+            × Staged (D.seen disk) opened.0.generation opened.1 parts
+            × (opened.0.acknowledged ≡ opened.1) × IsStage opened.0 parts parts) }
+        ensures resumes { D.is_honest disk
+            → IfOk result (λ opened. (g : ℕ) × (parts : List Portion)
+            × Staged (D.seen disk) g opened.1 parts × Holds opened.0 parts
+            × ((back : Point) (there : List Portion) → Returns opened.0 back there
+            → (back ≡ opened.1) × (there ≡ parts))) }
+        ensures survives { D.is_honest disk → IfOk result (λ opened. Survives opened.0) }
+        ensures weight { IfOk result (λ opened. opened.0.weight ≡ opened.1.staged) }
+        ensures any_moment { D.is_honest disk
+            → IfOk result (λ opened. Passes D.may_leave D.moment D.left_since disk opened.0.disk
+            (λ c. D.may_leave disk c ⊎ StandsLike (D.seen disk) c)) }
+        ensures cause { IfErr result (λ refused. refused.fault ≡ StageFault.Device
+            → Rose (D.faults disk) (D.faults refused.disk)) }
+        ensures none { D.is_honest disk → IfErr result
+            (λ refused. SaysNone refused.fault → HoldsNone (D.seen disk)) }
+        ensures at { D.is_honest disk → IfErr result
+            (λ refused. OnBadFrame refused.fault (IsBadPlace (D.seen disk))) }
+        ensures any_moment_err { D.is_honest disk
+            → IfErr result (λ refused. Passes D.may_leave D.moment D.left_since disk refused.disk
+            (λ c. D.may_leave disk c ⊎ StandsLike (D.seen disk) c)) }
+        // What was opened lost at most what follows its staged end.
+        ensures cut { D.is_honest disk → IfOk result (λ opened.
+            D.seen opened.0.disk ≡ take (256 + opened.1.staged) (D.seen disk)) }
+        // Where the disk didn't fail a refusal wrote nothing.
+        ensures untouched { D.is_honest disk → IfErr result (λ refused. IsNotDevice refused.fault
+            → Untouched D.seen D.may_leave D.moment D.left_since disk refused.disk) }
+        // To what is no stage nothing is written, even where the disk failed.
+        ensures foreign { D.is_honest disk → HoldsNone (D.seen disk) → IfErr result (λ refused.
+            Untouched D.seen D.may_leave D.moment D.left_since disk refused.disk) }
+        // Where it failed what is staged stands where it stood.
+        ensures kept { D.is_honest disk
+            → IfErr result (λ refused. KeepsStaged (D.seen disk) (D.seen refused.disk)) }
+        // On any disk, one that can't be believed too.
+        ensures same_length { IfErr result (λ refused. IsNotDevice refused.fault
+            → D.length_of refused.disk ≡ D.length_of disk) }
+    {
+        let mut disk = disk;
+        match recover(alloc, &mut disk) {
+            Ok((found, buffer)) => {
+                let stage = Stage {
+                    disk,
+                    generation: found.generation,
+                    in_second: found.in_second,
+                    other_open: found.other_open,
+                    acknowledged: found.point,
+                    pending: None,
+                    weight: found.staged(),
+                    failed: false,
+                    buffer,
+                    walked: 0,
+                    refused: 0,
+                };
+                Ok((stage, found.point))
+            }
+            Err(fault) => Err(Refused { disk, fault }),
+        }
+    }
+
+    /// Makes a stage on a disk that holds nothing.
+    pub fn create(alloc: Global, disk: D, point: &Checkpoint) -> Result<Stage<D>, Refused<D>>
+        requires empty { D.length_of disk ≡ 0 }
+        requires none { point.now.staged ≡ 0 }
+        ensures cause { IfErr result (λ refused. refused.fault ≡ StageFault.Device
+            → Rose (D.faults disk) (D.faults refused.disk)) }
+        ensures ok { D.is_honest disk → IfOk result
+            (λ stage. (stage.acknowledged ≡ point.now) × IsStage stage [] []) }
+        ensures holds { D.is_honest disk → IfOk result (λ stage. Holds stage []) }
+        ensures survives { D.is_honest disk → IfOk result (λ stage. Survives stage) }
+        ensures returns { D.is_honest disk
+            → IfOk result (λ stage. (back : Point) (there : List Portion) → Returns stage back there
+            → (back ≡ point.now) × (there ≡ [])) }
+        ensures not_full { IfErr result (λ refused. refused.fault ≡ StageFault.Full → ⊥) }
+        ensures not_failed { IfErr result (λ refused. refused.fault ≡ StageFault.Failed → ⊥) }
+    {
+        let mut disk = disk;
+        let Ok(buffer) = buffer_of(alloc) else {
+            let fault = StageFault::OutOfMemory;
+            return Err(Refused { disk, fault });
+        };
+        let first = *point;
+        if let Err(fault) = make(alloc, &mut disk, first) {
+            return Err(Refused { disk, fault });
+        }
+        let acknowledged = *point;
+        Ok(Stage {
+            disk,
+            generation: 1,
+            in_second: false,
+            other_open: false,
+            acknowledged,
+            pending: None,
+            weight: 0,
+            failed: false,
+            buffer,
+            walked: 0,
+            refused: 0,
+        })
+    }
+
+    /// Hands the disk back.
+    pub fn into_disk(self) -> D
+        ensures { result ≡ self.disk }
+    {
+        self.disk
+    }
+}

@@ -1,0 +1,177 @@
+//! How a stage is found again on a disk.
+ghost use Rattle.std.specs.Prelude.{◌≡◌, ◌+◌, ◌≤◌, ◌==◌, ◌⊎◌, ℕ, List, length, take, OnOk};
+ghost use Rattle.std.specs.Prelude.{OnErr, IfOk, IfErr, IsErrOf, IfSome, MatchOption, None, Some};
+ghost use Rattle.std.specs.Prelude.{false, true, not};
+ghost use Rattle.tape_stage.specs.Moments.{Passes};
+ghost use Rattle.tape_blocks.specs.Block.{Portion};
+ghost use Rattle.tape_stage.specs.Staged.{read_slot, slot_at, HoldsNone, Holding, Loses};
+ghost use Rattle.tape_stage.specs.Found.{IsFound, IsBadPlace};
+ghost use Rattle.tape_stage.specs.Salvaged.{RemainsNone};
+ghost use Rattle.tape_stage.specs.Faults.{SaysNone, OnBadFrame};
+ghost use Rattle.tape_stage.specs.Disk.{CutShort, Only};
+ghost use Rattle.tape_stage.specs.OnlyReading.{OnlyReads};
+ghost use Rattle.tape_core.specs.Weight.{Rose};
+
+use crate::disk::{Disk, DiskFault};
+use crate::stage::body::read_body;
+use crate::stage::found::Found;
+use crate::stage::walking::break_of;
+use crate::stage::{OPEN, StageFault};
+use tape_core::Checkpoint;
+
+/// What a slot says, where its gate is open.
+fn read_slot(gate: u8, body: &[u8]) -> Option<(u64, Checkpoint)>
+    requires { length body.now ≡ 127 }
+    ensures says { read_slot gate body.now ≡ result }
+    ensures generation { IfSome result (λ read. read.0 ≤ 999999999999999) }
+    ensures staged { IfSome result (λ read. read.1.staged ≤ 999999999999999) }
+{
+    if gate == OPEN {
+        return read_body(body);
+    }
+    None
+}
+
+/// What the first or the second slot says.
+fn slot(bytes: &[u8], second: bool) -> Option<(u64, Checkpoint)>
+    requires { length bytes.now ≡ 256 }
+    ensures says { slot_at second bytes.now ≡ result }
+    ensures generation { IfSome result (λ read. read.0 ≤ 999999999999999) }
+    ensures staged { IfSome result (λ read. read.1.staged ≤ 999999999999999) }
+{
+    if second {
+        return read_slot(bytes[128], &bytes[129..256]);
+    }
+    read_slot(bytes[0], &bytes[1..128])
+}
+
+/// The slot that is meant, and the other one's gate.
+fn found_in(bytes: &[u8], in_second: bool, generation: u64, point: Checkpoint) -> Found
+    requires size { length bytes.now ≡ 256 }
+    requires says { slot_at in_second bytes.now ≡ Some (generation, point) }
+    requires meant { Loses in_second generation (slot_at (not in_second) bytes.now) }
+    ensures found { IsFound result bytes.now }
+    ensures generation { result.generation ≡ generation }
+    ensures point { result.point ≡ point }
+{
+    let other = if in_second { bytes[0] } else { bytes[128] };
+    Found {
+        in_second,
+        other_open: other == OPEN,
+        generation,
+        point,
+    }
+}
+
+/// The slot that is meant: the one with the greater generation, the first of two equal ones.
+fn find(bytes: &[u8]) -> Option<Found>
+    requires { length bytes.now ≡ 256 }
+    ensures found { MatchOption result
+        ((slot_at false bytes.now ≡ None) × (slot_at true bytes.now ≡ None))
+        (λ found. IsFound found bytes.now) }
+    ensures generation { IfSome result (λ found. found.generation ≤ 999999999999999) }
+    ensures staged { IfSome result (λ found. found.point.staged ≤ 999999999999999) }
+{
+    let first = slot(bytes, false);
+    let second = slot(bytes, true);
+    match second {
+        None => match first {
+            None => None,
+            Some((generation, point)) => Some(found_in(bytes, false, generation, point)),
+        },
+        Some((generation, point)) => match first {
+            None => Some(found_in(bytes, true, generation, point)),
+            Some((first_generation, first_point)) => {
+                if first_generation < generation {
+                    return Some(found_in(bytes, true, generation, point));
+                }
+                Some(found_in(bytes, false, first_generation, first_point))
+            }
+        },
+    }
+}
+
+/// Cuts what follows the staged end, and keeps that.
+pub(crate) fn cut_kept<D: Disk>(disk: &mut D, end: u64) -> Result<(), DiskFault>
+    requires { end ≤ D.length_of disk.old }
+    ensures cut { D.is_honest disk.old → OnOk result
+        (D.seen disk.new ≡ take end (D.seen disk.old)) }
+    ensures partly { D.is_honest disk.old
+        → OnErr result (CutShort end (D.seen disk.old) (D.seen disk.new)) }
+    ensures durable { D.is_honest disk.old
+        → OnOk result (Only (D.seen disk.new) (D.may_leave disk.new)) }
+    ensures any_moment { D.is_honest disk.old → Only (D.seen disk.old) (D.may_leave disk.old)
+        → Passes D.may_leave D.moment D.left_since disk.old disk.new
+        (λ c. take end c ≡ take end (D.seen disk.old)) }
+    ensures short { OnOk result (D.length_of disk.new ≡ end) }
+    ensures cause { OnErr result (Rose (D.faults disk.old) (D.faults disk.new)) }
+    ensures honest { OnOk result (D.is_honest disk.old → D.is_honest disk.new) }
+    ensures back { D.is_honest disk.new → D.is_honest disk.old }
+{
+    // Synced, so that what is put behind the end is not taken for what stood there before.
+    disk.cut(end)?;
+    disk.sync()
+}
+
+/// Syncs, then reads both slots.
+pub(crate) fn find_on<D: Disk>(disk: &mut D) -> Result<Found, StageFault>
+    ensures not_full { IsErrOf result StageFault.Full → ⊥ }
+    ensures not_failed { IsErrOf result StageFault.Failed → ⊥ }
+    ensures found { D.is_honest disk.old → IfOk result (λ found. IsFound found (D.seen disk.old)) }
+    ensures long { IfOk result (λ found. 256 ≤ D.length_of disk.new) }
+    ensures generation { IfOk result (λ found. found.generation ≤ 999999999999999) }
+    ensures staged { IfOk result (λ found. found.point.staged ≤ 999999999999999) }
+    ensures none { D.is_honest disk.old → IfErr result
+        (λ fault. SaysNone fault → RemainsNone (D.seen disk.old)) }
+    ensures no_frame { IfErr result (λ fault. OnBadFrame fault (λ place. ⊥)) }
+    ensures durable { D.is_honest disk.old
+        → OnOk result (Only (D.seen disk.new) (D.may_leave disk.new)) }
+    ensures cause { IsErrOf result StageFault.Device
+        → Rose (D.faults disk.old) (D.faults disk.new) }
+    ensures calm { OnOk result (D.faults disk.new ≡ D.faults disk.old) }
+    ensures reads { OnlyReads D.Disk disk.old disk.new }
+    ensures honest { OnOk result (D.is_honest disk.old → D.is_honest disk.new) }
+{
+    // Before anything is read: what reads give is then what a crash leaves, and the cut that
+    // follows rests on slots that stay.
+    disk.sync()?;
+    let len = disk.len()?;
+    if len < 256 {
+        return Err(StageFault::NoPoint);
+    }
+    let mut bytes = [0; 256];
+    disk.read(0, &mut bytes)?;
+    match find(&bytes) {
+        Some(found) => Ok(found),
+        None => Err(StageFault::NoPoint),
+    }
+}
+
+/// Finds what is staged. It only reads.
+pub(crate) fn look<D: Disk>(disk: &mut D) -> Result<Found, StageFault>
+    ensures not_full { IsErrOf result StageFault.Full → ⊥ }
+    ensures not_failed { IsErrOf result StageFault.Failed → ⊥ }
+    ensures found { D.is_honest disk.old → IfOk result (λ found. IsFound found (D.seen disk.old)) }
+    ensures parts { D.is_honest disk.old → IfOk result
+        (λ found. (parts : List Portion) × Holding found.point.staged parts (D.seen disk.old)) }
+    ensures long { IfOk result (λ found. 256 + found.point.staged ≤ D.length_of disk.new) }
+    ensures generation { IfOk result (λ found. found.generation ≤ 999999999999999) }
+    ensures staged { IfOk result (λ found. found.point.staged ≤ 999999999999999) }
+    ensures none { D.is_honest disk.old → IfErr result
+        (λ fault. SaysNone fault → HoldsNone (D.seen disk.old)) }
+    ensures at { D.is_honest disk.old → IfErr result
+        (λ fault. OnBadFrame fault (IsBadPlace (D.seen disk.old))) }
+    ensures durable { D.is_honest disk.old
+        → OnOk result (Only (D.seen disk.new) (D.may_leave disk.new)) }
+    ensures cause { IsErrOf result StageFault.Device
+        → Rose (D.faults disk.old) (D.faults disk.new) }
+    ensures calm { OnOk result (D.faults disk.new ≡ D.faults disk.old) }
+    ensures reads { OnlyReads D.Disk disk.old disk.new }
+    ensures honest { OnOk result (D.is_honest disk.old → D.is_honest disk.new) }
+{
+    let found = find_on(disk)?;
+    match break_of(disk, found.staged())? {
+        None => Ok(found),
+        Some(place) => Err(StageFault::BadFrame(place)),
+    }
+}

@@ -1,0 +1,173 @@
+//! A stage that is opened for reading alone, its frames whole or not.
+ghost use Rattle.std.specs.Prelude.{◌≡◌, ◌≤◌, ◌+◌, ◌-◌, ℕ, List, IfOk, IfErr, IsErrOf, OnOk};
+ghost use Rattle.std.specs.Prelude.{IfSome};
+ghost use Rattle.tape_blocks.specs.Block.{Portion};
+ghost use Rattle.tape_core.specs.Weight.{Rose};
+ghost use Rattle.tape_stage.specs.Faults.{SaysNone, OnBadFrame};
+ghost use Rattle.tape_stage.specs.Found.{IsFound};
+ghost use Rattle.tape_stage.specs.Moments.{Untouched};
+ghost use Rattle.tape_stage.specs.OnlyReading.{OnlyReads};
+ghost use Rattle.tape_stage.specs.Salvaged.{Remains, RemainsNone, HoldsRest, RestAhead};
+ghost use Rattle.tape_stage.specs.Salvaged.{FramedTo, WalkedIn, standing};
+ghost use Rattle.tape_core.specs.Point.{Point};
+
+use crate::disk::Disk;
+use crate::stage::StageFault;
+use crate::stage::found::Found;
+use crate::stage::frame::read_frame;
+use crate::stage::open_disk::{Refused, buffer_of};
+use crate::stage::opening::find_on;
+use crate::stage::salvage::Salvage;
+use crate::stage::walking::break_of;
+use std::alloc::Global;
+use tape_blocks::Part;
+use tape_core::{Checkpoint, PartSink, PartWalk, SinkFault};
+
+/// What frames weigh that should weigh so much, and break off there.
+fn standing(staged: u64, broken: Option<u64>) -> u64
+    requires low { IfSome broken (λ place. 256 ≤ place) }
+    ensures { result ≡ standing staged broken }
+{
+    match broken {
+        None => staged,
+        Some(place) => place - 256,
+    }
+}
+
+/// The checkpoint of the slot that counts, and where its frames break off, if they do.
+fn remains<D: Disk>(disk: &mut D) -> Result<(Checkpoint, Option<u64>), StageFault>
+    ensures found { D.is_honest disk.old → IfOk result (λ found. (g : ℕ) × (parts : List Portion)
+        × Remains (D.seen disk.old) g found.0 found.1 parts) }
+    ensures within { IfOk result (λ found. WalkedIn found.0.staged (D.length_of disk.new) found.1) }
+    ensures staged { IfOk result (λ found. found.0.staged ≤ 999999999999999) }
+    ensures none { D.is_honest disk.old → IfErr result
+        (λ fault. SaysNone fault → RemainsNone (D.seen disk.old)) }
+    ensures no_frame { IfErr result (λ fault. OnBadFrame fault (λ place. ⊥)) }
+    ensures not_full { IsErrOf result StageFault.Full → ⊥ }
+    ensures not_failed { IsErrOf result StageFault.Failed → ⊥ }
+    ensures cause { IsErrOf result StageFault.Device
+        → Rose (D.faults disk.old) (D.faults disk.new) }
+    ensures reads { OnlyReads D.Disk disk.old disk.new }
+    ensures honest { OnOk result (D.is_honest disk.old → D.is_honest disk.new) }
+{
+    let found = find_on(disk)?;
+    let broken = break_of(disk, found.staged())?;
+    Ok((found.point, broken))
+}
+
+impl<D: Disk> Salvage<D> {
+    /// Opens what a disk holds of a stage for reading: the checkpoint that was acknowledged last,
+    /// and its parts, or those before the place where the frames break off. Nothing is written and
+    /// nothing cut. A byte that is another inside a part no frame tells.
+    ///
+    /// # Errors
+    ///
+    /// `NoPoint` where no slot counts; `OutOfMemory`; `Device`. Each hands the disk back.
+    pub fn open_disk(alloc: Global, disk: D) -> Result<(Salvage<D>, Checkpoint), Refused<D>>
+        ensures remains { D.is_honest disk → IfOk result (λ opened. (g : ℕ)
+            × (parts : List Portion) × Remains (D.seen disk) g opened.1 opened.0.broken parts
+            × HoldsRest opened.0 parts) }
+        ensures none { D.is_honest disk → IfErr result
+            (λ refused. SaysNone refused.fault → RemainsNone (D.seen disk)) }
+        ensures no_frame { IfErr result (λ refused. OnBadFrame refused.fault (λ place. ⊥)) }
+        ensures not_full { IfErr result (λ refused. refused.fault ≡ StageFault.Full → ⊥) }
+        ensures not_failed { IfErr result (λ refused. refused.fault ≡ StageFault.Failed → ⊥) }
+        ensures cause { IfErr result (λ refused. refused.fault ≡ StageFault.Device
+            → Rose (D.faults disk) (D.faults refused.disk)) }
+        // Nothing is written to any disk, and no length is another.
+        ensures reads { IfOk result (λ opened. OnlyReads D.Disk disk opened.0.disk) }
+        ensures refused { IfErr result (λ refused. OnlyReads D.Disk disk refused.disk) }
+    {
+        let mut disk = disk;
+        let (point, broken) = match remains(&mut disk) {
+            Ok(found) => found,
+            Err(fault) => return Err(Refused { disk, fault }),
+        };
+        let Ok(buffer) = buffer_of(alloc) else {
+            let fault = StageFault::OutOfMemory;
+            return Err(Refused { disk, fault });
+        };
+        let salvage = Salvage {
+            disk,
+            broken,
+            weight: standing(point.staged, broken),
+            buffer,
+            walked: 0,
+            refused: 0,
+        };
+        Ok((salvage, point))
+    }
+
+    /// Refuses a call that would change what is held.
+    fn refuse(&mut self) -> SinkFault
+        ensures fault { result ≡ SinkFault.Failed }
+        ensures keeps { (parts : List Portion) → HoldsRest self.old parts
+            → HoldsRest self.new parts }
+        ensures weight { self.new.weight ≡ self.old.weight }
+        ensures counted { Rose self.old.refused self.new.refused }
+    {
+        self.refused = self.refused.saturating_add(1);
+        SinkFault::Failed
+    }
+}
+
+/// A sink that takes nothing more: each call that would change it is refused with `Failed`. No
+/// crash leaves it to be gone on with.
+impl<D: Disk> PartSink for Salvage<D> {
+    ghost holds = { λ s parts. HoldsRest s parts };
+
+    ghost weighs = { λ s. s.weight };
+
+    ghost refusals = { λ s. s.refused };
+
+    ghost returns = { λ s back there. ⊥ };
+
+    ghost survives = { λ s. ⊥ };
+
+    fn put(&mut self, _part: Part<'_>) -> Result<(), SinkFault> {
+        Err(self.refuse())
+    }
+
+    fn keep(&mut self, _point: &Checkpoint) -> Result<(), SinkFault> {
+        Err(self.refuse())
+    }
+
+    fn cut_to(&mut self, _point: &Checkpoint) -> Result<(), SinkFault> {
+        Err(self.refuse())
+    }
+
+    fn weight(&self) -> u64 {
+        self.weight
+    }
+}
+
+impl<D: Disk> PartWalk for Salvage<D> {
+    ghost ahead = { λ s parts. RestAhead s parts };
+
+    ghost left = { λ s. s.weight - s.walked };
+
+    fn rewind(&mut self) {
+        self.walked = 0;
+    }
+
+    fn next_part(&mut self) -> Result<Option<Part<'_>>, SinkFault> {
+        if self.walked >= self.weight {
+            return Ok(None);
+        }
+        let place = 256 + self.walked;
+        let end = 256 + self.weight;
+        match read_frame(&mut self.disk, self.buffer.as_mut_slice(), place, end) {
+            Ok((span, size)) => {
+                self.walked += 5 + size as u64;
+                Ok(Some(Part {
+                    span,
+                    bytes: &self.buffer[..size],
+                }))
+            }
+            Err(fault) => {
+                self.refused = self.refused.saturating_add(1);
+                Err(fault)
+            }
+        }
+    }
+}
