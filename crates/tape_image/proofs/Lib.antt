@@ -7,6 +7,7 @@ pub mod Uniqueness
 pub mod Existence
 pub mod Taken
 pub mod Blocks
+pub mod Rests
 pub mod Steps
 pub mod Walks
 pub mod Callers
