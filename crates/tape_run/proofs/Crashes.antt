@@ -9,7 +9,7 @@ use Rattle.tape_core.specs.Crash.{AddsNothing, AddsOnly, OrThis}
 use Rattle.tape_run.specs.declared.script.Step.{Step}
 use Rattle.tape_run.specs.declared.script.Step.TheVariants.{Reel, Save, Restart}
 use Rattle.tape_run.specs.Seen.{Seen, IsKept}
-use Rattle.tape_run.specs.Crash.{IsOf, IsHere, IsNoteOf, StoodAt}
+use Rattle.tape_run.specs.Crash.{IsOf, IsNoteOf, StoodAt}
 use Rattle.tape_run.proofs.Sessions.{kept_at}
 
 pub adds_same : (r : Point → List Portion → Type 0) (v : Type 0) → AddsNothing r r v v

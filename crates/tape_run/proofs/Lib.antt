@@ -55,6 +55,7 @@ mod UnpackedFiles
 mod UnpackedNames
 mod WholeReports
 mod Streams
+pub mod RecordFronts
 mod Turns
 mod TurnSteps
 mod Rounds

@@ -66,6 +66,7 @@ pub mod UnpackLaws
 -- Files got back, and reports of that: to be believed, in this order.
 pub mod ReelLine
 pub mod RecordText
+pub mod RecordFront
 pub mod OutSinks
 pub mod Reeling
 pub mod Extracting

@@ -9,6 +9,7 @@ ghost use Rattle.tape_run.specs.Reeling.{goes_back};
 ghost use Rattle.tape_run.specs.ReelLine.{last_line};
 
 mod again;
+mod front;
 mod images;
 pub mod line;
 mod now;
@@ -20,11 +21,11 @@ use crate::output::{flush, write_text};
 use crate::session::Session;
 use crate::shelf::Shelf;
 pub use again::extract_again;
+use front::write_parts;
 use images::read_images;
 pub use line::{ReportLine, last_line, reel_line};
 pub use now::{Place, extract_now};
 pub use out_sink::OutSink;
-use records::{count_records, walk_fault, write_records};
 use std::io::{Read, Write};
 use tape_blocks::Form;
 use tape_core::{PartSink, PartWalk};
@@ -135,11 +136,7 @@ pub fn write_file<S: PartWalk, W: Write>(
         → AppendsFront (W.contents out.old) (W.contents out.new) (output_of form parts)) }
     ensures kept { (parts : List Portion) → S.holds sink.old parts → S.holds sink.new parts }
 {
-    let records = match count_records(sink) {
-        Ok(records) => records,
-        Err(cause) => return Err(walk_fault(cause)),
-    };
-    write_records(sink, records, form, out)?;
+    let records = write_parts(sink, form, out)?;
     flush(out)?;
     Ok(records)
 }

@@ -31,26 +31,26 @@ begun_rest_counted S L g d g' d' κs a s l holds =
 begun_rest_written : (S : _) (W : _) (LS : _) (LW : _) (g : _) (d : _) (g' : _) (d' : _) (h : _)
     (e : _) (κs : _) (a : _) (s : _)
     → write_records.Learnt-named S W LS LW g d g' d' h e κs a (Ok tt) s
-    → g'.holds a.0.now begun → a.1.0 ≡ 0 → a.1.1.0 ≡ Lines
+    → g.ahead a.0.now begun → a.1.0 ≡ 0 → a.1.1.0 ≡ Lines
     → h.contents a.1.1.1.0.now ≡ Some [] → h.contents s.1.1.1.0.now ≡ Some (codes "AB") → ⊥
-begun_rest_written S W LS LW g d g' d' h e κs a s l holds none form old new =
+begun_rest_written S W LS LW g d g' d' h e κs a s l ahead none form old new =
     let r : Appends (Some []) (Some (codes "AB")) (output_of a.1.1.0 begun)
     = subst (λ v. Appends (Some []) v (output_of a.1.1.0 begun)) new
     (subst (λ v. Appends v (h.contents s.1.1.1.0.now) (output_of a.1.1.0 begun)) old
-    (l.ok begun holds none)) in
+    (l.ok begun ahead none)) in
     absurd (let n : 2 ≡ 0 = ap length (r ∙ ap (λ v. output_of v begun) form) in omega arith)
 
 -- line_feed_left_out: the last record has no line feed behind it
 line_feed_left_out : (S : _) (W : _) (LS : _) (LW : _) (g : _) (d : _) (g' : _) (d' : _) (h : _)
     (e : _) (κs : _) (a : _) (s : _)
     → write_records.Learnt-named S W LS LW g d g' d' h e κs a (Ok tt) s
-    → g'.holds a.0.now whole → a.1.0 ≡ 1 → a.1.1.0 ≡ Lines
+    → g.ahead a.0.now whole → a.1.0 ≡ 1 → a.1.1.0 ≡ Lines
     → h.contents a.1.1.1.0.now ≡ Some [] → h.contents s.1.1.1.0.now ≡ Some (codes "AB") → ⊥
-line_feed_left_out S W LS LW g d g' d' h e κs a s l holds one form old new =
+line_feed_left_out S W LS LW g d g' d' h e κs a s l ahead one form old new =
     let r : Appends (Some []) (Some (codes "AB")) (output_of a.1.1.0 whole)
     = subst (λ v. Appends (Some []) v (output_of a.1.1.0 whole)) new
     (subst (λ v. Appends v (h.contents s.1.1.1.0.now) (output_of a.1.1.0 whole)) old
-    (l.ok whole holds one)) in
+    (l.ok whole ahead one)) in
     absurd (let n : 2 ≡ 3 = ap length (r ∙ ap (λ v. output_of v whole) form) in omega arith)
 
 -- one_note_is_none: a session with one note does not go back to it

@@ -40,7 +40,7 @@ pub fn count_records<S: PartWalk>(sink: &mut S) -> Result<u64, SinkFault>
     }
 }
 
-/// Writes the records that the parts of the sink join to, of which there are so many, by the form:
+/// Writes the records that the parts still to come join to, of which there are so many, by the form:
 /// up to the last part that ends one, and nothing of a record that is begun and not ended.
 ///
 /// # Errors
@@ -54,15 +54,14 @@ pub fn write_records<S: PartWalk, W: Write>(
     form: Form,
     out: &mut W,
 ) -> Result<(), EngineFault>
-    ensures ok { OnOk result ((parts : List Portion) → S.holds sink.old parts
+    ensures ok { OnOk result ((parts : List Portion) → S.ahead sink.old parts
         → records ≡ length (join parts).records
         → Appends (W.contents out.old) (W.contents out.new) (output_of form parts)) }
-    ensures err { OnErr result ((parts : List Portion) → S.holds sink.old parts
+    ensures err { OnErr result ((parts : List Portion) → S.ahead sink.old parts
         → records ≡ length (join parts).records
         → AppendsFront (W.contents out.old) (W.contents out.new) (output_of form parts)) }
     ensures kept { (parts : List Portion) → S.holds sink.old parts → S.holds sink.new parts }
 {
-    sink.rewind();
     let mut left = records;
     'parts: while left > 0 {
         match sink.next_part() {

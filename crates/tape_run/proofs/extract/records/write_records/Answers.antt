@@ -7,9 +7,9 @@ use Rattle.tape_run.proofs.Streams.{stream_failed}
 use Rattle.tape_run.proofs.extract.records.write_records.Goals as goal
 
 pub parts-init : goal.parts-init
-parts-init g c = λ parts was. (
-  c.rewind.ensures.keeps parts was,
-  λ e. stream_starts c.args.form _ c.args.records _ parts e (c.rewind.ensures.all parts was),
+parts-init g c = (
+  λ parts is e. stream_starts c.args.form _ c.args.records _ parts e is,
+  λ parts was. was,
 )
 
 pub returns-in_err-write_part-in-Ok-Some-clause-err :
@@ -19,7 +19,7 @@ returns-in_err-write_part-in-Ok-Some-clause-err g c =
     let some : 0 < c.parts.left = omega (arith, c.parts-test.true) in
     on_err c.from_residual.result _
     (λ parts was e. stream_failed c.args.form (g.S.PartWalk.ahead c.parts.sink) (g.S.PartWalk.ahead
-    next) c.parts.left _ _ _ parts c.in-Ok-Some.part ((c.parts.invariant parts was).1 e) some
+    next) c.parts.left _ _ _ parts c.in-Ok-Some.part (c.parts.invariant.0 parts was e) some
     (λ xs is. subst (λ r. GivesPart r xs (g.S.PartWalk.ahead next)) (c.in-Ok-Some.is
     ∙ ap Ok c.in-Ok-Some.field-0-is) (c.next_part.follows.holds-at-none.gives xs is))
     c.in_err-write_part-in-Ok-Some.ensures.err)
@@ -30,16 +30,15 @@ parts-preserved-then-not-leaves g c =
     let some : 0 < c.parts.left = omega (arith, c.parts-test.true) in
     let ends : leaves c.in-Ok-Some.part.span ≡ false =
     search (rules, c.leaves.ensures, c.if-not-leaves.true) in
-    let one : with_end false (c.parts.left - 1) ≡ c.parts.left = omega (arith, some) in
-    λ parts was. (
-      c.next_part.follows.holds-at-none.kept parts (c.parts.invariant parts was).0,
-      λ e. stream_goes_on c.args.form (g.S.PartWalk.ahead c.parts.sink)
+    let one : with_end false (c.parts.left - 1) ≡ c.parts.left = omega (arith, some) in (
+      λ parts was e. stream_goes_on c.args.form (g.S.PartWalk.ahead c.parts.sink)
           (g.S.PartWalk.ahead next) c.parts.left (c.parts.left - 1) _ _ _ parts c.in-Ok-Some.part
-          ((c.parts.invariant parts was).1 e) some
+          (c.parts.invariant.0 parts was e) some
           (λ xs is. subst (λ r. GivesPart r xs (g.S.PartWalk.ahead next)) (c.in-Ok-Some.is
           ∙ ap Ok c.in-Ok-Some.field-0-is) (c.next_part.follows.holds-at-none.gives xs is))
           c.in_ok-write_part-in-Ok-Some.ensures.ok
           (ap (λ b. with_end b (c.parts.left - 1)) ends ∙ one),
+      λ parts was. c.next_part.follows.holds-at-none.kept parts (c.parts.invariant.1 parts was),
     )
 
 pub parts-preserved : goal.parts-preserved
@@ -47,19 +46,18 @@ parts-preserved g c =
     let next = c.next_part.follows.lender-at-none in
     let some : 0 < c.parts.left = omega (arith, c.parts-test.true) in
     let goes : leaves c.in-Ok-Some.part.span ≡ true =
-    search (rules, c.leaves.ensures, c.if-not-leaves.false) in
-    λ parts was. (
-      c.next_part.follows.holds-at-none.kept parts (c.parts.invariant parts was).0,
-      λ e. stream_goes_on c.args.form (g.S.PartWalk.ahead c.parts.sink)
+    search (rules, c.leaves.ensures, c.if-not-leaves.false) in (
+      λ parts was e. stream_goes_on c.args.form (g.S.PartWalk.ahead c.parts.sink)
           (g.S.PartWalk.ahead next) c.parts.left c.parts.left _ _ _ parts c.in-Ok-Some.part
-          ((c.parts.invariant parts was).1 e) some
+          (c.parts.invariant.0 parts was e) some
           (λ xs is. subst (λ r. GivesPart r xs (g.S.PartWalk.ahead next)) (c.in-Ok-Some.is
           ∙ ap Ok c.in-Ok-Some.field-0-is) (c.next_part.follows.holds-at-none.gives xs is))
           c.in_ok-write_part-in-Ok-Some.ensures.ok
           (ap (λ b. with_end b c.parts.left) goes),
+      λ parts was. c.next_part.follows.holds-at-none.kept parts (c.parts.invariant.1 parts was),
     )
 
 pub returns-clause-ok : goal.returns-clause-ok
 returns-clause-ok g c = λ parts was e.
-    stream_ended c.args.form _ c.parts.left _ _ parts ((c.parts.invariant parts was).1 e)
+    stream_ended c.args.form _ c.parts.left _ _ parts (c.parts.invariant.0 parts was e)
     (omega (arith, c.parts-test.false))

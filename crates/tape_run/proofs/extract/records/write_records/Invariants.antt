@@ -5,10 +5,12 @@ use Rattle.tape_run.proofs.Streams.{Streams}
 use Rattle.tape_run.proofs.extract.records.write_records.Given as goal
 
 abbrev pub invariant-parts : goal.invariant-parts
-invariant-parts g l = (parts : List Portion) → g.S.PartSink.holds l.fn.sink parts
-    → g.S.PartSink.holds l.sink parts × (l.records ≡ length (join parts).records
+invariant-parts g l = ((parts : List Portion) → g.S.PartWalk.ahead l.fn.sink parts
+    → l.records ≡ length (join parts).records
     → Streams l.form (g.S.PartWalk.ahead l.sink) l.left (g.W.Write.contents l.fn.out)
     (g.W.Write.contents l.out) parts)
+    × ((parts : List Portion) → g.S.PartSink.holds l.fn.sink parts
+    → g.S.PartSink.holds l.sink parts)
 
 abbrev pub decreases-parts : goal.decreases-parts
 decreases-parts g l = g.S.PartWalk.left l.sink

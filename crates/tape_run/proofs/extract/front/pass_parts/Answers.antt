@@ -1,0 +1,26 @@
+use Rattle.std.proofs.Common.{subst, refl, arith, ◌<◌, ◌-◌}
+use Rattle.tape_core.specs.Walks.{GivesPart}
+use Rattle.tape_run.proofs.RecordFronts.{pass_goes_on}
+use Rattle.tape_run.proofs.extract.front.pass_parts.Goals as goal
+
+pub parts-init : goal.parts-init
+parts-init g c = (
+  λ first rest was long. record {
+    before = first;
+    is_ahead = c.rewind.ensures.all _ was;
+    counted = long;
+  },
+  λ parts was. c.rewind.ensures.keeps parts was,
+)
+
+pub parts-preserved : goal.parts-preserved
+parts-preserved g c =
+    let next = c.next_part.follows.lender-at-none in
+    let some : 0 < c.parts.left = omega (arith, c.parts-test.true) in (
+      λ first rest was long. pass_goes_on (g.S.PartWalk.ahead c.parts.sink)
+          (g.S.PartWalk.ahead next) c.parts.left (c.parts.left - 1) rest c.in-Ok.field-0
+          (c.parts.invariant.0 first rest was long) some refl
+          (λ xs is. subst (λ r. GivesPart r xs (g.S.PartWalk.ahead next)) c.in-Ok.is
+          (c.next_part.follows.holds-at-none.gives xs is)),
+      λ parts was. c.next_part.follows.holds-at-none.kept parts (c.parts.invariant.1 parts was),
+    )

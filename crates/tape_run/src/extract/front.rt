@@ -1,0 +1,129 @@
+//! The records that the parts of a sink join to, written in one walk as far as each part is one.
+ghost use Rattle.std.specs.Prelude.{◌≡◌, ◌++◌, List, length, OnOk, OnErr, IfOk};
+ghost use Rattle.std.specs.Io.KnownBytes.{Appends};
+ghost use Rattle.tape_blocks.specs.Block.{Portion};
+ghost use Rattle.tape_blocks.specs.Spans.{join};
+ghost use Rattle.tape_run.specs.Output.{AppendsFront};
+ghost use Rattle.tape_run.specs.RecordText.{output_of};
+ghost use Rattle.tape_run.specs.RecordFront.{EachEnds, WritesFront};
+
+use super::records::{count_records, walk_fault, write_part, write_records};
+use crate::fault::EngineFault;
+use std::io::Write;
+use tape_blocks::Form;
+use tape_core::PartWalk;
+
+/// What was written of the parts of a sink in the first walk.
+#[derive(Clone, Copy)]
+pub struct Front {
+    /// How many of them, each a record.
+    pub records: u64,
+    /// Whether these are all.
+    pub all: bool,
+}
+
+/// Writes the records that the parts of the sink join to, and says how many there are. Of a record
+/// that is begun and not ended nothing is written.
+///
+/// Parts that end no record are met in blocks of format S alone: the sink is walked once where there
+/// are none, and else counted before the rest is written.
+///
+/// # Errors
+///
+/// As `write_records`.
+pub fn write_parts<S: PartWalk, W: Write>(
+    sink: &mut S,
+    form: Form,
+    out: &mut W,
+) -> Result<u64, EngineFault>
+    ensures ok { IfOk result (λ records. (parts : List Portion) → S.holds sink.old parts
+        → (records ≡ length (join parts).records)
+        × Appends (W.contents out.old) (W.contents out.new) (output_of form parts)) }
+    ensures err { OnErr result ((parts : List Portion) → S.holds sink.old parts
+        → AppendsFront (W.contents out.old) (W.contents out.new) (output_of form parts)) }
+    ensures kept { (parts : List Portion) → S.holds sink.old parts → S.holds sink.new parts }
+{
+    let front = write_front(sink, form, out)?;
+    if front.all {
+        return Ok(front.records);
+    }
+    write_rest(sink, front.records, form, out)
+}
+
+/// Writes the parts of the sink from the first on, as far as each of them ends a record.
+fn write_front<S: PartWalk, W: Write>(
+    sink: &mut S,
+    form: Form,
+    out: &mut W,
+) -> Result<Front, EngineFault>
+    ensures ok { IfOk result (λ front. (parts : List Portion) → S.holds sink.old parts
+        → WritesFront form front.records front.all (W.contents out.old) (W.contents out.new)
+        parts) }
+    ensures err { OnErr result ((parts : List Portion) → S.holds sink.old parts
+        → AppendsFront (W.contents out.old) (W.contents out.new) (output_of form parts)) }
+    ensures kept { (parts : List Portion) → S.holds sink.old parts → S.holds sink.new parts }
+{
+    // No sink weighs more than its limit, so the count below stays far from a u64's greatest value.
+    let _weight = sink.weight();
+    sink.rewind();
+    let mut records = 0u64;
+    'parts: loop {
+        match sink.next_part() {
+            Ok(Some(part)) => {
+                if part.span.leaves() {
+                    return Ok(Front {
+                        records,
+                        all: false,
+                    });
+                }
+                write_part(out, part, form)?;
+                records = records.saturating_add(1);
+            }
+            Ok(None) => return Ok(Front { records, all: true }),
+            Err(fault) => return Err(walk_fault(fault)),
+        }
+    }
+}
+
+/// Writes what the parts behind so many join to, each of which ends a record, and says how many
+/// records all parts join to.
+fn write_rest<S: PartWalk, W: Write>(
+    sink: &mut S,
+    passed: u64,
+    form: Form,
+    out: &mut W,
+) -> Result<u64, EngineFault>
+    ensures ok { IfOk result (λ records. (first rest : List Portion)
+        → S.holds sink.old (first ++ rest) → length first ≡ passed → EachEnds first
+        → (records ≡ length (join (first ++ rest)).records)
+        × Appends (W.contents out.old) (W.contents out.new) (output_of form rest)) }
+    ensures err { OnErr result ((first rest : List Portion) → S.holds sink.old (first ++ rest)
+        → length first ≡ passed → EachEnds first
+        → AppendsFront (W.contents out.old) (W.contents out.new) (output_of form rest)) }
+    ensures kept { (parts : List Portion) → S.holds sink.old parts → S.holds sink.new parts }
+{
+    let records = match count_records(sink) {
+        Ok(records) => records,
+        Err(cause) => return Err(walk_fault(cause)),
+    };
+    pass_parts(sink, passed)?;
+    write_records(sink, records.saturating_sub(passed), form, out)?;
+    Ok(records)
+}
+
+/// Begins the walk behind so many parts.
+fn pass_parts<S: PartWalk>(sink: &mut S, count: u64) -> Result<(), EngineFault>
+    ensures ok { OnOk result ((first rest : List Portion) → S.holds sink.old (first ++ rest)
+        → length first ≡ count → S.ahead sink.new rest) }
+    ensures kept { (parts : List Portion) → S.holds sink.old parts → S.holds sink.new parts }
+{
+    sink.rewind();
+    let mut left = count;
+    'parts: while left > 0 {
+        match sink.next_part() {
+            Ok(_) => left -= 1,
+            Err(fault) => return Err(walk_fault(fault)),
+        }
+    }
+    Ok(())
+}
