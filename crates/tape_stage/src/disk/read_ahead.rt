@@ -75,6 +75,8 @@ impl<D: Disk> ReadAhead<D> {
 
     /// Reads ahead from a place on, as much as there is and has room. Where that fails it goes
     /// unseen: nobody asked for all of these bytes.
+    // Each call clears its buffer: inlined, that would be done for reads that were held too.
+    #[inline(never)]
     fn look_ahead(&mut self, place: u64)
         requires there { place ≤ D.length_of self.old.disk }
         ensures same_length { D.length_of self.new.disk ≡ D.length_of self.old.disk }
