@@ -1,5 +1,6 @@
 -- Whole readings of all volumes give a whole file.
-use Rattle.std.proofs.Common.{◌≡◌, inl, inr, ℕ, zero, suc, ◌+◌, ◌<◌, ◌≤◌, true, List, [], ◌∷◌, ◌++◌}
+use Rattle.std.proofs.Common.{◌≡◌, inl, inr, ℕ, zero, suc, ◌+◌, ◌<◌, ◌≤◌, Bool, true, false, List}
+use Rattle.std.proofs.Common.{[], ◌∷◌, ◌++◌}
 use Rattle.std.proofs.Common.{length, map, Option, Some, None, refl, sym, ap, subst, ◌∙◌, arith}
 use Rattle.std.specs.Prelude.{IsSome, replicate, min, unwrap_or}
 use Rattle.tape_blocks.specs.Spans.{join}
@@ -16,7 +17,7 @@ use Rattle.tape_run.specs.Mount.{reads, IsCopy, IsMountOf}
 use Rattle.tape_run.specs.History.{Course, course, IsHistory}
 use Rattle.tape_run.specs.Seen.{Seen}
 use Rattle.tape_run.specs.Headline.{begins, IsRead}
-use Rattle.tape_run.specs.Given.{AreGiven, counted_up}
+use Rattle.tape_run.specs.Given.{AreGiven, AreGivenBy, failed_of, counted_up}
 use Rattle.tape_run.specs.Back.{reels_of, AreVolumes}
 
 -- ---- a history of readings
@@ -90,15 +91,35 @@ all_given (b ∷ bytes) (g ∷ given) (inl (e, rest)) =
     ap (λ z. z ∷ given) e ∙ ap (λ z. b ∷ z) (all_given bytes given rest)
 all_given (b ∷ bytes) (g ∷ given) (inr (m, e, x, rest)) = absurd (omega (arith, e))
 
+-- told of each, it is told of how many
+pub by_number : (which : List Bool) (bytes given : List (List ℕ)) → AreGivenBy which bytes given
+    → AreGiven (failed_of which) bytes given
+by_number [] bytes given e = subst (AreGiven 0 bytes) (sym e) (as_they_are bytes)
+  where
+    as_they_are : (bytes : List (List ℕ)) → AreGiven 0 bytes bytes
+    as_they_are [] = refl
+    as_they_are (b ∷ bytes) = inl ((refl, as_they_are bytes))
+by_number (f ∷ which) [] given a = absurd a
+by_number (f ∷ which) (b ∷ bytes) [] a = absurd a
+by_number (true ∷ which) (b ∷ bytes) (g ∷ given) (is, rest) =
+    inr ((failed_of which, omega arith, is, by_number which bytes given rest))
+by_number (false ∷ which) (b ∷ bytes) (g ∷ given) (is, rest) =
+    inl ((is, by_number which bytes given rest))
+
+-- where none failed
+pub none_of : (which : List Bool) (bytes given : List (List ℕ)) → failed_of which ≡ 0
+    → AreGivenBy which bytes given → given ≡ bytes
+none_of which bytes given none a = all_given bytes given
+    (subst (λ n. AreGiven n bytes given) none (by_number which bytes given a))
+
 -- All images of the set, none of a failed reader, and the file is whole.
 pub came_back : (set : FileSet) (file : ℕ) (f : List Section) (bytes : List (List ℕ)) (s : Seen)
     → IsLawful set → file_of set file ≡ Some f → AreVolumes set 0 bytes → s.failures ≡ 0
     → IsRead set.set_id file (reels_of bytes) bytes s
     → (s.place.position ≡ Finished) × (s.parts ≡ section_parts f)
 came_back set file f bytes s l e v none r =
-    let no_failure : r.failed ≡ 0 = none_failed r.failed (sym r.count ∙ none) in
-    let given : r.given ≡ bytes =
-    all_given bytes r.given (subst (λ n. AreGiven n bytes r.given) no_failure r.are_given) in
+    let no_failure : failed_of r.which ≡ 0 = none_failed (failed_of r.which) (sym r.count ∙ none) in
+    let given : r.given ≡ bytes = none_of r.which bytes r.given no_failure r.are_given in
     let (all, hist) = volumes_history set 0 bytes v in
     let has : IsSome (file_of set file) = rw e refl in
     let (there, parts) = r.reads set (map reads (whole_readings set 0 (length bytes))) l refl has

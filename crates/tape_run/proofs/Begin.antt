@@ -16,7 +16,7 @@ use Rattle.tape_run.specs.declared.script.Step.{Step}
 use Rattle.tape_run.specs.Seen.{Seen, IsSession, IsKept}
 use Rattle.tape_run.specs.History.{Course, course, course_of, IsHistory}
 use Rattle.tape_run.specs.Headline.{HasRun, begins, IsNew, IsStart, IsRead}
-use Rattle.tape_run.specs.Given.{counted_up}
+use Rattle.tape_run.specs.Given.{counted_up, failed_of}
 use Rattle.tape_run.specs.Lead.{at_start}
 
 pub is_new : (set : FileSet) (set_id : List ℕ)
@@ -79,28 +79,31 @@ kept_new set_id file s e st = rw (st.no_notes) ((s.parts, refl))
 
 pub is_read : (set_id : List ℕ) (file : ℕ) (steps : List Step) (bytes : List (List ℕ))
     (old new : Seen)
-    → old.parts ≡ [] → IsStart set_id file old → HasRun old steps bytes new → IsRead set_id file
-    steps bytes new
-is_read set_id file steps bytes old new none st h = record {
-  given = h.given;
-  failed = h.failed;
-  are_given = h.are_given;
-  count = h.count ∙ ap (counted_up h.failed) st.no_failures;
-  reads = λ set hs l id has hist.
-      let n = st.each set l id has in
-      let none : length old.notes ≡ 0 = ap length st.no_notes in
-      let r =
-      h.ran set hs l (subst (λ k. IsHistory set k steps h.given hs) (sym none) hist) n.session in
-      let there : course set file begins hs ≡ course_of new =
-      sym (ap (λ z. course set z (course_of old) hs) n.its_file
-      ∙ ap (λ z. course set file z hs) n.course) ∙ r.reached in (
-        sym there,
-        r.session.at.all ∙ (ap (λ z. before set z new.place.position) (r.same_file ∙ n.its_file)
-            ∙ ap (λ (z : Course). before set file z.at) (sym there)),
-      );
-  led = λ reels a. h.led (at_start set_id file) reels a (record {
-    place = st.place;
-    parts = none;
-    notes = rw st.no_notes ((old.parts, refl));
-  });
-}
+    → old.parts ≡ [] → IsStart set_id file old → (h : HasRun old steps bytes new)
+    → (read : IsRead set_id file steps bytes new) × (read.which ≡ h.which)
+is_read set_id file steps bytes old new none st h = (
+  record {
+    given = h.given;
+    which = h.which;
+    are_given = h.are_given;
+    count = h.count ∙ ap (counted_up (failed_of h.which)) st.no_failures;
+    reads = λ set hs l id has hist.
+        let n = st.each set l id has in
+        let none : length old.notes ≡ 0 = ap length st.no_notes in
+        let r =
+        h.ran set hs l (subst (λ k. IsHistory set k steps h.given hs) (sym none) hist) n.session in
+        let there : course set file begins hs ≡ course_of new =
+        sym (ap (λ z. course set z (course_of old) hs) n.its_file
+        ∙ ap (λ z. course set file z hs) n.course) ∙ r.reached in (
+          sym there,
+          r.session.at.all ∙ (ap (λ z. before set z new.place.position) (r.same_file ∙ n.its_file)
+              ∙ ap (λ (z : Course). before set file z.at) (sym there)),
+        );
+    led = λ reels a. h.led (at_start set_id file) reels a (record {
+      place = st.place;
+      parts = none;
+      notes = rw st.no_notes ((old.parts, refl));
+    });
+  },
+  refl,
+)

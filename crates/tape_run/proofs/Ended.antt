@@ -1,6 +1,6 @@
 -- A run that a fault ended is where its steps before lead, or at a part that was refused.
-use Rattle.std.proofs.Common.{◌≡◌, ℕ, suc, ◌+◌, ◌≤◌, List, [], ◌∷◌, length, map, take, drop, Option}
-use Rattle.std.proofs.Common.{Some, Result, Ok, Err, refl, sym, ap, subst, ◌∙◌, arith}
+use Rattle.std.proofs.Common.{Bool, ◌≡◌, ℕ, suc, ◌+◌, ◌≤◌, List, [], ◌∷◌, length, map, take, drop}
+use Rattle.std.proofs.Common.{Option, Some, Result, Ok, Err, refl, sym, ap, subst, ◌∙◌, arith}
 use Rattle.std.proofs.lemmas.List.{drop-map}
 use Rattle.std.specs.Result.{IfErr, IsErrAnd}
 use Rattle.tape_image.specs.Tape.{TapeItem}
@@ -231,27 +231,35 @@ fails_led Reel (b ∷ bs) fault t mid new h s = reel_led t mid new b bs fault h 
 fails_led Save bs fault t mid new h s = save_led t mid new bs fault h s
 fails_led (Restart n) bs fault t mid new h s = restart_led t mid new n bs fault h s
 
+-- A step was not made, and these readers failed before.
+abbrev pub StoppedSo : List Bool → Seen → List Step → List (List ℕ) → ℕ → RunFault → Seen → Type 0
+StoppedSo which old steps bytes n fault new =
+    (end : HasStopped old steps bytes n fault new) × (end.which ≡ which)
+
 -- Where the steps before the one that was not made lead, and why it was not.
-stopped : (old new : Seen) (steps : List Step) (bytes : List (List ℕ)) (n : ℕ) (fault : RunFault)
-    → RunsUpTo old steps (map Some bytes) n fault new → HasStopped old steps bytes n fault new
-stopped old new steps bytes n fault r =
+stopped : (which : List Bool) (old new : Seen) (steps : List Step) (bytes : List (List ℕ)) (n : ℕ)
+    (fault : RunFault) → RunsUpTo which old steps (map Some bytes) n fault new
+    → StoppedSo which old steps bytes n fault new
+stopped which old new steps bytes n fault r =
     let left = drop (reels_in (take n steps)) bytes in
     let fails : Fails r.step (map Some left) fault r.mid new =
     subst (λ (z : List (Option (List ℕ))). Fails r.step z fault r.mid new)
     (drop-map Some (reels_in (take n steps)) bytes) r.fails in
-    let run = headline old r.mid (take n steps) bytes r.runs in
-    record {
-      step = r.step;
-      at = r.at;
-      given = run.given;
-      failed = run.failed;
-      are_given = run.are_given;
-      count = fails_count r.step left fault r.mid new fails ∙ run.count;
-      stops = λ set hs l h s.
-          fails_stops r.step left fault set old r.mid new hs fails l (run.ran set hs l h s);
-      led = λ t reels a s. fails_led r.step left fault (lead t (take n steps) reels) r.mid new fails
-          (run.led t reels a s);
-    }
+    let (run, same) = headline which old r.mid (take n steps) bytes r.runs in (
+      record {
+        step = r.step;
+        at = r.at;
+        given = run.given;
+        which = run.which;
+        are_given = run.are_given;
+        count = fails_count r.step left fault r.mid new fails ∙ run.count;
+        stops = λ set hs l h s.
+            fails_stops r.step left fault set old r.mid new hs fails l (run.ran set hs l h s);
+        led = λ t reels a s. fails_led r.step left fault (lead t (take n steps) reels) r.mid new
+            fails (run.led t reels a s);
+      },
+      same,
+    )
 
 -- ---- what is true of each session stays so
 
@@ -275,8 +283,10 @@ kept_restart_fails n OutOfMemory old new h k = absurd h
 kept_restart_fails n OtherFile old new h k = absurd h
 
 -- over readers that tell their bytes
-pub stopped_so : (old new : Seen) (steps : List Step) (reels : List (Option (List ℕ))) (n : ℕ)
-    (fault : RunFault) → RunsUpTo old steps reels n fault new → (bytes : List (List ℕ))
-    → reels ≡ map Some bytes → HasStopped old steps bytes n fault new
-stopped_so old new steps reels n fault runs bytes e = stopped old new steps bytes n fault
-    (subst (λ (z : List (Option (List ℕ))). RunsUpTo old steps z n fault new) e runs)
+pub stopped_so : (which : List Bool) (old new : Seen) (steps : List Step)
+    (reels : List (Option (List ℕ))) (n : ℕ) (fault : RunFault)
+    → RunsUpTo which old steps reels n fault new → (bytes : List (List ℕ))
+    → reels ≡ map Some bytes → StoppedSo which old steps bytes n fault new
+stopped_so which old new steps reels n fault runs bytes e =
+    stopped which old new steps bytes n fault
+    (subst (λ (z : List (Option (List ℕ))). RunsUpTo which old steps z n fault new) e runs)

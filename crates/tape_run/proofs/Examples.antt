@@ -1,6 +1,6 @@
 -- The cases of a session and of its history.
 use Rattle.std.proofs.Common.{◌≡◌, ℕ, zero, suc, Bool, List, [], ◌∷◌, ◌++◌, ◌∙◌}
-use Rattle.std.proofs.Common.{length, true, Some, refl, sym, ap, subst, inl}
+use Rattle.std.proofs.Common.{length, true, false, Some, refl, sym, ap, subst, inl}
 use Rattle.std.proofs.Common.{inr, arith}
 use Rattle.std.proofs.Common.{append-nil, length-append}
 use Rattle.std.specs.Prelude.{slice_get, slice_index}
@@ -36,7 +36,8 @@ use Rattle.tape_run.specs.Seen.{Seen, IsKept, IsSession, KeepsNotes}
 use Rattle.tape_run.specs.Steps.{Reeled, ReelFails, Saved, WentBack}
 use Rattle.tape_run.specs.WorkedHistory.{worked_set, vol1, hdr1}
 use Rattle.tape_run.specs.Cases.{CasesOfMounts, CasesOfHistories, CasesOfGiven, CasesOfVolumes}
-use Rattle.tape_run.specs.Cases.{CasesOfSessions, CasesOfMade, CasesOfStops, CasesOfCrashes}
+use Rattle.tape_run.specs.Cases.{CasesOfSessions, CasesOfMade, CasesOfCrashes}
+use Rattle.tape_run.specs.CasesOfRuns.{CasesOfStops}
 
 -- ---- what may be mounted
 
@@ -124,6 +125,13 @@ cases_of_given = record {
   one = refl;
   greatest = refl;
   two = refl;
+  second_failed = λ b c d. (refl, ((c, refl), refl));
+  just_the_second = λ b c d e a. (a.0, a.1.0);
+  not_taken = λ bytes given e. e;
+  none_there = λ bytes. (λ a. a, λ a. a);
+  two_of_three = refl;
+  as_far_as_it_reaches = refl;
+  the_rest_stays = refl;
   device = refl;
   no_fault = refl;
   in_the_bytes = refl;
@@ -180,30 +188,30 @@ step_is : (step told : Step) → Some step ≡ Some told → told ≡ step
 step_is step told e = cc
 
 two_were_made : (old new : Seen) (bytes : List ℕ)
-    → Runs old (Save ∷ Reel ∷ Restart 1 ∷ []) (Some bytes ∷ []) new
-    → (failed : Bool) × (first : Seen) × (second : Seen) × Saved old first
-    × Reeled bytes failed first second × WentBack 1 second new
-two_were_made old new bytes (first, saved, (failed, second, reeled, (last, went, same))) =
-    (failed, first, second, saved, reeled, rw same went)
+    → Runs (true ∷ []) old (Save ∷ Reel ∷ Restart 1 ∷ []) (Some bytes ∷ []) new
+    → (first : Seen) × (second : Seen) × Saved old first
+    × Reeled bytes true first second × WentBack 1 second new
+two_were_made old new bytes (first, saved, (second, reeled, (last, went, (none, same)))) =
+    (first, second, saved, reeled, rw same went)
 
 second_was_not : (old new : Seen) (fault : RunFault) (bytes : List ℕ)
-    → RunsUpTo old (Reel ∷ Reel ∷ Save ∷ []) (Some bytes ∷ []) 1 fault new
-    → (failed : Bool) × (mid : Seen) × Reeled bytes failed old mid
+    → RunsUpTo (true ∷ []) old (Reel ∷ Reel ∷ Save ∷ []) (Some bytes ∷ []) 1 fault new
+    → (mid : Seen) × Reeled bytes true old mid
     × (fault ≡ TooFewReels) × (new ≡ mid)
 second_was_not old new fault bytes r =
-    let (failed, mid, reeled, same) = r.runs in
+    let (mid, reeled, (none, same)) = r.runs in
     let f = subst (λ z. Fails z [] fault r.mid new) (step_is Reel r.step r.at) r.fails in
-    (failed, mid, reeled, f.0, f.1 ∙ same)
+    (mid, reeled, f.0, f.1 ∙ same)
 
 third_was_not : (old new : Seen) (fault : RunFault) (bytes other : List ℕ)
-    → RunsUpTo old (Save ∷ Reel ∷ Reel ∷ []) (Some bytes ∷ Some other ∷ []) 2 fault new
-    → (failed : Bool) × (first : Seen) × (mid : Seen) × Saved old first
-    × Reeled bytes failed first mid × ReelFails other fault mid new
+    → RunsUpTo (false ∷ []) old (Save ∷ Reel ∷ Reel ∷ []) (Some bytes ∷ Some other ∷ []) 2 fault new
+    → (first : Seen) × (mid : Seen) × Saved old first
+    × Reeled bytes false first mid × ReelFails other fault mid new
 third_was_not old new fault bytes other r =
-    let (first, saved, (failed, mid, reeled, same)) = r.runs in
+    let (first, saved, (mid, reeled, (none, same))) = r.runs in
     let f = subst (λ z. Fails z (Some other ∷ []) fault r.mid new) (step_is Reel r.step r.at)
     r.fails in
-    (failed, first, mid, saved, reeled, subst (λ z. ReelFails other fault z new) same f)
+    (first, mid, saved, reeled, subst (λ z. ReelFails other fault z new) same f)
 
 pub cases_of_made : CasesOfMade
 cases_of_made = record {
@@ -211,8 +219,9 @@ cases_of_made = record {
   same_reader = λ bytes failed old new r. (r.same_set, r.same_file);
   mount_was_read = λ bytes failed old new set h r lawful mount placed.
       let by = r.reads set h lawful mount placed in (by.at, by.position);
-  nothing_was_made = λ old new r. r;
-  no_reel_was_there = λ old new bytes r. r.3;
+  nothing_was_made = λ which old new r. r;
+  no_reel_was_there = λ failed other old new bytes r. r.2;
+  none_is_told = λ old new bytes r. r;
   two_were_made = two_were_made;
   second_was_not = second_was_not;
   third_was_not = third_was_not;

@@ -15,8 +15,8 @@ cases_of_run_laws = record {
   a_front = λ law set front rest h m. law set front rest h m;
   what_was_given = λ law set steps bytes given hs history are.
       law set 0 2 steps bytes given hs history are;
-  a_refusal = λ law old new steps bytes n fault set hs runs history.
-      law old new steps bytes bytes n fault set hs refl runs history;
+  a_refusal = λ law which old new steps bytes n fault set hs runs history.
+      law which old new steps bytes bytes n fault set hs refl runs history;
   refusals = λ cause. (tt, tt);
   no_refusals = (λ x. x, λ x. x, λ x. x);
   came_back = λ law old steps bytes back there stood. law old steps bytes back there stood;

@@ -17,7 +17,7 @@ use Rattle.tape_run.specs.Mount.{after_mount}
 use Rattle.tape_core.specs.Stands.{weight_of}
 use Rattle.tape_run.specs.declared.script.Step.{Step}
 use Rattle.tape_run.specs.declared.script.Step.TheVariants.{Reel, Save, Restart}
-use Rattle.tape_run.specs.Given.{AreGiven, counted_up}
+use Rattle.tape_run.specs.Given.{AreGivenBy, failed_of, counted, counted_up}
 use Rattle.tape_run.specs.Seen.{Seen, AreNotes, IsSession}
 use Rattle.tape_run.specs.History.{after, course, course_of, IsHistory}
 use Rattle.tape_run.specs.Steps.{Reeled, Saved, WentBack}
@@ -107,10 +107,6 @@ step_then_run set old mid new h hs a b = record {
       a.same_file b.reached);
 }
 
-all_given : (bytes : List (List ℕ)) → AreGiven 0 bytes bytes
-all_given [] = refl
-all_given (b ∷ bs) = inl ((refl, all_given bs))
-
 nothing_ran : (set : FileSet) (old new : Seen) (bytes : List (List ℕ)) (hs : List Happening)
     → new ≡ old → IsHistory set (length old.notes) [] bytes hs → IsSession set old
     → Ran set old hs new
@@ -131,25 +127,30 @@ reel_then old mid new steps b bs failed r given rest set (x ∷ hs) l (m, h) s =
     let left : IsHistory set (length mid.notes) steps given hs = rw r.notes h in
     step_then_run set old mid new x hs step (rest set hs l left step.session)
 
-reel_given : (old mid new : Seen) (steps : List Step) (b : List ℕ) (bs : List (List ℕ))
-    (failed : Bool)
-    → Reeled b failed old mid → HasRun mid steps bs new → HasRun old (Reel ∷ steps) (b ∷ bs) new
-reel_given old mid new steps b bs true r rest = record {
-  given = r.given ∷ rest.given;
-  failed = suc rest.failed;
-  are_given = inr ((rest.failed, omega arith, r.is_given, rest.are_given));
-  count = rest.count ∙ ap (counted_up rest.failed) r.count;
-  ran = reel_then old mid new steps b bs true r rest.given rest.ran;
-  led = led_reel old mid new steps b true r rest.given rest.led;
-}
-reel_given old mid new steps b bs false r rest = record {
-  given = r.given ∷ rest.given;
-  failed = rest.failed;
-  are_given = inl ((r.is_given, rest.are_given));
-  count = rest.count ∙ ap (counted_up rest.failed) r.count;
-  ran = reel_then old mid new steps b bs false r rest.given rest.ran;
-  led = led_reel old mid new steps b false r rest.given rest.led;
-}
+-- All steps were made, and these readers failed.
+abbrev pub RanSo : List Bool → Seen → List Step → List (List ℕ) → Seen → Type 0
+RanSo which old steps bytes new = (run : HasRun old steps bytes new) × (run.which ≡ which)
+
+counted_more : (failed : Bool) (which : List Bool) (a b c : ℕ) → b ≡ counted failed a
+    → c ≡ counted_up (failed_of which) b → c ≡ counted_up (failed_of (failed ∷ which)) a
+counted_more true which a b c e f = f ∙ ap (counted_up (failed_of which)) e
+counted_more false which a b c e f = f ∙ ap (counted_up (failed_of which)) e
+
+reel_given : (which : List Bool) (old mid new : Seen) (steps : List Step) (b : List ℕ)
+    (bs : List (List ℕ)) (failed : Bool) → Reeled b failed old mid → RanSo which mid steps bs new
+    → RanSo (failed ∷ which) old (Reel ∷ steps) (b ∷ bs) new
+reel_given which old mid new steps b bs failed r (rest, same) = (
+  record {
+    given = r.given ∷ rest.given;
+    which = failed ∷ rest.which;
+    are_given = (r.is_given, rest.are_given);
+    count = counted_more failed rest.which old.failures mid.failures new.failures r.count
+        rest.count;
+    ran = reel_then old mid new steps b bs failed r rest.given rest.ran;
+    led = led_reel old mid new steps b failed r rest.given rest.led;
+  },
+  ap (λ w. failed ∷ w) same,
+)
 
 save_then : (old mid new : Seen) (steps : List Step) (given : List (List ℕ)) → Saved old mid
     → ((set : FileSet) (hs : List Happening) → IsLawful set
@@ -189,36 +190,44 @@ restart_then old mid new n steps given w rest set (x ∷ hs) l (e, less, h) s =
     rw e (step_then_run set old mid new (restarts n) hs step (rest set hs l left step.session))
 
 -- All steps of a run that answered Ok were made.
-pub headline : (old new : Seen) (steps : List Step) (bytes : List (List ℕ))
-    → Runs old steps (map Some bytes) new → HasRun old steps bytes new
-headline old new [] bytes same = record {
-  given = bytes;
-  failed = 0;
-  are_given = all_given bytes;
-  count = ap (λ (s : Seen). s.failures) same;
-  ran = λ set hs l h s. nothing_ran set old new bytes hs same h s;
-  led = led_nothing old new bytes same;
-}
-headline old new (Reel ∷ steps) [] none = absurd none
-headline old new (Reel ∷ steps) (b ∷ bs) (failed, mid, r, runs) =
-    reel_given old mid new steps b bs failed r (headline mid new steps bs runs)
-headline old new (Save ∷ steps) bytes (mid, v, runs) =
-    let rest = headline mid new steps bytes runs in
-    record {
-      given = rest.given;
-      failed = rest.failed;
-      are_given = rest.are_given;
-      count = rest.count ∙ ap (counted_up rest.failed) v.count;
-      ran = save_then old mid new steps rest.given v rest.ran;
-      led = led_save old mid new steps rest.given v rest.led;
-    }
-headline old new (Restart n ∷ steps) bytes (mid, w, runs) =
-    let rest = headline mid new steps bytes runs in
-    record {
-      given = rest.given;
-      failed = rest.failed;
-      are_given = rest.are_given;
-      count = rest.count ∙ ap (counted_up rest.failed) w.count;
-      ran = restart_then old mid new n steps rest.given w rest.ran;
-      led = led_restart old mid new n steps rest.given w rest.led;
-    }
+pub headline : (which : List Bool) (old new : Seen) (steps : List Step) (bytes : List (List ℕ))
+    → Runs which old steps (map Some bytes) new → RanSo which old steps bytes new
+headline which old new [] bytes (none, same) = (
+  record {
+    given = bytes;
+    which = [];
+    are_given = refl;
+    count = ap (λ (s : Seen). s.failures) same;
+    ran = λ set hs l h s. nothing_ran set old new bytes hs same h s;
+    led = led_nothing old new bytes same;
+  },
+  sym none,
+)
+headline [] old new (Reel ∷ steps) bytes none = absurd none
+headline (failed ∷ which) old new (Reel ∷ steps) [] none = absurd none
+headline (failed ∷ which) old new (Reel ∷ steps) (b ∷ bs) (mid, r, runs) =
+    reel_given which old mid new steps b bs failed r (headline which mid new steps bs runs)
+headline which old new (Save ∷ steps) bytes (mid, v, runs) =
+    let (rest, same) = headline which mid new steps bytes runs in (
+      record {
+        given = rest.given;
+        which = rest.which;
+        are_given = rest.are_given;
+        count = rest.count ∙ ap (counted_up (failed_of rest.which)) v.count;
+        ran = save_then old mid new steps rest.given v rest.ran;
+        led = led_save old mid new steps rest.given v rest.led;
+      },
+      same,
+    )
+headline which old new (Restart n ∷ steps) bytes (mid, w, runs) =
+    let (rest, same) = headline which mid new steps bytes runs in (
+      record {
+        given = rest.given;
+        which = rest.which;
+        are_given = rest.are_given;
+        count = rest.count ∙ ap (counted_up (failed_of rest.which)) w.count;
+        ran = restart_then old mid new n steps rest.given w rest.ran;
+        led = led_restart old mid new n steps rest.given w rest.led;
+      },
+      same,
+    )

@@ -79,4 +79,5 @@ mod MistakesOfPlaces
 mod MistakesOfReels
 mod MistakesOfReports
 mod MistakesOfRuns
+mod MistakesOfStops
 mod MistakesOfSaves

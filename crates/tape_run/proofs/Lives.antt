@@ -1,5 +1,6 @@
 -- What a crash brings back stands.
-use Rattle.std.proofs.Common.{◌≡◌, ◌⊎◌, ℕ, List, [], ◌∷◌, ◌++◌, Option, Some, Result, Ok, Err, OnOk}
+use Rattle.std.proofs.Common.{Bool, ◌≡◌, ◌⊎◌, ℕ, List, [], ◌∷◌, ◌++◌, Option, Some, Result}
+use Rattle.std.proofs.Common.{Ok, Err, OnOk}
 use Rattle.std.proofs.Common.{length, map, refl, sym, ap, subst, ◌∙◌, inl, inr}
 use Rattle.std.specs.List.{slice_get}
 use Rattle.std.proofs.lemmas.Option.{slice_get-map}
@@ -17,6 +18,7 @@ use Rattle.tape_run.specs.declared.script.Step.TheVariants.{Reel, Save, Restart}
 use Rattle.tape_run.specs.Seen.{Seen, IsSession}
 use Rattle.tape_run.specs.History.{Course, course, course_of, IsHistory}
 use Rattle.tape_run.specs.Runs.{Runs}
+use Rattle.tape_run.specs.Given.{failed_of}
 use Rattle.tape_run.specs.Headline.{HasRun}
 use Rattle.tape_run.specs.Crash.{IsOf, StoodAt}
 use Rattle.tape_run.specs.Lives.{IsPlaceOf, ComesBack, Life, IsResumed, Outlives, AreHistories}
@@ -24,6 +26,7 @@ use Rattle.tape_run.specs.Lives.{GoesOn}
 use Rattle.tape_run.proofs.Notes.{same_front, note_at}
 use Rattle.tape_core.specs.Crash.{OnlyThis}
 use Rattle.tape_run.proofs.Headline.{headline}
+use Rattle.tape_run.proofs.Back.{by_number}
 use Rattle.tape_run.proofs.Begin.{is_resumed}
 
 -- what is of a session stands
@@ -46,14 +49,23 @@ record Behind (old : Seen) (steps : List Step) (reels : List (Option (List ℕ))
   rest : List Step
   all : steps ≡ done ++ rest
   mid : Seen
-  runs : Runs old done reels mid
+  which : List Bool
+  runs : Runs which old done reels mid
   is_of : IsOf mid back there
 
 none_made : (old : Seen) (steps : List Step) (reels : List (Option (List ℕ)))
     (back : Point) (there : List Portion)
     → IsOf old back there → Behind old steps reels back there
 none_made old steps reels back there h =
-    record { done = []; rest = steps; all = refl; mid = old; runs = refl; is_of = h }
+    record {
+      done = [];
+      rest = steps;
+      all = refl;
+      mid = old;
+      which = [];
+      runs = (refl, refl);
+      is_of = h;
+    }
 
 behind : (old : Seen) (steps : List Step) (bytes : List (List ℕ))
     (back : Point) (there : List Portion)
@@ -68,7 +80,8 @@ behind old (Reel ∷ steps) (b ∷ bs) back there (inr (failed, mid, r, h)) =
       rest = n.rest;
       all = ap (λ (l : List Step). Reel ∷ l) n.all;
       mid = n.mid;
-      runs = (failed, mid, r, n.runs);
+      which = failed ∷ n.which;
+      runs = (mid, r, n.runs);
       is_of = n.is_of;
     }
 behind old (Save ∷ steps) bytes back there (inl h) = none_made old (Save ∷ steps) _ back there h
@@ -79,6 +92,7 @@ behind old (Save ∷ steps) bytes back there (inr (mid, v, h)) =
       rest = n.rest;
       all = ap (λ (l : List Step). Save ∷ l) n.all;
       mid = n.mid;
+      which = n.which;
       runs = (mid, v, n.runs);
       is_of = n.is_of;
     }
@@ -91,6 +105,7 @@ behind old (Restart k ∷ steps) bytes back there (inr (mid, w, h)) =
       rest = n.rest;
       all = ap (λ (l : List Step). Restart k ∷ l) n.all;
       mid = n.mid;
+      which = n.which;
       runs = (mid, w, n.runs);
       is_of = n.is_of;
     }
@@ -101,14 +116,14 @@ pub comes_back : (old : Seen) (steps : List Step) (bytes : List (List ℕ))
     → (done : List Step) × (given : List (List ℕ)) × ComesBack old steps done bytes given back there
 comes_back old steps bytes back there h =
     let b = behind old steps bytes back there h in
-    let run = headline old b.mid b.done bytes b.runs in (
+    let run = (headline b.which old b.mid b.done bytes b.runs).0 in (
       b.done,
       run.given,
       record {
         rest = b.rest;
         all = b.all;
-        failed = run.failed;
-        are_given = run.are_given;
+        failed = failed_of run.which;
+        are_given = by_number run.which bytes run.given run.are_given;
         stands = λ set hs l hist s.
             let r = run.ran set hs l hist s in
             let (stands, place) = of_stands set b.mid back there r.session b.is_of in (
@@ -190,8 +205,8 @@ pub goes_on : (c : Point) (ps : List Portion) (s new : Seen) (steps : List Step)
     → IsResumed c ps s → HasRun s steps bytes new → GoesOn c ps steps bytes new.parts
 goes_on c ps s new steps bytes r h = record {
   given = h.given;
-  failed = h.failed;
-  are_given = h.are_given;
+  failed = failed_of h.which;
+  are_given = by_number h.which bytes h.given h.are_given;
   delivers = λ set hs l st hist.
       let none : length s.notes ≡ 0 = ap length r.notes in
       let file : s.place.file ≡ c.file = ap (λ (p : State). p.file) r.place in

@@ -1,13 +1,16 @@
 -- Steps of a run that were made, one after another.
 use Rattle.std.proofs.Common.{◌≡◌, ℕ, zero, suc, ◌+◌, Bool, List, [], ◌∷◌, drop, Option, Some}
-use Rattle.std.proofs.Common.{None, ◌≤◌, length, IfSome, refl, ◌∙◌, subst, inr, arith}
+use Rattle.std.proofs.Common.{None, ◌≤◌, length, take, IfSome, refl, sym, ap, ◌∙◌, subst, inr}
+use Rattle.std.proofs.Common.{◌<◌, arith, append-nil, ◌++◌, slice_set}
+use Rattle.std.proofs.lemmas.List.{append_assoc, take-append-drop}
 use Rattle.std.specs.List.{slice_get}
 use Rattle.std.proofs.lemmas.List.{drop_all}
 use Rattle.tape_run.specs.declared.fault.RunFault.{RunFault}
 use Rattle.tape_run.specs.declared.script.Step.{Step}
 use Rattle.tape_run.specs.declared.script.Step.TheVariants.{Reel, Save, Restart}
+use Rattle.tape_run.specs.Given.{written}
 use Rattle.tape_run.specs.Headline.{LosesParts}
-use Rattle.tape_run.specs.Made.{HasMade}
+use Rattle.tape_run.specs.Made.{HasMade, WritesFrom}
 use Rattle.tape_run.specs.Runs.{Runs, RunsUpTo, Fails}
 use Rattle.tape_run.specs.Seen.{Seen}
 use Rattle.tape_run.specs.Steps.{Reeled, Saved, WentBack, ReelFails}
@@ -15,19 +18,20 @@ use Rattle.tape_run.specs.Steps.{Reeled, Saved, WentBack, ReelFails}
 -- ---- one step
 
 -- one step later
-later : (old : Seen) (steps : List Step) (readers : List (Option (List ℕ))) (n : ℕ)
-    (fault : RunFault) (end : Seen) → RunsUpTo old steps readers (suc n) fault end
-    → RunsUpTo old steps readers (1 + n) fault end
-later old steps readers n fault end h =
+later : (which : List Bool) (old : Seen) (steps : List Step) (readers : List (Option (List ℕ)))
+    (n : ℕ) (fault : RunFault) (end : Seen) → RunsUpTo which old steps readers (suc n) fault end
+    → RunsUpTo which old steps readers (1 + n) fault end
+later which old steps readers n fault end h =
     let same : suc n ≡ 1 + n = omega arith in
-    subst (λ k. RunsUpTo old steps readers k fault end) same h
+    subst (λ k. RunsUpTo which old steps readers k fault end) same h
 
 pub reel_makes : (old mid : Seen) (o : Option (List ℕ)) (failed : Bool)
     → IfSome o (λ bytes. Reeled bytes failed old mid) → (readers : List (Option (List ℕ)))
-    (steps : List Step) → HasMade 1 old (Reel ∷ steps) (o ∷ readers) mid steps readers
+    (steps : List Step)
+    → HasMade 1 (failed ∷ []) old (Reel ∷ steps) (o ∷ readers) mid steps readers
 reel_makes old mid None failed r readers steps = record {
-  runs = λ end h. tt;
-  stops = λ n fault end h. later _ _ _ n fault end (record {
+  runs = λ more end h. tt;
+  stops = λ more n fault end h. later _ _ _ _ n fault end (record {
     step = h.step;
     at = h.at;
     mid = h.mid;
@@ -37,22 +41,22 @@ reel_makes old mid None failed r readers steps = record {
   stood = λ back there h. tt;
 }
 reel_makes old mid (Some bytes) failed r readers steps = record {
-  runs = λ end h. (failed, mid, r, h);
-  stops = λ n fault end h. later _ _ _ n fault end (record {
+  runs = λ more end h. (mid, r, h);
+  stops = λ more n fault end h. later _ _ _ _ n fault end (record {
     step = h.step;
     at = h.at;
     mid = h.mid;
-    runs = (failed, mid, r, h.runs);
+    runs = (mid, r, h.runs);
     fails = h.fails;
   });
   stood = λ back there h. inr ((failed, mid, r, h));
 }
 
 pub save_makes : (old mid : Seen) → Saved old mid → (readers : List (Option (List ℕ)))
-    (steps : List Step) → HasMade 1 old (Save ∷ steps) readers mid steps readers
+    (steps : List Step) → HasMade 1 [] old (Save ∷ steps) readers mid steps readers
 save_makes old mid v readers steps = record {
-  runs = λ end h. (mid, v, h);
-  stops = λ n fault end h. later _ _ _ n fault end (record {
+  runs = λ more end h. (mid, v, h);
+  stops = λ more n fault end h. later _ _ _ _ n fault end (record {
     step = h.step;
     at = h.at;
     mid = h.mid;
@@ -64,10 +68,10 @@ save_makes old mid v readers steps = record {
 
 pub restart_makes : (old mid : Seen) (k : ℕ) → WentBack k old mid
     → (readers : List (Option (List ℕ))) (steps : List Step)
-    → HasMade 1 old (Restart k ∷ steps) readers mid steps readers
+    → HasMade 1 [] old (Restart k ∷ steps) readers mid steps readers
 restart_makes old mid k w readers steps = record {
-  runs = λ end h. (mid, w, h);
-  stops = λ n fault end h. later _ _ _ n fault end (record {
+  runs = λ more end h. (mid, w, h);
+  stops = λ more n fault end h. later _ _ _ _ n fault end (record {
     step = h.step;
     at = h.at;
     mid = h.mid;
@@ -87,45 +91,85 @@ reel_failed old new (Some bytes) readers fault h = h
 -- ---- one behind another
 
 pub made_none : (s : Seen) (steps : List Step) (readers : List (Option (List ℕ)))
-    → HasMade 0 s steps readers s steps readers
+    → HasMade 0 [] s steps readers s steps readers
 made_none s steps readers = record {
-  runs = λ end h. h;
-  stops = λ n fault end h.
+  runs = λ more end h. h;
+  stops = λ more n fault end h.
       let same : n ≡ 0 + n = omega arith in
-      subst (λ k. RunsUpTo s steps readers k fault end) same h;
+      subst (λ k. RunsUpTo more s steps readers k fault end) same h;
   stood = λ back there h. h;
 }
 
-pub made_more : (made : ℕ) (old mid new : Seen) (steps left rest : List Step) (step : Step)
-    (readers others last : List (Option (List ℕ))) → left ≡ step ∷ rest
-    → HasMade made old steps readers mid left others → HasMade 1 mid (step ∷ rest) others new rest last
-    → HasMade (made + 1) old steps readers new rest last
-made_more made old mid new steps left rest step readers others last e f g = record {
-  runs = λ end h. f.runs end (rw e (g.runs end h));
-  stops = λ n fault end h.
+pub made_more : (made : ℕ) (which one : List Bool) (old mid new : Seen)
+    (steps left rest : List Step) (step : Step) (readers others last : List (Option (List ℕ)))
+    → left ≡ step ∷ rest → HasMade made which old steps readers mid left others
+    → HasMade 1 one mid (step ∷ rest) others new rest last
+    → HasMade (made + 1) (which ++ one) old steps readers new rest last
+made_more made which one old mid new steps left rest step readers others last e f g = record {
+  runs = λ more end h. subst (λ w. Runs w old steps readers end)
+      (sym (append_assoc which one more))
+      (f.runs (one ++ more) end (rw e (g.runs more end h)));
+  stops = λ more n fault end h.
       let same : made + (1 + n) ≡ made + 1 + n = omega arith in
-      subst (λ k. RunsUpTo old steps readers k fault end) same
-      (f.stops (1 + n) fault end (rw e (g.stops n fault end h)));
+      subst (λ k. RunsUpTo ((which ++ one) ++ more) old steps readers k fault end) same
+      (subst (λ w. RunsUpTo w old steps readers (made + (1 + n)) fault end)
+      (sym (append_assoc which one more))
+      (f.stops (one ++ more) (1 + n) fault end (rw e (g.stops more n fault end h))));
   stood = λ back there h. f.stood back there (rw e (g.stood back there h));
 }
 
 -- no step is left
-pub all_made : (made : ℕ) (old end : Seen) (steps : List Step) (i : ℕ)
+pub all_made : (made : ℕ) (which : List Bool) (old end : Seen) (steps : List Step) (i : ℕ)
     (readers others : List (Option (List ℕ)))
-    → length steps ≤ i → HasMade made old steps readers end (drop i steps) others
-    → Runs old steps readers end
-all_made made old end steps i readers others past h =
-    h.runs end (rw (drop_all i steps past) refl)
+    → length steps ≤ i → HasMade made which old steps readers end (drop i steps) others
+    → Runs which old steps readers end
+all_made made which old end steps i readers others past h =
+    subst (λ w. Runs w old steps readers end) (append-nil which)
+    (h.runs [] end (rw (drop_all i steps past) ((refl, refl))))
 
 -- the next step was not made
-pub stops_here : (made : ℕ) (old mid new : Seen) (steps left rest : List Step) (step : Step)
+pub stops_here : (made : ℕ) (which : List Bool) (old mid new : Seen)
+    (steps left rest : List Step) (step : Step)
     (readers others : List (Option (List ℕ))) (fault : RunFault) → left ≡ step ∷ rest
-    → HasMade made old steps readers mid left others → Fails step others fault mid new
-    → RunsUpTo old steps readers made fault new
-stops_here made old mid new steps left rest step readers others fault e h f =
+    → HasMade made which old steps readers mid left others → Fails step others fault mid new
+    → RunsUpTo which old steps readers made fault new
+stops_here made which old mid new steps left rest step readers others fault e h f =
     let none : made + 0 ≡ made = omega arith in
-    subst (λ k. RunsUpTo old steps readers k fault new) none (h.stops 0 fault new
-    (rw e (record { step = step; at = refl; mid = mid; runs = refl; fails = f })))
+    subst (λ k. RunsUpTo which old steps readers k fault new) none
+    (subst (λ w. RunsUpTo w old steps readers (made + 0) fault new) (append-nil which)
+    (h.stops [] 0 fault new
+    (rw e (record { step = step; at = refl; mid = mid; runs = (refl, refl); fails = f }))))
+
+-- ---- what is written of the readers
+
+-- where nothing is written
+pub writes_none : (used : ℕ) (row : List Bool) → WritesFrom used [] row row used
+writes_none used row = (sym (take-append-drop used row), omega arith)
+
+-- one is set where the row reaches
+pub set_writes : (row : List Bool) (i : ℕ) (flag : Bool) → i < length row
+    → slice_set row i flag ≡ take i row ++ written (flag ∷ []) (drop i row)
+set_writes [] i flag less = absurd (omega (arith, less))
+set_writes (x ∷ row) zero flag less = refl
+set_writes (x ∷ row) (suc i) flag less =
+    ap (λ r. x ∷ r) (set_writes row i flag (omega (arith, less)))
+
+-- these behind those that were written
+written_more : (which more row : List Bool) → take (length which) (written which row)
+    ++ written more (drop (length which) (written which row)) ≡ written (which ++ more) row
+written_more [] more row = refl
+written_more (v ∷ which) [] [] = refl
+written_more (v ∷ which) (m ∷ more) [] = refl
+written_more (v ∷ which) more (x ∷ row) = ap (λ r. v ∷ r) (written_more which more row)
+
+-- what a step writes behind what the steps before it wrote
+pub wrote : (which more start row new : List Bool) (used now_used : ℕ) → length which ≡ used
+    → row ≡ written which start → WritesFrom used more row new now_used
+    → new ≡ written (which ++ more) start
+wrote which more start row new used now_used count e (is, n) =
+    is ∙ ap (λ k. take k row ++ written more (drop k row)) (sym count)
+    ∙ ap (λ r. take (length which) r ++ written more (drop (length which) r)) e
+    ∙ written_more which more start
 
 -- the step that is next
 next_is : (steps : List Step) (i : ℕ) (step : Step) (rest : List Step) → drop i steps ≡ step ∷ rest

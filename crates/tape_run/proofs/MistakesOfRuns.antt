@@ -1,10 +1,9 @@
 -- Answers that the contracts of a run and of whole readings exclude: each is what a wrong body
 -- would give.
-use Rattle.std.proofs.Common.{◌≡◌, ◌⊎◌, inl, inr, ℕ, zero, suc, List, [], ◌∷◌, ◌++◌, map, take, drop}
+use Rattle.std.proofs.Common.{◌≡◌, ◌⊎◌, inl, inr, ℕ, List, [], ◌∷◌, ◌++◌, map}
 use Rattle.std.proofs.Common.{Bool, true, false, refl}
 use Rattle.std.proofs.Common.{sym, ap, ◌∙◌, subst, arith, codes, length}
-use Rattle.std.proofs.lemmas.Option.{slice_get_within}
-use Rattle.std.specs.Prelude.{Option, Some, Ok, Err, IsSome, slice_get, option_map}
+use Rattle.std.specs.Prelude.{Option, Some, Ok, IsSome, slice_get, option_map}
 use Rattle.tape_blocks.specs.declared.part.Span.TheVariants as spans
 use Rattle.tape_blocks.specs.Block.{Portion}
 use Rattle.tape_set.specs.declared.position.Position.TheVariants.{Awaits}
@@ -18,20 +17,16 @@ use Rattle.tape_core.specs.Place.{rest_of}
 use Rattle.tape_core.specs.Point.{Point}
 use Rattle.tape_core.specs.Stands.{Stands, weight_of}
 use Rattle.tape_core.specs.Table.{saved}
-use Rattle.tape_core.specs.State.{State}
-use Rattle.tape_run.specs.declared.fault.RunFault.{RunFault}
-use Rattle.tape_run.specs.declared.fault.RunFault.TheVariants.{NoSuchPoint, TooFewReels}
-use Rattle.tape_run.specs.declared.fault.Stopped.{Stopped}
-use Rattle.tape_run.specs.declared.script.Step.{Step}
-use Rattle.tape_run.specs.declared.script.Step.TheVariants.{Reel, Save, Restart}
+use Rattle.tape_run.specs.declared.script.Step.TheVariants.{Reel, Save}
 use Rattle.tape_run.specs.Crash.{is_saved}
-use Rattle.tape_run.specs.Given.{IsGiven, AreGiven}
-use Rattle.tape_run.specs.Headline.{begins, reels_in, IsRead, IsStart}
+use Rattle.tape_run.specs.Given.{IsGiven, AreGiven, AreGivenBy, counted, written}
+use Rattle.tape_run.specs.Headline.{begins, IsRead, IsStart}
 use Rattle.tape_run.specs.History.{IsHistory, course, after}
 use Rattle.tape_run.specs.Mount.{Happening, reads, foreign_reel, saves, restarts, IsMountOf}
-use Rattle.tape_run.specs.Runs.{Runs, RunsUpTo, Fails}
-use Rattle.tape_run.specs.Seen.{Seen, seen, KeepsNotes}
+use Rattle.tape_run.specs.Runs.{Runs}
+use Rattle.tape_run.specs.Seen.{Seen, seen}
 use Rattle.tape_run.specs.WorkedHistory.{worked_steps, worked_reels, first, middle, last}
+use Rattle.tape_run.proofs.MistakesOfStops.{kept_without}
 use Rattle.tape_run.proofs.WorkedHistory.{is_worked}
 use Rattle.tape_run.proofs.script.run.Reads as run
 use Rattle.tape_run.proofs.whole.go_on.Reads as go_on
@@ -43,88 +38,12 @@ HoldsOne holds = (xs ys : List Portion) → holds xs → holds ys → xs ≡ ys
 
 -- ---- scripts
 
--- what `run` asks of notes holds where there are none
-kept_without : (place : State) (held : List Portion) (notes : List Point) → notes ≡ []
-    → KeepsNotes place [] notes held
-kept_without place held notes none =
-    subst (λ v. KeepsNotes place [] v held) (sym none) (held, refl)
-
--- where a run stopped
-abbrev stopped : ℕ → RunFault → Stopped
-stopped n fault = record { step = n; fault = fault }
-
--- the step of this number was not made, of these steps and with these readers
-abbrev StopsAt : List Step → List (Option (List ℕ)) → Step → ℕ → RunFault → Type 0
-StopsAt steps left step n fault = (mid : Seen) × (new : Seen)
-    × (slice_get steps n ≡ Some step)
-    × Fails step (drop (reels_in (take n steps)) left) fault mid new
-
-stops_at : (old new : Seen) (is steps : List Step) (are left : List (Option (List ℕ))) (n : ℕ)
-    (fault : RunFault) → is ≡ steps → are ≡ left → RunsUpTo old is are n fault new
-    → (step : Step) × StopsAt steps left step n fault
-stops_at old new is steps are left n fault same these r =
-    let h = subst (λ v. RunsUpTo old v left n fault new) same
-    (subst (λ v. RunsUpTo old is v n fault new) these r) in
-    (h.step, (h.mid, new, h.at, h.fails))
-
--- a run that asks for a reel where no reader is left is not ended by another fault
-other_fault : (step : Step) (n : ℕ) (fault : RunFault) → StopsAt (Reel ∷ []) [] step n fault
-    → fault ≡ TooFewReels
-other_fault Reel zero fault (mid, new, is, (e, same)) = e
-other_fault Save zero fault (mid, new, is, h) = absurd (cc is)
-other_fault (Restart k) zero fault (mid, new, is, h) = absurd (cc is)
-other_fault step (suc n) fault (mid, new, is, h) =
-    absurd (omega (arith, slice_get_within (Reel ∷ []) (suc n) step is))
-
--- no_reel_told_as_no_point: a reel is asked for and there is no reader, and it is told that no such
--- point was saved.
-no_reel_told_as_no_point : (S : _) (R : _) (LS : _) (LR : _) (g : _) (d : _) (h : _) (e : _)
-    (κs : _) (a : _) (s : _) (held : List Portion) (n : ℕ)
-    → run.Learnt-named S R LS LR g d h e κs a (Err (stopped n NoSuchPoint)) s
-    → g.holds a.0.now.sink held → a.0.now.notes ≡ []
-    → a.1.0.now ≡ Reel ∷ [] → map h.remaining a.1.1.0.now ≡ [] → ⊥
-no_reel_told_as_no_point S R LS LR g d h e κs a s held n l was fresh one none =
-    let kept = kept_without (rest_of a.0.now.core) held a.0.now.notes fresh in
-    let (step, stops) = stops_at _ _ a.1.0.now (Reel ∷ []) (map h.remaining a.1.1.0.now) []
-    n NoSuchPoint one none (l.faults held was kept).3 in
-    absurd (cc (other_fault step n NoSuchPoint stops))
-
--- a save is not stopped for want of a reel
-saves_need_none : (step : Step) (mid new : Seen) → Some Save ≡ Some step
-    → Fails step [] TooFewReels mid new → ⊥
-saves_need_none Save mid new is h = h
-saves_need_none Reel mid new is h = absurd (cc is)
-saves_need_none (Restart k) mid new is h = absurd (cc is)
-
--- step_told_one_too_low: behind a save a reel is asked for and there is no reader, and it is told
--- that the save was not made.
-step_told_one_too_low : (S : _) (R : _) (LS : _) (LR : _) (g : _) (d : _) (h : _) (e : _)
-    (κs : _) (a : _) (s : _) (held : List Portion)
-    → run.Learnt-named S R LS LR g d h e κs a (Err (stopped 0 TooFewReels)) s
-    → g.holds a.0.now.sink held → a.0.now.notes ≡ []
-    → a.1.0.now ≡ Save ∷ Reel ∷ [] → map h.remaining a.1.1.0.now ≡ [] → ⊥
-step_told_one_too_low S R LS LR g d h e κs a s held l was fresh two none =
-    let kept = kept_without (rest_of a.0.now.core) held a.0.now.notes fresh in
-    let (step, (mid, new, is, fails)) = stops_at _ _ a.1.0.now (Save ∷ Reel ∷ [])
-    (map h.remaining a.1.1.0.now) [] 0 TooFewReels two none (l.faults held was kept).3 in
-    saves_need_none step mid new is fails
-
--- steps_counted_from_1: the only step was not made, and step 1 is told
-steps_counted_from_1 : (S : _) (R : _) (LS : _) (LR : _) (g : _) (d : _) (h : _) (e : _)
-    (κs : _) (a : _) (s : _) (held : List Portion) (fault : RunFault)
-    → run.Learnt-named S R LS LR g d h e κs a (Err (stopped 1 fault)) s
-    → g.holds a.0.now.sink held → a.0.now.notes ≡ []
-    → a.1.0.now ≡ Reel ∷ [] → map h.remaining a.1.1.0.now ≡ [] → ⊥
-steps_counted_from_1 S R LS LR g d h e κs a s held fault l was fresh one none =
-    let kept = kept_without (rest_of a.0.now.core) held a.0.now.notes fresh in
-    let (step, (mid, new, is, fails)) = stops_at _ _ a.1.0.now (Reel ∷ [])
-    (map h.remaining a.1.1.0.now) [] 1 fault one none (l.faults held was kept).3 in
-    absurd (omega (arith, slice_get_within (Reel ∷ []) 1 step is))
-
 -- of two reels that a script asks for the second is not made where there is one reader
-second_reel : (old new : Seen) (bytes : List ℕ)
-    → Runs old (Reel ∷ Reel ∷ []) (Some bytes ∷ []) new → ⊥
-second_reel old new bytes (failed, mid, r, none) = none
+second_reel : (which : List Bool) (old new : Seen) (bytes : List ℕ)
+    → Runs which old (Reel ∷ Reel ∷ []) (Some bytes ∷ []) new → ⊥
+second_reel [] old new bytes none = none
+second_reel (failed ∷ []) old new bytes (mid, r, none) = none
+second_reel (failed ∷ other ∷ which) old new bytes (mid, r, none) = none
 
 -- same_reel_read_again: there is one reader, and both reels of a script are told as read.
 same_reel_read_again : (S : _) (R : _) (LS : _) (LR : _) (g : _) (d : _) (h : _) (e : _)
@@ -137,14 +56,74 @@ same_reel_read_again S R LS LR g d h e κs a s held bytes l was fresh two one =
     let r = l.runs held was kept in
     let old : Seen = seen g.refusals a.0.now held in
     let new : Seen = seen g.refusals s.0.now r.0 in
-    second_reel old new bytes (subst (λ v. Runs old v (Some bytes ∷ []) new) two
-    (subst (λ v. Runs old a.1.0.now v new) one r.2))
+    let (which, row, runs) = r.2 in
+    second_reel which old new bytes (subst (λ v. Runs which old v (Some bytes ∷ []) new) two
+    (subst (λ v. Runs which old a.1.0.now v new) one runs))
+
+-- of the one reader of a script it is told whether it failed, and so it is counted
+one_told : (which : List Bool) (old new : Seen) (bytes : List ℕ)
+    → Runs which old (Reel ∷ []) (Some bytes ∷ []) new
+    → (failed : Bool) × (which ≡ failed ∷ []) × (new.failures ≡ counted failed old.failures)
+one_told [] old new bytes r = absurd r
+one_told (failed ∷ which) old new bytes (mid, r, (none, same)) =
+    (failed, ap (λ w. failed ∷ w) none, ap (λ (z : Seen). z.failures) same ∙ r.count)
+
+-- the same of a session
+told_of_one : (S : _) (R : _) (LS : _) (LR : _) (g : _) (d : _) (h : _) (e : _) (κs : _) (a : _)
+    (s : _) (held : List Portion) (bytes : List ℕ)
+    → run.Learnt-named S R LS LR g d h e κs a (Ok tt) s
+    → g.holds a.0.now.sink held → a.0.now.notes ≡ []
+    → a.1.0.now ≡ Reel ∷ [] → map h.remaining a.1.1.0.now ≡ Some bytes ∷ []
+    → (failed : Bool) × (s.1.1.1.0.now ≡ written (failed ∷ []) a.1.1.1.0.now)
+    × (s.0.now.failures ≡ counted failed a.0.now.failures)
+told_of_one S R LS LR g d h e κs a s held bytes l was fresh one known =
+    let kept = kept_without (rest_of a.0.now.core) held a.0.now.notes fresh in
+    let r = l.runs held was kept in
+    let old : Seen = seen g.refusals a.0.now held in
+    let new : Seen = seen g.refusals s.0.now r.0 in
+    let (which, row, runs) = r.2 in
+    let (failed, is, count) = one_told which old new bytes
+    (subst (λ v. Runs which old v (Some bytes ∷ []) new) one
+    (subst (λ v. Runs which old a.1.0.now v new) known runs)) in
+    (failed, row ∙ ap (λ w. written w a.1.1.1.0.now) is, count)
+
+-- next_reader_told_as_failed: there is one reader, and the place of a second one is written
+next_reader_told_as_failed : (S : _) (R : _) (LS : _) (LR : _) (g : _) (d : _) (h : _) (e : _)
+    (κs : _) (a : _) (s : _) (held : List Portion) (bytes : List ℕ)
+    → run.Learnt-named S R LS LR g d h e κs a (Ok tt) s
+    → g.holds a.0.now.sink held → a.0.now.notes ≡ []
+    → a.1.0.now ≡ Reel ∷ [] → map h.remaining a.1.1.0.now ≡ Some bytes ∷ []
+    → a.1.1.1.0.now ≡ false ∷ false ∷ [] → s.1.1.1.0.now ≡ false ∷ true ∷ [] → ⊥
+next_reader_told_as_failed S R LS LR g d h e κs a s held bytes l was fresh one known row told =
+    let (failed, is, count) = told_of_one S R LS LR g d h e κs a s held bytes l was fresh one
+    known in
+    let wrong : false ∷ true ∷ [] ≡ failed ∷ false ∷ [] =
+    sym told ∙ is ∙ ap (written (failed ∷ [])) row in
+    absurd (cc wrong)
+
+-- failed_reader_not_told: a failure is counted, and the one reader is told as one that did not fail
+failed_reader_not_told : (S : _) (R : _) (LS : _) (LR : _) (g : _) (d : _) (h : _) (e : _)
+    (κs : _) (a : _) (s : _) (held : List Portion) (bytes : List ℕ)
+    → run.Learnt-named S R LS LR g d h e κs a (Ok tt) s
+    → g.holds a.0.now.sink held → a.0.now.notes ≡ []
+    → a.1.0.now ≡ Reel ∷ [] → map h.remaining a.1.1.0.now ≡ Some bytes ∷ []
+    → a.0.now.failures ≡ 0 → s.0.now.failures ≡ 1
+    → a.1.1.1.0.now ≡ true ∷ [] → s.1.1.1.0.now ≡ false ∷ [] → ⊥
+failed_reader_not_told S R LS LR g d h e κs a s held bytes l was fresh one known none some row
+    told =
+    let (failed, is, count) = told_of_one S R LS LR g d h e κs a s held bytes l was fresh one
+    known in
+    let same : false ∷ [] ≡ failed ∷ [] = sym told ∙ is ∙ ap (written (failed ∷ [])) row in
+    let which : failed ≡ false = cc same in
+    let n : 1 ≡ 0 = sym some ∙ count ∙ ap (λ f. counted f a.0.now.failures) which ∙ none in
+    absurd (omega (arith, n))
 
 -- a save that was made is noted
-saved_alone : (old new : Seen) (reels : List (Option (List ℕ)))
-    → Runs old (Save ∷ []) reels new
+saved_alone : (which : List Bool) (old new : Seen) (reels : List (Option (List ℕ)))
+    → Runs which old (Save ∷ []) reels new
     → new.notes ≡ old.notes ++ saved old.place (weight_of old.parts) ∷ []
-saved_alone old new reels (mid, v, same) = ap (λ (z : Seen). z.notes) same ∙ v.notes
+saved_alone which old new reels (mid, v, (none, same)) =
+    ap (λ (z : Seen). z.notes) same ∙ v.notes
 
 -- script_notes_in_the_list_alone: at block 5 a script saves, and the sink comes back with the start
 -- of the file.
@@ -161,8 +140,8 @@ script_notes_in_the_list_alone S R LS LR g d h e κs a s held there older l was 
     let old : Seen = seen g.refusals a.0.now held in
     let new : Seen = seen g.refusals s.0.now r.0 in
     let here = saved old.place (weight_of held) in
-    let one : s.0.now.notes ≡ here ∷ [] = saved_alone old new (map h.remaining a.1.1.0.now)
-    (subst (λ v. Runs old v (map h.remaining a.1.1.0.now) new) steps r.2)
+    let one : s.0.now.notes ≡ here ∷ [] = saved_alone r.2.0 old new (map h.remaining a.1.1.0.now)
+    (subst (λ v. Runs r.2.0 old v (map h.remaining a.1.1.0.now) new) steps r.2.2)
     ∙ ap (λ l. l ++ here ∷ []) fresh in
     let (n, count, (is, front, weighs)) = r.3 (ap (is_saved false) steps) older there back in
     let number : n ≡ 0 = omega (arith, count, ap length one) in
@@ -187,7 +166,7 @@ worked_parts S R LS LR g d h e κs a s held l empty fresh steps known none one t
     let r = l.start (codes "ABC001") 1 empty fresh in
     let now : Seen = seen g.refusals s.0.now r.0 in
     let read : IsRead (codes "ABC001") 1 worked_steps worked_reels now
-    = subst (λ v. IsRead (codes "ABC001") 1 v worked_reels now) steps (r.2 worked_reels known) in
+    = subst (λ v. IsRead (codes "ABC001") 1 v worked_reels now) steps (r.2 worked_reels known).0 in
     one held r.0 there r.1 ∙ (is_worked.read now read none).0
 
 -- delivers_nothing: the worked reels, which hold the whole file, were read, and the sink holds no
@@ -239,15 +218,19 @@ GivesMounts set bytes =
     → (m : Happening) × IsMountOf set given m
 
 -- what was given of one reader
-one_given : (set : FileSet) (bytes : List ℕ) (failed : ℕ) (given : List (List ℕ))
-    → GivesMounts set bytes → AreGiven failed (bytes ∷ []) given
+one_given : (set : FileSet) (bytes : List ℕ) (failed : List Bool) (given : List (List ℕ))
+    → GivesMounts set bytes → AreGivenBy failed (bytes ∷ []) given
     → (m : Happening) × IsHistory set 0 (Reel ∷ []) given (m ∷ [])
     × ((file : ℕ) → part_of (course set file begins (m ∷ [])).at ≡ 0)
-one_given set bytes failed [] all a = absurd a
-one_given set bytes failed (x ∷ xs) all (inl (is, rest)) =
-    let (m, of) = all false x is in (m, (of, tt), λ file. to_a_front set file x m of)
-one_given set bytes failed (x ∷ xs) all (inr (n, more, is, rest)) =
-    let (m, of) = all true x is in (m, (of, tt), λ file. to_a_front set file x m of)
+one_given set bytes [] given all e =
+    let (m, of) = all false bytes refl in (
+      m,
+      subst (λ z. IsHistory set 0 (Reel ∷ []) z (m ∷ [])) (sym e) ((of, tt)),
+      λ file. to_a_front set file bytes m of,
+    )
+one_given set bytes (f ∷ failed) [] all a = absurd a
+one_given set bytes (f ∷ failed) (x ∷ xs) all (is, rest) =
+    let (m, of) = all f x is in (m, (of, tt), λ file. to_a_front set file x m of)
 
 -- partial_file_given: the sink refused part 3 of a block, and the file is given as one that was
 -- read.
@@ -258,7 +241,7 @@ partial_file_given : (R : _) (LR : _) (h : _) (d : _) (κs : _) (a : _) (session
     → session.core.position ≡ Awaits 1 0 3 → ⊥
 partial_file_given R LR h d κs a session s set bytes k lawful id file all one known stands =
     let r = k.read (bytes ∷ []) known in
-    let (m, history, front) = one_given set bytes r.5.failed r.5.given all r.5.are_given in
+    let (m, history, front) = one_given set bytes r.5.which r.5.given all r.5.are_given in
     let steps : IsHistory set 0 a.1.1.1.0.now r.5.given (m ∷ [])
     = subst (λ v. IsHistory set 0 v r.5.given (m ∷ [])) (sym one) history in
     let c = (r.5.reads set (m ∷ []) lawful id file steps).0 in

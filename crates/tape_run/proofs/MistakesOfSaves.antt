@@ -1,7 +1,7 @@
 -- Answers that the contracts of a session exclude where it saves, where it is complete and where a
 -- trailer counts other blocks: each is what a wrong body would give.
-use Rattle.std.proofs.Common.{◌≡◌, inl, inr, ℕ, List, [], ◌∷◌, ◌++◌, length, false, refl, sym, ap}
-use Rattle.std.proofs.Common.{◌∙◌, ◌+◌, subst, arith, length-append}
+use Rattle.std.proofs.Common.{Bool, ◌≡◌, inl, inr, ℕ, List, [], ◌∷◌, ◌++◌, length, false, refl}
+use Rattle.std.proofs.Common.{sym, ap, ◌∙◌, ◌+◌, subst, arith, length-append}
 use Rattle.std.specs.Prelude.{Option, Some, None, Ok, Err, IfSome, map, slice_get}
 use Rattle.tape_blocks.specs.Block.{Portion}
 use Rattle.tape_image.specs.declared.fault.ImageFault.{ImageFault}
@@ -119,15 +119,15 @@ abbrev at_first : Stopped
 at_first = record { step = 0; fault = faults.Sink Device }
 
 -- how the step failed that was not made, where it is the first one
-first_fails : (old new : Seen) (step : Step) (is steps : List Step)
+first_fails : (which : List Bool) (old new : Seen) (step : Step) (is steps : List Step)
     (are left : List (Option (List ℕ))) (fault : RunFault) → is ≡ step ∷ steps → are ≡ left
-    → RunsUpTo old is are 0 fault new → Fails step left fault old new
-first_fails old new step is steps are left fault same these r =
-    let h = subst (λ v. RunsUpTo old v left 0 fault new) same
-    (subst (λ v. RunsUpTo old is v 0 fault new) these r) in
+    → RunsUpTo which old is are 0 fault new → Fails step left fault old new
+first_fails which old new step is steps are left fault same these r =
+    let h = subst (λ v. RunsUpTo which old v left 0 fault new) same
+    (subst (λ v. RunsUpTo which old is v 0 fault new) these r) in
     let same_step : h.step ≡ step = let e = h.at in cc in
     subst (λ z. Fails z left fault old new) same_step
-    (subst (λ z. Fails h.step left fault z new) h.runs h.fails)
+    (subst (λ z. Fails h.step left fault z new) h.runs.1 h.fails)
 
 -- a run whose first step was not made, as the sink's device failed: what the sink holds then, where
 -- the step is no going back, and how it failed
@@ -146,8 +146,8 @@ stopped_first S R LS LR g d h e κs a s step steps held left l was fresh one kno
     let r = l.faults held was kept in (
       r.0,
       r.1 (λ lost. other lost.0.0 (sym (ap (λ v. slice_get v 0) one) ∙ lost.0.1)),
-      first_fails (seen g.refusals a.0.now held) (seen g.refusals s.0.now r.0) step a.1.0.now steps
-          (map h.remaining a.1.1.0.now) left (faults.Sink Device) one known r.3,
+      first_fails r.3 (seen g.refusals a.0.now held) (seen g.refusals s.0.now r.0) step a.1.0.now
+          steps (map h.remaining a.1.1.0.now) left (faults.Sink Device) one known r.5,
     )
 
 -- refused_save_loses_the_parts: the disk of the sink failed in a save, and the part that it held is

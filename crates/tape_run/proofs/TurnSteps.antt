@@ -16,32 +16,38 @@ use Rattle.tape_run.specs.Reeling.{steps_of, AreTold, AreSteps}
 use Rattle.tape_run.specs.Reeling.{Turn, Follows}
 
 -- one reel, and what was done behind it
-pub step_made : (back doubtful failed : Bool) (old mid behind new : Seen) (b : List ℕ)
-    (bs : List (List ℕ)) (steps : List Step) → Reeled b failed old mid
+pub step_made : (back doubtful failed : Bool) (which : List Bool) (old mid behind new : Seen)
+    (b : List ℕ) (bs : List (List ℕ)) (steps : List Step) → Reeled b failed old mid
     → IsNoted back doubtful mid behind
     → (length behind.notes ≡ notes_behind doubtful (length old.notes)
-    → Runs behind steps (map Some bs) new)
-    → Runs old (Reel ∷ step_behind back doubtful (length old.notes) ++ steps) (map Some (b ∷ bs))
-    new
-step_made back false failed old mid behind new b bs steps r s rest =
+    → Runs which behind steps (map Some bs) new)
+    → Runs (failed ∷ which) old (Reel ∷ step_behind back doubtful (length old.notes) ++ steps)
+    (map Some (b ∷ bs)) new
+step_made back false failed which old mid behind new b bs steps r s rest =
     let count : length behind.notes ≡ length old.notes + 1 =
     ap length s.notes ∙ length-append mid.notes _ ∙ ap (λ n. length n + 1) r.notes in
-    (failed, mid, r, (behind, s, rest count))
-step_made false true failed old mid behind new b bs steps r s rest =
+    (mid, r, (behind, s, rest count))
+step_made false true failed which old mid behind new b bs steps r s rest =
     let count : length behind.notes ≡ length old.notes =
     ap (λ (z : Seen). length z.notes) s ∙ ap length r.notes in
-    (failed, mid, r, subst (λ z. Runs z steps (map Some bs) new) s (rest count))
-step_made true true failed old mid behind new b bs steps r (n, one, w) rest =
+    (mid, r, subst (λ z. Runs which z steps (map Some bs) new) s (rest count))
+step_made true true failed which old mid behind new b bs steps r (n, one, w) rest =
     let had : length old.notes ≡ suc n = omega (arith, one, ap length r.notes) in
     let count : length behind.notes ≡ length old.notes =
     ap length w.notes ∙ took_so_many n mid.notes (omega (arith, one)) ∙ omega (arith, had) in
-    subst (λ m. Runs old (Reel ∷ step_behind true true m ++ steps) (map Some (b ∷ bs)) new)
-    (sym had) ((failed, mid, r, (behind, w, rest count)))
+    subst (λ m. Runs (failed ∷ which) old (Reel ∷ step_behind true true m ++ steps)
+    (map Some (b ∷ bs)) new) (sym had) ((mid, r, (behind, w, rest count)))
+
+-- which of the readers that were taken failed
+abbrev failed_in : List Turn → List Bool
+failed_in [] = []
+failed_in (None ∷ turns) = failed_in turns
+failed_in (Some o ∷ turns) = is_device o.answer.fault ∷ failed_in turns
 
 made : (back : Bool) (core : State) (old : Seen) (turns : List Turn) (last : State) (new : Seen)
     (bytes : List (List ℕ)) → Follows back core old turns last new → AreTold turns bytes
-    → Runs old (steps_of back (length old.notes) turns) (map Some bytes) new
-made back core old [] last new bytes (same_core, same) told = same
+    → Runs (failed_in turns) old (steps_of back (length old.notes) turns) (map Some bytes) new
+made back core old [] last new bytes (same_core, same) told = (refl, same)
 made back core old (None ∷ turns) last new bytes (waits, f) told =
     made back core old turns last new bytes f told
 made back core old (Some o ∷ turns) last new [] f told = absurd told
@@ -50,13 +56,14 @@ made back core old (Some o ∷ turns) last new (b ∷ bs) (next, behind, r, f) (
     let (mid, reeled, noted) = subst (λ h. IfSome h (λ bytes. (mid : Seen)
     × Reeled bytes (is_device o.answer.fault) old mid
     × IsNoted back doubtful mid behind)) had r.reeled in
-    step_made back doubtful (is_device o.answer.fault) old mid behind new b bs _ reeled noted
-    (λ count. subst (λ n. Runs behind (steps_of back n turns) (map Some bs) new) count
-    (made back next behind turns last new bs f told))
+    step_made back doubtful (is_device o.answer.fault) (failed_in turns) old mid behind new b bs _
+    reeled noted
+    (λ count. subst (λ n. Runs (failed_in turns) behind (steps_of back n turns) (map Some bs) new)
+    count (made back next behind turns last new bs f told))
 
 -- What was done is a run.
 pub are_steps : (back : Bool) (core : State) (old : Seen) (turns : List Turn) (last : State)
     (new : Seen) → Follows back core old turns last new → AreSteps back turns old new
 are_steps back core old turns last new f = λ bytes told.
-    headline old new (steps_of back (length old.notes) turns) bytes
-    (made back core old turns last new bytes f told)
+    (headline (failed_in turns) old new (steps_of back (length old.notes) turns) bytes
+    (made back core old turns last new bytes f told)).0

@@ -23,7 +23,7 @@ use Rattle.tape_run.specs.declared.script.Step.{Step}
 use Rattle.tape_run.specs.declared.script.Step.TheVariants.{Reel}
 use Rattle.tape_run.specs.Mount.{Happening, IsMountOf, reads, cut}
 use Rattle.tape_run.specs.History.{Course, course, course_of, IsHistory}
-use Rattle.tape_run.specs.Given.{AreGiven, counted_up}
+use Rattle.tape_run.specs.Given.{AreGiven, failed_of, counted_up}
 use Rattle.tape_run.specs.Headline.{begins, IsStart, IsRead, HasRun, HasStopped, Stops}
 use Rattle.tape_run.specs.Headline.{reels_in}
 use Rattle.tape_run.specs.Lives.{GoesOn}
@@ -33,7 +33,7 @@ use Rattle.tape_run.specs.WorkedHistory.{reel_1, reading}
 use Rattle.tape_run.specs.WorkedDays.{DaysAreWorked, IsWhole, once, twice, two_reels, four_reels}
 use Rattle.tape_run.specs.WorkedDays.{behind_one}
 use Rattle.tape_run.specs.Back.{reels_of}
-use Rattle.tape_run.proofs.Back.{all_given}
+use Rattle.tape_run.proofs.Back.{all_given, by_number, none_of}
 use Rattle.tape_run.proofs.Fronts.{fronts_are_mounts}
 use Rattle.tape_run.proofs.WorkedHistory.{is_lawful, whole_1, whole_2, fit_of}
 
@@ -150,9 +150,9 @@ one_failed (suc (suc n)) e = absurd (let two = counts_up n 2 (lit≤ tt) in omeg
 
 failed : (s : Seen) → IsRead (codes "ABC001") 1 four_reels twice s → s.failures ≡ 1 → IsWhole s
 failed s r one =
-    let count : r.failed ≡ 1 = one_failed r.failed (sym one ∙ r.count) in
+    let count : failed_of r.which ≡ 1 = one_failed (failed_of r.which) (sym one ∙ r.count) in
     let h = one_cut twice r.given four_volumes (whole_1, (whole_2, (whole_1, (whole_2, tt))))
-    (subst (λ n. AreGiven n twice r.given) count r.are_given) in
+    (subst (λ n. AreGiven n twice r.given) count (by_number r.which twice r.given r.are_given)) in
     let (there, parts) = r.reads worked_set (cut_one h.0 h.1 four_volumes) is_lawful refl refl
     h.2 in
     let end = ends_soon h.0 h.1 in
@@ -194,10 +194,10 @@ refused old mid new n cause begun halt ran none =
     ∙ (ap (λ f. at_part put.part (far worked_set f (course_of old).at cut_1)) fresh.its_file
     ∙ ap (λ (c : Course). at_part put.part (far worked_set 1 c.at cut_1)) fresh.course) in
     let file : mid.place.file ≡ 1 = put.same_file ∙ fresh.its_file in
-    let no_failure : ran.failed ≡ 0 =
-    none_up ran.failed mid.failures (sym none ∙ ran.count) in
+    let no_failure : failed_of ran.which ≡ 0 =
+    none_up (failed_of ran.which) mid.failures (sym none ∙ ran.count) in
     let given : ran.given ≡ once =
-    all_given once ran.given (subst (λ n. AreGiven n once ran.given) no_failure ran.are_given) in
+    none_of ran.which once ran.given no_failure ran.are_given in
     let both = vol_1 ∷ vol_2 ∷ [] in
     let r = ran.ran worked_set both is_lawful
     (subst (λ z. IsHistory worked_set (length mid.notes) two_reels z both) (sym given)

@@ -22,10 +22,10 @@ use Rattle.tape_set.specs.Position.{want_at}
 use Rattle.tape_core.specs.Foreign.{starts_set}
 use Rattle.tape_run.specs.Mount.{IsMountOf, reads, foreign_reel}
 use Rattle.tape_run.specs.History.{Course, IsHistory}
-use Rattle.tape_run.specs.Given.{AreGiven}
+use Rattle.tape_run.specs.Given.{AreGiven, failed_of}
 use Rattle.tape_run.specs.Seen.{Seen}
 use Rattle.tape_run.specs.Headline.{IsRead}
-use Rattle.tape_run.proofs.Back.{none_failed, all_given}
+use Rattle.tape_run.proofs.Back.{none_failed, none_of}
 use Rattle.tape_run.specs.WorkedHistory.{worked_set, vol1, hdr1, hdr1_of_2, hdr2, eov1, eov2, eof1}
 use Rattle.tape_run.specs.WorkedHistory.{eof2, block_0, block_1, block_2, a_mark, an_end, label}
 use Rattle.tape_run.specs.WorkedHistory.{data_block, bad_data, reel_1, reel_2, cut_reel, bad_0_reel}
@@ -385,10 +385,9 @@ all = inl (
 has_read : (s : Seen) → IsRead (codes "ABC001") 1 worked_steps worked_reels s → s.failures ≡ 0
     → (s.parts ≡ first ∷ middle ∷ last ∷ []) × (want_at 1 s.place.position ≡ None)
 has_read s r none =
-    let no_failure : r.failed ≡ 0 = none_failed r.failed (sym r.count ∙ none) in
+    let no_failure : failed_of r.which ≡ 0 = none_failed (failed_of r.which) (sym r.count ∙ none) in
     let given : r.given ≡ worked_reels =
-    all_given worked_reels r.given
-    (subst (λ n. AreGiven n worked_reels r.given) no_failure r.are_given) in
+    none_of r.which worked_reels r.given no_failure r.are_given in
     let (there, parts) = r.reads worked_set worked_history is_lawful refl refl
     (subst (λ z. IsHistory worked_set 0 worked_steps z worked_history) (sym given) is_history) in (
       parts,

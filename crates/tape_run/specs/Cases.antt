@@ -1,7 +1,7 @@
 -- What the definitions of a session and of its history say of cases, so that none of them says
 -- less, or asks more, than it should. The call `laws::cases` has them as its contract.
 use Rattle.std.specs.Prelude.{◌≡◌, ◌≤◌, ℕ, ◌+◌, Bool, true, false, List, [], ◌∷◌, ◌++◌}
-use Rattle.std.specs.Prelude.{length, take, drop, slice_get, Some, None, IsSome}
+use Rattle.std.specs.Prelude.{length, take, slice_get, Some, None, IsSome}
 use Rattle.std.specs.Prelude.{Option}
 use Rattle.tape_image.specs.declared.fault.ImageCause.TheVariants.{Truncated}
 use Rattle.tape_image.specs.declared.fault.ImageCause.TheVariants.{Device}
@@ -17,7 +17,6 @@ use Rattle.tape_set.specs.Before.{before}
 use Rattle.tape_set.specs.Reach.{passes}
 use Rattle.tape_set.specs.Reading.{Reading, IsReadingOf, as_read}
 use Rattle.tape_core.specs.declared.sink.SinkFault.{SinkFault}
-use Rattle.tape_core.specs.declared.sink.SinkFault.TheVariants as sinks
 use Rattle.tape_core.specs.Place.{IsPlaced, place_of, rest_of}
 use Rattle.tape_core.specs.Point.{Point}
 use Rattle.tape_core.specs.Stands.{Stands, weight_of}
@@ -30,9 +29,10 @@ use Rattle.tape_run.specs.declared.script.Step.{Step}
 use Rattle.tape_run.specs.declared.script.Step.TheVariants.{Reel, Save, Restart}
 use Rattle.tape_run.specs.Back.{reels_of, AreVolumes}
 use Rattle.tape_run.specs.Crash.{IsOf, StoodAt}
-use Rattle.tape_run.specs.Given.{is_device, IsGiven, AreGiven, counted, counted_up}
-use Rattle.tape_run.specs.Headline.{Ran, HasRun, IsStart, IsRead, PutRefused, Stops}
-use Rattle.tape_run.specs.Headline.{HasStopped, LosesParts, begins, reels_in}
+use Rattle.tape_run.specs.Given.{is_device, IsGiven, AreGiven, AreGivenBy, counted, counted_up}
+use Rattle.tape_run.specs.Given.{failed_of, written}
+use Rattle.tape_run.specs.Headline.{Ran, HasRun, IsStart, IsRead}
+use Rattle.tape_run.specs.Headline.{begins}
 use Rattle.tape_run.specs.History.{Course, IsHistory, course, course_of}
 use Rattle.tape_run.specs.Lives.{IsPlaceOf, ComesBack, IsResumed, AreHistories, GoesOn}
 use Rattle.tape_run.specs.Mount.{Happening, reads, foreign_reel, saves, restarts, IsMount}
@@ -121,6 +121,18 @@ pub record CasesOfGiven : Type 0 where
   pub one : counted true 3 ≡ 4
   pub greatest : counted true 18446744073709551615 ≡ 18446744073709551615
   pub two : counted_up 2 3 ≡ 5
+  -- of readers of which it is told which failed
+  pub second_failed : (b c d : List ℕ) → AreGivenBy (false ∷ true ∷ []) (b ∷ c ∷ d ∷ [])
+      (b ∷ [] ∷ d ∷ [])
+  pub just_the_second : (b c d e : List ℕ) → AreGivenBy (false ∷ true ∷ []) (b ∷ c ∷ [])
+      (d ∷ e ∷ []) → (d ≡ b) × ((rest : List ℕ) × (c ≡ e ++ rest))
+  pub not_taken : (bytes given : List (List ℕ)) → AreGivenBy [] bytes given → given ≡ bytes
+  pub none_there : (bytes : List ℕ) → (AreGivenBy (true ∷ []) [] [] → ⊥)
+      × (AreGivenBy (true ∷ []) (bytes ∷ []) [] → ⊥)
+  pub two_of_three : failed_of (true ∷ false ∷ true ∷ []) ≡ 2
+  pub as_far_as_it_reaches : written (true ∷ false ∷ true ∷ []) (false ∷ true ∷ [])
+      ≡ true ∷ false ∷ []
+  pub the_rest_stays : written (true ∷ []) (false ∷ true ∷ []) ≡ true ∷ true ∷ []
   -- it is the device's fault, and no other, that tells of such a reader
   pub device : is_device (Some (record { place = 9; cause = Device })) ≡ true
   pub no_fault : is_device None ≡ false
@@ -172,8 +184,8 @@ pub record CasesOfSessions : Type 0 where
   pub has_run : (old new : Seen) (steps : List Step) (bytes : List (List ℕ)) (set : FileSet)
       (hs : List Happening) (r : HasRun old steps bytes new) → IsLawful set
       → IsHistory set (length old.notes) steps r.given hs → IsSession set old
-      → Ran set old hs new × AreGiven r.failed bytes r.given
-      × (new.failures ≡ counted_up r.failed old.failures)
+      → Ran set old hs new × AreGivenBy r.which bytes r.given
+      × (new.failures ≡ counted_up (failed_of r.which) old.failures)
   pub starts : (id : List ℕ) (file : ℕ) (s : Seen) → IsStart id file s
       → (s.place ≡ reader_of id file) × (s.notes ≡ []) × (s.failures ≡ 0)
   pub begins_file : (set : FileSet) (file : ℕ) (s : Seen) → IsStart set.set_id file s
@@ -184,7 +196,7 @@ pub record CasesOfSessions : Type 0 where
       → IsSome (file_of set file) → IsHistory set 0 steps r.given hs
       → (course_of s ≡ course set file begins hs)
       × (s.parts ≡ before set file (course set file begins hs).at)
-      × AreGiven r.failed bytes r.given × (s.failures ≡ counted_up r.failed 0)
+      × AreGivenBy r.which bytes r.given × (s.failures ≡ counted_up (failed_of r.which) 0)
 
 -- ---- steps that were made, and runs that were stopped
 
@@ -202,14 +214,17 @@ pub record CasesOfMade : Type 0 where
       (h : Happening) (r : Reeled bytes failed old new) → IsLawful set → IsMountOf set r.given h
       → IsPlaced set old.place old.parts → IsPlaced set new.place new.parts
       × (new.place.position ≡ after_mount set old.place.file old.place.position h)
-  pub nothing_was_made : (old new : Seen) → Runs old [] [] new → new ≡ old
-  pub no_reel_was_there : (old new : Seen) (bytes : List ℕ)
-      → Runs old (Reel ∷ Reel ∷ []) (Some bytes ∷ []) new → ⊥
+  pub nothing_was_made : (which : List Bool) (old new : Seen) → Runs which old [] [] new
+      → (which ≡ []) × (new ≡ old)
+  pub no_reel_was_there : (failed other : Bool) (old new : Seen) (bytes : List ℕ)
+      → Runs (failed ∷ other ∷ []) old (Reel ∷ Reel ∷ []) (Some bytes ∷ []) new → ⊥
+  pub none_is_told : (old new : Seen) (bytes : List ℕ)
+      → Runs [] old (Reel ∷ []) (Some bytes ∷ []) new → ⊥
   -- a step is made behind the one before it, with the reader that this left
   pub two_were_made : (old new : Seen) (bytes : List ℕ)
-      → Runs old (Save ∷ Reel ∷ Restart 1 ∷ []) (Some bytes ∷ []) new
-      → (failed : Bool) × (first : Seen) × (second : Seen) × Saved old first
-      × Reeled bytes failed first second × WentBack 1 second new
+      → Runs (true ∷ []) old (Save ∷ Reel ∷ Restart 1 ∷ []) (Some bytes ∷ []) new
+      → (first : Seen) × (second : Seen) × Saved old first
+      × Reeled bytes true first second × WentBack 1 second new
   -- what is noted is where the session stands, with the weight of its parts
   pub was_saved : (old new : Seen) → Saved old new
       → (new.notes ≡ old.notes ++ saved old.place (weight_of old.parts) ∷ [])
@@ -220,18 +235,18 @@ pub record CasesOfMade : Type 0 where
       × IsFront new.parts old.parts × (weight_of new.parts ≡ w.point.staged)
       × (new.notes ≡ take 2 old.notes) × (new.failures ≡ old.failures)
       × (new.refusals ≡ old.refusals)
-  -- The step of the number that is told is the one that was not made, and those before it were, each
-  -- with its reader. There is no such step behind the last one.
+  -- The step of the number that is told is the one that was not made, and those before it were,
+  -- each with its reader. There is no such step behind the last one.
   pub second_was_not : (old new : Seen) (fault : RunFault) (bytes : List ℕ)
-      → RunsUpTo old (Reel ∷ Reel ∷ Save ∷ []) (Some bytes ∷ []) 1 fault new
-      → (failed : Bool) × (mid : Seen) × Reeled bytes failed old mid
+      → RunsUpTo (true ∷ []) old (Reel ∷ Reel ∷ Save ∷ []) (Some bytes ∷ []) 1 fault new
+      → (mid : Seen) × Reeled bytes true old mid
       × (fault ≡ TooFewReels) × (new ≡ mid)
   pub third_was_not : (old new : Seen) (fault : RunFault) (bytes other : List ℕ)
-      → RunsUpTo old (Save ∷ Reel ∷ Reel ∷ []) (Some bytes ∷ Some other ∷ []) 2 fault new
-      → (failed : Bool) × (first : Seen) × (mid : Seen) × Saved old first
-      × Reeled bytes failed first mid × ReelFails other fault mid new
+      → RunsUpTo (false ∷ []) old (Save ∷ Reel ∷ Reel ∷ []) (Some bytes ∷ Some other ∷ []) 2 fault
+      new → (first : Seen) × (mid : Seen) × Saved old first
+      × Reeled bytes false first mid × ReelFails other fault mid new
   pub none_behind : (old new : Seen) (fault : RunFault)
-      → RunsUpTo old (Save ∷ Save ∷ []) [] 2 fault new → ⊥
+      → RunsUpTo [] old (Save ∷ Save ∷ []) [] 2 fault new → ⊥
   pub fails : (old new : Seen) (fault : RunFault) (reels : List (Option (List ℕ)))
       → (Fails Save reels fault old new → SaveFails fault old new)
       × (Fails (Restart 3) reels fault old new → RestartFails 3 fault old new)
@@ -264,65 +279,6 @@ pub record CasesOfMade : Type 0 where
   pub reel_fails : (bytes : List ℕ) (old new : Seen) → (ReelFails bytes NoSuchPoint old new → ⊥)
       × (ReelFails bytes TooFewReels old new → ⊥) × (ReelFails bytes OtherFile old new → ⊥)
       × (ReelFails bytes OutOfMemory old new → new ≡ old)
-
--- of runs that a fault ended
-pub record CasesOfStops : Type 0 where
-  -- a step is not made for no other reason than it can have
-  pub saves_stop : (set : FileSet) (old new : Seen) (hs : List Happening)
-      (readers : List (List ℕ)) → (Stops set old hs Save readers NoSuchPoint new → ⊥)
-      × (Stops set old hs Save readers TooFewReels new → ⊥)
-      × (Stops set old hs Save readers OtherFile new → ⊥)
-      × (Stops set old hs Save readers OutOfMemory new → Ran set old hs new)
-  pub reels_stop : (set : FileSet) (old new : Seen) (hs : List Happening) (b : List ℕ)
-      (readers : List (List ℕ)) → (Stops set old hs Reel (b ∷ readers) TooFewReels new → ⊥)
-      × (Stops set old hs Reel (b ∷ readers) NoSuchPoint new → ⊥)
-      × (Stops set old hs Reel (b ∷ readers) OtherFile new → ⊥)
-      × (Stops set old hs Reel (b ∷ readers) OutOfMemory new → Ran set old hs new)
-  pub no_reels_stop : (set : FileSet) (old new : Seen) (hs : List Happening) (cause : SinkFault)
-      → (Stops set old hs Reel [] OutOfMemory new → ⊥)
-      × (Stops set old hs Reel [] (Sink cause) new → ⊥)
-      × (Stops set old hs Reel [] TooFewReels new → Ran set old hs new)
-  pub restarts_stop : (set : FileSet) (old new : Seen) (hs : List Happening)
-      (readers : List (List ℕ)) (n : ℕ) → (Stops set old hs (Restart n) readers NoSuchPoint new
-      → (length (course set old.place.file (course_of old) hs).notes ≤ n) × Ran set old hs new)
-      × (Stops set old hs (Restart n) readers OutOfMemory new → ⊥)
-      × (Stops set old hs (Restart n) readers TooFewReels new → ⊥)
-  pub sinks_stop : (set : FileSet) (old new : Seen) (hs : List Happening)
-      (readers : List (List ℕ)) (cause : SinkFault)
-      → (Stops set old hs Save readers (Sink cause) new → Ran set old hs new)
-      × (Stops set old hs (Restart 0) readers (Sink cause) new → Ran set old hs new)
-  -- a refused part: the sink holds just what lies before it, in a block that stands where the items
-  -- before it lead
-  pub part_refused : (set : FileSet) (old new : Seen) (hs : List Happening) (xs : List TapeItem)
-      (h : Happening) (r : PutRefused set old hs xs h new)
-      → (new.parts ≡ before set new.place.file new.place.position)
-      × (new.place.file ≡ old.place.file) × (slice_get xs r.n ≡ Some (block r.content))
-      × (after_mount set old.place.file (course set old.place.file (course_of old) hs).at
-      (cut (r.n + 1) h) ≡ next_block (after_mount set old.place.file
-      (course set old.place.file (course_of old) hs).at (cut r.n h)))
-      × (new.place.position ≡ at_part r.part (after_mount set old.place.file
-      (course set old.place.file (course_of old) hs).at (cut r.n h)))
-      × ((course_of new).notes ≡ (course set old.place.file (course_of old) hs).notes)
-  -- the step that was not made is the one of the number that is told
-  pub stopped_at : (old new : Seen) (bytes : List (List ℕ)) (fault : RunFault)
-      (s : HasStopped old (Reel ∷ Save ∷ Restart 0 ∷ []) bytes 1 fault new) → (s.step ≡ Save)
-      × AreGiven s.failed bytes s.given × (new.failures ≡ counted_up s.failed old.failures)
-  -- two reels were read before it, and the third reader is left
-  pub stopped_so : (old new : Seen) (a b c : List ℕ) (fault : RunFault)
-      (set : FileSet) (hs : List Happening)
-      (s : HasStopped old (Reel ∷ Reel ∷ Save ∷ Reel ∷ []) (a ∷ b ∷ c ∷ []) 2 fault new)
-      → IsLawful set → IsHistory set (length old.notes) (Reel ∷ Reel ∷ []) s.given hs
-      → IsSession set old → Stops set old hs Save (c ∷ []) fault new
-  pub nothing_stops_none : (old new : Seen) (bytes : List (List ℕ)) (n : ℕ) (fault : RunFault)
-      → HasStopped old [] bytes n fault new → ⊥
-  -- readers are counted
-  pub two_reels : reels_in (Reel ∷ Save ∷ Restart 0 ∷ Reel ∷ []) ≡ 2
-  -- only a going back in which the device of the sink failed loses what it holds
-  pub loses : LosesParts (Reel ∷ Restart 4 ∷ []) 1 (Sink sinks.Device)
-  pub mount_keeps : LosesParts (Reel ∷ Restart 4 ∷ []) 0 (Sink sinks.Device) → ⊥
-  pub save_keeps : LosesParts (Save ∷ Restart 4 ∷ []) 0 (Sink sinks.Device) → ⊥
-  pub other_keeps : (LosesParts (Restart 4 ∷ []) 0 (Sink sinks.Failed) → ⊥)
-      × (LosesParts (Restart 4 ∷ []) 0 NoSuchPoint → ⊥)
 
 -- ---- crashes
 

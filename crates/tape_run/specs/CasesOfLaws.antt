@@ -50,9 +50,9 @@ pub record CasesOfRunLaws : Type 0 where
   pub what_was_given : GivenIsHistory → (set : FileSet) (steps : List Step)
       (bytes given : List (List ℕ)) (hs : List Happening) → IsHistory set 0 steps bytes hs
       → AreGiven 2 bytes given → (others : List Happening) × IsHistory set 0 steps given others
-  pub a_refusal : OnlyRefusalsStop → (old new : Seen) (steps : List Step)
+  pub a_refusal : OnlyRefusalsStop → (which : List Bool) (old new : Seen) (steps : List Step)
       (bytes : List (List ℕ)) (n : ℕ) (fault : RunFault) (set : FileSet) (hs : List Happening)
-      → RunsUpTo old steps (map Some bytes) n fault new
+      → RunsUpTo which old steps (map Some bytes) n fault new
       → IsHistory set (length old.notes) steps bytes hs → IsRefusal fault
   pub refusals : (cause : SinkFault) → IsRefusal (Sink cause) × IsRefusal OutOfMemory
   pub no_refusals : (IsRefusal NoSuchPoint → ⊥) × (IsRefusal TooFewReels → ⊥)

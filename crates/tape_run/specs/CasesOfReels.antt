@@ -166,7 +166,8 @@ pub record CasesOfLeads : Type 0 where
   pub stopped_led : (old new : Seen) (steps : List Step) (bytes : List (List ℕ))
       (n : ℕ) (fault : RunFault) (t : Lead) (tapes : List (List TapeItem))
       (s : HasStopped old steps bytes n fault new) → AreItems s.given tapes → StandsThere t old
-      → StopsBy (lead t (take n steps) tapes) s.step (drop (reels_in (take n steps)) bytes) fault new
+      → StopsBy (lead t (take n steps) tapes) s.step (drop (reels_in (take n steps)) bytes) fault
+      new
   pub reel_led : (bytes : List ℕ) (old new : Seen) (xs : List TapeItem) (end : ℕ) (stop : Stop)
       (r : Reeled bytes false old new) → Begins 0 r.given xs end stop
       → IsLed xs (mount_of old.place) new.place old.parts new.parts

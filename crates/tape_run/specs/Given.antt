@@ -42,6 +42,26 @@ AreGiven n (bytes ∷ all) (g ∷ given) =
     (IsGiven false bytes g × AreGiven n all given)
     ⊎ ((m : ℕ) × (n ≡ m + 1) × IsGiven true bytes g × AreGiven m all given)
 
+-- The bytes that were given of each of the first readers, as many as are told of, by whether it
+-- failed: all that it has, or a front of that. The readers behind these were not taken.
+abbrev pub AreGivenBy : List Bool → List (List ℕ) → List (List ℕ) → Type 0
+AreGivenBy [] all given = given ≡ all
+AreGivenBy (f ∷ which) [] given = ⊥
+AreGivenBy (f ∷ which) (bytes ∷ all) [] = ⊥
+AreGivenBy (f ∷ which) (bytes ∷ all) (g ∷ given) = IsGiven f bytes g × AreGivenBy which all given
+
+-- how many failed
+abbrev pub failed_of : List Bool → ℕ
+failed_of [] = 0
+failed_of (true ∷ which) = suc (failed_of which)
+failed_of (false ∷ which) = failed_of which
+
+-- What is written over a list, from its beginning, as far as it reaches.
+abbrev pub written : List Bool → List Bool → List Bool
+written [] row = row
+written (f ∷ which) [] = []
+written (f ∷ which) (old ∷ row) = f ∷ written which row
+
 -- a count of failures behind n readers that failed
 abbrev pub counted_up : ℕ → ℕ → ℕ
 counted_up zero c = c

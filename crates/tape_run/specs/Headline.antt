@@ -6,7 +6,7 @@
 -- sink holds the parts of the session before (`IsSession`, `IsNew`); no call was refused (`HasRun`,
 -- `IsRead`), or the first one that was ended the run (`HasStopped`).
 use Rattle.std.specs.Prelude.{◌≡◌, ℕ, suc, ◌+◌, ◌≤◌, List, [], ◌∷◌, length, take, drop, IsSome}
-use Rattle.std.specs.Prelude.{Some, slice_get}
+use Rattle.std.specs.Prelude.{Bool, Some, slice_get}
 use Rattle.tape_image.specs.Tape.{TapeItem, block}
 use Rattle.tape_image.specs.Begins.{Stop, Begins}
 use Rattle.tape_core.specs.declared.sink.SinkFault.TheVariants.{Device}
@@ -21,7 +21,7 @@ use Rattle.tape_run.specs.declared.fault.RunFault.TheVariants.{Sink, NoSuchPoint
 use Rattle.tape_run.specs.declared.fault.RunFault.TheVariants.{OutOfMemory}
 use Rattle.tape_run.specs.Mount.{Happening, IsMount, cut, after_mount}
 use Rattle.tape_run.specs.History.{Course, course, course_of, IsHistory}
-use Rattle.tape_run.specs.Given.{AreGiven, counted_up}
+use Rattle.tape_run.specs.Given.{AreGivenBy, failed_of, counted_up}
 use Rattle.tape_run.specs.Seen.{Seen, IsSession}
 use Rattle.tape_run.specs.Lead.{Lead, lead, at_start, AreItems, StandsThere, LeadsBy, StopsBy}
 use Rattle.tape_core.specs.Table.{reader_of}
@@ -39,9 +39,9 @@ pub record Ran (set : FileSet) (old : Seen) (hs : List Happening) (new : Seen) :
 pub record HasRun (old : Seen) (steps : List Step) (bytes : List (List ℕ))
     (new : Seen) : Type 0 where
   pub given : List (List ℕ)
-  pub failed : ℕ
-  pub are_given : AreGiven failed bytes given
-  pub count : new.failures ≡ counted_up failed old.failures
+  pub which : List Bool
+  pub are_given : AreGivenBy which bytes given
+  pub count : new.failures ≡ counted_up (failed_of which) old.failures
   pub ran : (set : FileSet) (hs : List Happening) → IsLawful set
       → IsHistory set (length old.notes) steps given hs
       → IsSession set old → Ran set old hs new
@@ -75,9 +75,9 @@ pub record IsStart (set_id : List ℕ) (file : ℕ) (s : Seen) : Type 0 where
 pub record IsRead (set_id : List ℕ) (file : ℕ) (steps : List Step) (bytes : List (List ℕ))
     (s : Seen) : Type 0 where
   pub given : List (List ℕ)
-  pub failed : ℕ
-  pub are_given : AreGiven failed bytes given
-  pub count : s.failures ≡ counted_up failed 0
+  pub which : List Bool
+  pub are_given : AreGivenBy which bytes given
+  pub count : s.failures ≡ counted_up (failed_of which) 0
   pub reads : (set : FileSet) (hs : List Happening) → IsLawful set → set_id ≡ set.set_id
       → IsSome (file_of set file)
       → IsHistory set 0 steps given hs
@@ -143,9 +143,9 @@ pub record HasStopped (old : Seen) (steps : List Step) (bytes : List (List ℕ))
   pub step : Step
   pub at : slice_get steps n ≡ Some step
   pub given : List (List ℕ)
-  pub failed : ℕ
-  pub are_given : AreGiven failed bytes given
-  pub count : new.failures ≡ counted_up failed old.failures
+  pub which : List Bool
+  pub are_given : AreGivenBy which bytes given
+  pub count : new.failures ≡ counted_up (failed_of which) old.failures
   pub stops : (set : FileSet) (hs : List Happening) → IsLawful set
       → IsHistory set (length old.notes) (take n steps) given hs
       → IsSession set old

@@ -76,6 +76,7 @@ pub mod ExtractingNow
 pub mod ExtractExamples
 -- Cases, which hold the definitions from below.
 pub mod Cases
+pub mod CasesOfRuns
 pub mod CasesOfReels
 pub mod CasesOfCatalogues
 pub mod CasesOfSections

@@ -1,22 +1,27 @@
 -- Steps of a run that were made.
-use Rattle.std.specs.Prelude.{◌≡◌, ℕ, ◌+◌, Bool, true, List, ◌∷◌, Option}
+use Rattle.std.specs.Prelude.{◌≡◌, ℕ, ◌+◌, Bool, true, List, ◌∷◌, ◌++◌, Option, take}
+use Rattle.std.specs.Prelude.{drop, length}
 use Rattle.tape_blocks.specs.Block.{Portion}
 use Rattle.tape_core.specs.Crash.{Returns}
 use Rattle.tape_core.specs.Point.{Point}
 use Rattle.tape_run.specs.declared.fault.RunFault.{RunFault}
 use Rattle.tape_run.specs.declared.script.Step.{Step}
 use Rattle.tape_run.specs.Crash.{StoodAt, BringsLast, is_saved}
+use Rattle.tape_run.specs.Given.{written}
 use Rattle.tape_run.specs.Runs.{Runs, RunsUpTo}
 use Rattle.tape_run.specs.Seen.{Seen}
 
--- The first so many steps were made, with the first of the readers: whatever the steps that are left
--- do from here, all steps do from before, where those stop these stop so many steps later, and where
--- the session stands between those it stands between these.
-pub record HasMade (made : ℕ) (old : Seen) (steps : List Step) (readers : List (Option (List ℕ)))
-    (new : Seen) (left : List Step) (others : List (Option (List ℕ))) : Type 0 where
-  pub runs : (end : Seen) → Runs new left others end → Runs old steps readers end
-  pub stops : (n : ℕ) (fault : RunFault) (end : Seen) → RunsUpTo new left others n fault end
-      → RunsUpTo old steps readers (made + n) fault end
+-- The first so many steps were made, with the first of the readers, of which these failed: whatever
+-- the steps that are left do from here, all steps do from before, where those stop these stop so
+-- many steps later, and where the session stands between those it stands between these.
+pub record HasMade (made : ℕ) (which : List Bool) (old : Seen) (steps : List Step)
+    (readers : List (Option (List ℕ))) (new : Seen) (left : List Step)
+    (others : List (Option (List ℕ))) : Type 0 where
+  pub runs : (more : List Bool) (end : Seen) → Runs more new left others end
+      → Runs (which ++ more) old steps readers end
+  pub stops : (more : List Bool) (n : ℕ) (fault : RunFault) (end : Seen)
+      → RunsUpTo more new left others n fault end
+      → RunsUpTo (which ++ more) old steps readers (made + n) fault end
   pub stood : (back : Point) (there : List Portion) → StoodAt new left others back there
       → StoodAt old steps readers back there
 
@@ -27,3 +32,9 @@ StaysSaved step returned old returns new = (saved : Bool)
     → (saved ≡ true → BringsLast returned old) → (still : Bool)
     × ((rest : List Step) → is_saved saved (step ∷ rest) ≡ is_saved still rest)
     × (still ≡ true → BringsLast returns new)
+
+-- Over the row, from this number on, just these were written, as far as it reaches; and so many
+-- numbers are behind them then.
+abbrev pub WritesFrom : ℕ → List Bool → List Bool → List Bool → ℕ → Type 0
+WritesFrom used which old new now_used =
+    (new ≡ take used old ++ written which (drop used old)) × (now_used ≡ used + length which)

@@ -1,13 +1,14 @@
 //! Laws of runs, each as the contract of a call that does nothing.
 
 ghost use Rattle.tape_run.specs.Cases.{CasesOfMounts, CasesOfHistories, CasesOfGiven};
-ghost use Rattle.tape_run.specs.Cases.{CasesOfVolumes, CasesOfSessions, CasesOfMade, CasesOfStops};
+ghost use Rattle.tape_run.specs.Cases.{CasesOfVolumes, CasesOfSessions, CasesOfMade};
 ghost use Rattle.tape_run.specs.Cases.{CasesOfCrashes};
 ghost use Rattle.tape_run.specs.CasesOfReels.{CasesOfAnswers, CasesOfTable, CasesOfLeads};
 ghost use Rattle.tape_run.specs.CasesOfCatalogues.{CasesOfCatalogues, CasesOfImages};
 ghost use Rattle.tape_run.specs.CasesOfCatalogues.{CasesOfCopies, CasesOfReports};
 ghost use Rattle.tape_run.specs.CasesOfSections.{CasesOfSections};
 ghost use Rattle.tape_run.specs.CasesOfExtracts.{CasesOfTurns, CasesOfOutputs, CasesOfSaved};
+ghost use Rattle.tape_run.specs.CasesOfRuns.{CasesOfStops};
 ghost use Rattle.tape_run.specs.CasesOfRounds.{CasesOfRounds};
 ghost use Rattle.tape_run.specs.CasesOfLaws.{CasesOfRunLaws, CasesOfCatalogueLaws};
 ghost use Rattle.tape_run.specs.CasesOfSurveys.{CasesOfGlances, CasesOfWholes, CasesOfSurveys};

@@ -1,6 +1,7 @@
 //! Scripts: steps of a session, one after another.
 
-ghost use Rattle.std.specs.Prelude.{◌≡◌, [], ◌∷◌, ℕ, List, Some, None, OnOk, IfOk, IfErr};
+ghost use Rattle.std.specs.Prelude.{◌≡◌, ◌+◌, [], ◌∷◌, ℕ, Bool, List, Some, None, OnOk};
+ghost use Rattle.std.specs.Prelude.{OnErr, IfOk, IfErr};
 ghost use Rattle.std.specs.Prelude.{map, drop, true, false};
 ghost use Rattle.tape_blocks.specs.Block.{Portion};
 ghost use Rattle.tape_blocks.specs.Spans.{join};
@@ -13,7 +14,8 @@ ghost use Rattle.tape_core.specs.Crash.{AddsOnly};
 ghost use Rattle.tape_run.specs.Back.{reels_of, AreVolumes};
 ghost use Rattle.tape_run.specs.Crash.{IsOf, StoodAt, BringsLast, is_saved};
 ghost use Rattle.tape_run.specs.Headline.{IsStart, IsRead, HasRun, HasStopped, LosesParts};
-ghost use Rattle.tape_run.specs.Made.{HasMade, StaysSaved};
+ghost use Rattle.tape_run.specs.Given.{written};
+ghost use Rattle.tape_run.specs.Made.{HasMade, WritesFrom, StaysSaved};
 ghost use Rattle.tape_run.specs.Runs.{Runs, RunsUpTo, Fails};
 ghost use Rattle.tape_run.specs.Seen.{seen, IsKept};
 
@@ -36,6 +38,9 @@ pub enum Step {
 /// Makes the steps, one after another, up to the first fault. Each `Reel` takes the next reader,
 /// also where the file is complete and nothing is read of it.
 ///
+/// Of each reader that was taken it is written into `failed`, in their order and as far as this
+/// reaches, whether it failed. Where nobody wants to know, `&mut []` does.
+///
 /// # Errors
 ///
 /// The first step that was not made, counted from 0, with its fault: as `reel`, `save` and
@@ -45,6 +50,7 @@ pub fn run<S: PartSink, R: Read>(
     session: &mut Session<S>,
     steps: &[Step],
     reels: &mut [R],
+    failed: &mut [bool],
 ) -> Result<(), Stopped>
     // The headline: the sink holds the parts before the position that the history leads to, and the
     // session stands there with the notes of the history.
@@ -53,14 +59,15 @@ pub fn run<S: PartSink, R: Read>(
         → (now : List Portion) × S.holds session.new.sink now
         × IsKept (seen S.refusals session.new now)
         × ((bytes : List (List ℕ)) → map R.remaining reels.old ≡ map Some bytes
-        → HasRun (seen S.refusals session.old held) steps.now bytes
-        (seen S.refusals session.new now))) }
+        → (run : HasRun (seen S.refusals session.old held) steps.now bytes
+        (seen S.refusals session.new now)) × (failed.new ≡ written run.which failed.old))) }
     // The same of a session that has read nothing of its file.
     ensures start { OnOk result ((set_id : List ℕ) (file : ℕ) → S.holds session.old.sink []
         → IsStart set_id file (seen S.refusals session.old [])
         → (now : List Portion) × S.holds session.new.sink now
         × ((bytes : List (List ℕ)) → map R.remaining reels.old ≡ map Some bytes
-        → IsRead set_id file steps.now bytes (seen S.refusals session.new now))) }
+        → (read : IsRead set_id file steps.now bytes (seen S.refusals session.new now))
+        × (failed.new ≡ written read.which failed.old))) }
     // There and back: over the images of all volumes, in order, where no reader failed, the sink
     // holds the whole file.
     ensures back { OnOk result ((set : FileSet) (file : ℕ) (f : List Section)
@@ -80,15 +87,16 @@ pub fn run<S: PartSink, R: Read>(
         × ((LosesParts steps.now end.step end.fault → ⊥) → S.holds session.new.sink now)
         × IsKept (seen S.refusals session.new now)
         × ((bytes : List (List ℕ)) → map R.remaining reels.old ≡ map Some bytes
-        → HasStopped (seen S.refusals session.old held) steps.now bytes end.step end.fault
-        (seen S.refusals session.new now))) }
-    // Whatever the set and the history are: each step did what `reel`, `save` and `restart` promise;
-    // and behind a save, and reels, a crash brings back what was saved, alone.
+        → (stop : HasStopped (seen S.refusals session.old held) steps.now bytes end.step end.fault
+        (seen S.refusals session.new now)) × (failed.new ≡ written stop.which failed.old))) }
+    // Whatever the set and the history are: each step did what `reel`, `save` and `restart`
+    // promise; and behind a save, and reels, a crash brings back what was saved, alone.
     ensures runs { OnOk result ((held : List Portion) → S.holds session.old.sink held
         → IsKept (seen S.refusals session.old held)
         → (now : List Portion) × S.holds session.new.sink now
-        × Runs (seen S.refusals session.old held) steps.now (map R.remaining reels.old)
-        (seen S.refusals session.new now)
+        × ((which : List Bool) × (failed.new ≡ written which failed.old)
+        × Runs which (seen S.refusals session.old held) steps.now (map R.remaining reels.old)
+        (seen S.refusals session.new now))
         × (is_saved false steps.now ≡ true
         → BringsLast (S.returns session.new.sink) (seen S.refusals session.new now))) }
     // Where it stopped: the same of the steps before, and the step that is told left what its call
@@ -98,8 +106,9 @@ pub fn run<S: PartSink, R: Read>(
         → (now : List Portion)
         × ((LosesParts steps.now end.step end.fault → ⊥) → S.holds session.new.sink now)
         × IsKept (seen S.refusals session.new now)
-        × RunsUpTo (seen S.refusals session.old held) steps.now (map R.remaining reels.old) end.step
-        end.fault (seen S.refusals session.new now)) }
+        × (which : List Bool) × (failed.new ≡ written which failed.old)
+        × RunsUpTo which (seen S.refusals session.old held) steps.now (map R.remaining reels.old)
+        end.step end.fault (seen S.refusals session.new now)) }
     // Whatever it answered: what a crash behind it brings back could come back before, or is where
     // the session stood between two steps, or one of its notes there.
     ensures crash { (held : List Portion) → S.holds session.old.sink held
@@ -111,7 +120,7 @@ pub fn run<S: PartSink, R: Read>(
 {
     let mut used = 0usize;
     for (step, asked) in steps.iter().enumerate() {
-        match make(session, *asked, reels, used) {
+        match make(session, *asked, reels, used, failed) {
             Ok(now_used) => used = now_used,
             Err(fault) => return Err(Stopped { step, fault }),
         }
@@ -125,16 +134,20 @@ fn make<S: PartSink, R: Read>(
     step: Step,
     reels: &mut [R],
     used: usize,
+    failed: &mut [bool],
 ) -> Result<usize, RunFault>
-    ensures ok { IfOk result (λ now_used. (held : List Portion) → S.holds session.old.sink held
+    ensures ok { IfOk result (λ now_used. (which : List Bool)
+        × WritesFrom used which failed.old failed.new now_used
+        × ((held : List Portion) → S.holds session.old.sink held
         → IsKept (seen S.refusals session.old held)
         → (now : List Portion) × S.holds session.new.sink now
         × IsKept (seen S.refusals session.new now)
-        × ((rest : List Step) → HasMade 1 (seen S.refusals session.old held) (step ∷ rest)
+        × ((rest : List Step) → HasMade 1 which (seen S.refusals session.old held) (step ∷ rest)
         (map R.remaining (drop used reels.old)) (seen S.refusals session.new now) rest
         (map R.remaining (drop now_used reels.new)))
         × StaysSaved step (S.returns session.old.sink) (seen S.refusals session.old held)
-        (S.returns session.new.sink) (seen S.refusals session.new now)) }
+        (S.returns session.new.sink) (seen S.refusals session.new now))) }
+    ensures unwritten { OnErr result (failed.new ≡ failed.old) }
     ensures err { IfErr result (λ fault. (held : List Portion) → S.holds session.old.sink held
         → IsKept (seen S.refusals session.old held)
         → (now : List Portion)
@@ -153,7 +166,8 @@ fn make<S: PartSink, R: Read>(
             if used >= reels.len() {
                 return Err(RunFault::TooFewReels);
             }
-            session.reel(&mut reels[used])?;
+            let answer = session.reel(&mut reels[used])?;
+            write_at(failed, used, answer.is_device());
             Ok(used + 1)
         }
         Step::Save => {
@@ -164,5 +178,14 @@ fn make<S: PartSink, R: Read>(
             session.restart(n)?;
             Ok(used)
         }
+    }
+}
+
+/// Writes into the row at this number, where it reaches so far.
+fn write_at(row: &mut [bool], number: usize, flag: bool)
+    ensures { WritesFrom number (flag ∷ []) row.old row.new (number + 1) }
+{
+    if number < row.len() {
+        row[number] = flag;
     }
 }

@@ -52,7 +52,7 @@ pub fn read_file<R: Read>(
 {
     let sink = MemorySink::new(alloc);
     let mut session = Session::new(alloc, set_id, file, sink)?;
-    let made = run(&mut session, steps, reels);
+    let made = run(&mut session, steps, reels, &mut []);
     Ok((session, made))
 }
 
@@ -89,6 +89,6 @@ pub fn go_on<S: PartSink, R: Read>(
         → S.survives result.0.sink }
 {
     let mut session = Session::resume(alloc, point, sink);
-    let result = run(&mut session, steps, reels);
+    let result = run(&mut session, steps, reels, &mut []);
     (session, result)
 }

@@ -1,8 +1,10 @@
 //! One volume, cut at each length.
+use crate::devices::Dribble;
 use crate::image::{front, holds_long, long_first};
 use crate::readers::Failing;
 use crate::sessions::{begun, wanted};
 use std::alloc::Global;
+use std::io::ErrorKind;
 use std::test::Fail;
 use tape_core::MemorySink;
 use tape_run::{Session, Step, run};
@@ -37,7 +39,12 @@ fn stands_behind(session: &Session<MemorySink>, cut: usize, failed: u64) -> bool
 /// Whether a session stands there where the bytes end at the cut.
 fn ends_at(alloc: Global, whole: &[u8], cut: usize) -> Result<bool, Fail> {
     let mut session = begun(alloc, 1)?;
-    run(&mut session, &[Step::Reel], &mut [front(whole, cut)])?;
+    run(
+        &mut session,
+        &[Step::Reel],
+        &mut [front(whole, cut)],
+        &mut [],
+    )?;
     Ok(stands_behind(&session, cut, 0))
 }
 
@@ -45,12 +52,15 @@ fn ends_at(alloc: Global, whole: &[u8], cut: usize) -> Result<bool, Fail> {
 /// asked of the reader.
 fn fails_at(alloc: Global, whole: &[u8], cut: usize) -> Result<bool, Fail> {
     let mut session = begun(alloc, 1)?;
+    let mut failed = [false];
     run(
         &mut session,
         &[Step::Reel],
         &mut [Failing(front(whole, cut))],
+        &mut failed,
     )?;
-    Ok(stands_behind(&session, cut, if cut < 932 { 1 } else { 0 }))
+    let count = if cut < 932 { 1 } else { 0 };
+    Ok(stands_behind(&session, cut, count) && failed == [cut < 932])
 }
 
 #[test]
@@ -64,5 +74,41 @@ fn at_each_length(rt: HostRuntime) -> Result<(), Fail> {
             "{cut}, and a reader that fails"
         );
     }
+    Ok(())
+}
+
+/// A reader of so many of the bytes, which then fails; of all where these are fewer.
+fn failing_behind(whole: &[u8], left: usize) -> Dribble<'_> {
+    Dribble {
+        bytes: whole,
+        left,
+        kind: ErrorKind::Other,
+    }
+}
+
+/// Tells which of three readers failed: the first breaks off inside a block, the last inside the
+/// labels.
+fn tell_three(alloc: Global, whole: &[u8], failed: &mut [bool]) -> Result<(), Fail> {
+    let mut session = begun(alloc, 1)?;
+    let mut reels = [
+        failing_behind(whole, 500),
+        failing_behind(whole, 2000),
+        failing_behind(whole, 100),
+    ];
+    run(&mut session, &[Step::Reel; 3], &mut reels, failed)?;
+    Ok(())
+}
+
+#[test]
+fn the_readers_that_failed(rt: HostRuntime) -> Result<(), Fail> {
+    let image = long_first(rt.alloc())?;
+    let whole = image.bytes.as_slice();
+    // As far as the row reaches, and what is behind them stays.
+    let mut two = [false; 2];
+    tell_three(rt.alloc(), whole, &mut two)?;
+    assert!(rt; two == [true, false]);
+    let mut four = [true; 4];
+    tell_three(rt.alloc(), whole, &mut four)?;
+    assert!(rt; four == [true, false, true, true]);
     Ok(())
 }

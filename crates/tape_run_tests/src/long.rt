@@ -62,6 +62,7 @@ fn three_million_bytes(rt: HostRuntime) -> Result<(), Fail> {
         &mut session,
         &[Step::Reel, Step::Reel],
         &mut [front(whole, 1_500_000), whole],
+        &mut [],
     )?;
     assert_eq!(rt; session.want(), None);
     let counts = (session.sink().parts, session.sink().weight());

@@ -76,7 +76,7 @@ fn notes_and_restarts(rt: HostRuntime) -> Result<(), Fail> {
 /// Reads so many of the reel's bytes, and notes where this leads.
 fn stopped(alloc: Global, bytes: &[u8]) -> Result<(Checkpoint, MemorySink), Fail> {
     let mut session = begun(alloc, 1)?;
-    run(&mut session, &[Step::Reel], &mut [bytes])?;
+    run(&mut session, &[Step::Reel], &mut [bytes], &mut [])?;
     let point = session.save()?;
     Ok((point, session.into_sink()))
 }

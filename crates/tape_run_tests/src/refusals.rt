@@ -45,11 +45,11 @@ fn has(session: &Session<Refusing<MemorySink>>, count: u8, want: Option<Want>) -
 /// Whether the reel stops at the put that is refused, and completes the file when read again.
 fn completes(alloc: Global, whole: &[u8], refused: u8) -> Result<bool, Fail> {
     let mut session = refusing(alloc, refused as usize)?;
-    let failed = run(&mut session, ONE, &mut [whole]) == failed_at(0);
+    let failed = run(&mut session, ONE, &mut [whole], &mut []) == failed_at(0);
     // Ten records stand in a block.
     let place = part_of((refused / 10) as u32, (refused % 10) as u32);
     let stopped = failed && has(&session, refused, place);
-    run(&mut session, ONE, &mut [whole])?;
+    run(&mut session, ONE, &mut [whole], &mut [])?;
     Ok(stopped && has(&session, 25, None))
 }
 
@@ -69,9 +69,9 @@ fn each_put_refused_in_turn(rt: HostRuntime) -> Result<(), Fail> {
 fn completes_long(alloc: Global, volumes: [&[u8]; 2], refused: usize) -> Result<bool, Fail> {
     let mut session = refusing(alloc, refused)?;
     let steps = [Step::Reel, Step::Reel];
-    let failed = run(&mut session, &steps, &mut { volumes }) == failed_at(refused / 22);
+    let failed = run(&mut session, &steps, &mut { volumes }, &mut []) == failed_at(refused / 22);
     let stopped = failed && holds_long(session.sink().inner(), refused);
-    run(&mut session, &steps, &mut { volumes })?;
+    run(&mut session, &steps, &mut { volumes }, &mut [])?;
     Ok(stopped && session.want().is_none() && holds_long(session.sink().inner(), 23))
 }
 
@@ -123,9 +123,9 @@ fn end_at(call: usize) -> Result<(), Stopped> {
 fn completes_script(alloc: Global, whole: &[u8], refused: usize) -> Result<bool, Fail> {
     let mut session = refusing(alloc, refused)?;
     let mut reels = [front(whole, 1884), whole, whole];
-    let stopped = run(&mut session, SCRIPT, &mut reels) == end_at(refused);
+    let stopped = run(&mut session, SCRIPT, &mut reels, &mut []) == end_at(refused);
     if refused < CALLS {
-        run(&mut session, ONE, &mut [whole])?;
+        run(&mut session, ONE, &mut [whole], &mut [])?;
     }
     Ok(stopped && has(&session, 25, None))
 }
@@ -159,7 +159,7 @@ fn is_refused(session: &mut Session<Refusing<MemorySink>>) -> bool {
 /// behind going back to that.
 fn stands_still(alloc: Global, whole: &[u8]) -> Result<bool, Fail> {
     let mut session = refusing(alloc, 20)?;
-    run(&mut session, ONE, &mut [front(whole, 1884)])?;
+    run(&mut session, ONE, &mut [front(whole, 1884)], &mut [])?;
     // The 21st call is the save's.
     let refused = is_refused(&mut session);
     save(&mut session)?;
@@ -203,9 +203,9 @@ fn weighs(
 /// is not.
 fn goes_on_inside(alloc: Global, whole: &[u8]) -> Result<bool, Fail> {
     let mut session = refusing(alloc, 1)?;
-    let failed = run(&mut session, ONE, &mut [whole]) == failed_at(0);
+    let failed = run(&mut session, ONE, &mut [whole], &mut []) == failed_at(0);
     let stopped = failed && weighs(&session, part_of(0, 1), 1, 7);
-    run(&mut session, ONE, &mut [whole])?;
+    run(&mut session, ONE, &mut [whole], &mut [])?;
     Ok(stopped && weighs(&session, None, 2, 12))
 }
 

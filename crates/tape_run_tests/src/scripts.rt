@@ -196,7 +196,7 @@ fn runs(
 ) -> Result<Result<(), Stopped>, AllocError> {
     let images = images_of(alloc, reels)?;
     let mut readers = readers_of(alloc, images.as_slice())?;
-    Ok(run(session, steps, readers.as_mut_slice()))
+    Ok(run(session, steps, readers.as_mut_slice(), &mut []))
 }
 
 /// Whether these steps over two reels leave so much of each.
@@ -209,7 +209,7 @@ fn leaves(
 ) -> Result<bool, AllocError> {
     let images = images_of(alloc, reels)?;
     let mut readers = readers_of(alloc, images.as_slice())?;
-    let done = run(session, steps, readers.as_mut_slice()).is_ok();
+    let done = run(session, steps, readers.as_mut_slice(), &mut []).is_ok();
     Ok(match readers.as_slice() {
         [first, second] => done && [first.len(), second.len()] == left,
         _ => false,

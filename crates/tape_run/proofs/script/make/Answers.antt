@@ -1,43 +1,52 @@
-use Rattle.std.proofs.Common.{◌+◌, map, get_or, Some, inl, true, false, refl, ap, arith}
+use Rattle.std.proofs.Common.{◌+◌, [], ◌∷◌, map, get_or, Some, inl, true, false, refl, ap}
+use Rattle.std.proofs.Common.{subst, arith}
 use Rattle.std.proofs.lemmas.List.{drop_more, drop_all, drop-set-lt}
 use Rattle.tape_run.specs.Given.{is_device}
+use Rattle.tape_run.specs.Made.{WritesFrom}
 use Rattle.tape_run.specs.Seen.{seen}
 use Rattle.tape_run.proofs.Crashes.{only_nothing}
 use Rattle.tape_run.proofs.Lasting.{brings_still, last_saved}
-use Rattle.tape_run.proofs.Made.{reel_makes, save_makes, restart_makes, reel_failed}
+use Rattle.tape_run.proofs.Made.{reel_makes, save_makes, restart_makes, reel_failed, writes_none}
 use Rattle.tape_run.proofs.Ended.{told_err, kept_save_fails, kept_restart_fails}
 use Rattle.tape_run.proofs.script.make.Goals as goal
 
 -- ---- a reel
 
-pub returns-in_ok-reel-in-Reel-clause-ok : goal.returns-in_ok-reel-in-Reel-clause-ok
-returns-in_ok-reel-in-Reel-clause-ok g c = λ held was kept.
+pub returns-in_ok-answer-in-Reel-clause-ok : goal.returns-in_ok-answer-in-Reel-clause-ok
+returns-in_ok-answer-in-Reel-clause-ok g c =
     let rem = g.R.Read.remaining in
     let reels = c.args.reels.now in
+    let failed = is_device c.in_ok-answer-in-Reel.answer.fault in
     let device = get_or reels c.args.used c.index-reels-used.result in
     let here = ap (map rem) (drop_more reels c.args.used c.index-reels-used.result
     c.if-used-reels.false) in
     let left = ap (map rem) (drop-set-lt (c.args.used + 1) reels c.args.used c.reel.new.device
-    (omega arith)) in
-    let (now, has, front, keeps, reeled) = c.in_ok-reel-in-Reel.ensures.ok held was in (
-      now,
-      has,
-      keeps kept,
-      λ rest. rw (here, left, c.in-Reel.is) (reel_makes _ _ (rem device)
-          (is_device c.in_ok-reel-in-Reel.field-0.fault) reeled _ rest),
-      λ saved before. (
-        saved,
-        λ rest. rw c.in-Reel.is refl,
-        λ is. brings_still _ _ (seen g.S.PartSink.refusals c.args.session.now held)
-            (seen g.S.PartSink.refusals c.reel.new.self now) c.in_ok-reel-in-Reel.ensures.notes
-            front
-            (c.reel.ensures.crash held was).0 (before is),
-      ),
+    (omega arith)) in (
+      failed ∷ [],
+      subst (λ f. WritesFrom c.args.used (f ∷ []) c.args.failed.now c.write_at.new.row
+          (c.args.used + 1)) c.is_device.ensures c.write_at.ensures,
+      λ held was kept.
+          let (now, has, front, keeps, reeled) = c.in_ok-answer-in-Reel.ensures.ok held was in (
+            now,
+            has,
+            keeps kept,
+            λ rest. rw (here, left, c.in-Reel.is) (reel_makes _ _ (rem device) failed reeled _
+                rest),
+            λ saved before. (
+              saved,
+              λ rest. rw c.in-Reel.is refl,
+              λ is. brings_still _ _ (seen g.S.PartSink.refusals c.args.session.now held)
+                  (seen g.S.PartSink.refusals c.reel.new.self now)
+                  c.in_ok-answer-in-Reel.ensures.notes
+                  front
+                  (c.reel.ensures.crash held was).0 (before is),
+            ),
+          ),
     )
 
-pub returns-in_err-reel-in-Reel-clause-err : goal.returns-in_err-reel-in-Reel-clause-err
-returns-in_err-reel-in-Reel-clause-err g c =
-    let fault = c.in_err-reel-in-Reel.field-0.0 in
+pub returns-in_err-answer-in-Reel-clause-err : goal.returns-in_err-answer-in-Reel-clause-err
+returns-in_err-answer-in-Reel-clause-err g c =
+    let fault = c.in_err-answer-in-Reel.field-0.0 in
     let rem = g.R.Read.remaining in
     let reels = c.args.reels.now in
     let device = get_or reels c.args.used c.index-reels-used.result in
@@ -45,7 +54,7 @@ returns-in_err-reel-in-Reel-clause-err g c =
     c.if-used-reels.false) in
     told_err c.from_residual.result fault _
     c.from_residual.ensures.1 (λ held was kept.
-    let (now, has, front, keeps, fails) = c.in_err-reel-in-Reel.ensures.err held was in (
+    let (now, has, front, keeps, fails) = c.in_err-answer-in-Reel.ensures.err held was in (
       now,
       (λ ne. has),
       keeps kept,
@@ -58,12 +67,12 @@ returns-then-used-reels-clause-err g c = λ held was kept.
     (omega (arith, c.if-used-reels.true))) in
     (held, (λ ne. was), kept, rw (none, c.in-Reel.is) ((refl, refl)))
 
-pub returns-in_ok-reel-in-Reel-clause-crash : goal.returns-in_ok-reel-in-Reel-clause-crash
-returns-in_ok-reel-in-Reel-clause-crash g c = λ held was kept.
+pub returns-in_ok-answer-in-Reel-clause-crash : goal.returns-in_ok-answer-in-Reel-clause-crash
+returns-in_ok-answer-in-Reel-clause-crash g c = λ held was kept.
     only_nothing _ _ _ _ _ (c.reel.ensures.crash held was)
 
-pub returns-in_err-reel-in-Reel-clause-crash : goal.returns-in_err-reel-in-Reel-clause-crash
-returns-in_err-reel-in-Reel-clause-crash g c = λ held was kept.
+pub returns-in_err-answer-in-Reel-clause-crash : goal.returns-in_err-answer-in-Reel-clause-crash
+returns-in_err-answer-in-Reel-clause-crash g c = λ held was kept.
     only_nothing _ _ _ _ _ (c.reel.ensures.crash held was)
 
 pub returns-then-used-reels-clause-crash : goal.returns-then-used-reels-clause-crash
@@ -72,20 +81,24 @@ returns-then-used-reels-clause-crash g c = λ held was kept. ((λ back there h. 
 -- ---- a save
 
 pub returns-in_ok-save-in-Save-clause-ok : goal.returns-in_ok-save-in-Save-clause-ok
-returns-in_ok-save-in-Save-clause-ok g c = λ held was kept.
-    let (now, has, keeps, saved) = c.in_ok-save-in-Save.ensures.ok held was in (
-      now,
-      has,
-      keeps kept,
-      λ rest. rw c.in-Save.is (save_makes _ _ saved _ rest),
-      λ before had. (
-        true,
-        λ rest. rw c.in-Save.is refl,
-        λ is. last_saved _ _ c.in_ok-save-in-Save.field-0 _
-            (c.in_ok-save-in-Save.ensures.point held was)
-            (c.in_ok-save-in-Save.ensures.kept held was) saved,
+returns-in_ok-save-in-Save-clause-ok g c = (
+  [],
+  writes_none _ _,
+  λ held was kept.
+      let (now, has, keeps, saved) = c.in_ok-save-in-Save.ensures.ok held was in (
+        now,
+        has,
+        keeps kept,
+        λ rest. rw c.in-Save.is (save_makes _ _ saved _ rest),
+        λ before had. (
+          true,
+          λ rest. rw c.in-Save.is refl,
+          λ is. last_saved _ _ c.in_ok-save-in-Save.field-0 _
+              (c.in_ok-save-in-Save.ensures.point held was)
+              (c.in_ok-save-in-Save.ensures.kept held was) saved,
+        ),
       ),
-    )
+)
 
 pub returns-in_err-save-in-Save-clause-err : goal.returns-in_err-save-in-Save-clause-err
 returns-in_err-save-in-Save-clause-err g c =
@@ -102,14 +115,18 @@ returns-in_err-save-in-Save-clause-err g c =
 -- ---- going back
 
 pub returns-in_ok-restart-in-Restart-clause-ok : goal.returns-in_ok-restart-in-Restart-clause-ok
-returns-in_ok-restart-in-Restart-clause-ok g c = λ held was kept.
-    let (now, has, still, went) = c.in_ok-restart-in-Restart.ensures.ok held was kept in (
-      now,
-      has,
-      still,
-      λ rest. rw c.in-Restart.is (restart_makes _ _ c.in-Restart.n went _ rest),
-      λ saved before. (false, λ rest. rw c.in-Restart.is refl, λ is. absurd (cc is)),
-    )
+returns-in_ok-restart-in-Restart-clause-ok g c = (
+  [],
+  writes_none _ _,
+  λ held was kept.
+      let (now, has, still, went) = c.in_ok-restart-in-Restart.ensures.ok held was kept in (
+        now,
+        has,
+        still,
+        λ rest. rw c.in-Restart.is (restart_makes _ _ c.in-Restart.n went _ rest),
+        λ saved before. (false, λ rest. rw c.in-Restart.is refl, λ is. absurd (cc is)),
+      ),
+)
 
 pub returns-in_err-restart-in-Restart-clause-err : goal.returns-in_err-restart-in-Restart-clause-err
 returns-in_err-restart-in-Restart-clause-err g c =

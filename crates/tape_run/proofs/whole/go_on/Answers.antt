@@ -36,7 +36,7 @@ returns-clause-delivers g c = on_ok c.run-result.result _ _ (λ run held was.
       has,
       λ bytes e. goes_on c.args.point.now held first
           (seen g.S.PartSink.refusals c.run-result.new.session now) c.args.steps.now bytes
-          (c.resume-session.ensures.resumed held) (reads bytes e),
+          (c.resume-session.ensures.resumed held) (reads bytes e).0,
     ))
     c.run-result.ensures.headline
 
@@ -46,5 +46,5 @@ returns-clause-stopped g c = if_err c.run-result.result _ _ (λ fault run held w
     let first = seen g.S.PartSink.refusals c.resume-session.result held in
     let (now, has, k, stops) = run held (subst (λ s. g.S.PartSink.holds s held) same was)
     (c.resume-session.ensures.kept held) in
-    (first, c.resume-session.ensures.resumed held, now, has, stops))
+    (first, c.resume-session.ensures.resumed held, now, has, λ bytes e. (stops bytes e).0))
     c.run-result.ensures.stopped

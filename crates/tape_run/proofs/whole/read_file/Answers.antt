@@ -15,6 +15,6 @@ returns-clause-read g c = on_ok c.run-made.result _ _ (λ start bytes e.
       refl,
       refl,
       refl,
-      reads bytes e,
+      (reads bytes e).0,
     ))
     c.run-made.ensures.start

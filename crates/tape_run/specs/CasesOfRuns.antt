@@ -1,0 +1,81 @@
+-- What the definitions of runs that stopped say of cases: as in Cases.
+use Rattle.std.specs.Prelude.{◌≡◌, ◌≤◌, ℕ, ◌+◌, List, [], ◌∷◌}
+use Rattle.std.specs.Prelude.{length, slice_get, Some}
+use Rattle.tape_image.specs.Tape.{TapeItem, block}
+use Rattle.tape_set.specs.Position.{at_part, next_block}
+use Rattle.tape_set.specs.Layout.{FileSet}
+use Rattle.tape_set.specs.Lawful.{IsLawful}
+use Rattle.tape_set.specs.Before.{before}
+use Rattle.tape_core.specs.declared.sink.SinkFault.{SinkFault}
+use Rattle.tape_core.specs.declared.sink.SinkFault.TheVariants as sinks
+use Rattle.tape_run.specs.declared.fault.RunFault.{RunFault}
+use Rattle.tape_run.specs.declared.fault.RunFault.TheVariants.{Sink, NoSuchPoint, TooFewReels}
+use Rattle.tape_run.specs.declared.fault.RunFault.TheVariants.{OutOfMemory, OtherFile}
+use Rattle.tape_run.specs.declared.script.Step.TheVariants.{Reel, Save, Restart}
+use Rattle.tape_run.specs.Given.{AreGivenBy, counted_up, failed_of}
+use Rattle.tape_run.specs.Headline.{Ran, PutRefused, Stops}
+use Rattle.tape_run.specs.Headline.{HasStopped, LosesParts, reels_in}
+use Rattle.tape_run.specs.History.{IsHistory, course, course_of}
+use Rattle.tape_run.specs.Mount.{Happening}
+use Rattle.tape_run.specs.Mount.{after_mount, cut}
+use Rattle.tape_run.specs.Seen.{Seen, IsSession}
+
+-- of runs that a fault ended
+pub record CasesOfStops : Type 0 where
+  -- a step is not made for no other reason than it can have
+  pub saves_stop : (set : FileSet) (old new : Seen) (hs : List Happening)
+      (readers : List (List ℕ)) → (Stops set old hs Save readers NoSuchPoint new → ⊥)
+      × (Stops set old hs Save readers TooFewReels new → ⊥)
+      × (Stops set old hs Save readers OtherFile new → ⊥)
+      × (Stops set old hs Save readers OutOfMemory new → Ran set old hs new)
+  pub reels_stop : (set : FileSet) (old new : Seen) (hs : List Happening) (b : List ℕ)
+      (readers : List (List ℕ)) → (Stops set old hs Reel (b ∷ readers) TooFewReels new → ⊥)
+      × (Stops set old hs Reel (b ∷ readers) NoSuchPoint new → ⊥)
+      × (Stops set old hs Reel (b ∷ readers) OtherFile new → ⊥)
+      × (Stops set old hs Reel (b ∷ readers) OutOfMemory new → Ran set old hs new)
+  pub no_reels_stop : (set : FileSet) (old new : Seen) (hs : List Happening) (cause : SinkFault)
+      → (Stops set old hs Reel [] OutOfMemory new → ⊥)
+      × (Stops set old hs Reel [] (Sink cause) new → ⊥)
+      × (Stops set old hs Reel [] TooFewReels new → Ran set old hs new)
+  pub restarts_stop : (set : FileSet) (old new : Seen) (hs : List Happening)
+      (readers : List (List ℕ)) (n : ℕ) → (Stops set old hs (Restart n) readers NoSuchPoint new
+      → (length (course set old.place.file (course_of old) hs).notes ≤ n) × Ran set old hs new)
+      × (Stops set old hs (Restart n) readers OutOfMemory new → ⊥)
+      × (Stops set old hs (Restart n) readers TooFewReels new → ⊥)
+  pub sinks_stop : (set : FileSet) (old new : Seen) (hs : List Happening)
+      (readers : List (List ℕ)) (cause : SinkFault)
+      → (Stops set old hs Save readers (Sink cause) new → Ran set old hs new)
+      × (Stops set old hs (Restart 0) readers (Sink cause) new → Ran set old hs new)
+  -- a refused part: the sink holds just what lies before it, in a block that stands where the items
+  -- before it lead
+  pub part_refused : (set : FileSet) (old new : Seen) (hs : List Happening) (xs : List TapeItem)
+      (h : Happening) (r : PutRefused set old hs xs h new)
+      → (new.parts ≡ before set new.place.file new.place.position)
+      × (new.place.file ≡ old.place.file) × (slice_get xs r.n ≡ Some (block r.content))
+      × (after_mount set old.place.file (course set old.place.file (course_of old) hs).at
+      (cut (r.n + 1) h) ≡ next_block (after_mount set old.place.file
+      (course set old.place.file (course_of old) hs).at (cut r.n h)))
+      × (new.place.position ≡ at_part r.part (after_mount set old.place.file
+      (course set old.place.file (course_of old) hs).at (cut r.n h)))
+      × ((course_of new).notes ≡ (course set old.place.file (course_of old) hs).notes)
+  -- the step that was not made is the one of the number that is told
+  pub stopped_at : (old new : Seen) (bytes : List (List ℕ)) (fault : RunFault)
+      (s : HasStopped old (Reel ∷ Save ∷ Restart 0 ∷ []) bytes 1 fault new) → (s.step ≡ Save)
+      × AreGivenBy s.which bytes s.given
+      × (new.failures ≡ counted_up (failed_of s.which) old.failures)
+  -- two reels were read before it, and the third reader is left
+  pub stopped_so : (old new : Seen) (a b c : List ℕ) (fault : RunFault)
+      (set : FileSet) (hs : List Happening)
+      (s : HasStopped old (Reel ∷ Reel ∷ Save ∷ Reel ∷ []) (a ∷ b ∷ c ∷ []) 2 fault new)
+      → IsLawful set → IsHistory set (length old.notes) (Reel ∷ Reel ∷ []) s.given hs
+      → IsSession set old → Stops set old hs Save (c ∷ []) fault new
+  pub nothing_stops_none : (old new : Seen) (bytes : List (List ℕ)) (n : ℕ) (fault : RunFault)
+      → HasStopped old [] bytes n fault new → ⊥
+  -- readers are counted
+  pub two_reels : reels_in (Reel ∷ Save ∷ Restart 0 ∷ Reel ∷ []) ≡ 2
+  -- only a going back in which the device of the sink failed loses what it holds
+  pub loses : LosesParts (Reel ∷ Restart 4 ∷ []) 1 (Sink sinks.Device)
+  pub mount_keeps : LosesParts (Reel ∷ Restart 4 ∷ []) 0 (Sink sinks.Device) → ⊥
+  pub save_keeps : LosesParts (Save ∷ Restart 4 ∷ []) 0 (Sink sinks.Device) → ⊥
+  pub other_keeps : (LosesParts (Restart 4 ∷ []) 0 (Sink sinks.Failed) → ⊥)
+      × (LosesParts (Restart 4 ∷ []) 0 NoSuchPoint → ⊥)
