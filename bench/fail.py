@@ -198,6 +198,8 @@ def trials(program):
             result="OUT", reports=EXTRACT_REPORTS),
         Trial("stage", ["stage", "kept.stage"], STAGE, stage),
         Trial("stage, with its records", ["stage", "kept.stage", "OUT"], STAGE, stage, result="OUT"),
+        Trial("stage, broken off", ["stage", "--damaged", "torn.stage", "OUT"], STAGE,
+            {"torn.stage": stage["kept.stage"][:20_000]}, result="OUT"),
         Trial("check, two reels", ["check", "one.tap", "two.tap"], CHECK, reels, reports=CHECK_REPORTS),
         Trial("check, names in a list", ["check", "one.tap", "--from", "names"], CHECK_LIST, reels | {"names": b"two.tap\n"},
             reports=CHECK_REPORTS),

@@ -2,7 +2,7 @@
 """Stops `tape extract --stage` at every call of the system, at random instants and by power cuts, and goes on.
 By hand; the gate does not run it.
 
-    ./stage.py [--program PATH] [--kills N] [--sets N] [--seed N]
+    ./stage.py [--program PATH] [--kills N] [--damages N] [--sets N] [--seed N]
 
 First each allocation, opening, read, write, sync, new name and lock is refused in turn by fail.c, alone
 and with all later ones of its kind: the answer is status 1 with one fault line, or what the report says
@@ -12,6 +12,8 @@ completes the file. Where a file system has no locks nothing changes. A run that
 stage is refused, and leaves it.
 Then the program is killed at random instants, over many reels, until a run completes: what it
 writes is each time the whole file.
+Then a stage is damaged, cut at any byte or with one of its bytes changed, and what `tape stage --damaged`
+tells and writes of it is compared with a walk over its frames as FORMATS.md has them.
 Last, over sets of random records, the files are made that a power cut could leave at each moment of some
 days, and each is gone on with: power.py tells what is right.
 Prints a line for each wrong answer and two tables; the status is 1 where there was one.
@@ -168,6 +170,65 @@ def kill_at_random(options):
     return killed, completed, wrong
 
 
+def damaged_at_random(kept):
+    """A stage cut at a byte behind its slots, or with one of these bytes changed."""
+    place = random.randrange(256, len(kept))
+    if random.random() < 0.3:
+        return kept[:place]
+    if random.random() < 0.7:
+        # in the header of a frame; each has 85 bytes
+        place = 256 + 85 * random.randrange((len(kept) - 256) // 85) + random.randrange(5)
+    return kept[:place] + bytes([random.randrange(256)]) + kept[place + 1:]
+
+
+def walked(bytes_, staged):
+    """The parts before the first place where no frame stands, and that place, by FORMATS.md."""
+    parts, place, end = [], 256, 256 + staged
+    while place < end:
+        length = int.from_bytes(bytes_[place + 1:place + 5], "big")
+        if bytes_[place:place + 1] not in (b"0", b"1", b"2", b"3") or length > 99_999 or place + 5 + length > min(end, len(bytes_)):
+            return parts, place
+        parts.append((bytes_[place:place + 1], bytes_[place + 5:place + 5 + length]))
+        place += 5 + length
+    return parts, None
+
+
+def joined(parts):
+    """The records of parts: one ends with each part that stands for a whole one or the last of one."""
+    records, begun = [], b""
+    for span, content in parts:
+        begun += content
+        if span in (b"0", b"3"):
+            records.append(begun)
+            begun = b""
+    return records
+
+
+def damage_stages(options):
+    """How many damaged stages were shown, and how many answers were wrong."""
+    wrong = 0
+    kept = fail.stage_of(options.program)
+    with tempfile.TemporaryDirectory(prefix="tape-stage-") as place:
+        folder = Path(place)
+        for number in range(options.damages):
+            damaged = damaged_at_random(kept)
+            parts, broken = walked(damaged, len(kept) - 256)
+            records = joined(parts)
+            (folder / "torn").write_bytes(damaged)
+            (folder / "OUT").unlink(missing_ok=True)
+            done = subprocess.run([options.program, "stage", "--damaged", "torn", "OUT"], cwd=folder, capture_output=True,
+                text=True, check=False)
+            told = f"STAGE ABC001 1 {len(records)}\n" + ("AWAITS" if broken is None else f"BREAKS OFF {broken}\n")
+            lines = b"".join(record + b"\n" for record in records)
+            if done.returncode != 3 or not done.stdout.startswith(told) or (folder / "OUT").read_bytes() != lines:
+                wrong += 1
+                print(f"a damaged stage, {number}: status {done.returncode}, {done.stdout!r}, {done.stderr!r}")
+            elif (folder / "torn").read_bytes() != damaged:
+                wrong += 1
+                print(f"a damaged stage, {number}: it is another")
+    return options.damages, wrong
+
+
 def cut_the_power(options):
     """The rows of a table, one for each set, and how many answers were wrong."""
     rows, wrong = [], 0
@@ -191,6 +252,7 @@ def main():
     parser = argparse.ArgumentParser(description=__doc__.split("\n\n")[0])
     parser.add_argument("--program", type=Path, default=fail.CRATE / "out" / "tape_tool", help="the built `tape`")
     parser.add_argument("--kills", type=int, default=300, help="how often the program is killed")
+    parser.add_argument("--damages", type=int, default=1_000, help="how many damaged stages are shown")
     parser.add_argument("--sets", type=int, default=12, help="over how many sets the power is cut")
     parser.add_argument("--seed", type=int, default=1, help="of the random instants, sets and cuts")
     options = parser.parse_args()
@@ -200,14 +262,15 @@ def main():
     random.seed(options.seed)
     counts, runs, wrong = refuse_each(options)
     killed, completed, torn = kill_at_random(options)
+    damages, mistold = damage_stages(options)
     rows, lost = cut_the_power(options)
-    print("| Allocations | Openings | Reads | Writes | Syncs | New names | Locks | Refused runs | Wrong | Kills | Files completed | Wrong |")
-    print("|---|---|---|---|---|---|---|---|---|---|---|---|")
-    print("| " + " | ".join(str(n) for n in [*counts[:7], runs, wrong, killed, completed, torn]) + " |\n")
+    print("| Allocations | Openings | Reads | Writes | Syncs | New names | Locks | Refused runs | Wrong | Kills | Files completed | Wrong | Damaged stages | Wrong |")
+    print("|---|---|---|---|---|---|---|---|---|---|---|---|---|---|")
+    print("| " + " | ".join(str(n) for n in [*counts[:7], runs, wrong, killed, completed, torn, damages, mistold]) + " |\n")
     print("| Set | Days | Power cuts | Different files | Before the stage was made | Wrong |")
     print("|---|---|---|---|---|---|")
     print("\n".join(rows))
-    return wrong + torn + lost != 0
+    return wrong + torn + mistold + lost != 0
 
 
 if __name__ == "__main__":

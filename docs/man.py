@@ -33,8 +33,9 @@ COMMANDS = {
     "unpack": ("[--form FORM] [--from LIST [--null]] DIR [IMAGE]...", [
         ("DIR", "FOLDER_OF_FILES"), ("IMAGE", "SHELF"), ("--from LIST", "FROM"),
         ("--null", "NULL"), ("--form lines|raw", "FORM_OF_FILES")]),
-    "stage": ("[--form FORM] PATH [OUT]", [
-        ("PATH", "STAGE_READ"), ("OUT", "OUT_OF_STAGE"), ("--form lines|raw", "FORM_OF_OUT")]),
+    "stage": ("[--form FORM] [--damaged] PATH [OUT]", [
+        ("PATH", "STAGE_READ"), ("OUT", "OUT_OF_STAGE"), ("--form lines|raw", "FORM_OF_OUT"),
+        ("--damaged", "DAMAGED")]),
     "init": ("DIR PRE COUNT", [("DIR", "FOLDER"), ("PRE", "PREFIX"), ("COUNT", "COUNT")]),
     "write": ("[OPTIONS] DIR PRE CAPACITY ID=PATH...", [
         ("DIR", "FOLDER"), ("PRE", "PREFIX"), ("CAPACITY", "CAPACITY"), ("ID=PATH", "FILES"),
@@ -53,7 +54,7 @@ def read(*path):
 
 def texts():
     """The texts of help.rt and help/ by their names."""
-    parts = (("help.rt",), ("help", "lists.rt"), ("help", "unpack.rt"), ("help", "volumes.rt"))
+    parts = (("help.rt",), ("help", "lists.rt"), ("help", "stage.rt"), ("help", "unpack.rt"), ("help", "volumes.rt"))
     source = "".join(read(SOURCE, *part) for part in parts)
     found = re.findall(r'pub const (\w+): &str =\s*"((?:[^"\\]|\\.)*)";', source, re.S)
     return {name: unescaped(text) for name, text in found}

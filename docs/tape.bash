@@ -20,7 +20,7 @@ _tape() {
     check:-*) COMPREPLY=($(compgen -W '--from --null --explain --help' -- "$cur")); return ;;
     survey:-*) COMPREPLY=($(compgen -W '--from --null --tsv --explain --help' -- "$cur")); return ;;
     unpack:-*) COMPREPLY=($(compgen -W '--from --null --form --explain --help' -- "$cur")); return ;;
-    stage:-*) COMPREPLY=($(compgen -W '--form --explain --help' -- "$cur")); return ;;
+    stage:-*) COMPREPLY=($(compgen -W '--form --damaged --explain --help' -- "$cur")); return ;;
     extract:-*)
         COMPREPLY=($(compgen -W '--from --null --form --stage --again --explain --help' -- "$cur"))
         return ;;

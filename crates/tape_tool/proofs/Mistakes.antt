@@ -1,6 +1,6 @@
 -- Answers that the contracts of the program's functions exclude: each is what a wrong body would
 -- give. Here are ends, faults and stages.
-use Rattle.std.proofs.Common.{◌≡◌, ◌+◌, [], length, true, false, refl, sym, ap, ◌∙◌}
+use Rattle.std.proofs.Common.{◌≡◌, ◌+◌, ℕ, [], length, true, false, refl, sym, ap, ◌∙◌}
 use Rattle.std.proofs.Common.{subst, arith, codes}
 use Rattle.std.proofs.Math.Nat.{min-eq_left}
 use Rattle.std.specs.Prelude.{◌≤◌, Some, Ok, Err, slice_index}
@@ -16,6 +16,7 @@ use Rattle.tape_stage.specs.Staged.{Staged}
 use Rattle.tape_writer.specs.declared.fault.WriteFault.TheVariants as write_faults
 use Rattle.tape_tool.specs.declared.end.End.TheVariants as ends
 use Rattle.tape_writer.specs.declared.system.fault.FileFault.TheVariants as file_faults
+use Rattle.tape_tool.specs.declared.show.ending.StageEnding.TheVariants as endings
 use Rattle.tape_tool.specs.declared.fault.ToolFault.TheVariants as tool_faults
 use Rattle.tape_tool.specs.declared.fault.Fault.TheVariants as faults
 use Rattle.tape_tool.specs.Ends.{exit_status}
@@ -23,6 +24,7 @@ use Rattle.tape_tool.specs.Fault.{file_number}
 use Rattle.tape_tool.specs.Staging.{IsOfFile}
 use Rattle.tape_tool.proofs.end.End.status.Reads as status
 use Rattle.tape_tool.proofs.end.end_of.Reads as end_of
+use Rattle.tape_tool.proofs.end.damaged_end.Reads as damaged_end
 use Rattle.tape_tool.proofs.end.extract_end.Reads as extract_end
 use Rattle.tape_tool.proofs.end.words_end.Reads as words_end
 use Rattle.tape_tool.proofs.end.no_words_end.Reads as no_words_end
@@ -63,6 +65,13 @@ fault_of_command_done κs f s h =
 incomplete_is_done : (κs : _) (w : Want) (s : _)
     → extract_end.Learnt κs (Ok (Some w), tt) ends.Done s → ⊥
 incomplete_is_done κs w s h =
+    let e : ends.Done ≡ ends.Incomplete = h in
+    absurd (cc)
+
+-- damage_ends_with_success: a stage breaks off, and `stage --damaged` is told as done
+damage_ends_with_success : (κs : _) (place : ℕ) (s : _)
+    → damaged_end.Learnt κs (Ok (endings.Broken place), tt) ends.Done s → ⊥
+damage_ends_with_success κs place s h =
     let e : ends.Done ≡ ends.Incomplete = h in
     absurd (cc)
 

@@ -8,55 +8,52 @@ use Rattle.tape_blocks.specs.Spans.{join}
 use Rattle.tape_blocks.specs.declared.form.Form.{Form}
 use Rattle.tape_set.specs.declared.position.Want.{Want}
 use Rattle.tape_set.specs.Position.{want_at}
-use Rattle.tape_core.specs.Place.{place_of}
 use Rattle.tape_core.specs.Point.{Point}
-use Rattle.tape_core.specs.State.{State}
 use Rattle.tape_run.specs.Extracting.{IsWritten}
 use Rattle.tape_run.specs.Output.{AppendsFront}
 use Rattle.tape_run.specs.RecordText.{output_of}
+use Rattle.tape_stage.specs.Salvaged.{Remains}
 use Rattle.tape_stage.specs.Staged.{Staged}
 use Rattle.tape_tool.specs.declared.fault.ToolFault.{ToolFault}
-use Rattle.tape_tool.specs.Showing.{told_with, told_of, Gives, GivesFront, Shows, StopsShowing}
-use Rattle.tape_tool.specs.Showing.{in_part}
-
--- what a session at a checkpoint wants is what the checkpoint does
-pub want_of : (core : State) (point : Point) → core ≡ place_of point
-    → want_at core.file core.position ≡ want_at point.file point.position
-want_of core point e = ap (λ (s : State). want_at s.file s.position) e
+use Rattle.tape_tool.specs.declared.show.ending.StageEnding.{StageEnding}
+use Rattle.tape_tool.specs.Showing.{told_with, ending_of, Gives, GivesFront, Shows, StopsShowing}
+use Rattle.tape_tool.specs.Showing.{in_part, salvaged_in_part, ShowsDamaged, StopsSalvaging}
 
 -- so many records were written, and told
-pub gives_all : (point : Point) (want : Option Want) (records : ℕ) (form : Form)
+pub gives_all : (point : Point) (ending : StageEnding) (records : ℕ) (form : Form)
     (out written said says : Option (List ℕ)) (parts : List Portion)
-    → want ≡ want_at point.file point.position
     → IsWritten None records form out written parts
-    → Appends said says (told_with point want records)
-    → Gives point form out written said says parts
-gives_all point want records form out written said says parts wants all told = record {
+    → Appends said says (told_with point ending records)
+    → Gives point ending form out written said says parts
+gives_all point ending records form out written said says parts all told = record {
   wrote = all.1;
-  told = subst (λ (n : ℕ). Appends said says (told_of point n)) all.0
-      (subst (λ (w : Option Want). Appends said says (told_with point w records)) wants told);
+  told = subst (λ (n : ℕ). Appends said says (told_with point ending n)) all.0 told;
 }
 
 -- they were written, and a front of the lines
-pub gives_front : (point : Point) (want : Option Want) (records : ℕ) (form : Form)
+pub gives_front : (point : Point) (ending : StageEnding) (records : ℕ) (form : Form)
     (out written said says : Option (List ℕ)) (parts : List Portion)
-    → want ≡ want_at point.file point.position
     → IsWritten None records form out written parts
-    → AppendsFront said says (told_with point want records)
-    → GivesFront point form out written said says parts
-gives_front point want records form out written said says parts wants all told = record {
+    → AppendsFront said says (told_with point ending records)
+    → GivesFront point ending form out written said says parts
+gives_front point ending records form out written said says parts all told = record {
   wrote = (output_of form parts, [], all.1, sym (append-nil (output_of form parts)));
-  told = subst (λ (n : ℕ). AppendsFront said says (told_of point n)) all.0
-      (subst (λ (w : Option Want). AppendsFront said says (told_with point w records)) wants told);
+  told = subst (λ (n : ℕ). AppendsFront said says (told_with point ending n)) all.0 told;
 }
 
 -- a front of them was written, and nothing told
-pub gives_part : (point : Point) (form : Form) (out written said : Option (List ℕ))
-    (parts : List Portion) → AppendsFront out written (output_of form parts)
-    → GivesFront point form out written said said parts
-gives_part point form out written said parts front = record {
+pub gives_part : (point : Point) (ending : StageEnding) (form : Form)
+    (out written said : Option (List ℕ)) (parts : List Portion)
+    → AppendsFront out written (output_of form parts)
+    → GivesFront point ending form out written said said parts
+gives_part point ending form out written said parts front = record {
   wrote = front;
-  told = ([], told_of point (length (join parts).records), Appends-nil said, refl);
+  told = (
+    [],
+    told_with point ending (length (join parts).records),
+    Appends-nil said,
+    refl,
+  );
 }
 
 -- what is told of a stage that was opened
@@ -64,7 +61,7 @@ pub shows : (read : List ℕ) (generation : ℕ) (point : Point) (parts : List P
     (out written said says : Option (List ℕ)) (result : Result (Option Want) ToolFault)
     → Staged read generation point parts
     → IfOk result (λ want. want ≡ want_at point.file point.position)
-    → OnOk result (Gives point form out written said says parts)
+    → OnOk result (Gives point (ending_of point None) form out written said says parts)
     → IfOk result (Shows read form out written said says)
 shows read generation point parts form out written said says (Ok want) staged wants gives = record {
   generation = generation;
@@ -80,11 +77,44 @@ shows read generation point parts form out written said says (Err fault) staged 
 pub stops_in_part : (read : List ℕ) (generation : ℕ) (point : Point) (parts : List Portion)
     (form : Form) (out written said says : Option (List ℕ))
     (result : Result (Option Want) ToolFault) → Staged read generation point parts
-    → OnErr result (GivesFront point form out written said says parts)
+    → OnErr result (GivesFront point (ending_of point None) form out written said says parts)
     → IfErr result (StopsShowing read form out written said says)
 stops_in_part read generation point parts form out written said says (Ok want) staged front = tt
 stops_in_part read generation point parts form out written said says (Err fault) staged front =
     in_part generation point parts staged front
+
+-- what is told of a stage that may break off
+pub shows_damaged : (read : List ℕ) (generation : ℕ) (point : Point) (broken : Option ℕ)
+    (parts : List Portion) (form : Form) (out written said says : Option (List ℕ))
+    (result : Result StageEnding ToolFault) → Remains read generation point broken parts
+    → IfOk result (λ ending. ending ≡ ending_of point broken)
+    → OnOk result (Gives point (ending_of point broken) form out written said says parts)
+    → IfOk result (ShowsDamaged read form out written said says)
+shows_damaged read generation point broken parts form out written said says (Ok ending) remains is
+    gives =
+    record {
+      generation = generation;
+      point = point;
+      broken = broken;
+      parts = parts;
+      remains = remains;
+      ends = is;
+      gives = subst (λ (e : StageEnding). Gives point e form out written said says parts) (sym is)
+          gives;
+    }
+shows_damaged read generation point broken parts form out written said says (Err fault) remains is
+    gives = tt
+
+-- and where that ended by a fault
+pub stops_salvaging : (read : List ℕ) (generation : ℕ) (point : Point) (broken : Option ℕ)
+    (parts : List Portion) (form : Form) (out written said says : Option (List ℕ))
+    (result : Result StageEnding ToolFault) → Remains read generation point broken parts
+    → OnErr result (GivesFront point (ending_of point broken) form out written said says parts)
+    → IfErr result (StopsSalvaging read form out written said says)
+stops_salvaging read generation point broken parts form out written said says (Ok ending) remains
+    front = tt
+stops_salvaging read generation point broken parts form out written said says (Err fault) remains
+    front = salvaged_in_part generation point broken parts remains front
 
 -- a fact that follows of each list of parts, for one that is held
 pub of_held : {T E : Type 0} (result : Result T E) (H P : List Portion → Type 0)

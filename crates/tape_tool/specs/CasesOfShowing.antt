@@ -13,14 +13,22 @@ use Rattle.tape_core.specs.Point.{Point}
 use Rattle.tape_run.specs.Output.{AppendsFront}
 use Rattle.tape_run.specs.RecordText.{output_of}
 use Rattle.tape_stage.specs.Faults.{SaysNone}
+use Rattle.tape_stage.specs.Salvaged.{Remains, RemainsNone}
 use Rattle.tape_stage.specs.Staged.{Staged, HoldsNone}
 use Rattle.tape_stage.specs.declared.stage.StageFault.{StageFault}
 use Rattle.tape_tool.specs.declared.end.End.TheVariants.{Done, Faulted, Incomplete}
 use Rattle.tape_tool.specs.declared.fault.Fault.TheVariants.{Tool}
 use Rattle.tape_tool.specs.declared.fault.ToolFault.{ToolFault}
 use Rattle.tape_tool.specs.declared.fault.ToolFault.TheVariants.{Stage}
-use Rattle.tape_tool.specs.Ends.{stage_end}
-use Rattle.tape_tool.specs.Showing.{told_of, Shows, StopsShowing}
+use Rattle.tape_tool.specs.declared.show.ending.StageEnding.{StageEnding}
+use Rattle.tape_tool.specs.declared.show.ending.StageEnding.TheVariants.{Whole, Broken}
+use Rattle.tape_tool.specs.Ends.{stage_end, damaged_end}
+use Rattle.tape_tool.specs.Showing.{ending_of, told_with, Shows, StopsShowing}
+use Rattle.tape_tool.specs.Showing.{ShowsDamaged, StopsSalvaging}
+
+-- both lines, of a stage that breaks off there or does not
+abbrev pub told_of : Point → Option ℕ → ℕ → List ℕ
+told_of point broken records = told_with point (ending_of point broken) records
 
 -- a checkpoint of file 1 of a set, at this position
 abbrev pub point_at : Position → Point
@@ -42,24 +50,52 @@ StopSays read form out written said says fault = StopsShowing read form out writ
     × Keeps out written × Keeps said says)
     ⊎ ((g : ℕ) × (point : Point) × (parts : List Portion) × Staged read g point parts
     × AppendsFront out written (output_of form parts)
-    × AppendsFront said says (told_of point (length (join parts).records)))
+    × AppendsFront said says (told_of point None (length (join parts).records)))
+
+-- what a fault says of a stage that may break off: nothing was opened, and that nothing remains is
+-- told only where nothing does; or a front of what remains was written
+abbrev pub SalvageSays : List ℕ → Form → Option (List ℕ) → Option (List ℕ) → Option (List ℕ)
+    → Option (List ℕ) → ToolFault → Type 0
+SalvageSays read form out written said says fault =
+    StopsSalvaging read form out written said says fault
+    → ((cause : StageFault) × (fault ≡ Stage cause) × (SaysNone cause → RemainsNone read)
+    × Keeps out written × Keeps said says)
+    ⊎ ((g : ℕ) × (point : Point) × (broken : Option ℕ) × (parts : List Portion)
+    × Remains read g point broken parts × AppendsFront out written (output_of form parts)
+    × AppendsFront said says (told_of point broken (length (join parts).records)))
 
 -- what `stage` says
 pub record CasesOfShowing : Type 0 where
   -- where something is wanted, and where the file is complete
-  pub awaits : told_of (point_at (Awaits 1 2 0)) 20
+  pub awaits : told_of (point_at (Awaits 1 2 0)) None 20
       ≡ codes "STAGE ABC001 1 20\nAWAITS 1 1 2\n"
-  pub complete : told_of (point_at Finished) 25 ≡ codes "STAGE ABC001 1 25\nCOMPLETE 25\n"
+  pub complete : told_of (point_at Finished) None 25 ≡ codes "STAGE ABC001 1 25\nCOMPLETE 25\n"
+  -- and where the frames break off, though the checkpoint tells that the file is complete
+  pub breaks : told_of (point_at Finished) (Some 1276) 12
+      ≡ codes "STAGE ABC001 1 12\nBREAKS OFF 1276\n"
   -- how a run ends
   pub ends : (want : Want) (fault : ToolFault) → (stage_end (Ok None) ≡ Done)
       × (stage_end (Ok (Some want)) ≡ Incomplete)
       × (stage_end (Err fault) ≡ Faulted (Tool fault))
+  pub damaged_ends : (want : Want) (place : ℕ) (fault : ToolFault)
+      → (damaged_end (Ok (Whole None)) ≡ Done) × (damaged_end (Ok (Whole (Some want))) ≡ Incomplete)
+      × (damaged_end (Ok (Broken place)) ≡ Incomplete)
+      × (damaged_end (Err fault) ≡ Faulted (Tool fault))
   -- what was shown is what is staged: all records of its parts, and how many there are
   pub shown : (read : List ℕ) (form : Form) (out written said says : Option (List ℕ))
       (want : Option Want) (s : Shows read form out written said says want)
       → Staged read s.generation s.point s.parts
       × Appends out written (output_of form s.parts)
-      × Appends said says (told_of s.point (length (join s.parts).records))
+      × Appends said says (told_of s.point None (length (join s.parts).records))
+  -- and of a stage that breaks off what remains
+  pub salvaged : (read : List ℕ) (form : Form) (out written said says : Option (List ℕ))
+      (ending : StageEnding) (s : ShowsDamaged read form out written said says ending)
+      → Remains read s.generation s.point s.broken s.parts
+      × (ending ≡ ending_of s.point s.broken)
+      × Appends out written (output_of form s.parts)
+      × Appends said says (told_with s.point ending (length (join s.parts).records))
   -- a fault leaves nothing, or a front of that
   pub stopped : (read : List ℕ) (form : Form) (out written said says : Option (List ℕ))
       (fault : ToolFault) → StopSays read form out written said says fault
+  pub salvage_stopped : (read : List ℕ) (form : Form) (out written said says : Option (List ℕ))
+      (fault : ToolFault) → SalvageSays read form out written said says fault

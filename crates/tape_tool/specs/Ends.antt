@@ -12,6 +12,8 @@ use Rattle.tape_writer.specs.declared.system.fault.FileFault.TheVariants.{WriteF
 use Rattle.tape_tool.specs.declared.fault.ToolFault.{ToolFault}
 use Rattle.tape_tool.specs.declared.fault.ToolFault.TheVariants.{File}
 use Rattle.tape_tool.specs.declared.fault.Fault.TheVariants.{Tool, OutOfMemory}
+use Rattle.tape_tool.specs.declared.show.ending.StageEnding.{StageEnding}
+use Rattle.tape_tool.specs.declared.show.ending.StageEnding.TheVariants.{Whole, Broken}
 use Rattle.tape_tool.specs.Fault.{of_engine}
 
 -- the exit status of each end
@@ -43,6 +45,13 @@ abbrev pub stage_end : Result (Option Want) ToolFault → End
 stage_end (Ok None) = Done
 stage_end (Ok (Some want)) = Incomplete
 stage_end (Err fault) = Faulted (Tool fault)
+
+-- how `stage --damaged` ends: a success only where the file is complete, and the stage whole
+abbrev pub damaged_end : Result StageEnding ToolFault → End
+damaged_end (Ok (Whole None)) = Done
+damaged_end (Ok (Whole (Some want))) = Incomplete
+damaged_end (Ok (Broken place)) = Incomplete
+damaged_end (Err fault) = Faulted (Tool fault)
 
 -- help is a success where it was printed
 abbrev pub help_end : Bool → End

@@ -1,5 +1,5 @@
 -- What `stage` tells of a stage, and the records that it writes.
-use Rattle.std.specs.Prelude.{◌≡◌, ℕ, List, ◌++◌, length, Option, codes, decimal}
+use Rattle.std.specs.Prelude.{◌≡◌, ℕ, List, ◌++◌, length, Option, Some, None, codes, decimal}
 use Rattle.std.specs.Io.KnownBytes.{Appends, Keeps}
 use Rattle.tape_blocks.specs.Block.{Portion}
 use Rattle.tape_blocks.specs.Spans.{join}
@@ -12,10 +12,13 @@ use Rattle.tape_run.specs.Output.{AppendsFront}
 use Rattle.tape_run.specs.RecordText.{output_of}
 use Rattle.tape_run.specs.ReelLine.{last_line}
 use Rattle.tape_stage.specs.Faults.{SaysNone}
+use Rattle.tape_stage.specs.Salvaged.{Remains, RemainsNone}
 use Rattle.tape_stage.specs.Staged.{Staged, HoldsNone}
 use Rattle.tape_stage.specs.declared.stage.StageFault.{StageFault}
 use Rattle.tape_tool.specs.declared.fault.ToolFault.{ToolFault}
 use Rattle.tape_tool.specs.declared.fault.ToolFault.TheVariants.{Stage}
+use Rattle.tape_tool.specs.declared.show.ending.StageEnding.{StageEnding}
+use Rattle.tape_tool.specs.declared.show.ending.StageEnding.TheVariants.{Whole, Broken}
 
 -- the file of a checkpoint, and how many whole records are staged before it
 abbrev pub stage_line : Point → ℕ → List ℕ
@@ -23,25 +26,35 @@ stage_line point records =
     codes "STAGE " ++ identifier_text point.set_id ++ codes " " ++ decimal point.file ++ codes " "
     ++ decimal records ++ codes "\n"
 
--- that, and the last line that `extract` would give
-abbrev pub told_with : Point → Option Want → ℕ → List ℕ
-told_with point want records = stage_line point records ++ last_line want records
+-- where the frames of a stage break off
+abbrev pub break_line : ℕ → List ℕ
+break_line place = codes "BREAKS OFF " ++ decimal place ++ codes "\n"
 
--- the same, with what this checkpoint wants
-abbrev pub told_of : Point → ℕ → List ℕ
-told_of point records = told_with point (want_at point.file point.position) records
+-- what follows the parts: the last line that `extract` would give, or where the frames break off
+abbrev pub ending_line : StageEnding → ℕ → List ℕ
+ending_line (Whole want) records = last_line want records
+ending_line (Broken place) records = break_line place
+
+-- both lines
+abbrev pub told_with : Point → StageEnding → ℕ → List ℕ
+told_with point ending records = stage_line point records ++ ending_line ending records
+
+-- what follows the parts of a stage: what this checkpoint wants, where all of them are there
+abbrev pub ending_of : Point → Option ℕ → StageEnding
+ending_of point None = Whole (want_at point.file point.position)
+ending_of point (Some place) = Broken place
 
 -- The records that the parts join to were written, all of them and whole, and both lines.
-pub record Gives (point : Point) (form : Form)
+pub record Gives (point : Point) (ending : StageEnding) (form : Form)
     (out written said says : Option (List ℕ)) (parts : List Portion) : Type 0 where
   pub wrote : Appends out written (output_of form parts)
-  pub told : Appends said says (told_of point (length (join parts).records))
+  pub told : Appends said says (told_with point ending (length (join parts).records))
 
 -- A front of them was, and of the lines.
-pub record GivesFront (point : Point) (form : Form)
+pub record GivesFront (point : Point) (ending : StageEnding) (form : Form)
     (out written said says : Option (List ℕ)) (parts : List Portion) : Type 0 where
   pub wrote : AppendsFront out written (output_of form parts)
-  pub told : AppendsFront said says (told_of point (length (join parts).records))
+  pub told : AppendsFront said says (told_with point ending (length (join parts).records))
 
 -- The bytes that were read stand for a checkpoint and its parts. What the checkpoint wants of its
 -- file is told, and the records of the parts were written.
@@ -52,7 +65,7 @@ pub record Shows (read : List ℕ) (form : Form) (out written said says : Option
   pub parts : List Portion
   pub staged : Staged read generation point parts
   pub wanted : want ≡ want_at point.file point.position
-  pub gives : Gives point form out written said says parts
+  pub gives : Gives point (ending_of point None) form out written said says parts
 
 -- A fault ended it. No stage was opened, and nothing was written; that there is none is told only
 -- where there is none. Or a front of what was to be written was.
@@ -61,5 +74,29 @@ pub data StopsShowing (read : List ℕ) (form : Form) (out written said says : O
   unopened : (cause : StageFault) → fault ≡ Stage cause → (SaysNone cause → HoldsNone read)
       → Keeps out written → Keeps said says → StopsShowing read form out written said says fault
   in_part : (generation : ℕ) (point : Point) (parts : List Portion)
-      → Staged read generation point parts → GivesFront point form out written said says parts
+      → Staged read generation point parts
+      → GivesFront point (ending_of point None) form out written said says parts
       → StopsShowing read form out written said says fault
+
+-- This remains of the bytes that were read: a checkpoint, and its parts up to where the frames
+-- break off, if they do. The records of these parts were written, and what follows them told.
+pub record ShowsDamaged (read : List ℕ) (form : Form) (out written said says : Option (List ℕ))
+    (ending : StageEnding) : Type 0 where
+  pub generation : ℕ
+  pub point : Point
+  pub broken : Option ℕ
+  pub parts : List Portion
+  pub remains : Remains read generation point broken parts
+  pub ends : ending ≡ ending_of point broken
+  pub gives : Gives point ending form out written said says parts
+
+-- A fault ended it. Nothing was opened and nothing written, and that nothing remains is told only
+-- where nothing does. Or a front of what was to be written was.
+pub data StopsSalvaging (read : List ℕ) (form : Form) (out written said says : Option (List ℕ))
+    (fault : ToolFault) : Type 0 where
+  nothing : (cause : StageFault) → fault ≡ Stage cause → (SaysNone cause → RemainsNone read)
+      → Keeps out written → Keeps said says → StopsSalvaging read form out written said says fault
+  salvaged_in_part : (generation : ℕ) (point : Point) (broken : Option ℕ) (parts : List Portion)
+      → Remains read generation point broken parts
+      → GivesFront point (ending_of point broken) form out written said says parts
+      → StopsSalvaging read form out written said says fault

@@ -1,9 +1,10 @@
 //! How a run of the program ends, and what its caller sees of that.
 ghost use Rattle.std.specs.Prelude.{◌≡◌};
 ghost use Rattle.tape_tool.specs.Ends.{exit_status, end_of, help_end, words_end, no_words_end};
-ghost use Rattle.tape_tool.specs.Ends.{extract_end, stage_end};
+ghost use Rattle.tape_tool.specs.Ends.{extract_end, stage_end, damaged_end};
 
 use crate::fault::{Fault, FileFault, ToolFault};
+use crate::show::StageEnding;
 use crate::telling::fault_line;
 use clap::error::ErrorKind;
 use std::io;
@@ -65,6 +66,17 @@ pub fn stage_end(answer: Result<Option<Want>, ToolFault>) -> End
     match answer {
         Ok(None) => End::Done,
         Ok(Some(_want)) => End::Incomplete,
+        Err(fault) => end_of(Err(fault)),
+    }
+}
+
+/// How `stage --damaged` ends that answered this: with success only where all is there.
+pub fn damaged_end(answer: Result<StageEnding, ToolFault>) -> End
+    ensures { result ≡ damaged_end answer }
+{
+    match answer {
+        Ok(StageEnding::Whole(None)) => End::Done,
+        Ok(_) => End::Incomplete,
         Err(fault) => end_of(Err(fault)),
     }
 }

@@ -317,7 +317,7 @@ const STAGE: &[&str] = &[
   nothing is in it, and it may be removed.
 ",
     "  It was a stage, and something else wrote to it. It was left as it is.
-  Go on with an older copy of it, or begin a new stage under another name.
+  Go on with an older copy, or a new stage; 'stage --damaged' has its records.
 ",
     "  Reading or writing it failed: a full or a failing disk. What was saved stays.
   Make room, and call again; on a failing disk go on with a copy of the stage.

@@ -1,11 +1,13 @@
 //! The texts of help, and of mistakes in words that the program finds itself.
 mod lists;
+mod stage;
 mod unpack;
 mod volumes;
 
 pub use lists::{
     FROM, NO_IMAGE, NO_TEXT_IN_LIST, NUL_IN_LINES, NULL, TOO_MANY_TO_CHECK, TOO_MANY_TO_SURVEY,
 };
+pub use stage::{ABOUT_STAGE, AFTER_STAGE, DAMAGED, ONE_OUT, OUT_OF_STAGE, STAGE_READ};
 pub use unpack::{
     ABOUT_UNPACK, AFTER_UNPACK, DIR_IS_NO_FOLDER, FOLDER_OF_FILES, FORM_OF_FILES,
     TOO_MANY_TO_UNPACK,
@@ -311,35 +313,3 @@ tape ('tape: file fault 1'): a file with something in it that is named .tap, beg
 is compressed, an archive or a stage. A pipe, a link or a device as OUT is written to at the end.
 
 Exit status: 0 the file is complete, 1 a fault, 2 a wrong command line, 3 something is wanted.";
-
-/// What `stage` does.
-pub const ABOUT_STAGE: &str = "Tells what a stage of 'extract' holds, and gives its records";
-
-/// What PATH is.
-pub const STAGE_READ: &str = "The stage, which is only read";
-
-/// What OUT of `stage` is.
-pub const OUT_OF_STAGE: &str = "Where the records go that are there, written anew";
-
-/// `stage` was given several outputs.
-pub const ONE_OUT: &str = "stage takes one stage, and at most one OUT";
-
-/// Help behind the words of `stage`.
-pub const AFTER_STAGE: &str = "Example:
-  tape stage payroll.stage part.txt
-
-Two lines: the set, the file, and how many whole records are there; and the
-last line of 'extract', that the file is complete or what is still wanted.
-  STAGE ABC001 1 20
-  AWAITS 1 1 2
-
-OUT gets the records before what is wanted: the first ones of the file, none
-left out and none cut. Of a record that has begun and not ended it gets
-nothing. It is written as 'extract' writes its own: never over the stage, an
-image or what may keep one, and under its name only when all is written.
-
-Nothing is written to the stage: a read-only disk will do. It is not read
-while a run of 'extract' has it open ('tape: stage fault 7').
-
-Exit status: 0 the file is complete, 1 a fault, 2 a wrong command line,
-3 something is wanted.";

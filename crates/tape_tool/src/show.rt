@@ -1,31 +1,34 @@
 //! `stage`: what a stage holds, and the records of it.
 ghost use Rattle.std.specs.Prelude.{◌≡◌, ◌≤◌, ◌+◌, ◌++◌, decimal, codes, length, List};
-ghost use Rattle.std.specs.Prelude.{IfOk, IfErr, OnOk, OnErr};
+ghost use Rattle.std.specs.Prelude.{IfOk, IfErr, OnOk, OnErr, None};
 ghost use Rattle.std.specs.Io.KnownBytes.{Appends};
 ghost use Rattle.arrayvec.specs.ArrayVec.{array_vec_len};
 ghost use Rattle.tape_blocks.specs.Block.{Portion};
 ghost use Rattle.tape_run.specs.Identifier.{identifier_text};
 ghost use Rattle.tape_run.specs.Output.{AppendsFront};
 ghost use Rattle.tape_set.specs.Position.{want_at};
-ghost use Rattle.tape_tool.specs.Showing.{stage_line, told_with, Gives, GivesFront};
-ghost use Rattle.tape_tool.specs.Showing.{Shows, StopsShowing};
+ghost use Rattle.tape_stage.specs.Salvaged.{HoldsRest};
+ghost use Rattle.tape_tool.specs.Showing.{stage_line, told_with, ending_of, ending_line};
+ghost use Rattle.tape_tool.specs.Showing.{break_line};
+ghost use Rattle.tape_tool.specs.Showing.{Gives, GivesFront, Shows, StopsShowing};
+ghost use Rattle.tape_tool.specs.Showing.{ShowsDamaged, StopsSalvaging};
 
+mod ending;
 mod program;
 mod read_only;
 
 use crate::fault::{FileFault, ToolFault};
 use arrayvec::ArrayVec;
+pub use ending::StageEnding;
 pub use program::show;
 use std::alloc::Global;
 use std::io::Write;
 use tape_blocks::Form;
 use tape_core::{Checkpoint, PartWalk};
 use tape_label::Field;
-use tape_run::{
-    EngineFault, Session, WriteFailed, flush, last_line, printed, write_file, write_text,
-};
+use tape_run::{EngineFault, WriteFailed, flush, last_line, printed, write_file, write_text};
 use tape_set::Want;
-use tape_stage::{Disk, Stage, StageFault};
+use tape_stage::{Disk, Salvage, Stage, StageFault};
 
 /// Tells what the stage on this disk holds: its file and how many whole records, and then the last
 /// line that `extract` would give. The records, which are the first ones of the file, are written
@@ -52,14 +55,13 @@ pub fn show_stage<D: Disk + Drop, W: Write, P: Write>(
         (W.contents out.old) (W.contents out.new) (P.contents report.old) (P.contents report.new)) }
 {
     match Stage::open_disk(alloc, disk) {
-        Ok((stage, point)) => show_opened(alloc, stage, &point, form, out, report),
+        Ok((stage, point)) => show_opened(stage, &point, form, out, report),
         Err(refused) => Err(ToolFault::Stage(refused.fault)),
     }
 }
 
 /// Tells what a sink holds that was kept up to this point, and writes its records.
 fn show_opened<S: PartWalk + Drop, W: Write, P: Write>(
-    alloc: Global,
     sink: S,
     point: &Checkpoint,
     form: Form,
@@ -68,38 +70,100 @@ fn show_opened<S: PartWalk + Drop, W: Write, P: Write>(
 ) -> Result<Option<Want>, ToolFault>
     ensures wanted { IfOk result (λ want. want ≡ want_at point.now.file point.now.position) }
     ensures ok { OnOk result ((parts : List Portion) → S.holds sink parts
-        → Gives point.now form (W.contents out.old) (W.contents out.new)
+        → Gives point.now (ending_of point.now None) form (W.contents out.old) (W.contents out.new)
         (P.contents report.old) (P.contents report.new) parts) }
     ensures err { OnErr result ((parts : List Portion) → S.holds sink parts
-        → GivesFront point.now form (W.contents out.old) (W.contents out.new)
-        (P.contents report.old) (P.contents report.new) parts) }
+        → GivesFront point.now (ending_of point.now None) form (W.contents out.old)
+        (W.contents out.new) (P.contents report.old) (P.contents report.new) parts) }
 {
-    let session = Session::resume(alloc, point, sink);
-    let want = session.want();
-    let mut sink = session.into_sink();
-    show_parts(&mut sink, point, want, form, out, report)?;
+    let mut sink = sink;
+    let want = point.position.want(point.file);
+    show_parts(
+        &mut sink,
+        point,
+        StageEnding::Whole(want),
+        form,
+        out,
+        report,
+    )?;
     Ok(want)
+}
+
+/// Tells the same of a stage whose frames break off: its whole records before the break, and the
+/// place of that in place of what is wanted. Of a stage that is whole it tells what `show_stage`
+/// does. The disk is only read.
+///
+/// # Errors
+///
+/// Those of `show_stage`; `BadFrame` is none.
+pub fn show_damaged<D: Disk + Drop, W: Write, P: Write>(
+    alloc: Global,
+    disk: D,
+    form: Form,
+    out: &mut W,
+    report: &mut P,
+) -> Result<StageEnding, ToolFault>
+    ensures ok { D.is_honest disk → IfOk result (ShowsDamaged (D.seen disk) form
+        (W.contents out.old) (W.contents out.new) (P.contents report.old) (P.contents report.new)) }
+    ensures err { D.is_honest disk → IfErr result (StopsSalvaging (D.seen disk) form
+        (W.contents out.old) (W.contents out.new) (P.contents report.old) (P.contents report.new)) }
+{
+    match Salvage::open_disk(alloc, disk) {
+        Ok((salvage, point)) => show_rest(salvage, &point, form, out, report),
+        Err(refused) => Err(ToolFault::Stage(refused.fault)),
+    }
+}
+
+/// Tells what remains that was kept up to this point, and writes its records.
+fn show_rest<D: Disk + Drop, W: Write, P: Write>(
+    salvage: Salvage<D>,
+    point: &Checkpoint,
+    form: Form,
+    out: &mut W,
+    report: &mut P,
+) -> Result<StageEnding, ToolFault>
+    ensures ending { IfOk result (λ ending. ending ≡ ending_of point.now salvage.broken) }
+    ensures ok { OnOk result ((parts : List Portion) → HoldsRest salvage parts
+        → Gives point.now (ending_of point.now salvage.broken) form (W.contents out.old)
+        (W.contents out.new) (P.contents report.old) (P.contents report.new) parts) }
+    ensures err { OnErr result ((parts : List Portion) → HoldsRest salvage parts
+        → GivesFront point.now (ending_of point.now salvage.broken) form (W.contents out.old)
+        (W.contents out.new) (P.contents report.old) (P.contents report.new) parts) }
+{
+    let mut salvage = salvage;
+    let ending = ending_at(point, salvage.broken());
+    show_parts(&mut salvage, point, ending, form, out, report)?;
+    Ok(ending)
+}
+
+/// What follows the parts of a stage that breaks off there, or does not.
+fn ending_at(point: &Checkpoint, broken: Option<u64>) -> StageEnding
+    ensures { result ≡ ending_of point.now broken }
+{
+    match broken {
+        None => StageEnding::Whole(point.position.want(point.file)),
+        Some(place) => StageEnding::Broken(place),
+    }
 }
 
 /// Writes the records of the parts, and tells both lines.
 fn show_parts<S: PartWalk, W: Write, P: Write>(
     sink: &mut S,
     point: &Checkpoint,
-    want: Option<Want>,
+    ending: StageEnding,
     form: Form,
     out: &mut W,
     report: &mut P,
 ) -> Result<(), ToolFault>
-    requires { want ≡ want_at point.now.file point.now.position }
     ensures ok { OnOk result ((parts : List Portion) → S.holds sink.old parts
-        → Gives point.now form (W.contents out.old) (W.contents out.new)
+        → Gives point.now ending form (W.contents out.old) (W.contents out.new)
         (P.contents report.old) (P.contents report.new) parts) }
     ensures err { OnErr result ((parts : List Portion) → S.holds sink.old parts
-        → GivesFront point.now form (W.contents out.old) (W.contents out.new)
+        → GivesFront point.now ending form (W.contents out.old) (W.contents out.new)
         (P.contents report.old) (P.contents report.new) parts) }
 {
     match write_file(sink, form, out) {
-        Ok(records) => Ok(tell(report, point, want, records)?),
+        Ok(records) => Ok(tell(report, point, ending, records)?),
         Err(fault) => Err(as_read(fault)),
     }
 }
@@ -113,33 +177,54 @@ fn as_read(fault: EngineFault) -> ToolFault {
     }
 }
 
-/// Tells the file of a stage, so many records, and what is wanted.
+/// Tells the file of a stage, so many records, and what follows.
 fn tell<P: Write>(
     report: &mut P,
     point: &Checkpoint,
-    want: Option<Want>,
+    ending: StageEnding,
     records: u64,
 ) -> Result<(), WriteFailed>
     ensures ok { OnOk result (Appends (P.contents report.old) (P.contents report.new)
-        (told_with point.now want records)) }
+        (told_with point.now ending records)) }
     ensures err { OnErr result (AppendsFront (P.contents report.old) (P.contents report.new)
-        (told_with point.now want records)) }
+        (told_with point.now ending records)) }
 {
-    write_text(report, &lines_of(point, want, records))?;
+    write_text(report, &lines_of(point, ending, records))?;
     flush(report)
 }
 
 /// Room for both lines.
 type Lines = ArrayVec<u8, 512>;
 
-/// The line of the stage, and what is wanted, or that the file is complete.
-fn lines_of(point: &Checkpoint, want: Option<Want>, records: u64) -> Lines
-    ensures { result.items ≡ told_with point.now want records }
+/// The line of the stage, and the one of what follows its parts.
+fn lines_of(point: &Checkpoint, ending: StageEnding, records: u64) -> Lines
+    ensures { result.items ≡ told_with point.now ending records }
 {
     let mut lines = Lines::new();
     put_stage(&mut lines, point, records);
-    put(&mut lines, last_line(want, records).as_bytes());
+    put_ending(&mut lines, ending, records);
     lines
+}
+
+/// What is wanted, or that the file is complete; or where the frames break off.
+fn put_ending(lines: &mut Lines, ending: StageEnding, records: u64)
+    requires { array_vec_len lines.old ≤ 200 }
+    ensures { lines.new.items ≡ lines.old.items ++ ending_line ending records }
+{
+    match ending {
+        StageEnding::Whole(want) => put(lines, last_line(want, records).as_bytes()),
+        StageEnding::Broken(place) => put_break(lines, place),
+    }
+}
+
+/// The line of a break.
+fn put_break(lines: &mut Lines, place: u64)
+    requires { array_vec_len lines.old ≤ 200 }
+    ensures { lines.new.items ≡ lines.old.items ++ break_line place }
+{
+    put(lines, b"BREAKS OFF ");
+    put_decimal(lines, place);
+    put(lines, b"\n");
 }
 
 /// The line of a stage: set, file, and how many whole records are there.
@@ -170,7 +255,7 @@ fn put_identifier(lines: &mut Lines, field: &Field<6>)
 
 /// A number in decimals, without leading zeros.
 fn put_decimal(lines: &mut Lines, number: u64)
-    requires room { array_vec_len lines.old ≤ 100 }
+    requires room { array_vec_len lines.old ≤ 300 }
     ensures items { lines.new.items ≡ lines.old.items ++ decimal number }
     ensures len { array_vec_len lines.new ≤ array_vec_len lines.old + 40 }
 {

@@ -106,6 +106,8 @@ pub struct Show<'a> {
     pub stage: &'a str,
     pub out: Option<&'a str>,
     pub form: Form,
+    /// Whether its frames may break off.
+    pub damaged: bool,
 }
 
 /// The commands and their words.
@@ -295,6 +297,7 @@ fn stage_order<'a>(alloc: Global, matches: &ArgMatches<'a>) -> Result<Order<'a>,
         stage: matches.get_str("PATH").unwrap_or(""),
         out,
         form: form_of(matches),
+        damaged: matches.get_flag("damaged"),
     }))
 }
 

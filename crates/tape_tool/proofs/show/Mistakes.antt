@@ -1,20 +1,23 @@
 -- Answers that the contracts of the pieces of `stage` exclude: each is what a wrong body gives.
-use Rattle.std.proofs.Common.{◌≡◌, List, [], ◌∷◌, ◌++◌, length, ap, ◌∙◌, subst, sym, arith, codes}
+use Rattle.std.proofs.Common.{◌≡◌, ℕ, List, [], ◌∷◌, ◌++◌, length, ap, ◌∙◌, subst, sym, codes}
+use Rattle.std.proofs.Common.{arith}
 use Rattle.std.specs.Prelude.{Some, None, Ok, slice_index}
 use Rattle.std.specs.Io.KnownBytes.{Appends}
-use Rattle.tape_blocks.specs.declared.part.Span.TheVariants.{Whole}
+use Rattle.tape_blocks.specs.declared.part.Span.TheVariants as spans
 use Rattle.tape_blocks.specs.Block.{Portion}
 use Rattle.tape_blocks.specs.declared.form.Form.TheVariants.{Lines}
 use Rattle.tape_set.specs.Position.{want_at}
 use Rattle.tape_run.specs.RecordText.{output_of}
-use Rattle.tape_tool.specs.Showing.{stage_line}
+use Rattle.tape_tool.specs.Showing.{ending_of, stage_line}
+use Rattle.tape_tool.specs.declared.show.ending.StageEnding.TheVariants.{Whole}
 use Rattle.tape_tool.proofs.show.show_parts.Reads as show_parts
 use Rattle.tape_tool.proofs.show.show_opened.Reads as show_opened
 use Rattle.tape_tool.proofs.show.put_stage.Reads as put_stage
+use Rattle.tape_tool.proofs.show.show_rest.Reads as show_rest
 
 -- a whole record
 abbrev whole : List Portion
-whole = record { span = Whole; bytes = codes "AB" } ∷ []
+whole = record { span = spans.Whole; bytes = codes "AB" } ∷ []
 
 -- stage_records_left_out: a record is there, and nothing is written
 stage_records_left_out : (S : _) (W : _) (P : _) (LS : _) (LW : _) (LP : _) (g : _) (d : _)
@@ -33,9 +36,17 @@ stage_records_left_out S W P LS LW LP g d g' d' h e i j κs a s l holds form old
 shown_as_complete : (S : _) (W : _) (P : _) (LS : _) (LW : _) (LP : _) (g : _) (d : _) (g' : _)
     (d' : _) (h : _) (e : _) (i : _) (j : _) (k : _) (κs : _) (a : _) (s : _) (want : _)
     → show_opened.Learnt-named S W P LS LW LP g d g' d' h e i j k κs a (Ok None) s
-    → want_at a.1.1.0.now.file a.1.1.0.now.position ≡ Some want → ⊥
+    → want_at a.1.0.now.file a.1.0.now.position ≡ Some want → ⊥
 shown_as_complete S W P LS LW LP g d g' d' h e i j k κs a s want l wants =
     absurd (let n = l.wanted ∙ wants in cc)
+
+-- damage_told_as_complete: a stage breaks off, and it is told to be whole, its file complete
+damage_told_as_complete : (D : _) (W : _) (P : _) (LD : _) (LW : _) (LP : _) (g : _) (d : _)
+    (g' : _) (h : _) (e : _) (i : _) (j : _) (κs : _) (a : _) (s : _) (place : ℕ)
+    → show_rest.Learnt-named D W P LD LW LP g d g' h e i j κs a (Ok (Whole None)) s
+    → a.0.broken ≡ Some place → ⊥
+damage_told_as_complete D W P LD LW LP g d g' h e i j κs a s place l breaks =
+    absurd (let n = l.ending ∙ ap (ending_of a.1.0.now) breaks in cc)
 
 -- records_told_as_the_file: file 1 with 25 records is told as file 25
 records_told_as_the_file : (κs : _) (a : _) (z : _) (s : _) → put_stage.Learnt-named κs a z s

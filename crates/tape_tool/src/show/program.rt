@@ -1,7 +1,7 @@
 //! The program around the engine of `stage`: the file of the stage, and the output.
 use super::read_only::ReadOnly;
-use super::show_stage;
-use crate::end::{End, end_of, stage_end};
+use super::{show_damaged, show_stage};
+use crate::end::{End, damaged_end, end_of, stage_end};
 use crate::explain::Site;
 use crate::extract::{Draft, OutFile, OutName, Way, way_to_out};
 use crate::fault::{Fault, FileFault, ToolFault};
@@ -106,5 +106,8 @@ fn show_in_place<R: Host>(rt: &R, order: &Show<'_>, disk: StageDisk, out: &str) 
 /// Tells what the disk holds, with the records written to this writer.
 fn show_to<R: Host, W: Write>(rt: &R, order: &Show<'_>, disk: StageDisk, out: &mut W) -> End {
     let mut report = io::writer(rt);
+    if order.damaged {
+        return damaged_end(show_damaged(rt.alloc(), disk, order.form, out, &mut report));
+    }
     stage_end(show_stage(rt.alloc(), disk, order.form, out, &mut report))
 }

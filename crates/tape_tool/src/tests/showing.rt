@@ -1,9 +1,9 @@
 //! `stage`: what a stage holds.
 use super::calls::{Step, take_all};
 use super::volumes::damaged;
-use crate::end::End;
+use crate::end::{End, damaged_end};
 use crate::fault::{FileFault, ToolFault};
-use crate::show::show_stage;
+use crate::show::{show_damaged, show_stage};
 use crate::staging::open_session;
 use std::alloc::{AllocError, Global};
 use std::fs::File;
@@ -60,6 +60,46 @@ fn records_before_what_is_wanted(rt: HostRuntime) -> Result<(), Fail> {
     Ok(())
 }
 
+/// How many bytes stand of a stage of 25 records of 80 bytes, what is told of it, and how many
+/// bytes its records have.
+const TORN: &[(usize, &str, usize)] = &[
+    (2381, "STAGE ABC001 1 25\nCOMPLETE 25\n", 2025),
+    (2380, "STAGE ABC001 1 24\nBREAKS OFF 2296\n", 1944),
+    (1300, "STAGE ABC001 1 12\nBREAKS OFF 1276\n", 972),
+    (1276, "STAGE ABC001 1 12\nBREAKS OFF 1276\n", 972),
+    (256, "STAGE ABC001 1 0\nBREAKS OFF 256\n", 0),
+];
+
+/// What stands of the stage is told so, and its records are the first ones.
+fn is_told_torn<H: Abort + AllocGlobal>(
+    rt: &H,
+    bytes: &[u8],
+    lines: &str,
+    length: usize,
+) -> Result<(), Fail> {
+    let disk = MemoryDisk::from_bytes(rt.alloc(), bytes.to_vec(rt.alloc())?);
+    let (mut out, mut report) = (Vec::new(rt.alloc()), Vec::new(rt.alloc()));
+    let answer = show_damaged(rt.alloc(), disk, Form::Lines, &mut out, &mut report);
+    let size = bytes.len();
+    let told = report.as_slice() == lines.as_bytes();
+    assert!(rt; told && out.len() == length, "{size}: {answer:?}");
+    let complete = damaged_end(answer) == End::Done;
+    assert!(rt; complete == (size == 2381), "{size}");
+    Ok(())
+}
+
+#[test]
+fn a_stage_that_breaks_off(rt: HostRuntime) -> Result<(), Fail> {
+    let Some(disk) = staged(rt.alloc(), 9)? else {
+        return Err(Fail::from("a stage"));
+    };
+    for (size, lines, length) in TORN {
+        let bytes = disk.bytes().get(..*size).unwrap_or_default();
+        is_told_torn(&rt, bytes, lines, *length)?;
+    }
+    Ok(())
+}
+
 const MADE: &[Step<'_>] = &[
     Step::PutDamaged("shown.tap", 3),
     Step::Remove("shown.stage"),
@@ -76,6 +116,8 @@ const MADE: &[Step<'_>] = &[
         End::Incomplete,
     ),
     Step::HasLength("shown_raw.txt", 1200),
+    // One that is whole is told as without the word.
+    Step::Ends("stage shown.stage --damaged", End::Incomplete),
     // The stage stays, and what may keep a tape is never written over.
     Step::HasLength("shown.stage", 1531),
     Step::Ends("stage shown.stage shown.stage", End::WrongWords),

@@ -94,7 +94,7 @@ pub const STAGE: Outline = Outline {
     called: "tape stage",
     about: help::ABOUT_STAGE,
     after_help: help::AFTER_STAGE,
-    usage: Some("tape stage [--form FORM] <PATH> [OUT]"),
+    usage: Some("tape stage [--form FORM] [--damaged] <PATH> [OUT]"),
     words: &[
         Word("PATH", Kind::Text, help::STAGE_READ),
         Word("OUT", Kind::AnyTexts, help::OUT_OF_STAGE),
@@ -103,6 +103,7 @@ pub const STAGE: Outline = Outline {
             Kind::NameOption("FORM", FORMS, "lines"),
             help::FORM_OF_OUT,
         ),
+        Word("damaged", Kind::Flag, help::DAMAGED),
     ],
 };
 

@@ -4,6 +4,6 @@ use Rattle.tape_tool.proofs.show.show_parts.Goals as goal
 
 pub returns-in_err-tell-in-Ok-clause-err : goal.returns-in_err-tell-in-Ok-clause-err
 returns-in_err-tell-in-Ok-clause-err g c =
-    on_err c.from_residual.result _ (λ parts held. gives_front c.args.point.now c.args.want
-    c.in-Ok.records c.args.form _ _ _ _ parts c.requires (c.in-Ok.ensures.ok parts held)
+    on_err c.from_residual.result _ (λ parts held. gives_front c.args.point.now c.args.ending
+    c.in-Ok.records c.args.form _ _ _ _ parts (c.in-Ok.ensures.ok parts held)
     c.in_err-tell-in-Ok.ensures.err)

@@ -1,0 +1,11 @@
+//! What follows the parts of a stage.
+use tape_set::Want;
+
+/// What follows the parts of a stage that was shown.
+#[derive(Clone, Copy, Debug, PartialEq, Eq)]
+pub enum StageEnding {
+    /// All frames stand; this is wanted of the file, if something is.
+    Whole(Option<Want>),
+    /// The frames break off at this place of the stage.
+    Broken(u64),
+}
