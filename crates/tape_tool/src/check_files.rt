@@ -17,12 +17,13 @@ use tape_run::{EngineFault, RunFault, check_to};
 /// Reports what is on the images that are named. At a fault the site is where it came.
 pub fn check<'a, R: Runtime + AllocGlobal>(rt: &R, named: &Named<'a>, site: &mut Site<'a>) -> End {
     let mut text = String::new(rt.alloc());
-    let names = match names_of(rt, named, &mut text, site) {
-        Ok(names) => names,
-        Err(unfit) => return refuse_unfit(rt, &CHECK, unfit),
-    };
-    *site = Site::Lines;
-    check_end(check_files(rt, names.as_slice()))
+    match names_of(rt, named, &mut text, site) {
+        Ok(names) => {
+            *site = Site::Lines;
+            check_end(check_files(rt, names.as_slice()))
+        }
+        Err(unfit) => refuse_unfit(rt, &CHECK, unfit),
+    }
 }
 
 /// How a check ends, which found all or did not.

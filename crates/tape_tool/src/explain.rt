@@ -1,5 +1,11 @@
 //! What a fault means, in words: behind its one line, where `--explain` asks for them.
+mod files;
+
 use crate::fault::{Fault, ToolFault, number_of_file, number_of_write};
+use files::{
+    FILE, FILE_OF_FOLDER, FILE_OF_IMAGE, FILE_OF_LINES, FILE_OF_LIST, FILE_OF_OUT, FILE_OF_STAGE,
+    FILE_OF_VOLUME,
+};
 use std::fmt;
 use tape_image::{ImageCause, ImageFault};
 use tape_writer::Prefix;
@@ -33,19 +39,31 @@ impl fmt::Display for Site<'_> {
     fn fmt<W: fmt::Write>(&self, f: &mut fmt::Formatter<W>) -> fmt::Result {
         match self {
             Site::Unknown => Ok(()),
-            Site::Lines => f.write_str("  Output: standard output\n"),
-            Site::Input => f.write_str("  Image: standard input\n"),
-            Site::Image(path) => writeln!(f, "  Image: {path}"),
             Site::Volume(prefix, number) => {
                 let [a, b, c] = prefix.characters.map(char::from);
                 writeln!(f, "  Image: {a}{b}{c}{number:03}.tap")
             }
-            Site::File(word) => writeln!(f, "  File: {word}"),
-            Site::List(None) => f.write_str("  List: standard input\n"),
-            Site::List(Some(path)) => writeln!(f, "  List: {path}"),
-            Site::Out(path) => writeln!(f, "  OUT: {path}"),
-            Site::Stage(path) => writeln!(f, "  Stage: {path}"),
-            Site::Folder(path) => writeln!(f, "  DIR: {path}"),
+            _ => {
+                let (kind, name) = self.named();
+                writeln!(f, "  {kind}: {name}")
+            }
+        }
+    }
+}
+
+impl<'a> Site<'a> {
+    /// What kind of thing it is, and its name.
+    fn named(&self) -> (&'static str, &'a str) {
+        match *self {
+            Site::Unknown | Site::Volume(_, _) => ("", ""),
+            Site::Lines => ("Output", "standard output"),
+            Site::Input => ("Image", "standard input"),
+            Site::Image(path) => ("Image", path),
+            Site::File(word) => ("File", word),
+            Site::List(path) => ("List", path.unwrap_or("standard input")),
+            Site::Out(path) => ("OUT", path),
+            Site::Stage(path) => ("Stage", path),
+            Site::Folder(path) => ("DIR", path),
         }
     }
 }
@@ -200,102 +218,6 @@ const WRITE: &[&str] = &[
     NO_MEMORY,
     NEVER,
     NEVER,
-];
-
-/// Of `write`, where it is not known which file it was.
-const FILE: &[&str] = &[
-    "  An image of the set is there already and is not blank: it was left as it is.
-  Remove it if you do not need it, or name another PRE or DIR. Images that were
-  written before it are not blank any more.
-",
-    "  An input or an image could not be opened or made: are the names right, is DIR
-  there, may you read and write there?
-  Images that were begun are not blank any more: remove them first.
-",
-    "  Reading an input, or an image that is there, failed: a folder, or a bad disk.
-  Images that were begun are not blank any more: remove them first.
-",
-    "  Writing failed: a full disk, or standard output was closed.
-  Images that were begun are not blank any more: remove them first.
-",
-];
-
-const FILE_OF_LINES: &[&str] = &[
-    NEVER,
-    NEVER,
-    NEVER,
-    "  It takes no more: a full disk, or a pipe that was closed, as by 'head'.
-  What was printed is right.
-",
-];
-
-const FILE_OF_IMAGE: &[&str] = &[
-    NEVER,
-    "  It could not be opened. Nothing was read.
-  Is the name right, and may you read it?
-",
-    NEVER,
-    NEVER,
-];
-
-const FILE_OF_VOLUME: &[&str] = &[
-    "  It is there already, and was left as it is. Those made before it stay.
-  Name another PRE or DIR, or remove it if you do not need it.
-",
-    "  It could not be made. Those made before it stay.
-  Is DIR there, and may you write to it?
-",
-    NEVER,
-    "  It could not be written whole: is the disk full? Those made before it stay.
-  Remove it before you call again.
-",
-];
-
-const FILE_OF_LIST: &[&str] = &[
-    NEVER,
-    "  It could not be opened. No image was read.
-  Is the name right, and may you read it?
-",
-    "  Reading it failed: it is a folder, or the disk fails. No image was read.
-",
-    NEVER,
-];
-
-const FILE_OF_OUT: &[&str] = &[
-    "  It may keep a tape, and was left as it is: an image, compressed, or a stage.
-  OUT stands before the images: tape extract SET FILE OUT IMAGE..
-  Name another OUT, or remove the file if you do not need it.
-",
-    "  It could not be opened or made. What a stage keeps stays.
-  Is its folder there, and may you read and write there?
-",
-    "  It could not be read, so it can't be seen whether it keeps a tape.
-  It was left as it is, and nothing else was read. Name another OUT.
-",
-    "  It, or standard output, takes no more: a full disk, or a closed pipe.
-  OUT may not be whole. What a stage keeps stays.
-  Make room, or name an OUT on another disk, and call again.
-",
-];
-
-const FILE_OF_STAGE: &[&str] = &[
-    NEVER,
-    "  It could not be opened, or not be made, and no image was read. Is the name
-  right, is its folder there, may you read there, and with 'extract' write?
-",
-    NEVER,
-    NEVER,
-];
-
-const FILE_OF_FOLDER: &[&str] = &[
-    NEVER,
-    "  It, or a file in it, could not be opened or made. Files told before stay.
-  Is DIR there, and may you read and write there?
-",
-    NEVER,
-    "  A file in it, or standard output, takes no more: a full disk, or a closed
-  pipe. Files told before stay, and the stages. Make room, and call again.
-",
 ];
 
 const RUN: &[&str] = &[

@@ -13,15 +13,28 @@ use tape_writer::system::{image_path, make_image};
 pub fn init<R: Runtime + AllocGlobal>(rt: &R, order: &Init<'_>, site: &mut Site<'_>) -> End {
     for number in 1..=order.count {
         *site = Site::Volume(order.prefix, number);
-        let Ok(path) = image_path(rt.alloc(), order.folder, order.prefix, number) else {
-            return End::Faulted(Fault::OutOfMemory);
-        };
-        if let Err(fault) = make_image(rt, path.as_str(), order.prefix, number) {
-            return end_of(Err(ToolFault::File(fault)));
+        if let Err(fault) = make(rt, order, number) {
+            return End::Faulted(fault);
         }
     }
     *site = Site::Lines;
-    let Ok(line) = format!(in rt.alloc(); "INIT {}\n", order.count) else {
+    tell(rt, order.count)
+}
+
+/// Makes the image of a volume.
+fn make<R: Runtime + AllocGlobal>(rt: &R, order: &Init<'_>, number: u16) -> Result<(), Fault> {
+    let Ok(path) = image_path(rt.alloc(), order.folder, order.prefix, number) else {
+        return Err(Fault::OutOfMemory);
+    };
+    match make_image(rt, path.as_str(), order.prefix, number) {
+        Ok(()) => Ok(()),
+        Err(fault) => Err(Fault::Tool(ToolFault::File(fault))),
+    }
+}
+
+/// Tells how many volumes were made.
+fn tell<R: Print + AllocGlobal>(rt: &R, count: u16) -> End {
+    let Ok(line) = format!(in rt.alloc(); "INIT {count}\n") else {
         return End::Faulted(Fault::OutOfMemory);
     };
     match say(&mut io::writer(rt), line.as_str()) {

@@ -12,7 +12,7 @@ use std::io::{ErrorKind, Read};
 use std::rt::Runtime;
 
 /// What names the images of a run.
-#[derive(Debug, Drop, PartialEq, Eq)]
+#[derive(Drop)]
 pub struct Named<'a> {
     /// The names among the words.
     pub words: Vec<&'a str>,
@@ -20,7 +20,7 @@ pub struct Named<'a> {
 }
 
 /// A list of names.
-#[derive(Clone, Copy, Debug, PartialEq, Eq)]
+#[derive(Clone, Copy)]
 pub struct List<'a> {
     /// Its file, where it is not on standard input.
     pub file: Option<&'a str>,
@@ -57,14 +57,7 @@ pub fn names_of<'t, 'a: 't, R: Runtime + AllocGlobal>(
 
 /// The text of a list.
 fn read_list<R: Runtime + AllocGlobal>(rt: &R, list: List<'_>) -> Result<String, Unfit> {
-    let bytes = match list.file {
-        None => read_all(rt.alloc(), &mut rt.reader())?,
-        Some(path) => match File::open(rt, path) {
-            Ok(mut file) => read_all(rt.alloc(), &mut file)?,
-            Err(_) => return Err(refused(FileFault::NotOpened)),
-        },
-    };
-    match String::from_utf8(bytes) {
+    match String::from_utf8(bytes_of(rt, list)?) {
         Err(error) => {
             let place = error.utf8_error().valid_up_to();
             Err(Unfit::NoText(list.null, number_at(error.as_bytes(), list.null, place)))
@@ -74,6 +67,17 @@ fn read_list<R: Runtime + AllocGlobal>(rt: &R, list: List<'_>) -> Result<String,
             Err(Unfit::Words(help::NUL_IN_LINES))
         }
         Ok(text) => Ok(text),
+    }
+}
+
+/// The bytes of a list.
+fn bytes_of<R: Runtime + AllocGlobal>(rt: &R, list: List<'_>) -> Result<Vec<u8>, Unfit> {
+    let Some(path) = list.file else {
+        return read_all(rt.alloc(), &mut rt.reader());
+    };
+    match File::open(rt, path) {
+        Ok(mut file) => read_all(rt.alloc(), &mut file),
+        Err(_) => Err(refused(FileFault::NotOpened)),
     }
 }
 

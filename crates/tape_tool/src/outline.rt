@@ -46,17 +46,29 @@ pub enum Kind {
 
 /// The command of an outline.
 pub fn command_of<'a>(alloc: Global, outline: &Outline) -> Result<Command<'a>, AllocError> {
-    let mut command = Command::new(alloc, outline.name)
-        .bin_name(outline.called)?
-        .about(outline.about)
-        .after_help(outline.after_help);
+    let mut command = bare(alloc, outline)?;
     for word in outline.words {
-        command = command.arg(argument(alloc, word)?)?;
+        command = with_word(alloc, command, word)?;
     }
     match outline.usage {
         Some(usage) => Ok(command.override_usage(usage)),
         None => Ok(command),
     }
+}
+
+/// The command with its texts alone.
+fn bare<'a>(alloc: Global, outline: &Outline) -> Result<Command<'a>, AllocError> {
+    let command = Command::new(alloc, outline.name).bin_name(outline.called)?;
+    Ok(command.about(outline.about).after_help(outline.after_help))
+}
+
+/// The command, which takes this word or option too.
+fn with_word<'a>(
+    alloc: Global,
+    command: Command<'a>,
+    word: &Word,
+) -> Result<Command<'a>, AllocError> {
+    command.arg(argument(alloc, word)?)
 }
 
 /// The argument of a word or an option.
@@ -102,7 +114,15 @@ fn option_argument<'a>(long: Arg<'a>, kind: Kind) -> Arg<'a> {
     }
 }
 
-/// A mistake in the words of a command, with its usage behind the text.
-pub fn mistake(alloc: Global, outline: &Outline, text: &str) -> Result<Error, AllocError> {
+/// A mistake in the words of a command, with its usage behind the text; or want of memory for it.
+pub fn mistake(alloc: Global, outline: &Outline, text: &str) -> Error {
+    match told(alloc, outline, text) {
+        Ok(error) => error,
+        Err(error) => Error::from(error),
+    }
+}
+
+/// The same, where there is memory for it.
+fn told(alloc: Global, outline: &Outline, text: &str) -> Result<Error, AllocError> {
     command_of(alloc, outline)?.error(ErrorKind::ValueValidation, text)
 }

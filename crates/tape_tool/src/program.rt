@@ -12,7 +12,7 @@ use crate::show::show;
 use crate::survey_files::survey;
 use crate::unfit::Unfit;
 use crate::unpack::unpack;
-use crate::words::{Listing, Order, call_of};
+use crate::words::{Call, Listing, Order, call_of};
 use crate::write::command::write;
 use crate::write::guard::{look_ahead, wrong_file};
 use crate::write::words::{WRITE, WriteOrder};
@@ -65,18 +65,21 @@ pub fn without_words<R: Eprint>(rt: &R, kind: io::ErrorKind) -> End {
 /// Does what the words ask for, the program's own name first.
 pub fn perform<'a, R: Host>(rt: &R, words: &'a [String]) -> Outcome<'a> {
     match call_of(rt.alloc(), words) {
-        Ok(call) => {
-            let mut site = Site::Unknown;
-            let end = obey(rt, &call.order, &mut site);
-            Outcome {
-                end,
-                explained: call.explained.then_some(site),
-            }
-        }
+        Ok(call) => follow(rt, &call),
         Err(error) => Outcome {
             end: refuse(rt, &error),
             explained: None,
         },
+    }
+}
+
+/// Does what the call asks for.
+fn follow<'a, R: Host>(rt: &R, call: &Call<'a>) -> Outcome<'a> {
+    let mut site = Site::Unknown;
+    let end = obey(rt, &call.order, &mut site);
+    Outcome {
+        end,
+        explained: call.explained.then_some(site),
     }
 }
 
@@ -141,10 +144,7 @@ where
 
 /// Tells a mistake in words that was found behind them.
 fn refuse_words<R: Print + Eprint + AllocGlobal>(rt: &R, outline: &Outline, text: &str) -> End {
-    match mistake(rt.alloc(), outline, text) {
-        Ok(error) => refuse(rt, &error),
-        Err(_) => End::Faulted(Fault::OutOfMemory),
-    }
+    refuse(rt, &mistake(rt.alloc(), outline, text))
 }
 
 /// Lists the image at the path, or that on standard input.
@@ -184,8 +184,10 @@ fn list_input<R: Print + AllocGlobal, I: Read + Drop>(
     let Ok(mut writer) = BufWriter::new(rt.alloc(), io::writer(rt)) else {
         return Err(no_memory);
     };
-    if places {
-        return Ok(list_places_to(rt.alloc(), &mut reader, &mut writer)?);
-    }
-    Ok(list_to(rt.alloc(), &mut reader, &mut writer)?)
+    let listed = if places {
+        list_places_to(rt.alloc(), &mut reader, &mut writer)
+    } else {
+        list_to(rt.alloc(), &mut reader, &mut writer)
+    };
+    Ok(listed?)
 }

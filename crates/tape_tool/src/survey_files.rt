@@ -17,12 +17,13 @@ where
     R: Runtime + AllocGlobal,
 {
     let mut text = String::new(rt.alloc());
-    let names = match names_of(rt, &order.images, &mut text, site) {
-        Ok(names) => names,
-        Err(unfit) => return refuse_unfit(rt, &SURVEY, unfit),
-    };
-    *site = Site::Lines;
-    check_end(survey_files(rt, names.as_slice(), order.wording))
+    match names_of(rt, &order.images, &mut text, site) {
+        Ok(names) => {
+            *site = Site::Lines;
+            check_end(survey_files(rt, names.as_slice(), order.wording))
+        }
+        Err(unfit) => refuse_unfit(rt, &SURVEY, unfit),
+    }
 }
 
 /// The same of these names, and whether nothing lacks and nothing is left over.

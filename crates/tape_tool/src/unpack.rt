@@ -29,16 +29,22 @@ use tape_run::{
 /// came.
 pub fn unpack<'a, R: Host>(rt: &R, order: &Unpack<'a>, site: &mut Site<'a>) -> End {
     let mut text = String::new(rt.alloc());
-    let names = match names_of(rt, &order.images, &mut text, site) {
-        Ok(names) => names,
-        Err(unfit) => return refuse_unfit(rt, &UNPACK, unfit),
-    };
-    *site = Site::Folder(order.folder);
+    match names_of(rt, &order.images, &mut text, site) {
+        Ok(names) => {
+            *site = Site::Folder(order.folder);
+            unpack_images(rt, order, names.as_slice())
+        }
+        Err(unfit) => refuse_unfit(rt, &UNPACK, unfit),
+    }
+}
+
+/// Gets every file back that is on the images of these names.
+fn unpack_images<R: Host>(rt: &R, order: &Unpack<'_>, names: &[&str]) -> End {
     if let Err(unfit) = is_folder(rt, order.folder) {
         return refuse_unfit(rt, &UNPACK, unfit);
     }
-    match files_on(rt.alloc(), &mut Images::new(rt, names.as_slice())) {
-        Ok(met) => unpack_all(rt, order, names.as_slice(), &met),
+    match files_on(rt.alloc(), &mut Images::new(rt, names)) {
+        Ok(met) => unpack_all(rt, order, names, &met),
         Err(fault) => end_of(Err(ToolFault::Run(fault))),
     }
 }
@@ -58,10 +64,7 @@ fn unpack_all<R: Host>(rt: &R, order: &Unpack<'_>, names: &[&str], met: &ShelfFi
     let files = met.files.as_slice();
     let mut all = met.whole && !files.is_empty();
     for file in files {
-        let Ok(own) = names_of_set(rt.alloc(), names, met.sets.as_slice(), &file.set_id) else {
-            return End::Faulted(Fault::OutOfMemory);
-        };
-        match unpack_file(rt, order, &mut Images::new(rt, own.as_slice()), file) {
+        match unpack_met(rt, order, names, met, file) {
             End::Done => {}
             End::Incomplete => all = false,
             end => return end,
@@ -70,6 +73,20 @@ fn unpack_all<R: Host>(rt: &R, order: &Unpack<'_>, names: &[&str], met: &ShelfFi
     match say(rt, left_over_line(met.whole)) {
         Ok(()) => check_end(Ok(all)),
         Err(WriteFailed) => end_of(Err(ToolFault::File(FileFault::WriteFailed))),
+    }
+}
+
+/// Unpacks a file that was met, from the images of its set.
+fn unpack_met<R: Host>(
+    rt: &R,
+    order: &Unpack<'_>,
+    names: &[&str],
+    met: &ShelfFiles,
+    file: &SetFile,
+) -> End {
+    match names_of_set(rt.alloc(), names, met.sets.as_slice(), &file.set_id) {
+        Ok(own) => unpack_file(rt, order, &mut Images::new(rt, own.as_slice()), file),
+        Err(_) => End::Faulted(Fault::OutOfMemory),
     }
 }
 

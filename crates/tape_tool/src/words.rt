@@ -6,10 +6,10 @@ mod outlines;
 
 use crate::help;
 use crate::names::{List, Named};
-use crate::outline::{command_of, mistake};
+use crate::outline::{Outline, command_of, mistake};
 use crate::write::words::{WRITE, WriteOrder, write_order};
 use clap::{Arg, ArgAction, ArgMatches, Command, Error};
-use outlines::{INIT, LIST};
+use outlines::{INIT, LIST, TAPE, with_commands};
 pub use outlines::{CHECK, EXTRACT, FORMS, STAGE, SURVEY, UNPACK};
 use std::alloc::{AllocError, Global};
 use tape_blocks::Form;
@@ -112,25 +112,13 @@ pub struct Show<'a> {
 
 /// The commands and their words.
 fn command<'a>(alloc: Global) -> Result<Command<'a>, AllocError> {
-    let mut command = tape_command(alloc)?.arg(explain_option(alloc))?;
-    for outline in [
-        &LIST, &CHECK, &SURVEY, &EXTRACT, &UNPACK, &STAGE, &INIT, &WRITE,
-    ] {
-        command = command.subcommand(command_of(alloc, outline)?)?;
-    }
-    Ok(command)
+    with_commands(alloc, tape_command(alloc)?)
 }
 
-/// The program. Usage names it as its user does, whatever the file is called.
+/// The program without its commands.
 fn tape_command<'a>(alloc: Global) -> Result<Command<'a>, AllocError> {
-    let command = Command::new(alloc, "tape").bin_name("tape")?;
-    Ok(
-        command
-            .version("0.1.0")
-            .about(help::ABOUT)
-            .after_help(help::AFTER)
-            .subcommand_required(true),
-    )
+    let command = command_of(alloc, &TAPE)?.version("0.1.0");
+    command.subcommand_required(true).arg(explain_option(alloc))
 }
 
 /// `--explain`, of each command.
@@ -149,37 +137,28 @@ fn explain_option<'a>(alloc: Global) -> Arg<'a> {
 /// The error of a wrong command line, of a call for help, or of memory refused. It has its text.
 pub fn call_of<'a>(alloc: Global, words: &'a [String]) -> Result<Call<'a>, Error> {
     let matches = command(alloc)?.try_get_matches_from(words)?;
+    call_in(alloc, &matches)
+}
+
+/// What the words ask for that were found.
+fn call_in<'a>(alloc: Global, matches: &ArgMatches<'a>) -> Result<Call<'a>, Error> {
     Ok(Call {
-        order: order_of(alloc, &matches)?,
+        order: order_of(alloc, matches)?,
         explained: matches.get_flag("explain"),
     })
 }
 
-/// What the words of the command ask for.
+/// What the words of the command ask for, of which the parser has seen to it that there is one.
 fn order_of<'a>(alloc: Global, matches: &ArgMatches<'a>) -> Result<Order<'a>, Error> {
-    if let Some(init) = matches.subcommand_matches("init") {
-        return init_order(alloc, init);
-    }
-    if let Some(check) = matches.subcommand_matches("check") {
-        return check_order(alloc, check);
-    }
-    if let Some(survey) = matches.subcommand_matches("survey") {
-        return survey_order(alloc, survey);
-    }
-    if let Some(write) = matches.subcommand_matches("write") {
-        return write_order(alloc, write);
-    }
-    if let Some(extract) = matches.subcommand_matches("extract") {
-        return extract_order(alloc, extract);
-    }
-    if let Some(unpack) = matches.subcommand_matches("unpack") {
-        return unpack_order(alloc, unpack);
-    }
-    if let Some(stage) = matches.subcommand_matches("stage") {
-        return stage_order(alloc, stage);
-    }
-    match matches.subcommand_matches("list") {
-        Some(list) => list_order(alloc, list),
+    match matches.subcommand() {
+        Some(("init", init)) => init_order(alloc, init),
+        Some(("check", check)) => check_order(alloc, check),
+        Some(("survey", survey)) => survey_order(alloc, survey),
+        Some(("write", write)) => write_order(alloc, write),
+        Some(("extract", extract)) => extract_order(alloc, extract),
+        Some(("unpack", unpack)) => unpack_order(alloc, unpack),
+        Some(("stage", stage)) => stage_order(alloc, stage),
+        Some((_, list)) => list_order(alloc, list),
         None => Ok(Order::List(Listing {
             image: None,
             places: false,
@@ -189,53 +168,65 @@ fn order_of<'a>(alloc: Global, matches: &ArgMatches<'a>) -> Result<Order<'a>, Er
 
 /// What the words behind `init` ask for. The parser has seen to it that all three are there.
 fn init_order<'a>(alloc: Global, matches: &ArgMatches<'a>) -> Result<Order<'a>, Error> {
-    let folder = matches.get_str("DIR").unwrap_or("");
+    let outline = &INIT;
+    let folder = text_of(matches, "DIR");
     let count = matches.get_one::<u16>("COUNT").unwrap_or(0);
     if folder.is_empty() {
-        return Err(mistake(alloc, &INIT, help::NO_FOLDER)?);
+        return Err(mistake(alloc, outline, help::NO_FOLDER));
     }
-    match Prefix::new(matches.get_str("PRE").unwrap_or("")) {
+    match Prefix::new(text_of(matches, "PRE")) {
         Some(prefix) => Ok(Order::Init(Init {
             folder,
             prefix,
             count,
         })),
-        None => Err(mistake(alloc, &INIT, help::WRONG_PREFIX)?),
+        None => Err(mistake(alloc, outline, help::WRONG_PREFIX)),
     }
+}
+
+/// The word of this name. The parser has seen to it that it is there.
+fn text_of<'a>(matches: &ArgMatches<'a>, name: &str) -> &'a str {
+    matches.get_str(name).unwrap_or("")
+}
+
+/// Whether the word stands for a stream.
+fn is_dash(word: &str) -> bool {
+    word == "-"
 }
 
 /// What the words behind `check` ask for.
 fn check_order<'a>(alloc: Global, matches: &ArgMatches<'a>) -> Result<Order<'a>, Error> {
-    match named(alloc, matches)? {
-        Some(images) => Ok(Order::Check(images)),
-        None => Err(mistake(alloc, &CHECK, help::TOO_MANY_TO_CHECK)?),
-    }
+    Ok(Order::Check(named(alloc, matches, &CHECK, help::TOO_MANY_TO_CHECK)?))
 }
 
-/// What names the images, if there are not too many words. The parser has seen to it that there are
-/// some, or a list.
-fn named<'a>(alloc: Global, matches: &ArgMatches<'a>) -> Result<Option<Named<'a>>, AllocError> {
+/// What names the images: some, or a list. Where too many words do, this text is told.
+fn named<'a>(
+    alloc: Global,
+    matches: &ArgMatches<'a>,
+    outline: &Outline,
+    too_many: &str,
+) -> Result<Named<'a>, Error> {
     let words = matches.get_strs("IMAGE").unwrap_or(&[]);
     if words.len() > MOST_IMAGES {
-        return Ok(None);
+        return Err(mistake(alloc, outline, too_many));
     }
-    let words = Vec::from_slice(alloc, words)?;
     let list = matches.get_str("from").map(|path| List {
-        file: if path == "-" { None } else { Some(path) },
+        file: if is_dash(path) { None } else { Some(path) },
         null: matches.get_flag("null"),
     });
-    Ok(Some(Named { words, list }))
+    Ok(Named {
+        words: Vec::from_slice(alloc, words)?,
+        list,
+    })
 }
 
 /// What the words behind `survey` ask for.
 fn survey_order<'a>(alloc: Global, matches: &ArgMatches<'a>) -> Result<Order<'a>, Error> {
-    match named(alloc, matches)? {
-        Some(images) => Ok(Order::Survey(Survey {
-            images,
-            wording: wording_of(matches),
-        })),
-        None => Err(mistake(alloc, &SURVEY, help::TOO_MANY_TO_SURVEY)?),
-    }
+    let images = named(alloc, matches, &SURVEY, help::TOO_MANY_TO_SURVEY)?;
+    Ok(Order::Survey(Survey {
+        images,
+        wording: wording_of(matches),
+    }))
 }
 
 /// How a survey is to be told.
@@ -248,36 +239,39 @@ fn wording_of(matches: &ArgMatches<'_>) -> Wording {
 
 /// What the words behind `extract` ask for. The parser has seen to it that all of them are there.
 fn extract_order<'a>(alloc: Global, matches: &ArgMatches<'a>) -> Result<Order<'a>, Error> {
-    let Some(set_id) = set_id_of(matches.get_str("SET").unwrap_or("")) else {
-        return Err(mistake(alloc, &EXTRACT, help::WRONG_SET)?);
+    let outline = &EXTRACT;
+    let Some(set_id) = set_id_of(text_of(matches, "SET")) else {
+        return Err(mistake(alloc, outline, help::WRONG_SET));
     };
-    let Some(images) = named(alloc, matches)? else {
-        return Err(mistake(alloc, &EXTRACT, help::TOO_MANY_IMAGES)?);
-    };
-    let out = matches.get_str("OUT").unwrap_or("");
-    if out == "-" {
-        return Err(mistake(alloc, &EXTRACT, help::OUT_IS_DASH)?);
+    let out = text_of(matches, "OUT");
+    if is_dash(out) {
+        return Err(mistake(alloc, outline, help::OUT_IS_DASH));
     }
-    let task = Task {
+    let images = named(alloc, matches, outline, help::TOO_MANY_IMAGES)?;
+    let task = task_of(matches, set_id, out);
+    Ok(Order::Extract(Extract { task, images }))
+}
+
+/// The file of this set that is to be got back, and how.
+fn task_of<'a>(matches: &ArgMatches<'a>, set_id: Field<6>, out: &'a str) -> Task<'a> {
+    Task {
         set_id,
         file: matches.get_one::<u16>("FILE").unwrap_or(0),
         out,
         form: form_of(matches),
         stage: matches.get_str("stage"),
         again: matches.get_flag("again"),
-    };
-    Ok(Order::Extract(Extract { task, images }))
+    }
 }
 
 /// What the words behind `unpack` ask for. The parser has seen to it that all of them are there.
 fn unpack_order<'a>(alloc: Global, matches: &ArgMatches<'a>) -> Result<Order<'a>, Error> {
-    let Some(images) = named(alloc, matches)? else {
-        return Err(mistake(alloc, &UNPACK, help::TOO_MANY_TO_UNPACK)?);
-    };
-    let folder = matches.get_str("DIR").unwrap_or("");
+    let outline = &UNPACK;
+    let folder = text_of(matches, "DIR");
     if folder.is_empty() {
-        return Err(mistake(alloc, &UNPACK, help::NO_FOLDER)?);
+        return Err(mistake(alloc, outline, help::NO_FOLDER));
     }
+    let images = named(alloc, matches, outline, help::TOO_MANY_TO_UNPACK)?;
     Ok(Order::Unpack(Unpack {
         folder,
         images,
@@ -287,14 +281,15 @@ fn unpack_order<'a>(alloc: Global, matches: &ArgMatches<'a>) -> Result<Order<'a>
 
 /// What the words behind `stage` ask for. The parser has seen to it that a stage is named.
 fn stage_order<'a>(alloc: Global, matches: &ArgMatches<'a>) -> Result<Order<'a>, Error> {
+    let outline = &STAGE;
     let out = match matches.get_strs("OUT") {
         None | Some([]) => None,
-        Some(["-"]) => return Err(mistake(alloc, &STAGE, help::OUT_IS_DASH)?),
+        Some(["-"]) => return Err(mistake(alloc, outline, help::OUT_IS_DASH)),
         Some([out]) => Some(*out),
-        Some(_) => return Err(mistake(alloc, &STAGE, help::ONE_OUT)?),
+        Some(_) => return Err(mistake(alloc, outline, help::ONE_OUT)),
     };
     Ok(Order::Show(Show {
-        stage: matches.get_str("PATH").unwrap_or(""),
+        stage: text_of(matches, "PATH"),
         out,
         form: form_of(matches),
         damaged: matches.get_flag("damaged"),
@@ -331,9 +326,9 @@ pub fn form_of(matches: &ArgMatches<'_>) -> Form
 fn list_order<'a>(alloc: Global, matches: &ArgMatches<'a>) -> Result<Order<'a>, Error> {
     let image = match matches.get_strs("IMAGE") {
         None | Some([]) => None,
-        Some(["-"]) => return Err(mistake(alloc, &LIST, help::DASH)?),
+        Some(["-"]) => return Err(mistake(alloc, &LIST, help::DASH)),
         Some([image]) => Some(*image),
-        Some(_) => return Err(mistake(alloc, &LIST, help::ONE_IMAGE)?),
+        Some(_) => return Err(mistake(alloc, &LIST, help::ONE_IMAGE)),
     };
     Ok(Order::List(Listing {
         image,

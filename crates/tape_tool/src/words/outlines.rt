@@ -1,6 +1,19 @@
 //! The commands over images and stages, as tables.
 use crate::help;
-use crate::outline::{Kind, Outline, Word};
+use crate::outline::{Kind, Outline, Word, command_of};
+use crate::write::words::WRITE;
+use clap::Command;
+use std::alloc::{AllocError, Global};
+
+/// The program. Usage names it as its user does, whatever the file is called.
+pub const TAPE: Outline = Outline {
+    name: "tape",
+    called: "tape",
+    about: help::ABOUT,
+    after_help: help::AFTER,
+    usage: None,
+    words: &[],
+};
 
 /// `list`. It takes any number of images, so that a second one is answered with a loop.
 pub const LIST: Outline = Outline {
@@ -123,3 +136,30 @@ pub const INIT: Outline = Outline {
 
 /// The names of forms.
 pub const FORMS: &[&str] = &["lines", "raw"];
+
+/// The program, which has the commands too.
+pub fn with_commands<'a>(alloc: Global, program: Command<'a>) -> Result<Command<'a>, AllocError> {
+    with_others(alloc, with_readers(alloc, program)?)
+}
+
+/// The program with the commands that read images.
+fn with_readers<'a>(alloc: Global, program: Command<'a>) -> Result<Command<'a>, AllocError> {
+    with_all(alloc, program, &[&LIST, &CHECK, &SURVEY, &EXTRACT])
+}
+
+/// The program with the other commands.
+fn with_others<'a>(alloc: Global, program: Command<'a>) -> Result<Command<'a>, AllocError> {
+    with_all(alloc, program, &[&UNPACK, &STAGE, &INIT, &WRITE])
+}
+
+/// The program with these commands.
+fn with_all<'a>(
+    alloc: Global,
+    mut program: Command<'a>,
+    outlines: &[&Outline],
+) -> Result<Command<'a>, AllocError> {
+    for outline in outlines {
+        program = program.subcommand(command_of(alloc, *outline)?)?;
+    }
+    Ok(program)
+}

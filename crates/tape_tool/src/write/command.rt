@@ -132,11 +132,22 @@ fn find_inputs<'a, R: Runtime + AllocGlobal>(
 ) -> Result<Vec<Input<InputFile<'a, R>>>, ToolFault> {
     let mut inputs = Vec::new(rt.alloc());
     for word in order.files.as_slice() {
-        let (head, (_, path)) = (head_for(word)?, split(word));
-        let reader = InputFile::find(rt, path)?;
-        if inputs.push(Input { head, reader }).is_err() {
+        if inputs.push(input_of(rt, *word)?).is_err() {
             return Err(ToolFault::Write(WriteFault::OutOfMemory));
         }
     }
     Ok(inputs)
+}
+
+/// The input that this word is for.
+fn input_of<'a, R: Runtime>(
+    rt: &'a R,
+    word: &'a str,
+) -> Result<Input<InputFile<'a, R>>, ToolFault> {
+    let head = head_for(word)?;
+    let (_, path) = split(word);
+    Ok(Input {
+        head,
+        reader: InputFile::find(rt, path)?,
+    })
 }

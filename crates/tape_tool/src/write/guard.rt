@@ -9,7 +9,7 @@ use std::fs;
 use std::fs::Metadata;
 use std::rt::Runtime;
 use tape_label::Field;
-use tape_writer::system::{VOLUMES, put_image_path};
+use tape_writer::system::{VOLUMES, image_path};
 
 /// Judges the files that the words name. None is opened, made or changed.
 ///
@@ -21,10 +21,15 @@ use tape_writer::system::{VOLUMES, put_image_path};
 /// with `OutOfMemory` where a growth was refused.
 pub fn look_ahead<R: Runtime + AllocGlobal>(rt: &R, order: &WriteOrder<'_>) -> Result<(), Unfit> {
     let images = images_of(rt, order)?;
+    differ(rt, order.files.as_slice(), images.as_slice())
+}
+
+/// Refuses an input that is one of these images.
+fn differ<R: Runtime>(rt: &R, files: &[&str], images: &[Metadata]) -> Result<(), Unfit> {
     if images.is_empty() {
         return Ok(());
     }
-    for word in order.files.as_slice() {
+    for word in files {
         let (_, path) = split(word);
         match fs::metadata(rt, path) {
             Ok(input) if images.iter().any(|image| same_file(image, &input)) => {
@@ -52,22 +57,35 @@ fn images_of<R: Runtime + AllocGlobal>(
     order: &WriteOrder<'_>,
 ) -> Result<Vec<Metadata>, Unfit> {
     let mut images = Vec::new(rt.alloc());
-    let mut path = String::new(rt.alloc());
     for number in 1..=VOLUMES {
-        path.clear();
-        put_image_path(&mut path, order.folder, order.prefix, number).map_err(|_| no_memory())?;
-        if let Ok(found) = fs::metadata(rt, path.as_str()) {
-            is_plain(&found)?;
-            images.push(found).map_err(|_| no_memory())?;
+        if let Some(image) = image_at(rt, order, number)? {
+            if images.push(image).is_err() {
+                return Err(no_memory());
+            }
         }
     }
     Ok(images)
 }
 
+/// What stands in the place of the image with this number, if anything does.
+fn image_at<R: Runtime + AllocGlobal>(
+    rt: &R,
+    order: &WriteOrder<'_>,
+    number: u16,
+) -> Result<Option<Metadata>, Unfit> {
+    let Ok(path) = image_path(rt.alloc(), order.folder, order.prefix, number) else {
+        return Err(no_memory());
+    };
+    match fs::metadata(rt, path.as_str()) {
+        Ok(found) => plain(found),
+        Err(_) => Ok(None),
+    }
+}
+
 /// Refuses what is no plain file.
-fn is_plain(found: &Metadata) -> Result<(), Unfit> {
+fn plain(found: Metadata) -> Result<Option<Metadata>, Unfit> {
     if found.is_file() {
-        Ok(())
+        Ok(Some(found))
     } else if found.is_dir() {
         Err(refused(FileFault::NotOpened))
     } else {

@@ -7,7 +7,7 @@ use crate::help;
 use crate::outline::{Kind, Outline, Word, mistake};
 use crate::words::{FORMS, Order, form_of};
 use clap::{ArgMatches, Error};
-use std::alloc::{AllocError, Global};
+use std::alloc::Global;
 use tape_blocks::Form;
 use tape_label::Format;
 use tape_writer::Prefix;
@@ -63,11 +63,11 @@ pub fn write_order<'a>(alloc: Global, matches: &ArgMatches<'a>) -> Result<Order<
     ensures { IfOk result (IsWrite (AsksToWrite (found_of matches.now))) }
 {
     let Some(prefix) = Prefix::new(matches.get_str("PRE").unwrap_or("")) else {
-        return Err(wrong_words(alloc, help::WRONG_PREFIX)?);
+        return Err(mistake(alloc, &WRITE, help::WRONG_PREFIX));
     };
     let order = asked(matches, prefix, files_of(alloc, matches)?);
     match wrong(&order) {
-        Some(text) => Err(wrong_words(alloc, text)?),
+        Some(text) => Err(mistake(alloc, &WRITE, text)),
         None => Ok(Order::Write(order)),
     }
 }
@@ -92,14 +92,11 @@ fn asked<'a>(matches: &ArgMatches<'a>, prefix: Prefix, files: Vec<&'a str>) -> W
 
 /// The words of the files, each of which names a path.
 fn files_of<'a>(alloc: Global, matches: &ArgMatches<'a>) -> Result<Vec<&'a str>, Error> {
-    let mut files = Vec::new(alloc);
-    for word in matches.get_strs("ID=PATH").unwrap_or(&[]) {
-        if !word.contains("=") {
-            return Err(wrong_words(alloc, help::NO_PATH)?);
-        }
-        files.push(*word)?;
+    let files = matches.get_strs("ID=PATH").unwrap_or(&[]);
+    if !files.iter().all(|word| word.contains("=")) {
+        return Err(mistake(alloc, &WRITE, help::NO_PATH));
     }
-    Ok(files)
+    Ok(Vec::from_slice(alloc, files)?)
 }
 
 /// What is wrong with words that don't go together.
@@ -126,9 +123,4 @@ fn format_of(name: &str) -> Format
         "S" => Format::Spanned,
         _ => Format::Counted,
     }
-}
-
-/// A mistake in these words.
-fn wrong_words(alloc: Global, text: &str) -> Result<Error, AllocError> {
-    mistake(alloc, &WRITE, text)
 }
