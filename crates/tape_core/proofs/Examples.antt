@@ -12,7 +12,6 @@ use Rattle.tape_set.specs.Lawful.{FileForm}
 use Rattle.tape_set.specs.declared.position.Position.TheVariants.{Awaits}
 use Rattle.tape_set.specs.Position.{start, awaiting}
 use Rattle.tape_core.specs.declared.phase.Phase.TheVariants.{Broken}
-use Rattle.tape_core.specs.Crash.{OrThis}
 use Rattle.tape_core.specs.Follows.{IsAt, KnownAt, FileTells}
 use Rattle.tape_core.specs.Point.{Point}
 use Rattle.tape_core.specs.Stands.{inside_block}
@@ -20,7 +19,8 @@ use Rattle.tape_core.specs.State.{State, is_broken}
 use Rattle.tape_core.specs.Walks.{GivesPart}
 use Rattle.tape_core.specs.Weight.{IsFront, Rose}
 use Rattle.tape_core.specs.Cases.{CasesOfForeign, CasesOfPlaces, CasesOfSteps, CasesOfSinks}
-use Rattle.tape_core.specs.Cases.{OneComesBack, five_bytes, no_bytes}
+use Rattle.tape_core.specs.Cases.{five_bytes, no_bytes}
+use Rattle.tape_core.proofs.Crashes.{or_nothing}
 
 pub cases_of_foreign : CasesOfForeign
 unfolding kind_at head_at head1_at is_volume_label
@@ -136,22 +136,6 @@ given_is_next : (part : Part) (p : Portion) (parts : List Portion)
     → (p ≡ view part) × (parts ≡ [])
 given_is_next part p parts (rest, e, is) = (cc e, cc (e, is))
 
-or_this : (point : Point) (parts more : List Portion)
-    → OrThis point [] (OneComesBack parts) (OneComesBack more)
-    → (more ≡ parts) ⊎ (more ≡ [])
-or_this point parts more or = elim (or point more refl) [
-  | inl e ↦ inl e
-  | inr e ↦ inr e.1
-]
-
-or_this_point : (point other : Point) (parts : List Portion)
-    → OrThis point parts (λ c ps. ⊥) (λ c ps. c ≡ other)
-    → other ≡ point
-or_this_point point other parts or = elim (or other parts refl) [
-  | inl none ↦ absurd none
-  | inr e ↦ e.0
-]
-
 some_point : Point
 some_point = record {
   set_id = [];
@@ -180,14 +164,31 @@ cases_of_sinks = record {
   walk_keeps = λ old new result g. (
     g.kept old.kept refl,
     g.same_weight,
-    g.crash old.kept refl some_point new.back refl,
-    g.after old.kept refl,
+    g.crash old.kept refl,
   );
   walk_gives = λ old new result g. (g.gives old.ahead refl, g.lends, g.counts);
-  no_more = λ point parts more none. none point more refl;
-  or_this = or_this;
-  or_this_point = or_this_point;
+  this = λ point other parts more is. is;
   only_this = λ point other parts more only. only other more (refl, refl);
-  adds_nothing = λ point parts more m n adds. (adds.0 point more refl, adds.1);
-  adds_only = λ point parts these more m n adds. (adds.0 point more refl, adds.1);
+  this_alone = λ point parts s alone.
+      ((alone.0 point s.back refl).1, (alone.1 point (s.back_since s.moment) refl).1);
+  adds_nothing = λ old new adds. (
+    or_nothing (adds.now some_point new.back refl),
+    adds.survives,
+  );
+  added_nothing = λ old new t le adds. (
+    or_nothing (adds.since t some_point (new.back_since t) le refl),
+    adds.survived t le,
+  );
+  adds_only = λ these old new adds. (
+    adds.now some_point new.back refl,
+    adds.survives,
+    adds.later,
+  );
+  added_only = λ these old new t le adds. (
+    adds.since t some_point (new.back_since t) le refl,
+    adds.survived t le,
+  );
+  lost_now = λ back there none. none;
+  lost_since = λ t back there none. none;
+  lost_for_good = (λ none. none, λ t none. none);
 }

@@ -22,6 +22,7 @@ pub mod OneFile
 pub mod Standing
 pub mod Weights
 pub mod Laid
+pub mod Crashes
 mod Cases
 mod Examples
 mod Mistakes

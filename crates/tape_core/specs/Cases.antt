@@ -22,7 +22,8 @@ use Rattle.tape_core.specs.declared.answer.Answer.TheVariants.{Passed, Deliver, 
 use Rattle.tape_core.specs.declared.phase.Phase.TheVariants.{Over, Broken, Volume, VolumeLabels}
 use Rattle.tape_core.specs.declared.phase.Phase.TheVariants.{NextFile}
 use Rattle.tape_core.specs.declared.sink.SinkFault.{SinkFault}
-use Rattle.tape_core.specs.Crash.{Returns, NoMore, OrThis, OnlyThis, AddsNothing, AddsOnly}
+use Rattle.tape_core.specs.Crash.{Returns, Crashes, IsThis, OnlyThis, ThisAlone}
+use Rattle.tape_core.specs.Crash.{AddsNothing, AddsOnly, lost}
 use Rattle.tape_core.specs.Entries.{parts_from}
 use Rattle.tape_core.specs.Foreign.{starts_set, labels_of_set, IsForeignAt, Unmoved}
 use Rattle.tape_core.specs.Follows.{IsAt, StandsAt, KnownAt, FileTells, IsFinal, Delivers}
@@ -216,22 +217,39 @@ pub record CasesOfSteps : Type 0 where
 
 -- ---- sinks
 
+-- a sink, told by the parts that come back of it and by whether something does, now and since each
+-- moment, and by the moment
+pub record Comes : Type 0 where
+  pub back : List Portion
+  pub survives : Bool
+  pub moment : ℕ
+  pub back_since : ℕ → List Portion
+  pub survived : ℕ → Bool
+
+-- what crashes do to such a sink
+abbrev pub coming : Comes → Crashes
+coming s = record {
+  returns = λ c ps. ps ≡ s.back;
+  survives = s.survives ≡ true;
+  moment = s.moment;
+  returned = λ t c ps. ps ≡ s.back_since t;
+  survived = λ t. s.survived t ≡ true;
+}
+
 -- a walk over a sink, told by what it has: the parts kept and those to come, a weight, a count of
--- refused calls, what comes back after a crash and whether something does, and what is left
+-- refused calls, what comes back, and what is left
 pub record Walk : Type 0 where
   pub kept : List Portion
   pub ahead : List Portion
   pub weight : ℕ
   pub refused : ℕ
-  pub back : List Portion
-  pub survives : Bool
+  pub comes : Comes
   pub left : ℕ
 
 -- one call of such a walk
 abbrev pub Walks : Walk → Result (Option Part) SinkFault → Walk → Type 0
 Walks old result new = HasGiven (λ s ps. s.kept ≡ ps) (λ s. s.weight) (λ s. s.refused)
-    (λ s c ps. ps ≡ s.back) (λ s. s.survives ≡ true) (λ s ps. s.ahead ≡ ps) (λ s. s.left)
-    old result new
+    (λ s. coming s.comes) (λ s ps. s.ahead ≡ ps) (λ s. s.left) old result new
 
 -- what comes back is this alone
 abbrev pub OneComesBack : List Portion → Returns
@@ -261,23 +279,35 @@ pub record CasesOfSinks : Type 0 where
   -- a walk keeps the parts and their weight, and brings nothing new back after a crash
   pub walk_keeps : (old new : Walk) (result : Result (Option Part) SinkFault)
       → Walks old result new → (new.kept ≡ old.kept) × (new.weight ≡ old.weight)
-      × (new.back ≡ old.back) × (old.survives ≡ true → new.survives ≡ true)
+      × AddsNothing (coming old.comes) (coming new.comes)
   pub walk_gives : (old new : Walk) (result : Result (Option Part) SinkFault)
       → Walks old result new → GivesPart result old.ahead (λ ps. new.ahead ≡ ps)
       × Lends result old.left new.left × Counts result old.refused new.refused
   -- what may come back after a crash: what could before, or this, or this alone
-  pub no_more : (point : Point) (parts more : List Portion)
-      → NoMore (OneComesBack parts) (OneComesBack more) → more ≡ parts
-  pub or_this : (point : Point) (parts more : List Portion)
-      → OrThis point [] (OneComesBack parts) (OneComesBack more) → (more ≡ parts) ⊎ (more ≡ [])
-  pub or_this_point : (point other : Point) (parts : List Portion)
-      → OrThis point parts (λ c ps. ⊥) (λ c ps. c ≡ other) → other ≡ point
+  pub this : (point other : Point) (parts more : List Portion) → IsThis point parts other more
+      → (other ≡ point) × (more ≡ parts)
   pub only_this : (point other : Point) (parts more : List Portion)
       → OnlyThis point parts (λ c ps. (c ≡ other) × (ps ≡ more))
       → (other ≡ point) × (more ≡ parts)
-  pub adds_nothing : (point : Point) (parts more : List Portion) (m n : ℕ)
-      → AddsNothing (OneComesBack parts) (OneComesBack more) (m ≡ 0) (n ≡ 0)
-      → (more ≡ parts) × (m ≡ 0 → n ≡ 0)
-  pub adds_only : (point : Point) (parts these more : List Portion) (m n : ℕ)
-      → AddsOnly (OneComesBack these) (OneComesBack parts) (OneComesBack more) (m ≡ 0) (n ≡ 0)
-      → ((more ≡ parts) ⊎ (more ≡ these)) × (m ≡ 0 → n ≡ 0)
+  pub this_alone : (point : Point) (parts : List Portion) (s : Comes)
+      → ThisAlone point parts (coming s)
+      → (s.back ≡ parts) × (s.back_since s.moment ≡ parts)
+  -- of a call that adds nothing, and of one that adds these: now, and since each moment up to it
+  pub adds_nothing : (old new : Comes) → AddsNothing (coming old) (coming new)
+      → (new.back ≡ old.back) × (old.survives ≡ true → new.survives ≡ true)
+  pub added_nothing : (old new : Comes) (t : ℕ) → t ≤ old.moment
+      → AddsNothing (coming old) (coming new)
+      → (new.back_since t ≡ old.back_since t) × (old.survived t ≡ true → new.survived t ≡ true)
+  pub adds_only : (these : List Portion) (old new : Comes)
+      → AddsOnly (OneComesBack these) (coming old) (coming new)
+      → ((new.back ≡ old.back) ⊎ (new.back ≡ these))
+      × (old.survives ≡ true → new.survives ≡ true) × (old.moment ≤ new.moment)
+  pub added_only : (these : List Portion) (old new : Comes) (t : ℕ) → t ≤ old.moment
+      → AddsOnly (OneComesBack these) (coming old) (coming new)
+      → ((new.back_since t ≡ old.back_since t) ⊎ (new.back_since t ≡ these))
+      × (old.survived t ≡ true → new.survived t ≡ true)
+  -- of what is lost in every crash nothing comes back
+  pub lost_now : (back : Point) (there : List Portion) → lost.returns back there → ⊥
+  pub lost_since : (t : ℕ) (back : Point) (there : List Portion)
+      → lost.returned t back there → ⊥
+  pub lost_for_good : (lost.survives → ⊥) × ((t : ℕ) → lost.survived t → ⊥)

@@ -4,7 +4,7 @@ use Rattle.std.specs.Prelude.{Ok, Err}
 use Rattle.tape_blocks.specs.declared.part.Part.{Part}
 use Rattle.tape_blocks.specs.Block.{Portion}
 use Rattle.tape_blocks.specs.Parts.{view}
-use Rattle.tape_core.specs.Point.{Point}
+use Rattle.tape_core.specs.Crash.{AddsNothing, Crashes}
 use Rattle.tape_core.specs.Weight.{Rose}
 use Rattle.tape_core.specs.declared.sink.SinkFault.{SinkFault}
 
@@ -28,13 +28,10 @@ Lends _ old new = Unit {0}
 
 -- The sink holds what it held, and gave the next of the parts that were to come, or was refused.
 pub record HasGiven {S : Type 0} (holds : S → List Portion → Type 0) (weighs refusals : S → ℕ)
-    (returns : S → Point → List Portion → Type 0) (survives : S → Type 0)
-    (ahead : S → List Portion → Type 0) (left : S → ℕ) (old : S)
+    (crashes : S → Crashes) (ahead : S → List Portion → Type 0) (left : S → ℕ) (old : S)
     (result : Result (Option Part) SinkFault) (new : S) : Type 0 where
   pub kept : (parts : List Portion) → holds old parts → holds new parts
-  pub crash : (parts : List Portion) → holds old parts → (back : Point) (there : List Portion)
-      → returns new back there → returns old back there
-  pub after : (parts : List Portion) → holds old parts → survives old → survives new
+  pub crash : (parts : List Portion) → holds old parts → AddsNothing (crashes old) (crashes new)
   pub same_weight : weighs new ≡ weighs old
   pub gives : (parts : List Portion) → ahead old parts → GivesPart result parts (ahead new)
   pub lends : Lends result (left old) (left new)

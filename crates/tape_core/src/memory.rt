@@ -156,6 +156,7 @@ impl MemorySink {
 }
 
 impl PartSink for MemorySink {
+    ghost use Rattle.tape_core.specs.Crash.{lost};
     ghost use Rattle.tape_core.specs.Memory.{portions};
 
     ghost holds = { λ sink parts. parts ≡ portions sink };
@@ -164,9 +165,11 @@ impl PartSink for MemorySink {
 
     ghost refusals = { λ sink. sink.refused };
 
-    ghost returns = { λ sink back there. ⊥ };
+    ghost crashes = { λ sink. lost };
 
-    ghost survives = { λ sink. ⊥ };
+    ghost returned_now = { λ sink t back there none. none };
+
+    ghost survived_now = { λ sink t none. none };
 
     #[inline(always)]
     fn put(&mut self, part: Part<'_>) -> Result<(), SinkFault> {

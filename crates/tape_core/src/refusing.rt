@@ -67,9 +67,11 @@ impl<S: PartSink> PartSink for Refusing<S> {
 
     ghost refusals = { λ sink. S.refusals sink.inner + sink.refused };
 
-    ghost returns = { λ sink back there. S.returns sink.inner back there };
+    ghost crashes = { λ sink. S.crashes sink.inner };
 
-    ghost survives = { λ sink. S.survives sink.inner };
+    ghost returned_now = { λ sink t back there now. S.returned_now sink.inner t back there now };
+
+    ghost survived_now = { λ sink t survived. S.survived_now sink.inner t survived };
 
     fn put(&mut self, part: Part<'_>) -> Result<(), SinkFault> {
         if self.is_refused() {

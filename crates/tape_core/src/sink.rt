@@ -7,7 +7,7 @@ ghost use Rattle.std.specs.Io.BufRead.{Rests};
 ghost use Rattle.tape_blocks.specs.Block.{Portion};
 ghost use Rattle.tape_blocks.specs.Parts.{view};
 ghost use Rattle.tape_core.specs.Weight.{Rose};
-ghost use Rattle.tape_core.specs.Crash.{NoMore, OrThis, OnlyThis};
+ghost use Rattle.tape_core.specs.Crash.{AddsNothing, AddsOnly, Crashes, IsThis, ThisAlone};
 ghost use Rattle.tape_core.specs.Walks.{HasGiven};
 ghost use Rattle.tape_core.specs.Known.{most_staged};
 ghost use Rattle.tape_core.specs.Point.{Point};
@@ -63,11 +63,8 @@ pub trait PartSink {
     /// How many calls it refused.
     ghost refusals: { Self → ℕ };
 
-    /// After a crash now it may come back with this checkpoint and these parts.
-    ghost returns: { Self → Point → List Portion → Type 0 };
-
-    /// Whatever a crash now leaves, it comes back with something.
-    ghost survives: { Self → Type 0 };
+    /// What crashes do to it: with what it may come back, now and since each moment.
+    ghost crashes: { Self → Crashes };
 
     /// Adds a part of at most 99,999 bytes behind the others.
     ///
@@ -88,10 +85,8 @@ pub trait PartSink {
             → most_staged < weighs self.old + (5 + length part.entry.bytes.now) }
         ensures cause { OnErr result (Rose (refusals self.old) (refusals self.new)) }
         ensures calm { OnOk result (refusals self.new ≡ refusals self.old) }
-        ensures crash { (parts : List Portion) → holds self.old parts → NoMore (returns self.old)
-            (returns self.new) }
-        ensures after { (parts : List Portion) → holds self.old parts → survives self.old
-            → survives self.new };
+        ensures crash { (parts : List Portion) → holds self.old parts
+            → AddsNothing (crashes self.old) (crashes self.new) };
 
     /// Keeps the first parts, those that weigh together what the checkpoint tells, and no others.
     ///
@@ -109,10 +104,8 @@ pub trait PartSink {
         ensures cause { OnErr result (Rose (refusals self.old) (refusals self.new)) }
         ensures calm { OnOk result (refusals self.new ≡ refusals self.old) }
         ensures crash { (front rest : List Portion) → holds self.old (front ++ rest)
-            → weight_of front ≡ point.now.staged → OrThis point.now front (returns self.old)
-            (returns self.new) }
-        ensures after { (front rest : List Portion) → holds self.old (front ++ rest)
-            → weight_of front ≡ point.now.staged → survives self.old → survives self.new };
+            → weight_of front ≡ point.now.staged
+            → AddsOnly (IsThis point.now front) (crashes self.old) (crashes self.new) };
 
     /// Notes a checkpoint of all parts, where the sink outlives a crash.
     ///
@@ -126,17 +119,23 @@ pub trait PartSink {
         ensures cause { OnErr result (Rose (refusals self.old) (refusals self.new)) }
         ensures calm { OnOk result (refusals self.new ≡ refusals self.old) }
         ensures crash { (parts : List Portion) → holds self.old parts
-            → OrThis point.now parts (returns self.old) (returns self.new) }
+            → AddsOnly (IsThis point.now parts) (crashes self.old) (crashes self.new) }
         ensures kept { OnOk result ((parts : List Portion) → holds self.old parts
-            → OnlyThis point.now parts (returns self.new)) }
-        ensures after { (parts : List Portion) → holds self.old parts → survives self.old
-            → survives self.new };
+            → ThisAlone point.now parts (crashes self.new)) };
 
     /// What the parts weigh: 5 for each, and one for each byte.
     fn weight(&self) -> u64
         ensures value { result ≡ weighs self.now }
         ensures of { (parts : List Portion) → holds self.now parts → result ≡ weight_of parts }
         ensures limit { result ≤ most_staged };
+
+    /// What a crash now brings back is among what one might have brought back since a moment.
+    ghost returned_now: { (sink : Self) (t : ℕ) (back : Point) (there : List Portion)
+        → (crashes sink).returns back there → (crashes sink).returned t back there };
+
+    /// What survived each crash since a moment survives one now.
+    ghost survived_now: { (sink : Self) (t : ℕ) → (crashes sink).survived t
+        → (crashes sink).survives };
 }
 
 /// A sink whose parts can be read back.
@@ -155,9 +154,7 @@ pub trait PartWalk: PartSink {
         ensures keeps { (parts : List Portion) → Self.holds self.old parts
             → Self.holds self.new parts }
         ensures all { (parts : List Portion) → Self.holds self.old parts → ahead self.new parts }
-        ensures crash { (back : Point) (there : List Portion) → Self.returns self.new back there
-            → Self.returns self.old back there }
-        ensures after { Self.survives self.old → Self.survives self.new }
+        ensures crash { AddsNothing (Self.crashes self.old) (Self.crashes self.new) }
         ensures same_weight { Self.weighs self.new ≡ Self.weighs self.old }
         ensures calm { Self.refusals self.new ≡ Self.refusals self.old };
 
@@ -168,6 +165,6 @@ pub trait PartWalk: PartSink {
     /// What the sink's device refused. The same part is still to come.
     fn next_part(&mut self) -> Result<Option<Part<'_>>, SinkFault>
         ensures* after_borrow { sem 𝓛 (Rests Self.row self.entry (λ new.
-            HasGiven Self.holds Self.weighs Self.refusals Self.returns Self.survives Self.ahead
-            Self.left self.old result new)) };
+            HasGiven Self.holds Self.weighs Self.refusals Self.crashes Self.ahead Self.left
+            self.old result new)) };
 }

@@ -7,7 +7,7 @@ use Rattle.tape_blocks.specs.Block.{Portion}
 use Rattle.tape_blocks.specs.declared.form.Form.{Form}
 use Rattle.tape_set.specs.declared.position.Want.{Want}
 use Rattle.tape_set.specs.Position.{want_at}
-use Rattle.tape_core.specs.Crash.{Returns}
+use Rattle.tape_core.specs.Crash.{Crashes}
 use Rattle.tape_core.specs.State.{State}
 use Rattle.tape_run.specs.Seen.{Seen, seen}
 use Rattle.tape_run.specs.Story.{Story}
@@ -32,22 +32,22 @@ in_a_row back core old rounds mid turns last new f g =
     follows_then back core old (turns_of rounds) (core_behind core rounds) mid turns last new
     (all_turns back core old rounds mid f) g
 
-pub extracted_again : {S L R : Type 0} {returns : S → Returns}
-    {survives : S → Type 0} (holds : S → List Portion → Type 0) (refusals : S → ℕ)
+pub extracted_again : {S L R : Type 0} {crashes : S → Crashes}
+    (holds : S → List Portion → Type 0) (refusals : S → ℕ)
     (size : L → ℕ) (gives : Mounting L R) (remaining : R → Option (List ℕ)) (old new : Story S)
     (shelf left : L) (form : Form)
     (out written said between says : Option (List ℕ)) (want : Option Want)
     (back : Bool) → back ≡ goes_back old.notes
-    → TakesRounds holds refusals returns survives (size shelf) gives remaining back old new shelf
+    → TakesRounds holds refusals crashes (size shelf) gives remaining back old new shelf
     left said between
     → EndsFile holds new form out written between says want
-    → ExtractsAgain holds refusals returns survives size gives remaining old shelf left form out
+    → ExtractsAgain holds refusals crashes size gives remaining old shelf left form out
     written said says
     want
-extracted_again {S} {L} {R} {returns} {survives} holds refusals size gives remaining old new shelf
+extracted_again {S} {L} {R} {crashes} holds refusals size gives remaining old new shelf
     left form out written said between
     says want back same took e =
-    let t = subst (λ b. TakesRounds holds refusals returns survives (size shelf) gives remaining b
+    let t = subst (λ b. TakesRounds holds refusals crashes (size shelf) gives remaining b
     old new shelf left
     said between) same took in
     record {
@@ -83,24 +83,23 @@ extracted_again {S} {L} {R} {returns} {survives} holds refusals size gives remai
               now,
               has_now,
               refl,
-              last_then refusals returns survives old t.mid new held mid now before last,
+              last_then refusals crashes old t.mid new held mid now before last,
             ),
           );
     }
 
-pub stops_in_round : {S L R W : Type 0} {returns : S → Returns}
-    {survives : S → Type 0} (holds : S → List Portion → Type 0)
+pub stops_in_round : {S L R W : Type 0} {crashes : S → Crashes} (holds : S → List Portion → Type 0)
     (refusals : S → ℕ) (size : L → ℕ) (gives : Mounting L R) (remaining : R → Option (List ℕ))
     (old : Story S) (shelf left : L) (form : Form) (contents : W → Option (List ℕ))
     (out : W) (said says : Option (List ℕ)) (back : Bool) → back ≡ goes_back old.notes
-    → StopsInRound holds refusals returns survives (size shelf) gives remaining back old shelf left
+    → StopsInRound holds refusals crashes (size shelf) gives remaining back old shelf left
     said says
-    → StopsAgain holds refusals returns survives size gives remaining old shelf left form contents
+    → StopsAgain holds refusals crashes size gives remaining old shelf left form contents
     out out said says
-stops_in_round {S} {L} {R} {W} {returns} {survives} holds refusals size gives remaining old shelf
+stops_in_round {S} {L} {R} {W} {crashes} holds refusals size gives remaining old shelf
     left form contents out said says back
     same stopped =
-    let s = subst (λ b. StopsInRound holds refusals returns survives (size shelf) gives remaining b
+    let s = subst (λ b. StopsInRound holds refusals crashes (size shelf) gives remaining b
     old shelf left
     said says) same stopped in
     record {
@@ -129,27 +128,27 @@ stops_in_round {S} {L} {R} {W} {returns} {survives} holds refusals size gives re
               subst (λ c. Follows (goes_back old.notes) c (seen refusals s.mid mid) s.last.turns
                   core now) s.gone.at one,
             ),
-            stood_then holds refusals returns survives old s.mid held mid now before stood,
+            stood_then holds refusals crashes old s.mid held mid now before stood,
             inl refl,
           );
     }
 
-pub stops_at_end_again : {S L R W : Type 0} {returns : S → Returns}
-    {survives : S → Type 0} (holds : S → List Portion → Type 0) (refusals : S → ℕ)
+pub stops_at_end_again : {S L R W : Type 0} {crashes : S → Crashes}
+    (holds : S → List Portion → Type 0) (refusals : S → ℕ)
     (size : L → ℕ) (gives : Mounting L R) (remaining : R → Option (List ℕ)) (old new : Story S)
     (shelf left : L) (form : Form)
     (contents : W → Option (List ℕ)) (out written : W) (said between says : Option (List ℕ))
     (back : Bool) → back ≡ goes_back old.notes
-    → TakesRounds holds refusals returns survives (size shelf) gives remaining back old new shelf
+    → TakesRounds holds refusals crashes (size shelf) gives remaining back old new shelf
     left said between
     → StopsAtEnd holds new form contents out written between says
-    → StopsAgain holds refusals returns survives size gives remaining old shelf left form contents
+    → StopsAgain holds refusals crashes size gives remaining old shelf left form contents
     out written said
     says
-stops_at_end_again {S} {L} {R} {W} {returns} {survives} holds refusals size gives remaining old new
+stops_at_end_again {S} {L} {R} {W} {crashes} holds refusals size gives remaining old new
     shelf left form contents out written
     said between says back same took e =
-    let t = subst (λ b. TakesRounds holds refusals returns survives (size shelf) gives remaining b
+    let t = subst (λ b. TakesRounds holds refusals crashes (size shelf) gives remaining b
     old new shelf left
     said between) same took in
     record {
@@ -185,7 +184,7 @@ stops_at_end_again {S} {L} {R} {W} {returns} {survives} holds refusals size give
               now,
               has_now,
               refl,
-              last_then refusals returns survives old t.mid new held mid now before last,
+              last_then refusals crashes old t.mid new held mid now before last,
             ),
             e.is_written now has_now,
           );

@@ -1,5 +1,5 @@
 -- The cases of files got back.
-use Rattle.std.proofs.Common.{◌≡◌, ◌⊎◌, inl, inr, ℕ, List, [], ◌∷◌, Some, None}
+use Rattle.std.proofs.Common.{◌≡◌, ◌⊎◌, inl, inr, ℕ, ◌≤◌, List, [], ◌∷◌, Some, None}
 use Rattle.std.proofs.Common.{refl, sym, ap, subst, ◌∙◌, false, true, length, arith}
 use Rattle.std.specs.Prelude.{IfSome, Option, get_or, set, slice_get, ⊤}
 use Rattle.tape_set.specs.Layout.{FileSet}
@@ -25,6 +25,7 @@ use Rattle.tape_blocks.specs.declared.form.Form.{Form}
 use Rattle.tape_set.specs.declared.position.Position.TheVariants.{Finished}
 use Rattle.tape_run.specs.CasesOfExtracts.{CasesOfTurns, CasesOfOutputs, Listed, Known, Readers}
 use Rattle.tape_run.specs.CasesOfExtracts.{StopsListed, StopsListedNow, CasesOfSaved, brings}
+use Rattle.tape_run.specs.CasesOfExtracts.{comes_now, comes_since}
 
 foreign_turn : (set : FileSet) (o : Opened) (bytes : List ℕ) → o.had ≡ Some bytes
     → IsMountOf set bytes foreign_reel
@@ -222,32 +223,47 @@ one_note s c p ps one last =
     let here : slice_get s.notes 0 ≡ Some p = subst (λ z. slice_get s.notes z ≡ Some p) first is in
     (let f = ap (λ l. slice_get l 0) one in cc, front)
 
+alone_before : (old : Story Point) (held ps : List Portion) (c : Point)
+    → old.notes ≡ c ∷ [] → old.sink ≡ c → IsFront ps held → weight_of ps ≡ c.staged
+    → BringsLast (brings ps old.sink) (seen (λ s. 0) old held)
+alone_before old held ps c had came front weighs back there (b, t) = (
+  0,
+  ap length had,
+  (
+    ap (λ l. slice_get l 0) had ∙ ap Some (sym came) ∙ ap Some (sym b),
+    subst (λ z. IsFront z held) (sym t) front,
+    ap weight_of t ∙ weighs ∙ ap (λ (z : Point). z.staged) (sym came ∙ sym b),
+  ),
+)
+
 came_alone : (old new : Story Point) (held now ps : List Portion) (c : Point)
     → old.notes ≡ c ∷ [] → new.notes ≡ c ∷ [] → old.sink ≡ c → IsFront ps held
-    → weight_of ps ≡ c.staged → KeepsLast (λ s. 0) (brings ps) (λ s. ⊤) old held new now
+    → weight_of ps ≡ c.staged → KeepsLast (λ s. 0) (comes_now ps) old held new now
     → new.sink ≡ c
-came_alone old new held now ps c had has came front weighs (last, after) =
-    (one_note (seen (λ s. 0) new now) c new.sink ps has (last (λ same back there (b, t). (
-      0,
-      ap length had,
-      (
-        ap (λ l. slice_get l 0) had ∙ ap Some (sym came) ∙ ap Some (sym b),
-        subst (λ z. IsFront z held) (sym t) front,
-        ap weight_of t ∙ weighs ∙ ap (λ (z : Point). z.staged) (sym came ∙ sym b),
-      ),
-    )))).0
+came_alone old new held now ps c had has came front weighs keeps =
+    (one_note (seen (λ s. 0) new now) c new.sink ps has
+    (keeps.last (λ same. alone_before old held ps c had came front weighs))).0
+
+alone_since : (old new : Story Point) (held now ps : List Portion) (c : Point) (t : ℕ)
+    → old.notes ≡ c ∷ [] → new.notes ≡ c ∷ [] → old.sink ≡ c → IsFront ps held
+    → weight_of ps ≡ c.staged → t ≤ old.sink.file
+    → KeepsLast (λ s. 0) (comes_since ps) old held new now → new.sink ≡ c
+alone_since old new held now ps c t had has came front weighs le keeps =
+    (one_note (seen (λ s. 0) new now) c new.sink ps has
+    (keeps.since t le (ap length has ∙ sym (ap length had))
+    (alone_before old held ps c had came front weighs))).0
 
 on_the_way : (old new : Story Point) (held now ps : List Portion) (c : Point)
     → old.notes ≡ [] → new.notes ≡ c ∷ []
-    → KeepsLast (λ s. 0) (brings ps) (λ s. ⊤) old held new now
+    → KeepsLast (λ s. 0) (comes_now ps) old held new now
     → (new.sink ≡ c) × IsFront ps now
-on_the_way old new held now ps c none has (last, after) =
-    one_note (seen (λ s. 0) new now) c new.sink ps has (last (λ same. absurd (let e : 1 ≡ 0 =
+on_the_way old new held now ps c none has keeps =
+    one_note (seen (λ s. 0) new now) c new.sink ps has (keeps.last (λ same. absurd (let e : 1 ≡ 0 =
     sym (ap length has) ∙ same ∙ ap length none in omega (arith, e))))
 
 stood_so : (session : Story Point) (held ps : List Portion) (now : Seen) (c : Point)
     → session.notes ≡ [] → now.notes ≡ c ∷ []
-    → StoodSaved (λ s parts. s.staged ≡ weight_of parts) (λ s. 0) (brings ps) (λ s. ⊤) session
+    → StoodSaved (λ s parts. s.staged ≡ weight_of parts) (λ s. 0) (comes_now ps) session
     held now
     → (mid : Story Point) × (mid.sink ≡ c) × (now.place ≡ rest_of mid.core)
     × IsFront ps now.parts × (c.staged ≡ weight_of now.parts)
@@ -270,7 +286,10 @@ cases_of_saved = record {
   brings_nothing = λ s back there none. absurd none;
   noted_on_the_way = on_the_way;
   none_on_the_way = came_alone;
-  survives = λ old new held now keeps. keeps.1;
+  survives = λ old new held now keeps. keeps.survives;
+  none_since = alone_since;
+  survived = λ old new held now t le keeps. keeps.survived t le;
+  goes_on = λ old new held now keeps. (keeps.no_fewer, keeps.later);
   stood = stood_so;
   read_since = refl;
   went_back_since = refl;

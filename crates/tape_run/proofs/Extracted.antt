@@ -10,7 +10,7 @@ use Rattle.tape_set.specs.declared.position.Position.TheVariants.{Awaits, Finish
 use Rattle.tape_set.specs.declared.position.Want.{Want}
 use Rattle.tape_set.specs.Position.{want_at}
 use Rattle.tape_core.specs.Point.{Point}
-use Rattle.tape_core.specs.Crash.{Returns}
+use Rattle.tape_core.specs.Crash.{Crashes}
 use Rattle.tape_core.specs.State.{State}
 use Rattle.tape_run.specs.Seen.{Seen, seen}
 use Rattle.tape_run.specs.Story.{Story}
@@ -55,21 +55,21 @@ ended holds refusals mid core old turns form out written said says want now e ha
       is_written = e.is_written now has;
     }
 
-pub extracted : {S L R : Type 0} {returns : S → Returns}
-    {survives : S → Type 0} (holds : S → List Portion → Type 0) (refusals : S → ℕ)
+pub extracted : {S L R : Type 0} {crashes : S → Crashes}
+    (holds : S → List Portion → Type 0) (refusals : S → ℕ)
     (size : L → ℕ) (gives : Mounting L R) (remaining : R → Option (List ℕ)) (old mid : Story S)
     (shelf left : L) (form : Form)
     (out written said between says : Option (List ℕ)) (want : Option Want)
     (back : Bool) → back ≡ goes_back old.notes
-    → TakesAll holds refusals returns survives (size shelf) 0 gives remaining back old mid shelf
+    → TakesAll holds refusals crashes (size shelf) 0 gives remaining back old mid shelf
     left said between
     → EndsFile holds mid form out written between says want
-    → Extracts holds refusals returns survives size gives remaining old shelf left form out written
+    → Extracts holds refusals crashes size gives remaining old shelf left form out written
     said says want
-extracted {S} {L} {R} {returns} {survives} holds refusals size gives remaining old mid shelf left
+extracted {S} {L} {R} {crashes} holds refusals size gives remaining old mid shelf left
     form out written said between says
     want back same took e =
-    let t = subst (λ b. TakesAll holds refusals returns survives (size shelf) 0 gives remaining b
+    let t = subst (λ b. TakesAll holds refusals crashes (size shelf) 0 gives remaining b
     old mid shelf left
     said between) same took in
     record {
@@ -87,20 +87,19 @@ extracted {S} {L} {R} {returns} {survives} holds refusals size gives remaining o
           );
     }
 
-pub stops_reading : {S L R W : Type 0} {returns : S → Returns}
-    {survives : S → Type 0} (holds : S → List Portion → Type 0)
+pub stops_reading : {S L R W : Type 0} {crashes : S → Crashes} (holds : S → List Portion → Type 0)
     (refusals : S → ℕ) (size : L → ℕ) (gives : Mounting L R) (remaining : R → Option (List ℕ))
     (old : Story S) (shelf left : L) (form : Form) (contents : W → Option (List ℕ))
     (out : W) (said says : Option (List ℕ)) (back : Bool) → back ≡ goes_back old.notes
-    → StopsReading holds refusals returns survives (size shelf) 0 gives remaining back old shelf
+    → StopsReading holds refusals crashes (size shelf) 0 gives remaining back old shelf
     left said says
-    → Stops holds refusals returns survives size gives remaining old shelf left form contents out
+    → Stops holds refusals crashes size gives remaining old shelf left form contents out
     out said says
-stops_reading {S} {L} {R} {W} {returns} {survives} holds refusals size gives remaining old shelf
+stops_reading {S} {L} {R} {W} {crashes} holds refusals size gives remaining old shelf
     left form contents out said says back
     same
     stopped =
-    let s = subst (λ b. StopsReading holds refusals returns survives (size shelf) 0 gives remaining
+    let s = subst (λ b. StopsReading holds refusals crashes (size shelf) 0 gives remaining
     b old shelf left
     said says) same stopped in
     record {
@@ -117,21 +116,21 @@ stops_reading {S} {L} {R} {W} {returns} {survives} holds refusals size gives rem
           (core, now, f, stood, inl refl);
     }
 
-pub stops_at_end : {S L R W : Type 0} {returns : S → Returns}
-    {survives : S → Type 0} (holds : S → List Portion → Type 0) (refusals : S → ℕ)
+pub stops_at_end : {S L R W : Type 0} {crashes : S → Crashes}
+    (holds : S → List Portion → Type 0) (refusals : S → ℕ)
     (size : L → ℕ) (gives : Mounting L R) (remaining : R → Option (List ℕ)) (old mid : Story S)
     (shelf left : L) (form : Form)
     (contents : W → Option (List ℕ)) (out written : W) (said between says : Option (List ℕ))
     (back : Bool) → back ≡ goes_back old.notes
-    → TakesAll holds refusals returns survives (size shelf) 0 gives remaining back old mid shelf
+    → TakesAll holds refusals crashes (size shelf) 0 gives remaining back old mid shelf
     left said between
     → StopsAtEnd holds mid form contents out written between says
-    → Stops holds refusals returns survives size gives remaining old shelf left form contents out
+    → Stops holds refusals crashes size gives remaining old shelf left form contents out
     written said says
-stops_at_end {S} {L} {R} {W} {returns} {survives} holds refusals size gives remaining old mid shelf
+stops_at_end {S} {L} {R} {W} {crashes} holds refusals size gives remaining old mid shelf
     left form contents out written said
     between says back same took e =
-    let t = subst (λ b. TakesAll holds refusals returns survives (size shelf) 0 gives remaining b
+    let t = subst (λ b. TakesAll holds refusals crashes (size shelf) 0 gives remaining b
     old mid shelf left
     said between) same took in
     record {

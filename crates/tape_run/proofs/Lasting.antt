@@ -1,10 +1,11 @@
 -- A crash brings back the note that a session made last.
-use Rattle.std.proofs.Common.{◌≡◌, ◌⊎◌, ℕ, ◌+◌, List, [], ◌∷◌, ◌++◌, length, Some}
+use Rattle.std.proofs.Common.{◌≡◌, ◌⊎◌, ℕ, ◌+◌, ◌≤◌, List, [], ◌∷◌, ◌++◌, length, Some}
 use Rattle.std.proofs.Common.{refl, sym, ap, subst, ◌∙◌, arith, inl, inr, append-nil, length-append}
 use Rattle.std.proofs.lemmas.List.{take_all}
 use Rattle.std.specs.List.{slice_get}
 use Rattle.tape_blocks.specs.Block.{Portion}
-use Rattle.tape_core.specs.Crash.{Returns, NoMore, AddsNothing, AddsOnly, OnlyThis}
+use Rattle.tape_core.specs.Crash.{Returns, Crashes, AddsNothing, AddsOnly, OnlyThis, ThisAlone}
+use Rattle.tape_core.proofs.Crashes.{or_nothing}
 use Rattle.tape_core.specs.Point.{Point}
 use Rattle.tape_core.specs.Stands.{weight_of}
 use Rattle.tape_core.specs.Table.{saved}
@@ -16,21 +17,38 @@ use Rattle.tape_run.specs.Steps.{Saved, WentBack}
 use Rattle.tape_run.specs.Story.{Story}
 use Rattle.tape_run.proofs.Notes.{front_self, front_trans, same_front}
 
-pub last_same : {S : Type 0} (refusals : S → ℕ) (returns : S → Returns) (survives : S → Type 0)
-    (s : Story S) (held : List Portion) → KeepsLast refusals returns survives s held s held
-last_same refusals returns survives s held = ((λ h. h refl), (λ v. v))
+pub last_same : {S : Type 0} (refusals : S → ℕ) (crashes : S → Crashes)
+    (s : Story S) (held : List Portion) → KeepsLast refusals crashes s held s held
+last_same refusals crashes s held = record {
+  last = λ h. h refl;
+  survives = λ v. v;
+  no_fewer = omega arith;
+  later = omega arith;
+  since = λ t le same h. h;
+  survived = λ t le h. h;
+}
 
-pub last_then : {S : Type 0} (refusals : S → ℕ) (returns : S → Returns) (survives : S → Type 0)
+pub last_then : {S : Type 0} (refusals : S → ℕ) (crashes : S → Crashes)
     (a b c : Story S) (held mid now : List Portion)
-    → KeepsLast refusals returns survives a held b mid
-    → KeepsLast refusals returns survives b mid c now
-    → KeepsLast refusals returns survives a held c now
-last_then refusals returns survives a b c held mid now (f, u) (g, v) =
-    ((λ h. g (λ d. f (λ e. h (d ∙ e)))), (λ x. v (u x)))
+    → KeepsLast refusals crashes a held b mid
+    → KeepsLast refusals crashes b mid c now
+    → KeepsLast refusals crashes a held c now
+last_then refusals crashes a b c held mid now f g = record {
+  last = λ h. g.last (λ d. f.last (λ e. h (d ∙ e)));
+  survives = λ x. g.survives (f.survives x);
+  no_fewer = omega (arith, f.no_fewer, g.no_fewer);
+  later = omega (arith, f.later, g.later);
+  since = λ t le same h. g.since t (omega (arith, le, f.later))
+      (omega (arith, same, f.no_fewer, g.no_fewer))
+      (f.since t le (omega (arith, same, f.no_fewer, g.no_fewer)) h);
+  survived = λ t le h. g.survived t (omega (arith, le, f.later)) (f.survived t le h);
+}
 
 -- a reel was read: the notes are as they were, and no part went
 pub brings_still : (r t : Returns) (old new : Seen) → new.notes ≡ old.notes
-    → IsFront old.parts new.parts → NoMore r t → BringsLast r old → BringsLast t new
+    → IsFront old.parts new.parts
+    → ((back : Point) (there : List Portion) → t back there → r back there)
+    → BringsLast r old → BringsLast t new
 brings_still r t old new notes front none last = λ back there x.
     let (n, count, (is, f, w)) = last back there (none back there x) in (
       n,
@@ -38,15 +56,23 @@ brings_still r t old new notes front none last = λ back there x.
       (ap (λ z. slice_get z n) notes ∙ is, front_trans there old.parts new.parts f front, w),
     )
 
-pub last_stays : {S : Type 0} (refusals : S → ℕ) (returns : S → Returns) (survives : S → Type 0)
-    (a b : Story S) (held now : List Portion) → b.notes ≡ a.notes → IsFront held now
-    → AddsNothing (returns a.sink) (returns b.sink) (survives a.sink) (survives b.sink)
-    → KeepsLast refusals returns survives a held b now
-last_stays refusals returns survives a b held now notes front (none, after) = (
-  (λ h. brings_still (returns a.sink) (returns b.sink) (seen refusals a held)
-      (seen refusals b now) notes front none (h (ap length notes))),
-  after,
-)
+pub last_stays : {S : Type 0} (refusals : S → ℕ) (crashes : S → Crashes) (a b : Story S)
+    (held now : List Portion) → b.notes ≡ a.notes → IsFront held now
+    → AddsNothing (crashes a.sink) (crashes b.sink) → KeepsLast refusals crashes a held b now
+last_stays refusals crashes a b held now notes front adds = record {
+  last = λ h. still (crashes a.sink).returns (crashes b.sink).returns
+      (λ back there x. or_nothing (adds.now back there x)) (h (ap length notes));
+  survives = adds.survives;
+  no_fewer = omega (arith, ap length notes);
+  later = adds.later;
+  since = λ t le same h. still ((crashes a.sink).returned t) ((crashes b.sink).returned t)
+      (λ back there x. or_nothing (adds.since t back there le x)) h;
+  survived = adds.survived;
+}
+  where
+    still : (r t : Returns) → ((back : Point) (there : List Portion) → t back there → r back there)
+        → BringsLast r (seen refusals a held) → BringsLast t (seen refusals b now)
+    still r t = brings_still r t (seen refusals a held) (seen refusals b now) notes front
 
 slice_last : (cs : List Point) (c : Point) → slice_get (cs ++ c ∷ []) (length cs) ≡ Some c
 slice_last [] c = refl
@@ -80,10 +106,12 @@ among_last s n r back there count last (inl x) =
     subst (λ z. IsNoteOf z s back there) same i
 
 -- the session went back to the note made last
-pub last_back : (old new : Seen) (n : ℕ) (r t : Returns) (u v : Type 0)
-    → length old.notes ≡ n + 1 → WentBack n old new → AddsOnly (IsNoteOf n old) r t u v
+pub last_back : (old new : Seen) (n : ℕ) (r t : Returns)
+    → length old.notes ≡ n + 1 → WentBack n old new
+    → ((back : Point) (there : List Portion) → t back there
+    → r back there ⊎ IsNoteOf n old back there)
     → BringsLast r old → BringsLast t new
-last_back old new n r t u v count went (only, after) last = λ back there x.
+last_back old new n r t count went only last = λ back there x.
     let (is, f, w) = among_last old n r back there count last (only back there x) in
     let same : new.notes ≡ old.notes =
     went.notes ∙ take_all (n + 1) old.notes (omega (arith, count)) in
@@ -95,11 +123,52 @@ last_back old new n r t u v count went (only, after) last = λ back there x.
       (ap (λ z. slice_get z n) same ∙ is, subst (IsFront there) all (front_self there), w),
     )
 
+-- it was noted where the session stands, and that was kept
+pub last_kept : {S : Type 0} (refusals : S → ℕ) (crashes : S → Crashes) (a b : Story S)
+    (held now : List Portion) (point : Point) (these : Returns)
+    → point ≡ saved (seen refusals a held).place (weight_of held)
+    → ThisAlone point held (crashes b.sink) → Saved (seen refusals a held) (seen refusals b now)
+    → AddsOnly these (crashes a.sink) (crashes b.sink) → KeepsLast refusals crashes a held b now
+last_kept refusals crashes a b held now point these here alone s adds =
+    let more : length b.notes ≡ length a.notes + 1 = ap length s.notes
+    ∙ length-append a.notes (saved (seen refusals a held).place (weight_of held) ∷ []) in
+    record {
+      last = λ same. last_saved (seen refusals a held) (seen refusals b now) point
+          (crashes b.sink).returns here alone.0 s;
+      survives = adds.survives;
+      no_fewer = omega (arith, more);
+      later = adds.later;
+      since = λ t le same h. absurd (omega (arith, same, more));
+      survived = adds.survived;
+    }
+
+-- the session went back to the note made last
+pub last_went : {S : Type 0} (refusals : S → ℕ) (crashes : S → Crashes) (a b : Story S)
+    (held now : List Portion) (n : ℕ) → length a.notes ≡ n + 1
+    → WentBack n (seen refusals a held) (seen refusals b now)
+    → AddsOnly (IsNoteOf n (seen refusals a held)) (crashes a.sink) (crashes b.sink)
+    → KeepsLast refusals crashes a held b now
+last_went refusals crashes a b held now n count went adds =
+    let notes : b.notes ≡ a.notes =
+    went.notes ∙ take_all (n + 1) a.notes (omega (arith, count)) in
+    record {
+      last = λ h. last_back (seen refusals a held) (seen refusals b now) n
+          (crashes a.sink).returns (crashes b.sink).returns count went adds.now
+          (h (ap length notes));
+      survives = adds.survives;
+      no_fewer = omega (arith, ap length notes);
+      later = adds.later;
+      since = λ t le same h. last_back (seen refusals a held) (seen refusals b now) n
+          ((crashes a.sink).returned t) ((crashes b.sink).returned t) count went
+          (λ back there x. adds.since t back there le x) h;
+      survived = adds.survived;
+    }
+
 -- what the images before were brought to, and those behind them
 pub stood_then : {S : Type 0} (holds : S → List Portion → Type 0) (refusals : S → ℕ)
-    (returns : S → Returns) (survives : S → Type 0) (a b : Story S) (held between : List Portion)
-    (now : Seen) → KeepsLast refusals returns survives a held b between
-    → StoodSaved holds refusals returns survives b between now
-    → StoodSaved holds refusals returns survives a held now
-stood_then holds refusals returns survives a b held between now first (mid, parts, has, is, last) =
-    (mid, parts, has, is, last_then refusals returns survives a b mid held between parts first last)
+    (crashes : S → Crashes) (a b : Story S) (held between : List Portion)
+    (now : Seen) → KeepsLast refusals crashes a held b between
+    → StoodSaved holds refusals crashes b between now
+    → StoodSaved holds refusals crashes a held now
+stood_then holds refusals crashes a b held between now first (mid, parts, has, is, last) =
+    (mid, parts, has, is, last_then refusals crashes a b mid held between parts first last)

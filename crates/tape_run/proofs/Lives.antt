@@ -22,9 +22,9 @@ use Rattle.tape_run.specs.Given.{failed_of}
 use Rattle.tape_run.specs.Headline.{HasRun}
 use Rattle.tape_run.specs.Crash.{IsOf, StoodAt}
 use Rattle.tape_run.specs.Lives.{IsPlaceOf, ComesBack, Life, IsResumed, Outlives, AreHistories}
-use Rattle.tape_run.specs.Lives.{GoesOn}
+use Rattle.tape_run.specs.Lives.{GoesOn, LivesOn}
 use Rattle.tape_run.proofs.Notes.{same_front, note_at}
-use Rattle.tape_core.specs.Crash.{OnlyThis}
+use Rattle.tape_core.specs.Crash.{OnlyThis, Returns}
 use Rattle.tape_run.proofs.Headline.{headline}
 use Rattle.tape_run.proofs.Back.{by_number}
 use Rattle.tape_run.proofs.Begin.{is_resumed}
@@ -176,7 +176,7 @@ across set c ps (life ∷ lives) (hs ∷ hss) back there l st (r, (mid, front, h
     subst (λ (f : ℕ). Stands set f back there) file next
 
 -- one life, up to what a crash brought back
-pub one_more_life : (c : Point) (ps : List Portion) (s : Seen) (steps : List Step)
+one_more_life : (c : Point) (ps : List Portion) (s : Seen) (steps : List Step)
     (reels : List (Option (List ℕ))) (bytes : List (List ℕ)) (old : Point → List Portion → Type 0)
     (back : Point) (there : List Portion)
     → IsResumed c ps s → reels ≡ map Some bytes
@@ -199,6 +199,16 @@ one_more_life c ps s steps reels bytes old back there r e only (inr h) =
       refl,
       (r, (back, there, inr b, (refl, refl))),
     )
+
+pub lives_on : (c : Point) (ps : List Portion) (s : Seen) (steps : List Step)
+    (reels : List (Option (List ℕ))) (bytes : List (List ℕ)) (old new : Returns)
+    → IsResumed c ps s → reels ≡ map Some bytes
+    → ((back : Point) (there : List Portion) → new back there
+    → old back there ⊎ StoodAt s steps reels back there) → LivesOn c ps steps bytes old new
+lives_on c ps s steps reels bytes old new r e adds only back there h =
+    let (life, began, of_steps, of_bytes, outlives) =
+    one_more_life c ps s steps reels bytes old back there r e only (adds back there h) in
+    (life, of_steps, of_bytes, outlives)
 
 pub goes_on : (c : Point) (ps : List Portion) (s new : Seen) (steps : List Step)
     (bytes : List (List ℕ))

@@ -190,11 +190,11 @@ saves_before_going_back : (S : _) (LS : _) (g : _) (d : _) (κs : _) (a : _) (s 
     → restart.Learnt-named S LS g d κs a (Ok tt) s
     → g.holds a.0.now.sink held → IsKept (seen g.refusals a.0.now held)
     → slice_get a.0.now.notes a.1.0 ≡ Some note → note.position ≡ Awaits 1 0 0
-    → ((old : Point) (parts : List Portion) → g.returns a.0.now.sink old parts
+    → ((old : Point) (parts : List Portion) → (g.crashes a.0.now.sink).returns old parts
     → old.position ≡ Awaits 1 0 0)
-    → g.returns s.0.now.sink back there → back.position ≡ Awaits 1 5 0 → ⊥
+    → (g.crashes s.0.now.sink).returns back there → back.position ≡ Awaits 1 5 0 → ⊥
 saves_before_going_back S LS g d κs a s held there note back l was kept noted first alone comes
-    five = elim ((l.crash held was kept).0 back there comes) [
+    five = elim ((l.crash held was kept).now back there comes) [
       | inl old ↦ absurd (
           let n : 0 ≡ 5 = ap block_of (sym (alone back there old) ∙ five) in
           omega (arith, n)

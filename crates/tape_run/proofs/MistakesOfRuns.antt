@@ -132,7 +132,7 @@ script_notes_in_the_list_alone : (S : _) (R : _) (LS : _) (LR : _) (g : _) (d : 
     → run.Learnt-named S R LS LR g d h e κs a (Ok tt) s
     → g.holds a.0.now.sink held → a.0.now.notes ≡ [] → a.1.0.now ≡ Save ∷ []
     → a.0.now.core.position ≡ Awaits 1 5 0
-    → g.returns s.0.now.sink older there → older.position ≡ Awaits 1 0 0 → ⊥
+    → (g.crashes s.0.now.sink).returns older there → older.position ≡ Awaits 1 0 0 → ⊥
 script_notes_in_the_list_alone S R LS LR g d h e κs a s held there older l was fresh steps five
     back began =
     let kept = kept_without (rest_of a.0.now.core) held a.0.now.notes fresh in

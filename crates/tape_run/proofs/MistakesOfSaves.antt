@@ -56,9 +56,9 @@ weight_noted (c ∷ cs) = c.staged
 save_tells_no_sink : (S : _) (LS : _) (g : _) (d : _) (κs : _) (a : _) (point : _) (s : _)
     (held there : List Portion) (older : Point) → save.Learnt-named S LS g d κs a (Ok point) s
     → g.holds a.0.now.sink held → point.position ≡ Awaits 1 5 0
-    → g.returns s.0.now.sink older there → older.position ≡ Awaits 1 0 0 → ⊥
+    → (g.crashes s.0.now.sink).returns older there → older.position ≡ Awaits 1 0 0 → ⊥
 save_tells_no_sink S LS g d κs a point s held there older l was five back start =
-    let e : older ≡ point = (l.kept held was older there back).0 in
+    let e : older ≡ point = ((l.kept held was).0 older there back).0 in
     let n : 0 ≡ 5 = ap block_of (sym start ∙ ap (λ c. c.position) e ∙ five) in
     absurd (omega (arith, n))
 
@@ -67,9 +67,10 @@ save_tells_no_sink S LS g d κs a point s held there older l was five back start
 list_grows_behind_keep : (S : _) (LS : _) (g : _) (d : _) (κs : _) (a : _) (s : _)
     (held : List Portion) (told : Point)
     → save.Learnt-named S LS g d κs a (Err faults.OutOfMemory) s
-    → g.returns s.0.now.sink told held → (g.returns a.0.now.sink told held → ⊥) → ⊥
+    → (g.crashes s.0.now.sink).returns told held
+    → ((g.crashes a.0.now.sink).returns told held → ⊥) → ⊥
 list_grows_behind_keep S LS g d κs a s held told l now none =
-    none (subst (λ sink. g.returns sink told held) (l.memory refl) now)
+    none (subst (λ sink. (g.crashes sink).returns told held) (l.memory refl) now)
 
 -- checkpoint_that_does_not_stand: a part was delivered, and the checkpoint tells a position that
 -- has none before it

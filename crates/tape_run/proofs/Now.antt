@@ -4,7 +4,7 @@ use Rattle.std.proofs.Common.{None, refl, sym, ap, subst, ◌∙◌, inl, arith,
 use Rattle.std.specs.Io.KnownBytes.{Appends}
 use Rattle.std.proofs.KnownBytes.{Appends-trans}
 use Rattle.tape_blocks.specs.Block.{Portion}
-use Rattle.tape_core.specs.Crash.{Returns}
+use Rattle.tape_core.specs.Crash.{Crashes}
 use Rattle.tape_set.specs.declared.position.Position.TheVariants.{Finished}
 use Rattle.tape_set.specs.declared.position.Want.{Want}
 use Rattle.tape_set.specs.Position.{want_at}
@@ -19,18 +19,18 @@ use Rattle.tape_run.specs.ExtractingNow.{IsPut, ExtractsNow, StopsNow}
 use Rattle.tape_run.proofs.Fitting.{front_more, front_then}
 use Rattle.tape_run.proofs.Turns.{gathers}
 
-pub extracted_now : {S L R : Type 0} {returns : S → Returns}
-    {survives : S → Type 0} (holds : S → List Portion → Type 0) (refusals : S → ℕ)
+pub extracted_now : {S L R : Type 0} {crashes : S → Crashes}
+    (holds : S → List Portion → Type 0) (refusals : S → ℕ)
     (size : L → ℕ) (gives : Mounting L R) (remaining : R → Option (List ℕ)) (old mid : Story S)
     (shelf left : L) (form : Form) (tells : Type 0)
     (stands said between says : Option (List ℕ)) (want : Option Want) (records : ℕ)
-    → TakesAll holds refusals returns survives (size shelf) 0 gives remaining false old mid shelf
+    → TakesAll holds refusals crashes (size shelf) 0 gives remaining false old mid shelf
     left said between
     → want ≡ want_at mid.core.file mid.core.position → Appends between says (last_line want records)
     → ((held : List Portion) → holds mid.sink held → IsPut want tells records form stands held)
     → ExtractsNow holds refusals size gives remaining old shelf left form tells stands said says
     want
-extracted_now {S} {L} {R} {returns} {survives} holds refusals size gives remaining old mid shelf
+extracted_now {S} {L} {R} {crashes} holds refusals size gives remaining old mid shelf
     left form tells stands said between
     says want records t is last wrote = record {
       turns = t.turns;
@@ -53,16 +53,16 @@ extracted_now {S} {L} {R} {returns} {survives} holds refusals size gives remaini
           };
     }
 
-pub stops_reading_now : {S L R O : Type 0} {returns : S → Returns}
-    {survives : S → Type 0} (holds : S → List Portion → Type 0)
+pub stops_reading_now : {S L R O : Type 0} {crashes : S → Crashes}
+    (holds : S → List Portion → Type 0)
     (refusals : S → ℕ) (size : L → ℕ) (gives : Mounting L R) (remaining : R → Option (List ℕ))
     (old : Story S) (shelf left : L) (form : Form) (tells : Type 0)
     (stands : O → Option (List ℕ)) (out : O) (said says : Option (List ℕ))
-    → StopsReading holds refusals returns survives (size shelf) 0 gives remaining false old shelf
+    → StopsReading holds refusals crashes (size shelf) 0 gives remaining false old shelf
     left said says
     → StopsNow holds refusals size gives remaining old shelf left form tells stands out out said
     says
-stops_reading_now {S} {L} {R} {O} {returns} {survives} holds refusals size gives remaining old shelf
+stops_reading_now {S} {L} {R} {O} {crashes} holds refusals size gives remaining old shelf
     left form tells stands out said
     says s =
     record {
@@ -83,13 +83,13 @@ stops_reading_now {S} {L} {R} {O} {returns} {survives} holds refusals size gives
       );
     }
 
-pub stops_at_end_now : {S L R O : Type 0} {returns : S → Returns}
-    {survives : S → Type 0} (holds : S → List Portion → Type 0) (refusals : S → ℕ)
+pub stops_at_end_now : {S L R O : Type 0} {crashes : S → Crashes}
+    (holds : S → List Portion → Type 0) (refusals : S → ℕ)
     (size : L → ℕ) (gives : Mounting L R) (remaining : R → Option (List ℕ)) (old mid : Story S)
     (shelf left : L) (form : Form) (tells : Type 0)
     (stands : O → Option (List ℕ)) (out put : O) (said between says : Option (List ℕ))
     (want : Option Want) (records : ℕ)
-    → TakesAll holds refusals returns survives (size shelf) 0 gives remaining false old mid shelf
+    → TakesAll holds refusals crashes (size shelf) 0 gives remaining false old mid shelf
     left said between
     → AppendsFront between says (last_line want records)
     → ((held : List Portion) → holds mid.sink held → (put ≡ out) ⊎ ((mid.core.position
@@ -97,7 +97,7 @@ pub stops_at_end_now : {S L R O : Type 0} {returns : S → Returns}
     ⊎ (tells → stands put ≡ Some (output_of form held)))))
     → StopsNow holds refusals size gives remaining old shelf left form tells stands out put said
     says
-stops_at_end_now {S} {L} {R} {O} {returns} {survives} holds refusals size gives remaining old mid
+stops_at_end_now {S} {L} {R} {O} {crashes} holds refusals size gives remaining old mid
     shelf left form tells stands out put
     said between says want records t last wrote = record {
       turns = t.turns;

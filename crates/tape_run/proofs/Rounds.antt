@@ -11,7 +11,7 @@ use Rattle.tape_blocks.specs.Block.{Portion}
 use Rattle.tape_set.specs.declared.position.Position.TheVariants.{Finished}
 use Rattle.tape_set.specs.declared.position.Want.{Want}
 use Rattle.tape_set.specs.Position.{want_at}
-use Rattle.tape_core.specs.Crash.{Returns}
+use Rattle.tape_core.specs.Crash.{Crashes}
 use Rattle.tape_core.specs.State.{State}
 use Rattle.tape_run.specs.Seen.{Seen, seen}
 use Rattle.tape_run.specs.Story.{Story}
@@ -122,13 +122,13 @@ whole_round turns size core most all some = elim (cases_lt (length turns) size) 
 ]
 
 -- nothing has come yet
-pub none_gone : {S L R : Type 0} {returns : S → Returns}
-    {survives : S → Type 0} (holds : S → List Portion → Type 0) (refusals : S → ℕ)
+pub none_gone : {S L R : Type 0} {crashes : S → Crashes}
+    (holds : S → List Portion → Type 0) (refusals : S → ℕ)
     (size : ℕ) (gives : Mounting L R) (remaining : R → Option (List ℕ)) (back : Bool)
     (old : Story S) (shelf : L) (said : Option (List ℕ))
-    → HasGone holds refusals returns survives size gives remaining back old old shelf shelf said
+    → HasGone holds refusals crashes size gives remaining back old old shelf shelf said
     said []
-none_gone {S} {L} {R} {returns} {survives} holds refusals size gives remaining back old shelf said =
+none_gone {S} {L} {R} {crashes} holds refusals size gives remaining back old shelf said =
     record {
       are_rounds = refl;
       brought = tt;
@@ -139,30 +139,30 @@ none_gone {S} {L} {R} {returns} {survives} holds refusals size gives remaining b
         was,
         kept,
         refl,
-        last_same refusals returns survives old
+        last_same refusals crashes old
             held,
       );
     }
 
 -- one more round was made, and it was not enough
-pub gone_on : {S L R : Type 0} {returns : S → Returns}
-    {survives : S → Type 0} (holds : S → List Portion → Type 0) (refusals : S → ℕ)
+pub gone_on : {S L R : Type 0} {crashes : S → Crashes}
+    (holds : S → List Portion → Type 0) (refusals : S → ℕ)
     (size before : ℕ) (gives : Mounting L R) (remaining : R → Option (List ℕ)) (back : Bool)
     (old mid new : Story S) (shelf between left : L) (said told says : Option (List ℕ))
     (rounds : List Round)
-    → HasGone holds refusals returns survives size gives remaining back old mid shelf between said
+    → HasGone holds refusals crashes size gives remaining back old mid shelf between said
     told rounds
     → before ≡ length (turns_of rounds)
-    → TakesAll holds refusals returns survives size before gives remaining back mid new between left
+    → TakesAll holds refusals crashes size before gives remaining back mid new between left
     told says
     → wanted new.core ≢ None → wanted new.core ≢ wanted mid.core
     → (more : List Round) × (before + size ≡ length (turns_of more))
-    × HasGone holds refusals returns survives size gives remaining back old new shelf left said says
+    × HasGone holds refusals crashes size gives remaining back old new shelf left said says
     more
-gone_on {S} {L} {R} {returns} {survives} holds refusals size before gives remaining back old mid new
+gone_on {S} {L} {R} {crashes} holds refusals size before gives remaining back old mid new
     shelf between left said told
     says rounds h count took some other =
-    let t = subst (λ n. TakesAll holds refusals returns survives size n gives remaining back mid new
+    let t = subst (λ n. TakesAll holds refusals crashes size n gives remaining back mid new
     between left
     told says) count took in
     let whole = whole_round t.turns size new.core t.most t.all some in
@@ -194,20 +194,20 @@ gone_on {S} {L} {R} {returns} {survives} holds refusals size before gives remain
                   r (seen refusals new now) f
                   (subst (λ c. Follows back c (seen refusals mid between) t.turns new.core
                   (seen refusals new now)) h.at one),
-              last_then refusals returns survives old mid new held between now before last,
+              last_then refusals crashes old mid new held between now before last,
             );
       },
     )
 
 -- where a round brought something there are images
-pub some_images : {S L R : Type 0} {returns : S → Returns}
-    {survives : S → Type 0} (holds : S → List Portion → Type 0) (refusals : S → ℕ)
+pub some_images : {S L R : Type 0} {crashes : S → Crashes}
+    (holds : S → List Portion → Type 0) (refusals : S → ℕ)
     (size before : ℕ) (gives : Mounting L R) (remaining : R → Option (List ℕ)) (back : Bool)
     (mid new : Story S) (between left : L) (told says : Option (List ℕ))
-    → TakesAll holds refusals returns survives size before gives remaining back mid new between left
+    → TakesAll holds refusals crashes size before gives remaining back mid new between left
     told says
     → wanted new.core ≢ wanted mid.core → 0 < size
-some_images {S} {L} {R} {returns} {survives} holds refusals size before gives remaining back mid new
+some_images {S} {L} {R} {crashes} holds refusals size before gives remaining back mid new
     between left told says t
     other = elim (cases_lt 0 size) [
       | inl some ↦ some
@@ -218,22 +218,22 @@ some_images {S} {L} {R} {returns} {survives} holds refusals size before gives re
     ]
 
 -- one more round was made, and it was enough
-pub takes_rounds : {S L R : Type 0} {returns : S → Returns}
-    {survives : S → Type 0} (holds : S → List Portion → Type 0) (refusals : S → ℕ)
+pub takes_rounds : {S L R : Type 0} {crashes : S → Crashes}
+    (holds : S → List Portion → Type 0) (refusals : S → ℕ)
     (size count before : ℕ) (gives : Mounting L R) (remaining : R → Option (List ℕ)) (back : Bool)
     (old mid new : Story S) (shelf between left : L) (said told says : Option (List ℕ))
     (rounds : List Round) → count ≡ size → before ≡ length (turns_of rounds)
-    → HasGone holds refusals returns survives count gives remaining back old mid shelf between said
+    → HasGone holds refusals crashes count gives remaining back old mid shelf between said
     told rounds
-    → TakesAll holds refusals returns survives count before gives remaining back mid new between
+    → TakesAll holds refusals crashes count before gives remaining back mid new between
     left told says
     → IsEnough count before (wanted mid.core) (wanted new.core)
-    → TakesRounds holds refusals returns survives size gives remaining back old new shelf left said
+    → TakesRounds holds refusals crashes size gives remaining back old new shelf left said
     says
-takes_rounds {S} {L} {R} {returns} {survives} holds refusals size count before gives remaining back
+takes_rounds {S} {L} {R} {crashes} holds refusals size count before gives remaining back
     old mid new shelf between left
     said told says rounds all lines h took enough =
-    subst (λ n. TakesRounds holds refusals returns survives n gives remaining back old new shelf
+    subst (λ n. TakesRounds holds refusals crashes n gives remaining back old new shelf
     left said says) all
     (record {
       rounds = rounds;
@@ -241,28 +241,28 @@ takes_rounds {S} {L} {R} {returns} {survives} holds refusals size count before g
       between = between;
       told = told;
       gone = h;
-      last = subst (λ n. TakesAll holds refusals returns survives count n gives remaining back mid
+      last = subst (λ n. TakesAll holds refusals crashes count n gives remaining back mid
           new between left
           told says) lines took;
       enough = subst (λ n. IsEnough count n (wanted mid.core) (wanted new.core)) lines enough;
     })
 
 -- a fault ended one more round
-pub stops_round : {S L R : Type 0} {returns : S → Returns}
-    {survives : S → Type 0} (holds : S → List Portion → Type 0) (refusals : S → ℕ)
+pub stops_round : {S L R : Type 0} {crashes : S → Crashes}
+    (holds : S → List Portion → Type 0) (refusals : S → ℕ)
     (size count before : ℕ) (gives : Mounting L R) (remaining : R → Option (List ℕ)) (back : Bool)
     (old mid : Story S) (shelf between left : L) (said told says : Option (List ℕ))
     (rounds : List Round) → count ≡ size → before ≡ length (turns_of rounds)
-    → HasGone holds refusals returns survives count gives remaining back old mid shelf between said
+    → HasGone holds refusals crashes count gives remaining back old mid shelf between said
     told rounds
-    → StopsReading holds refusals returns survives count before gives remaining back mid between
+    → StopsReading holds refusals crashes count before gives remaining back mid between
     left told says
-    → StopsInRound holds refusals returns survives size gives remaining back old shelf left said
+    → StopsInRound holds refusals crashes size gives remaining back old shelf left said
     says
-stops_round {S} {L} {R} {returns} {survives} holds refusals size count before gives remaining back
+stops_round {S} {L} {R} {crashes} holds refusals size count before gives remaining back
     old mid shelf between left said
     told says rounds all lines h stopped =
-    subst (λ n. StopsInRound holds refusals returns survives n gives remaining back old shelf left
+    subst (λ n. StopsInRound holds refusals crashes n gives remaining back old shelf left
     said says) all
     (record {
       rounds = rounds;
@@ -270,7 +270,7 @@ stops_round {S} {L} {R} {returns} {survives} holds refusals size count before gi
       between = between;
       told = told;
       gone = h;
-      last = subst (λ n. StopsReading holds refusals returns survives count n gives remaining back
+      last = subst (λ n. StopsReading holds refusals crashes count n gives remaining back
           mid between left
           told says) lines stopped;
     })

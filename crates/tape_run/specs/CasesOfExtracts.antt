@@ -17,6 +17,8 @@ use Rattle.tape_set.specs.Layout.{FileSet}
 use Rattle.tape_set.specs.Lawful.{IsLawful}
 use Rattle.tape_core.specs.declared.answer.Answer.TheVariants.{SectionDone, Useless}
 use Rattle.tape_core.specs.declared.answer.Reason.TheVariants.{BlockCount, Broken, BadItem}
+use Rattle.tape_core.specs.Crash.{Crashes, lost}
+use Rattle.tape_core.specs.Crash.{Crashes, lost}
 use Rattle.tape_core.specs.Place.{IsPlaced, rest_of}
 use Rattle.tape_core.specs.State.{State}
 use Rattle.tape_run.specs.Crash.{IsNoteOf, BringsLast, KeepsLast, is_saved}
@@ -156,13 +158,13 @@ Readers = List (Option Known)
 abbrev pub ExtractsListed : Listed → Readers → Readers → Form → Known → Known → Known → Known
     → Option Want → Type 0
 ExtractsListed session shelf left form out written said says want =
-    Extracts (λ s ps. s ≡ ps) (λ s. 0) (λ s back there. ⊥) (λ s. ⊥) length Took (λ r. r) session
+    Extracts (λ s ps. s ≡ ps) (λ s. 0) (λ s. lost) length Took (λ r. r) session
     shelf left form out written
     said says want
 
 abbrev pub StopsListed : Listed → Readers → Readers → Form → Known → Known → Known → Known → Type 0
 StopsListed session shelf left form out written said says =
-    Stops (λ s ps. s ≡ ps) (λ s. 0) (λ s back there. ⊥) (λ s. ⊥) length Took (λ r. r) session shelf
+    Stops (λ s ps. s ≡ ps) (λ s. 0) (λ s. lost) length Took (λ r. r) session shelf
     left form (λ w. w) out
     written
     said says
@@ -279,6 +281,25 @@ pub record CasesOfOutputs : Type 0 where
 abbrev pub brings : List Portion → Point → Point → List Portion → Type 0
 brings ps c back there = (back ≡ c) × (there ≡ ps)
 
+-- of a crash now alone, and since a moment alone
+abbrev pub comes_now : List Portion → Point → Crashes
+comes_now ps c = record {
+  returns = brings ps c;
+  survives = c.position ≡ Finished;
+  moment = 0;
+  returned = λ t back there. ⊥;
+  survived = λ t. ⊥;
+}
+
+abbrev pub comes_since : List Portion → Point → Crashes
+comes_since ps c = record {
+  returns = λ back there. ⊥;
+  survives = ⊥;
+  moment = c.file;
+  returned = λ t. brings ps c;
+  survived = λ t. c.position ≡ Finished;
+}
+
 -- of what comes back of a session that was saved
 pub record CasesOfSaved : Type 0 where
   -- of two notes the first comes back with its own parts, and the last alone is brought
@@ -293,21 +314,32 @@ pub record CasesOfSaved : Type 0 where
   -- the note that was made on the way is brought
   pub noted_on_the_way : (old new : Story Point) (held now ps : List Portion) (c : Point)
       → old.notes ≡ [] → new.notes ≡ c ∷ []
-      → KeepsLast (λ s. 0) (brings ps) (λ s. ⊤) old held new now
+      → KeepsLast (λ s. 0) (comes_now ps) old held new now
       → (new.sink ≡ c) × IsFront ps now
   -- where none was made the one that came back alone still does
   pub none_on_the_way : (old new : Story Point) (held now ps : List Portion) (c : Point)
       → old.notes ≡ c ∷ [] → new.notes ≡ c ∷ [] → old.sink ≡ c → IsFront ps held
-      → weight_of ps ≡ c.staged → KeepsLast (λ s. 0) (brings ps) (λ s. ⊤) old held new now
+      → weight_of ps ≡ c.staged → KeepsLast (λ s. 0) (comes_now ps) old held new now
       → new.sink ≡ c
   -- where something came back whatever a crash left it does so still
   pub survives : (old new : Story Point) (held now : List Portion)
-      → KeepsLast (λ s. 0) (brings []) (λ s. s.position ≡ Finished) old held new now
+      → KeepsLast (λ s. 0) (comes_now []) old held new now
       → old.sink.position ≡ Finished → new.sink.position ≡ Finished
+  -- the same since a moment up to the first, where no note was made
+  pub none_since : (old new : Story Point) (held now ps : List Portion) (c : Point) (t : ℕ)
+      → old.notes ≡ c ∷ [] → new.notes ≡ c ∷ [] → old.sink ≡ c → IsFront ps held
+      → weight_of ps ≡ c.staged → t ≤ old.sink.file
+      → KeepsLast (λ s. 0) (comes_since ps) old held new now → new.sink ≡ c
+  pub survived : (old new : Story Point) (held now : List Portion) (t : ℕ) → t ≤ old.sink.file
+      → KeepsLast (λ s. 0) (comes_since []) old held new now
+      → old.sink.position ≡ Finished → new.sink.position ≡ Finished
+  pub goes_on : (old new : Story Point) (held now : List Portion)
+      → KeepsLast (λ s. 0) (comes_since []) old held new now
+      → (length old.notes ≤ length new.notes) × (old.sink.file ≤ new.sink.file)
   -- what a session came to is a state of it
   pub stood : (session : Story Point) (held ps : List Portion) (now : Seen) (c : Point)
       → session.notes ≡ [] → now.notes ≡ c ∷ []
-      → StoodSaved (λ s parts. s.staged ≡ weight_of parts) (λ s. 0) (brings ps) (λ s. ⊤) session
+      → StoodSaved (λ s parts. s.staged ≡ weight_of parts) (λ s. 0) (comes_now ps) session
       held now
       → (mid : Story Point) × (mid.sink ≡ c) × (now.place ≡ rest_of mid.core)
       × IsFront ps now.parts × (c.staged ≡ weight_of now.parts)

@@ -1,8 +1,8 @@
 -- What a crash brings back of a session.
-use Rattle.std.specs.Prelude.{◌≡◌, ◌⊎◌, ℕ, ◌+◌, List, [], ◌∷◌, length, Option, Some, None}
-use Rattle.std.specs.Prelude.{slice_get, ⊤, Bool, true, false}
+use Rattle.std.specs.Prelude.{◌≡◌, ◌⊎◌, ℕ, ◌+◌, ◌≤◌, List, [], ◌∷◌, length, Option, Some}
+use Rattle.std.specs.Prelude.{None, slice_get, ⊤, Bool, true, false}
 use Rattle.tape_blocks.specs.Block.{Portion}
-use Rattle.tape_core.specs.Crash.{Returns}
+use Rattle.tape_core.specs.Crash.{Crashes, Returns}
 use Rattle.tape_core.specs.Point.{Point}
 use Rattle.tape_core.specs.Stands.{weight_of}
 use Rattle.tape_core.specs.Table.{saved}
@@ -32,14 +32,22 @@ BringsLast returns s = (back : Point) (there : List Portion) → returns back th
     → (n : ℕ) × (length s.notes ≡ n + 1) × IsNoteOf n s back there
 
 -- Nothing comes back but the note that was made last, where it was made on the way or nothing but
--- the note made last came back before; and where something came back whatever a crash leaves it
--- does so still.
-abbrev pub KeepsLast : {S : Type 0} → (S → ℕ) → (S → Returns) → (S → Type 0) → Story S
-    → List Portion → Story S → List Portion → Type 0
-KeepsLast refusals returns survives old held new now =
-    ((length new.notes ≡ length old.notes → BringsLast (returns old.sink) (seen refusals old held))
-    → BringsLast (returns new.sink) (seen refusals new now))
-    × (survives old.sink → survives new.sink)
+-- the note made last came back before; where none was made on the way nothing else came back since
+-- a moment, if nothing else had up to here; and where something came back whatever a crash leaves
+-- it does so still, and did at each moment on the way.
+pub record KeepsLast {S : Type 0} (refusals : S → ℕ) (crashes : S → Crashes) (old : Story S)
+    (held : List Portion) (new : Story S) (now : List Portion) : Type 0 where
+  pub last : (length new.notes ≡ length old.notes
+      → BringsLast (crashes old.sink).returns (seen refusals old held))
+      → BringsLast (crashes new.sink).returns (seen refusals new now)
+  pub survives : (crashes old.sink).survives → (crashes new.sink).survives
+  pub no_fewer : length old.notes ≤ length new.notes
+  pub later : (crashes old.sink).moment ≤ (crashes new.sink).moment
+  pub since : (t : ℕ) → t ≤ (crashes old.sink).moment → length new.notes ≡ length old.notes
+      → BringsLast ((crashes old.sink).returned t) (seen refusals old held)
+      → BringsLast ((crashes new.sink).returned t) (seen refusals new now)
+  pub survived : (t : ℕ) → t ≤ (crashes old.sink).moment
+      → (crashes old.sink).survived t → (crashes new.sink).survived t
 
 -- whether nothing but reels was read behind the save made last, where that was so before or not
 abbrev pub is_saved : Bool → List Step → Bool

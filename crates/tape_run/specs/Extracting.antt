@@ -7,7 +7,7 @@ use Rattle.tape_blocks.specs.Spans.{join}
 use Rattle.tape_set.specs.declared.position.Position.TheVariants.{Finished}
 use Rattle.tape_set.specs.declared.position.Want.{Want}
 use Rattle.tape_set.specs.Position.{want_at}
-use Rattle.tape_core.specs.Crash.{Returns}
+use Rattle.tape_core.specs.Crash.{Crashes}
 use Rattle.tape_core.specs.State.{State}
 use Rattle.tape_run.specs.declared.answer.ReelAnswer.{ReelAnswer}
 use Rattle.tape_run.specs.Seen.{Seen, seen}
@@ -67,7 +67,7 @@ pub record StopsAtEnd {S W : Type 0} (holds : S → List Portion → Type 0) (se
 -- reported for each, and a last one with what is wanted or how many records the file has; and the
 -- session that the sink's parts belong to ended so.
 pub record Extracts {S L R : Type 0} (holds : S → List Portion → Type 0) (refusals : S → ℕ)
-    (returns : S → Returns) (survives : S → Type 0)
+    (crashes : S → Crashes)
     (size : L → ℕ) (gives : Mounting L R) (remaining : R → Option (List ℕ)) (session : Story S)
     (shelf left : L) (form : Form) (out written said says : Option (List ℕ)) (want : Option Want)
     : Type 0 where
@@ -80,13 +80,13 @@ pub record Extracts {S L R : Type 0} (holds : S → List Portion → Type 0) (re
   pub ends : (held : List Portion) → holds session.sink held
       → IsKeptFor (goes_back session.notes) (seen refusals session held)
       → (e : Ends session.core (seen refusals session held) turns want records form out written)
-      × StoodSaved holds refusals returns survives session held e.now
+      × StoodSaved holds refusals crashes session held e.now
 
 -- A fault ended it: what was reported is a front of such a report, with the line of at most one
 -- image more than those that were read and noted, which are the first of the images; and nothing
 -- was done to the output, or the file is complete and a front of its records was written.
 pub record Stops {S L R W : Type 0} (holds : S → List Portion → Type 0) (refusals : S → ℕ)
-    (returns : S → Returns) (survives : S → Type 0)
+    (crashes : S → Crashes)
     (size : L → ℕ) (gives : Mounting L R) (remaining : R → Option (List ℕ)) (session : Story S)
     (shelf left : L) (form : Form) (contents : W → Option (List ℕ)) (out written : W)
     (said says : Option (List ℕ)) : Type 0 where
@@ -103,6 +103,6 @@ pub record Stops {S L R W : Type 0} (holds : S → List Portion → Type 0) (ref
       → IsKeptFor (goes_back session.notes) (seen refusals session held)
       → (last : State) × (now : Seen)
       × Follows (goes_back session.notes) session.core (seen refusals session held) turns last now
-      × StoodSaved holds refusals returns survives session held now
+      × StoodSaved holds refusals crashes session held now
       × ((written ≡ out) ⊎ ((now.place.position ≡ Finished)
       × AppendsFront (contents out) (contents written) (output_of form now.parts)))

@@ -5,7 +5,7 @@ use Rattle.tape_blocks.specs.Block.{Portion}
 use Rattle.tape_blocks.specs.declared.form.Form.{Form}
 use Rattle.tape_set.specs.declared.position.Position.TheVariants.{Finished}
 use Rattle.tape_set.specs.declared.position.Want.{Want}
-use Rattle.tape_core.specs.Crash.{Returns}
+use Rattle.tape_core.specs.Crash.{Crashes}
 use Rattle.tape_core.specs.State.{State}
 use Rattle.tape_run.specs.declared.answer.ReelAnswer.{ReelAnswer}
 use Rattle.tape_run.specs.Extracting.{Ends}
@@ -24,7 +24,7 @@ use Rattle.tape_run.specs.Story.{Story}
 -- image of each round, numbered on and on, and a last one with what is wanted or how many records
 -- the file has; and over all rounds the session ended as over images that are named so often.
 pub record ExtractsAgain {S L R : Type 0} (holds : S → List Portion → Type 0) (refusals : S → ℕ)
-    (returns : S → Returns) (survives : S → Type 0)
+    (crashes : S → Crashes)
     (size : L → ℕ) (gives : Mounting L R) (remaining : R → Option (List ℕ)) (session : Story S)
     (shelf left : L) (form : Form) (out written said says : Option (List ℕ)) (want : Option Want)
     : Type 0 where
@@ -47,14 +47,14 @@ pub record ExtractsAgain {S L R : Type 0} (holds : S → List Portion → Type 0
       form out written)
       × GoesRound (goes_back session.notes) session.core (seen refusals session held) rounds turns
       e.last e.now
-      × StoodSaved holds refusals returns survives session held e.now
+      × StoodSaved holds refusals crashes session held e.now
 
 -- A fault ended it: what was reported is a front of such a report, with the line of at most one
 -- image more than those that were read and noted, which are those of whole rounds that brought
 -- something and the first of the images once more; and nothing was done to the output, or the file
 -- is complete and a front of its records was written.
 pub record StopsAgain {S L R W : Type 0} (holds : S → List Portion → Type 0) (refusals : S → ℕ)
-    (returns : S → Returns) (survives : S → Type 0)
+    (crashes : S → Crashes)
     (size : L → ℕ) (gives : Mounting L R) (remaining : R → Option (List ℕ)) (session : Story S)
     (shelf left : L) (form : Form) (contents : W → Option (List ℕ)) (out written : W)
     (said says : Option (List ℕ)) : Type 0 where
@@ -76,6 +76,6 @@ pub record StopsAgain {S L R W : Type 0} (holds : S → List Portion → Type 0)
       → (last : State) × (now : Seen)
       × GoesRound (goes_back session.notes) session.core (seen refusals session held) rounds turns
       last now
-      × StoodSaved holds refusals returns survives session held now
+      × StoodSaved holds refusals crashes session held now
       × ((written ≡ out) ⊎ ((now.place.position ≡ Finished)
       × AppendsFront (contents out) (contents written) (output_of form now.parts)))

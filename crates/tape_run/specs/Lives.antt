@@ -5,6 +5,7 @@ use Rattle.tape_set.specs.Layout.{FileSet}
 use Rattle.tape_set.specs.Lawful.{IsLawful}
 use Rattle.tape_set.specs.Before.{before}
 use Rattle.tape_set.specs.declared.position.Position.{Position}
+use Rattle.tape_core.specs.Crash.{Returns, OnlyThis}
 use Rattle.tape_core.specs.Point.{Point}
 use Rattle.tape_core.specs.Place.{place_of}
 use Rattle.tape_core.specs.Stands.{Stands}
@@ -64,6 +65,13 @@ Outlives c ps (life ∷ lives) back there =
     × (((mid ≡ c) × (front ≡ ps))
     ⊎ ComesBack life.began life.steps life.done life.bytes life.given mid front)
     × Outlives mid front lives back there)
+
+-- Where nothing came back before but this checkpoint with these parts, what comes back now is that,
+-- or outlives a life of these steps.
+abbrev pub LivesOn : Point → List Portion → List Step → List (List ℕ) → Returns → Returns → Type 0
+LivesOn c ps steps bytes old new = OnlyThis c ps old → (back : Point) (there : List Portion)
+    → new back there → (life : Life) × (life.steps ≡ steps) × (life.bytes ≡ bytes)
+    × Outlives c ps (life ∷ []) back there
 
 -- a history for each life
 abbrev pub AreHistories : FileSet → List Life → List (List Happening) → Type 0

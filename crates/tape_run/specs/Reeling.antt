@@ -16,7 +16,7 @@ use Rattle.tape_core.specs.declared.answer.Answer.{Answer}
 use Rattle.tape_core.specs.declared.answer.Answer.TheVariants.{Useless}
 use Rattle.tape_core.specs.declared.answer.Reason.TheVariants.{BlockCount, Broken}
 use Rattle.tape_core.specs.Place.{IsPlaced, rest_of}
-use Rattle.tape_core.specs.Crash.{Returns}
+use Rattle.tape_core.specs.Crash.{Crashes}
 use Rattle.tape_core.specs.Point.{Point}
 use Rattle.tape_run.specs.declared.answer.ReelAnswer.{ReelAnswer}
 use Rattle.tape_run.specs.Crash.{KeepsLast}
@@ -246,7 +246,7 @@ AreSteps back turns old new = (bytes : List (List ℕ)) → AreTold turns bytes
 
 -- The image with this number was read, or passed, and its line was reported.
 pub record Takes {S R : Type 0} (holds : S → List Portion → Type 0) (refusals : S → ℕ)
-    (returns : S → Returns) (survives : S → Type 0)
+    (crashes : S → Crashes)
     (remaining : R → Option (List ℕ)) (back : Bool) (old new : Story S) (image : Option R)
     (number : ℕ) (said says : Option (List ℕ)) : Type 0 where
   pub turn : Turn
@@ -256,12 +256,12 @@ pub record Takes {S R : Type 0} (holds : S → List Portion → Type 0) (refusal
       → IsKeptFor back (seen refusals old held) → (now : List Portion)
       × holds new.sink now × IsKeptFor back (seen refusals new now)
       × Follows back old.core (seen refusals old held) (turn ∷ []) new.core (seen refusals new now)
-      × KeepsLast refusals returns survives old held new now
+      × KeepsLast refusals crashes old held new now
 
 -- Images, of which there are so many, were read in their order, all of them or up to the one that
 -- completed the file, and a line was reported for each, behind so many lines that were there.
 pub record TakesAll {S L R : Type 0} (holds : S → List Portion → Type 0) (refusals : S → ℕ)
-    (returns : S → Returns) (survives : S → Type 0)
+    (crashes : S → Crashes)
     (size before : ℕ) (gives : Mounting L R) (remaining : R → Option (List ℕ)) (back : Bool)
     (old new : Story S) (shelf left : L) (said says : Option (List ℕ)) : Type 0 where
   pub turns : List Turn
@@ -274,7 +274,7 @@ pub record TakesAll {S L R : Type 0} (holds : S → List Portion → Type 0) (re
       → IsKeptFor back (seen refusals old held) → (now : List Portion)
       × holds new.sink now × IsKeptFor back (seen refusals new now)
       × Follows back old.core (seen refusals old held) turns new.core (seen refusals new now)
-      × KeepsLast refusals returns survives old held new now
+      × KeepsLast refusals crashes old held new now
 
 -- Nothing was reported but a front of the lines of at most one image, which has this number.
 abbrev pub IsReported : ℕ → Option (List ℕ) → Option (List ℕ) → Type 0
@@ -283,16 +283,16 @@ IsReported number said says = (more : List (Option ReelAnswer)) × (length more 
 
 -- The session came to this from where it began; and then a crash brought back nothing but the note
 -- that it made last, where it made one on the way or that alone came back before.
-abbrev pub StoodSaved : {S : Type 0} → (S → List Portion → Type 0) → (S → ℕ) → (S → Returns)
-    → (S → Type 0) → Story S → List Portion → Seen → Type 0
-StoodSaved holds refusals returns survives session held now = (mid : Story _)
+abbrev pub StoodSaved : {S : Type 0} → (S → List Portion → Type 0) → (S → ℕ) → (S → Crashes)
+    → Story S → List Portion → Seen → Type 0
+StoodSaved holds refusals crashes session held now = (mid : Story _)
     × (parts : List Portion) × holds mid.sink parts × (now ≡ seen refusals mid parts)
-    × KeepsLast refusals returns survives session held mid parts
+    × KeepsLast refusals crashes session held mid parts
 
 -- Images were read in their order, and a fault ended that: a line was reported for each of them,
 -- and a front of one for one more. Those behind that one were not mounted.
 pub record StopsReading {S L R : Type 0} (holds : S → List Portion → Type 0) (refusals : S → ℕ)
-    (returns : S → Returns) (survives : S → Type 0)
+    (crashes : S → Crashes)
     (size before : ℕ) (gives : Mounting L R) (remaining : R → Option (List ℕ)) (back : Bool)
     (old : Story S) (shelf left : L) (said says : Option (List ℕ)) : Type 0 where
   pub turns : List Turn
@@ -304,4 +304,4 @@ pub record StopsReading {S L R : Type 0} (holds : S → List Portion → Type 0)
   pub follows : (held : List Portion) → holds old.sink held
       → IsKeptFor back (seen refusals old held) → (core : State) × (now : Seen)
       × Follows back old.core (seen refusals old held) turns core now
-      × StoodSaved holds refusals returns survives old held now
+      × StoodSaved holds refusals crashes old held now

@@ -5,7 +5,7 @@ use Rattle.std.specs.Io.KnownBytes.{Appends}
 use Rattle.tape_blocks.specs.Block.{Portion}
 use Rattle.tape_set.specs.declared.position.Want.{Want}
 use Rattle.tape_set.specs.Position.{want_at}
-use Rattle.tape_core.specs.Crash.{Returns}
+use Rattle.tape_core.specs.Crash.{Crashes}
 use Rattle.tape_core.specs.State.{State}
 use Rattle.tape_run.specs.Crash.{KeepsLast}
 use Rattle.tape_run.specs.ReelLine.{reel_lines}
@@ -70,7 +70,7 @@ GoesRound back core old rounds turns last new = (mid : Seen)
 
 -- Whole rounds were made, each brought something, and a line was reported for each image of each.
 pub record HasGone {S L R : Type 0} (holds : S → List Portion → Type 0) (refusals : S → ℕ)
-    (returns : S → Returns) (survives : S → Type 0)
+    (crashes : S → Crashes)
     (size : ℕ) (gives : Mounting L R) (remaining : R → Option (List ℕ)) (back : Bool)
     (old new : Story S) (shelf left : L) (said says : Option (List ℕ)) (rounds : List Round)
     : Type 0 where
@@ -82,34 +82,34 @@ pub record HasGone {S L R : Type 0} (holds : S → List Portion → Type 0) (ref
       → IsKeptFor back (seen refusals old held) → (now : List Portion)
       × holds new.sink now × IsKeptFor back (seen refusals new now)
       × FollowsRounds back old.core (seen refusals old held) rounds (seen refusals new now)
-      × KeepsLast refusals returns survives old held new now
+      × KeepsLast refusals crashes old held new now
 
 -- Rounds were made until one was enough.
 pub record TakesRounds {S L R : Type 0} (holds : S → List Portion → Type 0) (refusals : S → ℕ)
-    (returns : S → Returns) (survives : S → Type 0)
+    (crashes : S → Crashes)
     (size : ℕ) (gives : Mounting L R) (remaining : R → Option (List ℕ)) (back : Bool)
     (old new : Story S) (shelf left : L) (said says : Option (List ℕ)) : Type 0 where
   pub rounds : List Round
   pub mid : Story S
   pub between : L
   pub told : Option (List ℕ)
-  pub gone : HasGone holds refusals returns survives size gives remaining back old mid shelf
+  pub gone : HasGone holds refusals crashes size gives remaining back old mid shelf
       between said told rounds
-  pub last : TakesAll holds refusals returns survives size (length (turns_of rounds)) gives
+  pub last : TakesAll holds refusals crashes size (length (turns_of rounds)) gives
       remaining back mid new between left told says
   pub enough : IsEnough size (length (turns_of rounds)) (wanted mid.core) (wanted new.core)
 
 -- Rounds were made, and a fault ended the one behind them.
 pub record StopsInRound {S L R : Type 0} (holds : S → List Portion → Type 0) (refusals : S → ℕ)
-    (returns : S → Returns) (survives : S → Type 0)
+    (crashes : S → Crashes)
     (size : ℕ) (gives : Mounting L R) (remaining : R → Option (List ℕ)) (back : Bool)
     (old : Story S) (shelf left : L) (said says : Option (List ℕ)) : Type 0 where
   pub rounds : List Round
   pub mid : Story S
   pub between : L
   pub told : Option (List ℕ)
-  pub gone : HasGone holds refusals returns survives size gives remaining back old mid shelf
+  pub gone : HasGone holds refusals crashes size gives remaining back old mid shelf
       between said told rounds
-  pub last : StopsReading holds refusals returns survives size (length (turns_of rounds)) gives
+  pub last : StopsReading holds refusals crashes size (length (turns_of rounds)) gives
       remaining back mid
       between left told says

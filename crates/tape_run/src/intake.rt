@@ -111,8 +111,7 @@ impl<S: PartSink> Intake<S> {
         ensures cause { OnErr result (Rose (S.refusals self.old.sink) (S.refusals self.new.sink)) }
         ensures calm { OnOk result (S.refusals self.new.sink ≡ S.refusals self.old.sink) }
         ensures crash { (held : List Portion) → S.holds self.old.sink held
-            → AddsNothing (S.returns self.old.sink) (S.returns self.new.sink)
-            (S.survives self.old.sink) (S.survives self.new.sink) }
+            → AddsNothing (S.crashes self.old.sink) (S.crashes self.new.sink) }
     {
         let before = self.core.save(0);
         let answer = self.core.step(event);
@@ -141,8 +140,7 @@ impl<S: PartSink> Intake<S> {
         ensures cause { OnErr result (Rose (S.refusals self.old.sink) (S.refusals self.new.sink)) }
         ensures calm { OnOk result (S.refusals self.new.sink ≡ S.refusals self.old.sink) }
         ensures crash { (held : List Portion) → S.holds self.old.sink held
-            → AddsNothing (S.returns self.old.sink) (S.returns self.new.sink)
-            (S.survives self.old.sink) (S.survives self.new.sink) }
+            → AddsNothing (S.crashes self.old.sink) (S.crashes self.new.sink) }
     {
         let Some(shape) = self.core.shape() else {
             unreachable!()
@@ -189,8 +187,7 @@ impl<S: PartSink> Intake<S> {
         ensures cause { OnErr result (Rose (S.refusals self.old.sink) (S.refusals self.new.sink)) }
         ensures calm { OnOk result (S.refusals self.new.sink ≡ S.refusals self.old.sink) }
         ensures crash { (held : List Portion) → S.holds self.old.sink held
-            → AddsNothing (S.returns self.old.sink) (S.returns self.new.sink)
-            (S.survives self.old.sink) (S.survives self.new.sink) }
+            → AddsNothing (S.crashes self.old.sink) (S.crashes self.new.sink) }
     {
         let mut blocks = 0u32;
         'items: loop {

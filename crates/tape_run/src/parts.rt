@@ -44,8 +44,7 @@ pub fn put_parts<S: PartSink>(
     ensures cause { OnErr result (Rose (S.refusals sink.old) (S.refusals sink.new)) }
     ensures calm { OnOk result (S.refusals sink.new ≡ S.refusals sink.old) }
     ensures crash { (held : List Portion) → S.holds sink.old held
-        → AddsNothing (S.returns sink.old) (S.returns sink.new) (S.survives sink.old)
-        (S.survives sink.new) }
+        → AddsNothing (S.crashes sink.old) (S.crashes sink.new) }
 {
     let mut going = begun;
     let mut seen = 0u32;

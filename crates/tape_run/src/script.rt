@@ -98,7 +98,7 @@ pub fn run<S: PartSink, R: Read>(
         × Runs which (seen S.refusals session.old held) steps.now (map R.remaining reels.old)
         (seen S.refusals session.new now))
         × (is_saved false steps.now ≡ true
-        → BringsLast (S.returns session.new.sink) (seen S.refusals session.new now))) }
+        → BringsLast (S.crashes session.new.sink).returns (seen S.refusals session.new now))) }
     // Where it stopped: the same of the steps before, and the step that is told left what its call
     // promises.
     ensures faults { IfErr result (λ end. (held : List Portion) → S.holds session.old.sink held
@@ -109,14 +109,12 @@ pub fn run<S: PartSink, R: Read>(
         × (which : List Bool) × (failed.new ≡ written which failed.old)
         × RunsUpTo which (seen S.refusals session.old held) steps.now (map R.remaining reels.old)
         end.step end.fault (seen S.refusals session.new now)) }
-    // Whatever it answered: what a crash behind it brings back could come back before, or is where
-    // the session stood between two steps, or one of its notes there.
+    // Whatever it answered: what a crash in it or behind it brings back could come back before, or
+    // is where the session stood between two steps, or one of its notes there.
     ensures crash { (held : List Portion) → S.holds session.old.sink held
         → IsKept (seen S.refusals session.old held)
         → AddsOnly (StoodAt (seen S.refusals session.old held) steps.now
-        (map R.remaining reels.old))
-        (S.returns session.old.sink) (S.returns session.new.sink)
-        (S.survives session.old.sink) (S.survives session.new.sink) }
+        (map R.remaining reels.old)) (S.crashes session.old.sink) (S.crashes session.new.sink) }
 {
     let mut used = 0usize;
     for (step, asked) in steps.iter().enumerate() {
@@ -145,8 +143,8 @@ fn make<S: PartSink, R: Read>(
         × ((rest : List Step) → HasMade 1 which (seen S.refusals session.old held) (step ∷ rest)
         (map R.remaining (drop used reels.old)) (seen S.refusals session.new now) rest
         (map R.remaining (drop now_used reels.new)))
-        × StaysSaved step (S.returns session.old.sink) (seen S.refusals session.old held)
-        (S.returns session.new.sink) (seen S.refusals session.new now))) }
+        × StaysSaved step (S.crashes session.old.sink).returns (seen S.refusals session.old held)
+        (S.crashes session.new.sink).returns (seen S.refusals session.new now))) }
     ensures unwritten { OnErr result (failed.new ≡ failed.old) }
     ensures err { IfErr result (λ fault. (held : List Portion) → S.holds session.old.sink held
         → IsKept (seen S.refusals session.old held)
@@ -157,9 +155,8 @@ fn make<S: PartSink, R: Read>(
         (seen S.refusals session.old held) (seen S.refusals session.new now)) }
     ensures crash { (held : List Portion) → S.holds session.old.sink held
         → IsKept (seen S.refusals session.old held)
-        → AddsOnly (IsOf (seen S.refusals session.old held))
-        (S.returns session.old.sink) (S.returns session.new.sink)
-        (S.survives session.old.sink) (S.survives session.new.sink) }
+        → AddsOnly (IsOf (seen S.refusals session.old held)) (S.crashes session.old.sink)
+        (S.crashes session.new.sink) }
 {
     match step {
         Step::Reel => {

@@ -10,7 +10,7 @@ ghost use Rattle.tape_core.specs.Known.{IsFileNumber};
 ghost use Rattle.tape_core.specs.Place.{rest_of};
 ghost use Rattle.tape_core.specs.Stands.{Stands, weight_of};
 ghost use Rattle.tape_core.specs.Table.{saved, reader_of};
-ghost use Rattle.tape_core.specs.Crash.{AddsNothing, AddsOnly, OnlyThis};
+ghost use Rattle.tape_core.specs.Crash.{AddsNothing, AddsOnly, ThisAlone};
 ghost use Rattle.tape_core.specs.Weight.{IsFront};
 ghost use Rattle.tape_run.specs.Crash.{IsHere, IsNoteOf};
 ghost use Rattle.tape_run.specs.Given.{is_device, counted};
@@ -164,10 +164,10 @@ impl<S: PartSink> Session<S> {
             self.new.core.position ≡ Position.Finished → answer.answer ≡ Answer.Complete) }
         ensures unread { IfErr result (λ fault.
             Leaves fault self.old.core (R.remaining device.old) (R.remaining device.new)) }
-        // Whatever it answered: a crash behind it brings back nothing that none before it could.
+        // Whatever it answered: a crash in it or behind it brings back nothing that none before it
+        // could.
         ensures crash { (held : List Portion) → S.holds self.old.sink held
-            → AddsNothing (S.returns self.old.sink) (S.returns self.new.sink)
-            (S.survives self.old.sink) (S.survives self.new.sink) }
+            → AddsNothing (S.crashes self.old.sink) (S.crashes self.new.sink) }
     {
         if self.intake.core.want().is_none() {
             return Ok(ReelAnswer::new(Answer::Complete, None, 0));
@@ -210,14 +210,15 @@ impl<S: PartSink> Session<S> {
             → S.holds self.old.sink held → IsSession set (seen S.refusals self.old held)
             → Stands set (rest_of self.old.core).file point held) }
         ensures memory { result ≡ Err RunFault.OutOfMemory → self.new.sink ≡ self.old.sink }
-        // Behind an Ok a crash brings back the checkpoint that was saved, with its parts, alone.
+        // Behind an Ok, and from then on, a crash brings back the checkpoint that was saved, with
+        // its parts, alone.
         ensures kept { IfOk result (λ point. (held : List Portion) → S.holds self.old.sink held
-            → OnlyThis point held (S.returns self.new.sink)) }
-        // Whatever it answered: a crash behind it brings back where the session stands, with the
-        // parts delivered, or what one before it could.
+            → ThisAlone point held (S.crashes self.new.sink)) }
+        // Whatever it answered: a crash in it or behind it brings back where the session stands,
+        // with the parts delivered, or what one before it could.
         ensures crash { (held : List Portion) → S.holds self.old.sink held
-            → AddsOnly (IsHere (seen S.refusals self.old held)) (S.returns self.old.sink)
-            (S.returns self.new.sink) (S.survives self.old.sink) (S.survives self.new.sink) }
+            → AddsOnly (IsHere (seen S.refusals self.old held)) (S.crashes self.old.sink)
+            (S.crashes self.new.sink) }
     {
         let point = self.intake.core.save(self.intake.sink.weight());
         if self.notes.push(point).is_err() {
@@ -278,12 +279,12 @@ impl<S: PartSink> Session<S> {
             → (fault ≢ RunFault.Sink SinkFault.Device → S.holds self.new.sink held)
             × RestartFails n fault (seen S.refusals self.old held)
             (seen S.refusals self.new held)) }
-        // Whatever it answered: a crash behind it brings back the note of this number, with its
-        // parts, or what one before it could.
+        // Whatever it answered: a crash in it or behind it brings back the note of this number,
+        // with its parts, or what one before it could.
         ensures crash { (held : List Portion) → S.holds self.old.sink held
             → IsKept (seen S.refusals self.old held)
-            → AddsOnly (IsNoteOf n (seen S.refusals self.old held)) (S.returns self.old.sink)
-            (S.returns self.new.sink) (S.survives self.old.sink) (S.survives self.new.sink) }
+            → AddsOnly (IsNoteOf n (seen S.refusals self.old held)) (S.crashes self.old.sink)
+            (S.crashes self.new.sink) }
     {
         if n >= self.notes.len() {
             return Err(RunFault::NoSuchPoint);

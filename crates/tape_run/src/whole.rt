@@ -1,15 +1,13 @@
 //! Whole readings, each in one call.
 
-ghost use Rattle.std.specs.Prelude.{◌≡◌, [], ◌∷◌, ℕ, List, Option, Some, None, map};
+ghost use Rattle.std.specs.Prelude.{◌≡◌, [], ℕ, List, Option, Some, None, map};
 ghost use Rattle.std.specs.Prelude.{Err, IsOk, IfOk, OnOk, IfErr};
 ghost use Rattle.tape_blocks.specs.Block.{Portion};
 ghost use Rattle.tape_core.specs.Known.{IsFileNumber};
 ghost use Rattle.tape_core.specs.Place.{rest_of};
-ghost use Rattle.tape_core.specs.Point.{Point};
-ghost use Rattle.tape_core.specs.Crash.{OnlyThis};
 ghost use Rattle.tape_core.specs.Memory.{portions};
 ghost use Rattle.tape_run.specs.Headline.{IsRead, IsStart, HasStopped, LosesParts};
-ghost use Rattle.tape_run.specs.Lives.{Life, IsResumed, Outlives, GoesOn};
+ghost use Rattle.tape_run.specs.Lives.{IsResumed, LivesOn, GoesOn};
 ghost use Rattle.tape_run.specs.Seen.{Seen, seen};
 
 use crate::fault::Stopped;
@@ -77,16 +75,18 @@ pub fn go_on<S: PartSink, R: Read>(
         × ((LosesParts steps.now end.step end.fault → ⊥) → S.holds result.0.sink now)
         × ((bytes : List (List ℕ)) → map R.remaining reels.old ≡ map Some bytes
         → HasStopped began steps.now bytes end.step end.fault (seen S.refusals result.0 now))) }
-    // Whatever it answered: what a crash behind it brings back is what was there, or outlives this
-    // life.
+    // Whatever it answered: what a crash behind it brings back, or one in it, is what was there, or
+    // outlives this life.
     ensures crash { (held : List Portion) → S.holds sink held
-        → OnlyThis point.now held (S.returns sink)
         → (bytes : List (List ℕ)) → map R.remaining reels.old ≡ map Some bytes
-        → (back : Point) (there : List Portion) → S.returns result.0.sink back there
-        → (life : Life) × (life.steps ≡ steps.now) × (life.bytes ≡ bytes)
-        × Outlives point.now held (life ∷ []) back there }
-    ensures survives { (held : List Portion) → S.holds sink held → S.survives sink
-        → S.survives result.0.sink }
+        → LivesOn point.now held steps.now bytes (S.crashes sink).returns
+        (S.crashes result.0.sink).returns
+        × LivesOn point.now held steps.now bytes ((S.crashes sink).returned (S.crashes sink).moment)
+        ((S.crashes result.0.sink).returned (S.crashes sink).moment) }
+    ensures survives { (held : List Portion) → S.holds sink held
+        → ((S.crashes sink).survives → (S.crashes result.0.sink).survives)
+        × ((S.crashes sink).survived (S.crashes sink).moment
+        → (S.crashes result.0.sink).survived (S.crashes sink).moment) }
 {
     let mut session = Session::resume(alloc, point, sink);
     let result = run(&mut session, steps, reels, &mut []);

@@ -1,6 +1,7 @@
 //! A reader that fails, and a sink that only counts.
 
 ghost use Rattle.std.specs.Prelude.{◌≤◌};
+ghost use Rattle.tape_core.specs.Crash.{lost};
 ghost use Rattle.tape_core.specs.Known.{most_staged};
 
 use std::io;
@@ -37,9 +38,11 @@ impl PartSink for Counting {
 
     ghost refusals = { λ sink. sink.refused };
 
-    ghost returns = { λ sink back there. ⊥ };
+    ghost crashes = { λ sink. lost };
 
-    ghost survives = { λ sink. ⊥ };
+    ghost returned_now = { λ sink t back there none. none };
+
+    ghost survived_now = { λ sink t none. none };
 
     fn put(&mut self, part: Part<'_>) -> Result<(), SinkFault> {
         let heavy = 5 + part.bytes.len() as u64;

@@ -1,10 +1,15 @@
 -- What comes back after a crash.
-use Rattle.std.proofs.Common.{◌≡◌, ◌⊎◌, inl, inr, ℕ, ◌+◌, Bool, false, not, List}
+use Rattle.std.proofs.Common.{◌≡◌, ◌⊎◌, inl, inr, ℕ, ◌+◌, ◌≤◌, Bool, false, not, List}
 use Rattle.std.proofs.Common.{sym, ◌∙◌, subst}
 use Rattle.tape_stage.specs.declared.disk.Disk.{Ghosts}
 use Rattle.tape_blocks.specs.Block.{Portion}
+use Rattle.tape_core.specs.Crash as crash
+use Rattle.tape_core.specs.Crash.{AddsNothing, AddsOnly, Crashes, IsThis}
+use Rattle.tape_core.proofs.Crashes.{only_same}
+use Rattle.tape_stage.specs.Moments.{Passes}
 use Rattle.tape_stage.specs.Staged.{Staged, StagedIn, IsEither, Ready}
-use Rattle.tape_stage.specs.Stages.{IsStage, Returns, Survives, HasRefused}
+use Rattle.tape_stage.specs.Stages.{IsStage, Returns, Survives, Returned, Survived}
+use Rattle.tape_stage.specs.Stages.{HasRefused, crashes_of}
 use Rattle.tape_core.specs.Point.{Point}
 use Rattle.tape_stage.specs.declared.stage.Stage.{Stage}
 use Rattle.tape_stage.specs.declared.stage.StageFault.{StageFault}
@@ -49,6 +54,21 @@ ready_returns seen may_leave second g point other_open parts ready back there r 
     let same = staged_once r.0 r.2.0 g back point there parts r.2.1
     (staged_named second g point parts r.0 each) in
     (same.1, same.2)
+
+-- what crashes do to a stage on this disk
+abbrev pub crashes_on : {D : Type 0} → Ghosts D → D → Crashes
+crashes_on disk at = record {
+  returns = λ back there. (bytes : List ℕ) × disk.may_leave at bytes
+      × ((g : ℕ) × Staged bytes g back there);
+  survives = (bytes : List ℕ) → disk.may_leave at bytes → (g : ℕ) × (point : Point)
+      × (parts : List Portion) × Staged bytes g point parts;
+  moment = disk.moment at;
+  returned = λ t back there. (bytes : List ℕ)
+      × (disk.left_since at t bytes ⊎ disk.may_leave at bytes)
+      × ((g : ℕ) × Staged bytes g back there);
+  survived = λ t. (bytes : List ℕ) → disk.left_since at t bytes ⊎ disk.may_leave at bytes
+      → (g : ℕ) × (point : Point) × (parts : List Portion) × Staged bytes g point parts;
+}
 
 module _ {D : Type 0} {disk : Ghosts D} where
   returns_as : (stage : Stage D disk) (point back : Point) (parts there : List Portion)
@@ -107,37 +127,119 @@ module _ {D : Type 0} {disk : Ghosts D} where
       (staged_named stage.in_second stage.generation stage.acknowledged parts r.0 each) in
       (same.1 ∙ kept, same.2)
 
-  -- a call that was refused
-  pub refused_returns : (old new : Stage D disk) (fault : StageFault) (back : Point)
-      (there : List Portion) (Q : Type 0) → HasRefused old new fault
-      → (old.failed ≡ false → Returns new back there → Q) → (Returns old back there → Q)
-      → Returns new back there → Q
-  refused_returns old new Device back there Q is failed same r = failed is.0 r
-  refused_returns old new Full back there Q is failed same r =
-      same (subst (λ (s : Stage D disk). Returns s back there) is r)
-  refused_returns old new Failed back there Q is failed same r =
-      same (subst (λ (s : Stage D disk). Returns s back there) is.0 r)
-  refused_returns old new NoPoint back there Q is failed same r = absurd is
-  refused_returns old new (BadFrame place) back there Q is failed same r = absurd is
-  refused_returns old new OutOfMemory back there Q is failed same r = absurd is
+  -- what might come back since this moment may come back now
+  pub returned_now : (stage : Stage D disk) → disk.is_honest stage.disk
+      → ((c : List ℕ) → disk.is_honest stage.disk
+      → disk.left_since stage.disk (disk.moment stage.disk) c → disk.may_leave stage.disk c)
+      → (back : Point) (there : List Portion)
+      → Returned stage (disk.moment stage.disk) back there → Returns stage back there
+  returned_now stage honest only back there (bytes, inl left, is) =
+      (bytes, only bytes honest left, is)
+  returned_now stage honest only back there (bytes, inr left, is) = (bytes, left, is)
 
-  -- ---- that something comes back
+  pub survived_now : (stage : Stage D disk) → disk.is_honest stage.disk
+      → ((c : List ℕ) → disk.is_honest stage.disk
+      → disk.left_since stage.disk (disk.moment stage.disk) c → disk.may_leave stage.disk c)
+      → Survives stage → Survived stage (disk.moment stage.disk)
+  survived_now stage honest only survives bytes (inl left) =
+      survives bytes (only bytes honest left)
+  survived_now stage honest only survives bytes (inr left) = survives bytes left
 
-  pub refused_survives : (old new : Stage D disk) (fault : StageFault) → HasRefused old new fault
-      → (old.failed ≡ false → Survives new) → Survives old → Survives new
-  refused_survives old new Device is failed before = failed is.0
-  refused_survives old new Full is failed before =
-      subst (λ (s : Stage D disk). Survives s) (sym is) before
-  refused_survives old new Failed is failed before =
-      subst (λ (s : Stage D disk). Survives s) (sym is.0) before
-  refused_survives old new NoPoint is failed before = absurd is
-  refused_survives old new (BadFrame place) is failed before = absurd is
-  refused_survives old new OutOfMemory is failed before = absurd is
+  -- ---- what a call adds
 
-  -- a stage that stands survives
-  pub stage_survives : (stage : Stage D disk) (acked parts : List Portion)
-      → IsStage stage acked parts → Survives stage
-  stage_survives stage acked parts is bytes left =
-      in_stands stage.in_second stage.generation stage.acknowledged acked bytes
-      (ready_each stage.in_second stage.generation stage.acknowledged acked stage.other_open
-      (disk.seen stage.disk) (disk.may_leave stage.disk) bytes is.ready left).0
+  -- what could come back now, could since a moment
+  also_since : (stage : Stage D disk) (t : ℕ) (back : Point) (there : List Portion) (Q : Type 0)
+      → Returns stage back there ⊎ Q → Returned stage t back there ⊎ Q
+  also_since stage t back there Q (inl (bytes, left, is)) = inl (bytes, inr left, is)
+  also_since stage t back there Q (inr q) = inr q
+
+  -- of each file that was left on the way it is known what it stands for
+  pub adds_passed : (old : Stage D disk) (new : D) (these : crash.Returns) (P : List ℕ → Type 0)
+      → Passes disk.may_leave disk.moment disk.left_since old.disk new P
+      → ((bytes : List ℕ) (g : ℕ) (back : Point) (there : List Portion) → P bytes
+      → Staged bytes g back there → Returns old back there ⊎ these back there)
+      → (Survives old → (bytes : List ℕ) → P bytes → (g : ℕ) × (point : Point)
+      × (parts : List Portion) × Staged bytes g point parts)
+      → AddsOnly these (crashes_of old) (crashes_on disk new)
+  adds_passed old new these P passes among stands = record {
+    now = λ back there (bytes, left, (g, staged)).
+        among bytes g back there (passes.now bytes left) staged;
+    later = passes.later;
+    since = since;
+    survives = λ before bytes left. stands before bytes (passes.now bytes left);
+    survived = survived;
+  }
+    where
+      was : (t : ℕ) (back : Point) (there : List Portion) (bytes : List ℕ) (g : ℕ)
+          → Staged bytes g back there → disk.left_since old.disk t bytes ⊎ P bytes
+          → Returned old t back there ⊎ these back there
+      was t back there bytes g staged (inl left) = inl (bytes, inl left, (g, staged))
+      was t back there bytes g staged (inr p) =
+          also_since old t back there (these back there) (among bytes g back there p staged)
+
+      since : (t : ℕ) (back : Point) (there : List Portion) → t ≤ disk.moment old.disk
+          → (crashes_on disk new).returned t back there
+          → Returned old t back there ⊎ these back there
+      since t back there le (bytes, inl left, (g, staged)) =
+          was t back there bytes g staged (passes.before t bytes le left)
+      since t back there le (bytes, inr left, (g, staged)) =
+          was t back there bytes g staged (inr (passes.now bytes left))
+
+      stood : (t : ℕ) (bytes : List ℕ) → Survived old t
+          → disk.left_since old.disk t bytes ⊎ P bytes → (g : ℕ) × (point : Point)
+          × (parts : List Portion) × Staged bytes g point parts
+      stood t bytes before (inl left) = before bytes (inl left)
+      stood t bytes before (inr p) = stands (λ c left. before c (inr left)) bytes p
+
+      survived : (t : ℕ) → t ≤ disk.moment old.disk → Survived old t
+          → (crashes_on disk new).survived t
+      survived t le before bytes (inl left) = stood t bytes before (passes.before t bytes le left)
+      survived t le before bytes (inr left) = stood t bytes before (inr (passes.now bytes left))
+
+  -- a call that leaves what is acknowledged
+  pub adds_nothing : (old new : Stage D disk) (acked parts : List Portion)
+      → disk.may_leave old.disk (disk.seen old.disk) → IsStage old acked parts
+      → Passes disk.may_leave disk.moment disk.left_since old.disk new.disk
+      (StagedIn old.in_second old.generation old.acknowledged acked)
+      → AddsNothing (crashes_of old) (crashes_of new)
+  adds_nothing old new acked parts now is passes =
+      adds_passed old new.disk (λ back there. ⊥) _ passes
+      (λ bytes g back there was staged.
+      inl (returned_old old acked parts bytes g back there now is was staged))
+      (λ before bytes was.
+      in_stands old.in_second old.generation old.acknowledged acked bytes was)
+
+  -- or makes these acknowledged
+  pub adds_this : (old new : Stage D disk) (acked parts front : List Portion) (next : Point)
+      → disk.may_leave old.disk (disk.seen old.disk) → IsStage old acked parts
+      → Passes disk.may_leave disk.moment disk.left_since old.disk new.disk
+      (IsEither old.in_second old.generation old.acknowledged next acked front)
+      → AddsOnly (IsThis next front) (crashes_of old) (crashes_of new)
+  adds_this old new acked parts front next now is passes =
+      adds_passed old new.disk (IsThis next front) _ passes
+      (λ bytes g back there was staged.
+      returned old acked parts front next bytes g back there now is was staged)
+      (λ before bytes was.
+      either_stands old.in_second old.generation old.acknowledged next acked front bytes was)
+
+  -- or only reads
+  pub adds_read : (old : Stage D disk) (new : D)
+      → Passes disk.may_leave disk.moment disk.left_since old.disk new (disk.may_leave old.disk)
+      → AddsNothing (crashes_of old) (crashes_on disk new)
+  adds_read old new passes = adds_passed old new (λ back there. ⊥) _ passes
+      (λ bytes g back there left staged. inl (bytes, left, (g, staged)))
+      (λ before bytes left. before bytes left)
+
+  -- or was refused
+  pub adds_refused : (old new : Stage D disk) (these : crash.Returns) (fault : StageFault)
+      → HasRefused old new fault
+      → (old.failed ≡ false → AddsOnly these (crashes_of old) (crashes_of new))
+      → AddsOnly these (crashes_of old) (crashes_of new)
+  adds_refused old new these Device is failed = failed is.0
+  adds_refused old new these Full is failed = subst (λ (s : Stage D disk).
+      AddsOnly these (crashes_of old) (crashes_of s)) (sym is) (only_same these (crashes_of old))
+  adds_refused old new these Failed is failed = subst (λ (s : Stage D disk).
+      AddsOnly these (crashes_of old) (crashes_of s)) (sym is.0) (only_same these (crashes_of old))
+  adds_refused old new these NoPoint is failed = absurd is
+  adds_refused old new these (BadFrame place) is failed = absurd is
+  adds_refused old new these OutOfMemory is failed = absurd is

@@ -8,13 +8,14 @@ use Rattle.tape_blocks.specs.Block.{Portion}
 use Rattle.tape_core.specs.Point.{Point}
 use Rattle.tape_stage.specs.Parts.{IsFront}
 use Rattle.tape_stage.specs.Staged.{body_at, gate_at, read_slot, slot_at, FrontOf, IsEither, Loses}
-use Rattle.tape_stage.specs.Staged.{Ready, StagedIn}
-use Rattle.tape_stage.specs.Stages.{IsStage}
+use Rattle.tape_stage.specs.Staged.{Ready, Staged, StagedIn}
+use Rattle.tape_stage.specs.Stages.{Holds, IsStage, Survived}
 use Rattle.tape_stage.proofs.Torn.{alike_byte}
 use Rattle.tape_stage.proofs.stage.putting.write_frame.Reads as write_frame
 use Rattle.tape_stage.proofs.stage.slots.close_gate.Reads as close_gate
 use Rattle.tape_stage.proofs.stage.Stage.restart.Reads as restart
 use Rattle.tape_stage.proofs.stage.Stage.save.Reads as save
+use Rattle.tape_stage.proofs.stage.sinking.StagePartSink.keep.Reads as keep
 
 -- where nothing was left before, what was left has P
 since_then : {A P : Type 0} → (A → ⊥) → A ⊎ P → P
@@ -104,3 +105,15 @@ restart_cuts_before_saving D L g d κs a z s acked parts front c l honest stage 
     cut_too_early a.0.now.in_second a.0.now.generation a.0.now.acknowledged a.1.0.now acked front c
     told size closed (since_then before ((l.any_moment honest acked parts front stage first).before
     (g.moment a.0.now.disk) c (omega arith) left))
+
+-- saved_checkpoint_removed_first: whatever a crash leaves stands for something, and while a
+-- checkpoint is kept a file is left that stands for nothing
+saved_checkpoint_removed_first : (D : _) (L : _) (g : _) (d : _) (κs : _) (a : _) (z : _) (s : _)
+    (parts : List Portion) (c : List ℕ) → keep.Learnt-named D L g d κs a z s → Holds a.0.now parts
+    → Survived a.0.now (g.moment a.0.now.disk)
+    → g.left_since s.0.now.disk (g.moment a.0.now.disk) c
+    → ((n : ℕ) (point : Point) (ps : List Portion) → Staged c n point ps → ⊥) → ⊥
+saved_checkpoint_removed_first D L g d κs a z s parts c l holds survives left none =
+    let (n, point, ps, staged) = (l.crash parts holds).survived (g.moment a.0.now.disk)
+    (omega arith) survives c (inl left) in
+    none n point ps staged

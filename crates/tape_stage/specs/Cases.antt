@@ -39,6 +39,7 @@ use Rattle.tape_stage.specs.Staged.{Staged, Holding, HoldsNone, StandsLike}
 use Rattle.tape_stage.specs.Staged.{KeepsStaged, KeepsFrames, Loses}
 use Rattle.tape_stage.specs.Staged.{WalkedTo, Ready, StagedIn, slot_at, best, gate_at, read_slot}
 use Rattle.tape_stage.specs.Stages.{Holds, IsAhead, IsStage, Returns, Survives, HasRefused}
+use Rattle.tape_stage.specs.Stages.{Returned, Survived, crashes_of}
 
 -- what a crash may leave of a write and of a cut
 pub record CasesOfCrashes : Type 0 where
@@ -269,6 +270,23 @@ pub record CasesOfStages {D : Type 0} (g : Ghosts D) : Type 0 where
   pub something_returns : (stage : Stage D g) (bytes : List ℕ) → Survives stage
       → g.may_leave stage.disk bytes
       → (back : Point) × (there : List Portion) × Returns stage back there
+  -- the same of what a crash left since a moment, and of what it may leave now
+  pub what_was_left_returned : (stage : Stage D g) (t : ℕ) (bytes : List ℕ) (n : ℕ) (back : Point)
+      (there : List Portion) → g.left_since stage.disk t bytes ⊎ g.may_leave stage.disk bytes
+      → Staged bytes n back there → Returned stage t back there
+  pub what_returned_was_left : (stage : Stage D g) (t : ℕ) (back : Point) (there : List Portion)
+      → Returned stage t back there → (bytes : List ℕ)
+      × (g.left_since stage.disk t bytes ⊎ g.may_leave stage.disk bytes)
+      × ((n : ℕ) × Staged bytes n back there)
+  pub something_returned : (stage : Stage D g) (t : ℕ) (bytes : List ℕ) → Survived stage t
+      → g.left_since stage.disk t bytes ⊎ g.may_leave stage.disk bytes
+      → (back : Point) × (there : List Portion) × Returned stage t back there
+  pub crashes : (stage : Stage D g) (t : ℕ) (back : Point) (there : List Portion)
+      → ((crashes_of stage).returns back there → Returns stage back there)
+      × ((crashes_of stage).returned t back there → Returned stage t back there)
+      × ((crashes_of stage).survives → Survives stage)
+      × ((crashes_of stage).survived t → Survived stage t)
+      × ((crashes_of stage).moment ≡ g.moment stage.disk)
   -- a stage that failed stands still, and so does one that is full
   pub failed_stays : (old new : Stage D g) → HasRefused old new Failed
       → (new ≡ old) × (old.failed ≡ true)

@@ -7,7 +7,7 @@ use Rattle.tape_stage.specs.declared.disk.Disk.{Ghosts}
 use Rattle.tape_core.specs.Walks.{HasGiven}
 use Rattle.tape_blocks.specs.declared.part.Part.{Part}
 use Rattle.tape_core.specs.declared.sink.SinkFault.{SinkFault}
-use Rattle.tape_stage.specs.Stages.{Holds, Returns, Survives, IsAhead}
+use Rattle.tape_stage.specs.Stages.{Holds, IsAhead, crashes_of}
 use Rattle.tape_stage.specs.declared.stage.Stage.{Stage}
 use Rattle.tape_stage.specs.declared.stage.part_reader.PartReader.{PartReader}
 use Rattle.tape_stage.specs.contracts.stage.part_reader.PartReader.{the_row}
@@ -16,8 +16,7 @@ use Rattle.tape_stage.specs.contracts.stage.part_reader.PartReader.{the_row}
 abbrev pub StageGave : {D : Type 0} {disk : Ghosts D} → Stage D disk
     → Result (Option Part) SinkFault → Stage D disk → Type 0
 StageGave old result new = HasGiven (λ s parts. Holds s parts) (λ s. s.weight) (λ s. s.refused)
-    (λ s back there. Returns s back there) (λ s. Survives s) (λ s parts. IsAhead s parts)
-    (λ s. s.weight - s.walked) old result new
+    (λ s. crashes_of s) (λ s parts. IsAhead s parts) (λ s. s.weight - s.walked) old result new
 
 -- the reader reads the same stage, which gave its next part
 pub record HasRead {D : Type 0} {disk : Ghosts D} (old : PartReader D disk)

@@ -1,7 +1,8 @@
 -- What a stage stands for.
-use Rattle.std.specs.Prelude.{◌≡◌, ℕ, ◌+◌, ◌≤◌, Bool, true, false, List, Option, None}
+use Rattle.std.specs.Prelude.{◌≡◌, ◌⊎◌, ℕ, ◌+◌, ◌≤◌, Bool, true, false, List, Option, None}
 use Rattle.tape_stage.specs.declared.disk.Disk.{Ghosts}
 use Rattle.tape_blocks.specs.Block.{Portion}
+use Rattle.tape_core.specs.Crash.{Crashes}
 use Rattle.tape_core.specs.Stands.{weight_of}
 use Rattle.tape_stage.specs.Frames.{AheadIn}
 use Rattle.tape_stage.specs.Staged.{Staged, Holding, Ready}
@@ -65,6 +66,32 @@ Returns {D} {disk} stage back there = (bytes : List ℕ) × disk.may_leave stage
 abbrev pub Survives : {D : Type 0} {disk : Ghosts D} → Stage D disk → Type 0
 Survives {D} {disk} stage = (bytes : List ℕ) → disk.may_leave stage.disk bytes → (g : ℕ)
     × (point : Point) × (parts : List Portion) × Staged bytes g point parts
+
+-- a crash now, or at a moment from that one on, may have left this
+abbrev pub WasLeft : {D : Type 0} {disk : Ghosts D} → Stage D disk → ℕ → List ℕ → Type 0
+WasLeft {D} {disk} stage t bytes =
+    disk.left_since stage.disk t bytes ⊎ disk.may_leave stage.disk bytes
+
+-- it may have left a file that stands for this checkpoint and these parts
+abbrev pub Returned : {D : Type 0} {disk : Ghosts D} → Stage D disk → ℕ → Point → List Portion
+    → Type 0
+Returned {D} {disk} stage t back there = (bytes : List ℕ) × WasLeft stage t bytes
+    × ((g : ℕ) × Staged bytes g back there)
+
+-- each file that it may have left stands for something
+abbrev pub Survived : {D : Type 0} {disk : Ghosts D} → Stage D disk → ℕ → Type 0
+Survived {D} {disk} stage t = (bytes : List ℕ) → WasLeft stage t bytes → (g : ℕ)
+    × (point : Point) × (parts : List Portion) × Staged bytes g point parts
+
+-- what crashes do to a stage
+abbrev pub crashes_of : {D : Type 0} {disk : Ghosts D} → Stage D disk → Crashes
+crashes_of {D} {disk} stage = record {
+  returns = λ back there. Returns stage back there;
+  survives = Survives stage;
+  moment = disk.moment stage.disk;
+  returned = λ t back there. Returned stage t back there;
+  survived = λ t. Survived stage t;
+}
 
 -- what was found is what is read, with its parts, and is ready
 pub record IsOpened {D : Type 0} (seen : D → List ℕ) (may_leave : D → List ℕ → Type 0)

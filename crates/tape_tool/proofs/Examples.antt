@@ -1,5 +1,5 @@
 -- The cases of ends, faults, lines, names and sessions over stages.
-use Rattle.std.proofs.Common.{◌≡◌, refl, ap, get_or, arith, Bool, true, false, []}
+use Rattle.std.proofs.Common.{◌≡◌, inl, refl, ap, get_or, arith, Bool, true, false, []}
 use Rattle.std.specs.Fmt.{digits}
 use Rattle.tape_stage.specs.declared.disk.Disk.{Ghosts}
 use Rattle.std.proofs.lemmas.List.Splits.{join_with_byte-slice_split}
@@ -71,6 +71,9 @@ cases_of_staging disk = record {
   survives = λ point parts session bytes s left.
       let x = s.survives bytes left in (x.1, x.2, (bytes, left, (x.0, x.3)));
   only = λ point back parts there session s. s.only back there;
+  survived = λ point parts session bytes s left.
+      let x = s.survived bytes (inl left) in (x.1, x.2, (bytes, inl left, (x.0, x.3)));
+  since = λ point back parts there session s. s.since back there;
   goes_on = λ set_id read file session g. (g.staged, g.of_file.0, g.of_file.1, g.stands);
   none_staged = λ set_id read file. (λ says. says tt, λ says. says tt);
   of_another = λ set_id read file n point parts says staged set is.

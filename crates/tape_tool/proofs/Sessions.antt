@@ -1,14 +1,18 @@
 -- Sessions over stages that were just made or opened.
-use Rattle.std.proofs.Common.{◌≡◌, ℕ, List, sym, subst, ◌∙◌}
+use Rattle.std.proofs.Common.{◌≡◌, ◌⊎◌, inl, inr, ℕ, List, false, sym, subst, ◌∙◌}
 use Rattle.tape_blocks.specs.Block.{Portion}
 use Rattle.tape_core.specs.Point.{Point}
 use Rattle.tape_run.specs.Lives.{IsResumed}
 use Rattle.tape_run.specs.Seen.{seen}
 use Rattle.tape_run.specs.Story.{Story}
-use Rattle.tape_stage.specs.Stages.{Holds, Returns, Survives}
+use Rattle.tape_stage.specs.Stages.{Holds, Returns, Survives, Returned, Survived}
 use Rattle.tape_stage.specs.declared.disk.Disk.{Ghosts}
 use Rattle.tape_stage.specs.declared.stage.Stage.{Stage}
-use Rattle.tape_tool.specs.Staging.{StandsAt}
+use Rattle.tape_stage.proofs.Backs.{returned_now, survived_now}
+use Rattle.tape_stage.proofs.Passing.{follow, stands, weaken}
+use Rattle.tape_stage.specs.Disk.{Elapses}
+use Rattle.tape_stage.specs.Staged.{StandsLike}
+use Rattle.tape_tool.specs.Staging.{OpensOver, StandsAt}
 
 module _ {D : Type 0} {disk : Ghosts D} where
   -- a session over a stage stands where the stage does
@@ -18,12 +22,46 @@ module _ {D : Type 0} {disk : Ghosts D} where
       → Holds stage parts
       → ((back : Point) (there : List Portion) → Returns stage back there
       → (back ≡ told) × (there ≡ parts))
-      → Survives stage → StandsAt point parts session
-  stands_at point told parts session stage same resumed is holds only survives = record {
-    resumed = resumed;
-    holds = subst (λ (s : Stage D disk). Holds s parts) (sym same) holds;
-    only = λ back there r.
-        let both = only back there (subst (λ (s : Stage D disk). Returns s back there) same r) in
-        (both.0 ∙ is, both.1);
-    survives = subst (λ (s : Stage D disk). Survives s) (sym same) survives;
-  }
+      → Survives stage → stage.failed ≡ false
+      → ((c : List ℕ) → disk.is_honest stage.disk
+      → disk.left_since stage.disk (disk.moment stage.disk) c → disk.may_leave stage.disk c)
+      → StandsAt point parts session
+  stands_at point told parts session stage same resumed is holds only survives alive now =
+      let honest = holds.honest (stage.settled alive) in
+      record {
+        resumed = resumed;
+        holds = subst (λ (s : Stage D disk). Holds s parts) (sym same) holds;
+        only = λ back there r. this back there
+            (only back there (subst (λ (s : Stage D disk). Returns s back there) same r));
+        survives = subst (λ (s : Stage D disk). Survives s) (sym same) survives;
+        since = λ back there r. this back there (only back there
+            (returned_now stage honest now back there (subst (λ (s : Stage D disk).
+            Returned s (disk.moment s.disk) back there) same r)));
+        survived = subst (λ (s : Stage D disk). Survived s (disk.moment s.disk)) (sym same)
+            (survived_now stage honest now survives);
+      }
+    where
+      this : (back : Point) (there : List Portion) → (back ≡ told) × (there ≡ parts)
+          → (back ≡ point) × (there ≡ parts)
+      this back there both = (both.0 ∙ is, both.1)
+
+-- a look at the disk's length, and then what opens it
+pub looked : {D : Type 0} (disk : Ghosts D) (a b : D) → disk.seen b ≡ disk.seen a
+    → ((c : List ℕ) → disk.may_leave b c → disk.may_leave a c)
+    → Elapses (disk.moment a) (disk.moment b) (disk.left_since a) (disk.left_since b)
+    (disk.may_leave b) → OpensOver disk a b
+looked disk a b same no_more time = stands disk.may_leave disk.moment disk.left_since a b _ time
+    (λ c left. inl (no_more c left))
+
+pub looked_then : {D : Type 0} (disk : Ghosts D) (a b d : D) → disk.seen b ≡ disk.seen a
+    → ((c : List ℕ) → disk.may_leave b c → disk.may_leave a c)
+    → Elapses (disk.moment a) (disk.moment b) (disk.left_since a) (disk.left_since b)
+    (disk.may_leave b) → OpensOver disk b d → OpensOver disk a d
+looked_then disk a b d same no_more time opens =
+    follow disk.may_leave disk.moment disk.left_since a b d _ (looked disk a b same no_more time)
+    (weaken disk.may_leave disk.moment disk.left_since b d _ _ also opens)
+  where
+    also : (c : List ℕ) → disk.may_leave b c ⊎ StandsLike (disk.seen b) c
+        → disk.may_leave a c ⊎ StandsLike (disk.seen a) c
+    also c (inl left) = inl (no_more c left)
+    also c (inr like) = inr (subst (λ (bytes : List ℕ). StandsLike bytes c) same like)

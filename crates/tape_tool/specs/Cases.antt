@@ -26,7 +26,7 @@ use Rattle.tape_run.specs.declared.fault.EngineFault.TheVariants as engine
 use Rattle.tape_run.specs.declared.fault.ListFault.TheVariants as list
 use Rattle.tape_run.specs.Story.{Story}
 use Rattle.tape_stage.specs.Staged.{Staged, HoldsNone, Holding}
-use Rattle.tape_stage.specs.Stages.{Returns}
+use Rattle.tape_stage.specs.Stages.{Returns, Returned}
 use Rattle.tape_stage.specs.declared.disk.Disk.{Ghosts}
 use Rattle.tape_stage.specs.declared.stage.Stage.{Stage}
 use Rattle.tape_stage.specs.declared.stage.StageFault.TheVariants as stages
@@ -165,6 +165,16 @@ pub record CasesOfStaging {D : Type 0} (disk : Ghosts D) : Type 0 where
   -- and for nothing but this checkpoint and these parts
   pub only : (point back : Point) (parts there : List Portion) (session : Story (Stage D disk))
       → StandsAt point parts session → Returns session.sink back there
+      → (back ≡ point) × (there ≡ parts)
+  -- the same of what a crash leaves from this moment on
+  pub survived : (point : Point) (parts : List Portion) (session : Story (Stage D disk))
+      (bytes : List ℕ) → StandsAt point parts session
+      → disk.left_since session.sink.disk (disk.moment session.sink.disk) bytes
+      → (back : Point) × (there : List Portion)
+      × Returned session.sink (disk.moment session.sink.disk) back there
+  pub since : (point back : Point) (parts there : List Portion) (session : Story (Stage D disk))
+      → StandsAt point parts session
+      → Returned session.sink (disk.moment session.sink.disk) back there
       → (back ≡ point) × (there ≡ parts)
   -- a session that goes on stands at the checkpoint that the bytes stand for, which is of its file
   pub goes_on : (set_id read : List ℕ) (file : ℕ) (session : Story (Stage D disk))

@@ -1,5 +1,5 @@
 -- What a session over a stage is.
-use Rattle.std.specs.Prelude.{◌≡◌, ℕ, List}
+use Rattle.std.specs.Prelude.{◌≡◌, ◌⊎◌, ℕ, List}
 use Rattle.tape_blocks.specs.Block.{Portion}
 use Rattle.tape_core.specs.Crash.{OnlyThis}
 use Rattle.tape_core.specs.Point.{Point}
@@ -8,8 +8,9 @@ use Rattle.tape_run.specs.Lives.{IsResumed}
 use Rattle.tape_run.specs.Seen.{seen}
 use Rattle.tape_run.specs.Story.{Story}
 use Rattle.tape_stage.specs.Faults.{SaysNone, IsNotDevice}
-use Rattle.tape_stage.specs.Staged.{Staged, HoldsNone}
-use Rattle.tape_stage.specs.Stages.{Holds, Returns, Survives}
+use Rattle.tape_stage.specs.Moments.{Passes}
+use Rattle.tape_stage.specs.Staged.{Staged, StandsLike, HoldsNone}
+use Rattle.tape_stage.specs.Stages.{Holds, Returns, Survives, Returned, Survived}
 use Rattle.tape_stage.specs.declared.disk.Disk.{Ghosts}
 use Rattle.tape_stage.specs.declared.stage.Stage.{Stage}
 use Rattle.tape_tool.specs.declared.staging.StagingFault.{StagingFault}
@@ -24,13 +25,16 @@ abbrev pub first_point : List ℕ → ℕ → Point
 first_point set_id file = saved (reader_of set_id file) 0
 
 -- The session stands at the checkpoint. Its stage holds these parts and no others, and whatever a
--- crash leaves of it now stands for this checkpoint and these parts.
+-- crash leaves of it, now or from this moment on, stands for this checkpoint and these parts.
 pub record StandsAt {D : Type 0} {disk : Ghosts D} (point : Point) (parts : List Portion)
     (session : Story (Stage D disk)) : Type 0 where
   pub resumed : IsResumed point parts (seen (λ s. s.refused) session parts)
   pub holds : Holds session.sink parts
   pub only : OnlyThis point parts (λ back there. Returns session.sink back there)
   pub survives : Survives session.sink
+  pub since : OnlyThis point parts
+      (λ back there. Returned session.sink (disk.moment session.sink.disk) back there)
+  pub survived : Survived session.sink (disk.moment session.sink.disk)
 
 -- The session stands at the checkpoint that was read, with its parts, and this is one of the file.
 pub record GoesOn {D : Type 0} {disk : Ghosts D} (set_id : List ℕ) (file : ℕ) (read : List ℕ)
@@ -41,6 +45,12 @@ pub record GoesOn {D : Type 0} {disk : Ghosts D} (set_id : List ℕ) (file : ℕ
   pub staged : Staged read generation point parts
   pub of_file : IsOfFile set_id file point
   pub stands : StandsAt point parts session
+
+-- A crash at any moment from the one disk to the other left what it might have left before, or what
+-- still stands for what was read.
+abbrev pub OpensOver : {D : Type 0} → Ghosts D → D → D → Type 0
+OpensOver disk old new = Passes disk.may_leave disk.moment disk.left_since old new
+    (λ c. disk.may_leave old c ⊎ StandsLike (disk.seen old) c)
 
 -- What the fault says of the bytes that were read.
 abbrev pub Says : List ℕ → ℕ → List ℕ → StagingFault → Type 0

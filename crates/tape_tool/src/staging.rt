@@ -7,7 +7,7 @@ ghost use Rattle.tape_run.specs.Seen.{seen};
 ghost use Rattle.tape_stage.specs.Moments.{Untouched};
 ghost use Rattle.tape_stage.specs.Staged.{HoldsNone, KeepsStaged};
 ghost use Rattle.tape_tool.specs.Staging.{IsOfFile, StandsAt, GoesOn, Says, IsUnopened};
-ghost use Rattle.tape_tool.specs.Staging.{first_point};
+ghost use Rattle.tape_tool.specs.Staging.{OpensOver, first_point};
 
 use std::alloc::Global;
 use tape_core::{Checkpoint, ReaderCore};
@@ -63,6 +63,11 @@ pub fn open_session<D: Disk + Drop>(
         → IfErr result (λ refused. Says set_id file (D.seen disk) refused.fault) }
     ensures number { D.length_of disk ≡ 0 → IfErr result
         (λ refused. refused.fault ≡ StagingFault.OtherFile → IsFileNumber file → ⊥) }
+    // At any moment of it, where the disk has bytes.
+    ensures any_moment { D.is_honest disk → (D.length_of disk ≡ 0 → ⊥)
+        → IfOk result (λ session. OpensOver D.Disk disk session.sink.disk) }
+    ensures any_moment_err { D.is_honest disk → (D.length_of disk ≡ 0 → ⊥)
+        → IfErr result (λ refused. OpensOver D.Disk disk refused.disk) }
     // A disk that has bytes and holds no stage is left as it was, even where it failed.
     ensures foreign { D.is_honest disk → (D.length_of disk ≡ 0 → ⊥) → HoldsNone (D.seen disk)
         → IfErr result (λ refused.
@@ -136,6 +141,10 @@ fn resume<D: Disk>(
         (session.core.set_id ≡ set_id) × (session.core.file ≡ file)) }
     ensures says { D.is_honest disk
         → IfErr result (λ refused. Says set_id file (D.seen disk) refused.fault) }
+    ensures any_moment { D.is_honest disk
+        → IfOk result (λ session. OpensOver D.Disk disk session.sink.disk) }
+    ensures any_moment_err { D.is_honest disk
+        → IfErr result (λ refused. OpensOver D.Disk disk refused.disk) }
     ensures foreign { D.is_honest disk → HoldsNone (D.seen disk) → IfErr result (λ refused.
         Untouched D.seen D.may_leave D.moment D.left_since disk refused.disk) }
     ensures kept { D.is_honest disk

@@ -32,12 +32,12 @@ pub fn extract_again<S: PartWalk + Drop, R: Read + Drop, L: Shelf<R>, W: Write, 
     out: &mut W,
     report: &mut P,
 ) -> Result<Option<Want>, EngineFault>
-    ensures ok { IfOk result (ExtractsAgain S.holds S.refusals S.returns S.survives L.size L.gives
+    ensures ok { IfOk result (ExtractsAgain S.holds S.refusals S.crashes L.size L.gives
         R.remaining session images.old images.new form (W.contents out.old) (W.contents out.new)
         (P.contents report.old) (P.contents report.new)) }
     // While something of the file is wanted `out` is not touched at all.
     ensures untouched { IfOk result (λ want. want ≢ None → out.new ≡ out.old) }
-    ensures err { OnErr result (StopsAgain S.holds S.refusals S.returns S.survives L.size L.gives
+    ensures err { OnErr result (StopsAgain S.holds S.refusals S.crashes L.size L.gives
         R.remaining session images.old images.new form W.contents out.old out.new
         (P.contents report.old) (P.contents report.new)) }
 {
@@ -55,10 +55,10 @@ fn read_rounds<S: PartSink, R: Read + Drop, L: Shelf<R>, P: Write>(
     back: bool,
     report: &mut P,
 ) -> Result<(), EngineFault>
-    ensures ok { OnOk result (TakesRounds S.holds S.refusals S.returns S.survives (L.size
+    ensures ok { OnOk result (TakesRounds S.holds S.refusals S.crashes (L.size
         images.old) L.gives R.remaining back session.old session.new images.old images.new
         (P.contents report.old) (P.contents report.new)) }
-    ensures err { OnErr result (StopsInRound S.holds S.refusals S.returns S.survives (L.size
+    ensures err { OnErr result (StopsInRound S.holds S.refusals S.crashes (L.size
         images.old) L.gives R.remaining back session.old images.old images.new
         (P.contents report.old) (P.contents report.new)) }
 {

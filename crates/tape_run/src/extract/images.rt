@@ -24,10 +24,10 @@ pub fn read_images<S: PartSink, R: Read + Drop, L: Shelf<R>, P: Write>(
     back: bool,
     report: &mut P,
 ) -> Result<(), EngineFault>
-    ensures ok { OnOk result (TakesAll S.holds S.refusals S.returns S.survives (L.size images.old) 0
+    ensures ok { OnOk result (TakesAll S.holds S.refusals S.crashes (L.size images.old) 0
         L.gives R.remaining back session.old session.new images.old images.new
         (P.contents report.old) (P.contents report.new)) }
-    ensures err { OnErr result (StopsReading S.holds S.refusals S.returns S.survives (L.size
+    ensures err { OnErr result (StopsReading S.holds S.refusals S.crashes (L.size
         images.old) 0 L.gives R.remaining back session.old images.old images.new
         (P.contents report.old) (P.contents report.new)) }
 {
@@ -45,10 +45,10 @@ pub fn read_round<S: PartSink, R: Read + Drop, L: Shelf<R>, P: Write>(
     report: &mut P,
 ) -> Result<(), EngineFault>
     requires room { lines + count ≤ 18446744073709551615 }
-    ensures ok { OnOk result (TakesAll S.holds S.refusals S.returns S.survives count lines L.gives
+    ensures ok { OnOk result (TakesAll S.holds S.refusals S.crashes count lines L.gives
         R.remaining back session.old session.new images.old images.new
         (P.contents report.old) (P.contents report.new)) }
-    ensures err { OnErr result (StopsReading S.holds S.refusals S.returns S.survives count lines
+    ensures err { OnErr result (StopsReading S.holds S.refusals S.crashes count lines
         L.gives R.remaining back session.old images.old images.new
         (P.contents report.old) (P.contents report.new)) }
 {
@@ -73,7 +73,7 @@ fn take_image<S: PartSink, R: Read + Drop, P: Write>(
     report: &mut P,
 ) -> Result<(), EngineFault>
     requires waits { session.old.core.position ≢ Finished }
-    ensures ok { OnOk result (Takes S.holds S.refusals S.returns S.survives R.remaining back
+    ensures ok { OnOk result (Takes S.holds S.refusals S.crashes R.remaining back
         session.old session.new image number (P.contents report.old) (P.contents report.new)) }
     ensures err { OnErr result (IsReported number (P.contents report.old) (P.contents report.new)) }
 {
@@ -92,7 +92,7 @@ fn take_reel<S: PartSink, R: Read, P: Write>(
     report: &mut P,
 ) -> Result<(), EngineFault>
     requires waits { session.old.core.position ≢ Finished }
-    ensures ok { OnOk result (Takes S.holds S.refusals S.returns S.survives R.remaining back
+    ensures ok { OnOk result (Takes S.holds S.refusals S.crashes R.remaining back
         session.old session.new (Some device.old) number
         (P.contents report.old) (P.contents report.new)) }
     ensures err { OnErr result (IsReported number (P.contents report.old) (P.contents report.new)) }
@@ -115,7 +115,7 @@ fn settle<S: PartSink>(
         → (now : List Portion) × S.holds session.new.sink now
         × IsNoted back (is_doubtful answer.now.answer) (seen S.refusals session.old held)
         (seen S.refusals session.new now)
-        × KeepsLast S.refusals S.returns S.survives session.old held session.new now) }
+        × KeepsLast S.refusals S.crashes session.old held session.new now) }
 {
     if back && is_doubtful(answer) {
         return go_back(session);
@@ -129,7 +129,7 @@ fn go_back<S: PartSink>(session: &mut Session<S>) -> Result<(), RunFault>
         → IsKept (seen S.refusals session.old held)
         → (now : List Portion) × S.holds session.new.sink now
         × WentToLast (seen S.refusals session.old held) (seen S.refusals session.new now)
-        × KeepsLast S.refusals S.returns S.survives session.old held session.new now) }
+        × KeepsLast S.refusals S.crashes session.old held session.new now) }
 {
     let notes = session.notes();
     if notes == 0 {
@@ -146,7 +146,7 @@ fn note<S: PartSink>(session: &mut Session<S>, answer: &ReelAnswer) -> Result<()
         → (now : List Portion) × S.holds session.new.sink now
         × IsNoted false (is_doubtful answer.now.answer) (seen S.refusals session.old held)
         (seen S.refusals session.new now)
-        × KeepsLast S.refusals S.returns S.survives session.old held session.new now) }
+        × KeepsLast S.refusals S.crashes session.old held session.new now) }
 {
     if is_doubtful(answer) {
         return Ok(());

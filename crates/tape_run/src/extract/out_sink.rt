@@ -5,6 +5,7 @@ ghost use Rattle.std.specs.Io.KnownBytes.{Appends};
 ghost use Rattle.tape_blocks.specs.Block.{Portion};
 ghost use Rattle.tape_blocks.specs.Parts.{view};
 ghost use Rattle.tape_blocks.specs.Spans.{leaves, join};
+ghost use Rattle.tape_core.specs.Crash.{lost};
 ghost use Rattle.tape_run.specs.RecordText.{part_text, output_of};
 ghost use Rattle.tape_run.specs.OutSinks.{TellsAlways, with_end, HasTaken};
 
@@ -104,9 +105,11 @@ impl<W: Write> PartSink for OutSink<W> {
 
     ghost refusals = { λ s. s.refused };
 
-    ghost returns = { λ s back there. ⊥ };
+    ghost crashes = { λ s. lost };
 
-    ghost survives = { λ s. ⊥ };
+    ghost returned_now = { λ s t back there none. none };
+
+    ghost survived_now = { λ s t none. none };
 
     #[inline(always)]
     fn put(&mut self, part: Part<'_>) -> Result<(), SinkFault> {

@@ -2,6 +2,7 @@
 ghost use Rattle.std.specs.Prelude.{◌≡◌, ◌≤◌, ◌+◌, ◌-◌, ℕ, List, IfOk, IfErr, IsErrOf, OnOk};
 ghost use Rattle.std.specs.Prelude.{IfSome};
 ghost use Rattle.tape_blocks.specs.Block.{Portion};
+ghost use Rattle.tape_core.specs.Crash.{lost};
 ghost use Rattle.tape_core.specs.Weight.{Rose};
 ghost use Rattle.tape_stage.specs.Faults.{SaysNone, OnBadFrame};
 ghost use Rattle.tape_stage.specs.Found.{IsFound};
@@ -120,9 +121,11 @@ impl<D: Disk> PartSink for Salvage<D> {
 
     ghost refusals = { λ s. s.refused };
 
-    ghost returns = { λ s back there. ⊥ };
+    ghost crashes = { λ s. lost };
 
-    ghost survives = { λ s. ⊥ };
+    ghost returned_now = { λ s t back there none. none };
+
+    ghost survived_now = { λ s t none. none };
 
     fn put(&mut self, _part: Part<'_>) -> Result<(), SinkFault> {
         Err(self.refuse())

@@ -1,6 +1,7 @@
 //! A stage as a sink.
 ghost use Rattle.std.specs.Prelude.{◌≡◌, ◌-◌};
-ghost use Rattle.tape_stage.specs.Stages.{Holds, Returns, Survives, IsAhead};
+ghost use Rattle.std.proofs.Common.{inr};
+ghost use Rattle.tape_stage.specs.Stages.{Holds, IsAhead, crashes_of};
 ghost use Rattle.tape_stage.specs.Faults.{sink_fault_of};
 
 use crate::disk::Disk;
@@ -28,9 +29,11 @@ impl<D: Disk> PartSink for Stage<D> {
 
     ghost refusals = { λ s. s.refused };
 
-    ghost returns = { λ s back there. Returns s back there };
+    ghost crashes = { λ s. crashes_of s };
 
-    ghost survives = { λ s. Survives s };
+    ghost returned_now = { λ s t back there now. (now.0, inr now.1, now.2) };
+
+    ghost survived_now = { λ s t each bytes left. each bytes (inr left) };
 
     fn put(&mut self, part: Part<'_>) -> Result<(), SinkFault> {
         match self.put_part(part) {

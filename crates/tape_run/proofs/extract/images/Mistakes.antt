@@ -43,7 +43,7 @@ saved_in_the_list_alone : (S : _) (L : _) (g : _) (d : _) (κs : _) (a : _) (s :
     (held there : List Portion) (older : Point) → note.Learnt-named S L g d κs a (Ok tt) s
     → a.1.0.now.answer ≡ SectionDone → g.holds a.0.now.sink held → a.0.now.notes ≡ []
     → a.0.now.core.position ≡ Awaits 1 5 0
-    → g.returns s.0.now.sink older there → older.position ≡ Awaits 1 0 0 → ⊥
+    → (g.crashes s.0.now.sink).returns older there → older.position ≡ Awaits 1 0 0 → ⊥
 saved_in_the_list_alone S L g d κs a s held there older l done was none five back start =
     let old = seen g.refusals a.0.now held in
     let (now, has, noted, last) = l.ok held was in
@@ -51,7 +51,7 @@ saved_in_the_list_alone S L g d κs a s held there older l done was none five ba
     subst (λ b. IsNoted false b old (seen g.refusals s.0.now now)) (ap is_doubtful done) noted in
     let here = saved_point old.place (weight_of held) in
     let one : s.0.now.notes ≡ here ∷ [] = saved.notes ∙ ap (λ l. l ++ here ∷ []) none in
-    let (n, count, (is, front, weighs)) = last.0 (λ same. absurd (omega (
+    let (n, count, (is, front, weighs)) = last.last (λ same. absurd (omega (
       arith,
       ap length one,
       same,

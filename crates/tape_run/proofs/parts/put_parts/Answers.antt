@@ -95,12 +95,9 @@ loop-part-preserved g c =
                 (held_next held (drop first (map view xs)) _ (view x) next)
                 (w.in-Ok.ensures.ok _ (inv.3 held was))),
             λ held was. subst
-                (λ s. AddsNothing (g.S.PartSink.returns c.args.sink.now) (g.S.PartSink.returns s)
-                (g.S.PartSink.survives c.args.sink.now) (g.S.PartSink.survives s)) (sym w.sink-is)
-                (adds_then _ _ _ _ _ _ (inv.4 held was) (
-                  (w.put.ensures.crash _ (inv.3 held was)),
-                  (w.put.ensures.after _ (inv.3 held was)),
-                )),
+                (λ s. AddsNothing (g.S.PartSink.crashes c.args.sink.now) (g.S.PartSink.crashes s))
+                (sym w.sink-is) (adds_then _ _ _ (inv.4 held was)
+                (w.put.ensures.crash _ (inv.3 held was))),
           )
       | else-first-seen w ↦
           let lt : length xs < first = omega (arith, inv.0, w.if-first-seen.false) in
@@ -112,9 +109,8 @@ loop-part-preserved g c =
                 (held ++ drop first (map view (xs ++ x ∷ [])))) (sym w.sink-is)
                 (subst (λ l. g.S.PartSink.holds c.loop-part.sink (held ++ l)) (sym same)
                 (inv.3 held was)),
-            λ held was. subst (λ s. AddsNothing (g.S.PartSink.returns c.args.sink.now)
-                (g.S.PartSink.returns s) (g.S.PartSink.survives c.args.sink.now)
-                (g.S.PartSink.survives s)) (sym w.sink-is) (inv.4 held was),
+            λ held was. subst (λ s. AddsNothing (g.S.PartSink.crashes c.args.sink.now)
+                (g.S.PartSink.crashes s)) (sym w.sink-is) (inv.4 held was),
           )
     ]
 
@@ -150,7 +146,5 @@ returns-in-Err-clause-within g c =
 
 pub returns-in-Err-clause-crash : goal.returns-in-Err-clause-crash
 returns-in-Err-clause-crash g c = λ held was.
-    adds_then _ _ _ _ _ _ (c.loop-part.invariant.4 held was) (
-      (c.put.ensures.crash _ (c.loop-part.invariant.3 held was)),
-      (c.put.ensures.after _ (c.loop-part.invariant.3 held was)),
-    )
+    adds_then _ _ _ (c.loop-part.invariant.4 held was)
+    (c.put.ensures.crash _ (c.loop-part.invariant.3 held was))

@@ -13,5 +13,4 @@ invariant-loop-part g l = (l.seen ≡ length l.yielded)
     × ((held : List Portion) → g.S.PartSink.holds l.fn.sink held
     → g.S.PartSink.holds l.sink (held ++ drop l.first (map view l.yielded)))
     × ((held : List Portion) → g.S.PartSink.holds l.fn.sink held
-    → AddsNothing (g.S.PartSink.returns l.fn.sink) (g.S.PartSink.returns l.sink)
-    (g.S.PartSink.survives l.fn.sink) (g.S.PartSink.survives l.sink))
+    → AddsNothing (g.S.PartSink.crashes l.fn.sink) (g.S.PartSink.crashes l.sink))

@@ -1,9 +1,10 @@
-use Rattle.std.proofs.Common.{◌+◌, [], ◌∷◌, map, get_or, Some, inl, true, false, refl, ap}
+use Rattle.std.proofs.Common.{◌+◌, [], ◌∷◌, map, get_or, Some, true, false, refl, ap}
 use Rattle.std.proofs.Common.{subst, arith}
 use Rattle.std.proofs.lemmas.List.{drop_more, drop_all, drop-set-lt}
 use Rattle.tape_run.specs.Given.{is_device}
 use Rattle.tape_run.specs.Made.{WritesFrom}
 use Rattle.tape_run.specs.Seen.{seen}
+use Rattle.tape_core.proofs.Crashes.{only_same, or_nothing}
 use Rattle.tape_run.proofs.Crashes.{only_nothing}
 use Rattle.tape_run.proofs.Lasting.{brings_still, last_saved}
 use Rattle.tape_run.proofs.Made.{reel_makes, save_makes, restart_makes, reel_failed, writes_none}
@@ -39,7 +40,8 @@ returns-in_ok-answer-in-Reel-clause-ok g c =
                   (seen g.S.PartSink.refusals c.reel.new.self now)
                   c.in_ok-answer-in-Reel.ensures.notes
                   front
-                  (c.reel.ensures.crash held was).0 (before is),
+                  (λ back there h. or_nothing ((c.reel.ensures.crash held was).now back there h))
+                  (before is),
             ),
           ),
     )
@@ -69,14 +71,14 @@ returns-then-used-reels-clause-err g c = λ held was kept.
 
 pub returns-in_ok-answer-in-Reel-clause-crash : goal.returns-in_ok-answer-in-Reel-clause-crash
 returns-in_ok-answer-in-Reel-clause-crash g c = λ held was kept.
-    only_nothing _ _ _ _ _ (c.reel.ensures.crash held was)
+    only_nothing _ _ _ (c.reel.ensures.crash held was)
 
 pub returns-in_err-answer-in-Reel-clause-crash : goal.returns-in_err-answer-in-Reel-clause-crash
 returns-in_err-answer-in-Reel-clause-crash g c = λ held was kept.
-    only_nothing _ _ _ _ _ (c.reel.ensures.crash held was)
+    only_nothing _ _ _ (c.reel.ensures.crash held was)
 
 pub returns-then-used-reels-clause-crash : goal.returns-then-used-reels-clause-crash
-returns-then-used-reels-clause-crash g c = λ held was kept. ((λ back there h. inl h), (λ h. h))
+returns-then-used-reels-clause-crash g c = λ held was kept. only_same _ _
 
 -- ---- a save
 
@@ -95,7 +97,7 @@ returns-in_ok-save-in-Save-clause-ok g c = (
           λ rest. rw c.in-Save.is refl,
           λ is. last_saved _ _ c.in_ok-save-in-Save.field-0 _
               (c.in_ok-save-in-Save.ensures.point held was)
-              (c.in_ok-save-in-Save.ensures.kept held was) saved,
+              (c.in_ok-save-in-Save.ensures.kept held was).0 saved,
         ),
       ),
 )

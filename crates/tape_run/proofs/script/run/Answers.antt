@@ -1,4 +1,4 @@
-use Rattle.std.proofs.Common.{ℕ, ◌+◌, ◌≤◌, List, [], length, drop, Option, Ok, Err, subst, inl}
+use Rattle.std.proofs.Common.{ℕ, ◌+◌, ◌≤◌, List, [], length, drop, Option, Ok, Err, subst}
 use Rattle.std.proofs.Common.{false}
 use Rattle.std.proofs.Common.{refl, sym, ap, ◌∙◌, ◌++◌, length-append, arith}
 use Rattle.std.proofs.lemmas.List.{drop_more, drop_all}
@@ -10,7 +10,8 @@ use Rattle.tape_run.specs.Headline.{IsRead}
 use Rattle.tape_run.proofs.Headline.{headline}
 use Rattle.tape_run.proofs.Begin.{kept_new, is_read}
 use Rattle.tape_run.proofs.Back.{came_back, whole_records}
-use Rattle.tape_run.proofs.Crashes.{only_more, stood_here}
+use Rattle.tape_core.proofs.Crashes.{only_same, only_then}
+use Rattle.tape_run.proofs.Crashes.{stood_here}
 use Rattle.tape_run.proofs.Made.{made_none, made_more, all_made, stops_here, lost_here}
 use Rattle.tape_run.proofs.Made.{wrote}
 use Rattle.tape_run.proofs.Ended.{stopped_so}
@@ -26,7 +27,7 @@ loop-step-init g c = (
     was,
     kept,
     made_none _ _ _,
-    ((λ back there h. inl h), (λ h. h)),
+    only_same _ _,
     (false, refl, λ is. absurd (cc is)),
   ),
 )
@@ -50,7 +51,7 @@ loop-step-preserved g c =
             kept_then,
             made_more _ _ _ _ _ _ _ _ _ _ _ _ _ here made
                 (goes_on (drop (i + 1) c.args.steps.now)),
-            only_more _ _ _ _ _ _ _ _ (λ back there h. made.stood back there
+            only_then _ _ _ _ _ (λ back there h. made.stood back there
                 (stood_here _ _ _ back there h)) adds (c.make.ensures.crash now has k),
             (
               still,
@@ -150,5 +151,5 @@ returns-in-Err-clause-stopped g c = λ held was kept.
 pub returns-in-Err-clause-crash : goal.returns-in-Err-clause-crash
 returns-in-Err-clause-crash g c = λ held was kept.
     let (now, has, k, made, adds, last) = c.loop-step.invariant.3 held was kept in
-    only_more _ _ _ _ _ _ _ _ (λ back there h. made.stood back there
+    only_then _ _ _ _ _ (λ back there h. made.stood back there
     (stood_here _ _ _ back there h)) adds (c.make.ensures.crash now has k)

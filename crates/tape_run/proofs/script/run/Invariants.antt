@@ -18,9 +18,8 @@ invariant-loop-step g l = (which : List Bool) × (length which ≡ l.used)
     (map g.R.Read.remaining l.fn.reels) (seen g.S.PartSink.refusals l.session now)
     (drop l.step l.steps) (map g.R.Read.remaining (drop l.used l.reels))
     × AddsOnly (StoodAt (seen g.S.PartSink.refusals l.fn.session held) l.steps
-    (map g.R.Read.remaining l.fn.reels)) (g.S.PartSink.returns l.fn.session.sink)
-    (g.S.PartSink.returns l.session.sink) (g.S.PartSink.survives l.fn.session.sink)
-    (g.S.PartSink.survives l.session.sink)
+    (map g.R.Read.remaining l.fn.reels)) (g.S.PartSink.crashes l.fn.session.sink)
+    (g.S.PartSink.crashes l.session.sink)
     × ((saved : Bool) × (is_saved false l.steps ≡ is_saved saved (drop l.step l.steps))
-    × (saved ≡ true → BringsLast (g.S.PartSink.returns l.session.sink)
+    × (saved ≡ true → BringsLast (g.S.PartSink.crashes l.session.sink).returns
     (seen g.S.PartSink.refusals l.session now))))

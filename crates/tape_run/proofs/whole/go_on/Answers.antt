@@ -1,30 +1,43 @@
-use Rattle.std.proofs.Common.{sym, subst}
-use Rattle.tape_core.specs.Crash.{OnlyThis}
+use Rattle.std.proofs.Common.{sym, subst, arith}
+use Rattle.tape_run.specs.Lives.{LivesOn}
 use Rattle.tape_run.specs.Seen.{seen}
-use Rattle.tape_run.proofs.Lives.{one_more_life, goes_on, on_ok}
+use Rattle.tape_run.proofs.Lives.{lives_on, goes_on, on_ok}
 use Rattle.tape_run.proofs.Ended.{if_err}
 use Rattle.tape_run.proofs.whole.go_on.Goals as goal
 
 pub returns-clause-crash : goal.returns-clause-crash
-returns-clause-crash g c = λ held was only bytes e back there h.
+returns-clause-crash g c = λ held was bytes e.
+    let crashes = g.S.PartSink.crashes in
+    let point = c.args.point.now in
+    let steps = c.args.steps.now in
     let first = c.resume-session.result in
-    let same = sym c.resume-session.ensures.sink in
-    let adds = c.run-result.ensures.crash held (subst (λ s. g.S.PartSink.holds s held) same was)
+    let last = crashes c.run-result.new.session.sink in
+    let start = seen g.S.PartSink.refusals first held in
+    let resumed = c.resume-session.ensures.resumed held in
+    let adds = c.run-result.ensures.crash held
+    (subst (λ s. g.S.PartSink.holds s held) (sym c.resume-session.ensures.sink) was)
     (c.resume-session.ensures.kept held) in
-    let (life, began, steps, bytes_are, outlives) =
-    one_more_life c.args.point.now held (seen g.S.PartSink.refusals first held) c.args.steps.now _
-    bytes (g.S.PartSink.returns first.sink) back there
-    (c.resume-session.ensures.resumed held) e
-    (subst (λ s. OnlyThis c.args.point.now held (g.S.PartSink.returns s)) same only)
-    (adds.0 back there h) in
-    (life, steps, bytes_are, outlives)
+    subst (λ s. LivesOn point held steps bytes (crashes s).returns last.returns
+    × LivesOn point held steps bytes ((crashes s).returned (crashes s).moment)
+    (last.returned (crashes s).moment)) c.resume-session.ensures.sink (
+      lives_on point held start steps _ bytes _ _ resumed e adds.now,
+      lives_on point held start steps _ bytes _ _ resumed e
+          (λ back there h. adds.since (crashes first.sink).moment back there (omega arith) h),
+    )
 
 pub returns-clause-survives : goal.returns-clause-survives
-returns-clause-survives g c = λ held was lives.
-    let same = sym c.resume-session.ensures.sink in
-    let adds = c.run-result.ensures.crash held (subst (λ s. g.S.PartSink.holds s held) same was)
+returns-clause-survives g c = λ held was.
+    let crashes = g.S.PartSink.crashes in
+    let last = crashes c.run-result.new.session.sink in
+    let adds = c.run-result.ensures.crash held
+    (subst (λ s. g.S.PartSink.holds s held) (sym c.resume-session.ensures.sink) was)
     (c.resume-session.ensures.kept held) in
-    adds.1 (subst (λ s. g.S.PartSink.survives s) same lives)
+    subst (λ s. ((crashes s).survives → last.survives)
+    × ((crashes s).survived (crashes s).moment → last.survived (crashes s).moment))
+    c.resume-session.ensures.sink (
+      adds.survives,
+      λ h. adds.survived (crashes c.resume-session.result.sink).moment (omega arith) h,
+    )
 
 pub returns-clause-delivers : goal.returns-clause-delivers
 returns-clause-delivers g c = on_ok c.run-result.result _ _ (λ run held was.

@@ -18,4 +18,5 @@ returns-in-Ok-new-clause-begins g c honest =
       notes = begun.start.no_notes;
     })
     (c.save.ensures.value ∙ ap (λ (core : State). saved core 0) c.in-Ok.ensures.value)
-    (made.holds honest) (made.returns honest) (made.survives honest)
+    (made.holds honest) (made.returns honest) (made.survives honest) (made.ok honest).1.alive
+    (g.met.D.Disk.only_now c.in-Ok-create.stage.disk)

@@ -1,6 +1,7 @@
-use Rattle.std.proofs.Common.{◌≡◌, ℕ, [], refl, ap, ◌∙◌}
+use Rattle.std.proofs.Common.{◌≡◌, ℕ, [], refl, sym, ap, subst, ◌∙◌}
 use Rattle.tape_core.specs.State.{State}
-use Rattle.tape_tool.specs.Staging.{IsOfFile}
+use Rattle.tape_tool.specs.Staging.{IsOfFile, OpensOver}
+use Rattle.tape_stage.specs.declared.stage.Stage.{Stage}
 use Rattle.tape_stage.proofs.Refusals.{opened_keeps}
 use Rattle.tape_tool.proofs.Sessions.{stands_at}
 use Rattle.tape_tool.proofs.staging.resume.Goals as goal
@@ -16,7 +17,8 @@ returns-then-same_file-clause-goes_on g c honest =
       of_file = c.if-same_file.ensures.0 refl;
       stands = stands_at c.in-Ok.point c.in-Ok.point read.1 c.resume.result c.in-Ok.stage
           c.resume.ensures.sink (c.resume.ensures.resumed read.1) refl read.3 read.4
-          (c.in-Ok.ensures.survives honest);
+          (c.in-Ok.ensures.survives honest) (c.in-Ok.ensures.ok honest).3.alive
+          (g.met.D.Disk.only_now c.in-Ok.stage.disk);
     }
 
 pub returns-then-same_file-clause-file : goal.returns-then-same_file-clause-file
@@ -38,3 +40,14 @@ returns-else-same_file-clause-kept g c honest =
     let old = g.D.Disk.seen c.args.disk in
     opened_keeps read.0 c.in-Ok.point read.1 old (g.D.Disk.seen c.into_disk.result) read.2
     (ap (λ (d : g.row.D.Denot). g.D.Disk.seen d) c.into_disk.ensures ∙ c.in-Ok.ensures.cut honest)
+
+pub returns-then-same_file-clause-any_moment : goal.returns-then-same_file-clause-any_moment
+returns-then-same_file-clause-any_moment g c honest =
+    subst (λ (s : Stage g.row.D.Denot g.D.Disk). OpensOver g.D.Disk c.args.disk s.disk)
+    (sym c.resume.ensures.sink) (c.in-Ok.ensures.any_moment honest)
+
+pub returns-else-same_file-clause-any_moment_err :
+    goal.returns-else-same_file-clause-any_moment_err
+returns-else-same_file-clause-any_moment_err g c honest =
+    subst (λ (d : g.row.D.Denot). OpensOver g.D.Disk c.args.disk d)
+    (sym c.into_disk.ensures) (c.in-Ok.ensures.any_moment honest)

@@ -1,6 +1,7 @@
 use Rattle.std.proofs.Common.{◌+◌, drop, refl, ◌∙◌, arith}
 use Rattle.tape_blocks.specs.Parts.{view}
 use Rattle.tape_core.specs.Memory.{portions}
+use Rattle.tape_core.proofs.Crashes.{only_same}
 use Rattle.tape_core.proofs.Laid.{drop_get}
 use Rattle.tape_core.proofs.memory.MemorySinkPartWalk.next_part.Goals as goal
 
@@ -14,8 +15,7 @@ returns c =
         λ _. tt,
         record {
           kept = λ parts holds. holds;
-          crash = λ parts holds back there r. r;
-          after = λ parts holds before. before;
+          crash = λ parts holds. only_same _ _;
           same_weight = refl;
           gives = λ all is. (drop (sink.given + 1) parts, is ∙ more, refl);
           lends = (c.lent.ensures.short, omega (arith, c.if-given-count.false, c.count.ensures));

@@ -18,8 +18,8 @@ returns-clause-ok g c =
     if_ok c.end_file.result (EndsFile g.S.PartSink.holds c.read_rounds.new.session c.args.form
     (g.W.Write.contents c.args.out.now) (g.W.Write.contents c.end_file.new.out)
     (g.P.Write.contents c.read_rounds.new.report) (g.P.Write.contents c.end_file.new.report))
-    (ExtractsAgain g.S.PartSink.holds g.S.PartSink.refusals g.S.PartSink.returns
-    g.S.PartSink.survives g.L.Shelf.size g.L.Shelf.gives
+    (ExtractsAgain g.S.PartSink.holds g.S.PartSink.refusals g.S.PartSink.crashes
+    g.L.Shelf.size g.L.Shelf.gives
     g.R.Read.remaining c.args.session c.args.images.now c.read_rounds.new.images c.args.form
     (g.W.Write.contents c.args.out.now) (g.W.Write.contents c.end_file.new.out)
     (g.P.Write.contents c.args.report.now) (g.P.Write.contents c.end_file.new.report))
@@ -33,7 +33,7 @@ returns-clause-err g c =
     on_err_map c.end_file.result (StopsAtEnd g.S.PartSink.holds c.read_rounds.new.session
     c.args.form g.W.Write.contents c.args.out.now c.end_file.new.out
     (g.P.Write.contents c.read_rounds.new.report) (g.P.Write.contents c.end_file.new.report))
-    (StopsAgain g.S.PartSink.holds g.S.PartSink.refusals g.S.PartSink.returns g.S.PartSink.survives
+    (StopsAgain g.S.PartSink.holds g.S.PartSink.refusals g.S.PartSink.crashes
     g.L.Shelf.size g.L.Shelf.gives
     g.R.Read.remaining c.args.session c.args.images.now c.read_rounds.new.images c.args.form
     g.W.Write.contents c.args.out.now c.end_file.new.out

@@ -1,7 +1,5 @@
-use Rattle.std.proofs.Common.{◌≡◌, ◌+◌, ◌-◌, length, ap, ◌∙◌, arith}
-use Rattle.std.proofs.lemmas.List.{take_all}
-use Rattle.tape_run.specs.Seen.{seen}
-use Rattle.tape_run.proofs.Lasting.{last_back}
+use Rattle.std.proofs.Common.{◌≡◌, ◌+◌, ◌-◌, length, arith}
+use Rattle.tape_run.proofs.Lasting.{last_went}
 use Rattle.tape_run.proofs.Lives.{on_ok}
 use Rattle.tape_run.proofs.extract.images.go_back.Goals as goal
 
@@ -20,11 +18,7 @@ returns g c =
             now,
             has,
             (n, count, went),
-            (
-              (λ nothing. last_back (seen refusals old held) (seen refusals new now) n _ _ _ _
-                  count went (c.restart.ensures.crash held was kept) (nothing (ap length
-                  (went.notes ∙ take_all (n + 1) old.notes (omega (arith, count)))))),
-              (c.restart.ensures.crash held was kept).1,
-            ),
+            last_went refusals g.S.PartSink.crashes old new held now n count went
+                (c.restart.ensures.crash held was kept),
           )) c.restart.ensures.ok;
     }

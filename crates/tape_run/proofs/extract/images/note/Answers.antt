@@ -1,7 +1,7 @@
 use Rattle.std.proofs.Common.{false, sym, subst, ◌∙◌}
 use Rattle.tape_run.specs.Reeling.{IsNoted}
 use Rattle.tape_run.specs.Seen.{seen}
-use Rattle.tape_run.proofs.Lasting.{last_saved}
+use Rattle.tape_run.proofs.Lasting.{last_kept}
 use Rattle.tape_run.proofs.extract.images.note.Goals as goal
 
 pub returns-clause-ok : goal.returns-clause-ok
@@ -13,10 +13,7 @@ returns-clause-ok g c = λ held was.
       has,
       subst (λ b. IsNoted false b (seen refusals old held) (seen refusals c.save.new.self now))
           (sym (sym c.is_doubtful.ensures ∙ c.if-is_doubtful.false)) saved,
-      (
-        (λ same. last_saved (seen refusals old held) (seen refusals c.save.new.self now)
-            c.in_ok-save.field-0 _ (c.in_ok-save.ensures.point held was)
-            (c.in_ok-save.ensures.kept held was) saved),
-        (c.save.ensures.crash held was).1,
-      ),
+      last_kept refusals g.S.PartSink.crashes old c.save.new.self held now c.in_ok-save.field-0
+          _ (c.in_ok-save.ensures.point held was) (c.in_ok-save.ensures.kept held was) saved
+          (c.save.ensures.crash held was),
     )

@@ -72,7 +72,7 @@ loop-number-init g c = (
     kept,
     (refl, refl),
     last_same g.S.PartSink.refusals
-        g.S.PartSink.returns g.S.PartSink.survives c.args.session.now held,
+        g.S.PartSink.crashes c.args.session.now held,
   ),
 )
 
@@ -99,7 +99,7 @@ loop-number-preserved g c =
             has_next,
             then,
             follows_then c.args.back _ _ turns _ _ (taken.turn ∷ []) _ _ follows one,
-            last_then g.S.PartSink.refusals g.S.PartSink.returns g.S.PartSink.survives
+            last_then g.S.PartSink.refusals g.S.PartSink.crashes
                 c.args.session.now c.loop-number.session c.take_image.new.session held now next
                 lasts last,
           ),

@@ -19,5 +19,5 @@ invariant-loop-number g l = (turns : List Turn) × (length turns ≡ l.number)
     × IsKeptFor l.fn.back (seen g.S.PartSink.refusals l.session now)
     × Follows l.fn.back l.fn.session.core (seen g.S.PartSink.refusals l.fn.session held) turns
     l.session.core (seen g.S.PartSink.refusals l.session now)
-    × KeepsLast g.S.PartSink.refusals g.S.PartSink.returns g.S.PartSink.survives l.fn.session held
+    × KeepsLast g.S.PartSink.refusals g.S.PartSink.crashes l.fn.session held
     l.session now)

@@ -65,10 +65,10 @@ returns-clause-ok g c =
               },
               (refl, refl),
             ),
-            last_then refusals g.S.PartSink.returns g.S.PartSink.survives c.args.session.now
+            last_then refusals g.S.PartSink.crashes c.args.session.now
                 c.reel.new.self c.settle.new.session held now behind
-                (last_stays refusals g.S.PartSink.returns g.S.PartSink.survives
-                c.args.session.now c.reel.new.self held now c.in_ok-answer.ensures.notes front
+                (last_stays refusals g.S.PartSink.crashes c.args.session.now c.reel.new.self
+                held now c.in_ok-answer.ensures.notes front
                 (c.reel.ensures.crash held was)) lasts,
           );
     }

@@ -14,7 +14,8 @@ use Rattle.tape_run.proofs.Images.{known_then, known_all, known_same, nothing_ye
 use Rattle.tape_run.proofs.Images.{ends_early, refused_early, refused_there, ends_there}
 use Rattle.tape_run.proofs.Images.{faults_there, least_four}
 use Rattle.tape_run.specs.Reels.{ReadsSoFar, ReadsReel, ReadsToBlock, IsDelivery}
-use Rattle.tape_run.proofs.Crashes.{adds_same, adds_then}
+use Rattle.tape_core.proofs.Crashes.{only_same}
+use Rattle.tape_run.proofs.Crashes.{adds_then}
 use Rattle.tape_run.proofs.Reels.{nothing_read, one_read, by_item, by_medium, by_fault, up_to_block}
 use Rattle.tape_run.proofs.intake.Intake.read.Goals as goal
 
@@ -30,7 +31,7 @@ items-init g c = record {
   answers = known_same c.args.image.now.left c.args.image.now.left
       (ReadsSoFar c.args.self.now.core c.args.self.now.core 0 c.args.image.now.place) refl
       (λ xs. rw c.requires.first (nothing_read c.args.self.now.core xs));
-  crash = λ held was. adds_same _ _;
+  crash = λ held was. only_same _ _;
   so_far = λ held was. (
     held,
     was,
@@ -67,7 +68,7 @@ items-preserved g c =
           inv.answers step.takes;
       crash = λ held was.
           let (now, has, front, known) = inv.so_far held was in
-          adds_then _ _ _ _ _ _ (inv.crash held was) (took.crash now has);
+          adds_then _ _ _ (inv.crash held was) (took.crash now has);
       so_far = λ held was.
           let (now, has, front, known) = inv.so_far held was in
           let (then, has_then, more, puts, takes) = took.ok now has in
@@ -171,7 +172,7 @@ returns-in_default g c =
       calm = took.calm ∙ inv.calm;
       crash = λ held was.
           let (now, has, front, known) = inv.so_far held was in
-          adds_then _ _ _ _ _ _ (inv.crash held was) (took.crash now has);
+          adds_then _ _ _ (inv.crash held was) (took.crash now has);
     }
 
 pub returns-in-Ok-None-clause-ok : goal.returns-in-Ok-None-clause-ok
@@ -222,7 +223,7 @@ pub returns-in_err-answer-in-Ok-Some-clause-crash :
     goal.returns-in_err-answer-in-Ok-Some-clause-crash
 returns-in_err-answer-in-Ok-Some-clause-crash g c = λ held was.
     let (now, has, front, known) = c.items.invariant.so_far held was in
-    adds_then _ _ _ _ _ _ (c.items.invariant.crash held was) (c.take.ensures.crash now has)
+    adds_then _ _ _ (c.items.invariant.crash held was) (c.take.ensures.crash now has)
 
 pub returns-in_err-answer-in-Ok-Some-clause-taken :
     goal.returns-in_err-answer-in-Ok-Some-clause-taken

@@ -20,8 +20,7 @@ invariant-items g l = record {
   answers : IfKnown l.fn.image.left l.image.left
       (ReadsSoFar l.fn.self.core l.self.core l.blocks l.image.place);
   crash : (held : List Portion) → g.S.PartSink.holds l.fn.self.sink held
-      → AddsNothing (g.S.PartSink.returns l.fn.self.sink) (g.S.PartSink.returns l.self.sink)
-      (g.S.PartSink.survives l.fn.self.sink) (g.S.PartSink.survives l.self.sink);
+      → AddsNothing (g.S.PartSink.crashes l.fn.self.sink) (g.S.PartSink.crashes l.self.sink);
   so_far : (held : List Portion) → g.S.PartSink.holds l.fn.self.sink held
       → (now : List Portion) × g.S.PartSink.holds l.self.sink now × IsFront held now
       × IfKnown l.fn.image.left l.image.left (SoFar l.fn.self.core

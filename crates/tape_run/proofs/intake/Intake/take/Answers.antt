@@ -11,7 +11,7 @@ use Rattle.tape_run.specs.Puts.{refused_point}
 use Rattle.tape_run.specs.Taking.{TakesItem}
 use Rattle.tape_run.proofs.ByTable.{puts_delivered, puts_none, puts_front}
 use Rattle.tape_run.proofs.Completes.{Tells, step_tells}
-use Rattle.tape_run.proofs.Crashes.{adds_same}
+use Rattle.tape_core.proofs.Crashes.{only_same}
 use Rattle.tape_run.proofs.Mounts.{checked_of}
 use Rattle.tape_run.proofs.Notes.{front_more, front_self}
 use Rattle.tape_run.proofs.Places.{refused_position, no_block, on_err}
@@ -101,5 +101,5 @@ returns-in_default g c = record {
   err = tt;
   cause = tt;
   calm = refl;
-  crash = λ held was. adds_same _ _;
+  crash = λ held was. only_same _ _;
 }

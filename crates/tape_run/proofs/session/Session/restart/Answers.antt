@@ -86,9 +86,9 @@ pub returns-in-Err-clause-crash : goal.returns-in-Err-clause-crash
 returns-in-Err-clause-crash g c =
     subst (λ z. (held : List Portion) → g.S.PartSink.holds z.sink held
     → IsKept (seen g.S.PartSink.refusals z held)
-    → AddsOnly (IsNoteOf c.args.n (seen g.S.PartSink.refusals z held)) (g.S.PartSink.returns z.sink)
-    (g.S.PartSink.returns c.cut_to.new.self) (g.S.PartSink.survives z.sink)
-    (g.S.PartSink.survives c.cut_to.new.self)) c.self.view_is (λ held was kept.
+    → AddsOnly (IsNoteOf c.args.n (seen g.S.PartSink.refusals z held))
+    (g.S.PartSink.crashes z.sink) (g.S.PartSink.crashes c.cut_to.new.self)) c.self.view_is
+    (λ held was kept.
     let notes = c.self.inside.notes.items in
     let noted : slice_get notes c.args.n ≡ Some c.index.result.now =
     slice_get_read notes (length notes) c.args.n c.index.result.now refl
@@ -99,17 +99,16 @@ returns-in-Err-clause-crash g c =
       notes = notes;
       failures = c.self.inside.failures;
     } in
-    cut_only (seen g.S.PartSink.refusals old held) c.args.n c.index.result.now noted kept
-    (g.S.PartSink.holds c.self.inside.intake.sink) was _ _ _ _ c.cut_to.ensures.crash
-    c.cut_to.ensures.after)
+    cut_only (seen g.S.PartSink.refusals old held) c.args.n c.index.result.now _ _ noted kept
+    (g.S.PartSink.holds c.self.inside.intake.sink) was c.cut_to.ensures.crash)
 
 pub returns-clause-crash : goal.returns-clause-crash
 returns-clause-crash g c =
     subst (λ z. (held : List Portion) → g.S.PartSink.holds z.sink held
     → IsKept (seen g.S.PartSink.refusals z held)
-    → AddsOnly (IsNoteOf c.args.n (seen g.S.PartSink.refusals z held)) (g.S.PartSink.returns z.sink)
-    (g.S.PartSink.returns c.cut_to.new.self) (g.S.PartSink.survives z.sink)
-    (g.S.PartSink.survives c.cut_to.new.self)) c.self.view_is (λ held was kept.
+    → AddsOnly (IsNoteOf c.args.n (seen g.S.PartSink.refusals z held))
+    (g.S.PartSink.crashes z.sink) (g.S.PartSink.crashes c.cut_to.new.self)) c.self.view_is
+    (λ held was kept.
     let notes = c.self.inside.notes.items in
     let noted : slice_get notes c.args.n ≡ Some c.index.result.now =
     slice_get_read notes (length notes) c.args.n c.index.result.now refl
@@ -120,6 +119,5 @@ returns-clause-crash g c =
       notes = notes;
       failures = c.self.inside.failures;
     } in
-    cut_only (seen g.S.PartSink.refusals old held) c.args.n c.index.result.now noted kept
-    (g.S.PartSink.holds c.self.inside.intake.sink) was _ _ _ _ c.cut_to.ensures.crash
-    c.cut_to.ensures.after)
+    cut_only (seen g.S.PartSink.refusals old held) c.args.n c.index.result.now _ _ noted kept
+    (g.S.PartSink.holds c.self.inside.intake.sink) was c.cut_to.ensures.crash)

@@ -1,6 +1,7 @@
 use Rattle.std.proofs.Common.{◌≡◌, ◌+◌, length, take, refl, sym, ◌∙◌, subst, arith}
 use Rattle.std.proofs.lemmas.List.{with_items_is, length-take-le}
 use Rattle.tape_stage.specs.Staged.{Holding}
+use Rattle.tape_core.proofs.Crashes.{only_same}
 use Rattle.tape_stage.proofs.Giving.{given, none_ahead, ahead_none}
 use Rattle.tape_stage.proofs.stage.salvaging.SalvagePartWalk.next_part.Goals as goal
 
@@ -13,8 +14,7 @@ returns-then-self g c =
         λ _. tt,
         record {
           kept = λ parts holds. holds;
-          crash = λ parts holds back there r. r;
-          after = λ parts holds before. before;
+          crash = λ parts holds. only_same _ _;
           same_weight = refl;
           gives =
               λ parts is. (
@@ -53,8 +53,7 @@ returns-in-Ok g c =
             e.honest holds.0,
             subst (Holding s.weight parts) (sym (e.reads.same holds.0)) holds.1,
           );
-          crash = λ parts holds back there r. r;
-          after = λ parts holds before. before;
+          crash = λ parts holds. only_same _ _;
           same_weight = refl;
           gives = λ parts is.
               let next = given s.walked (256 + s.weight) c.in-Ok.size old new c.in-Ok.span

@@ -2,9 +2,7 @@ use Rattle.std.proofs.Common.{[], ◌∷◌, ◌++◌}
 use Rattle.tape_blocks.specs.Parts.{view}
 use Rattle.tape_stage.proofs.Held.{stage_holds, refused_holds}
 use Rattle.tape_stage.proofs.Keeps.{kept_front_holding}
-use Rattle.tape_stage.specs.Stages.{Returns}
-use Rattle.tape_stage.proofs.Backs.{returned_old, refused_returns, stage_survives, in_stands}
-use Rattle.tape_stage.proofs.Backs.{refused_survives}
+use Rattle.tape_stage.proofs.Backs.{adds_nothing, adds_refused}
 use Rattle.tape_stage.proofs.stage.sinking.StagePartSink.put.Goals as goal
 
 pub returns-in-Ok-clause-ok : goal.returns-in-Ok-clause-ok
@@ -24,41 +22,21 @@ returns-in-Err-clause-err g c parts holds =
     (g.D.Disk.seen c.put_part.new.self.disk) (e.kept honest) framed) holds
 
 pub returns-in-Ok-clause-crash : goal.returns-in-Ok-clause-crash
-returns-in-Ok-clause-crash g c parts holds back there r =
+returns-in-Ok-clause-crash g c parts holds =
     let s = c.args.self.now in
     let e = c.in-Ok.ensures in
-    let honest = holds.honest (c.args.self.now.settled e.alive) in
+    let honest = holds.honest (s.settled e.alive) in
     let was = holds.ready e.alive in
-    returned_old s was.0 parts r.0 r.2.0 back there (g.met.D.Disk.seen_now s.disk honest)
-    was.1 ((e.any_moment honest was.0 parts was.1).now r.0 r.1) r.2.1
+    adds_nothing s c.put_part.new.self was.0 parts (g.met.D.Disk.seen_now s.disk honest) was.1
+    (e.any_moment honest was.0 parts was.1)
 
 pub returns-in-Err-clause-crash : goal.returns-in-Err-clause-crash
-returns-in-Err-clause-crash g c parts holds back there r =
+returns-in-Err-clause-crash g c parts holds =
     let s = c.args.self.now in
     let e = c.in-Err.ensures in
-    refused_returns s c.put_part.new.self c.in-Err.fault back there (Returns s back there) e.refused
-    (λ alive r.
+    adds_refused s c.put_part.new.self (λ back there. ⊥) c.in-Err.fault e.refused
+    (λ alive.
     let honest = holds.honest (s.settled alive) in
     let was = holds.ready alive in
-    returned_old s was.0 parts r.0 r.2.0 back there (g.met.D.Disk.seen_now s.disk honest)
-    was.1 ((e.any_moment honest was.0 parts was.1).now r.0 r.1) r.2.1)
-    (λ r. r) r
-
-pub returns-in-Ok-clause-after : goal.returns-in-Ok-clause-after
-returns-in-Ok-clause-after g c parts holds before =
-    let e = c.in-Ok.ensures in
-    let honest = holds.honest (c.args.self.now.settled e.alive) in
-    let was = holds.ready e.alive in
-    stage_survives c.put_part.new.self was.0 (parts ++ view c.args.part ∷ [])
-    (e.ok honest was.0 parts was.1)
-
-pub returns-in-Err-clause-after : goal.returns-in-Err-clause-after
-returns-in-Err-clause-after g c parts holds before =
-    let s = c.args.self.now in
-    let e = c.in-Err.ensures in
-    refused_survives s c.put_part.new.self c.in-Err.fault e.refused
-    (λ alive bytes left.
-    let honest = holds.honest (s.settled alive) in
-    let was = holds.ready alive in
-    in_stands s.in_second s.generation s.acknowledged was.0 bytes
-    ((e.any_moment honest was.0 parts was.1).now bytes left)) before
+    adds_nothing s c.put_part.new.self was.0 parts (g.met.D.Disk.seen_now s.disk honest) was.1
+    (e.any_moment honest was.0 parts was.1))

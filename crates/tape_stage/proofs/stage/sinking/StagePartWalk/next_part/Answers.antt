@@ -1,5 +1,7 @@
 use Rattle.std.proofs.Common.{◌≡◌, ◌+◌, length, take, refl, ◌∙◌, arith}
 use Rattle.std.proofs.lemmas.List.{with_items_is, length-take-le}
+use Rattle.tape_core.proofs.Crashes.{only_same}
+use Rattle.tape_stage.proofs.Backs.{adds_read}
 use Rattle.tape_stage.proofs.Giving.{given, none_ahead, ahead_none}
 use Rattle.tape_stage.proofs.Held.{read_held}
 use Rattle.tape_stage.proofs.stage.sinking.StagePartWalk.next_part.Goals as goal
@@ -13,8 +15,7 @@ returns-then-self-2 g c =
         λ _. tt,
         record {
           kept = λ parts holds. holds;
-          crash = λ parts holds back there r. r;
-          after = λ parts holds before. before;
+          crash = λ parts holds. only_same _ _;
           same_weight = refl;
           gives =
               λ parts is. (
@@ -53,15 +54,7 @@ returns-in-Ok g c =
           kept = λ parts holds. read_held s.disk d s.in_second s.generation s.acknowledged
               s.other_open s.weight s.failed s.pending parts (e.honest (holds.honest calm))
               (e.reads.same (holds.honest calm)) (e.reads.any_moment (holds.honest calm)).now holds;
-          crash = λ parts holds back there r. (
-            r.0,
-            (e.reads.any_moment (holds.honest calm)).now r.0 r.1,
-            r.2,
-          );
-          after =
-              λ parts holds before bytes left. before bytes
-              ((e.reads.any_moment (holds.honest calm)).now bytes
-              left);
+          crash = λ parts holds. adds_read s d (e.reads.any_moment (holds.honest calm));
           same_weight = refl;
           gives = λ parts is.
               let next = given s.walked (256 + s.weight) c.in-Ok.size old new c.in-Ok.span
