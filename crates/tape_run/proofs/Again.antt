@@ -8,6 +8,7 @@ use Rattle.tape_blocks.specs.declared.form.Form.{Form}
 use Rattle.tape_set.specs.declared.position.Want.{Want}
 use Rattle.tape_set.specs.Position.{want_at}
 use Rattle.tape_core.specs.Crash.{Crashes}
+use Rattle.tape_run.specs.Crash.{IsWalked}
 use Rattle.tape_core.specs.State.{State}
 use Rattle.tape_run.specs.Seen.{Seen, seen}
 use Rattle.tape_run.specs.Story.{Story}
@@ -19,7 +20,8 @@ use Rattle.tape_run.specs.Extracting.{EndsFile, StopsAtEnd}
 use Rattle.tape_run.specs.ExtractingAgain.{ExtractsAgain, StopsAgain}
 use Rattle.tape_run.proofs.Fitting.{front_more, front_then}
 use Rattle.tape_run.proofs.Extracted.{ended}
-use Rattle.tape_run.proofs.Lasting.{last_then, stood_then}
+use Rattle.tape_run.proofs.Lasting.{last_then, stood_walked}
+use Rattle.tape_run.proofs.Left.{left_walked, left_behind}
 use Rattle.tape_run.proofs.Turns.{follows_then}
 use Rattle.tape_run.proofs.Rounds.{all_turns, lines_of_all, front_of_all}
 
@@ -34,22 +36,20 @@ in_a_row back core old rounds mid turns last new f g =
 
 pub extracted_again : {S L R : Type 0} {crashes : S → Crashes}
     (holds : S → List Portion → Type 0) (refusals : S → ℕ)
-    (size : L → ℕ) (gives : Mounting L R) (remaining : R → Option (List ℕ)) (old new : Story S)
-    (shelf left : L) (form : Form)
+    (size : L → ℕ) (gives : Mounting L R) (remaining : R → Option (List ℕ))
+    (old mid new : Story S) (shelf left : L) (form : Form)
     (out written said between says : Option (List ℕ)) (want : Option Want)
     (back : Bool) → back ≡ goes_back old.notes
-    → TakesRounds holds refusals crashes (size shelf) gives remaining back old new shelf
+    → TakesRounds holds refusals crashes (size shelf) gives remaining back old mid shelf
     left said between
-    → EndsFile holds new form out written between says want
-    → ExtractsAgain holds refusals crashes size gives remaining old shelf left form out
-    written said says
-    want
-extracted_again {S} {L} {R} {crashes} holds refusals size gives remaining old new shelf
-    left form out written said between
-    says want back same took e =
+    → EndsFile holds mid form out written between says want
+    → IsWalked holds crashes mid new → refusals new.sink ≡ refusals mid.sink
+    → ExtractsAgain holds refusals crashes size gives remaining old new shelf left form out
+    written said says want
+extracted_again {S} {L} {R} {crashes} holds refusals size gives remaining old mid new
+    shelf left form out written said between says want back same took e walked calm =
     let t = subst (λ b. TakesRounds holds refusals crashes (size shelf) gives remaining b
-    old new shelf left
-    said between) same took in
+    old mid shelf left said between) same took in
     record {
       rounds = t.rounds;
       between = t.between;
@@ -58,50 +58,44 @@ extracted_again {S} {L} {R} {crashes} holds refusals size gives remaining old ne
       turns = t.last.turns;
       are_turns = t.last.are_turns;
       most = t.last.most;
-      all = λ less. e.wanted ∙ ap (want_at new.core.file) (t.last.all less);
+      all = λ less. e.wanted ∙ ap (want_at mid.core.file) (t.last.all less);
       enough = subst (λ w. IsEnough (size shelf) (length (turns_of t.rounds))
           (wanted (core_behind old.core t.rounds)) w) (sym e.wanted)
           (subst (λ c. IsEnough (size shelf) (length (turns_of t.rounds)) (wanted c)
-          (wanted new.core)) t.gone.at t.enough);
+          (wanted mid.core)) t.gone.at t.enough);
       records = e.records;
       lines = Appends-trans said between says _ _
           (lines_of_all said t.told between (turns_of t.rounds) t.last.turns t.gone.lines
           t.last.lines) e.line;
       ends = λ held was kept.
-          let (mid, has, still, f, before) = t.gone.follows held was kept in
-          let (now, has_now, then, one, last) = t.last.follows mid has still in
-          let first = seen refusals old held in
-          let g = subst (λ c. Follows (goes_back old.notes) c (seen refusals t.mid mid) t.last.turns
-          new.core (seen refusals new now)) t.gone.at one in (
-            ended holds refusals new old.core first (turns_of t.rounds ++ t.last.turns) form out
+          let (before, has, still, f, first) = t.gone.follows held was kept in
+          let (now, has_now, then, one, last) = t.last.follows before has still in
+          let start = seen refusals old held in
+          let g = subst (λ c. Follows (goes_back old.notes) c (seen refusals t.mid before)
+          t.last.turns mid.core (seen refusals mid now)) t.gone.at one in (
+            ended holds refusals mid old.core start (turns_of t.rounds ++ t.last.turns) form out
                 written between says want now e has_now
-                (in_a_row (goes_back old.notes) old.core first t.rounds (seen refusals t.mid mid)
-                t.last.turns new.core (seen refusals new now) f g),
-            (seen refusals t.mid mid, f, g),
-            (
-              new,
-              now,
-              has_now,
-              refl,
-              last_then refusals crashes old t.mid new held mid now before last,
-            ),
+                (in_a_row (goes_back old.notes) old.core start t.rounds
+                (seen refusals t.mid before) t.last.turns mid.core (seen refusals mid now) f g),
+            (seen refusals t.mid before, f, g),
+            stood_walked holds refusals crashes old mid new held now has_now
+                (last_then refusals crashes old t.mid mid held before now first last)
+                walked calm,
           );
     }
 
 pub stops_in_round : {S L R W : Type 0} {crashes : S → Crashes} (holds : S → List Portion → Type 0)
     (refusals : S → ℕ) (size : L → ℕ) (gives : Mounting L R) (remaining : R → Option (List ℕ))
-    (old : Story S) (shelf left : L) (form : Form) (contents : W → Option (List ℕ))
+    (old new : Story S) (shelf left : L) (form : Form) (contents : W → Option (List ℕ))
     (out : W) (said says : Option (List ℕ)) (back : Bool) → back ≡ goes_back old.notes
-    → StopsInRound holds refusals crashes (size shelf) gives remaining back old shelf left
-    said says
-    → StopsAgain holds refusals crashes size gives remaining old shelf left form contents
-    out out said says
-stops_in_round {S} {L} {R} {W} {crashes} holds refusals size gives remaining old shelf
-    left form contents out said says back
-    same stopped =
+    → StopsInRound holds refusals crashes (size shelf) gives remaining back old new shelf
+    left said says
+    → StopsAgain holds refusals crashes size gives remaining old new shelf left form
+    contents out out said says
+stops_in_round {S} {L} {R} {W} {crashes} holds refusals size gives remaining old new
+    shelf left form contents out said says back same stopped =
     let s = subst (λ b. StopsInRound holds refusals crashes (size shelf) gives remaining b
-    old shelf left
-    said says) same stopped in
+    old new shelf left said says) same stopped in
     record {
       rounds = s.rounds;
       between = s.between;
@@ -119,7 +113,7 @@ stops_in_round {S} {L} {R} {W} {crashes} holds refusals size gives remaining old
           s.last.lines);
       follows = λ held was kept.
           let (mid, has, still, f, before) = s.gone.follows held was kept in
-          let (core, now, one, stood) = s.last.follows mid has still in (
+          let (core, now, one, leaves) = s.last.follows mid has still in (
             core,
             now,
             (
@@ -128,26 +122,25 @@ stops_in_round {S} {L} {R} {W} {crashes} holds refusals size gives remaining old
               subst (λ c. Follows (goes_back old.notes) c (seen refusals s.mid mid) s.last.turns
                   core now) s.gone.at one,
             ),
-            stood_then holds refusals crashes old s.mid held mid now before stood,
+            left_behind holds refusals crashes old s.mid new held mid now before leaves,
             inl refl,
           );
     }
 
 pub stops_at_end_again : {S L R W : Type 0} {crashes : S → Crashes}
     (holds : S → List Portion → Type 0) (refusals : S → ℕ)
-    (size : L → ℕ) (gives : Mounting L R) (remaining : R → Option (List ℕ)) (old new : Story S)
+    (size : L → ℕ) (gives : Mounting L R) (remaining : R → Option (List ℕ)) (old new end : Story S)
     (shelf left : L) (form : Form)
     (contents : W → Option (List ℕ)) (out written : W) (said between says : Option (List ℕ))
     (back : Bool) → back ≡ goes_back old.notes
     → TakesRounds holds refusals crashes (size shelf) gives remaining back old new shelf
     left said between
+    → IsWalked holds crashes new end
     → StopsAtEnd holds new form contents out written between says
-    → StopsAgain holds refusals crashes size gives remaining old shelf left form contents
-    out written said
-    says
+    → StopsAgain holds refusals crashes size gives remaining old end shelf left form
+    contents out written said says
 stops_at_end_again {S} {L} {R} {W} {crashes} holds refusals size gives remaining old new
-    shelf left form contents out written
-    said between says back same took e =
+    end shelf left form contents out written said between says back same took walked e =
     let t = subst (λ b. TakesRounds holds refusals crashes (size shelf) gives remaining b
     old new shelf left
     said between) same took in
@@ -179,13 +172,9 @@ stops_at_end_again {S} {L} {R} {W} {crashes} holds refusals size gives remaining
               subst (λ c. Follows (goes_back old.notes) c (seen refusals t.mid mid) t.last.turns
                   new.core (seen refusals new now)) t.gone.at one,
             ),
-            (
-              new,
-              now,
-              has_now,
-              refl,
-              last_then refusals crashes old t.mid new held mid now before last,
-            ),
+            left_walked holds refusals crashes back old new end held now
+                (last_then refusals crashes old t.mid new held mid now before last) walked
+                has_now,
             e.is_written now has_now,
           );
     }

@@ -7,7 +7,8 @@ use Rattle.tape_set.specs.Lawful.{IsLawful}
 use Rattle.tape_core.specs.Place.{IsPlaced, rest_of}
 use Rattle.tape_core.specs.Stands.{weight_of}
 use Rattle.tape_core.specs.Weight.{IsFront}
-use Rattle.tape_run.specs.Crash.{IsNoteOf, BringsLast, KeepsLast}
+use Rattle.tape_run.specs.Crash.{IsNoteOf, IsLast, BringsLast, KeepsLast, LeavesSaved}
+use Rattle.tape_core.specs.Table.{saved}
 use Rattle.tape_run.specs.Given.{is_device, IsGiven}
 use Rattle.tape_run.specs.Mount.{IsMountOf, foreign_reel}
 use Rattle.tape_run.specs.OutSinks.{IsText}
@@ -24,8 +25,11 @@ use Rattle.tape_run.specs.RecordText.{output_of}
 use Rattle.tape_blocks.specs.declared.form.Form.{Form}
 use Rattle.tape_set.specs.declared.position.Position.TheVariants.{Finished}
 use Rattle.tape_run.specs.CasesOfExtracts.{CasesOfTurns, CasesOfOutputs, Listed, Known, Readers}
-use Rattle.tape_run.specs.CasesOfExtracts.{StopsListed, StopsListedNow, CasesOfSaved, brings}
-use Rattle.tape_run.specs.CasesOfExtracts.{comes_now, comes_since}
+use Rattle.tape_run.specs.CasesOfExtracts.{ExtractsListed, StopsListed, StopsListedNow}
+use Rattle.tape_run.specs.CasesOfExtracts.{CasesOfSaved, brings, comes_now, comes_since}
+use Rattle.tape_run.specs.Extracting.{IsWritten}
+use Rattle.tape_set.specs.declared.position.Want.{Want}
+use Rattle.tape_set.specs.Position.{want_at}
 
 foreign_turn : (set : FileSet) (o : Opened) (bytes : List ℕ) → o.had ≡ Some bytes
     → IsMountOf set bytes foreign_reel
@@ -135,17 +139,38 @@ text known (more, is, none) =
     let e : known ≡ 7 ∷ more = cc is in
     e ∙ ap (λ m. 7 ∷ m) (none refl)
 
-output_stopped : (session : Listed) (shelf left : Readers) (form : Form)
+-- a session without notes keeps its own
+none_kept : (session : Listed) → session.notes ≡ []
+    → IsKeptFor (goes_back session.notes)
+    (seen {S = List Portion} (λ s. 0) session session.sink)
+none_kept session none =
+    subst (λ n. IsKeptFor (goes_back n) (seen {S = List Portion} (λ s. 0) session session.sink))
+    (sym none) tt
+
+left_there : (session behind : Listed) (shelf left : Readers) (form : Form)
+    (out now said says : Known) (want : Option Want) → session.notes ≡ []
+    → ExtractsListed session behind shelf left form out now said says want
+    → (want ≡ want_at behind.core.file behind.core.position)
+    × ((records : ℕ) × IsWritten want records form out now behind.sink)
+left_there session behind shelf left form out now said says want none e =
+    let (ends, (parts, holds, is, keeps)) =
+    e.ends session.sink refl (none_kept session none) in (
+      ends.wanted ∙ ap (λ (z : Seen). want_at z.place.file z.place.position) is,
+      (
+        e.records,
+        subst (IsWritten want e.records form out now)
+            (ap (λ (z : Seen). z.parts) is ∙ sym holds) ends.is_written,
+      ),
+    )
+
+output_stopped : (session behind : Listed) (shelf left : Readers) (form : Form)
     (out now said says : Known)
-    → session.notes ≡ [] → StopsListed session shelf left form out now said says
+    → session.notes ≡ [] → StopsListed session behind shelf left form out now said says
     → (now ≡ out)
     ⊎ ((s : Seen) × (s.place.position ≡ Finished) × AppendsFront out now (output_of form s.parts))
-output_stopped session shelf left form out now said says none s =
-    let kept : IsKeptFor (goes_back session.notes)
-    (seen {S = List Portion} (λ s. 0) session session.sink) =
-    subst (λ n. IsKeptFor (goes_back n) (seen {S = List Portion} (λ s. 0) session session.sink))
-    (sym none) tt in
-    let (last, seen, follows, stood, wrote) = s.follows session.sink refl kept in elim wrote [
+output_stopped session behind shelf left form out now said says none s =
+    let (last, seen, follows, stood, wrote) = s.follows session.sink refl (none_kept session none)
+    in elim wrote [
       | inl same ↦ inl same
       | inr more ↦ inr (seen, more.0, more.1)
     ]
@@ -175,13 +200,14 @@ cases_of_outputs = record {
   ends_sure = λ first old want records form out now o sure e. e.gathers (inr (sure, tt));
   ends_now = λ first old turns want records form stands e.
       (e.wanted, e.gathers, e.follows, e.is_put);
-  left_unread = λ session shelf left form out now said says want e. (e.most, e.all);
-  lines = λ session shelf left form out now said says want e. (e.lines, e.are_turns);
+  left_there = left_there;
+  left_unread = λ session behind shelf left form out now said says want e. (e.most, e.all);
+  lines = λ session behind shelf left form out now said says want e. (e.lines, e.are_turns);
   left_unread_now = λ session shelf left form stands said says want e. (e.most, e.all);
   lines_now = λ session shelf left form stands said says want e. (e.lines, e.are_turns);
-  one_line_more = λ session shelf left form out now said says s. (s.few, s.lines);
+  one_line_more = λ session behind shelf left form out now said says s. (s.few, s.lines);
   one_line_more_now = λ session shelf left form out now said says s. (s.few, s.lines);
-  stopped_turns = λ session shelf left form out now said says s. (s.most, s.are_turns);
+  stopped_turns = λ session behind shelf left form out now said says s. (s.most, s.are_turns);
   stopped_turns_now = λ session shelf left form out now said says s. (s.most, s.are_turns);
   taken = λ form out weight records begun failed parts t. (t.weighs, t.counted);
   sink_takes = λ s parts t. (t.weighs, t.counted, t.begins);
@@ -215,14 +241,18 @@ none_is_brought s p ps none last =
     let (n, count, i) = last p ps (refl, refl) in absurd (omega (arith, count, ap length none))
 
 -- of one note it is the last
-pub one_note : (s : Seen) (c p : Point) (ps : List Portion) → s.notes ≡ c ∷ []
-    → BringsLast (brings ps p) s → (p ≡ c) × IsFront ps s.parts
-one_note s c p ps one last =
-    let (n, count, (is, front, weighs)) = last p ps (refl, refl) in
+of_one_note : (s : Seen) (c p : Point) (ps : List Portion) → s.notes ≡ c ∷ [] → IsLast s p ps
+    → (p ≡ c) × IsFront ps s.parts
+of_one_note s c p ps one (n, count, (is, front, weighs)) =
     let first : n ≡ 0 = omega (arith, count, ap length one) in
     let here : slice_get s.notes 0 ≡ Some p = subst (λ z. slice_get s.notes z ≡ Some p) first is in
     (let f = ap (λ l. slice_get l 0) one in cc, front)
 
+pub one_note : (s : Seen) (c p : Point) (ps : List Portion) → s.notes ≡ c ∷ []
+    → BringsLast (brings ps p) s → (p ≡ c) × IsFront ps s.parts
+one_note s c p ps one last = of_one_note s c p ps one (last p ps (refl, refl))
+
+-- the one note came back alone before
 alone_before : (old : Story Point) (held ps : List Portion) (c : Point)
     → old.notes ≡ c ∷ [] → old.sink ≡ c → IsFront ps held → weight_of ps ≡ c.staged
     → BringsLast (brings ps old.sink) (seen (λ s. 0) old held)
@@ -261,22 +291,57 @@ on_the_way old new held now ps c none has keeps =
     one_note (seen (λ s. 0) new now) c new.sink ps has (keeps.last (λ same. absurd (let e : 1 ≡ 0 =
     sym (ap length has) ∙ same ∙ ap length none in omega (arith, e))))
 
-stood_so : (session : Story Point) (held ps : List Portion) (now : Seen) (c : Point)
-    → session.notes ≡ [] → now.notes ≡ c ∷ []
-    → StoodSaved (λ s parts. s.staged ≡ weight_of parts) (λ s. 0) (comes_now ps) session
-    held now
-    → (mid : Story Point) × (mid.sink ≡ c) × (now.place ≡ rest_of mid.core)
+stood_so : (old new : Story Point) (held ps : List Portion) (now : Seen) (c : Point)
+    → old.notes ≡ [] → now.notes ≡ c ∷ []
+    → StoodSaved (λ s parts. s.staged ≡ weight_of parts) (λ s. 0) (comes_now ps) old held new
+    now
+    → (new.sink ≡ c) × (now.place ≡ rest_of new.core)
     × IsFront ps now.parts × (c.staged ≡ weight_of now.parts)
-stood_so session held ps now c none has (mid, parts, holds, is, keeps) =
-    let (same, front) = on_the_way session mid held parts ps c none
+stood_so old new held ps now c none has (parts, holds, is, keeps) =
+    let (same, front) = on_the_way old new held parts ps c none
     (sym (ap (λ (z : Seen). z.notes) is) ∙ has) keeps in
     let all : now.parts ≡ parts = ap (λ (z : Seen). z.parts) is in (
-      mid,
       same,
       ap (λ (z : Seen). z.place) is,
       subst (IsFront ps) (sym all) front,
       ap (λ (z : Point). z.staged) (sym same) ∙ holds ∙ ap weight_of (sym all),
     )
+
+left_at_a_fault : (old new : Story Point) (held ps : List Portion) (now : Seen) (c : Point)
+    → old.notes ≡ [] → now.notes ≡ c ∷ []
+    → LeavesSaved (λ s parts. s.staged ≡ weight_of parts) (λ s. 0) (comes_now ps) old held now
+    new
+    → ((new.sink ≡ c) × IsFront ps now.parts)
+    ⊎ ((new.sink.staged ≡ weight_of ps) × IsFront now.parts ps
+    × (new.sink ≡ saved (rest_of new.core) (weight_of ps)))
+left_at_a_fault old new held ps now c none has leaves = elim (leaves.comes (λ same. absurd
+    (let e : 1 ≡ 0 = sym (ap length has) ∙ same ∙ ap length none in omega (arith, e)))
+    new.sink ps (refl, refl)) [
+      | inl last ↦ inl (of_one_note now c new.sink ps has last)
+      | inr here ↦ inr (here.0, here.1, here.2)
+    ]
+
+alone_at_a_fault : (old new : Story Point) (held ps : List Portion) (now : Seen) (c : Point)
+    → old.notes ≡ c ∷ [] → now.notes ≡ c ∷ [] → old.sink ≡ c → IsFront ps held
+    → weight_of ps ≡ c.staged
+    → LeavesSaved (λ s parts. ⊥) (λ s. 0) (comes_now ps) old held now new → new.sink ≡ c
+alone_at_a_fault old new held ps now c had has came front weighs leaves =
+    elim (leaves.comes (λ same. alone_before old held ps c had came front weighs) new.sink ps
+    (refl, refl)) [
+      | inl last ↦ (of_one_note now c new.sink ps has last).0
+      | inr here ↦ absurd here.0
+    ]
+
+alone_up_to_a_fault : (old new : Story Point) (held ps : List Portion) (now : Seen) (c : Point)
+    (t : ℕ) → old.notes ≡ c ∷ [] → now.notes ≡ c ∷ [] → old.sink ≡ c → IsFront ps held
+    → weight_of ps ≡ c.staged → t ≤ old.sink.file
+    → LeavesSaved (λ s parts. ⊥) (λ s. 0) (comes_since ps) old held now new → new.sink ≡ c
+alone_up_to_a_fault old new held ps now c t had has came front weighs le leaves =
+    elim (leaves.since t le (ap length has ∙ sym (ap length had))
+    (alone_before old held ps c had came front weighs) new.sink ps (refl, refl)) [
+      | inl last ↦ (of_one_note now c new.sink ps has last).0
+      | inr here ↦ absurd here.0
+    ]
 
 pub cases_of_saved : CasesOfSaved
 cases_of_saved = record {
@@ -291,6 +356,12 @@ cases_of_saved = record {
   survived = λ old new held now t le keeps. keeps.survived t le;
   goes_on = λ old new held now keeps. (keeps.no_fewer, keeps.later);
   stood = stood_so;
+  left_at_a_fault = left_at_a_fault;
+  alone_at_a_fault = alone_at_a_fault;
+  survives_a_fault = λ old new held now leaves. leaves.survives;
+  alone_up_to_a_fault = alone_up_to_a_fault;
+  survived_a_fault = λ old new held now t le leaves. leaves.survived t le;
+  no_fewer_at_a_fault = λ old new held now leaves. leaves.no_fewer;
   read_since = refl;
   went_back_since = refl;
   never_saved = refl;

@@ -1,12 +1,14 @@
 -- The cases of rounds.
-use Rattle.std.proofs.Common.{◌≡◌, ◌⊎◌, List, [], ◌∷◌, inl, inr, refl, sym, ap, subst, arith}
+use Rattle.std.proofs.Common.{◌≡◌, ◌⊎◌, List, [], ◌∷◌, inl, inr, refl, sym, ap, subst}
+use Rattle.std.proofs.Common.{◌∙◌, arith}
 use Rattle.std.specs.Prelude.{Option, Bool, None}
+use Rattle.tape_blocks.specs.Block.{Portion}
 use Rattle.tape_set.specs.declared.position.Want.{Want}
 use Rattle.tape_set.specs.Position.{want_at}
 use Rattle.tape_core.specs.State.{State}
 use Rattle.tape_run.specs.Reeling.{Turn, AreTurns, Follows, Took}
 use Rattle.tape_run.specs.Rounds.{Round, AreRounds, IsEnough, GoesRound}
-use Rattle.tape_run.specs.Seen.{Seen}
+use Rattle.tape_run.specs.Seen.{Seen, seen}
 use Rattle.tape_run.specs.CasesOfExtracts.{Known, Readers}
 use Rattle.tape_run.specs.CasesOfRounds.{CasesOfRounds}
 
@@ -47,14 +49,18 @@ cases_of_rounds = record {
   file_ended = λ session form out now said says want e.
       (e.wanted, e.line, e.is_written session.sink refl);
   file_stopped = λ session form out now said says s. (s.line, s.is_written session.sink refl);
-  again_ends = λ session shelf left form out now said says want e kept.
-      let (ends, goes, stood) = e.ends session.sink refl kept in (ends, goes);
-  again = λ session shelf left form out now said says want e.
+  again_ends = λ session behind shelf left form out now said says want e kept.
+      let (ends, goes, (parts, holds, is, keeps)) = e.ends session.sink refl kept in (
+        ends,
+        goes,
+        is ∙ ap (λ l. seen {S = List Portion} (λ s. 0) behind l) (sym holds),
+      );
+  again = λ session behind shelf left form out now said says want e.
       (e.lines, e.are_rounds, e.are_turns, e.brought);
-  again_left = λ session shelf left form out now said says want e. (e.most, e.all, e.enough);
-  again_stopped = λ session shelf left form out now said says s.
+  again_left = λ session behind shelf left form out now said says want e. (e.most, e.all, e.enough);
+  again_stopped = λ session behind shelf left form out now said says s.
       (s.few, s.most, s.are_rounds, s.are_turns, s.brought, s.lines);
-  again_output = λ session shelf left form out now said says s kept.
+  again_output = λ session behind shelf left form out now said says s kept.
       let (last, now, goes, stood, wrote) = s.follows session.sink refl kept in
       (last, now, goes, wrote);
 }

@@ -11,6 +11,7 @@ use Rattle.tape_set.specs.declared.position.Want.{Want}
 use Rattle.tape_set.specs.Position.{want_at}
 use Rattle.tape_core.specs.Point.{Point}
 use Rattle.tape_core.specs.Crash.{Crashes}
+use Rattle.tape_run.specs.Crash.{IsWalked}
 use Rattle.tape_core.specs.State.{State}
 use Rattle.tape_run.specs.Seen.{Seen, seen}
 use Rattle.tape_run.specs.Story.{Story}
@@ -22,6 +23,8 @@ use Rattle.tape_run.specs.Reeling.{Turn, answer_of, TakesAll, StopsReading, Foll
 use Rattle.tape_run.specs.Reeling.{AreSure, Mounting}
 use Rattle.tape_run.specs.Extracting.{Ends, Extracts, Stops, EndsFile, StopsAtEnd}
 use Rattle.tape_run.proofs.Fitting.{front_more, front_then}
+use Rattle.tape_run.proofs.Lasting.{stood_walked}
+use Rattle.tape_run.proofs.Left.{left_walked}
 use Rattle.tape_run.proofs.Turns.{gathers, sure_follows}
 use Rattle.tape_run.proofs.TurnSteps.{are_steps}
 
@@ -57,21 +60,20 @@ ended holds refusals mid core old turns form out written said says want now e ha
 
 pub extracted : {S L R : Type 0} {crashes : S → Crashes}
     (holds : S → List Portion → Type 0) (refusals : S → ℕ)
-    (size : L → ℕ) (gives : Mounting L R) (remaining : R → Option (List ℕ)) (old mid : Story S)
+    (size : L → ℕ) (gives : Mounting L R) (remaining : R → Option (List ℕ)) (old mid new : Story S)
     (shelf left : L) (form : Form)
     (out written said between says : Option (List ℕ)) (want : Option Want)
     (back : Bool) → back ≡ goes_back old.notes
     → TakesAll holds refusals crashes (size shelf) 0 gives remaining back old mid shelf
     left said between
     → EndsFile holds mid form out written between says want
-    → Extracts holds refusals crashes size gives remaining old shelf left form out written
-    said says want
-extracted {S} {L} {R} {crashes} holds refusals size gives remaining old mid shelf left
-    form out written said between says
-    want back same took e =
+    → IsWalked holds crashes mid new → refusals new.sink ≡ refusals mid.sink
+    → Extracts holds refusals crashes size gives remaining old new shelf left form out
+    written said says want
+extracted {S} {L} {R} {crashes} holds refusals size gives remaining old mid new shelf
+    left form out written said between says want back same took e walked calm =
     let t = subst (λ b. TakesAll holds refusals crashes (size shelf) 0 gives remaining b
-    old mid shelf left
-    said between) same took in
+    old mid shelf left said between) same took in
     record {
       turns = t.turns;
       are_turns = t.are_turns;
@@ -83,25 +85,22 @@ extracted {S} {L} {R} {crashes} holds refusals size gives remaining old mid shel
           let (now, has, still, f, last) = t.follows held was kept in (
             ended holds refusals mid old.core (seen refusals old held) t.turns form out written
                 between says want now e has f,
-            (mid, now, has, refl, last),
+            stood_walked holds refusals crashes old mid new held now has last walked calm,
           );
     }
 
 pub stops_reading : {S L R W : Type 0} {crashes : S → Crashes} (holds : S → List Portion → Type 0)
     (refusals : S → ℕ) (size : L → ℕ) (gives : Mounting L R) (remaining : R → Option (List ℕ))
-    (old : Story S) (shelf left : L) (form : Form) (contents : W → Option (List ℕ))
+    (old new : Story S) (shelf left : L) (form : Form) (contents : W → Option (List ℕ))
     (out : W) (said says : Option (List ℕ)) (back : Bool) → back ≡ goes_back old.notes
-    → StopsReading holds refusals crashes (size shelf) 0 gives remaining back old shelf
+    → StopsReading holds refusals crashes (size shelf) 0 gives remaining back old new shelf
     left said says
-    → Stops holds refusals crashes size gives remaining old shelf left form contents out
-    out said says
-stops_reading {S} {L} {R} {W} {crashes} holds refusals size gives remaining old shelf
-    left form contents out said says back
-    same
-    stopped =
+    → Stops holds refusals crashes size gives remaining old new shelf left form contents
+    out out said says
+stops_reading {S} {L} {R} {W} {crashes} holds refusals size gives remaining old new shelf
+    left form contents out said says back same stopped =
     let s = subst (λ b. StopsReading holds refusals crashes (size shelf) 0 gives remaining
-    b old shelf left
-    said says) same stopped in
+    b old new shelf left said says) same stopped in
     record {
       turns = s.turns;
       are_turns = s.are_turns;
@@ -112,27 +111,26 @@ stops_reading {S} {L} {R} {W} {crashes} holds refusals size gives remaining old 
       records = 0;
       lines = front_more said says _ (last_line None 0) s.lines;
       follows = λ held was kept.
-          let (core, now, f, stood) = s.follows held was kept in
-          (core, now, f, stood, inl refl);
+          let (core, now, f, leaves) = s.follows held was kept in
+          (core, now, f, leaves, inl refl);
     }
 
 pub stops_at_end : {S L R W : Type 0} {crashes : S → Crashes}
     (holds : S → List Portion → Type 0) (refusals : S → ℕ)
-    (size : L → ℕ) (gives : Mounting L R) (remaining : R → Option (List ℕ)) (old mid : Story S)
+    (size : L → ℕ) (gives : Mounting L R) (remaining : R → Option (List ℕ)) (old mid new : Story S)
     (shelf left : L) (form : Form)
     (contents : W → Option (List ℕ)) (out written : W) (said between says : Option (List ℕ))
     (back : Bool) → back ≡ goes_back old.notes
     → TakesAll holds refusals crashes (size shelf) 0 gives remaining back old mid shelf
     left said between
+    → IsWalked holds crashes mid new
     → StopsAtEnd holds mid form contents out written between says
-    → Stops holds refusals crashes size gives remaining old shelf left form contents out
-    written said says
-stops_at_end {S} {L} {R} {W} {crashes} holds refusals size gives remaining old mid shelf
-    left form contents out written said
-    between says back same took e =
+    → Stops holds refusals crashes size gives remaining old new shelf left form contents
+    out written said says
+stops_at_end {S} {L} {R} {W} {crashes} holds refusals size gives remaining old mid new
+    shelf left form contents out written said between says back same took walked e =
     let t = subst (λ b. TakesAll holds refusals crashes (size shelf) 0 gives remaining b
-    old mid shelf left
-    said between) same took in
+    old mid shelf left said between) same took in
     record {
       turns = t.turns;
       are_turns = (left, t.are_turns, inl refl);
@@ -145,8 +143,13 @@ stops_at_end {S} {L} {R} {W} {crashes} holds refusals size gives remaining old m
           (subst (λ l. Appends said between (reel_lines 1 l))
           (sym (append-nil (map answer_of t.turns))) t.lines) e.line;
       follows = λ held was kept.
-          let (now, has, still, f, last) = t.follows held was kept in
-          (mid.core, seen refusals mid now, f, (mid, now, has, refl, last), e.is_written now has);
+          let (now, has, still, f, last) = t.follows held was kept in (
+            mid.core,
+            seen refusals mid now,
+            f,
+            left_walked holds refusals crashes back old mid new held now last walked has,
+            e.is_written now has,
+          );
     }
 
 -- the last line, or the output, was written in part

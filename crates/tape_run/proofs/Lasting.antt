@@ -10,7 +10,7 @@ use Rattle.tape_core.specs.Point.{Point}
 use Rattle.tape_core.specs.Stands.{weight_of}
 use Rattle.tape_core.specs.Table.{saved}
 use Rattle.tape_core.specs.Weight.{IsFront}
-use Rattle.tape_run.specs.Crash.{IsNoteOf, BringsLast, KeepsLast}
+use Rattle.tape_run.specs.Crash.{IsNoteOf, BringsLast, KeepsLast, IsWalked}
 use Rattle.tape_run.specs.Reeling.{StoodSaved}
 use Rattle.tape_run.specs.Seen.{Seen, seen}
 use Rattle.tape_run.specs.Steps.{Saved, WentBack}
@@ -164,11 +164,25 @@ last_went refusals crashes a b held now n count went adds =
       survived = adds.survived;
     }
 
--- what the images before were brought to, and those behind them
-pub stood_then : {S : Type 0} (holds : S → List Portion → Type 0) (refusals : S → ℕ)
-    (crashes : S → Crashes) (a b : Story S) (held between : List Portion)
-    (now : Seen) → KeepsLast refusals crashes a held b between
-    → StoodSaved holds refusals crashes b between now
-    → StoodSaved holds refusals crashes a held now
-stood_then holds refusals crashes a b held between now first (mid, parts, has, is, last) =
-    (mid, parts, has, is, last_then refusals crashes a b mid held between parts first last)
+-- where only the sink was walked the session is seen as it was
+walked_seen : {S : Type 0} (holds : S → List Portion → Type 0) (refusals : S → ℕ)
+    (crashes : S → Crashes) (a b : Story S) (parts : List Portion)
+    → IsWalked holds crashes a b → refusals b.sink ≡ refusals a.sink
+    → seen refusals a parts ≡ seen refusals b parts
+walked_seen holds refusals crashes a b parts w calm =
+    rw (w.core, w.notes, w.failures, calm) refl
+
+-- what the images were brought to, behind the walk that writes the file
+pub stood_walked : {S : Type 0} (holds : S → List Portion → Type 0) (refusals : S → ℕ)
+    (crashes : S → Crashes) (a b c : Story S) (held parts : List Portion)
+    → holds b.sink parts → KeepsLast refusals crashes a held b parts
+    → IsWalked holds crashes b c → refusals c.sink ≡ refusals b.sink
+    → StoodSaved holds refusals crashes a held c (seen refusals b parts)
+stood_walked holds refusals crashes a b c held parts has last w calm = (
+  parts,
+  w.kept parts has,
+  walked_seen holds refusals crashes b c parts w calm,
+  last_then refusals crashes a b c held parts parts last
+      (last_stays refusals crashes b c parts parts w.notes (front_self parts)
+      (w.crash parts has)),
+)

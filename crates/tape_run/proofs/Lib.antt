@@ -30,6 +30,8 @@ pub mod WholeSets
 pub mod WholeCopies
 pub mod Lacking
 pub mod Lasting
+pub mod Walked
+pub mod Left
 pub mod Listing
 pub mod Fronts
 pub mod Completes

@@ -6,7 +6,8 @@ use Rattle.std.specs.Prelude.{◌<◌, ◌≤◌}
 use Rattle.std.specs.Fmt.{digits}
 use Rattle.std.specs.Io.KnownBytes.{Appends}
 use Rattle.tape_core.specs.State.{State}
-use Rattle.tape_set.specs.declared.position.Position.TheVariants.{Finished}
+use Rattle.tape_set.specs.Position.{want_at}
+use Rattle.tape_set.specs.declared.position.Position.TheVariants.{Awaits, Finished}
 use Rattle.tape_set.specs.declared.position.Want.{Want}
 use Rattle.tape_run.specs.Seen.{Seen, seen}
 use Rattle.tape_run.specs.declared.section.ImageLine.{ImageLine}
@@ -26,13 +27,12 @@ use Rattle.tape_run.proofs.extract.extract_to.Reads as extract_to
 -- partial_output_written: something is wanted still, and the output is another than before
 partial_output_written : (S : _) (R : _) (L : _) (W : _) (P : _) (LS : _) (LR : _)
     (LL : _) (LW : _) (LP : _) (g : _) (d : _)
-    (g' : _) (d' : _) (h : _) (e : _) (m : _) (n : _) (w : _) (f : _) (p : _) (i : _) (j : _) (k :
-    _) (κs : _) (a : _)
-    (want : _) (s : _)
-    → extract_to.Learnt-named S R L W P LS LR LL LW LP g d g' d' h e m n w f p i j k κs a (Ok (Some
+    (g' : _) (d' : _) (h : _) (e : _) (m : _) (n : _) (w : _) (f : _) (p : _) (i : _) (j : _)
+    (κs : _) (a : _) (want : _) (s : _)
+    → extract_to.Learnt-named S R L W P LS LR LL LW LP g d g' d' h e m n w f p i j κs a (Ok (Some
     want)) s
     → (s.1.1.1.0.now ≡ a.1.1.1.0.now → ⊥) → ⊥
-partial_output_written S R L W P LS LR LL LW LP g d g' d' h e m n w f p i j k κs a want s l other =
+partial_output_written S R L W P LS LR LL LW LP g d g' d' h e m n w f p i j κs a want s l other =
     other (l.untouched (λ n. absurd (cc)))
 
 -- output_flushed_while_something_is_wanted: the same of an output that is flushed, which makes
@@ -41,8 +41,8 @@ output_flushed_while_something_is_wanted : (S : _) (R : _) (L : _) (W : _) (P : 
     (LS : _) (LR : _) (LL : _) (LW : _)
     (LP : _) (g : _) (d : _) (g' : _) (d' : _) (h : _) (e : _) (m : _) (n : _) (w : _) (f : _) (p :
     _) (i : _)
-    (j : _) (k : _) (κs : _) (a : _) (want : _) (s : _)
-    → extract_to.Learnt-named S R L W P LS LR LL LW LP g d g' d' h e m n w f p i j k κs a (Ok (Some
+    (j : _) (κs : _) (a : _) (want : _) (s : _)
+    → extract_to.Learnt-named S R L W P LS LR LL LW LP g d g' d' h e m n w f p i j κs a (Ok (Some
     want)) s
     → (s.1.1.1.0.now ≡ a.1.1.1.0.now → ⊥) → ⊥
 output_flushed_while_something_is_wanted = partial_output_written
@@ -62,15 +62,15 @@ one_turn gives remaining shelf left (Some o ∷ turns) want (image, next, gave, 
 -- reels_counted_from_0: the first image, which is not there, is told as reel 0
 reels_counted_from_0 : (S : _) (R : _) (L : _) (W : _) (P : _) (LS : _) (LR : _) (LL : _) (LW : _)
     (LP : _) (g : _) (d : _) (g' : _) (d' : _) (h : _) (e : _) (m : _) (n : _) (w : _) (f : _)
-    (p : _) (i : _) (j : _) (k : _) (κs : _) (a : _) (want : _) (s : _) (text : List ℕ)
-    → extract_to.Learnt-named S R L W P LS LR LL LW LP g d g' d' h e m n w f p i j k κs a
+    (p : _) (i : _) (j : _) (κs : _) (a : _) (want : _) (s : _) (text : List ℕ)
+    → extract_to.Learnt-named S R L W P LS LR LL LW LP g d g' d' h e m n w f p i j κs a
     (Ok (Some want)) s
     → m.size a.1.0.now ≡ 1
     → ((image : Option _) (next : _) → m.gives a.1.0.now 0 image next → image ≡ None)
     → p.contents a.1.1.1.1.0.now ≡ Some []
     → p.contents s.1.1.1.1.0.now ≡ Some (codes "REEL 0 NOT OPENED\n" ++ text) → ⊥
 unfolding digits
-reels_counted_from_0 S R L W P LS LR LL LW LP g d g' d' h e m n w f p i j k κs a want s text l one
+reels_counted_from_0 S R L W P LS LR LL LW LP g d g' d' h e m n w f p i j κs a want s text l one
     none old new =
     let (more, answers) = one_turn m.gives h.remaining a.1.0.now s.1.0.now l.ok.turns want
     l.ok.are_turns none (subst (λ v. length l.ok.turns < v → Some want ≡ None) one l.ok.all) in
@@ -98,13 +98,13 @@ stays gives remaining kept shelf left (t ∷ u ∷ turns) are few mounts was =
 -- that mounting the first leaves
 images_mounted_from_1 : (S : _) (R : _) (L : _) (W : _) (P : _) (LS : _) (LR : _) (LL : _) (LW : _)
     (LP : _) (g : _) (d : _) (g' : _) (d' : _) (h : _) (e : _) (m : _) (n : _) (w : _) (f : _)
-    (p : _) (i : _) (j : _) (k : _) (κs : _) (a : _) (want : _) (s : _) (kept : _ → Type 0)
-    → extract_to.Learnt-named S R L W P LS LR LL LW LP g d g' d' h e m n w f p i j k κs a
+    (p : _) (i : _) (j : _) (κs : _) (a : _) (want : _) (s : _) (kept : _ → Type 0)
+    → extract_to.Learnt-named S R L W P LS LR LL LW LP g d g' d' h e m n w f p i j κs a
     (Ok want) s
     → m.size a.1.0.now ≡ 1
     → ((z : _) (image : Option _) (y : _) → m.gives z 0 image y → kept z → kept y)
     → kept a.1.0.now → (kept s.1.0.now → ⊥) → ⊥
-images_mounted_from_1 S R L W P LS LR LL LW LP g d g' d' h e m n w f p i j k κs a want s kept l one
+images_mounted_from_1 S R L W P LS LR LL LW LP g d g' d' h e m n w f p i j κs a want s kept l one
     mounts was other =
     other (stays m.gives h.remaining kept a.1.0.now s.1.0.now l.ok.turns l.ok.are_turns
     (subst (λ v. length l.ok.turns ≤ v) one l.ok.most) mounts was)
@@ -120,19 +120,20 @@ no_turn back (Some o ∷ turns) core old last now h over = absurd (h.2.waits ove
 image_read_behind_the_completing_one : (S : _) (R : _) (L : _) (W : _) (P : _) (LS : _) (LR : _)
     (LL : _) (LW : _) (LP : _) (g : _) (d : _) (g' : _) (d' : _) (h : _) (e : _) (m : _) (n : _)
     (w : _) (f : _) (p : _) (i : _)
-    (j : _) (k : _) (κs : _) (a : _) (s : _) (held : _) (text : List ℕ)
-    → extract_to.Learnt-named S R L W P LS LR LL LW LP g d g' d' h e m n w f p i j k κs a (Ok None)
+    (j : _) (κs : _) (a : _) (s : _) (held : _) (text : List ℕ)
+    → extract_to.Learnt-named S R L W P LS LR LL LW LP g d g' d' h e m n w f p i j κs a (Ok None)
     s
-    → a.0.core.position ≡ Finished → g'.holds a.0.sink held
-    → IsKeptFor (goes_back a.0.notes) (seen g'.refusals a.0 held)
+    → a.0.now.core.position ≡ Finished → g'.holds a.0.now.sink held
+    → IsKeptFor (goes_back a.0.now.notes) (seen g'.refusals a.0.now held)
     → p.contents a.1.1.1.1.0.now ≡ Some []
     → p.contents s.1.1.1.1.0.now ≡ Some (codes "REEL 1 COMPLETE\n" ++ text) → ⊥
-image_read_behind_the_completing_one S R L W P LS LR LL LW LP g d g' d' h e m n w f p i j k κs a s
+image_read_behind_the_completing_one S R L W P LS LR LL LW LP g d g' d' h e m n w f p i j κs a s
     held text
     l over holds kept old new =
     let (ends, stood) = l.ok.ends held holds kept in
     let none : l.ok.turns ≡ []
-    = no_turn (goes_back a.0.notes) l.ok.turns a.0.core _ ends.last ends.now ends.follows over in
+    = no_turn (goes_back a.0.now.notes) l.ok.turns a.0.now.core _ ends.last ends.now ends.follows
+    over in
     let lines : List ℕ = reel_lines 1 (map answer_of l.ok.turns) ++ last_line None l.ok.records in
     let r : Appends (Some []) (Some (codes "REEL 1 COMPLETE\n" ++ text)) lines
     = subst (λ v. Appends (Some []) v lines) new
@@ -140,6 +141,20 @@ image_read_behind_the_completing_one S R L W P LS LR LL LW LP g d g' d' h e m n 
     absurd (let n : 82 ≡ 67 = ap (λ v. slice_index v 0)
     (r ∙ ap (λ v. reel_lines 1 (map answer_of v) ++ last_line None l.ok.records) none) in omega
     arith)
+
+-- session_taken_back_at_the_end: nothing is wanted, and the session that is left waits for a block
+session_taken_back_at_the_end : (S : _) (R : _) (L : _) (W : _) (P : _) (LS : _) (LR : _) (LL : _)
+    (LW : _) (LP : _) (g : _) (d : _) (g' : _) (d' : _) (h : _) (e : _) (m : _) (n : _) (w : _)
+    (f : _) (p : _) (i : _) (j : _) (κs : _) (a : _) (s : _) (held : _) (sect block part : ℕ)
+    → extract_to.Learnt-named S R L W P LS LR LL LW LP g d g' d' h e m n w f p i j κs a (Ok None) s
+    → g'.holds a.0.now.sink held
+    → IsKeptFor (goes_back a.0.now.notes) (seen g'.refusals a.0.now held)
+    → s.0.now.core.position ≡ Awaits sect block part → ⊥
+session_taken_back_at_the_end S R L W P LS LR LL LW LP g d g' d' h e m n w f p i j κs a s held sect
+    block part l holds kept waits =
+    let (ends, (parts, has, is, keeps)) = l.ok.ends held holds kept in
+    absurd (let e = ends.wanted ∙ ap (λ (z : Seen). want_at z.place.file z.place.position) is
+    ∙ ap (want_at s.0.now.core.file) waits in cc e)
 
 -- ---- what is on reels
 

@@ -14,6 +14,9 @@ use Rattle.tape_image.proofs.Uniqueness.{Begins-one}
 use Rattle.tape_image.proofs.Walks.{Walks-nil, TakesFault-begins}
 use Rattle.tape_set.specs.declared.position.Position.{Position}
 use Rattle.tape_set.specs.declared.position.Position.TheVariants.{Awaits, Finished}
+use Rattle.tape_blocks.specs.Block.{Portion}
+use Rattle.tape_core.proofs.Crashes.{or_nothing}
+use Rattle.tape_core.specs.Point.{Point}
 use Rattle.tape_core.specs.declared.answer.Answer.TheVariants.{SectionDone, Complete, Useless}
 use Rattle.tape_core.specs.declared.answer.Reason.TheVariants.{NotLabelled}
 use Rattle.tape_core.specs.State.{State}
@@ -222,3 +225,13 @@ reads_on_after_final_answer S R LS LR g d h e κs a answer s set_id bytes end st
     = subst (λ v. ReadsReel (mount_of v) bytes [] answer) p c in
     second_stays set_id bytes r.items answer end stop (omega (arith, eight)) begins none r.on
     r.ended
+
+-- saved_inside_a_reel: while a reel is read a checkpoint is kept, and a crash then brings it back
+saved_inside_a_reel : (S : _) (R : _) (LS : _) (LR : _) (g : _) (d : _) (h : _) (e : _) (κs : _)
+    (a : _) (z : _) (s : _) (held there : List Portion) (back : Point)
+    → reel.Learnt-named S R LS LR g d h e κs a z s → g.holds a.0.now.sink held
+    → (g.crashes s.0.now.sink).returned (g.crashes a.0.now.sink).moment back there
+    → ((g.crashes a.0.now.sink).returned (g.crashes a.0.now.sink).moment back there → ⊥) → ⊥
+saved_inside_a_reel S R LS LR g d h e κs a z s held there back l was came before =
+    before (or_nothing ((l.crash held was).since (g.crashes a.0.now.sink).moment back there
+    (omega arith) came))

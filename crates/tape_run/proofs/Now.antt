@@ -56,15 +56,14 @@ extracted_now {S} {L} {R} {crashes} holds refusals size gives remaining old mid 
 pub stops_reading_now : {S L R O : Type 0} {crashes : S → Crashes}
     (holds : S → List Portion → Type 0)
     (refusals : S → ℕ) (size : L → ℕ) (gives : Mounting L R) (remaining : R → Option (List ℕ))
-    (old : Story S) (shelf left : L) (form : Form) (tells : Type 0)
+    (old new : Story S) (shelf left : L) (form : Form) (tells : Type 0)
     (stands : O → Option (List ℕ)) (out : O) (said says : Option (List ℕ))
-    → StopsReading holds refusals crashes (size shelf) 0 gives remaining false old shelf
-    left said says
+    → StopsReading holds refusals crashes (size shelf) 0 gives remaining false old new
+    shelf left said says
     → StopsNow holds refusals size gives remaining old shelf left form tells stands out out said
     says
-stops_reading_now {S} {L} {R} {O} {crashes} holds refusals size gives remaining old shelf
-    left form tells stands out said
-    says s =
+stops_reading_now {S} {L} {R} {O} {crashes} holds refusals size gives remaining old new
+    shelf left form tells stands out said says s =
     record {
       turns = s.turns;
       are_turns = s.are_turns;
@@ -74,13 +73,8 @@ stops_reading_now {S} {L} {R} {O} {crashes} holds refusals size gives remaining 
       want = None;
       records = 0;
       lines = front_more said says _ (last_line None 0) s.lines;
-      follows = λ held was. let (core, now, f, stood) = s.follows held was tt in (
-        core,
-        now,
-        f,
-        inl
-            refl,
-      );
+      follows = λ held was.
+          let (core, now, f, leaves) = s.follows held was tt in (core, now, f, inl refl);
     }
 
 pub stops_at_end_now : {S L R O : Type 0} {crashes : S → Crashes}

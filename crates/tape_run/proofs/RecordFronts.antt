@@ -62,8 +62,8 @@ each_with (q ∷ ps) p (was, each) e = (was, each_with ps p each e)
 -- ---- a walk that writes them
 
 -- The first parts, each of which ends a record, were written, and the others are still to come.
-pub record Fronts (form : Form) (ahead : List Portion → Type 0) (count : ℕ) (old new : Option (List ℕ))
-    (parts : List Portion) : Type 0 where
+pub record Fronts (form : Form) (ahead : List Portion → Type 0) (count : ℕ)
+    (old new : Option (List ℕ)) (parts : List Portion) : Type 0 where
   pub first : List Portion
   pub rest : List Portion
   pub are : parts ≡ first ++ rest
@@ -103,7 +103,8 @@ front_goes_on form ahead after count next old mid new parts part f gives e wrote
     let more : ends f.rest ≡ ends rest + 1 =
     ap ends is ∙ ap (λ b. with_end b (ends rest)) e in
     let few = f.few in
-    let long : length (f.first ++ p ∷ []) ≡ length f.first + 1 = omega (arith, length-append f.first (p ∷ [])) in
+    let long : length (f.first ++ p ∷ []) ≡ length f.first + 1 =
+    omega (arith, length-append f.first (p ∷ [])) in
     let counted = f.counted in
     record {
       first = f.first ++ p ∷ [];
@@ -111,7 +112,8 @@ front_goes_on form ahead after count next old mid new parts part f gives e wrote
       are = f.are ∙ ap (λ t. f.first ++ t) is ∙ sym (append_assoc f.first (p ∷ []) rest);
       is_ahead = there;
       each = each_with f.first p f.each e;
-      counted = long ∙ sym (counts (omega (arith, few, more, counted)) ∙ ap (λ n. n + 1) (sym counted));
+      counted = long ∙ sym (counts (omega (arith, few, more, counted))
+          ∙ ap (λ n. n + 1) (sym counted));
       wrote = subst (Appends old new) (ap (λ t. output_of form f.first ++ t) (sym one)
           ∙ sym (front_text form f.first (p ∷ []) f.each))
           (Appends-trans old mid new (output_of form f.first) (part_text form p) f.wrote wrote);
@@ -226,4 +228,5 @@ pass_goes_on ahead after left next rest given p some e gives =
 
 pub pass_ends : (ahead : List Portion → Type 0) (left : ℕ) (rest : List Portion)
     → Passes ahead left rest → left ≡ 0 → ahead rest
-pass_ends ahead left rest p e = subst (λ b. ahead (b ++ rest)) (nil_from_length p.before (p.counted ∙ e)) p.is_ahead
+pass_ends ahead left rest p e =
+    subst (λ b. ahead (b ++ rest)) (nil_from_length p.before (p.counted ∙ e)) p.is_ahead

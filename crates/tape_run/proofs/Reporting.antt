@@ -1,7 +1,7 @@
 -- What of a report was written, and what of it comes next.
 use Rattle.std.proofs.Common.{◌≡◌, inl, inr, ℕ, ◌+◌, ◌-◌, ◌<◌, suc, Bool, List}
 use Rattle.std.proofs.Common.{[], ◌∷◌, ◌++◌, length, map, take, drop, get_or, Option, option_map}
-use Rattle.std.proofs.Common.{Result, Ok, Err, IfOk, OnErr, refl, sym, ap, subst, ◌∙◌}
+use Rattle.std.proofs.Common.{Result, Ok, Err, IfOk, OnOk, OnErr, refl, sym, ap, subst, ◌∙◌}
 use Rattle.std.proofs.Common.{arith, append_assoc, append-nil, length-append}
 use Rattle.std.specs.List.{flat_map}
 use Rattle.std.specs.Io.KnownBytes.{Appends}
@@ -285,6 +285,11 @@ pub if_ok : {T E : Type 0} (r : Result T E) (P Q : T → Type 0) → IfOk r P
     → ((x : T) → P x → Q x) → IfOk r Q
 if_ok (Ok x) P Q p f = f x p
 if_ok (Err e) P Q p f = tt
+
+pub if_ok_both : {T E : Type 0} (r : Result T E) (P Q : T → Type 0) (C : Type 0) → IfOk r P
+    → OnOk r C → ((x : T) → P x → C → Q x) → IfOk r Q
+if_ok_both (Ok x) P Q C h d f = f x h d
+if_ok_both (Err e) P Q C h d f = tt
 
 pub if_err : {T E : Type 0} (r : Result T E) (P Q : Type 0) → OnErr r P → (P → Q) → OnErr r Q
 if_err (Ok x) P Q p f = tt

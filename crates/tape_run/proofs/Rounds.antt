@@ -251,19 +251,19 @@ takes_rounds {S} {L} {R} {crashes} holds refusals size count before gives remain
 pub stops_round : {S L R : Type 0} {crashes : S → Crashes}
     (holds : S → List Portion → Type 0) (refusals : S → ℕ)
     (size count before : ℕ) (gives : Mounting L R) (remaining : R → Option (List ℕ)) (back : Bool)
-    (old mid : Story S) (shelf between left : L) (said told says : Option (List ℕ))
+    (old mid new : Story S) (shelf between left : L) (said told says : Option (List ℕ))
     (rounds : List Round) → count ≡ size → before ≡ length (turns_of rounds)
     → HasGone holds refusals crashes count gives remaining back old mid shelf between said
     told rounds
-    → StopsReading holds refusals crashes count before gives remaining back mid between
-    left told says
-    → StopsInRound holds refusals crashes size gives remaining back old shelf left said
+    → StopsReading holds refusals crashes count before gives remaining back mid new
+    between left told says
+    → StopsInRound holds refusals crashes size gives remaining back old new shelf left said
     says
 stops_round {S} {L} {R} {crashes} holds refusals size count before gives remaining back
-    old mid shelf between left said
+    old mid new shelf between left said
     told says rounds all lines h stopped =
-    subst (λ n. StopsInRound holds refusals crashes n gives remaining back old shelf left
-    said says) all
+    subst (λ n. StopsInRound holds refusals crashes n gives remaining back old new shelf
+    left said says) all
     (record {
       rounds = rounds;
       mid = mid;
@@ -271,7 +271,7 @@ stops_round {S} {L} {R} {crashes} holds refusals size count before gives remaini
       told = told;
       gone = h;
       last = subst (λ n. StopsReading holds refusals crashes count n gives remaining back
-          mid between left
+          mid new between left
           told says) lines stopped;
     })
 

@@ -18,10 +18,9 @@ use Rattle.tape_set.specs.Lawful.{IsLawful}
 use Rattle.tape_core.specs.declared.answer.Answer.TheVariants.{SectionDone, Useless}
 use Rattle.tape_core.specs.declared.answer.Reason.TheVariants.{BlockCount, Broken, BadItem}
 use Rattle.tape_core.specs.Crash.{Crashes, lost}
-use Rattle.tape_core.specs.Crash.{Crashes, lost}
 use Rattle.tape_core.specs.Place.{IsPlaced, rest_of}
 use Rattle.tape_core.specs.State.{State}
-use Rattle.tape_run.specs.Crash.{IsNoteOf, BringsLast, KeepsLast, is_saved}
+use Rattle.tape_run.specs.Crash.{IsNoteOf, BringsLast, KeepsLast, LeavesSaved, is_saved}
 use Rattle.tape_run.specs.Extracting.{IsWritten, Ends, Extracts, Stops}
 use Rattle.tape_run.specs.ExtractingNow.{IsPut, EndsNow, ExtractsNow, StopsNow, Takes, refused_by}
 use Rattle.tape_run.specs.Lead.{Lead, over_reel}
@@ -44,6 +43,7 @@ use Rattle.tape_run.specs.declared.script.Step.TheVariants.{Reel, Save, Restart}
 use Rattle.tape_core.specs.Point.{Point}
 use Rattle.tape_run.specs.Story.{Story}
 use Rattle.tape_core.specs.Stands.{weight_of}
+use Rattle.tape_core.specs.Table.{saved}
 use Rattle.tape_core.specs.Weight.{IsFront}
 
 -- ---- images one after another
@@ -155,19 +155,17 @@ abbrev pub Readers : Type 0
 Readers = List (Option Known)
 
 -- what `extract` says of such ones
-abbrev pub ExtractsListed : Listed → Readers → Readers → Form → Known → Known → Known → Known
-    → Option Want → Type 0
-ExtractsListed session shelf left form out written said says want =
+abbrev pub ExtractsListed : Listed → Listed → Readers → Readers → Form → Known → Known → Known
+    → Known → Option Want → Type 0
+ExtractsListed session behind shelf left form out written said says want =
     Extracts (λ s ps. s ≡ ps) (λ s. 0) (λ s. lost) length Took (λ r. r) session
-    shelf left form out written
-    said says want
+    behind shelf left form out written said says want
 
-abbrev pub StopsListed : Listed → Readers → Readers → Form → Known → Known → Known → Known → Type 0
-StopsListed session shelf left form out written said says =
-    Stops (λ s ps. s ≡ ps) (λ s. 0) (λ s. lost) length Took (λ r. r) session shelf
-    left form (λ w. w) out
-    written
-    said says
+abbrev pub StopsListed : Listed → Listed → Readers → Readers → Form → Known → Known → Known → Known
+    → Type 0
+StopsListed session behind shelf left form out written said says =
+    Stops (λ s ps. s ≡ ps) (λ s. 0) (λ s. lost) length Took (λ r. r) session behind
+    shelf left form (λ w. w) out written said says
 
 abbrev pub ExtractsListedNow : Listed → Readers → Readers → Form → Known → Known → Known
     → Option Want → Type 0
@@ -210,15 +208,21 @@ pub record CasesOfOutputs : Type 0 where
       → (e : Ends first old (Some o ∷ []) want records form out now)
       → Gathers (Some o ∷ []) old e.now
   -- images are left unread only where nothing is wanted, and each that was read has a line
-  pub left_unread : (session : Listed) (shelf left : Readers) (form : Form)
+  pub left_unread : (session behind : Listed) (shelf left : Readers) (form : Form)
       (out now said says : Known) (want : Option Want)
-      (e : ExtractsListed session shelf left form out now said says want)
+      (e : ExtractsListed session behind shelf left form out now said says want)
       → (length e.turns ≤ length shelf) × (length e.turns < length shelf → want ≡ None)
-  pub lines : (session : Listed) (shelf left : Readers) (form : Form)
+  pub lines : (session behind : Listed) (shelf left : Readers) (form : Form)
       (out now said says : Known) (want : Option Want)
-      (e : ExtractsListed session shelf left form out now said says want)
+      (e : ExtractsListed session behind shelf left form out now said says want)
       → Appends said says (reel_lines 1 (map answer_of e.turns) ++ last_line want e.records)
       × AreTurns Took (λ r. r) shelf 0 e.turns left
+  -- the session that is left stands where its images brought it, with the parts that were written
+  pub left_there : (session behind : Listed) (shelf left : Readers) (form : Form)
+      (out now said says : Known) (want : Option Want) → session.notes ≡ []
+      → ExtractsListed session behind shelf left form out now said says want
+      → (want ≡ want_at behind.core.file behind.core.position)
+      × ((records : ℕ) × IsWritten want records form out now behind.sink)
   pub left_unread_now : (session : Listed) (shelf left : Readers) (form : Form)
       (stands said says : Known) (want : Option Want)
       (e : ExtractsListedNow session shelf left form stands said says want)
@@ -229,9 +233,9 @@ pub record CasesOfOutputs : Type 0 where
       → Appends said says (reel_lines 1 (map answer_of e.turns) ++ last_line want e.records)
       × AreTurns Took (λ r. r) shelf 0 e.turns left
   -- a fault ends a report behind the line of at most one image more than those that were noted
-  pub one_line_more : (session : Listed) (shelf left : Readers) (form : Form)
+  pub one_line_more : (session behind : Listed) (shelf left : Readers) (form : Form)
       (out now said says : Known)
-      (s : StopsListed session shelf left form out now said says) → (length s.more ≤ 1)
+      (s : StopsListed session behind shelf left form out now said says) → (length s.more ≤ 1)
       × AppendsFront said says
       (reel_lines 1 (map answer_of s.turns ++ s.more) ++ last_line s.want s.records)
   pub one_line_more_now : (session : Listed) (shelf left : Readers) (form : Form)
@@ -240,16 +244,17 @@ pub record CasesOfOutputs : Type 0 where
       × AppendsFront said says
       (reel_lines 1 (map answer_of s.turns ++ s.more) ++ last_line s.want s.records)
   -- these are turns of the first of the images
-  pub stopped_turns : (session : Listed) (shelf left : Readers) (form : Form)
-      (out now said says : Known) (s : StopsListed session shelf left form out now said says)
+  pub stopped_turns : (session behind : Listed) (shelf left : Readers) (form : Form)
+      (out now said says : Known) (s : StopsListed session behind shelf left form out now said says)
       → (length s.turns ≤ length shelf) × AreFirstTurns Took (λ r. r) shelf s.turns left
   pub stopped_turns_now : (session : Listed) (shelf left : Readers) (form : Form)
       (out now said says : Known) (s : StopsListedNow session shelf left form out now said says)
       → (length s.turns ≤ length shelf) × AreFirstTurns Took (λ r. r) shelf s.turns left
   -- and nothing was done to the output, or the file is complete and a front of it was written
-  pub output_stopped : (session : Listed) (shelf left : Readers) (form : Form)
+  pub output_stopped : (session behind : Listed) (shelf left : Readers) (form : Form)
       (out now said says : Known)
-      → session.notes ≡ [] → StopsListed session shelf left form out now said says → (now ≡ out)
+      → session.notes ≡ [] → StopsListed session behind shelf left form out now said says
+      → (now ≡ out)
       ⊎ ((s : Seen) × (s.place.position ≡ Finished) × AppendsFront out now (output_of form s.parts))
   pub output_stopped_now : (session : Listed) (shelf left : Readers) (form : Form)
       (out now said says : Known)
@@ -336,13 +341,39 @@ pub record CasesOfSaved : Type 0 where
   pub goes_on : (old new : Story Point) (held now : List Portion)
       → KeepsLast (λ s. 0) (comes_since []) old held new now
       → (length old.notes ≤ length new.notes) × (old.sink.file ≤ new.sink.file)
-  -- what a session came to is a state of it
-  pub stood : (session : Story Point) (held ps : List Portion) (now : Seen) (c : Point)
-      → session.notes ≡ [] → now.notes ≡ c ∷ []
-      → StoodSaved (λ s parts. s.staged ≡ weight_of parts) (λ s. 0) (comes_now ps) session
-      held now
-      → (mid : Story Point) × (mid.sink ≡ c) × (now.place ≡ rest_of mid.core)
+  -- a session that stands so is there, and its sink holds these parts
+  pub stood : (old new : Story Point) (held ps : List Portion) (now : Seen) (c : Point)
+      → old.notes ≡ [] → now.notes ≡ c ∷ []
+      → StoodSaved (λ s parts. s.staged ≡ weight_of parts) (λ s. 0) (comes_now ps) old held
+      new now
+      → (new.sink ≡ c) × (now.place ≡ rest_of new.core)
       × IsFront ps now.parts × (c.staged ≡ weight_of now.parts)
+  -- at a fault nothing comes back but the note made on the way, or where the session stands
+  pub left_at_a_fault : (old new : Story Point) (held ps : List Portion) (now : Seen) (c : Point)
+      → old.notes ≡ [] → now.notes ≡ c ∷ []
+      → LeavesSaved (λ s parts. s.staged ≡ weight_of parts) (λ s. 0) (comes_now ps) old held
+      now new
+      → ((new.sink ≡ c) × IsFront ps now.parts)
+      ⊎ ((new.sink.staged ≡ weight_of ps) × IsFront now.parts ps
+      × (new.sink ≡ saved (rest_of new.core) (weight_of ps)))
+  pub alone_at_a_fault : (old new : Story Point) (held ps : List Portion) (now : Seen) (c : Point)
+      → old.notes ≡ c ∷ [] → now.notes ≡ c ∷ [] → old.sink ≡ c → IsFront ps held
+      → weight_of ps ≡ c.staged
+      → LeavesSaved (λ s parts. ⊥) (λ s. 0) (comes_now ps) old held now new → new.sink ≡ c
+  pub survives_a_fault : (old new : Story Point) (held : List Portion) (now : Seen)
+      → LeavesSaved (λ s parts. ⊥) (λ s. 0) (comes_now []) old held now new
+      → old.sink.position ≡ Finished → new.sink.position ≡ Finished
+  pub alone_up_to_a_fault : (old new : Story Point) (held ps : List Portion) (now : Seen)
+      (c : Point) (t : ℕ) → old.notes ≡ c ∷ [] → now.notes ≡ c ∷ [] → old.sink ≡ c
+      → IsFront ps held → weight_of ps ≡ c.staged → t ≤ old.sink.file
+      → LeavesSaved (λ s parts. ⊥) (λ s. 0) (comes_since ps) old held now new → new.sink ≡ c
+  pub survived_a_fault : (old new : Story Point) (held : List Portion) (now : Seen) (t : ℕ)
+      → t ≤ old.sink.file
+      → LeavesSaved (λ s parts. ⊥) (λ s. 0) (comes_since []) old held now new
+      → old.sink.position ≡ Finished → new.sink.position ≡ Finished
+  pub no_fewer_at_a_fault : (old new : Story Point) (held : List Portion) (now : Seen)
+      → LeavesSaved (λ s parts. ⊥) (λ s. 0) (comes_since []) old held now new
+      → length old.notes ≤ length now.notes
   -- whether nothing but reels was read since the last save
   pub read_since : is_saved false (Reel ∷ Save ∷ Reel ∷ []) ≡ true
   pub went_back_since : is_saved true (Save ∷ Restart 0 ∷ Reel ∷ []) ≡ false

@@ -21,19 +21,17 @@ use Rattle.tape_run.specs.Rounds.{BroughtSomething, IsEnough, FollowsRounds, Goe
 use Rattle.tape_run.specs.Seen.{Seen, seen}
 
 -- what `extract` says where it goes round readers in a list
-abbrev pub AgainListed : Listed → Readers → Readers → Form → Known → Known → Known → Known
+abbrev pub AgainListed : Listed → Listed → Readers → Readers → Form → Known → Known → Known → Known
     → Option Want → Type 0
-AgainListed session shelf left form out written said says want =
+AgainListed session behind shelf left form out written said says want =
     ExtractsAgain (λ s ps. s ≡ ps) (λ s. 0) (λ s. lost) length Took (λ r. r)
-    session shelf left form out
-    written said says want
+    session behind shelf left form out written said says want
 
-abbrev pub StopsAgainListed : Listed → Readers → Readers → Form → Known → Known → Known → Known
-    → Type 0
-StopsAgainListed session shelf left form out written said says =
+abbrev pub StopsAgainListed : Listed → Listed → Readers → Readers → Form → Known → Known → Known
+    → Known → Type 0
+StopsAgainListed session behind shelf left form out written said says =
     StopsAgain (λ s ps. s ≡ ps) (λ s. 0) (λ s. lost) length Took (λ r. r) session
-    shelf left form (λ w. w) out
-    written said says
+    behind shelf left form (λ w. w) out written said says
 
 -- of rounds
 pub record CasesOfRounds : Type 0 where
@@ -82,33 +80,34 @@ pub record CasesOfRounds : Type 0 where
       → AppendsFront said says (last_line s.want s.records) × ((now ≡ out)
       ⊎ ((session.core.position ≡ Finished) × AppendsFront out now (output_of form session.sink)))
   -- the lines are those of all rounds, counted on
-  pub again : (session : Listed) (shelf left : Readers) (form : Form)
+  pub again : (session behind : Listed) (shelf left : Readers) (form : Form)
       (out now said says : Known) (want : Option Want)
-      (e : AgainListed session shelf left form out now said says want)
+      (e : AgainListed session behind shelf left form out now said says want)
       → Appends said says
       (reel_lines 1 (map answer_of (turns_of e.rounds ++ e.turns)) ++ last_line want e.records)
       × AreRounds Took (λ r. r) shelf e.rounds e.between
       × AreTurns Took (λ r. r) e.between 0 e.turns left
       × BroughtSomething (length shelf) session.core e.rounds
-  pub again_left : (session : Listed) (shelf left : Readers) (form : Form)
+  pub again_left : (session behind : Listed) (shelf left : Readers) (form : Form)
       (out now said says : Known) (want : Option Want)
-      (e : AgainListed session shelf left form out now said says want)
+      (e : AgainListed session behind shelf left form out now said says want)
       → (length e.turns ≤ length shelf) × (length e.turns < length shelf → want ≡ None)
       × IsEnough (length shelf) (length (turns_of e.rounds))
       (wanted (core_behind session.core e.rounds)) want
   -- over all rounds the session ended as over one row of images
-  pub again_ends : (session : Listed) (shelf left : Readers) (form : Form)
+  pub again_ends : (session behind : Listed) (shelf left : Readers) (form : Form)
       (out now said says : Known) (want : Option Want)
-      (e : AgainListed session shelf left form out now said says want)
+      (e : AgainListed session behind shelf left form out now said says want)
       → IsKeptFor (goes_back session.notes)
       (seen {S = List Portion} (λ s. 0) session session.sink)
       → (x : Ends session.core (seen {S = List Portion} (λ s. 0) session session.sink)
       (turns_of e.rounds ++ e.turns) want e.records form out now)
       × GoesRound (goes_back session.notes) session.core
       (seen {S = List Portion} (λ s. 0) session session.sink) e.rounds e.turns x.last x.now
-  pub again_stopped : (session : Listed) (shelf left : Readers) (form : Form)
+      × (x.now ≡ seen {S = List Portion} (λ s. 0) behind behind.sink)
+  pub again_stopped : (session behind : Listed) (shelf left : Readers) (form : Form)
       (out now said says : Known)
-      (s : StopsAgainListed session shelf left form out now said says) → (length s.more ≤ 1)
+      (s : StopsAgainListed session behind shelf left form out now said says) → (length s.more ≤ 1)
       × (length s.turns ≤ length shelf) × AreRounds Took (λ r. r) shelf s.rounds s.between
       × AreFirstTurns Took (λ r. r) s.between s.turns left
       × BroughtSomething (length shelf) session.core s.rounds
@@ -116,9 +115,9 @@ pub record CasesOfRounds : Type 0 where
       (reel_lines 1 (map answer_of (turns_of s.rounds ++ s.turns) ++ s.more)
       ++ last_line s.want s.records)
   -- and nothing was done to the output, or the file is complete and a front of it was written
-  pub again_output : (session : Listed) (shelf left : Readers) (form : Form)
+  pub again_output : (session behind : Listed) (shelf left : Readers) (form : Form)
       (out now said says : Known)
-      (s : StopsAgainListed session shelf left form out now said says)
+      (s : StopsAgainListed session behind shelf left form out now said says)
       → IsKeptFor (goes_back session.notes)
       (seen {S = List Portion} (λ s. 0) session session.sink)
       → (last : State) × (x : Seen) × GoesRound (goes_back session.notes) session.core

@@ -2,7 +2,8 @@
 use Rattle.std.specs.Prelude.{◌≡◌, ◌⊎◌, ℕ, ◌+◌, ◌≤◌, List, [], ◌∷◌, length, Option, Some}
 use Rattle.std.specs.Prelude.{None, slice_get, ⊤, Bool, true, false}
 use Rattle.tape_blocks.specs.Block.{Portion}
-use Rattle.tape_core.specs.Crash.{Crashes, Returns}
+use Rattle.tape_core.specs.Crash.{Returns, Crashes, AddsNothing, AddsOnly}
+use Rattle.tape_core.specs.Place.{rest_of}
 use Rattle.tape_core.specs.Point.{Point}
 use Rattle.tape_core.specs.Stands.{weight_of}
 use Rattle.tape_core.specs.Table.{saved}
@@ -26,10 +27,14 @@ IsNoteOf n s back there = (slice_get s.notes n ≡ Some back) × IsFront there s
 abbrev pub IsNoted : Seen → Point → List Portion → Type 0
 IsNoted s back there = (n : ℕ) × IsNoteOf n s back there
 
+-- the note of the session that was made last, with its parts
+abbrev pub IsLast : Seen → Point → List Portion → Type 0
+IsLast s back there = (n : ℕ) × (length s.notes ≡ n + 1) × IsNoteOf n s back there
+
 -- Nothing comes back but the note that was made last, with its parts.
 abbrev pub BringsLast : Returns → Seen → Type 0
 BringsLast returns s = (back : Point) (there : List Portion) → returns back there
-    → (n : ℕ) × (length s.notes ≡ n + 1) × IsNoteOf n s back there
+    → IsLast s back there
 
 -- Nothing comes back but the note that was made last, where it was made on the way or nothing but
 -- the note made last came back before; where none was made on the way nothing else came back since
@@ -48,6 +53,52 @@ pub record KeepsLast {S : Type 0} (refusals : S → ℕ) (crashes : S → Crashe
       → BringsLast ((crashes new.sink).returned t) (seen refusals new now)
   pub survived : (t : ℕ) → t ≤ (crashes old.sink).moment
       → (crashes old.sink).survived t → (crashes new.sink).survived t
+
+-- where the session stands, with all that its sink holds: these parts, and perhaps more
+abbrev pub IsHeld : {S : Type 0} → (S → List Portion → Type 0) → List Portion → Story S → Point
+    → List Portion → Type 0
+IsHeld holds parts s back there = holds s.sink there × IsFront parts there
+    × (back ≡ saved (rest_of s.core) (weight_of there))
+
+-- A step was not made: nothing more comes back than before it, but where the session stands then,
+-- and of one that goes back the note that it made last.
+abbrev pub LeavesStep : {S : Type 0} → (S → List Portion → Type 0) → (S → ℕ) → (S → Crashes)
+    → Bool → Story S → List Portion → Story S → Type 0
+LeavesStep holds refusals crashes goes old held new =
+    AddsOnly (λ back there. ((goes ≡ true) × IsLast (seen refusals old held) back there)
+    ⊎ IsHeld holds held new back there) (crashes old.sink) (crashes new.sink)
+
+-- A fault came behind this: nothing comes back but the note that was made last then, where it was
+-- made on the way or nothing but the note made last came back before, or where the session stands
+-- now; where none was made on the way nothing else came back since a moment, if nothing else had up
+-- to here; and where something came back whatever a crash leaves it does so still, and did at each
+-- moment on the way.
+pub record LeavesSaved {S : Type 0} (holds : S → List Portion → Type 0) (refusals : S → ℕ)
+    (crashes : S → Crashes) (old : Story S) (held : List Portion) (now : Seen) (new : Story S)
+    : Type 0 where
+  pub comes : (length now.notes ≡ length old.notes
+      → BringsLast (crashes old.sink).returns (seen refusals old held))
+      → (back : Point) (there : List Portion) → (crashes new.sink).returns back there
+      → IsLast now back there ⊎ IsHeld holds now.parts new back there
+  pub survives : (crashes old.sink).survives → (crashes new.sink).survives
+  pub no_fewer : length old.notes ≤ length now.notes
+  pub since : (t : ℕ) → t ≤ (crashes old.sink).moment → length now.notes ≡ length old.notes
+      → BringsLast ((crashes old.sink).returned t) (seen refusals old held)
+      → (back : Point) (there : List Portion) → (crashes new.sink).returned t back there
+      → IsLast now back there ⊎ IsHeld holds now.parts new back there
+  pub survived : (t : ℕ) → t ≤ (crashes old.sink).moment
+      → (crashes old.sink).survived t → (crashes new.sink).survived t
+
+-- The session is where it was, and only its sink may be another: one that holds what it held, and
+-- of which a crash brings back no more.
+pub record IsWalked {S : Type 0} (holds : S → List Portion → Type 0) (crashes : S → Crashes)
+    (old new : Story S) : Type 0 where
+  pub core : new.core ≡ old.core
+  pub notes : new.notes ≡ old.notes
+  pub failures : new.failures ≡ old.failures
+  pub kept : (parts : List Portion) → holds old.sink parts → holds new.sink parts
+  pub crash : (parts : List Portion) → holds old.sink parts
+      → AddsNothing (crashes old.sink) (crashes new.sink)
 
 -- whether nothing but reels was read behind the save made last, where that was so before or not
 abbrev pub is_saved : Bool → List Step → Bool

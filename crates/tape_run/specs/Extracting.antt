@@ -9,6 +9,7 @@ use Rattle.tape_set.specs.declared.position.Want.{Want}
 use Rattle.tape_set.specs.Position.{want_at}
 use Rattle.tape_core.specs.Crash.{Crashes}
 use Rattle.tape_core.specs.State.{State}
+use Rattle.tape_run.specs.Crash.{LeavesSaved}
 use Rattle.tape_run.specs.declared.answer.ReelAnswer.{ReelAnswer}
 use Rattle.tape_run.specs.Seen.{Seen, seen}
 use Rattle.tape_run.specs.Story.{Story}
@@ -68,7 +69,7 @@ pub record StopsAtEnd {S W : Type 0} (holds : S → List Portion → Type 0) (se
 -- session that the sink's parts belong to ended so.
 pub record Extracts {S L R : Type 0} (holds : S → List Portion → Type 0) (refusals : S → ℕ)
     (crashes : S → Crashes)
-    (size : L → ℕ) (gives : Mounting L R) (remaining : R → Option (List ℕ)) (session : Story S)
+    (size : L → ℕ) (gives : Mounting L R) (remaining : R → Option (List ℕ)) (old new : Story S)
     (shelf left : L) (form : Form) (out written said says : Option (List ℕ)) (want : Option Want)
     : Type 0 where
   pub turns : List Turn
@@ -77,17 +78,17 @@ pub record Extracts {S L R : Type 0} (holds : S → List Portion → Type 0) (re
   pub all : length turns < size shelf → want ≡ None
   pub records : ℕ
   pub lines : Appends said says (reel_lines 1 (map answer_of turns) ++ last_line want records)
-  pub ends : (held : List Portion) → holds session.sink held
-      → IsKeptFor (goes_back session.notes) (seen refusals session held)
-      → (e : Ends session.core (seen refusals session held) turns want records form out written)
-      × StoodSaved holds refusals crashes session held e.now
+  pub ends : (held : List Portion) → holds old.sink held
+      → IsKeptFor (goes_back old.notes) (seen refusals old held)
+      → (e : Ends old.core (seen refusals old held) turns want records form out written)
+      × StoodSaved holds refusals crashes old held new e.now
 
 -- A fault ended it: what was reported is a front of such a report, with the line of at most one
 -- image more than those that were read and noted, which are the first of the images; and nothing
 -- was done to the output, or the file is complete and a front of its records was written.
 pub record Stops {S L R W : Type 0} (holds : S → List Portion → Type 0) (refusals : S → ℕ)
     (crashes : S → Crashes)
-    (size : L → ℕ) (gives : Mounting L R) (remaining : R → Option (List ℕ)) (session : Story S)
+    (size : L → ℕ) (gives : Mounting L R) (remaining : R → Option (List ℕ)) (old new : Story S)
     (shelf left : L) (form : Form) (contents : W → Option (List ℕ)) (out written : W)
     (said says : Option (List ℕ)) : Type 0 where
   pub turns : List Turn
@@ -99,10 +100,10 @@ pub record Stops {S L R W : Type 0} (holds : S → List Portion → Type 0) (ref
   pub records : ℕ
   pub lines : AppendsFront said says
       (reel_lines 1 (map answer_of turns ++ more) ++ last_line want records)
-  pub follows : (held : List Portion) → holds session.sink held
-      → IsKeptFor (goes_back session.notes) (seen refusals session held)
+  pub follows : (held : List Portion) → holds old.sink held
+      → IsKeptFor (goes_back old.notes) (seen refusals old held)
       → (last : State) × (now : Seen)
-      × Follows (goes_back session.notes) session.core (seen refusals session held) turns last now
-      × StoodSaved holds refusals crashes session held now
+      × Follows (goes_back old.notes) old.core (seen refusals old held) turns last now
+      × LeavesSaved holds refusals crashes old held now new
       × ((written ≡ out) ⊎ ((now.place.position ≡ Finished)
       × AppendsFront (contents out) (contents written) (output_of form now.parts)))

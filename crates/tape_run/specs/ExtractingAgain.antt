@@ -7,6 +7,7 @@ use Rattle.tape_set.specs.declared.position.Position.TheVariants.{Finished}
 use Rattle.tape_set.specs.declared.position.Want.{Want}
 use Rattle.tape_core.specs.Crash.{Crashes}
 use Rattle.tape_core.specs.State.{State}
+use Rattle.tape_run.specs.Crash.{LeavesSaved}
 use Rattle.tape_run.specs.declared.answer.ReelAnswer.{ReelAnswer}
 use Rattle.tape_run.specs.Extracting.{Ends}
 use Rattle.tape_run.specs.Output.{AppendsFront}
@@ -25,29 +26,29 @@ use Rattle.tape_run.specs.Story.{Story}
 -- the file has; and over all rounds the session ended as over images that are named so often.
 pub record ExtractsAgain {S L R : Type 0} (holds : S → List Portion → Type 0) (refusals : S → ℕ)
     (crashes : S → Crashes)
-    (size : L → ℕ) (gives : Mounting L R) (remaining : R → Option (List ℕ)) (session : Story S)
+    (size : L → ℕ) (gives : Mounting L R) (remaining : R → Option (List ℕ)) (old new : Story S)
     (shelf left : L) (form : Form) (out written said says : Option (List ℕ)) (want : Option Want)
     : Type 0 where
   pub rounds : List Round
   pub between : L
   pub are_rounds : AreRounds gives remaining shelf rounds between
-  pub brought : BroughtSomething (size shelf) session.core rounds
+  pub brought : BroughtSomething (size shelf) old.core rounds
   pub turns : List Turn
   pub are_turns : AreTurns gives remaining between 0 turns left
   pub most : length turns ≤ size shelf
   pub all : length turns < size shelf → want ≡ None
   pub enough : IsEnough (size shelf) (length (turns_of rounds))
-      (wanted (core_behind session.core rounds)) want
+      (wanted (core_behind old.core rounds)) want
   pub records : ℕ
   pub lines : Appends said says
       (reel_lines 1 (map answer_of (turns_of rounds ++ turns)) ++ last_line want records)
-  pub ends : (held : List Portion) → holds session.sink held
-      → IsKeptFor (goes_back session.notes) (seen refusals session held)
-      → (e : Ends session.core (seen refusals session held) (turns_of rounds ++ turns) want records
+  pub ends : (held : List Portion) → holds old.sink held
+      → IsKeptFor (goes_back old.notes) (seen refusals old held)
+      → (e : Ends old.core (seen refusals old held) (turns_of rounds ++ turns) want records
       form out written)
-      × GoesRound (goes_back session.notes) session.core (seen refusals session held) rounds turns
+      × GoesRound (goes_back old.notes) old.core (seen refusals old held) rounds turns
       e.last e.now
-      × StoodSaved holds refusals crashes session held e.now
+      × StoodSaved holds refusals crashes old held new e.now
 
 -- A fault ended it: what was reported is a front of such a report, with the line of at most one
 -- image more than those that were read and noted, which are those of whole rounds that brought
@@ -55,13 +56,13 @@ pub record ExtractsAgain {S L R : Type 0} (holds : S → List Portion → Type 0
 -- is complete and a front of its records was written.
 pub record StopsAgain {S L R W : Type 0} (holds : S → List Portion → Type 0) (refusals : S → ℕ)
     (crashes : S → Crashes)
-    (size : L → ℕ) (gives : Mounting L R) (remaining : R → Option (List ℕ)) (session : Story S)
+    (size : L → ℕ) (gives : Mounting L R) (remaining : R → Option (List ℕ)) (old new : Story S)
     (shelf left : L) (form : Form) (contents : W → Option (List ℕ)) (out written : W)
     (said says : Option (List ℕ)) : Type 0 where
   pub rounds : List Round
   pub between : L
   pub are_rounds : AreRounds gives remaining shelf rounds between
-  pub brought : BroughtSomething (size shelf) session.core rounds
+  pub brought : BroughtSomething (size shelf) old.core rounds
   pub turns : List Turn
   pub are_turns : AreFirstTurns gives remaining between turns left
   pub most : length turns ≤ size shelf
@@ -71,11 +72,11 @@ pub record StopsAgain {S L R W : Type 0} (holds : S → List Portion → Type 0)
   pub records : ℕ
   pub lines : AppendsFront said says
       (reel_lines 1 (map answer_of (turns_of rounds ++ turns) ++ more) ++ last_line want records)
-  pub follows : (held : List Portion) → holds session.sink held
-      → IsKeptFor (goes_back session.notes) (seen refusals session held)
+  pub follows : (held : List Portion) → holds old.sink held
+      → IsKeptFor (goes_back old.notes) (seen refusals old held)
       → (last : State) × (now : Seen)
-      × GoesRound (goes_back session.notes) session.core (seen refusals session held) rounds turns
+      × GoesRound (goes_back old.notes) old.core (seen refusals old held) rounds turns
       last now
-      × StoodSaved holds refusals crashes session held now
+      × LeavesSaved holds refusals crashes old held now new
       × ((written ≡ out) ⊎ ((now.place.position ≡ Finished)
       × AppendsFront (contents out) (contents written) (output_of form now.parts)))

@@ -19,7 +19,7 @@ use Rattle.tape_core.specs.Place.{IsPlaced, rest_of}
 use Rattle.tape_core.specs.Crash.{Crashes}
 use Rattle.tape_core.specs.Point.{Point}
 use Rattle.tape_run.specs.declared.answer.ReelAnswer.{ReelAnswer}
-use Rattle.tape_run.specs.Crash.{KeepsLast}
+use Rattle.tape_run.specs.Crash.{KeepsLast, LeavesSaved}
 use Rattle.tape_run.specs.Given.{is_device, IsGiven}
 use Rattle.tape_run.specs.Mount.{Happening, IsMountOf, after_mount}
 use Rattle.tape_run.specs.Lead.{Lead, over_reel}
@@ -281,20 +281,20 @@ abbrev pub IsReported : ℕ → Option (List ℕ) → Option (List ℕ) → Type
 IsReported number said says = (more : List (Option ReelAnswer)) × (length more ≤ 1)
     × AppendsFront said says (reel_lines number more)
 
--- The session came to this from where it began; and then a crash brought back nothing but the note
--- that it made last, where it made one on the way or that alone came back before.
+-- The session is here, and its sink holds these parts; and a crash brings back nothing but the note
+-- that it made last, where it made one since it was the old one or that alone came back before.
 abbrev pub StoodSaved : {S : Type 0} → (S → List Portion → Type 0) → (S → ℕ) → (S → Crashes)
-    → Story S → List Portion → Seen → Type 0
-StoodSaved holds refusals crashes session held now = (mid : Story _)
-    × (parts : List Portion) × holds mid.sink parts × (now ≡ seen refusals mid parts)
-    × KeepsLast refusals crashes session held mid parts
+    → Story S → List Portion → Story S → Seen → Type 0
+StoodSaved holds refusals crashes old held new now = (parts : List Portion)
+    × holds new.sink parts × (now ≡ seen refusals new parts)
+    × KeepsLast refusals crashes old held new parts
 
 -- Images were read in their order, and a fault ended that: a line was reported for each of them,
 -- and a front of one for one more. Those behind that one were not mounted.
 pub record StopsReading {S L R : Type 0} (holds : S → List Portion → Type 0) (refusals : S → ℕ)
     (crashes : S → Crashes)
     (size before : ℕ) (gives : Mounting L R) (remaining : R → Option (List ℕ)) (back : Bool)
-    (old : Story S) (shelf left : L) (said says : Option (List ℕ)) : Type 0 where
+    (old new : Story S) (shelf left : L) (said says : Option (List ℕ)) : Type 0 where
   pub turns : List Turn
   pub are_turns : AreFirstTurns gives remaining shelf turns left
   pub fewer : length turns < size
@@ -304,4 +304,4 @@ pub record StopsReading {S L R : Type 0} (holds : S → List Portion → Type 0)
   pub follows : (held : List Portion) → holds old.sink held
       → IsKeptFor back (seen refusals old held) → (core : State) × (now : Seen)
       × Follows back old.core (seen refusals old held) turns core now
-      × StoodSaved holds refusals crashes old held now
+      × LeavesSaved holds refusals crashes old held now new

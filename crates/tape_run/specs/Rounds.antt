@@ -103,7 +103,7 @@ pub record TakesRounds {S L R : Type 0} (holds : S → List Portion → Type 0) 
 pub record StopsInRound {S L R : Type 0} (holds : S → List Portion → Type 0) (refusals : S → ℕ)
     (crashes : S → Crashes)
     (size : ℕ) (gives : Mounting L R) (remaining : R → Option (List ℕ)) (back : Bool)
-    (old : Story S) (shelf left : L) (said says : Option (List ℕ)) : Type 0 where
+    (old new : Story S) (shelf left : L) (said says : Option (List ℕ)) : Type 0 where
   pub rounds : List Round
   pub mid : Story S
   pub between : L
@@ -111,5 +111,4 @@ pub record StopsInRound {S L R : Type 0} (holds : S → List Portion → Type 0)
   pub gone : HasGone holds refusals crashes size gives remaining back old mid shelf
       between said told rounds
   pub last : StopsReading holds refusals crashes size (length (turns_of rounds)) gives
-      remaining back mid
-      between left told says
+      remaining back mid new between left told says

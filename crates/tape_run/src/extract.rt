@@ -2,6 +2,8 @@
 ghost use Rattle.std.specs.Prelude.{◌≡◌, ◌≢◌, None, List, OnOk, IfOk, OnErr};
 ghost use Rattle.std.specs.Io.KnownBytes.{Appends};
 ghost use Rattle.tape_blocks.specs.Block.{Portion};
+ghost use Rattle.tape_core.specs.Crash.{AddsNothing};
+ghost use Rattle.tape_run.specs.Crash.{IsWalked};
 ghost use Rattle.tape_run.specs.Output.{AppendsFront};
 ghost use Rattle.tape_run.specs.Extracting.{Extracts, Stops, EndsFile, StopsAtEnd, IsWritten};
 ghost use Rattle.tape_run.specs.RecordText.{output_of};
@@ -42,7 +44,7 @@ use tape_set::Want;
 /// that are Broken for it, and nothing is gathered of them. Images behind the one that completes
 /// the file are not mounted. `out` is written and flushed where the file is complete, and else not
 /// touched; the report's last line comes behind that, and then the report is flushed. The session
-/// is dropped, with its sink.
+/// stays its caller's, with what was delivered to its sink.
 ///
 /// The only memory taken is that of the session, a buffer while a reel is read, and notes, and what
 /// mounting takes.
@@ -54,47 +56,47 @@ use tape_set::Want;
 /// `Sink(Failed)` where this gives fewer records than before; `WriteFailed` where `out` or the
 /// report failed. What was reported is a front of such a report. `out` was not touched, or the file
 /// is complete, and a front of its records was written.
-pub fn extract_to<S: PartWalk + Drop, R: Read + Drop, L: Shelf<R>, W: Write, P: Write>(
-    session: Session<S>,
+pub fn extract_to<S: PartWalk, R: Read + Drop, L: Shelf<R>, W: Write, P: Write>(
+    session: &mut Session<S>,
     images: &mut L,
     form: Form,
     out: &mut W,
     report: &mut P,
 ) -> Result<Option<Want>, EngineFault>
     ensures ok { IfOk result (Extracts S.holds S.refusals S.crashes L.size L.gives
-        R.remaining session images.old images.new form (W.contents out.old) (W.contents out.new)
-        (P.contents report.old) (P.contents report.new)) }
+        R.remaining session.old session.new images.old images.new form (W.contents out.old)
+        (W.contents out.new) (P.contents report.old) (P.contents report.new)) }
     // While something of the file is wanted `out` is not touched at all.
     ensures untouched { IfOk result (λ want. want ≢ None → out.new ≡ out.old) }
     ensures err { OnErr result (Stops S.holds S.refusals S.crashes L.size L.gives
-        R.remaining session images.old images.new form W.contents out.old out.new
+        R.remaining session.old session.new images.old images.new form W.contents out.old out.new
         (P.contents report.old) (P.contents report.new)) }
 {
-    let mut session = session;
-    let back = has_note(&session);
-    read_images(&mut session, images, back, report)?;
+    let back = has_note(session);
+    read_images(session, images, back, report)?;
     end_file(session, form, out, report)
 }
 
 /// Reports what is wanted of the session's file, or writes the file and reports that.
-fn end_file<S: PartWalk + Drop, W: Write, P: Write>(
-    session: Session<S>,
+fn end_file<S: PartWalk, W: Write, P: Write>(
+    session: &mut Session<S>,
     form: Form,
     out: &mut W,
     report: &mut P,
 ) -> Result<Option<Want>, EngineFault>
-    ensures ok { IfOk result (EndsFile S.holds session form (W.contents out.old)
+    ensures ok { IfOk result (EndsFile S.holds session.old form (W.contents out.old)
         (W.contents out.new) (P.contents report.old) (P.contents report.new)) }
     ensures untouched { IfOk result (λ want. want ≢ None → out.new ≡ out.old) }
-    ensures err { OnErr result (StopsAtEnd S.holds session form W.contents out.old out.new
+    ensures err { OnErr result (StopsAtEnd S.holds session.old form W.contents out.old out.new
         (P.contents report.old) (P.contents report.new)) }
+    ensures same { IsWalked S.holds S.crashes session.old session.new }
+    ensures calm { OnOk result (S.refusals session.new.sink ≡ S.refusals session.old.sink) }
 {
     if let Some(want) = session.want() {
         end_report(report, Some(want), 0)?;
         return Ok(Some(want));
     }
-    let mut sink = session.into_sink();
-    let records = write_file(&mut sink, form, out)?;
+    let records = session.write_file(form, out)?;
     end_report(report, None, records)?;
     Ok(None)
 }
@@ -135,6 +137,10 @@ pub fn write_file<S: PartWalk, W: Write>(
     ensures err { OnErr result ((parts : List Portion) → S.holds sink.old parts
         → AppendsFront (W.contents out.old) (W.contents out.new) (output_of form parts)) }
     ensures kept { (parts : List Portion) → S.holds sink.old parts → S.holds sink.new parts }
+    // Whatever it answered: a crash behind it brings back nothing that none before it could.
+    ensures crash { (parts : List Portion) → S.holds sink.old parts
+        → AddsNothing (S.crashes sink.old) (S.crashes sink.new) }
+    ensures calm { OnOk result (S.refusals sink.new ≡ S.refusals sink.old) }
 {
     let records = write_parts(sink, form, out)?;
     flush(out)?;

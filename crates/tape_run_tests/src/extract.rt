@@ -40,9 +40,9 @@ fn run<R: Read + Drop, W: Write, P: Write>(
     out: &mut W,
     report: &mut P,
 ) -> Result<Answer, Fail> {
-    let session = Session::new(alloc, set_id(), file, MemorySink::new(alloc))?;
+    let mut session = Session::new(alloc, set_id(), file, MemorySink::new(alloc))?;
     let mut shelf = shelf_of(alloc, images)?;
-    Ok(extract_to(session, &mut shelf, form, out, report))
+    Ok(extract_to(&mut session, &mut shelf, form, out, report))
 }
 
 /// The lines over these images, and what is written of the file.

@@ -53,7 +53,7 @@ fn gives<H: Abort + AllocGlobal>(
     let mut session = Session::new(rt.alloc(), set_id(), 1, MemorySink::new(rt.alloc()))?;
     session.note()?;
     let mut shelf = Kept { reels };
-    extract_again(session, &mut shelf, Form::Raw, &mut out, &mut report)?;
+    extract_again(&mut session, &mut shelf, Form::Raw, &mut out, &mut report)?;
     assert_eq!(rt; report.as_slice(), lines.as_bytes(), "{lines}");
     assert!(rt; out.len() == length, "{lines}");
     Ok(())
@@ -88,9 +88,9 @@ fn rounds_until_nothing_comes(rt: HostRuntime) -> Result<(), Fail> {
 fn reels_that_are_given_once(rt: HostRuntime) -> Result<(), Fail> {
     let two = bad_at(rt.alloc(), 2)?;
     let (mut report, mut out) = (Vec::new(rt.alloc()), Vec::new(rt.alloc()));
-    let session = Session::new(rt.alloc(), set_id(), 1, MemorySink::new(rt.alloc()))?;
+    let mut session = Session::new(rt.alloc(), set_id(), 1, MemorySink::new(rt.alloc()))?;
     let mut shelf = shelf_of(rt.alloc(), &mut [Some(two.bytes.as_slice())])?;
-    extract_again(session, &mut shelf, Form::Raw, &mut out, &mut report)?;
+    extract_again(&mut session, &mut shelf, Form::Raw, &mut out, &mut report)?;
     let lines = "REEL 1 BAD ITEM\nREEL 2 NOT OPENED\nAWAITS 1 1 1\n";
     assert_eq!(rt; report.as_slice(), lines.as_bytes(), "{lines}");
     Ok(())

@@ -36,7 +36,7 @@ fn gives<H: Abort + AllocGlobal>(
     let mut session = Session::new(rt.alloc(), set_id(), 1, MemorySink::new(rt.alloc()))?;
     session.note()?;
     let mut shelf = shelf_of(rt.alloc(), images)?;
-    let answer = extract_to(session, &mut shelf, Form::Lines, &mut out, &mut report)?;
+    let answer = extract_to(&mut session, &mut shelf, Form::Lines, &mut out, &mut report)?;
     assert_eq!(rt; report.as_slice(), lines.as_bytes(), "{lines}");
     assert!(rt; answer == want, "{lines}");
     assert!(rt; out.as_slice() == written, "{lines}");

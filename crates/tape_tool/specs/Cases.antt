@@ -17,7 +17,8 @@ use Rattle.tape_core.specs.Point.{Point}
 use Rattle.tape_writer.specs.declared.fault.WriteFault.{WriteFault}
 use Rattle.tape_writer.specs.declared.fault.WriteFault.TheVariants as writes
 use Rattle.tape_writer.specs.declared.system.fault.FileFault.{FileFault}
-use Rattle.tape_writer.specs.declared.system.fault.FileFault.TheVariants.{Exists, NotOpened, ReadFailed}
+use Rattle.tape_writer.specs.declared.system.fault.FileFault.TheVariants.{Exists, NotOpened}
+use Rattle.tape_writer.specs.declared.system.fault.FileFault.TheVariants.{ReadFailed}
 use Rattle.tape_writer.specs.declared.system.fault.FileFault.TheVariants.{WriteFailed}
 use Rattle.tape_writer.specs.declared.system.fault.SystemFault.TheVariants as system
 use Rattle.tape_run.specs.declared.fault.RunFault.{RunFault}

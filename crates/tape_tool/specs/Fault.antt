@@ -9,7 +9,8 @@ use Rattle.tape_run.specs.declared.fault.EngineFault.TheVariants as engine
 use Rattle.tape_run.specs.declared.fault.ListFault.{ListFault}
 use Rattle.tape_run.specs.declared.fault.ListFault.TheVariants as list
 use Rattle.tape_writer.specs.declared.system.fault.FileFault.{FileFault}
-use Rattle.tape_writer.specs.declared.system.fault.FileFault.TheVariants.{Exists, NotOpened, ReadFailed}
+use Rattle.tape_writer.specs.declared.system.fault.FileFault.TheVariants.{Exists, NotOpened}
+use Rattle.tape_writer.specs.declared.system.fault.FileFault.TheVariants.{ReadFailed}
 use Rattle.tape_writer.specs.declared.system.fault.FileFault.TheVariants.{WriteFailed}
 use Rattle.tape_tool.specs.declared.fault.ToolFault.{ToolFault}
 use Rattle.tape_tool.specs.declared.fault.ToolFault.TheVariants.{Image, Write, File, Run}

@@ -5,7 +5,7 @@ use std::io::Read;
 use std::test::Fail;
 use tape_blocks::Form;
 use tape_label::Field;
-use tape_run::{EngineFault, Step, read_file, write_file};
+use tape_run::{EngineFault, Step, read_file};
 
 /// What came of two readings.
 #[derive(Clone, Copy, PartialEq, Eq)]
@@ -27,8 +27,8 @@ fn lines_of<R: Read>(
     lines: &mut Vec<u8>,
 ) -> Result<Outcome, EngineFault> {
     match read_file(alloc, set_id, file, &[Step::Reel, Step::Reel], readings) {
-        Ok((session, Ok(()))) if session.want().is_none() => {
-            write_file(&mut session.into_sink(), Form::Lines, lines)?;
+        Ok((mut session, Ok(()))) if session.want().is_none() => {
+            session.write_file(Form::Lines, lines)?;
             Ok(Outcome::Written)
         }
         // Each step is a reading.

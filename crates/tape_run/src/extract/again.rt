@@ -25,25 +25,24 @@ use tape_set::Want;
 /// # Errors
 ///
 /// As those of `extract_to`.
-pub fn extract_again<S: PartWalk + Drop, R: Read + Drop, L: Shelf<R>, W: Write, P: Write>(
-    session: Session<S>,
+pub fn extract_again<S: PartWalk, R: Read + Drop, L: Shelf<R>, W: Write, P: Write>(
+    session: &mut Session<S>,
     images: &mut L,
     form: Form,
     out: &mut W,
     report: &mut P,
 ) -> Result<Option<Want>, EngineFault>
     ensures ok { IfOk result (ExtractsAgain S.holds S.refusals S.crashes L.size L.gives
-        R.remaining session images.old images.new form (W.contents out.old) (W.contents out.new)
-        (P.contents report.old) (P.contents report.new)) }
+        R.remaining session.old session.new images.old images.new form (W.contents out.old)
+        (W.contents out.new) (P.contents report.old) (P.contents report.new)) }
     // While something of the file is wanted `out` is not touched at all.
     ensures untouched { IfOk result (λ want. want ≢ None → out.new ≡ out.old) }
     ensures err { OnErr result (StopsAgain S.holds S.refusals S.crashes L.size L.gives
-        R.remaining session images.old images.new form W.contents out.old out.new
+        R.remaining session.old session.new images.old images.new form W.contents out.old out.new
         (P.contents report.old) (P.contents report.new)) }
 {
-    let mut session = session;
-    let back = has_note(&session);
-    read_rounds(&mut session, images, back, report)?;
+    let back = has_note(session);
+    read_rounds(session, images, back, report)?;
     end_file(session, form, out, report)
 }
 
@@ -59,7 +58,7 @@ fn read_rounds<S: PartSink, R: Read + Drop, L: Shelf<R>, P: Write>(
         images.old) L.gives R.remaining back session.old session.new images.old images.new
         (P.contents report.old) (P.contents report.new)) }
     ensures err { OnErr result (StopsInRound S.holds S.refusals S.crashes (L.size
-        images.old) L.gives R.remaining back session.old images.old images.new
+        images.old) L.gives R.remaining back session.old session.new images.old images.new
         (P.contents report.old) (P.contents report.new)) }
 {
     let count = images.count();

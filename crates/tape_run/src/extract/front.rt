@@ -3,6 +3,7 @@ ghost use Rattle.std.specs.Prelude.{◌≡◌, ◌++◌, List, length, OnOk, OnE
 ghost use Rattle.std.specs.Io.KnownBytes.{Appends};
 ghost use Rattle.tape_blocks.specs.Block.{Portion};
 ghost use Rattle.tape_blocks.specs.Spans.{join};
+ghost use Rattle.tape_core.specs.Crash.{AddsNothing};
 ghost use Rattle.tape_run.specs.Output.{AppendsFront};
 ghost use Rattle.tape_run.specs.RecordText.{output_of};
 ghost use Rattle.tape_run.specs.RecordFront.{EachEnds, WritesFront};
@@ -25,8 +26,8 @@ pub struct Front {
 /// Writes the records that the parts of the sink join to, and says how many there are. Of a record
 /// that is begun and not ended nothing is written.
 ///
-/// Parts that end no record are met in blocks of format S alone: the sink is walked once where there
-/// are none, and else counted before the rest is written.
+/// Parts that end no record are met in blocks of format S alone: the sink is walked once where
+/// there are none, and else counted before the rest is written.
 ///
 /// # Errors
 ///
@@ -42,6 +43,9 @@ pub fn write_parts<S: PartWalk, W: Write>(
     ensures err { OnErr result ((parts : List Portion) → S.holds sink.old parts
         → AppendsFront (W.contents out.old) (W.contents out.new) (output_of form parts)) }
     ensures kept { (parts : List Portion) → S.holds sink.old parts → S.holds sink.new parts }
+    ensures crash { (parts : List Portion) → S.holds sink.old parts
+        → AddsNothing (S.crashes sink.old) (S.crashes sink.new) }
+    ensures calm { OnOk result (S.refusals sink.new ≡ S.refusals sink.old) }
 {
     let front = write_front(sink, form, out)?;
     if front.all {
@@ -62,6 +66,9 @@ fn write_front<S: PartWalk, W: Write>(
     ensures err { OnErr result ((parts : List Portion) → S.holds sink.old parts
         → AppendsFront (W.contents out.old) (W.contents out.new) (output_of form parts)) }
     ensures kept { (parts : List Portion) → S.holds sink.old parts → S.holds sink.new parts }
+    ensures crash { (parts : List Portion) → S.holds sink.old parts
+        → AddsNothing (S.crashes sink.old) (S.crashes sink.new) }
+    ensures calm { OnOk result (S.refusals sink.new ≡ S.refusals sink.old) }
 {
     // No sink weighs more than its limit, so the count below stays far from a u64's greatest value.
     let _weight = sink.weight();
@@ -101,6 +108,9 @@ fn write_rest<S: PartWalk, W: Write>(
         → length first ≡ passed → EachEnds first
         → AppendsFront (W.contents out.old) (W.contents out.new) (output_of form rest)) }
     ensures kept { (parts : List Portion) → S.holds sink.old parts → S.holds sink.new parts }
+    ensures crash { (parts : List Portion) → S.holds sink.old parts
+        → AddsNothing (S.crashes sink.old) (S.crashes sink.new) }
+    ensures calm { OnOk result (S.refusals sink.new ≡ S.refusals sink.old) }
 {
     let records = match count_records(sink) {
         Ok(records) => records,
@@ -116,6 +126,9 @@ fn pass_parts<S: PartWalk>(sink: &mut S, count: u64) -> Result<(), EngineFault>
     ensures ok { OnOk result ((first rest : List Portion) → S.holds sink.old (first ++ rest)
         → length first ≡ count → S.ahead sink.new rest) }
     ensures kept { (parts : List Portion) → S.holds sink.old parts → S.holds sink.new parts }
+    ensures crash { (parts : List Portion) → S.holds sink.old parts
+        → AddsNothing (S.crashes sink.old) (S.crashes sink.new) }
+    ensures calm { OnOk result (S.refusals sink.new ≡ S.refusals sink.old) }
 {
     sink.rewind();
     let mut left = count;

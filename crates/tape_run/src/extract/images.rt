@@ -1,8 +1,9 @@
 //! Images read one after another, and a line reported for each.
-ghost use Rattle.std.specs.Prelude.{◌≡◌, ◌≢◌, ◌≤◌, ◌+◌, Some, List, OnOk, OnErr, true, false};
+ghost use Rattle.std.specs.Prelude.{◌≡◌, ◌≢◌, ◌≤◌, ◌+◌, Some, Bool, List, OnOk, OnErr, true};
+ghost use Rattle.std.specs.Prelude.{false};
 ghost use Rattle.tape_set.specs.declared.position.Position.TheVariants.{Finished};
 ghost use Rattle.tape_blocks.specs.Block.{Portion};
-ghost use Rattle.tape_run.specs.Crash.{KeepsLast};
+ghost use Rattle.tape_run.specs.Crash.{KeepsLast, LeavesStep};
 ghost use Rattle.tape_run.specs.Seen.{seen, IsKept};
 ghost use Rattle.tape_run.specs.Reeling.{Takes, TakesAll, StopsReading, IsReported};
 ghost use Rattle.tape_run.specs.Reeling.{is_doubtful, IsNoted, WentToLast, IsKeptFor};
@@ -28,7 +29,7 @@ pub fn read_images<S: PartSink, R: Read + Drop, L: Shelf<R>, P: Write>(
         L.gives R.remaining back session.old session.new images.old images.new
         (P.contents report.old) (P.contents report.new)) }
     ensures err { OnErr result (StopsReading S.holds S.refusals S.crashes (L.size
-        images.old) 0 L.gives R.remaining back session.old images.old images.new
+        images.old) 0 L.gives R.remaining back session.old session.new images.old images.new
         (P.contents report.old) (P.contents report.new)) }
 {
     let count = images.count();
@@ -49,7 +50,7 @@ pub fn read_round<S: PartSink, R: Read + Drop, L: Shelf<R>, P: Write>(
         R.remaining back session.old session.new images.old images.new
         (P.contents report.old) (P.contents report.new)) }
     ensures err { OnErr result (StopsReading S.holds S.refusals S.crashes count lines
-        L.gives R.remaining back session.old images.old images.new
+        L.gives R.remaining back session.old session.new images.old images.new
         (P.contents report.old) (P.contents report.new)) }
 {
     for number in 0..count {
@@ -76,6 +77,9 @@ fn take_image<S: PartSink, R: Read + Drop, P: Write>(
     ensures ok { OnOk result (Takes S.holds S.refusals S.crashes R.remaining back
         session.old session.new image number (P.contents report.old) (P.contents report.new)) }
     ensures err { OnErr result (IsReported number (P.contents report.old) (P.contents report.new)) }
+    ensures left { OnErr result ((held : List Portion) → S.holds session.old.sink held
+        → IsKeptFor back (seen S.refusals session.old held)
+        → LeavesStep S.holds S.refusals S.crashes back session.old held session.new) }
 {
     match image {
         Some(mut device) => take_reel(session, &mut device, number, back, report),
@@ -96,6 +100,9 @@ fn take_reel<S: PartSink, R: Read, P: Write>(
         session.old session.new (Some device.old) number
         (P.contents report.old) (P.contents report.new)) }
     ensures err { OnErr result (IsReported number (P.contents report.old) (P.contents report.new)) }
+    ensures left { OnErr result ((held : List Portion) → S.holds session.old.sink held
+        → IsKeptFor back (seen S.refusals session.old held)
+        → LeavesStep S.holds S.refusals S.crashes back session.old held session.new) }
 {
     let answer = session.reel(device)?;
     write_text(report, reel_line(number, Some(answer)).as_bytes())?;
@@ -116,6 +123,9 @@ fn settle<S: PartSink>(
         × IsNoted back (is_doubtful answer.now.answer) (seen S.refusals session.old held)
         (seen S.refusals session.new now)
         × KeepsLast S.refusals S.crashes session.old held session.new now) }
+    ensures left { OnErr result ((held : List Portion) → S.holds session.old.sink held
+        → IsKeptFor back (seen S.refusals session.old held)
+        → LeavesStep S.holds S.refusals S.crashes back session.old held session.new) }
 {
     if back && is_doubtful(answer) {
         return go_back(session);
@@ -130,6 +140,9 @@ fn go_back<S: PartSink>(session: &mut Session<S>) -> Result<(), RunFault>
         → (now : List Portion) × S.holds session.new.sink now
         × WentToLast (seen S.refusals session.old held) (seen S.refusals session.new now)
         × KeepsLast S.refusals S.crashes session.old held session.new now) }
+    ensures left { OnErr result ((held : List Portion) → S.holds session.old.sink held
+        → IsKept (seen S.refusals session.old held)
+        → LeavesStep S.holds S.refusals S.crashes true session.old held session.new) }
 {
     let notes = session.notes();
     if notes == 0 {
@@ -147,6 +160,9 @@ fn note<S: PartSink>(session: &mut Session<S>, answer: &ReelAnswer) -> Result<()
         × IsNoted false (is_doubtful answer.now.answer) (seen S.refusals session.old held)
         (seen S.refusals session.new now)
         × KeepsLast S.refusals S.crashes session.old held session.new now) }
+    ensures left { OnErr result ((back : Bool) (held : List Portion)
+        → S.holds session.old.sink held
+        → LeavesStep S.holds S.refusals S.crashes back session.old held session.new) }
 {
     if is_doubtful(answer) {
         return Ok(());

@@ -4,6 +4,7 @@ ghost use Rattle.std.specs.Io.KnownBytes.{Appends};
 ghost use Rattle.tape_blocks.specs.Block.{Portion};
 ghost use Rattle.tape_blocks.specs.Parts.{view};
 ghost use Rattle.tape_blocks.specs.Spans.{join};
+ghost use Rattle.tape_core.specs.Crash.{AddsNothing};
 ghost use Rattle.tape_run.specs.Output.{AppendsFront};
 ghost use Rattle.tape_run.specs.RecordText.{record_end, output_of, part_text};
 
@@ -22,6 +23,9 @@ pub fn count_records<S: PartWalk>(sink: &mut S) -> Result<u64, SinkFault>
     ensures count { IfOk result (λ count. (parts : List Portion) → S.holds sink.old parts
         → count ≡ length (join parts).records) }
     ensures kept { (parts : List Portion) → S.holds sink.old parts → S.holds sink.new parts }
+    ensures crash { (parts : List Portion) → S.holds sink.old parts
+        → AddsNothing (S.crashes sink.old) (S.crashes sink.new) }
+    ensures calm { OnOk result (S.refusals sink.new ≡ S.refusals sink.old) }
 {
     // No sink weighs more than its limit, so the count below stays far from a u64's greatest value.
     let _weight = sink.weight();
@@ -40,8 +44,8 @@ pub fn count_records<S: PartWalk>(sink: &mut S) -> Result<u64, SinkFault>
     }
 }
 
-/// Writes the records that the parts still to come join to, of which there are so many, by the form:
-/// up to the last part that ends one, and nothing of a record that is begun and not ended.
+/// Writes the records that the parts still to come join to, of which there are so many, by the
+/// form: up to the last part that ends one, and nothing of a record that is begun and not ended.
 ///
 /// # Errors
 ///
@@ -61,6 +65,9 @@ pub fn write_records<S: PartWalk, W: Write>(
         → records ≡ length (join parts).records
         → AppendsFront (W.contents out.old) (W.contents out.new) (output_of form parts)) }
     ensures kept { (parts : List Portion) → S.holds sink.old parts → S.holds sink.new parts }
+    ensures crash { (parts : List Portion) → S.holds sink.old parts
+        → AddsNothing (S.crashes sink.old) (S.crashes sink.new) }
+    ensures calm { OnOk result (S.refusals sink.new ≡ S.refusals sink.old) }
 {
     let mut left = records;
     'parts: while left > 0 {

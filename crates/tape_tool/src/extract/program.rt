@@ -229,10 +229,11 @@ fn written_to<R: Runtime + AllocGlobal, S: PartWalk + Drop, W: Write, P: Write>(
     session: Session<S>,
     out: &mut W,
 ) -> End {
+    let mut session = session;
     let answer = if task.again {
-        extract_again(session, images, task.form, out, report)
+        extract_again(&mut session, images, task.form, out, report)
     } else {
-        extract_to(session, images, task.form, out, report)
+        extract_to(&mut session, images, task.form, out, report)
     };
     extract_end(answer)
 }

@@ -6,7 +6,7 @@ use Rattle.tape_run.proofs.extract.end_file.Goals as goal
 
 pub returns-in_err-end_report-clause-err : goal.returns-in_err-end_report-clause-err
 returns-in_err-end_report-clause-err g c =
-    on_err _ _ (ends_in_part g.S.PartSink.holds c.args.session c.args.form g.W.Write.contents
+    on_err _ _ (ends_in_part g.S.PartSink.holds c.args.session.now c.args.form g.W.Write.contents
     c.args.out.now c.args.out.now _ _ (Some c.in-Some.want) 0 c.in_err-end_report.ensures.err
     (λ held was. inl refl))
 
@@ -20,27 +20,25 @@ returns-in-Some-clause-ok g c = record {
 
 pub returns-in_err-records-clause-err : goal.returns-in_err-records-clause-err
 returns-in_err-records-clause-err g c =
-    let none : None ≡ want_at c.args.session.core.file c.args.session.core.position =
+    let none : None ≡ want_at c.args.session.now.core.file c.args.session.now.core.position =
     search rules in
-    on_err _ _ (ends_in_part g.S.PartSink.holds c.args.session c.args.form g.W.Write.contents
+    on_err _ _ (ends_in_part g.S.PartSink.holds c.args.session.now c.args.form g.W.Write.contents
     c.args.out.now c.write_file.new.out _ _ None 0 (nothing_more _ _)
     (λ held was. inr (
-      none_finished c.args.session.core.file c.args.session.core.position none,
-      c.in_err-records.ensures.err held
-          (subst (λ s. g.S.PartSink.holds s held) (sym c.into_sink-sink.ensures) was),
+      none_finished c.args.session.now.core.file c.args.session.now.core.position none,
+      c.in_err-records.ensures.err held was,
     )))
 
 pub returns-in_err-end_report-2-clause-err : goal.returns-in_err-end_report-2-clause-err
 returns-in_err-end_report-2-clause-err g c =
-    let none : None ≡ want_at c.args.session.core.file c.args.session.core.position =
+    let none : None ≡ want_at c.args.session.now.core.file c.args.session.now.core.position =
     search rules in
-    on_err _ _ (ends_in_part g.S.PartSink.holds c.args.session c.args.form g.W.Write.contents
+    on_err _ _ (ends_in_part g.S.PartSink.holds c.args.session.now c.args.form g.W.Write.contents
     c.args.out.now c.write_file.new.out _ _ None c.in_ok-records.records
     c.in_err-end_report-2.ensures.err
     (λ held was. inr (
-      none_finished c.args.session.core.file c.args.session.core.position none,
-      all_of_it _ _ _ (c.in_ok-records.ensures.ok held
-          (subst (λ s. g.S.PartSink.holds s held) (sym c.into_sink-sink.ensures) was)).1,
+      none_finished c.args.session.now.core.file c.args.session.now.core.position none,
+      all_of_it _ _ _ (c.in_ok-records.ensures.ok held was).1,
     )))
 
 pub returns-clause-ok : goal.returns-clause-ok
@@ -48,6 +46,5 @@ returns-clause-ok g c = record {
   wanted = search rules;
   records = c.in_ok-records.records;
   line = c.in_ok-end_report-2.ensures.ok;
-  is_written = λ held was. c.in_ok-records.ensures.ok held
-      (subst (λ s. g.S.PartSink.holds s held) (sym c.into_sink-sink.ensures) was);
+  is_written = λ held was. c.in_ok-records.ensures.ok held was;
 }

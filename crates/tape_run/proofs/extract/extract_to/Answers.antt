@@ -1,6 +1,7 @@
+use Rattle.std.proofs.Common.{◌≡◌}
 use Rattle.tape_run.specs.Extracting.{Extracts, Stops, EndsFile, StopsAtEnd}
 use Rattle.tape_run.proofs.Fitting.{on_err, on_err_map}
-use Rattle.tape_run.proofs.Reporting.{if_ok}
+use Rattle.tape_run.proofs.Reporting.{if_ok_both}
 use Rattle.tape_run.proofs.Extracted.{extracted, stops_reading, stops_at_end}
 use Rattle.tape_run.proofs.extract.extract_to.Goals as goal
 
@@ -8,24 +9,29 @@ pub returns-in_err-read_images-clause-err : goal.returns-in_err-read_images-clau
 returns-in_err-read_images-clause-err g c =
     on_err c.from_residual.result _
     (stops_reading g.S.PartSink.holds g.S.PartSink.refusals g.L.Shelf.size g.L.Shelf.gives
-    g.R.Read.remaining c.args.session _ _ c.args.form g.W.Write.contents c.args.out.now _ _ _
+    g.R.Read.remaining c.args.session.now c.read_images.new.session _ _ c.args.form
+    g.W.Write.contents c.args.out.now _ _ _
     c.has_note-back.ensures
     c.in_err-read_images.ensures.err)
 
 pub returns-clause-ok : goal.returns-clause-ok
 returns-clause-ok g c =
-    if_ok c.end_file.result (EndsFile g.S.PartSink.holds c.read_images.new.session c.args.form
+    if_ok_both c.end_file.result (EndsFile g.S.PartSink.holds c.read_images.new.session c.args.form
     (g.W.Write.contents c.args.out.now) (g.W.Write.contents c.end_file.new.out)
     (g.P.Write.contents c.read_images.new.report) (g.P.Write.contents c.end_file.new.report))
     (Extracts g.S.PartSink.holds g.S.PartSink.refusals g.S.PartSink.crashes
     g.L.Shelf.size g.L.Shelf.gives
-    g.R.Read.remaining c.args.session c.args.images.now c.read_images.new.images c.args.form
+    g.R.Read.remaining c.args.session.now c.end_file.new.session c.args.images.now
+    c.read_images.new.images c.args.form
     (g.W.Write.contents c.args.out.now) (g.W.Write.contents c.end_file.new.out)
     (g.P.Write.contents c.args.report.now) (g.P.Write.contents c.end_file.new.report))
-    c.end_file.ensures.ok (λ want e.
+    (g.S.PartSink.refusals c.end_file.new.session.sink
+    ≡ g.S.PartSink.refusals c.read_images.new.session.sink)
+    c.end_file.ensures.ok c.end_file.ensures.calm (λ want e calm.
     extracted g.S.PartSink.holds g.S.PartSink.refusals g.L.Shelf.size g.L.Shelf.gives
-    g.R.Read.remaining c.args.session c.read_images.new.session _ _ c.args.form _ _ _ _ _ want
-    _ c.has_note-back.ensures c.in_ok-read_images.ensures.ok e)
+    g.R.Read.remaining c.args.session.now c.read_images.new.session c.end_file.new.session _ _
+    c.args.form _ _ _ _ _ want _ c.has_note-back.ensures c.in_ok-read_images.ensures.ok e
+    c.end_file.ensures.same calm)
 
 pub returns-clause-err : goal.returns-clause-err
 returns-clause-err g c =
@@ -34,11 +40,13 @@ returns-clause-err g c =
     (g.P.Write.contents c.read_images.new.report) (g.P.Write.contents c.end_file.new.report))
     (Stops g.S.PartSink.holds g.S.PartSink.refusals g.S.PartSink.crashes
     g.L.Shelf.size g.L.Shelf.gives
-    g.R.Read.remaining c.args.session c.args.images.now c.read_images.new.images c.args.form
+    g.R.Read.remaining c.args.session.now c.end_file.new.session c.args.images.now
+    c.read_images.new.images c.args.form
     g.W.Write.contents c.args.out.now c.end_file.new.out
     (g.P.Write.contents c.args.report.now) (g.P.Write.contents c.end_file.new.report))
     (λ e. stops_at_end g.S.PartSink.holds g.S.PartSink.refusals g.L.Shelf.size g.L.Shelf.gives
-    g.R.Read.remaining c.args.session c.read_images.new.session _ _ c.args.form
+    g.R.Read.remaining c.args.session.now c.read_images.new.session
+    c.end_file.new.session _ _ c.args.form
     g.W.Write.contents c.args.out.now c.end_file.new.out _ _ _
-    _ c.has_note-back.ensures c.in_ok-read_images.ensures.ok e)
+    _ c.has_note-back.ensures c.in_ok-read_images.ensures.ok c.end_file.ensures.same e)
     c.end_file.ensures.err

@@ -18,16 +18,14 @@ items-preserved g c =
     let item = tape_item c.in-Ok-Some.item in
     let step = gave c.items.image _ next c.in-Ok-Some.item c.next.follows.holds-at-none
     c.items.invariant.on (c.in-Ok-Some.is ∙ ap Ok c.in-Ok-Some.field-0-is) in
-    let line : Appends (g.W.Write.contents c.items.writer)
-    (g.W.Write.contents c.write_text.new.writer) (line_of (c.items.number + 1) item) =
-    search rules in
     record {
       on = step.goes_on;
       limit = step.within;
       few = omega (arith, step.extent, c.items.invariant.few, least_four item);
       same_device = c.next.follows.holds-at-none.same_device ∙ c.items.invariant.same_device;
       so_far = one_more _ c.items.image.left next.left c.items.image.place next.place c.items.number
-          item _ _ _ c.items.invariant.so_far step.takes line;
+          item _ (g.W.Write.contents c.items.writer) (g.W.Write.contents c.write_text.new.writer)
+          c.items.invariant.so_far step.takes (search rules);
     }
 
 pub returns-in_err-write_text-in-Ok-Some : goal.returns-in_err-write_text-in-Ok-Some

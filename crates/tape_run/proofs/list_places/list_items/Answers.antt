@@ -1,14 +1,12 @@
-use Rattle.std.proofs.Common.{◌≡◌, ◌+◌, ◌-◌, Ok, Err, ap, subst, ◌∙◌, arith, rules}
-use Rattle.std.specs.Prelude.{unwrap_or}
+use Rattle.std.proofs.Common.{◌≡◌, ◌+◌, Ok, Err, ap, subst, ◌∙◌, arith, rules}
 use Rattle.std.specs.Io.KnownBytes.{Appends}
 use Rattle.tape_image.specs.Reader.{tape_item, ending_of}
 use Rattle.tape_image.proofs.Callers.{gave, met_end, met_fault}
-use Rattle.tape_run.specs.ListLine.{line_of}
-use Rattle.tape_run.specs.Placed.{told_at, placed_line, placed_end}
+use Rattle.tape_run.specs.Placed.{placed_end}
 use Rattle.tape_run.specs.Output.{AppendsFront}
 use Rattle.tape_run.specs.declared.fault.ListFault.TheVariants.{WriteFailed}
 use Rattle.tape_run.proofs.ListedSoFar.{same_some, least_four}
-use Rattle.tape_run.proofs.PlacedSoFar.{met, line_is, placed_more, placed_to_end}
+use Rattle.tape_run.proofs.PlacedSoFar.{line_is, placed_more, placed_to_end}
 use Rattle.tape_run.proofs.PlacedSoFar.{placed_stop_item, placed_stop_end, placed_stop_fault}
 use Rattle.tape_run.proofs.PlacedSoFar.{places_not_written, places_cause, placed_to_fault}
 use Rattle.tape_run.proofs.list_places.list_items.Goals as goal
@@ -19,18 +17,10 @@ items-preserved g c =
     let item = tape_item c.in-Ok-Some.item in
     let step = gave c.items.image _ next c.in-Ok-Some.item c.next.follows.holds-at-none
     c.items.invariant.on (c.in-Ok-Some.is ∙ ap Ok c.in-Ok-Some.field-0-is) in
-    let size : c.unwrap_or-size.result
-    ≡ unwrap_or c.extent_of-extent.result (c.place-behind.result - c.items.from) = search rules in
-    let line : c.deref.result.now ≡ line_of (c.items.number + 1) item = search rules in
-    let told : c.deref-in-Ok-Some.result.now
-    ≡ told_at (c.place-behind.result - c.unwrap_or-size.result) c.unwrap_or-size.result
-    c.deref.result.now = search rules in
-    let text : c.deref-in-Ok-Some.result.now
-    ≡ placed_line (c.items.number + 1) (met item c.items.image.place next.place) =
-    line_is c.unwrap_or-size.result c.place-behind.result c.items.from c.items.image.place
-    next.place (c.items.number + 1) c.extent_of-extent.result item c.deref.result.now
-    c.deref-in-Ok-Some.result.now size c.extent_of-extent.ensures c.place-behind.ensures
-    c.items.invariant.here line told in
+    let text = line_is c.unwrap_or-size.result c.place-behind.result c.items.from
+    c.items.image.place next.place (c.items.number + 1) c.extent_of-extent.result item
+    c.deref.result.now c.deref-in-Ok-Some.result.now (search rules) c.extent_of-extent.ensures
+    c.place-behind.ensures c.items.invariant.here (search rules) (search rules) in
     record {
       on = step.goes_on;
       limit = step.within;
@@ -51,18 +41,10 @@ returns-in_err-write_text-in-Ok-Some-clause-fault g c =
     let item = tape_item c.in-Ok-Some.item in
     let step = gave c.items.image _ next c.in-Ok-Some.item c.next.follows.holds-at-none
     c.items.invariant.on (c.in-Ok-Some.is ∙ ap Ok c.in-Ok-Some.field-0-is) in
-    let size : c.unwrap_or-size.result
-    ≡ unwrap_or c.extent_of-extent.result (c.place-behind.result - c.items.from) = search rules in
-    let line : c.deref.result.now ≡ line_of (c.items.number + 1) item = search rules in
-    let told : c.deref-in-Ok-Some.result.now
-    ≡ told_at (c.place-behind.result - c.unwrap_or-size.result) c.unwrap_or-size.result
-    c.deref.result.now = search rules in
-    let text : c.deref-in-Ok-Some.result.now
-    ≡ placed_line (c.items.number + 1) (met item c.items.image.place next.place) =
-    line_is c.unwrap_or-size.result c.place-behind.result c.items.from c.items.image.place
-    next.place (c.items.number + 1) c.extent_of-extent.result item c.deref.result.now
-    c.deref-in-Ok-Some.result.now size c.extent_of-extent.ensures c.place-behind.ensures
-    c.items.invariant.here line told in
+    let text = line_is c.unwrap_or-size.result c.place-behind.result c.items.from
+    c.items.image.place next.place (c.items.number + 1) c.extent_of-extent.result item
+    c.deref.result.now c.deref-in-Ok-Some.result.now (search rules) c.extent_of-extent.ensures
+    c.place-behind.ensures c.items.invariant.here (search rules) (search rules) in
     let part = subst (AppendsFront (g.W.Write.contents c.items.writer)
     (g.W.Write.contents c.write_text.new.writer)) text
     c.in_err-write_text-in-Ok-Some.ensures.err in

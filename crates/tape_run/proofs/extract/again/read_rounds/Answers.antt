@@ -47,7 +47,7 @@ returns-in_err-read_round-clause-err g c =
     on_err c.from_residual.result _ (stops_round g.S.PartSink.holds g.S.PartSink.refusals
     (g.L.Shelf.size c.args.images.now)
     c.count-count.result c.rounds.lines g.L.Shelf.gives g.R.Read.remaining c.args.back
-    c.args.session.now c.rounds.session c.args.images.now c.rounds.images
+    c.args.session.now c.rounds.session c.read_round.new.session c.args.images.now c.rounds.images
     c.read_round.new.images (g.P.Write.contents c.args.report.now)
     (g.P.Write.contents c.rounds.report) (g.P.Write.contents c.read_round.new.report) rounds
     c.count-count.ensures e h c.in_err-read_round.ensures.err)

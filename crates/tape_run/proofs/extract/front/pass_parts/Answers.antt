@@ -1,6 +1,7 @@
 use Rattle.std.proofs.Common.{subst, refl, arith, ◌<◌, ◌-◌}
 use Rattle.tape_core.specs.Walks.{GivesPart}
 use Rattle.tape_run.proofs.RecordFronts.{pass_goes_on}
+use Rattle.tape_run.proofs.Walked.{walk_on}
 use Rattle.tape_run.proofs.extract.front.pass_parts.Goals as goal
 
 pub parts-init : goal.parts-init
@@ -10,7 +11,11 @@ parts-init g c = (
     is_ahead = c.rewind.ensures.all _ was;
     counted = long;
   },
-  λ parts was. c.rewind.ensures.keeps parts was,
+  record {
+    calm = c.rewind.ensures.calm;
+    kept = c.rewind.ensures.keeps;
+    crash = λ parts was. c.rewind.ensures.crash;
+  },
 )
 
 pub parts-preserved : goal.parts-preserved
@@ -22,5 +27,5 @@ parts-preserved g c =
           (c.parts.invariant.0 first rest was long) some refl
           (λ xs is. subst (λ r. GivesPart r xs (g.S.PartWalk.ahead next)) c.in-Ok.is
           (c.next_part.follows.holds-at-none.gives xs is)),
-      λ parts was. c.next_part.follows.holds-at-none.kept parts (c.parts.invariant.1 parts was),
+      walk_on _ _ _ _ _ c.in-Ok.is c.parts.invariant.1 c.next_part.follows.holds-at-none,
     )

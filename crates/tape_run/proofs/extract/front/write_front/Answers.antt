@@ -3,13 +3,19 @@ use Rattle.tape_blocks.specs.Spans.{leaves}
 use Rattle.tape_core.specs.Walks.{GivesPart}
 use Rattle.tape_run.proofs.Fitting.{on_err}
 use Rattle.tape_run.proofs.RecordFronts.{front_starts, front_goes_on, front_failed, front_refused}
+use Rattle.tape_run.proofs.Walked.{walk_on}
 use Rattle.tape_run.proofs.extract.front.write_front.Goals as goal
 
 pub parts-init : goal.parts-init
-parts-init g c = λ parts was. (
-  c.rewind.ensures.keeps parts was,
-  front_starts c.args.form _ _ parts c.weight-weight.result (c.rewind.ensures.all parts was)
-      (c.weight-weight.ensures.of parts was) c.weight-weight.ensures.limit,
+parts-init g c = (
+  record {
+    calm = c.rewind.ensures.calm;
+    kept = c.rewind.ensures.keeps;
+    crash = λ parts was. c.rewind.ensures.crash;
+  },
+  λ parts was. front_starts c.args.form _ _ parts c.weight-weight.result
+      (c.rewind.ensures.all parts was) (c.weight-weight.ensures.of parts was)
+      c.weight-weight.ensures.limit,
 )
 
 pub returns-in_err-write_part-in-Ok-Some-clause-err :
@@ -20,7 +26,7 @@ returns-in_err-write_part-in-Ok-Some-clause-err g c =
     search (rules, c.leaves.ensures, c.if-leaves.false) in
     on_err c.from_residual.result _
     (λ parts was. front_failed c.args.form (g.S.PartWalk.ahead c.parts.sink) (g.S.PartWalk.ahead
-    next) c.parts.records _ _ _ parts c.in-Ok-Some.part (c.parts.invariant parts was).1
+    next) c.parts.records _ _ _ parts c.in-Ok-Some.part (c.parts.invariant.1 parts was)
     (λ xs is. subst (λ r. GivesPart r xs (g.S.PartWalk.ahead next)) (c.in-Ok-Some.is
     ∙ ap Ok c.in-Ok-Some.field-0-is) (c.next_part.follows.holds-at-none.gives xs is))
     ends c.in_err-write_part-in-Ok-Some.ensures.err)
@@ -29,12 +35,12 @@ pub parts-preserved : goal.parts-preserved
 parts-preserved g c =
     let next = c.next_part.follows.lender-at-none in
     let ends : leaves c.in-Ok-Some.part.span ≡ false =
-    search (rules, c.leaves.ensures, c.if-leaves.false) in
-    λ parts was. (
-      c.next_part.follows.holds-at-none.kept parts (c.parts.invariant parts was).0,
-      front_goes_on c.args.form (g.S.PartWalk.ahead c.parts.sink) (g.S.PartWalk.ahead next)
-          c.parts.records c.saturating_add-records.result _ _ _ parts c.in-Ok-Some.part
-          (c.parts.invariant parts was).1
+    search (rules, c.leaves.ensures, c.if-leaves.false) in (
+      walk_on _ _ _ _ _ (c.in-Ok-Some.is ∙ ap Ok c.in-Ok-Some.field-0-is) c.parts.invariant.0
+          c.next_part.follows.holds-at-none,
+      λ parts was. front_goes_on c.args.form (g.S.PartWalk.ahead c.parts.sink)
+          (g.S.PartWalk.ahead next) c.parts.records c.saturating_add-records.result _ _ _
+          parts c.in-Ok-Some.part (c.parts.invariant.1 parts was)
           (λ xs is. subst (λ r. GivesPart r xs (g.S.PartWalk.ahead next)) (c.in-Ok-Some.is
           ∙ ap Ok c.in-Ok-Some.field-0-is) (c.next_part.follows.holds-at-none.gives xs is))
           ends c.in_ok-write_part-in-Ok-Some.ensures.ok
@@ -44,4 +50,4 @@ parts-preserved g c =
 pub returns-in-Err-clause-err : goal.returns-in-Err-clause-err
 returns-in-Err-clause-err g c = λ parts was.
     front_refused c.args.form (g.S.PartWalk.ahead c.parts.sink) c.parts.records _ _ parts
-    (c.parts.invariant parts was).1
+    (c.parts.invariant.1 parts was)

@@ -1,5 +1,7 @@
 use Rattle.std.proofs.Common.{◌≡◌, ◌+◌, ◌-◌, length, arith}
+use Rattle.tape_run.proofs.Fitting.{on_err}
 use Rattle.tape_run.proofs.Lasting.{last_went}
+use Rattle.tape_run.proofs.Left.{restart_left}
 use Rattle.tape_run.proofs.Lives.{on_ok}
 use Rattle.tape_run.proofs.extract.images.go_back.Goals as goal
 
@@ -21,4 +23,7 @@ returns g c =
             last_went refusals g.S.PartSink.crashes old new held now n count went
                 (c.restart.ensures.crash held was kept),
           )) c.restart.ensures.ok;
+      left = on_err c.restart.result _ (λ held was kept.
+          restart_left g.S.PartSink.holds refusals g.S.PartSink.crashes old
+          new held n count (c.restart.ensures.crash held was kept));
     }

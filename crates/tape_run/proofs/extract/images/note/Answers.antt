@@ -2,6 +2,8 @@ use Rattle.std.proofs.Common.{false, sym, subst, ◌∙◌}
 use Rattle.tape_run.specs.Reeling.{IsNoted}
 use Rattle.tape_run.specs.Seen.{seen}
 use Rattle.tape_run.proofs.Lasting.{last_kept}
+use Rattle.tape_run.proofs.Fitting.{on_err}
+use Rattle.tape_run.proofs.Left.{save_left}
 use Rattle.tape_run.proofs.extract.images.note.Goals as goal
 
 pub returns-clause-ok : goal.returns-clause-ok
@@ -17,3 +19,11 @@ returns-clause-ok g c = λ held was.
           _ (c.in_ok-save.ensures.point held was) (c.in_ok-save.ensures.kept held was) saved
           (c.save.ensures.crash held was),
     )
+
+pub returns-in_err-save-clause-left : goal.returns-in_err-save-clause-left
+returns-in_err-save-clause-left g c =
+    on_err c.from_residual.result _ (λ back held was.
+    let (now, has, fails) = c.in_err-save.ensures.err held was in
+    save_left g.S.PartSink.holds g.S.PartSink.refusals g.S.PartSink.crashes back
+    c.args.session.now c.save.new.self held now c.in_err-save.field-0.0 has fails
+    (c.save.ensures.crash held was))

@@ -14,6 +14,6 @@ pub returns-clause-err : goal.returns-clause-err
 returns-clause-err g c =
     subst (λ n. OnErr c.read_round.result (StopsReading g.S.PartSink.holds g.S.PartSink.refusals
     g.S.PartSink.crashes n 0
-    g.L.Shelf.gives g.R.Read.remaining c.args.back c.args.session.now
+    g.L.Shelf.gives g.R.Read.remaining c.args.back c.args.session.now c.read_round.new.session
     c.args.images.now c.read_round.new.images (g.P.Write.contents c.args.report.now)
     (g.P.Write.contents c.read_round.new.report))) c.count-count.ensures c.read_round.ensures.err

@@ -10,6 +10,7 @@ use Rattle.tape_run.proofs.Fitting.{on_err}
 use Rattle.tape_run.proofs.Turns.{front_behind, line_behind, one_mounted}
 use Rattle.tape_run.proofs.Turns.{follows_then}
 use Rattle.tape_run.proofs.Lasting.{last_same, last_then}
+use Rattle.tape_run.proofs.Left.{left_saved, same_left}
 use Rattle.tape_run.proofs.extract.images.read_round.Goals as goal
 
 pub returns-in_err-take_image-clause-err : goal.returns-in_err-take_image-clause-err
@@ -32,7 +33,10 @@ returns-in_err-take_image-clause-err g c =
             c.loop-number.session.core,
             seen g.S.PartSink.refusals c.loop-number.session now,
             follows,
-            (c.loop-number.session, now, has, refl, lasts),
+            left_saved g.S.PartSink.holds g.S.PartSink.refusals g.S.PartSink.crashes
+                c.args.back c.args.session.now c.loop-number.session
+                c.take_image.new.session held now lasts
+                (c.in_err-take_image.ensures.left now has still),
           );
     })
 
@@ -55,7 +59,11 @@ returns-in_default-clause-err g c =
             c.loop-number.session.core,
             seen g.S.PartSink.refusals c.loop-number.session now,
             follows,
-            (c.loop-number.session, now, has, refl, lasts),
+            left_saved g.S.PartSink.holds g.S.PartSink.refusals g.S.PartSink.crashes
+                c.args.back c.args.session.now c.loop-number.session
+                c.loop-number.session held now lasts
+                (same_left g.S.PartSink.holds g.S.PartSink.refusals g.S.PartSink.crashes
+                c.args.back c.loop-number.session now),
           );
     }
 

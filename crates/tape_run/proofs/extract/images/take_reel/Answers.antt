@@ -7,6 +7,7 @@ use Rattle.tape_run.specs.Reeling.{Opened, is_doubtful}
 use Rattle.tape_run.proofs.Fitting.{on_err}
 use Rattle.tape_run.proofs.Turns.{part_line, whole_line, noted, kept_for, kept_behind}
 use Rattle.tape_run.proofs.Lasting.{last_stays, last_then}
+use Rattle.tape_run.proofs.Left.{nothing_left, left_then}
 use Rattle.tape_run.proofs.extract.images.take_reel.Goals as goal
 
 pub returns-in_err-write_text-clause-err : goal.returns-in_err-write_text-clause-err
@@ -72,3 +73,28 @@ returns-clause-ok g c =
                 (c.reel.ensures.crash held was)) lasts,
           );
     }
+
+pub returns-in_err-answer-clause-left : goal.returns-in_err-answer-clause-left
+returns-in_err-answer-clause-left g c =
+    on_err c.from_residual.result _ (λ held was kept.
+    nothing_left g.S.PartSink.holds g.S.PartSink.refusals g.S.PartSink.crashes
+    c.args.back c.args.session.now c.reel.new.self held
+    (c.reel.ensures.crash held was))
+
+pub returns-in_err-write_text-clause-left : goal.returns-in_err-write_text-clause-left
+returns-in_err-write_text-clause-left g c =
+    on_err c.from_residual-in_err-write_text.result _ (λ held was kept.
+    nothing_left g.S.PartSink.holds g.S.PartSink.refusals g.S.PartSink.crashes
+    c.args.back c.args.session.now c.reel.new.self held
+    (c.reel.ensures.crash held was))
+
+pub returns-in_err-settle-clause-left : goal.returns-in_err-settle-clause-left
+returns-in_err-settle-clause-left g c =
+    on_err c.from_residual-in_err-settle.result _ (λ held was kept.
+    let (now, has, front, keeps, reeled) = c.in_ok-answer.ensures.ok held was in
+    let still = kept_for c.args.back (seen g.S.PartSink.refusals c.args.session.now held)
+    (seen g.S.PartSink.refusals c.reel.new.self now) keeps kept in
+    left_then g.S.PartSink.holds g.S.PartSink.refusals g.S.PartSink.crashes
+    c.args.back c.args.session.now c.reel.new.self c.settle.new.session held
+    now c.in_ok-answer.ensures.notes front kept (c.reel.ensures.crash held was)
+    (c.in_err-settle.ensures.left now has still))

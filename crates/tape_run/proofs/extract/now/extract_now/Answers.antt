@@ -11,8 +11,8 @@ pub returns-in_err-read_images-clause-err : goal.returns-in_err-read_images-clau
 returns-in_err-read_images-clause-err g c =
     on_err c.from_residual.result _
     (stops_reading_now (Takes g.W.Write.contents) refused_by g.L.Shelf.size g.L.Shelf.gives
-    g.R.Read.remaining c.args.session _ _ c.args.form (TellsAlways g.W.Write.contents)
-    g.O.Place.stands c.args.out.now _ _
+    g.R.Read.remaining c.args.session c.read_images.new.session _ _ c.args.form
+    (TellsAlways g.W.Write.contents) g.O.Place.stands c.args.out.now _ _
     c.in_err-read_images.ensures.err)
 
 pub returns-in_err-end_report-clause-err : goal.returns-in_err-end_report-clause-err

@@ -4,12 +4,13 @@ use Rattle.tape_core.specs.Walks.{GivesPart}
 use Rattle.tape_run.proofs.Fitting.{on_err}
 use Rattle.tape_run.proofs.Streams.{with_end, stream_starts, stream_goes_on, stream_ended}
 use Rattle.tape_run.proofs.Streams.{stream_failed}
+use Rattle.tape_run.proofs.Walked.{walked_same, walk_on}
 use Rattle.tape_run.proofs.extract.records.write_records.Goals as goal
 
 pub parts-init : goal.parts-init
 parts-init g c = (
   λ parts is e. stream_starts c.args.form _ c.args.records _ parts e is,
-  λ parts was. was,
+  walked_same g.S.PartSink.holds g.S.PartSink.refusals g.S.PartSink.crashes c.args.sink.now,
 )
 
 pub returns-in_err-write_part-in-Ok-Some-clause-err :
@@ -38,7 +39,8 @@ parts-preserved-then-not-leaves g c =
           ∙ ap Ok c.in-Ok-Some.field-0-is) (c.next_part.follows.holds-at-none.gives xs is))
           c.in_ok-write_part-in-Ok-Some.ensures.ok
           (ap (λ b. with_end b (c.parts.left - 1)) ends ∙ one),
-      λ parts was. c.next_part.follows.holds-at-none.kept parts (c.parts.invariant.1 parts was),
+      walk_on _ _ _ _ _ (c.in-Ok-Some.is ∙ ap Ok c.in-Ok-Some.field-0-is) c.parts.invariant.1
+          c.next_part.follows.holds-at-none,
     )
 
 pub parts-preserved : goal.parts-preserved
@@ -54,7 +56,8 @@ parts-preserved g c =
           ∙ ap Ok c.in-Ok-Some.field-0-is) (c.next_part.follows.holds-at-none.gives xs is))
           c.in_ok-write_part-in-Ok-Some.ensures.ok
           (ap (λ b. with_end b c.parts.left) goes),
-      λ parts was. c.next_part.follows.holds-at-none.kept parts (c.parts.invariant.1 parts was),
+      walk_on _ _ _ _ _ (c.in-Ok-Some.is ∙ ap Ok c.in-Ok-Some.field-0-is) c.parts.invariant.1
+          c.next_part.follows.holds-at-none,
     )
 
 pub returns-clause-ok : goal.returns-clause-ok

@@ -2,6 +2,7 @@ use Rattle.std.proofs.Common.{◌≡◌, List, length}
 use Rattle.tape_blocks.specs.Block.{Portion}
 use Rattle.tape_blocks.specs.Spans.{join}
 use Rattle.tape_run.proofs.Streams.{Streams}
+use Rattle.tape_run.proofs.Walked.{Walked}
 use Rattle.tape_run.proofs.extract.records.write_records.Given as goal
 
 abbrev pub invariant-parts : goal.invariant-parts
@@ -9,8 +10,7 @@ invariant-parts g l = ((parts : List Portion) → g.S.PartWalk.ahead l.fn.sink p
     → l.records ≡ length (join parts).records
     → Streams l.form (g.S.PartWalk.ahead l.sink) l.left (g.W.Write.contents l.fn.out)
     (g.W.Write.contents l.out) parts)
-    × ((parts : List Portion) → g.S.PartSink.holds l.fn.sink parts
-    → g.S.PartSink.holds l.sink parts)
+    × Walked g.S.PartSink.holds g.S.PartSink.refusals g.S.PartSink.crashes l.fn.sink l.sink
 
 abbrev pub decreases-parts : goal.decreases-parts
 decreases-parts g l = g.S.PartWalk.left l.sink

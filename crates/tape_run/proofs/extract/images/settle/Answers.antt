@@ -1,0 +1,11 @@
+use Rattle.std.proofs.Common.{◌≡◌, true, sym, subst}
+use Rattle.tape_run.specs.Crash.{LeavesStep}
+use Rattle.tape_run.specs.Reeling.{IsKeptFor}
+use Rattle.tape_run.specs.Seen.{seen}
+use Rattle.tape_run.proofs.Fitting.{on_err_map}
+use Rattle.tape_run.proofs.extract.images.settle.Goals as goal
+
+pub returns-clause-left : goal.returns-clause-left
+returns-clause-left g c =
+    on_err_map c.note.result _ _ (λ leaves held was kept. leaves c.args.back held was)
+    c.note.ensures.left
