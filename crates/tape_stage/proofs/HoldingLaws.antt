@@ -8,7 +8,7 @@ use Rattle.std.proofs.lemmas.Bool.{cases_lt}
 use Rattle.std.proofs.Math.ListN.{drop_of_length-le}
 use Rattle.tape_stage.specs.Calls.{over}
 use Rattle.tape_stage.proofs.Torn.{alike_less, torn_high}
-use Rattle.tape_stage.specs.Disk.{Torn, CutShort, Elapses, NoMore, Holds, Allows}
+use Rattle.tape_stage.specs.Disk.{Torn, CutShort, Elapses, NoMore, Holds, Allows, Follows}
 use Rattle.tape_stage.specs.Holding.{with_held, LeftTorn, LeftSince, torn_same}
 
 pub cut_same : (n : ℕ) (c : List ℕ) → CutShort n c c
@@ -104,6 +104,24 @@ then_elapses m0 m1 m2 past0 past1 past2 leaves0 leaves1 leaves2 s0 s1 b0 b1 none
           (counts t c (omega (arith, le, first.later)) (left_none leaves1 s1 b1 c none now))))
           (first.keeps t c le was);
     }
+
+-- what a crash may leave, where it was passed on and then a call of the disk was made
+module _ (old mid new : List ℕ → Type 0) (s : ℕ) (b : List ℕ) where
+  pub then_follows : (step : List ℕ → List ℕ → Type 0) → b ≡ [] → NoMore old (LeftTorn mid s b)
+      → Follows step mid new → Follows step old (LeftTorn new s b)
+  then_follows step none crash follows c left =
+      let (d, first, torn) = follows c (left_none new s b c none left) in
+      (d, crash d (none_left mid s b d first), torn)
+
+  pub then_stays : b ≡ [] → NoMore (LeftTorn mid s b) old → NoMore new mid
+      → NoMore (LeftTorn new s b) old
+  then_stays none stays more c left = none_left new s b c
+      (more c (left_none mid s b c none (stays c left)))
+
+  pub then_allows : (step : List ℕ → List ℕ → Type 0) → b ≡ [] → NoMore (LeftTorn mid s b) old
+      → Allows step mid new → Allows step old (LeftTorn new s b)
+  then_allows step none stays allows d c left torn = none_left new s b c
+      (allows d c (left_none mid s b d none (stays d left)) torn)
 
 -- two torn writes are one, one behind the other
 pub torn_one : (p m n : ℕ) (d e c : List ℕ) → Torn p m d e → Torn (p + m) n e c
@@ -226,6 +244,40 @@ same_left leaves a b s t x y c disk start bytes left = (
   subst (λ (l : List ℕ). Torn t (length l) left.0 c) bytes
       (subst (λ (n : ℕ). Torn n (length x) left.0 c) start left.2),
 )
+
+-- bytes were added to those that are held
+module _ {D : Type 0} (leaves : D → List ℕ → Type 0) (a b : D) (s t place : ℕ)
+    (x y more : List ℕ) (disk : b ≡ a) (start : t ≡ s) (bytes : y ≡ x ++ more)
+    (end : s + length x ≡ place) where
+  pub added_follows : Follows (Torn place (length more)) (LeftTorn (leaves a) s x)
+      (LeftTorn (leaves b) t y)
+  added_follows c left =
+      let (e, first, second) = left_more (leaves a) s x more c
+      (same_left leaves b a t s y (x ++ more) c disk start bytes left) in
+      (e, first, subst (λ (n : ℕ). Torn n (length more) e c) end second)
+
+  pub added_allows : Allows (Torn place (length more)) (LeftTorn (leaves a) s x)
+      (LeftTorn (leaves b) t y)
+  added_allows d c left torn =
+      same_left leaves a b s t (x ++ more) y c (sym disk) (sym start) (sym bytes)
+      (more_open (leaves a) s x more d c left
+      (subst (λ (n : ℕ). Torn n (length more) d c) (sym end) torn))
+
+  pub added_stays : NoMore (LeftTorn (leaves b) t y) (LeftTorn (leaves a) s x)
+  added_stays c left = added_allows c c left (torn_same place (length more) c)
+
+-- it was passed on, and then bytes were held
+module _ {D : Type 0} (leaves : D → List ℕ → Type 0) (a b : D) (old : List ℕ → Type 0)
+    (s t place : ℕ) (x y bytes : List ℕ) (none : x ≡ []) (disk : b ≡ a) (start : t ≡ place)
+    (held : y ≡ x ++ bytes) (stays : NoMore (LeftTorn (leaves a) s x) old) where
+  pub begun_allows : Allows (Torn place (length bytes)) old (LeftTorn (leaves b) t y)
+  begun_allows d c left torn =
+      same_left leaves a b place t bytes y c (sym disk) (sym start)
+      (sym (held ∙ ap (λ (l : List ℕ). l ++ bytes) none))
+      (d, left_none (leaves a) s x d none (stays d left), torn)
+
+  pub begun_stays : NoMore (LeftTorn (leaves b) t y) old
+  begun_stays c left = begun_allows c c left (torn_same place (length bytes) c)
 
 -- a write that is torn twice
 pub torn_both : (p n : ℕ) (d e c : List ℕ) → Torn p n d e → Torn p n e c → Torn p n d c
