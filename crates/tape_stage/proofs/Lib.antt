@@ -19,6 +19,7 @@ mod MistakesInCrashes
 mod MistakesOfDisks
 mod MistakesOfPoints
 pub mod Once
+pub mod Openings
 pub mod Passing
 pub mod PointFields
 pub mod PointLaws

@@ -1,0 +1,68 @@
+-- What is found is looked at, and what follows it is cut.
+use Rattle.std.proofs.Common.{◌≡◌, ◌⊎◌, inl, inr, ℕ, ◌+◌, List, take, ap, ◌∙◌, subst, arith}
+use Rattle.tape_blocks.specs.Block.{Portion}
+use Rattle.tape_stage.specs.declared.disk.Disk.{Ghosts}
+use Rattle.tape_stage.specs.declared.stage.found.Found.{Found}
+use Rattle.tape_stage.specs.Disk.{CutShort}
+use Rattle.tape_stage.specs.Found.{IsFound}
+use Rattle.tape_stage.specs.Moments.{Passes, Untouched}
+use Rattle.tape_stage.specs.OnlyReading.{OnlyReads}
+use Rattle.tape_stage.specs.Staged.{Holding, KeepsStaged, StandsLike}
+use Rattle.tape_stage.specs.Stages.{IsOpened}
+use Rattle.tape_stage.proofs.Finds.{stands_like, cut_ready, found_read}
+use Rattle.tape_stage.proofs.Passing.{weaken, follow}
+use Rattle.tape_stage.proofs.Refusals.{same_keeps, cut_keeps}
+
+-- it was looked at alone
+module _ {D : Type 0} (g : Ghosts D) (a b : D) (reads : OnlyReads g a b)
+    (honest : g.is_honest a) where
+  pub look_untouched : Untouched g.seen g.may_leave g.moment g.left_since a b
+  look_untouched = record { read = reads.same honest; crash = reads.any_moment honest }
+
+  pub look_keeps : KeepsStaged (g.seen a) (g.seen b)
+  look_keeps = same_keeps (g.seen a) (g.seen b) (reads.same honest)
+
+  pub look_passes : (P : List ℕ → Type 0)
+      → Passes g.may_leave g.moment g.left_since a b (λ x. g.may_leave a x ⊎ P x)
+  look_passes P = weaken g.may_leave g.moment g.left_since a b (g.may_leave a)
+      (λ x. g.may_leave a x ⊎ P x) (λ x left. inl left) (reads.any_moment honest)
+
+-- and then cut behind the weight that was found
+module _ {D : Type 0} (g : Ghosts D) (a b c : D) (reads : OnlyReads g a b)
+    (honest : g.is_honest a) (found : Found) (is : IsFound found (g.seen a)) (n : ℕ)
+    (told : n ≡ found.point.staged) where
+  pub cut_stopped : CutShort (256 + n) (g.seen b) (g.seen c) → KeepsStaged (g.seen a) (g.seen c)
+  cut_stopped cut = cut_keeps found (g.seen a) (g.seen c) (256 + n) is
+      (ap (λ (k : ℕ). 256 + k) told)
+      (subst (λ (old : List ℕ). CutShort (256 + n) old (g.seen c)) (reads.same honest) cut)
+
+  pub cut_is : g.seen c ≡ take (256 + n) (g.seen b)
+      → g.seen c ≡ take (256 + found.point.staged) (g.seen a)
+  cut_is cut = cut ∙ ap (take (256 + n)) (reads.same honest)
+      ∙ ap (λ (k : ℕ). take (256 + k) (g.seen a)) told
+
+  module _ (parts : List Portion) (holding : Holding found.point.staged parts (g.seen a)) where
+    pub cut_passes : Passes g.may_leave g.moment g.left_since b c
+        (λ x. take (256 + n) x ≡ take (256 + n) (g.seen b))
+        → Passes g.may_leave g.moment g.left_since a c
+        (λ x. g.may_leave a x ⊎ StandsLike (g.seen a) x)
+    cut_passes cut =
+        let P : List ℕ → Type 0 = λ x. g.may_leave a x ⊎ StandsLike (g.seen a) x in
+        follow g.may_leave g.moment g.left_since a b c P
+        (look_passes g a b reads honest (StandsLike (g.seen a)))
+        (weaken g.may_leave g.moment g.left_since b c
+        (λ x. take (256 + n) x ≡ take (256 + n) (g.seen b)) P
+        (λ x alike. inr (stands_like found (g.seen a) x (256 + n) is
+        (ap (λ (k : ℕ). 256 + k) told) (omega (arith, holding.long, told))
+        (alike ∙ ap (take (256 + n)) (reads.same honest)))) cut)
+
+    pub cut_opened : g.seen c ≡ take (256 + n) (g.seen b)
+        → ((x : List ℕ) → g.may_leave c x → x ≡ g.seen c)
+        → IsOpened g.seen g.may_leave found a c
+    cut_opened cut only = record {
+      parts = parts;
+      read = found_read found parts (g.seen a) is holding;
+      ready = cut_ready found parts (g.seen a) (g.seen c) (g.may_leave c) (256 + n) is
+          (ap (λ (k : ℕ). 256 + k) told) holding
+          (cut ∙ ap (take (256 + n)) (reads.same honest)) only;
+    }
