@@ -5,8 +5,6 @@ use Rattle.std.proofs.Common.{subst, ◌∙◌, append_assoc, append-nil, ◌≤
 use Rattle.std.specs.List.{AllByRecursion}
 use Rattle.tape_writer.proofs.Lists.{all_push, all_weaken}
 use Rattle.std.specs.Prelude.{IfSome}
-use Rattle.std.specs.Io.KnownBytes.{prepend_known}
-use Rattle.std.proofs.KnownBytes.{prepend_known-nil}
 use Rattle.tape_image.specs.Reader.{IfKnown}
 use Rattle.tape_writer.specs.declared.course.Opened.{Opened}
 use Rattle.tape_writer.specs.Told.{Told, with_record}
@@ -136,12 +134,6 @@ pub same_record : (s r : List ℕ) (mid new : List Told → Type 0) → s ≡ r
     → ((told : List Told) → mid told → new (with_record told s)) → (told : List Told) → mid told
     → new (with_record told r)
 same_record s r mid new e step told h = subst (λ x. new (with_record told x)) e (step told h)
-
--- an input of which nothing is read has all its bytes left
-pub all_ahead : {R : Type 0} (remaining : R → Option (List ℕ)) (ahead : List ℕ) (device input : R)
-    → ahead ≡ [] → device ≡ input → prepend_known ahead (remaining device) ≡ remaining input
-all_ahead remaining ahead device input none same =
-    ap (λ a. prepend_known a (remaining device)) none ∙ prepend_known-nil _ ∙ ap remaining same
 
 told_known : (told : List Told) (file : Opened) (cut : Cut) (all next : Option (List ℕ))
     (mid last : List Told → Type 0)

@@ -91,6 +91,7 @@ pub fn write_files<T: TapeOut + Drop, R: Read>(
 }
 
 /// Writes a file with the records of an input.
+#[tactic(auto, using(crate::proofs::inputs::Filing::was_fit))]
 fn write_file<T: TapeOut + Drop, R: Read>(
     alloc: Global,
     writer: &mut SetWriter<T>,

@@ -38,8 +38,11 @@ impl<R: Read + Drop> Records<R> {
     /// The records of this input, from where it stands, each of at most so many bytes. Nothing is
     /// read.
     pub fn new(alloc: Global, device: R, cut: Cut, limit: u32) -> Result<Self, AllocError>
-        ensures { IfOk result (λ r. (r.device ≡ device) × (r.cut ≡ cut) × (r.over ≡ false)
-            × (r.ahead ≡ []) × (r.limit ≡ limit)) }
+        ensures device { IfOk result (λ r. (r.device ≡ device) × (r.ahead ≡ [])) }
+        ensures left { IfOk result (λ r. left_of R.remaining r ≡ R.remaining device) }
+        ensures cut { IfOk result (λ r. r.cut ≡ cut) }
+        ensures begun { IfOk result (λ r. r.over ≡ false) }
+        ensures limit { IfOk result (λ r. r.limit ≡ limit) }
     {
         let ahead = Chunk::new(alloc)?;
         Ok(Records {

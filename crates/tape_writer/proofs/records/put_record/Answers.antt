@@ -4,8 +4,8 @@ use Rattle.std.proofs.Common.{inl, inr}
 use Rattle.std.proofs.lemmas.List.{take_rest}
 use Rattle.std.proofs.lemmas.Result.{err_from_is_err_and}
 use Rattle.tape_writer.specs.Inside.{IsStuck}
-use Rattle.tape_blocks.specs.Packing.{Packing, Offers}
-use Rattle.tape_blocks.specs.declared.offer.Offer.TheVariants.{Taken, BlockReady}
+use Rattle.tape_blocks.specs.Packing.{Packing}
+use Rattle.tape_blocks.specs.declared.offer.Offer.TheVariants.{BlockReady}
 use Rattle.tape_blocks.proofs.RunLaws.{offers_shape}
 use Rattle.tape_writer.proofs.Packed.{packing_first, packing_last, packing_next, judged_next}
 use Rattle.tape_writer.proofs.Packed.{judged_more}
@@ -27,24 +27,18 @@ offers-init g c = record {
   judged = inl (refl, refl, refl);
   lasting = lasting_self _ _ _;
   asked = λ w. w;
-  packing = λ set_id fs records k. packing_first (g.T.TapeOut.holds c.args.tape.now.out)
-      c.args.volumes.now c.args.capacity set_id c.args.file.now c.args.tape.now.course
-      c.args.packer.now fs records c.args.whole.now k;
+  packing = λ set_id fs records k. packing_first _ _ _ _ _ _ _ _ _ _ k;
 }
 
 pub returns-in-Ok-Taken-clause-packed : goal.returns-in-Ok-Taken-clause-packed
 returns-in-Ok-Taken-clause-packed g c = λ set_id fs records k.
-    let offers : Offers c.offers.packer c.offers.rest.now Taken c.offer.new.self =
-    rw c.in-Ok-Taken.field-0-is at c.in-Ok-Taken.ensures.ok in
-    packing_last (g.T.TapeOut.holds c.offers.tape.out) c.args.volumes.now c.args.capacity set_id
-    c.args.file.now c.offers.tape.course c.offers.packer c.offer.new.self fs
-    records c.args.whole.now c.offers.rest.now
-    c.in-Ok-Taken.ensures.judged offers (c.offers.invariant.packing set_id fs records k)
+    let offers = rw c.in-Ok-Taken.field-0-is at c.in-Ok-Taken.ensures.ok in
+    packing_last _ _ _ _ _ _ _ _ _ _ _ _ c.in-Ok-Taken.ensures.judged offers
+    (c.offers.invariant.packing set_id fs records k)
 
 pub offers-preserved : goal.offers-preserved
 offers-preserved g c =
-    let offers : Offers c.offers.packer c.offers.rest.now (BlockReady c.in-Ok-BlockReady.taken)
-    c.offer.new.self = rw c.in-Ok-BlockReady.field-0-is at c.in-Ok-BlockReady.ensures.ok in
+    let offers = rw c.in-Ok-BlockReady.field-0-is at c.in-Ok-BlockReady.ensures.ok in
     let next = judged_next c.offers.packer c.offer.new.self c.flush.new.packer c.offers.rest.now
     c.in-Ok-BlockReady.taken c.offers.invariant.opened c.in-Ok-BlockReady.ensures.judged offers
     c.in_ok-flush-in-Ok-BlockReady.ensures.emptied in
@@ -75,12 +69,7 @@ offers-preserved g c =
       asked = λ w. c.in_ok-flush-in-Ok-BlockReady.ensures.asked (c.offers.invariant.asked w);
       packing = λ set_id fs records k.
           rw (take_rest c.offers.rest.now c.in-Ok-BlockReady.taken)
-          (packing_next (g.T.TapeOut.holds c.offers.tape.out)
-          (g.T.TapeOut.holds c.flush.new.tape.out) c.args.volumes.now c.args.capacity set_id
-          c.args.file.now c.offers.tape.course c.flush.new.tape.course
-          c.offers.packer c.offer.new.self c.flush.new.packer fs
-          records c.args.whole.now c.offers.rest.now c.in-Ok-BlockReady.taken
-          c.in-Ok-BlockReady.ensures.judged offers c.in_ok-flush-in-Ok-BlockReady.ensures.emptied
+          (packing_next _ _ _ _ _ _ _ _ _ _ _ _ _ _ _ _ c.in-Ok-BlockReady.ensures.judged offers c.in_ok-flush-in-Ok-BlockReady.ensures.emptied
           (λ d o. c.in_ok-flush-in-Ok-BlockReady.ensures.flushed offers.0 set_id d o)
           (c.offers.invariant.packing set_id fs records k));
     }
@@ -88,22 +77,18 @@ offers-preserved g c =
 pub returns-in_err-flush-in-Ok-BlockReady-clause-stuck :
     goal.returns-in_err-flush-in-Ok-BlockReady-clause-stuck
 returns-in_err-flush-in-Ok-BlockReady-clause-stuck g c =
-    let offers : Offers c.offers.packer c.offers.rest.now (BlockReady c.in-Ok-BlockReady.taken)
-    c.offer.new.self = rw c.in-Ok-BlockReady.field-0-is at c.in-Ok-BlockReady.ensures.ok in
+    let offers = rw c.in-Ok-BlockReady.field-0-is at c.in-Ok-BlockReady.ensures.ok in
     let p = err_from_is_err_and c.from_residual.result c.from_residual.ensures.1 in
     rw (p.1, p.2) (λ e set_id fs records k.
     let q = c.in_err-flush-in-Ok-BlockReady.ensures.stuck e in
     subst (λ t. IsStuck (g.T.TapeOut.holds t.out) c.args.volumes.now c.args.capacity
     set_id c.args.file.now t.course fs (records ++ c.args.whole.now ∷ [])) (sym q.0)
-    (stuck_put (g.T.TapeOut.holds c.offers.tape.out) c.args.volumes.now c.args.capacity set_id
-    c.args.file.now c.offers.tape.course c.offers.packer c.offer.new.self fs records
-    c.args.whole.now c.offers.rest.now c.in-Ok-BlockReady.taken
-    c.in-Ok-BlockReady.ensures.judged offers (c.offers.invariant.packing set_id fs records k) q.1))
+    (stuck_put _ _ _ _ _ _ _ _ _ _ _ _ _ c.in-Ok-BlockReady.ensures.judged offers
+    (c.offers.invariant.packing set_id fs records k) q.1))
 
 pub returns-in-Ok-Taken-clause-room : goal.returns-in-Ok-Taken-clause-room
 returns-in-Ok-Taken-clause-room g c =
-    let offers : Offers c.offers.packer c.offers.rest.now Taken c.offer.new.self =
-    rw c.in-Ok-Taken.field-0-is at c.in-Ok-Taken.ensures.ok in
+    let offers = rw c.in-Ok-Taken.field-0-is at c.in-Ok-Taken.ensures.ok in
     let shape = sym c.offers.invariant.shape in
     omega (
       arith,
@@ -117,14 +102,10 @@ returns-in-Ok-Taken-clause-room g c =
 pub returns-in_err-flush-in-Ok-BlockReady-clause-front :
     goal.returns-in_err-flush-in-Ok-BlockReady-clause-front
 returns-in_err-flush-in-Ok-BlockReady-clause-front g c =
-    let offers : Offers c.offers.packer c.offers.rest.now (BlockReady c.in-Ok-BlockReady.taken)
-    c.offer.new.self = rw c.in-Ok-BlockReady.field-0-is at c.in-Ok-BlockReady.ensures.ok in
+    let offers = rw c.in-Ok-BlockReady.field-0-is at c.in-Ok-BlockReady.ensures.ok in
     let p = err_from_is_err_and c.from_residual.result c.from_residual.ensures.1 in
     rw (p.1, p.2) (λ set_id fs records k not.
-    mid_left (g.T.TapeOut.holds c.offers.tape.out) (g.T.TapeOut.holds c.flush.new.tape.out)
-    c.args.volumes.now c.args.capacity set_id c.args.file.now c.offers.tape.course
-    c.offers.packer c.offer.new.self fs records c.args.whole.now c.offers.rest.now
-    c.in-Ok-BlockReady.taken _ c.in-Ok-BlockReady.ensures.judged offers
+    mid_left _ _ _ _ _ _ _ _ _ _ _ _ _ _ _ c.in-Ok-BlockReady.ensures.judged offers
     (λ e t h. subst (λ z. g.T.TapeOut.holds z.out t)
     (sym (c.in_err-flush-in-Ok-BlockReady.ensures.stuck e).0) h)
     (λ d o other. c.in_err-flush-in-Ok-BlockReady.ensures.front offers.0 set_id d o other)

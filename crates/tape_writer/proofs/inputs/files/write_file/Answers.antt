@@ -4,7 +4,7 @@ use Rattle.std.proofs.lemmas.Result.{err_from_is_err_and}
 use Rattle.tape_writer.specs.State.{IsWriting}
 use Rattle.tape_writer.specs.Told.{opened_by}
 use Rattle.tape_writer.proofs.Last.{rose_from}
-use Rattle.tape_writer.proofs.inputs.Putting.{file_told, all_ahead}
+use Rattle.tape_writer.proofs.inputs.Putting.{file_told}
 use Rattle.tape_writer.proofs.inputs.Refusing.{input_fault, end_fault}
 use Rattle.tape_writer.proofs.inputs.Stopping.{file_out, end_out}
 use Rattle.tape_writer.proofs.Standing.{inside_writing}
@@ -22,17 +22,15 @@ returns-in-Ok-end_file-clause-told g c told held =
     file_told told file c.args.cut _ _ _ _ _
     (IsWriting (g.T.TapeOut.holds c.put_records.new.writer.out) c.put_records.new.writer)
     (IsWriting (g.T.TapeOut.holds c.end_file.new.self.out) c.end_file.new.self)
-    (all_ahead (λ d. g.R.Read.remaining d.now) _ _ _ made.3 made.0)
-    made.1 made.2 put c.in-Ok-end_file.ensures.told
+    made.left made.cut made.begun put c.in-Ok-end_file.ensures.told
 
 pub returns-in_err-put_records-clause-due : goal.returns-in_err-put_records-clause-due
 returns-in_err-put_records-clause-due g c = λ _.
     let p = err_from_is_err_and c.from_residual.result c.from_residual.ensures.1 in
     let made = c.in-Ok.ensures in
-    rw (p.1, p.2) (inr (input_fault c.args.shape c.args.cut _ _ _ _ _
-    (all_ahead (λ d. g.R.Read.remaining d.now) _ _ _ made.3 made.0)
-    made.1 made.2 (c.in_err-put_records.ensures.due _ c.in_default.ensures.opened
-    (made.4 ∙ c.longest.ensures))))
+    rw (p.1, p.2) (inr (input_fault c.args.shape c.args.cut _ _ _ _ _ made.left made.cut
+    made.begun (c.in_err-put_records.ensures.due _ c.in_default.ensures.opened
+    (made.limit ∙ c.longest.ensures))))
 
 pub returns-clause-due : goal.returns-clause-due
 returns-clause-due g c = λ _.
@@ -46,8 +44,7 @@ returns-in_err-put_records-clause-stuck g c =
     let made = c.in-Ok.ensures in
     rw (p.1, p.2) (λ e told held.
     file_out (g.T.TapeOut.holds c.put_records.new.writer.out) c.put_records.new.writer
-    _ c.args.cut _ _ _ _
-    (all_ahead (λ d. g.R.Read.remaining d.now) _ _ _ made.3 made.0) made.1 made.2
+    _ c.args.cut _ _ _ _ made.left made.cut made.begun
     (c.in_err-put_records.ensures.stuck e _ (c.in_default.ensures.told told held)))
 
 pub returns-clause-stuck : goal.returns-clause-stuck
@@ -57,7 +54,7 @@ returns-clause-stuck g c = λ e told held.
     end_out (g.T.TapeOut.holds c.end_file.new.self.out) c.end_file.new.self
     _ c.args.cut _ _ _ _ _
     (IsWriting (g.T.TapeOut.holds c.put_records.new.writer.out) c.put_records.new.writer)
-    (all_ahead (λ d. g.R.Read.remaining d.now) _ _ _ made.3 made.0) made.1 made.2
+    made.left made.cut made.begun
     (c.in_ok-put_records.ensures.told _ (c.in_default.ensures.told told held))
     (λ t h. c.in-Err-end_file.ensures.stuck t h f)
 
@@ -89,7 +86,7 @@ returns-in_err-put_records-clause-front g c =
     file_left (g.T.TapeOut.holds c.put_records.new.writer.out) c.put_records.new.writer _ _ _ told
     _ c.args.cut _ _ _ _
     (λ grew. rose_from _ _ _ c.begin_file.ensures.lasting.count.1 grew)
-    (all_ahead (λ d. g.R.Read.remaining d.now) _ _ _ made.3 made.0) made.1 made.2
+    made.left made.cut made.begun
     (c.in_err-put_records.ensures.front _ c.in_default.ensures.opened _
     (c.in_default.ensures.told told held)))
 
@@ -100,7 +97,7 @@ returns-clause-front g c = λ between told held.
     end_left H c.end_file.new.self _ _ told
     _ c.args.cut _ _ _ _ _
     (IsWriting (g.T.TapeOut.holds c.put_records.new.writer.out) c.put_records.new.writer)
-    (all_ahead (λ d. g.R.Read.remaining d.now) _ _ _ made.3 made.0) made.1 made.2
+    made.left made.cut made.begun
     (c.in_ok-put_records.ensures.told _ (c.in_default.ensures.told told held))
     (ending_other c.in-Err-end_file.fault (end_ends _ c.put_records.new.writer.phase _
     (c.in_ok-put_records.ensures.stays _ c.in_default.ensures.opened)
@@ -111,22 +108,6 @@ returns-clause-front g c = λ between told held.
     (ended_left (λ out. g.T.TapeOut.holds out) c.put_records.new.writer c.end_file.new.self _ _
     (c.in_ok-put_records.ensures.stays _ c.in_default.ensures.opened)
     c.in-Err-end_file.ensures.leaves c.in-Err-end_file.ensures.front)
-
-pub returns-in_default-new-clause-unfit : goal.returns-in_default-new-clause-unfit
-returns-in_default-new-clause-unfit g c = λ between unfit.
-    absurd (c.in_default.ensures.unfit between unfit).1
-
-pub returns-in_err-put_records-clause-unfit : goal.returns-in_err-put_records-clause-unfit
-returns-in_err-put_records-clause-unfit g c = λ between unfit.
-    absurd (c.in_default.ensures.unfit between unfit).1
-
-pub returns-in-Ok-end_file-clause-unfit : goal.returns-in-Ok-end_file-clause-unfit
-returns-in-Ok-end_file-clause-unfit g c = λ between unfit.
-    absurd (c.in_default.ensures.unfit between unfit).1
-
-pub returns-clause-unfit : goal.returns-clause-unfit
-returns-clause-unfit g c = λ between unfit.
-    absurd (c.in_default.ensures.unfit between unfit).1
 
 pub returns-in-Err-clause-unfit : goal.returns-in-Err-clause-unfit
 returns-in-Err-clause-unfit g c = λ between unfit.
