@@ -20,11 +20,13 @@ pub mod Left
 pub mod Closing
 pub mod Written
 pub mod Fitting
+pub mod HoldingLaws
 pub mod Examples
 pub mod ExamplesOfInputs
 pub mod ExamplesOfWritten
 pub mod ExamplesOfFronts
 pub mod ExamplesOfDrafts
+pub mod ExamplesOfHolding
 mod Mistakes
 mod MistakesOfBlanks
 mod MistakesOfRecords

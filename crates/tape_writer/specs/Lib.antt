@@ -22,12 +22,14 @@ pub mod WriteFaults
 pub mod Blank
 -- images that are files:
 pub mod System
+pub mod Holding
 -- what these say of cases:
 pub mod Cases
 pub mod CasesOfInputs
 pub mod CasesOfWritten
 pub mod CasesOfFronts
 pub mod CasesOfDrafts
+pub mod CasesOfHolding
 -- what is written so far, in the proofs' own words:
 pub mod Draft
 pub mod Inside

@@ -7,9 +7,10 @@ ghost use Rattle.tape_writer.specs.CasesOfInputs.{CasesOfInputs, CasesOfSetFault
 ghost use Rattle.tape_writer.specs.CasesOfWritten.{CasesOfWritten, CasesOfRecordLaws};
 ghost use Rattle.tape_writer.specs.CasesOfFronts.{CasesOfFronts};
 ghost use Rattle.tape_writer.specs.CasesOfDrafts.{CasesOfDrafts, CasesOfInside};
+ghost use Rattle.tape_writer.specs.CasesOfHolding.{CasesOfHolding};
 
-/// What the definitions of tapes and images, of what was told and written, of refusals, of inputs
-/// and of what is left say of cases: each says all that it should.
+/// What the definitions of tapes and images, of what was told and written, of refusals, of inputs,
+/// of what is left and of bytes held before a device say of cases: each says all that it should.
 pub fn cases()
     ensures tapes { CasesOfTapes }
     ensures images { CasesOfImages }
@@ -22,4 +23,5 @@ pub fn cases()
     ensures fronts { CasesOfFronts }
     ensures drafts { CasesOfDrafts }
     ensures inside { CasesOfInside }
+    ensures holding { CasesOfHolding }
 {}

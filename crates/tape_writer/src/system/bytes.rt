@@ -1,5 +1,8 @@
 //! Bytes of files, in whatever pieces a system takes and gives them.
-ghost use Rattle.std.specs.Prelude.{◌≤◌, length, IfOk};
+ghost use Rattle.std.specs.Prelude.{◌≡◌, ◌≤◌, length, IfOk, OnOk, OnErr, IsOkUnless};
+ghost use Rattle.std.specs.Io.KnownBytes.{Appends};
+ghost use Rattle.tape_image.specs.Device.{Fills};
+ghost use Rattle.tape_image.specs.Written.{AppendsFront};
 
 use crate::system::fault::FileFault;
 use std::io::{Read, Write};
@@ -10,12 +13,15 @@ use std::io::{Read, Write};
 ///
 /// `ReadFailed` where a read fails, also by an interruption.
 pub fn fill<R: Read>(reader: &mut R, room: &mut [u8]) -> Result<usize, FileFault>
+    ensures filled { IfOk result
+        (Fills (R.remaining reader.old) (R.remaining reader.new) room.new) }
     ensures within { IfOk result (λ count. count ≤ length room.new) }
+    ensures fault { IsOkUnless result FileFault.ReadFailed }
 {
     let mut count = 0;
-    'reads: for _ in 0..room.len() {
+    'reads: while count < room.len() {
         match reader.read(&mut room[count..]) {
-            Ok(0) => break,
+            Ok(0) => return Ok(count),
             Ok(more) => count += more,
             Err(_) => return Err(FileFault::ReadFailed),
         }
@@ -23,13 +29,24 @@ pub fn fill<R: Read>(reader: &mut R, room: &mut [u8]) -> Result<usize, FileFault
     Ok(count)
 }
 
-/// Writes all of these bytes. An interruption is a failure too: std's own call would try again.
-pub fn put_all<W: Write>(writer: &mut W, bytes: &[u8]) -> Result<(), FileFault> {
+/// Writes all of these bytes, or a front of them where the writer fails.
+///
+/// # Errors
+///
+/// `WriteFailed` where the writer answers an error, or takes nothing of what is left. An
+/// interruption is a failure too: std's own call would try again.
+pub fn put_all<W: Write>(writer: &mut W, bytes: &[u8]) -> Result<(), FileFault>
+    ensures ok { OnOk result (Appends (W.contents writer.old) (W.contents writer.new) bytes.now) }
+    ensures err { OnErr result
+        (AppendsFront (W.contents writer.old) (W.contents writer.new) bytes.now) }
+    ensures fault { IsOkUnless result FileFault.WriteFailed }
+{
     let mut rest = bytes;
     'writes: while !rest.is_empty() {
         match writer.write(rest) {
-            Ok(count) if count > 0 => rest = &rest[count..],
-            _ => return Err(FileFault::WriteFailed),
+            Ok(0) => return Err(FileFault::WriteFailed),
+            Ok(n) => rest = &rest[n..],
+            Err(_) => return Err(FileFault::WriteFailed),
         }
     }
     Ok(())

@@ -1,17 +1,21 @@
 //! Files of images, made when they are first written to.
-use crate::blank::{BLANK, BlankImage, Prefix, blank_image, blank_volume};
+ghost use Rattle.std.specs.Prelude.{◌≡◌, length, None, Some, IsSome, OnSome};
+ghost use Rattle.std.specs.Prelude.{OnOk, OnErr, IfOk, IsErr};
+ghost use Rattle.std.specs.Io.{WritesAtMost};
+ghost use Rattle.std.specs.Io.KnownBytes.{WriteAppends};
+ghost use Rattle.tape_writer.specs.Holding.{Opens, FileTakes, FilePasses};
+
+use crate::blank::Prefix;
 use crate::fault::WriteFault;
-use crate::system::bytes::{fill, put_all};
 use crate::system::fault::{FileFault, SystemFault};
 use crate::system::folder::sync_folder_of;
+use crate::system::opening::open_image;
 use crate::system::paths::image_path;
-use std::fs::{Files, OpenFile, OpenOptions};
+use crate::system::write_behind::{ROOM, WriteBehind};
+use std::fs::{Files, OpenFile};
 use std::io;
-use std::io::{Error, ErrorKind, Read, Write};
+use std::io::{Error, ErrorKind, Write};
 use std::rt::Runtime;
-
-/// How many bytes are held before they are written to the file, at most.
-const ROOM: usize = 8_192;
 
 /// A growth was refused.
 pub const NO_MEMORY: SystemFault = SystemFault::Write(WriteFault::OutOfMemory);
@@ -26,9 +30,7 @@ pub struct ImageFile<'a, R: Runtime + AllocGlobal> {
     folder: &'a str,
     prefix: Prefix,
     number: u16,
-    file: Option<<R as Files>::File>,
-    held: Vec<u8>,
-    size: u64,
+    file: Option<WriteBehind<<R as Files>::File>>,
     fault: Option<SystemFault>,
 }
 
@@ -41,35 +43,37 @@ impl<'a, R: Runtime + AllocGlobal> ImageFile<'a, R> {
             prefix,
             number,
             file: None,
-            held: Vec::new(rt.alloc()),
-            size: 0,
             fault: None,
         }
     }
 
     /// How many bytes were taken.
     pub fn size(&self) -> u64 {
-        self.size
+        match &self.file {
+            Some(file) => file.size(),
+            None => 0,
+        }
     }
 
     /// Writes what is held, and says what failed, if anything did.
-    pub fn end(&mut self) -> Option<SystemFault> {
-        if self.fault.is_none() {
-            self.pass_on();
+    pub fn end(&mut self) -> Option<SystemFault>
+        ensures passed { result ≡ None → FilePasses self.old.file self.new.file }
+        ensures fault { result ≡ self.new.fault }
+        ensures kept { OnSome self.old.fault (result ≡ self.old.fault) }
+    {
+        if self.fault.is_some() {
+            return self.fault;
         }
+        self.fault = self.pass_on().err();
         self.fault
     }
 
-    /// Has the disk keep what was written, and the file's name.
-    fn sync(&self) -> Result<(), SystemFault> {
-        let Some(file) = &self.file else {
-            return Ok(());
-        };
-        let path = self.path()?;
-        if file.sync_all().is_err() || sync_folder_of(self.rt, path.as_str()).is_err() {
-            return Err(SystemFault::File(FileFault::WriteFailed));
-        }
-        Ok(())
+    /// Keeps a fault: from now on all is refused.
+    fn fail(&mut self, fault: SystemFault) -> Error
+        ensures { self.new.fault ≡ Some fault }
+    {
+        self.fault = Some(fault);
+        Error::from(ErrorKind::Other)
     }
 
     /// Where the file stands.
@@ -80,141 +84,99 @@ impl<'a, R: Runtime + AllocGlobal> ImageFile<'a, R> {
         }
     }
 
-    /// Opens the file, once.
-    fn make_ready(&mut self) {
-        if self.file.is_some() || self.fault.is_some() {
-            return;
+    /// Opens the file, once. What is held of it has its room before.
+    fn make_ready(&mut self) -> Result<(), SystemFault>
+        ensures { OnOk result (Opens self.old.file self.new.file) }
+    {
+        if self.file.is_some() {
+            return Ok(());
         }
-        if self.held.reserve(ROOM).is_err() {
-            self.fault = Some(NO_MEMORY);
-            return;
-        }
-        match self.open() {
-            Ok(file) => self.file = Some(file),
-            Err(fault) => self.fault = Some(fault),
-        }
+        let Ok(room) = Vec::with_capacity(self.rt.alloc(), ROOM) else {
+            return Err(NO_MEMORY);
+        };
+        self.file = Some(WriteBehind::over(room, self.open()?));
+        Ok(())
     }
 
     /// Makes the file, or takes the one that is there, if it is a blank volume.
     fn open(&self) -> Result<<R as Files>::File, SystemFault> {
         let path = self.path()?;
-        let mut options = OpenOptions::new();
-        options.write(true).create_new(true);
-        match options.open(self.rt, path.as_str()) {
+        match open_image(self.rt, path.as_str(), self.prefix, self.number) {
             Ok(file) => Ok(file),
-            Err(error) if error.kind() == ErrorKind::AlreadyExists => {
-                open_blank(self.rt, path.as_str(), self.prefix, self.number).map_err(
-                    SystemFault::File,
-                )
-            }
-            Err(_) => Err(SystemFault::File(FileFault::NotOpened)),
+            Err(fault) => Err(SystemFault::File(fault)),
         }
     }
 
-    /// Writes to the file what is held.
-    fn pass_on(&mut self) {
-        let Some(file) = &mut self.file else {
-            return;
-        };
-        if let Err(fault) = put_all(file, self.held.as_slice()) {
-            self.fault = Some(SystemFault::File(fault));
+    /// Takes bytes, and opens the file for the first.
+    fn take(&mut self, bytes: &[u8]) -> Result<(), SystemFault>
+        ensures { OnOk result (FileTakes bytes.now self.old.file self.new.file) }
+    {
+        self.make_ready()?;
+        match &mut self.file {
+            Some(file) => match file.take(bytes) {
+                Ok(()) => Ok(()),
+                Err(fault) => Err(SystemFault::File(fault)),
+            },
+            None => unreachable!(),
         }
-        self.held.clear();
     }
 
-    /// Holds more bytes, or writes them where there are too many.
-    fn hold(&mut self, bytes: &[u8]) {
-        if bytes.len() > ROOM - self.held.len().min(ROOM) {
-            self.pass_on();
+    /// Writes what is held.
+    fn pass_on(&mut self) -> Result<(), SystemFault>
+        ensures { OnOk result (FilePasses self.old.file self.new.file) }
+    {
+        match &mut self.file {
+            Some(file) => match file.pass_on() {
+                Ok(()) => Ok(()),
+                Err(fault) => Err(SystemFault::File(fault)),
+            },
+            None => Ok(()),
         }
-        if bytes.len() <= ROOM && self.held.extend_from_slice(bytes).is_ok() {
-            return;
-        }
-        let Some(file) = &mut self.file else {
-            return;
+    }
+
+    /// Has the disk keep what was written, and the file's name.
+    fn sync(&self) -> Result<(), SystemFault> {
+        let Some(file) = &self.file else {
+            return Ok(());
         };
-        if let Err(fault) = put_all(file, bytes) {
-            self.fault = Some(SystemFault::File(fault));
+        let path = self.path()?;
+        let synced = file.device().sync_all();
+        if synced.is_err() || sync_folder_of(self.rt, path.as_str()).is_err() {
+            return Err(SystemFault::File(FileFault::WriteFailed));
         }
+        Ok(())
     }
 }
 
 impl<R: Runtime + AllocGlobal> Write for ImageFile<'_, R> {
-    fn write(&mut self, buf: &[u8]) -> io::Result<usize> {
-        self.make_ready();
-        if self.fault.is_none() {
-            self.hold(buf);
+    fn write(&mut self, buf: &[u8]) -> io::Result<usize>
+        ensures bound { WritesAtMost result buf.now }
+        ensures bytes { WriteAppends None None result buf.now }
+        ensures took { IfOk result (λ n. (n ≡ length buf.now)
+            × FileTakes buf.now self.old.file self.new.file) }
+        ensures refused { OnSome self.old.fault (IsErr result) }
+        ensures kept { OnErr result (IsSome self.new.fault) }
+    {
+        if self.fault.is_some() {
+            return Err(Error::from(ErrorKind::Other));
         }
-        if self.fault.is_none() {
-            self.size = self.size.saturating_add(buf.len() as u64);
-            return Ok(buf.len());
-        }
-        Err(Error::from(ErrorKind::Other))
-    }
-
-    fn flush(&mut self) -> io::Result<()> {
-        if self.end().is_none() {
-            self.fault = self.sync().err();
-        }
-        match self.fault {
-            None => Ok(()),
-            Some(_) => Err(Error::from(ErrorKind::Other)),
+        match self.take(buf) {
+            Ok(()) => Ok(buf.len()),
+            Err(fault) => Err(self.fail(fault)),
         }
     }
-}
 
-/// Opens a file that is there, if it is a blank volume, from its start.
-fn open_blank<R: Runtime>(
-    rt: &R,
-    path: &str,
-    prefix: Prefix,
-    number: u16,
-) -> Result<<R as Files>::File, FileFault> {
-    let mut options = OpenOptions::new();
-    options.read(true).write(true);
-    let Ok(mut there) = options.open(rt, path) else {
-        return Err(FileFault::NotOpened);
-    };
-    if !is_blank(&mut there, prefix, number)? {
-        return Err(FileFault::Exists);
+    fn flush(&mut self) -> io::Result<()>
+        ensures passed { OnOk result (FilePasses self.old.file self.new.file) }
+        ensures refused { OnSome self.old.fault (IsErr result) }
+        ensures kept { OnErr result (IsSome self.new.fault) }
+    {
+        if self.end().is_some() {
+            return Err(Error::from(ErrorKind::Other));
+        }
+        match self.sync() {
+            Ok(()) => Ok(()),
+            Err(fault) => Err(self.fail(fault)),
+        }
     }
-    options.read(false).truncate(true);
-    match options.open(rt, path) {
-        Ok(file) => Ok(file),
-        Err(_) => Err(FileFault::NotOpened),
-    }
-}
-
-/// Whether the reader gives just the image of this blank volume.
-fn is_blank<R: Read>(reader: &mut R, prefix: Prefix, number: u16) -> Result<bool, FileFault> {
-    // One byte more than a blank volume has.
-    let mut bytes = [0; BLANK + 1];
-    let count = fill(reader, &mut bytes)?;
-    Ok(&bytes[..count] == image_of(prefix, number).as_slice())
-}
-
-/// Makes the image of a volume without files, with this number from 1 to 999, in a new file.
-///
-/// # Errors
-///
-/// `Exists` where something is there, `NotOpened` where the file can't be made, `WriteFailed` where
-/// it takes not all.
-pub fn make_image<R: Runtime>(
-    rt: &R,
-    path: &str,
-    prefix: Prefix,
-    number: u16,
-) -> Result<(), FileFault> {
-    let mut options = OpenOptions::new();
-    options.write(true).create_new(true);
-    match options.open(rt, path) {
-        Ok(mut file) => put_all(&mut file, &image_of(prefix, number)),
-        Err(error) if error.kind() == ErrorKind::AlreadyExists => Err(FileFault::Exists),
-        Err(_) => Err(FileFault::NotOpened),
-    }
-}
-
-/// The image of a volume without files.
-fn image_of(prefix: Prefix, number: u16) -> BlankImage {
-    blank_image(&blank_volume(prefix, number.min(999)))
 }

@@ -4,6 +4,7 @@ use Rattle.tape_writer.proofs.ExamplesOfInputs.{cases_of_inputs, cases_of_set_fa
 use Rattle.tape_writer.proofs.ExamplesOfWritten.{cases_of_written, cases_of_record_laws}
 use Rattle.tape_writer.proofs.ExamplesOfFronts.{cases_of_fronts}
 use Rattle.tape_writer.proofs.ExamplesOfDrafts.{cases_of_drafts, cases_of_inside}
+use Rattle.tape_writer.proofs.ExamplesOfHolding.{cases_of_holding}
 use Rattle.tape_writer.proofs.laws.cases.Goals as goal
 
 pub returns-clause-tapes : goal.returns-clause-tapes
@@ -38,3 +39,6 @@ returns-clause-drafts c = cases_of_drafts
 
 pub returns-clause-inside : goal.returns-clause-inside
 returns-clause-inside c = cases_of_inside
+
+pub returns-clause-holding : goal.returns-clause-holding
+returns-clause-holding c = cases_of_holding

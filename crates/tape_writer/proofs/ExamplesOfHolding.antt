@@ -1,0 +1,26 @@
+-- The cases of bytes held before a device.
+use Rattle.std.proofs.Common.{◌≡◌, length, true, false, refl, sym, ap, ◌∙◌}
+use Rattle.std.proofs.Common.{arith}
+use Rattle.tape_writer.specs.CasesOfHolding.{CasesOfHolding}
+
+pub cases_of_holding : CasesOfHolding
+cases_of_holding = record {
+  taken_is = refl;
+  takes = λ bytes old new h. h.takes;
+  counted = λ new h. omega (arith, h.size);
+  counted_up_to = λ old new h full. omega (arith, h.size, full);
+  few_held = λ old new h. h.within;
+  did_not_fail = λ old new h failed. let e : true ≡ false = sym failed ∙ h.stands in absurd (cc);
+  passes = λ old new h. h.passed;
+  none_held = λ old new h held. absurd (omega (arith, ap length held, ap length h.none));
+  not_counted = λ old new h. h.size;
+  passed_well = λ old new h failed. let e : true ≡ false = sym failed ∙ h.stands in absurd (cc);
+  opened = refl;
+  first = λ new h. omega (arith, h.1.size);
+  is_open = λ h. h;
+  stays_open = λ old h. h;
+  further = λ old new h. h;
+  no_file = λ new e. absurd (cc);
+  same_file = λ old h. h;
+  of_file = λ old new h. h;
+}

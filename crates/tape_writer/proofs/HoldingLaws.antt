@@ -1,0 +1,21 @@
+-- What holding bytes before a device does to what was taken.
+use Rattle.std.proofs.Common.{List, ℕ, [], ◌++◌, Option, sym, ap, ◌∙◌, subst}
+use Rattle.std.proofs.Common.{append_assoc, append-nil}
+use Rattle.tape_image.specs.Written.{AppendsFront}
+use Rattle.tape_image.proofs.Pieces.{front_behind, front_more}
+use Rattle.tape_writer.specs.Holding.{Holding, MakesRoom}
+
+-- where the device fails behind that, a front of all stands
+pub room_stops : (n : ℕ) (old mid : Holding) (device : Option (List ℕ)) (bytes : List ℕ)
+    → MakesRoom n old mid → AppendsFront mid.device device (mid.held ++ bytes)
+    → AppendsFront old.device device (old.held ++ bytes)
+room_stops n old mid device bytes made front =
+    subst (AppendsFront old.device device)
+    (sym (ap (λ l. l ++ bytes) made.left ∙ append_assoc made.moved mid.held bytes))
+    (front_behind old.device mid.device device made.moved (mid.held ++ bytes) made.passed front)
+
+-- where it fails before, a front of what was held stands, and of what comes behind it
+pub no_room_stops : (a b : Option (List ℕ)) (held bytes : List ℕ) → AppendsFront a b (held ++ [])
+    → AppendsFront a b (held ++ bytes)
+no_room_stops a b held bytes front = front_more a b held bytes
+    (subst (AppendsFront a b) (append-nil held) front)

@@ -1,0 +1,53 @@
+-- What the definitions of bytes held before a device say of cases. The call `laws::cases` has them
+-- as its contract, too.
+use Rattle.std.specs.Prelude.{◌≡◌, ℕ, ◌-◌, ◌^◌, ◌≤◌, true, false, List, [], ◌∷◌, length}
+use Rattle.std.specs.Prelude.{None, Some}
+use Rattle.std.specs.Io.KnownBytes.{Appends}
+use Rattle.tape_writer.specs.Holding.{Holding, taken, TakesAll, PassesOn, fresh, FileTakes}
+use Rattle.tape_writer.specs.Holding.{FilePasses}
+
+-- of bytes held before a device, and of the file of an image
+pub record CasesOfHolding : Type 0 where
+  -- what was taken is what the device has, and behind it what is held
+  pub taken_is : taken (record {
+    device = Some (1 ∷ []);
+    held = 2 ∷ [];
+    size = 2;
+    failed = false;
+  }) ≡ Some (1 ∷ 2 ∷ [])
+  -- bytes are taken behind those before, and counted, as far as the count goes; few are held, and
+  -- the device did not fail
+  pub takes : (bytes : List ℕ) (old new : Holding) → TakesAll bytes old new
+      → Appends (taken old) (taken new) bytes
+  pub counted : (new : Holding) → TakesAll (3 ∷ 4 ∷ []) (record {
+    device = None;
+    held = 1 ∷ 2 ∷ [];
+    size = 5;
+    failed = false;
+  }) new → new.size ≡ 7
+  pub counted_up_to : (old new : Holding) → TakesAll (3 ∷ []) old new → old.size ≡ 2 ^ 64 - 1
+      → new.size ≡ 2 ^ 64 - 1
+  pub few_held : (old new : Holding) → TakesAll [] old new → length new.held ≤ 8192
+  pub did_not_fail : (old new : Holding) → TakesAll [] old new → new.failed ≡ true → ⊥
+  -- what is passed on stands behind what the device had, and is held no more
+  pub passes : (old new : Holding) → PassesOn old new → Appends old.device new.device old.held
+  pub none_held : (old new : Holding) → PassesOn old new → new.held ≡ 1 ∷ [] → ⊥
+  pub not_counted : (old new : Holding) → PassesOn old new → new.size ≡ old.size
+  pub passed_well : (old new : Holding) → PassesOn old new → new.failed ≡ true → ⊥
+  -- nothing was taken of a file that is opened
+  pub opened : fresh (Some (7 ∷ [])) ≡ record {
+    device = Some (7 ∷ []);
+    held = [];
+    size = 0;
+    failed = false;
+  }
+  -- a file that took bytes is open, and has them behind those that it took before
+  pub first : (new : Holding) → FileTakes (3 ∷ 4 ∷ []) None (Some new) → new.size ≡ 2
+  pub is_open : FileTakes [] None None → ⊥
+  pub stays_open : (old : Holding) → FileTakes [] (Some old) None → ⊥
+  pub further : (old new : Holding) → FileTakes (3 ∷ []) (Some old) (Some new)
+      → TakesAll (3 ∷ []) old new
+  -- what is passed on is that of the file, and where none was opened there is none
+  pub no_file : (new : Holding) → FilePasses None (Some new) → ⊥
+  pub same_file : (old : Holding) → FilePasses (Some old) None → ⊥
+  pub of_file : (old new : Holding) → FilePasses (Some old) (Some new) → PassesOn old new

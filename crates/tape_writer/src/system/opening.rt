@@ -1,0 +1,82 @@
+//! Files of images: how they are opened.
+use crate::blank::{BLANK, BlankImage, Prefix, blank_image, blank_volume};
+use crate::system::bytes::{fill, put_all};
+use crate::system::fault::FileFault;
+use std::fs::{Files, OpenOptions};
+use std::io::{ErrorKind, Read};
+use std::rt::Runtime;
+
+/// Makes the file of an image, or takes the one that is there, if it is a blank volume.
+pub fn open_image<R: Runtime>(
+    rt: &R,
+    path: &str,
+    prefix: Prefix,
+    number: u16,
+) -> Result<<R as Files>::File, FileFault> {
+    match make_file(rt, path) {
+        Err(FileFault::Exists) => open_blank(rt, path, prefix, number),
+        made => made,
+    }
+}
+
+/// Makes a file where none is.
+fn make_file<R: Runtime>(rt: &R, path: &str) -> Result<<R as Files>::File, FileFault> {
+    let mut options = OpenOptions::new();
+    options.write(true).create_new(true);
+    match options.open(rt, path) {
+        Ok(file) => Ok(file),
+        Err(error) if error.kind() == ErrorKind::AlreadyExists => Err(FileFault::Exists),
+        Err(_) => Err(FileFault::NotOpened),
+    }
+}
+
+/// Opens a file that is there, if it is a blank volume, from its start.
+fn open_blank<R: Runtime>(
+    rt: &R,
+    path: &str,
+    prefix: Prefix,
+    number: u16,
+) -> Result<<R as Files>::File, FileFault> {
+    let mut options = OpenOptions::new();
+    options.read(true).write(true);
+    let Ok(mut there) = options.open(rt, path) else {
+        return Err(FileFault::NotOpened);
+    };
+    if !is_blank(&mut there, prefix, number)? {
+        return Err(FileFault::Exists);
+    }
+    options.read(false).truncate(true);
+    match options.open(rt, path) {
+        Ok(file) => Ok(file),
+        Err(_) => Err(FileFault::NotOpened),
+    }
+}
+
+/// Whether the reader gives just the image of this blank volume.
+fn is_blank<R: Read>(reader: &mut R, prefix: Prefix, number: u16) -> Result<bool, FileFault> {
+    // One byte more than a blank volume has.
+    let mut bytes = [0; BLANK + 1];
+    let count = fill(reader, &mut bytes)?;
+    Ok(&bytes[..count] == image_of(prefix, number).as_slice())
+}
+
+/// Makes the image of a volume without files, with this number from 1 to 999, in a new file.
+///
+/// # Errors
+///
+/// `Exists` where something is there, `NotOpened` where the file can't be made, `WriteFailed` where
+/// it takes not all.
+pub fn make_image<R: Runtime>(
+    rt: &R,
+    path: &str,
+    prefix: Prefix,
+    number: u16,
+) -> Result<(), FileFault> {
+    let mut file = make_file(rt, path)?;
+    put_all(&mut file, &image_of(prefix, number))
+}
+
+/// The image of a volume without files.
+fn image_of(prefix: Prefix, number: u16) -> BlankImage {
+    blank_image(&blank_volume(prefix, number.min(999)))
+}
