@@ -39,43 +39,49 @@ fn of_format_f(rt: HostRuntime) {
     }
 }
 
+/// Its name, records, and the blocks of 18 bytes that they are packed into.
+type Packed<'a> = (&'a str, &'a [&'a [u8]], &'a [&'a [u8]]);
+
+const OF_FORMAT_S: &[Packed<'_>] = &[
+    (
+        "long",
+        &[b"123456789012345678901234567890"],
+        &[
+            b"100181234567890123",
+            b"200184567890123456",
+            b"300097890^^^^^^^^^",
+        ],
+    ),
+    ("empty", &[b""], &[b"00005^^^^^^^^^^^^^"]),
+    // The record is whole, and the next one begins a block.
+    (
+        "just fits",
+        &[b"1234567890123", b"A"],
+        &[b"000181234567890123", b"00006A^^^^^^^^^^^^"],
+    ),
+    (
+        "just fits behind another",
+        &[b"A", b"1234567"],
+        &[b"00006A000121234567"],
+    ),
+    // Not even an empty record begins there.
+    (
+        "5 free",
+        &[b"12345678", b""],
+        &[b"0001312345678^^^^^", b"00005^^^^^^^^^^^^^"],
+    ),
+    // A segment of one byte stands there.
+    (
+        "6 free",
+        &[b"1234567", b"AB"],
+        &[b"00012123456710006A", b"30006B^^^^^^^^^^^^"],
+    ),
+];
+
 #[test]
 fn of_format_s(rt: HostRuntime) {
     let s = shape(Format::Spanned, 18, 0, 0);
-    let long: &[&[u8]] = &[b"123456789012345678901234567890"];
-    let three: &[&[u8]] = &[
-        b"100181234567890123",
-        b"200184567890123456",
-        b"300097890^^^^^^^^^",
-    ];
-    let rows: [(&str, &[&[u8]], &[&[u8]]); 6] = [
-        ("long", long, three),
-        ("empty", &[b""], &[b"00005^^^^^^^^^^^^^"]),
-        // The record is whole, and the next one begins a block.
-        (
-            "just fits",
-            &[b"1234567890123", b"A"],
-            &[b"000181234567890123", b"00006A^^^^^^^^^^^^"],
-        ),
-        (
-            "just fits behind another",
-            &[b"A", b"1234567"],
-            &[b"00006A000121234567"],
-        ),
-        // Not even an empty record begins there.
-        (
-            "5 free",
-            &[b"12345678", b""],
-            &[b"0001312345678^^^^^", b"00005^^^^^^^^^^^^^"],
-        ),
-        // A segment of one byte stands there.
-        (
-            "6 free",
-            &[b"1234567", b"AB"],
-            &[b"00012123456710006A", b"30006B^^^^^^^^^^^^"],
-        ),
-    ];
-    for (name, records, blocks) in rows {
+    for (name, records, blocks) in OF_FORMAT_S {
         assert!(rt; packs(rt.alloc(), s, records, blocks), "{name}");
     }
 }
@@ -114,37 +120,43 @@ fn refused(rt: HostRuntime) {
     }
 }
 
-/// Shapes that are written, and others: at most 99 bytes of offset, and in format S six bytes
-/// behind it.
+/// A format, the length of a block, that of a record, an offset, and whether such a shape is
+/// written: at most 99 bytes of offset, and in format S six bytes behind it.
+const SHAPES: &[(Format, u32, u32, u8, bool)] = &[
+    (Format::Fixed, 17, 17, 0, false),
+    (Format::Fixed, 80, 17, 0, false),
+    (Format::Fixed, 80, 81, 0, false),
+    (Format::Fixed, 100_000, 80, 0, false),
+    (Format::Fixed, 18, 18, 0, true),
+    (Format::Fixed, 99_999, 99_999, 0, true),
+    (Format::Counted, 17, 14, 0, false),
+    (Format::Counted, 18, 3, 0, false),
+    (Format::Counted, 18, 19, 0, false),
+    (Format::Counted, 99_999, 10_000, 0, false),
+    (Format::Counted, 18, 4, 0, true),
+    (Format::Counted, 99_999, 9_999, 0, true),
+    (Format::Spanned, 17, 0, 0, false),
+    (Format::Spanned, 10_000, 0, 0, false),
+    (Format::Spanned, 18, 0, 13, false),
+    (Format::Spanned, 20, 0, 15, false),
+    (Format::Spanned, 106, 0, 100, false),
+    (Format::Spanned, 18, 0, 0, true),
+    (Format::Spanned, 9_999, 0, 0, true),
+    (Format::Spanned, 18, 0, 12, true),
+    (Format::Spanned, 105, 0, 99, true),
+];
+
 #[test]
 fn shapes_that_are_written(rt: HostRuntime) {
-    let rows = [
-        (Format::Fixed, 17, 17, 0, false),
-        (Format::Fixed, 80, 17, 0, false),
-        (Format::Fixed, 80, 81, 0, false),
-        (Format::Fixed, 100_000, 80, 0, false),
-        (Format::Fixed, 18, 18, 0, true),
-        (Format::Fixed, 99_999, 99_999, 0, true),
-        (Format::Counted, 17, 14, 0, false),
-        (Format::Counted, 18, 3, 0, false),
-        (Format::Counted, 18, 19, 0, false),
-        (Format::Counted, 99_999, 10_000, 0, false),
-        (Format::Counted, 18, 4, 0, true),
-        (Format::Counted, 99_999, 9_999, 0, true),
-        (Format::Spanned, 17, 0, 0, false),
-        (Format::Spanned, 10_000, 0, 0, false),
-        (Format::Spanned, 18, 0, 13, false),
-        (Format::Spanned, 20, 0, 15, false),
-        (Format::Spanned, 106, 0, 100, false),
-        (Format::Spanned, 18, 0, 0, true),
-        (Format::Spanned, 9_999, 0, 0, true),
-        (Format::Spanned, 18, 0, 12, true),
-        (Format::Spanned, 105, 0, 99, true),
-    ];
-    for (format, block_len, rec_len, offset, written) in rows {
-        let shape = shape(format, block_len, rec_len, offset);
-        assert!(rt; is_judged(rt.alloc(), shape, written), "{shape:?}");
+    for (format, block_len, rec_len, offset, written) in SHAPES {
+        let shape = shape(*format, *block_len, *rec_len, *offset);
+        assert!(rt; is_judged(rt.alloc(), shape, *written), "{shape:?}");
     }
+}
+
+/// Blocks that would be padded in full in a format that is not.
+#[test]
+fn shapes_padded_in_full_that_are_not_written(rt: HostRuntime) {
     for (format, block_len, rec_len) in [(Format::Fixed, 80, 80), (Format::Spanned, 20, 0)] {
         let shape = padded(format, block_len, rec_len, 0);
         assert!(rt; is_judged(rt.alloc(), shape, false), "{shape:?}");

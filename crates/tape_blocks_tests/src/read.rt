@@ -37,43 +37,48 @@ fn records_of_format_f(rt: HostRuntime) {
     assert!(rt; refuses(&f, false, &block, 80, BlockCause::NotMultiple));
 }
 
+/// Its name, whether a record is begun before the block, the block, whether one is begun behind
+/// it, and its parts.
+type Read<'a> = (&'a str, bool, &'a [u8], bool, &'a [(Span, &'a [u8])]);
+
+const SEGMENTS: &[Read<'_>] = &[
+    (
+        "first",
+        false,
+        b"100181234567890123",
+        true,
+        &[(Span::First, b"1234567890123")],
+    ),
+    (
+        "middle",
+        true,
+        b"200184567890123456",
+        true,
+        &[(Span::Middle, b"4567890123456")],
+    ),
+    (
+        "last",
+        true,
+        b"300097890^^^^^^^^^",
+        false,
+        &[(Span::Last, b"7890")],
+    ),
+    ("empty", false, b"00005", false, &[(Span::Whole, b"")]),
+    // A record ends, and the next one begins.
+    (
+        "two",
+        true,
+        b"30006A10007BC",
+        true,
+        &[(Span::Last, b"A"), (Span::First, b"BC")],
+    ),
+];
+
 #[test]
 fn segments_of_format_s(rt: HostRuntime) {
     let s = shape(Format::Spanned, 18, 0, 0);
-    let rows: [(&str, bool, &[u8], bool, &[(Span, &[u8])]); 5] = [
-        (
-            "first",
-            false,
-            b"100181234567890123",
-            true,
-            &[(Span::First, b"1234567890123")],
-        ),
-        (
-            "middle",
-            true,
-            b"200184567890123456",
-            true,
-            &[(Span::Middle, b"4567890123456")],
-        ),
-        (
-            "last",
-            true,
-            b"300097890^^^^^^^^^",
-            false,
-            &[(Span::Last, b"7890")],
-        ),
-        ("empty", false, b"00005", false, &[(Span::Whole, b"")]),
-        // A record ends, and the next one begins.
-        (
-            "two",
-            true,
-            b"30006A10007BC",
-            true,
-            &[(Span::Last, b"A"), (Span::First, b"BC")],
-        ),
-    ];
-    for (name, begun, block, end, parts) in rows {
-        assert!(rt; reads(&s, begun, block, end, parts), "{name}");
+    for (name, begun, block, end, parts) in SEGMENTS {
+        assert!(rt; reads(&s, *begun, block, *end, parts), "{name}");
     }
 }
 
