@@ -8,42 +8,42 @@ use tape_core::Event::{Bad, Block, Mark, ReelEnd};
 use tape_core::Reason::{
     BadItem, BadLabel, BlockCount, Broken, ReelEnded, SectionDiffers, SpanLeft,
 };
-use tape_core::{ReaderCore, Reason};
+use tape_core::{Answer, Event, ReaderCore, Reason};
 use tape_label::LabelFault;
 use tape_set::Want;
+
+/// Reads what stands behind the headers of the file's only section; then this is wanted.
+fn read_data(
+    rt: &impl Abort,
+    core: &mut ReaderCore,
+    name: &str,
+    row: &[(Event<'_>, Answer)],
+    want: Option<Want>,
+) {
+    read_section(rt, core, name, (HDR1, HDR2), row, want);
+}
 
 #[test]
 fn a_bad_block_stops_where_it_is_awaited_alone(rt: HostRuntime) {
     let mut core = reader(&rt, 1);
-    read_section(
-        &rt,
-        &mut core,
-        "a bad block that is awaited",
-        (HDR1, HDR2),
-        &[
-            (Block(b"0000"), Deliver),
-            (Block(b"1111"), Deliver),
-            (Block(b"2222"), Deliver),
-            (Bad, Useless(BadItem)),
-        ],
-        wanted(1, 3, 0),
-    );
-    read_section(
-        &rt,
-        &mut core,
-        "a bad block that was delivered",
-        (HDR1, HDR2),
-        &[
-            (Block(b"0000"), Passed),
-            (Bad, Passed),
-            (Block(b"2222"), Passed),
-            (Block(b"3333"), Deliver),
-            (Block(b"4444"), Deliver),
-            (Mark, Passed),
-            (Block(&counted(EOF1, b"000005")), Complete),
-        ],
-        None,
-    );
+    let awaited = [
+        (Block(b"0000".as_slice()), Deliver),
+        (Block(b"1111"), Deliver),
+        (Block(b"2222"), Deliver),
+        (Bad, Useless(BadItem)),
+    ];
+    read_data(&rt, &mut core, "awaited", &awaited, wanted(1, 3, 0));
+    let label = counted(EOF1, b"000005");
+    let delivered = [
+        (Block(b"0000".as_slice()), Passed),
+        (Bad, Passed),
+        (Block(b"2222"), Passed),
+        (Block(b"3333"), Deliver),
+        (Block(b"4444"), Deliver),
+        (Mark, Passed),
+        (Block(&label), Complete),
+    ];
+    read_data(&rt, &mut core, "delivered", &delivered, None);
 }
 
 #[test]
@@ -121,32 +121,21 @@ fn a_wrong_count_breaks_the_reader_until_a_restart(rt: HostRuntime) {
 #[test]
 fn a_reel_that_ends_before_its_trailer_completes_nothing(rt: HostRuntime) {
     let mut core = reader(&rt, 1);
-    read_section(
-        &rt,
-        &mut core,
-        "the reel ends",
-        (HDR1, HDR2),
-        &[
-            (Block(b"AAAA"), Deliver),
-            (Block(b"BBBB"), Deliver),
-            (Mark, Passed),
-            (ReelEnd, Useless(ReelEnded)),
-        ],
-        wanted(1, 2, 0),
-    );
-    read_section(
-        &rt,
-        &mut core,
-        "nothing is delivered twice",
-        (HDR1, HDR2),
-        &[
-            (Block(b"AAAA"), Passed),
-            (Block(b"BBBB"), Passed),
-            (Mark, Passed),
-            (Block(&counted(EOF1, b"000002")), Complete),
-        ],
-        None,
-    );
+    let ended = [
+        (Block(b"AAAA".as_slice()), Deliver),
+        (Block(b"BBBB"), Deliver),
+        (Mark, Passed),
+        (ReelEnd, Useless(ReelEnded)),
+    ];
+    read_data(&rt, &mut core, "the reel ends", &ended, wanted(1, 2, 0));
+    let label = counted(EOF1, b"000002");
+    let again = [
+        (Block(b"AAAA".as_slice()), Passed),
+        (Block(b"BBBB"), Passed),
+        (Mark, Passed),
+        (Block(&label), Complete),
+    ];
+    read_data(&rt, &mut core, "nothing comes twice", &again, None);
 }
 
 /// A section of one block, which leaves a record begun, is refused by its trailer.

@@ -9,20 +9,24 @@ use tape_core::Event::{Block, Mark};
 use tape_core::Reason::{BadBlock, SectionDiffers};
 use tape_core::{Answer, Checkpoint, ReaderCore};
 use tape_label::Format;
-use tape_set::Position;
+use tape_set::{Position, Want};
 
 /// A reader that goes on inside the first block of the file takes it with this answer.
 fn at_block(
     rt: &impl Abort,
-    name: &str,
+    number: usize,
     (part, begun): (u32, bool),
     (format, second): (Format, &[u8; 80]),
     (block, answer): (&[u8], Answer),
 ) {
     let at = Position::awaiting(1, 0).at_part(part);
     let mut core = reader_at(rt, at, begun, known(rt, format, 0));
-    front(rt, &mut core, name, HDR1, second);
-    assert_eq!(rt; core.step(Block(block)), answer, "{name}");
+    front(rt, &mut core, "the block comes", HDR1, second);
+    assert_eq!(rt;
+        core.step(Block(block)),
+        answer,
+        "row {number}: {part}, {begun}"
+    );
 }
 
 /// Two records: `AB`, and an empty one.
@@ -37,103 +41,73 @@ fn inside(rt: &impl Abort, core: &mut ReaderCore) -> Checkpoint {
     core.save(0).inside_block(before, 1, false, 7)
 }
 
+/// Takes this block as the first of the file with this answer; then this is wanted.
+fn take(
+    rt: &impl Abort,
+    core: &mut ReaderCore,
+    name: &str,
+    (block, answer): (&[u8], Answer),
+    want: Option<Want>,
+) {
+    let row = [(Block(block), answer)];
+    read_section(rt, core, name, (HDR1, HDR2_D), &row, want);
+}
+
 #[test]
 fn a_refused_part_is_awaited(rt: HostRuntime) {
     let mut core = reader(&rt, 1);
     let point = inside(&rt, &mut core);
     assert!(rt; point.staged == 7);
     go_to(&rt, &mut core, &point);
-    wants(&rt, &core, "inside the block", wanted(1, 0, 1));
-    let other = [(
-        Block(b"0006AB^^^^^^^^^^^^".as_slice()),
-        Useless(SectionDiffers),
-    )];
-    read_section(
-        &rt,
-        &mut core,
-        "another block",
-        (HDR1, HDR2_D),
-        &other,
-        wanted(1, 0, 1),
-    );
-    let again = [(Block(TWO), Deliver)];
-    read_section(
-        &rt,
-        &mut core,
-        "the block again",
-        (HDR1, HDR2_D),
-        &again,
-        wanted(1, 1, 0),
-    );
+    let inside = wanted(1, 0, 1);
+    wants(&rt, &core, "inside the block", inside);
+    let other = (b"0006AB^^^^^^^^^^^^".as_slice(), Useless(SectionDiffers));
+    take(&rt, &mut core, "another block", other, inside);
+    let again = (TWO, Deliver);
+    take(&rt, &mut core, "again", again, wanted(1, 1, 0));
     let label = counted(EOF1, b"000001");
-    go_on(
-        &rt,
-        &mut core,
-        "behind it",
-        &[(Mark, Passed), (Block(&label), Complete)],
-    );
-}
-
-/// The answer to a block of three parts of which so many were delivered.
-fn at_three(rt: &impl Abort, part: u32, answer: Answer) {
-    let three = b"0006AB0005C0004^^^";
-    let second = (Format::Counted, HDR2_D);
-    at_block(rt, "three parts", (part, false), second, (three, answer));
+    let end = [(Mark, Passed), (Block(&label), Complete)];
+    go_on(&rt, &mut core, "behind it", &end);
 }
 
 #[test]
 fn a_block_has_more_parts_than_were_delivered(rt: HostRuntime) {
-    at_three(&rt, 1, Deliver);
-    at_three(&rt, 2, Deliver);
-    at_three(&rt, 3, Useless(SectionDiffers));
-    at_three(&rt, 4, Useless(SectionDiffers));
+    let three = b"0006AB0005C0004^^^".as_slice();
+    let second = (Format::Counted, HDR2_D);
+    let rows = [(1, Deliver), (2, Deliver), (3, DIFFERS), (4, DIFFERS)];
+    for (number, (part, answer)) in rows.iter().enumerate() {
+        at_block(&rt, number, (*part, false), second, (three, *answer));
+    }
 }
 
-/// The answers to a block of which one part was delivered, where behind that part a record is
-/// begun, and where none is.
-fn at_spans(rt: &impl Abort, name: &str, block: &[u8], begun: Answer, not_begun: Answer) {
-    let second = (Format::Spanned, HDR2_S);
-    at_block(rt, name, (1, true), second, (block, begun));
-    at_block(rt, name, (1, false), second, (block, not_begun));
-}
+/// A block of format S whose second part goes on with no record.
+const BROKEN: Answer = Useless(BadBlock(BlockFault {
+    place: 6,
+    cause: BlockCause::SpanBroken,
+}));
+
+const DIFFERS: Answer = Useless(SectionDiffers);
+
+/// Blocks of which one part was delivered: the answer where behind that part a record is begun, and
+/// where none is.
+const SPANS: &[(&[u8], Answer, Answer)] = &[
+    // The end of a record that began in an earlier block, and a whole one.
+    (b"30006Z00006Y", DIFFERS, Deliver),
+    // The middle of such a record, and its end.
+    (b"20006Z30006Y", Deliver, DIFFERS),
+    // A whole record, and the front of one.
+    (b"00006Z10006Y", DIFFERS, Deliver),
+    // The front of a record, and then another: no block of any file.
+    (b"10006Z00006Y", BROKEN, BROKEN),
+];
 
 #[test]
 fn a_block_goes_on_as_its_first_parts_left_it(rt: HostRuntime) {
-    let differs = Useless(SectionDiffers);
-    // The end of a record that began in an earlier block, and a whole one.
-    at_spans(
-        &rt,
-        "an end, and a whole one",
-        b"30006Z00006Y",
-        differs,
-        Deliver,
-    );
-    // The middle of such a record, and its end.
-    at_spans(
-        &rt,
-        "a middle, and its end",
-        b"20006Z30006Y",
-        Deliver,
-        differs,
-    );
-    // A whole record, and the front of one.
-    at_spans(
-        &rt,
-        "a whole one, and a front",
-        b"00006Z10006Y",
-        differs,
-        Deliver,
-    );
-    // The front of a record, and then another: no block of any file.
-    let broken = Useless(BadBlock(BlockFault {
-        place: 6,
-        cause: BlockCause::SpanBroken,
-    }));
-    at_spans(
-        &rt,
-        "a front, and a whole one",
-        b"10006Z00006Y",
-        broken,
-        broken,
-    );
+    let second = (Format::Spanned, HDR2_S);
+    for (number, (block, begun, not_begun)) in SPANS.iter().enumerate() {
+        for (is_begun, answer) in [(true, *begun), (false, *not_begun)] {
+            let part = (1, is_begun);
+            at_block(&rt, number, part, second, (block, answer));
+        }
+    }
 }
