@@ -8,7 +8,7 @@ use std::rt::Runtime;
 use tape_run::Shelf;
 
 /// How many bytes of an image are read ahead, at most.
-const READ_AHEAD: usize = 32_768;
+pub const READ_AHEAD: usize = 32_768;
 
 /// The images of a run, by their names: each is opened when it is mounted, behind a buffer.
 #[derive(Drop)]

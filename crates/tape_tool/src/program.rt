@@ -6,6 +6,7 @@ use crate::extract::extract;
 use crate::fault::{Fault, FileFault, ToolFault};
 use crate::help;
 use crate::host::Host;
+use crate::images::READ_AHEAD;
 use crate::init::init;
 use crate::outline::{Outline, mistake};
 use crate::show::show;
@@ -178,7 +179,7 @@ fn list_input<R: Print + AllocGlobal, I: Read + Drop>(
         place: 0,
         cause: ImageCause::OutOfMemory,
     });
-    let Ok(mut reader) = BufReader::new(rt.alloc(), input) else {
+    let Ok(mut reader) = BufReader::with_capacity(rt.alloc(), READ_AHEAD, input) else {
         return Err(no_memory);
     };
     let Ok(mut writer) = BufWriter::new(rt.alloc(), io::writer(rt)) else {
