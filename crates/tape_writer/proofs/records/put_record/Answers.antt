@@ -69,7 +69,8 @@ offers-preserved g c =
       asked = λ w. c.in_ok-flush-in-Ok-BlockReady.ensures.asked (c.offers.invariant.asked w);
       packing = λ set_id fs records k.
           rw (take_rest c.offers.rest.now c.in-Ok-BlockReady.taken)
-          (packing_next _ _ _ _ _ _ _ _ _ _ _ _ _ _ _ _ c.in-Ok-BlockReady.ensures.judged offers c.in_ok-flush-in-Ok-BlockReady.ensures.emptied
+          (packing_next _ _ _ _ _ _ _ _ _ _ _ _ _ _ _ _ c.in-Ok-BlockReady.ensures.judged
+          offers c.in_ok-flush-in-Ok-BlockReady.ensures.emptied
           (λ d o. c.in_ok-flush-in-Ok-BlockReady.ensures.flushed offers.0 set_id d o)
           (c.offers.invariant.packing set_id fs records k));
     }
