@@ -29,6 +29,8 @@ mod listing;
 #[cfg(test)]
 mod long;
 #[cfg(test)]
+mod now;
+#[cfg(test)]
 mod order;
 #[cfg(test)]
 mod placed;

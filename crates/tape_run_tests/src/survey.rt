@@ -98,198 +98,176 @@ fn undefined(alloc: Global) -> Result<Image, AllocError> {
     Ok(image)
 }
 
-#[test]
-fn whole_reels(rt: HostRuntime) -> Result<(), Fail> {
-    let first = first_of_two(rt.alloc())?;
-    let second = second_of_two(rt.alloc())?;
-    let lines = "2.tap: volume ABC002, 1 file
+const BOTH: &str = "2.tap: volume ABC002, 1 file
 1?.tap: volume ABC001, 1 file
 Set ABC001
   1 PAYROLL             00000  complete
 Nothing lacks, and nothing on the images is left over.
 ";
+
+const FIRST: &str = "one.tap: volume ABC001, 1 file
+Set ABC001
+  1 PAYROLL             00000  wants section 2, on the volume behind ABC001
+";
+
+const SECOND: &str = "one.tap: volume ABC002, 1 file
+Set ABC001
+  1 PAYROLL             00000  wants section 1, of which nothing was met
+";
+
+#[test]
+fn whole_reels(rt: HostRuntime) -> Result<(), Fail> {
+    let first = first_of_two(rt.alloc())?;
+    let second = second_of_two(rt.alloc())?;
     survey(
         &rt,
         &[Some(second.bytes.as_slice()), Some(first.bytes.as_slice())],
         &["2.tap", "1\t.tap"],
         true,
-        lines,
+        BOTH,
     )?;
-    one(
-        &rt,
-        &first,
-        "one.tap: volume ABC001, 1 file
-Set ABC001
-  1 PAYROLL             00000  wants section 2, on the volume behind ABC001
-",
-    )?;
-    one(
-        &rt,
-        &second,
-        "one.tap: volume ABC002, 1 file
-Set ABC001
-  1 PAYROLL             00000  wants section 1, of which nothing was met
-",
-    )
+    one(&rt, &first, FIRST)?;
+    one(&rt, &second, SECOND)
 }
+
+const SHORT: &str = "one.tap: no labels; its first block has 300 bytes\n";
+
+const EBCDIC: &str = "one.tap: labels in EBCDIC, which are not read\n";
+
+const NOISE: &str = "one.tap: does not begin with a label, 1 block that cannot be read; a VOL1 at \
+         item 2\n";
+
+const NONE: &str = "empty.tap: no items; ends before its volume does
+lost.tap: not opened
+text.tap: no items; image fault 3 at 0: no SIMH image, or a compressed one (zcat)
+";
 
 #[test]
 fn no_labelled_volumes(rt: HostRuntime) -> Result<(), Fail> {
     let alloc = rt.alloc();
     one(&rt, &blank(alloc)?, "one.tap: volume ABC001\n")?;
-    one(
-        &rt,
-        &begun(alloc, &[7u8; 300])?,
-        "one.tap: no labels; its first block has 300 bytes\n",
-    )?;
+    one(&rt, &begun(alloc, &[7u8; 300])?, SHORT)?;
     let mut ebcdic = [0x40u8; 80];
     ebcdic[..4].copy_from_slice(b"\xE5\xD6\xD3\xF1");
-    one(
-        &rt,
-        &begun(alloc, &ebcdic)?,
-        "one.tap: labels in EBCDIC, which are not read\n",
-    )?;
-    one(
-        &rt,
-        &behind_noise(alloc)?,
-        "one.tap: does not begin with a label, 1 block that cannot be read; a VOL1 at item 2\n",
-    )?;
-    let lines = "empty.tap: no items; ends before its volume does
-lost.tap: not opened
-text.tap: no items; image fault 3 at 0: no SIMH image, or a compressed one (zcat)
-";
+    one(&rt, &begun(alloc, &ebcdic)?, EBCDIC)?;
+    one(&rt, &behind_noise(alloc)?, NOISE)?;
     survey(
         &rt,
         &[Some(b"".as_slice()), None, Some(b"text".as_slice())],
         &["empty.tap", "lost.tap", "text.tap"],
         false,
-        lines,
+        NONE,
     )
 }
+
+const NO_SECOND: &str = "one.tap: volume ABC001, 1 file; item 3 is no HDR2: not read further\n";
+
+const UNREAD: &str = "one.tap: volume ABC001, 1 file, 1 block that cannot be read; item 9 is no \
+         HDR1 and no tape mark: not read further
+Set ABC001
+  1 PAYROLL             00000  complete
+";
+
+const BEHIND: &str = "one.tap: volume ABC001, 1 file; item 13 stands behind the end of the volume: \
+         not read further
+Set ABC001
+  1 PAYROLL             00000  complete
+";
+
+const CUT: &str = "one.tap: volume ABC001, 1 file; ends before its volume does
+Set ABC001
+  1 PAYROLL             00000  complete
+";
+
+const UNDEFINED: &str = "one.tap: volume ABC001, 1 file; file 1 has a record format that is not read
+Set ABC001
+  1 PAYROLL             00000  complete
+";
 
 #[test]
 fn left_over(rt: HostRuntime) -> Result<(), Fail> {
     let alloc = rt.alloc();
-    one(
-        &rt,
-        &without_second(alloc)?,
-        "one.tap: volume ABC001, 1 file; item 3 is no HDR2: not read further\n",
-    )?;
-    let whole = "Set ABC001
-  1 PAYROLL             00000  complete
-";
-    let lines = "one.tap: volume ABC001, 1 file, 1 block that cannot be read; item 9 is no HDR1 \
-                 and no tape mark: not read further\n";
-    one(
-        &rt,
-        &second_unread(alloc)?,
-        joined(alloc, lines, whole)?.as_str(),
-    )?;
-    let lines = "one.tap: volume ABC001, 1 file; item 13 stands behind the end of the volume: \
-                 not read further\n";
-    one(
-        &rt,
-        &with_items_behind(alloc)?,
-        joined(alloc, lines, whole)?.as_str(),
-    )?;
-    let lines = "one.tap: volume ABC001, 1 file; ends before its volume does\n";
-    one(
-        &rt,
-        &cut(alloc, 2476)?,
-        joined(alloc, lines, whole)?.as_str(),
-    )?;
-    let lines = "one.tap: volume ABC001, 1 file; file 1 has a record format that is not read\n";
-    one(
-        &rt,
-        &undefined(alloc)?,
-        joined(alloc, lines, whole)?.as_str(),
-    )
+    one(&rt, &without_second(alloc)?, NO_SECOND)?;
+    one(&rt, &second_unread(alloc)?, UNREAD)?;
+    one(&rt, &with_items_behind(alloc)?, BEHIND)?;
+    one(&rt, &cut(alloc, 2476)?, CUT)?;
+    one(&rt, &undefined(alloc)?, UNDEFINED)
 }
 
-/// One text behind the other.
-fn joined(alloc: Global, first: &str, second: &str) -> Result<String, AllocError> {
-    let mut text = String::new(alloc);
-    text.push_str(first)?;
-    text.push_str(second)?;
-    Ok(text)
-}
-
-#[test]
-fn damaged_and_mixed(rt: HostRuntime) -> Result<(), Fail> {
-    let alloc = rt.alloc();
-    one(
-        &rt,
-        &five_blocks(alloc, 3, EOF_FOUR)?,
-        "one.tap: volume ABC001, 1 file, 1 block that cannot be read
+const COUNT: &str = "one.tap: volume ABC001, 1 file, 1 block that cannot be read
 Set ABC001
   1 PAYROLL             00000  section 1 is COUNT on ABC001; damaged copies together may have \
          it: try extract
-",
-    )?;
-    one(
-        &rt,
-        &cut(alloc, 2000)?,
-        "one.tap: volume ABC001, 1 file; image fault 1 at 1884
+";
+
+const BROKEN_OFF: &str = "one.tap: volume ABC001, 1 file; image fault 1 at 1884
 Set ABC001
   1 PAYROLL             00000  section 1 is CUT on ABC001; damaged copies together may have it: \
          try extract
-",
-    )?;
-    let first = payroll(alloc)?;
-    let other = one_section(
-        alloc,
-        "HDR1LEDGER           ABC00100010001000100 00000 00000 000000",
-        EOF_ONE,
-    )?;
-    let lines = "one.tap: volume ABC001, 1 file
+";
+
+const MIXED: &str = "one.tap: volume ABC001, 1 file
 two.tap: volume ABC001, 1 file
 Set ABC001
   1 PAYROLL             00000  complete; labels of different files were met under its number
 ";
+
+/// The header of another file, with the numbers of the worked one.
+const LEDGER: &str = "HDR1LEDGER           ABC00100010001000100 00000 00000 000000";
+
+#[test]
+fn damaged_and_mixed(rt: HostRuntime) -> Result<(), Fail> {
+    let alloc = rt.alloc();
+    one(&rt, &five_blocks(alloc, 3, EOF_FOUR)?, COUNT)?;
+    one(&rt, &cut(alloc, 2000)?, BROKEN_OFF)?;
+    let first = payroll(alloc)?;
+    let other = one_section(alloc, LEDGER, EOF_ONE)?;
     survey(
         &rt,
         &[Some(first.bytes.as_slice()), Some(other.bytes.as_slice())],
         &["one.tap", "two.tap"],
         false,
-        lines,
+        MIXED,
     )
 }
 
-#[test]
-fn rows(rt: HostRuntime) -> Result<(), Fail> {
-    let alloc = rt.alloc();
-    let (whole, cut) = (payroll(alloc)?, cut(alloc, 2000)?);
-    let lines = "IMAGE\t1?.tap\tWHOLE\tABC001\tABC001\t\t12\t1\t0\tMARKED\tvolume ABC001, 1 file
+const ROWS: &str = "IMAGE\t1?.tap\tWHOLE\tABC001\tABC001\t\t12\t1\t0\tMARKED\tvolume ABC001, \
+         1 file
 IMAGE\tcut.tap\tLEFT OVER\tABC001\tABC001\t\t6\t1\t0\tFAULT 1 1884\tvolume ABC001, 1 file; \
          image fault 1 at 1884
 IMAGE\tlost.tap\tNOT OPENED\t\t\t\t\t\t\t\tnot opened
 SECTION\tABC001\t1\t1\tABC001\t3\tGOOD\tEOF
 FILE\tABC001\t1\tPAYROLL\t 00000\tCOMPLETE\t\t\t
 ";
-    told(
-        &rt,
-        &[
-            Some(whole.bytes.as_slice()),
-            Some(cut.bytes.as_slice()),
-            None,
-        ],
-        &["1\t.tap", "cut.tap", "lost.tap"],
-        Wording::Rows,
-        false,
-        lines,
-    )?;
-    let counted = five_blocks(alloc, 3, EOF_FOUR)?;
-    let lines = "IMAGE\tone.tap\tWHOLE\tABC001\tABC001\t\t14\t1\t1\tMARKED\tvolume ABC001, \
-         1 file, 1 block that cannot be read
+
+#[test]
+fn rows(rt: HostRuntime) -> Result<(), Fail> {
+    let alloc = rt.alloc();
+    let (whole, cut) = (payroll(alloc)?, cut(alloc, 2000)?);
+    let images = [
+        Some(whole.bytes.as_slice()),
+        Some(cut.bytes.as_slice()),
+        None,
+    ];
+    let names = ["1\t.tap", "cut.tap", "lost.tap"];
+    told(&rt, &images, &names, Wording::Rows, false, ROWS)
+}
+
+const ROWS_OF_COUNT: &str = "IMAGE\tone.tap\tWHOLE\tABC001\tABC001\t\t14\t1\t1\tMARKED\tvolume \
+         ABC001, 1 file, 1 block that cannot be read
 SECTION\tABC001\t1\t1\tABC001\t5\tCOUNT\tEOF
 FILE\tABC001\t1\tPAYROLL\t 00000\tCOUNT\t1\tABC001\t
 ";
+
+#[test]
+fn rows_of_a_wrong_count(rt: HostRuntime) -> Result<(), Fail> {
+    let counted = five_blocks(rt.alloc(), 3, EOF_FOUR)?;
     told(
         &rt,
         &[Some(counted.bytes.as_slice())],
         &["one.tap"],
         Wording::Rows,
         false,
-        lines,
+        ROWS_OF_COUNT,
     )
 }

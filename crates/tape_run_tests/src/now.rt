@@ -1,0 +1,112 @@
+//! Files whose records are written as they come, to writers and under names that fail.
+
+ghost use Rattle.std.specs.Prelude.{None};
+
+use crate::devices::Narrow;
+use crate::extract::shelf_of;
+use crate::image::set_id;
+use crate::volumes::cut;
+use std::alloc::Global;
+use std::test::Fail;
+use tape_blocks::Form;
+use tape_core::SinkFault;
+use tape_run::{EngineFault, OutSink, Place, RunFault, Session, WriteFailed, extract_now};
+use tape_set::Want;
+
+/// A name, under which an output comes to stand where it is free.
+#[derive(Drop)]
+struct Name {
+    is_free: bool,
+    there: Option<Narrow>,
+}
+
+impl Place<Narrow> for Name {
+    ghost stands = { λ _. None };
+
+    fn place(&mut self, out: Narrow) -> Result<(), WriteFailed> {
+        if !self.is_free {
+            return Err(WriteFailed);
+        }
+        self.there = Some(out);
+        Ok(())
+    }
+}
+
+/// How much of the worked image there is, how many bytes of its records are taken, whether they can
+/// be flushed, and whether their name is free; what is answered and reported then, and how many
+/// bytes stand under the name.
+type Row<'a> = (
+    usize,
+    usize,
+    bool,
+    bool,
+    Result<Option<Want>, EngineFault>,
+    &'a str,
+    Option<usize>,
+);
+
+/// The third block is wanted.
+const THIRD: Option<Want> = Some(Want {
+    file: 1,
+    sect: 1,
+    block: 2,
+    part: 0,
+});
+
+/// A record could not be written where the parts of its block came.
+const REFUSED: Result<Option<Want>, EngineFault> = Err(EngineFault::Run(RunFault::Sink(
+    SinkFault::Device,
+)));
+
+const FAILED: Result<Option<Want>, EngineFault> = Err(EngineFault::WriteFailed);
+
+const ROWS: &[Row<'_>] = &[
+    (
+        2484,
+        2025,
+        true,
+        true,
+        Ok(None),
+        "REEL 1 COMPLETE\nCOMPLETE 25\n",
+        Some(2025),
+    ),
+    (
+        1884,
+        2025,
+        true,
+        true,
+        Ok(THIRD),
+        "REEL 1 REEL ENDED\nAWAITS 1 1 2\n",
+        None,
+    ),
+    (2484, 100, true, true, REFUSED, "", None),
+    (2484, 2024, true, true, REFUSED, "", None),
+    (2484, 2025, false, true, FAILED, "REEL 1 COMPLETE\n", None),
+    (2484, 2025, true, false, FAILED, "REEL 1 COMPLETE\n", None),
+];
+
+/// Whether it comes to what stands in the row.
+fn comes_to(alloc: Global, row: &Row<'_>) -> Result<bool, Fail> {
+    let (length, left, flushes, is_free, wanted, lines, there) = row;
+    let image = cut(alloc, *length)?;
+    let out = Narrow::new(alloc, *left, *flushes);
+    let session = Session::new(alloc, set_id(), 1, OutSink::new(out, Form::Lines))?;
+    let mut shelf = shelf_of(alloc, &mut [Some(image.bytes.as_slice())])?;
+    let mut report = Vec::new(alloc);
+    let mut name = Name {
+        is_free: *is_free,
+        there: None,
+    };
+    let answer = extract_now(session, &mut shelf, Form::Lines, &mut name, &mut report);
+    let stands = name.there.map(|out| out.taken.len());
+    Ok(answer == *wanted && report.as_slice() == lines.as_bytes() && stands == *there)
+}
+
+/// While something is wanted, and where something fails, nothing comes to stand under the name.
+#[test]
+fn outputs_that_fail(rt: HostRuntime) -> Result<(), Fail> {
+    for (number, row) in ROWS.iter().enumerate() {
+        assert!(rt; comes_to(rt.alloc(), row)?, "row {number}");
+    }
+    Ok(())
+}
