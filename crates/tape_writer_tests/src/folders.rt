@@ -1,6 +1,6 @@
 //! Images and inputs that are files. Each test has a folder of its own.
 
-use crate::inputs::payroll;
+use crate::inputs::{one_file, payroll, plan};
 use crate::sets::{FIXED, head, spanned};
 use crate::volumes::one_volume;
 use std::alloc::{AllocError, Global};
@@ -12,7 +12,7 @@ use std::rt::Runtime;
 use std::test::Fail;
 use tape_blocks::{Form, Shape};
 use tape_writer::system::{
-    FileFault, FolderPlan, InputFile, SystemFault, image_path, make_image, write_in_folder,
+    Ended, FileFault, FolderPlan, InputFile, SystemFault, image_path, make_image, write_in_folder,
 };
 use tape_writer::{Input, Prefix, WriteFault};
 
@@ -68,15 +68,14 @@ fn blank_images(rt: HostRuntime) -> Result<(), Fail> {
     holds(&rt, "made/ABC020.tap", b"kept")
 }
 
-/// Writes the bytes as a file on volumes of this folder, and says on how many, of which the last
-/// has so many bytes.
-fn write<R: Runtime + AllocGlobal>(
+/// Writes the bytes as a file on volumes of this folder, and says on which.
+fn ended<R: Runtime + AllocGlobal>(
     rt: &R,
     folder: &str,
     capacity: u32,
     shape: Shape,
     bytes: &[u8],
-) -> Result<(usize, u64), SystemFault> {
+) -> Result<Vec<Ended>, SystemFault> {
     let plan = FolderPlan {
         folder,
         prefix: ABC,
@@ -88,7 +87,18 @@ fn write<R: Runtime + AllocGlobal>(
         head: head(),
         reader: bytes,
     }];
-    let ended = write_in_folder(rt, &plan, &mut files)?;
+    write_in_folder(rt, &plan, &mut files)
+}
+
+/// The same, and says on how many, of which the last has so many bytes.
+fn write<R: Runtime + AllocGlobal>(
+    rt: &R,
+    folder: &str,
+    capacity: u32,
+    shape: Shape,
+    bytes: &[u8],
+) -> Result<(usize, u64), SystemFault> {
+    let ended = ended(rt, folder, capacity, shape, bytes)?;
     let size = match ended.as_slice() {
         [.., last] => last.size,
         [] => 0,
@@ -161,6 +171,84 @@ fn a_set_in_a_folder(rt: HostRuntime) -> Result<(), Fail> {
     let wanted = one_volume(rt.alloc(), records.as_slice())?;
     holds(&rt, "one/ABC001.tap", wanted.as_slice())?;
     holds(&rt, "second/ABC002.tap", b"kept")
+}
+
+/// A folder, a capacity, the length of blocks of format S, and that of the record in them, whose
+/// bytes differ from block to block. Blocks longer than what is held, blocks of which one is held
+/// and two are not, and short ones; on one volume, on two and on three.
+const AS_IN_MEMORY: &[(&str, u32, u32, usize)] = &[
+    ("long", 150_000, 9_999, 120_000),
+    ("middle", 100_000, 5_000, 120_000),
+    ("short", 1_042, 18, 650),
+];
+
+/// So many bytes, of which no two in a row are the same.
+fn counted_up(alloc: Global, count: usize) -> Result<Vec<u8>, AllocError> {
+    let mut bytes = Vec::new(alloc);
+    for number in 0..count as u64 {
+        bytes.push((number % 251) as u8)?;
+    }
+    Ok(bytes)
+}
+
+/// Whether such a volume was told, and the file has the bytes of the image.
+fn is_image<R: Runtime + AllocGlobal>(
+    rt: &R,
+    folder: &str,
+    number: u16,
+    ended: &Ended,
+    image: &[u8],
+) -> Result<bool, Fail> {
+    let path = image_path(rt.alloc(), folder, ABC, number)?;
+    let is_told = ended.size == image.len() as u64 && path.as_str().contains(text_of(ended));
+    Ok(is_told && fs::read(rt, path.as_str())?.as_slice() == image)
+}
+
+/// The identifier of the volume.
+fn text_of(ended: &Ended) -> &str {
+    str::from_utf8(ended.volume.bytes()).unwrap_or("")
+}
+
+/// The record becomes on files what it becomes in memory, and the same is told.
+#[test]
+fn files_are_as_in_memory(rt: HostRuntime) -> Result<(), Fail> {
+    for (folder, capacity, block_len, count) in AS_IN_MEMORY {
+        let bytes = counted_up(rt.alloc(), *count)?;
+        are_as_in_memory(
+            &rt,
+            folder,
+            *capacity,
+            spanned(*block_len),
+            bytes.as_slice(),
+        )?;
+    }
+    Ok(())
+}
+
+/// The bytes as one record become on files what they become in memory.
+fn are_as_in_memory<R: Runtime + AllocGlobal + Abort>(
+    rt: &R,
+    folder: &str,
+    capacity: u32,
+    shape: Shape,
+    bytes: &[u8],
+) -> Result<(), Fail> {
+    fs::create_dir(rt, folder)?;
+    let plan = plan(rt.alloc(), 3, capacity, shape, Form::Raw)?;
+    let (Ok(images), Ok(ended)) = (
+        one_file(rt.alloc(), plan, bytes)?,
+        ended(rt, folder, capacity, shape, bytes),
+    ) else {
+        return Err(Fail::from("a set that should be written"));
+    };
+    let mut number = 0u16;
+    for (volume, image) in ended.iter().zip(images.iter()) {
+        number = number.saturating_add(1);
+        let same = is_image(rt, folder, number, volume, image.as_slice())?;
+        assert!(rt; same, "{folder}: {number}");
+    }
+    assert!(rt; ended.len() == images.len(), "{folder}: {}", ended.len());
+    Ok(())
 }
 
 /// Volumes 1 to 256 are there, and no more: each takes 22 blocks of 18 bytes, of which 13 are the
