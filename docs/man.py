@@ -195,7 +195,7 @@ def page():
 
 def words_of_source():
     """Each word of the commands with the name of its text, as the sources pair them."""
-    parts = (("words.rt",), ("words", "outlines.rt"), ("write", "words.rt"))
+    parts = [("words.rt",), *((name, "words.rt") for name in COMMANDS)]
     source = "".join(read(SOURCE, *part) for part in parts)
     rows = re.findall(r'Word\(\s*"([^"]+)",\s*Kind::(\w+).*?help::(\w+)', source, re.S)
     options = ("Flag", "FlagOf", "TextOption", "NumberOption", "NameOption")

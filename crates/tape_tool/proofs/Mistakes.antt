@@ -16,7 +16,7 @@ use Rattle.tape_stage.specs.Staged.{Staged}
 use Rattle.tape_writer.specs.declared.fault.WriteFault.TheVariants as write_faults
 use Rattle.tape_tool.specs.declared.end.End.TheVariants as ends
 use Rattle.tape_writer.specs.declared.system.fault.FileFault.TheVariants as file_faults
-use Rattle.tape_tool.specs.declared.show.ending.StageEnding.TheVariants as endings
+use Rattle.tape_tool.specs.declared.stage.ending.StageEnding.TheVariants as endings
 use Rattle.tape_tool.specs.declared.fault.ToolFault.TheVariants as tool_faults
 use Rattle.tape_tool.specs.declared.fault.Fault.TheVariants as faults
 use Rattle.tape_tool.specs.Ends.{exit_status}
@@ -28,7 +28,7 @@ use Rattle.tape_tool.proofs.end.damaged_end.Reads as damaged_end
 use Rattle.tape_tool.proofs.end.extract_end.Reads as extract_end
 use Rattle.tape_tool.proofs.end.words_end.Reads as words_end
 use Rattle.tape_tool.proofs.end.no_words_end.Reads as no_words_end
-use Rattle.tape_tool.proofs.check_files.check_end.Reads as check_end
+use Rattle.tape_tool.proofs.end.check_end.Reads as check_end
 use Rattle.tape_tool.proofs.fault.number_of_file.Reads as number_of_file
 use Rattle.tape_tool.proofs.fault.number_of_write.Reads as number_of_write
 use Rattle.tape_tool.proofs.telling.fault_line.Reads as fault_line

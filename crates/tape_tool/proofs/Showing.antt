@@ -15,7 +15,7 @@ use Rattle.tape_run.specs.RecordText.{output_of}
 use Rattle.tape_stage.specs.Salvaged.{Remains}
 use Rattle.tape_stage.specs.Staged.{Staged}
 use Rattle.tape_tool.specs.declared.fault.ToolFault.{ToolFault}
-use Rattle.tape_tool.specs.declared.show.ending.StageEnding.{StageEnding}
+use Rattle.tape_tool.specs.declared.stage.ending.StageEnding.{StageEnding}
 use Rattle.tape_tool.specs.Showing.{told_with, ending_of, Gives, GivesFront, Shows, StopsShowing}
 use Rattle.tape_tool.specs.Showing.{in_part, salvaged_in_part, ShowsDamaged, StopsSalvaging}
 

@@ -20,8 +20,8 @@ use Rattle.tape_tool.specs.declared.end.End.TheVariants.{Done, Faulted, Incomple
 use Rattle.tape_tool.specs.declared.fault.Fault.TheVariants.{Tool}
 use Rattle.tape_tool.specs.declared.fault.ToolFault.{ToolFault}
 use Rattle.tape_tool.specs.declared.fault.ToolFault.TheVariants.{Stage}
-use Rattle.tape_tool.specs.declared.show.ending.StageEnding.{StageEnding}
-use Rattle.tape_tool.specs.declared.show.ending.StageEnding.TheVariants.{Whole, Broken}
+use Rattle.tape_tool.specs.declared.stage.ending.StageEnding.{StageEnding}
+use Rattle.tape_tool.specs.declared.stage.ending.StageEnding.TheVariants.{Whole, Broken}
 use Rattle.tape_tool.specs.Ends.{stage_end, damaged_end}
 use Rattle.tape_tool.specs.Showing.{ending_of, told_with, Shows, StopsShowing}
 use Rattle.tape_tool.specs.Showing.{ShowsDamaged, StopsSalvaging}

@@ -12,8 +12,8 @@ use Rattle.tape_writer.specs.declared.system.fault.FileFault.TheVariants.{WriteF
 use Rattle.tape_tool.specs.declared.fault.ToolFault.{ToolFault}
 use Rattle.tape_tool.specs.declared.fault.ToolFault.TheVariants.{File}
 use Rattle.tape_tool.specs.declared.fault.Fault.TheVariants.{Tool, OutOfMemory}
-use Rattle.tape_tool.specs.declared.show.ending.StageEnding.{StageEnding}
-use Rattle.tape_tool.specs.declared.show.ending.StageEnding.TheVariants.{Whole, Broken}
+use Rattle.tape_tool.specs.declared.stage.ending.StageEnding.{StageEnding}
+use Rattle.tape_tool.specs.declared.stage.ending.StageEnding.TheVariants.{Whole, Broken}
 use Rattle.tape_tool.specs.Fault.{of_engine}
 
 -- the exit status of each end

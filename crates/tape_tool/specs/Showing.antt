@@ -17,8 +17,8 @@ use Rattle.tape_stage.specs.Staged.{Staged, HoldsNone}
 use Rattle.tape_stage.specs.declared.stage.StageFault.{StageFault}
 use Rattle.tape_tool.specs.declared.fault.ToolFault.{ToolFault}
 use Rattle.tape_tool.specs.declared.fault.ToolFault.TheVariants.{Stage}
-use Rattle.tape_tool.specs.declared.show.ending.StageEnding.{StageEnding}
-use Rattle.tape_tool.specs.declared.show.ending.StageEnding.TheVariants.{Whole, Broken}
+use Rattle.tape_tool.specs.declared.stage.ending.StageEnding.{StageEnding}
+use Rattle.tape_tool.specs.declared.stage.ending.StageEnding.TheVariants.{Whole, Broken}
 
 -- the file of a checkpoint, and how many whole records are staged before it
 abbrev pub stage_line : Point → ℕ → List ℕ

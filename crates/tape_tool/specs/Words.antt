@@ -39,4 +39,4 @@ IsWrite P (orders.Check _) = ⊥
 IsWrite P (orders.Survey _) = ⊥
 IsWrite P (orders.Unpack _) = ⊥
 IsWrite P (orders.Extract _) = ⊥
-IsWrite P (orders.Show _) = ⊥
+IsWrite P (orders.Stage _) = ⊥

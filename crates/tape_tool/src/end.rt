@@ -1,10 +1,10 @@
 //! How a run of the program ends, and what its caller sees of that.
 ghost use Rattle.std.specs.Prelude.{◌≡◌};
 ghost use Rattle.tape_tool.specs.Ends.{exit_status, end_of, help_end, words_end, no_words_end};
-ghost use Rattle.tape_tool.specs.Ends.{extract_end, stage_end, damaged_end};
+ghost use Rattle.tape_tool.specs.Ends.{check_end, extract_end, stage_end, damaged_end};
 
 use crate::fault::{Fault, FileFault, ToolFault};
-use crate::show::StageEnding;
+use crate::stage::StageEnding;
 use crate::telling::fault_line;
 use clap::error::ErrorKind;
 use std::io;
@@ -45,6 +45,17 @@ pub fn end_of(done: Result<(), ToolFault>) -> End
     match done {
         Ok(()) => End::Done,
         Err(fault) => End::Faulted(Fault::Tool(fault)),
+    }
+}
+
+/// How a check ends, which found all or did not.
+pub fn check_end(checked: Result<bool, EngineFault>) -> End
+    ensures { result ≡ check_end checked }
+{
+    match checked {
+        Ok(true) => End::Done,
+        Ok(false) => End::Incomplete,
+        Err(fault) => End::Faulted(Fault::Tool(ToolFault::from(fault))),
     }
 }
 

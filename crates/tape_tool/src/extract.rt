@@ -4,6 +4,7 @@ mod guard;
 mod out_file;
 mod program;
 mod stage_file;
+pub mod words;
 
 pub use draft::{Draft, OutName};
 pub use guard::{Way, way_to_out};

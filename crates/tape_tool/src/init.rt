@@ -1,50 +1,5 @@
 //! `init`: images of volumes without files.
-use crate::end::{End, end_of};
-use crate::explain::Site;
-use crate::fault::{Fault, ToolFault};
-use crate::words::Init;
-use std::io;
-use std::io::Write;
-use std::rt::Runtime;
-use tape_run::{WriteFailed, flush, write_text};
-use tape_writer::system::{image_path, make_image};
+mod run;
+pub mod words;
 
-/// Makes the images, and says how many. At a fault the site is where it came.
-pub fn init<R: Runtime + AllocGlobal>(rt: &R, order: &Init<'_>, site: &mut Site<'_>) -> End {
-    for number in 1..=order.count {
-        *site = Site::Volume(order.prefix, number);
-        if let Err(fault) = make(rt, order, number) {
-            return End::Faulted(fault);
-        }
-    }
-    *site = Site::Lines;
-    tell(rt, order.count)
-}
-
-/// Makes the image of a volume.
-fn make<R: Runtime + AllocGlobal>(rt: &R, order: &Init<'_>, number: u16) -> Result<(), Fault> {
-    let Ok(path) = image_path(rt.alloc(), order.folder, order.prefix, number) else {
-        return Err(Fault::OutOfMemory);
-    };
-    match make_image(rt, path.as_str(), order.prefix, number) {
-        Ok(()) => Ok(()),
-        Err(fault) => Err(Fault::Tool(ToolFault::File(fault))),
-    }
-}
-
-/// Tells how many volumes were made.
-fn tell<R: Print + AllocGlobal>(rt: &R, count: u16) -> End {
-    let Ok(line) = format!(in rt.alloc(); "INIT {count}\n") else {
-        return End::Faulted(Fault::OutOfMemory);
-    };
-    match say(&mut io::writer(rt), line.as_str()) {
-        Ok(()) => End::Done,
-        Err(fault) => end_of(Err(ToolFault::from(fault))),
-    }
-}
-
-/// Writes a text, and has the writer pass it on.
-fn say<W: Write>(writer: &mut W, text: &str) -> Result<(), WriteFailed> {
-    write_text(writer, text.as_bytes())?;
-    flush(writer)
-}
+pub use run::init;

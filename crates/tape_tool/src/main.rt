@@ -1,29 +1,39 @@
 //! `tape`: reads labelled magnetic tape volumes in SIMH `.tap` images.
 #![tactic(auto)]
 
-mod check_files;
+// A run, from its words to its exit status.
+mod program;
+mod words;
+
+// How it ends.
 mod end;
-mod explain;
-mod extract;
 mod fault;
+mod telling;
+
+// Its texts.
+mod explain;
 mod help;
+mod outline;
+
+// A folder a command: what its words ask for, and its runner.
+mod check;
+mod extract;
+mod init;
+mod list;
+mod stage;
+mod survey;
+mod unpack;
+mod write;
+
+// What several of them share.
 mod host;
 mod images;
-mod init;
 mod laws;
 mod names;
-mod outline;
-mod program;
-mod show;
 mod staging;
-mod survey_files;
-mod telling;
 #[cfg(test)]
 mod tests;
 mod unfit;
-mod unpack;
-mod words;
-mod write;
 
 use std::process::ExitCode;
 

@@ -1,29 +1,22 @@
-//! The program around the engines: words, files, buffers.
-use crate::check_files::check;
-use crate::end::{End, end_of, finish, no_words_end, words_end};
+//! A run of the program, from its words to its exit status.
+use crate::check::check;
+use crate::end::{End, finish, no_words_end, words_end};
 use crate::explain::{Explanation, Site};
 use crate::extract::extract;
-use crate::fault::{Fault, FileFault, ToolFault};
+use crate::fault::Fault;
 use crate::help;
 use crate::host::Host;
-use crate::images::READ_AHEAD;
 use crate::init::init;
+use crate::list::list;
 use crate::outline::{Outline, mistake};
-use crate::show::show;
-use crate::survey_files::survey;
+use crate::stage::stage;
+use crate::survey::survey;
 use crate::unfit::Unfit;
 use crate::unpack::unpack;
-use crate::words::{Call, Listing, Order, call_of};
-use crate::write::command::write;
-use crate::write::guard::{look_ahead, wrong_file};
-use crate::write::words::{WRITE, WriteOrder};
+use crate::words::{Call, Order, call_of};
+use crate::write::run::write;
 use clap::error::ErrorKind;
-use std::fs::File;
-use std::io::{BufReader, BufWriter, Read};
-use std::rt::Runtime;
 use std::{env, io};
-use tape_image::{ImageCause, ImageFault};
-use tape_run::{list_places_to, list_to};
 
 /// Runs the program, tells a fault, and gives the exit status.
 pub fn run<R: Host>(rt: &R) -> u8 {
@@ -91,10 +84,10 @@ fn obey<'a, R: Host>(rt: &R, order: &Order<'a>, site: &mut Site<'a>) -> End {
         Order::Init(order) => init(rt, order, site),
         Order::Check(named) => check(rt, named, site),
         Order::Survey(order) => survey(rt, order, site),
-        Order::Write(order) => write_files(rt, order, site),
+        Order::Write(order) => write(rt, order, site),
         Order::Extract(order) => extract(rt, order, site),
         Order::Unpack(order) => unpack(rt, order, site),
-        Order::Show(order) => show(rt, order, site),
+        Order::Stage(order) => stage(rt, order, site),
     }
 }
 
@@ -105,24 +98,6 @@ pub fn refuse<R: Print + Eprint>(rt: &R, error: &clap::Error) -> End {
     // That memory was refused is a fault, and told by the one line of a fault.
     let printed = kind != ErrorKind::OutOfMemory && error.print(rt).is_ok();
     words_end(kind, printed)
-}
-
-/// Writes files on volumes, where no file would be lost by it.
-fn write_files<'a, R: Runtime + AllocGlobal>(
-    rt: &R,
-    order: &WriteOrder<'a>,
-    site: &mut Site<'a>,
-) -> End {
-    match look_ahead(rt, order) {
-        Ok(()) => {
-            let written = write(rt, order);
-            if let Err(ToolFault::Label(_)) = written {
-                *site = wrong_file(order);
-            }
-            end_of(written)
-        }
-        Err(unfit) => refuse_unfit(rt, &WRITE, unfit),
-    }
 }
 
 /// Ends a command that is not begun, for this reason.
@@ -146,49 +121,4 @@ where
 /// Tells a mistake in words that was found behind them.
 fn refuse_words<R: Print + Eprint + AllocGlobal>(rt: &R, outline: &Outline, text: &str) -> End {
     refuse(rt, &mistake(rt.alloc(), outline, text))
-}
-
-/// Lists the image at the path, or that on standard input.
-fn list<'a, R: Runtime + AllocGlobal>(rt: &R, order: Listing<'a>, site: &mut Site<'a>) -> End {
-    let (listed, read) = match order.image {
-        None => (list_input(rt, rt.reader(), order.places), Site::Input),
-        Some(path) => (list_file(rt, path, order.places), Site::Image(path)),
-    };
-    *site = match listed {
-        Err(ToolFault::File(FileFault::WriteFailed)) => Site::Lines,
-        _ => read,
-    };
-    end_of(listed)
-}
-
-/// Lists the image at the path.
-fn list_file<R: Runtime + AllocGlobal>(rt: &R, path: &str, places: bool) -> Result<(), ToolFault> {
-    match File::open(rt, path) {
-        Ok(file) => list_input(rt, file, places),
-        Err(_) => Err(ToolFault::File(FileFault::NotOpened)),
-    }
-}
-
-/// Lists to the standard output, both streams through buffers.
-fn list_input<R: Print + AllocGlobal, I: Read + Drop>(
-    rt: &R,
-    input: I,
-    places: bool,
-) -> Result<(), ToolFault> {
-    let no_memory = ToolFault::Image(ImageFault {
-        place: 0,
-        cause: ImageCause::OutOfMemory,
-    });
-    let Ok(mut reader) = BufReader::with_capacity(rt.alloc(), READ_AHEAD, input) else {
-        return Err(no_memory);
-    };
-    let Ok(mut writer) = BufWriter::new(rt.alloc(), io::writer(rt)) else {
-        return Err(no_memory);
-    };
-    let listed = if places {
-        list_places_to(rt.alloc(), &mut reader, &mut writer)
-    } else {
-        list_to(rt.alloc(), &mut reader, &mut writer)
-    };
-    Ok(listed?)
 }

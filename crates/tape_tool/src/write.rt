@@ -1,5 +1,5 @@
 //! `write`: file sets written as images.
-pub mod command;
 pub mod guard;
 pub mod report;
+pub mod run;
 pub mod words;

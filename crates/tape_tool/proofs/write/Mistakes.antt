@@ -8,7 +8,7 @@ use Rattle.std.specs.Io.KnownBytes.{Appends}
 use Rattle.clap.specs.Words.{found_of, one_text}
 use Rattle.tape_tool.specs.declared.words.Order.TheVariants as orders
 use Rattle.tape_tool.specs.Report.{report}
-use Rattle.tape_tool.proofs.write.command.split.Reads as split
+use Rattle.tape_tool.proofs.write.run.split.Reads as split
 use Rattle.tape_tool.proofs.write.report.say.Reads as say
 use Rattle.tape_tool.proofs.write.words.write_order.Reads as write_order
 

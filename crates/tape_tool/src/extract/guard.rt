@@ -1,8 +1,8 @@
 //! What `extract` looks at before it reads: its output may cost no tape and no stage.
+use super::words::Extract;
 use crate::fault::{Fault, FileFault};
 use crate::help;
 use crate::unfit::{Unfit, refused, same_file};
-use crate::words::Extract;
 use std::alloc::Global;
 use std::fs;
 use std::fs::{File, Metadata};

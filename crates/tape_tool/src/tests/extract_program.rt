@@ -2,9 +2,10 @@
 use super::calls::{Step, each_is_wrong, ends, take_all, with_images};
 use super::words::words_of;
 use crate::end::{End, end_of, extract_end, finish};
+use crate::extract::words::Extract;
 use crate::fault::{Fault, FileFault, ToolFault};
 use crate::telling::fault_line;
-use crate::words::{Extract, Order, call_of};
+use crate::words::{Order, call_of};
 use std::process::Abort;
 use std::test::Fail;
 use tape_blocks::Form;

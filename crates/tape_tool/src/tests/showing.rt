@@ -3,7 +3,7 @@ use super::calls::{Step, take_all};
 use super::volumes::damaged;
 use crate::end::{End, damaged_end};
 use crate::fault::{FileFault, ToolFault};
-use crate::show::{show_damaged, show_stage};
+use crate::stage::show::{show_damaged, show_stage};
 use crate::staging::open_session;
 use std::alloc::{AllocError, Global};
 use std::fs::File;

@@ -1,5 +1,6 @@
 //! Command lines.
-use crate::words::{Listing, Order, call_of};
+use crate::list::words::Listing;
+use crate::words::{Order, call_of};
 use std::alloc::{AllocError, Global};
 use std::process::Abort;
 use std::test::Fail;

@@ -3,7 +3,7 @@ use crate::explain::Site;
 use crate::fault::{Fault, FileFault};
 use crate::help;
 use crate::unfit::{Unfit, refused, same_file};
-use crate::write::command::split;
+use crate::write::run::split;
 use crate::write::words::WriteOrder;
 use std::fs;
 use std::fs::Metadata;

@@ -5,7 +5,8 @@ ghost use Rattle.tape_tool.specs.Words.{AsksToWrite, IsWrite};
 
 use crate::help;
 use crate::outline::{Kind, Outline, Word, mistake};
-use crate::words::{FORMS, Order, form_of};
+use crate::words::Order;
+use crate::words::parts::{FORMS, form_of};
 use clap::{ArgMatches, Error};
 use std::alloc::Global;
 use tape_blocks::Form;

@@ -4,7 +4,7 @@ use Rattle.std.specs.Prelude.{None}
 use Rattle.tape_stage.specs.Stages.{Holds}
 use Rattle.tape_tool.specs.Showing.{GivesFront, ending_of, unopened}
 use Rattle.tape_tool.proofs.Showing.{stops_in_part, of_held_err}
-use Rattle.tape_tool.proofs.show.show_stage.Goals as goal
+use Rattle.tape_tool.proofs.stage.show.show_stage.Goals as goal
 
 pub returns-in-Ok-clause-err : goal.returns-in-Ok-clause-err
 returns-in-Ok-clause-err g c honest =

@@ -1,14 +1,10 @@
 //! `check` as the program runs it: over files, to standard output.
-ghost use Rattle.std.specs.Prelude.{◌≡◌};
-ghost use Rattle.tape_tool.specs.Ends.{check_end};
-
-use crate::end::End;
+use super::words::CHECK;
+use crate::end::{End, check_end};
 use crate::explain::Site;
-use crate::fault::{Fault, ToolFault};
 use crate::images::Images;
 use crate::names::{Named, names_of};
 use crate::program::refuse_unfit;
-use crate::words::CHECK;
 use std::io;
 use std::io::BufWriter;
 use std::rt::Runtime;
@@ -23,17 +19,6 @@ pub fn check<'a, R: Runtime + AllocGlobal>(rt: &R, named: &Named<'a>, site: &mut
             check_end(check_files(rt, names.as_slice()))
         }
         Err(unfit) => refuse_unfit(rt, &CHECK, unfit),
-    }
-}
-
-/// How a check ends, which found all or did not.
-pub fn check_end(checked: Result<bool, EngineFault>) -> End
-    ensures { result ≡ check_end checked }
-{
-    match checked {
-        Ok(true) => End::Done,
-        Ok(false) => End::Incomplete,
-        Err(fault) => End::Faulted(Fault::Tool(ToolFault::from(fault))),
     }
 }
 

@@ -9,11 +9,11 @@ use Rattle.tape_blocks.specs.declared.form.Form.TheVariants.{Lines}
 use Rattle.tape_set.specs.Position.{want_at}
 use Rattle.tape_run.specs.RecordText.{output_of}
 use Rattle.tape_tool.specs.Showing.{ending_of, stage_line}
-use Rattle.tape_tool.specs.declared.show.ending.StageEnding.TheVariants.{Whole}
-use Rattle.tape_tool.proofs.show.show_parts.Reads as show_parts
-use Rattle.tape_tool.proofs.show.show_opened.Reads as show_opened
-use Rattle.tape_tool.proofs.show.put_stage.Reads as put_stage
-use Rattle.tape_tool.proofs.show.show_rest.Reads as show_rest
+use Rattle.tape_tool.specs.declared.stage.ending.StageEnding.TheVariants.{Whole}
+use Rattle.tape_tool.proofs.stage.show.show_parts.Reads as show_parts
+use Rattle.tape_tool.proofs.stage.show.show_opened.Reads as show_opened
+use Rattle.tape_tool.proofs.stage.show.put_stage.Reads as put_stage
+use Rattle.tape_tool.proofs.stage.show.show_rest.Reads as show_rest
 
 -- a whole record
 abbrev whole : List Portion

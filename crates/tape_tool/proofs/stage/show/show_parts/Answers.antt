@@ -1,6 +1,6 @@
 use Rattle.tape_run.proofs.Fitting.{on_err}
 use Rattle.tape_tool.proofs.Showing.{gives_front}
-use Rattle.tape_tool.proofs.show.show_parts.Goals as goal
+use Rattle.tape_tool.proofs.stage.show.show_parts.Goals as goal
 
 pub returns-in_err-tell-in-Ok-clause-err : goal.returns-in_err-tell-in-Ok-clause-err
 returns-in_err-tell-in-Ok-clause-err g c =

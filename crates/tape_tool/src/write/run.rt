@@ -1,11 +1,15 @@
-//! `tape write`.
+//! `write` as the program runs it: files of the words, on volumes of a folder.
 ghost use Rattle.std.specs.Prelude.{◌≡◌, ◌==◌, IfOk, IfErr};
 ghost use Rattle.std.specs.List.{before_first, after_first};
 ghost use Rattle.tape_tool.specs.Writing.{record_length, IsNoShape, plain_head};
 
+use super::guard::{look_ahead, wrong_file};
+use super::report::say;
+use super::words::{WRITE, WriteOrder};
+use crate::end::{End, end_of};
+use crate::explain::Site;
 use crate::fault::ToolFault;
-use crate::write::report::say;
-use crate::write::words::WriteOrder;
+use crate::program::refuse_unfit;
 use std::io;
 use std::rt::Runtime;
 use tape_blocks::Shape;
@@ -13,11 +17,29 @@ use tape_label::{Field, Format, Head1};
 use tape_writer::system::{FolderPlan, InputFile, write_in_folder};
 use tape_writer::{Input, WriteFault};
 
+/// Writes files on volumes, where no file would be lost by it.
+pub fn write<'a, R: Runtime + AllocGlobal>(
+    rt: &R,
+    order: &WriteOrder<'a>,
+    site: &mut Site<'a>,
+) -> End {
+    match look_ahead(rt, order) {
+        Ok(()) => {
+            let written = write_set(rt, order);
+            if let Err(ToolFault::Label(_)) = written {
+                *site = wrong_file(order);
+            }
+            end_of(written)
+        }
+        Err(unfit) => refuse_unfit(rt, &WRITE, unfit),
+    }
+}
+
 /// Writes the files on volumes, and says on which. One input and one image are open at a time.
 ///
 /// Faults are looked for in this order: the shape, the files' identifiers, their inputs, and then
 /// what the engine finds.
-pub fn write<R: Runtime + AllocGlobal>(rt: &R, order: &WriteOrder<'_>) -> Result<(), ToolFault> {
+fn write_set<R: Runtime + AllocGlobal>(rt: &R, order: &WriteOrder<'_>) -> Result<(), ToolFault> {
     let plan = plan_of(order)?;
     check_ids(order)?;
     let mut files = find_inputs(rt, order)?;

@@ -3,7 +3,7 @@ use Rattle.std.proofs.Common.{◌≡◌, ap, sym, ◌∙◌, subst, arith}
 use Rattle.std.specs.Prelude.{None}
 use Rattle.tape_label.specs.declared.values.Format.TheVariants.{Counted}
 use Rattle.tape_tool.specs.Writing.{record_length as length_of}
-use Rattle.tape_tool.proofs.write.command.record_length.Reads as record_length
+use Rattle.tape_tool.proofs.write.run.record_length.Reads as record_length
 
 -- default_record_9995: a record of D may have 9,995 bytes with its count, where 9,999 have room
 default_record_9995 : (κs : _) (a : _) (s : _) → record_length.Learnt κs a 9995 s

@@ -1,6 +1,7 @@
-//! The program around the engine of `stage`: the file of the stage, and the output.
+//! `stage` as the program runs it: over the file of the stage, to the output.
 use super::read_only::ReadOnly;
-use super::{show_damaged, show_stage};
+use super::show::{show_damaged, show_stage};
+use super::words::{STAGE, StageOrder};
 use crate::end::{End, damaged_end, end_of, stage_end};
 use crate::explain::Site;
 use crate::extract::{Draft, OutFile, OutName, Way, way_to_out};
@@ -8,7 +9,6 @@ use crate::fault::{Fault, FileFault, ToolFault};
 use crate::host::Host;
 use crate::program::refuse_unfit;
 use crate::unfit::Unfit;
-use crate::words::{STAGE, Show};
 use std::fs::{File, TryLockError};
 use std::io;
 use std::io::{BufWriter, Write};
@@ -21,7 +21,7 @@ type StageDisk = HeldFile<ReadOnly<File>>;
 const HELD: usize = 65_536;
 
 /// Tells what the stage that the words name holds. At a fault the site is where it came.
-pub fn show<'a, R: Host>(rt: &R, order: &Show<'a>, site: &mut Site<'a>) -> End {
+pub fn stage<'a, R: Host>(rt: &R, order: &StageOrder<'a>, site: &mut Site<'a>) -> End {
     let place = match order.out {
         None => Site::Lines,
         Some(out) => Site::Out(out),
@@ -45,7 +45,7 @@ pub fn show<'a, R: Host>(rt: &R, order: &Show<'a>, site: &mut Site<'a>) -> End {
 }
 
 /// How the output is to be written, where there is one.
-fn way_of<R: Host>(rt: &R, order: &Show<'_>) -> Result<Option<Way>, Unfit> {
+fn way_of<R: Host>(rt: &R, order: &StageOrder<'_>) -> Result<Option<Way>, Unfit> {
     match order.out {
         None => Ok(None),
         Some(out) => Ok(Some(way_to_out(rt, out, Some(order.stage), &[])?)),
@@ -68,7 +68,12 @@ fn disk_of<R: Host>(rt: &R, path: &str) -> Result<StageDisk, ToolFault> {
 }
 
 /// Tells what the disk holds, and writes the records where there is an output.
-fn show_disk<'a, R: Host>(rt: &'a R, order: &Show<'a>, way: Option<Way>, disk: StageDisk) -> End {
+fn show_disk<'a, R: Host>(
+    rt: &'a R,
+    order: &StageOrder<'a>,
+    way: Option<Way>,
+    disk: StageDisk,
+) -> End {
     let (Some(out), Some(way)) = (order.out, way) else {
         return show_to(rt, order, disk, &mut io::sink());
     };
@@ -92,7 +97,7 @@ fn show_disk<'a, R: Host>(rt: &'a R, order: &Show<'a>, way: Option<Way>, disk: S
 }
 
 /// The same, with the records written to what stands under the output's name.
-fn show_in_place<R: Host>(rt: &R, order: &Show<'_>, disk: StageDisk, out: &str) -> End {
+fn show_in_place<R: Host>(rt: &R, order: &StageOrder<'_>, disk: StageDisk, out: &str) -> End {
     let Ok(mut file) = BufWriter::with_capacity(rt.alloc(), HELD, OutFile::new(rt, out)) else {
         return End::Faulted(Fault::OutOfMemory);
     };
@@ -104,7 +109,7 @@ fn show_in_place<R: Host>(rt: &R, order: &Show<'_>, disk: StageDisk, out: &str) 
 }
 
 /// Tells what the disk holds, with the records written to this writer.
-fn show_to<R: Host, W: Write>(rt: &R, order: &Show<'_>, disk: StageDisk, out: &mut W) -> End {
+fn show_to<R: Host, W: Write>(rt: &R, order: &StageOrder<'_>, disk: StageDisk, out: &mut W) -> End {
     let mut report = io::writer(rt);
     if order.damaged {
         return damaged_end(show_damaged(rt.alloc(), disk, order.form, out, &mut report));

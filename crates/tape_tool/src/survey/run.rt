@@ -1,11 +1,10 @@
 //! `survey` as the program runs it: over files, to standard output.
-use crate::check_files::check_end;
-use crate::end::End;
+use super::words::{SURVEY, Survey};
+use crate::end::{End, check_end};
 use crate::explain::Site;
 use crate::images::Images;
 use crate::names::names_of;
 use crate::program::refuse_unfit;
-use crate::words::{SURVEY, Survey};
 use std::io;
 use std::io::BufWriter;
 use std::rt::Runtime;

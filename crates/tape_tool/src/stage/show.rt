@@ -1,4 +1,4 @@
-//! `stage`: what a stage holds, and the records of it.
+//! What a stage holds, and the records of it.
 ghost use Rattle.std.specs.Prelude.{◌≡◌, ◌≤◌, ◌+◌, ◌++◌, decimal, codes, length, List};
 ghost use Rattle.std.specs.Prelude.{IfOk, IfErr, OnOk, OnErr, None};
 ghost use Rattle.std.specs.Io.KnownBytes.{Appends};
@@ -13,14 +13,9 @@ ghost use Rattle.tape_tool.specs.Showing.{break_line};
 ghost use Rattle.tape_tool.specs.Showing.{Gives, GivesFront, Shows, StopsShowing};
 ghost use Rattle.tape_tool.specs.Showing.{ShowsDamaged, StopsSalvaging};
 
-mod ending;
-mod program;
-mod read_only;
-
+use super::ending::StageEnding;
 use crate::fault::{FileFault, ToolFault};
 use arrayvec::ArrayVec;
-pub use ending::StageEnding;
-pub use program::show;
 use std::alloc::Global;
 use std::io::Write;
 use tape_blocks::Form;

@@ -1,0 +1,5 @@
+//! `check`: which sections are on images.
+mod run;
+pub mod words;
+
+pub use run::check;

@@ -1,0 +1,5 @@
+//! `list`: the items of an image.
+mod run;
+pub mod words;
+
+pub use run::list;

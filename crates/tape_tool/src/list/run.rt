@@ -1,0 +1,57 @@
+//! `list` as the program runs it: over a file or standard input, to standard output.
+use super::words::Listing;
+use crate::end::{End, end_of};
+use crate::explain::Site;
+use crate::fault::{FileFault, ToolFault};
+use crate::images::READ_AHEAD;
+use std::fs::File;
+use std::io;
+use std::io::{BufReader, BufWriter, Read};
+use std::rt::Runtime;
+use tape_image::{ImageCause, ImageFault};
+use tape_run::{list_places_to, list_to};
+
+/// Lists the image at the path, or that on standard input.
+pub fn list<'a, R: Runtime + AllocGlobal>(rt: &R, order: Listing<'a>, site: &mut Site<'a>) -> End {
+    let (listed, read) = match order.image {
+        None => (list_input(rt, rt.reader(), order.places), Site::Input),
+        Some(path) => (list_file(rt, path, order.places), Site::Image(path)),
+    };
+    *site = match listed {
+        Err(ToolFault::File(FileFault::WriteFailed)) => Site::Lines,
+        _ => read,
+    };
+    end_of(listed)
+}
+
+/// Lists the image at the path.
+fn list_file<R: Runtime + AllocGlobal>(rt: &R, path: &str, places: bool) -> Result<(), ToolFault> {
+    match File::open(rt, path) {
+        Ok(file) => list_input(rt, file, places),
+        Err(_) => Err(ToolFault::File(FileFault::NotOpened)),
+    }
+}
+
+/// Lists to the standard output, both streams through buffers.
+fn list_input<R: Print + AllocGlobal, I: Read + Drop>(
+    rt: &R,
+    input: I,
+    places: bool,
+) -> Result<(), ToolFault> {
+    let no_memory = ToolFault::Image(ImageFault {
+        place: 0,
+        cause: ImageCause::OutOfMemory,
+    });
+    let Ok(mut reader) = BufReader::with_capacity(rt.alloc(), READ_AHEAD, input) else {
+        return Err(no_memory);
+    };
+    let Ok(mut writer) = BufWriter::new(rt.alloc(), io::writer(rt)) else {
+        return Err(no_memory);
+    };
+    let listed = if places {
+        list_places_to(rt.alloc(), &mut reader, &mut writer)
+    } else {
+        list_to(rt.alloc(), &mut reader, &mut writer)
+    };
+    Ok(listed?)
+}

@@ -1,0 +1,5 @@
+//! `survey`: what images are.
+mod run;
+pub mod words;
+
+pub use run::survey;

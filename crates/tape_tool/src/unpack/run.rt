@@ -1,0 +1,202 @@
+//! `unpack` as the program runs it: from files into a folder.
+use super::last_line::LastLine;
+use super::paths::{Paths, is_there, paths_of};
+use super::words::{UNPACK, Unpack};
+use crate::end::{End, check_end, end_of};
+use crate::explain::Site;
+use crate::extract::words::Task;
+use crate::extract::{Way, extract_file};
+use crate::fault::{Fault, FileFault, ToolFault};
+use crate::help;
+use crate::host::Host;
+use crate::images::Images;
+use crate::names::names_of;
+use crate::program::refuse_unfit;
+use crate::unfit::{Unfit, refused};
+use std::alloc::{AllocError, Global};
+use std::io::Write;
+use std::{fs, io};
+use tape_label::Field;
+use tape_run::{
+    Fate, Heading, SetFile, ShelfFiles, WriteFailed, fate_text, file_line, file_name, files_on,
+    flush, left_over_line, write_text,
+};
+
+/// Gets every file back that is on the images that the words name. At a fault the site is where it
+/// came.
+pub fn unpack<'a, R: Host>(rt: &R, order: &Unpack<'a>, site: &mut Site<'a>) -> End {
+    let mut text = String::new(rt.alloc());
+    match names_of(rt, &order.images, &mut text, site) {
+        Ok(names) => {
+            *site = Site::Folder(order.folder);
+            unpack_images(rt, order, names.as_slice())
+        }
+        Err(unfit) => refuse_unfit(rt, &UNPACK, unfit),
+    }
+}
+
+/// Gets every file back that is on the images of these names.
+fn unpack_images<R: Host>(rt: &R, order: &Unpack<'_>, names: &[&str]) -> End {
+    if let Err(unfit) = is_folder(rt, order.folder) {
+        return refuse_unfit(rt, &UNPACK, unfit);
+    }
+    match files_on(rt.alloc(), &mut Images::new(rt, names)) {
+        Ok(met) => unpack_all(rt, order, names, &met),
+        Err(fault) => end_of(Err(ToolFault::Run(fault))),
+    }
+}
+
+/// Refuses what is no folder. An image that stands there was named without one before it.
+fn is_folder<R: Host>(rt: &R, path: &str) -> Result<(), Unfit> {
+    match fs::metadata(rt, path) {
+        Ok(found) if found.is_dir() => Ok(()),
+        Ok(_) => Err(Unfit::Words(help::DIR_IS_NO_FOLDER)),
+        Err(_) => Err(refused(FileFault::NotOpened)),
+    }
+}
+
+/// Unpacks the files that were met, each from the images of its set, and says whether something is
+/// left over.
+fn unpack_all<R: Host>(rt: &R, order: &Unpack<'_>, names: &[&str], met: &ShelfFiles) -> End {
+    let files = met.files.as_slice();
+    let mut all = met.whole && !files.is_empty();
+    for file in files {
+        match unpack_met(rt, order, names, met, file) {
+            End::Done => {}
+            End::Incomplete => all = false,
+            end => return end,
+        }
+    }
+    match say(rt, left_over_line(met.whole)) {
+        Ok(()) => check_end(Ok(all)),
+        Err(WriteFailed) => end_of(Err(ToolFault::File(FileFault::WriteFailed))),
+    }
+}
+
+/// Unpacks a file that was met, from the images of its set.
+fn unpack_met<R: Host>(
+    rt: &R,
+    order: &Unpack<'_>,
+    names: &[&str],
+    met: &ShelfFiles,
+    file: &SetFile,
+) -> End {
+    match names_of_set(rt.alloc(), names, met.sets.as_slice(), &file.set_id) {
+        Ok(own) => unpack_file(rt, order, &mut Images::new(rt, own.as_slice()), file),
+        Err(_) => End::Faulted(Fault::OutOfMemory),
+    }
+}
+
+/// The names of the images that are of this set.
+fn names_of_set<'n>(
+    alloc: Global,
+    names: &[&'n str],
+    sets: &[Option<Field<6>>],
+    set_id: &Field<6>,
+) -> Result<Vec<&'n str>, AllocError> {
+    let mut own = Vec::new(alloc);
+    for (name, set) in names.iter().zip(sets) {
+        if *set == Some(*set_id) {
+            own.push(*name)?;
+        }
+    }
+    Ok(own)
+}
+
+/// Unpacks a file, and tells what became of it.
+fn unpack_file<R: Host>(
+    rt: &R,
+    order: &Unpack<'_>,
+    images: &mut Images<'_, R>,
+    file: &SetFile,
+) -> End {
+    let file_id = match file.heading {
+        Heading::NotMet => return tell(rt, file, fate_text(Fate::NotMet), "", End::Incomplete),
+        Heading::Differs => return tell(rt, file, fate_text(Fate::Differs), "", End::Incomplete),
+        Heading::Named(file_id) => file_id,
+    };
+    let name = file_name(&file.set_id, file.file, &file_id);
+    match paths_of(rt.alloc(), order.folder, &name) {
+        Ok(paths) => unpack_to(rt, order, images, file, &paths),
+        Err(_) => End::Faulted(Fault::OutOfMemory),
+    }
+}
+
+/// Unpacks a file to these paths, unless something of its name is there.
+fn unpack_to<R: Host>(
+    rt: &R,
+    order: &Unpack<'_>,
+    images: &mut Images<'_, R>,
+    file: &SetFile,
+    paths: &Paths,
+) -> End {
+    let (out, stage) = (paths.out.as_str(), paths.stage.as_str());
+    if is_there(rt, out) {
+        return tell(rt, file, fate_text(Fate::Kept), out, End::Done);
+    }
+    let mut last = LastLine::new();
+    match gather(rt, order, images, file, paths, &mut last) {
+        End::Done => {
+            // What it kept stands in the file now.
+            let _ = rt.remove_file(stage);
+            tell(rt, file, last.text(), out, End::Done)
+        }
+        End::Incomplete => tell(rt, file, last.text(), stage, End::Incomplete),
+        end => {
+            let _ = tell(rt, file, fate_text(Fate::Failed), out, end);
+            end
+        }
+    }
+}
+
+/// Gets a file back: at once where the images have it so, and else on its stage, round by round.
+/// The last line of both is kept.
+fn gather<R: Host>(
+    rt: &R,
+    order: &Unpack<'_>,
+    images: &mut Images<'_, R>,
+    file: &SetFile,
+    paths: &Paths,
+    last: &mut LastLine,
+) -> End {
+    let mut site = Site::Unknown;
+    let stage = paths.stage.as_str();
+    let at_once = Task {
+        set_id: file.set_id,
+        file: file.file,
+        out: paths.out.as_str(),
+        form: order.form,
+        stage: None,
+        again: false,
+    };
+    if !is_there(rt, stage) {
+        let end = extract_file(rt, &at_once, images, Way::New, last, &mut site);
+        if end != End::Incomplete {
+            return end;
+        }
+    }
+    let staged = Task {
+        stage: Some(stage),
+        again: true,
+        ..at_once
+    };
+    extract_file(rt, &staged, images, Way::New, last, &mut site)
+}
+
+/// Tells what became of a file, and ends so.
+fn tell<R: Host>(rt: &R, file: &SetFile, told: &[u8], path: &str, end: End) -> End {
+    let Ok(line) = file_line(rt.alloc(), &file.set_id, file.file, told, path) else {
+        return End::Faulted(Fault::OutOfMemory);
+    };
+    match say(rt, line.as_slice()) {
+        Ok(()) => end,
+        Err(WriteFailed) => end_of(Err(ToolFault::File(FileFault::WriteFailed))),
+    }
+}
+
+/// Writes a line, and has it passed on.
+fn say<R: Host>(rt: &R, line: &[u8]) -> Result<(), WriteFailed> {
+    let report = &mut io::writer(rt);
+    write_text(report, line)?;
+    flush(report)
+}

@@ -1,0 +1,52 @@
+//! What the words behind `unpack` ask for.
+use crate::help;
+use crate::names::Named;
+use crate::outline::{Kind, Outline, Word, mistake};
+use crate::words::Order;
+use crate::words::parts::{FORMS, form_of, named, text_of};
+use clap::{ArgMatches, Error};
+use std::alloc::Global;
+use tape_blocks::Form;
+
+/// What `unpack` gets back, and from what: every file, into a folder.
+#[derive(Drop)]
+pub struct Unpack<'a> {
+    pub folder: &'a str,
+    pub images: Named<'a>,
+    pub form: Form,
+}
+
+/// `unpack`.
+pub const UNPACK: Outline = Outline {
+    name: "unpack",
+    called: "tape unpack",
+    about: help::ABOUT_UNPACK,
+    after_help: help::AFTER_UNPACK,
+    usage: None,
+    words: &[
+        Word("DIR", Kind::Text, help::FOLDER_OF_FILES),
+        Word("IMAGE", Kind::TextsOr("from"), help::SHELF),
+        Word("from", Kind::TextOption("LIST"), help::FROM),
+        Word("null", Kind::FlagOf("from"), help::NULL),
+        Word(
+            "form",
+            Kind::NameOption("FORM", FORMS, "lines"),
+            help::FORM_OF_FILES,
+        ),
+    ],
+};
+
+/// What the words behind `unpack` ask for. The parser has seen to it that all of them are there.
+pub fn unpack_order<'a>(alloc: Global, matches: &ArgMatches<'a>) -> Result<Order<'a>, Error> {
+    let outline = &UNPACK;
+    let folder = text_of(matches, "DIR");
+    if folder.is_empty() {
+        return Err(mistake(alloc, outline, help::NO_FOLDER));
+    }
+    let images = named(alloc, matches, outline, help::TOO_MANY_TO_UNPACK)?;
+    Ok(Order::Unpack(Unpack {
+        folder,
+        images,
+        form: form_of(matches),
+    }))
+}
