@@ -1,11 +1,21 @@
 -- The cases of ends, faults, lines, names and sessions over stages.
-use Rattle.std.proofs.Common.{◌≡◌, inl, refl, ap, get_or, arith, Bool, true, false, []}
+use Rattle.std.proofs.Common.{◌≡◌, refl, ap, get_or, arith, Bool, true, false, [], inl, inr}
 use Rattle.std.specs.Fmt.{digits}
 use Rattle.tape_stage.specs.declared.disk.Disk.{Ghosts}
 use Rattle.std.proofs.lemmas.List.Splits.{join_with_byte-slice_split}
 use Rattle.tape_tool.specs.Cases.{CasesOfEnds, CasesOfFaults, CasesOfLines, CasesOfNames}
 use Rattle.tape_tool.specs.Cases.{CasesOfStaging}
+use Rattle.tape_tool.specs.declared.end.End.TheVariants.{Done, Incomplete}
+use Rattle.tape_tool.specs.Ends.{exit_status, IsWrongWords}
 use Rattle.tape_tool.specs.Names.{end_byte, names_in}
+
+never_done : IsWrongWords Done → ⊥
+never_done (inl e) = absurd (let n : 0 ≡ 2 = ap exit_status e in omega arith)
+never_done (inr e) = absurd (let n : 0 ≡ 1 = ap exit_status e in omega arith)
+
+never_incomplete : IsWrongWords Incomplete → ⊥
+never_incomplete (inl e) = absurd (let n : 3 ≡ 2 = ap exit_status e in omega arith)
+never_incomplete (inr e) = absurd (let n : 3 ≡ 1 = ap exit_status e in omega arith)
 
 pub cases_of_ends : CasesOfEnds
 cases_of_ends = record {
@@ -19,6 +29,9 @@ cases_of_ends = record {
   no_memory = λ printed. (refl, refl);
   wrong_words = λ printed. refl;
   no_words = refl;
+  not_begun = λ fault end is. is;
+  lost = λ text. (inl refl, inr refl, never_done, never_incomplete);
+  no_text = λ null number. (inl refl, never_done);
 }
 
 pub cases_of_faults : CasesOfFaults

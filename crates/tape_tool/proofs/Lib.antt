@@ -2,8 +2,11 @@ mod Sessions
 mod Showing
 mod LinesOfVolumes
 mod ListedNames
+mod FoundWords
 mod Mistakes
 mod MistakesOfNames
+mod MistakesOfWords
 mod Examples
 mod ExamplesOfShowing
 mod ExamplesOfWriting
+mod ExamplesOfWords

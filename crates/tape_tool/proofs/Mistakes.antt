@@ -20,7 +20,6 @@ use Rattle.tape_tool.specs.declared.stage.ending.StageEnding.TheVariants as endi
 use Rattle.tape_tool.specs.declared.fault.ToolFault.TheVariants as tool_faults
 use Rattle.tape_tool.specs.declared.fault.Fault.TheVariants as faults
 use Rattle.tape_tool.specs.Ends.{exit_status}
-use Rattle.tape_tool.specs.Fault.{file_number}
 use Rattle.tape_tool.specs.Staging.{IsOfFile}
 use Rattle.tape_tool.proofs.end.End.status.Reads as status
 use Rattle.tape_tool.proofs.end.end_of.Reads as end_of

@@ -1,13 +1,9 @@
 -- What was written and told of a stage, put together.
-use Rattle.std.proofs.Common.{◌≡◌, ℕ, List, [], ◌++◌, length, Option, Some, None, Result, Ok, Err}
-use Rattle.std.proofs.Common.{OnOk, OnErr, IfOk, IfErr, refl, sym, ap, subst, ◌∙◌, append-nil}
-use Rattle.std.specs.Io.KnownBytes.{Appends, Keeps}
-use Rattle.std.proofs.KnownBytes.{Appends-nil}
+use Rattle.std.proofs.Common.{ℕ, List, [], Option, None, Result, Ok, Err}
+use Rattle.std.proofs.Common.{OnErr, IfErr, sym, subst, append-nil}
 use Rattle.tape_blocks.specs.Block.{Portion}
-use Rattle.tape_blocks.specs.Spans.{join}
 use Rattle.tape_blocks.specs.declared.form.Form.{Form}
 use Rattle.tape_set.specs.declared.position.Want.{Want}
-use Rattle.tape_set.specs.Position.{want_at}
 use Rattle.tape_core.specs.Point.{Point}
 use Rattle.tape_run.specs.Extracting.{IsWritten}
 use Rattle.tape_run.specs.Output.{AppendsFront}
@@ -16,21 +12,10 @@ use Rattle.tape_stage.specs.Salvaged.{Remains}
 use Rattle.tape_stage.specs.Staged.{Staged}
 use Rattle.tape_tool.specs.declared.fault.ToolFault.{ToolFault}
 use Rattle.tape_tool.specs.declared.stage.ending.StageEnding.{StageEnding}
-use Rattle.tape_tool.specs.Showing.{told_with, ending_of, Gives, GivesFront, Shows, StopsShowing}
-use Rattle.tape_tool.specs.Showing.{in_part, salvaged_in_part, ShowsDamaged, StopsSalvaging}
+use Rattle.tape_tool.specs.Showing.{told_with, ending_of, GivesFront, StopsShowing}
+use Rattle.tape_tool.specs.Showing.{in_part, salvaged_in_part, StopsSalvaging}
 
--- so many records were written, and told
-pub gives_all : (point : Point) (ending : StageEnding) (records : ℕ) (form : Form)
-    (out written said says : Option (List ℕ)) (parts : List Portion)
-    → IsWritten None records form out written parts
-    → Appends said says (told_with point ending records)
-    → Gives point ending form out written said says parts
-gives_all point ending records form out written said says parts all told = record {
-  wrote = all.1;
-  told = subst (λ (n : ℕ). Appends said says (told_with point ending n)) all.0 told;
-}
-
--- they were written, and a front of the lines
+-- the records were written, and a front of the lines
 pub gives_front : (point : Point) (ending : StageEnding) (records : ℕ) (form : Form)
     (out written said says : Option (List ℕ)) (parts : List Portion)
     → IsWritten None records form out written parts
@@ -41,39 +26,7 @@ gives_front point ending records form out written said says parts all told = rec
   told = subst (λ (n : ℕ). AppendsFront said says (told_with point ending n)) all.0 told;
 }
 
--- a front of them was written, and nothing told
-pub gives_part : (point : Point) (ending : StageEnding) (form : Form)
-    (out written said : Option (List ℕ)) (parts : List Portion)
-    → AppendsFront out written (output_of form parts)
-    → GivesFront point ending form out written said said parts
-gives_part point ending form out written said parts front = record {
-  wrote = front;
-  told = (
-    [],
-    told_with point ending (length (join parts).records),
-    Appends-nil said,
-    refl,
-  );
-}
-
--- what is told of a stage that was opened
-pub shows : (read : List ℕ) (generation : ℕ) (point : Point) (parts : List Portion) (form : Form)
-    (out written said says : Option (List ℕ)) (result : Result (Option Want) ToolFault)
-    → Staged read generation point parts
-    → IfOk result (λ want. want ≡ want_at point.file point.position)
-    → OnOk result (Gives point (ending_of point None) form out written said says parts)
-    → IfOk result (Shows read form out written said says)
-shows read generation point parts form out written said says (Ok want) staged wants gives = record {
-  generation = generation;
-  point = point;
-  parts = parts;
-  staged = staged;
-  wanted = wants;
-  gives = gives;
-}
-shows read generation point parts form out written said says (Err fault) staged wants gives = tt
-
--- and where that ended by a fault
+-- what stands where a stage was opened, and a fault came
 pub stops_in_part : (read : List ℕ) (generation : ℕ) (point : Point) (parts : List Portion)
     (form : Form) (out written said says : Option (List ℕ))
     (result : Result (Option Want) ToolFault) → Staged read generation point parts
@@ -83,29 +36,7 @@ stops_in_part read generation point parts form out written said says (Ok want) s
 stops_in_part read generation point parts form out written said says (Err fault) staged front =
     in_part generation point parts staged front
 
--- what is told of a stage that may break off
-pub shows_damaged : (read : List ℕ) (generation : ℕ) (point : Point) (broken : Option ℕ)
-    (parts : List Portion) (form : Form) (out written said says : Option (List ℕ))
-    (result : Result StageEnding ToolFault) → Remains read generation point broken parts
-    → IfOk result (λ ending. ending ≡ ending_of point broken)
-    → OnOk result (Gives point (ending_of point broken) form out written said says parts)
-    → IfOk result (ShowsDamaged read form out written said says)
-shows_damaged read generation point broken parts form out written said says (Ok ending) remains is
-    gives =
-    record {
-      generation = generation;
-      point = point;
-      broken = broken;
-      parts = parts;
-      remains = remains;
-      ends = is;
-      gives = subst (λ (e : StageEnding). Gives point e form out written said says parts) (sym is)
-          gives;
-    }
-shows_damaged read generation point broken parts form out written said says (Err fault) remains is
-    gives = tt
-
--- and where that ended by a fault
+-- the same of a stage that may break off
 pub stops_salvaging : (read : List ℕ) (generation : ℕ) (point : Point) (broken : Option ℕ)
     (parts : List Portion) (form : Form) (out written said says : Option (List ℕ))
     (result : Result StageEnding ToolFault) → Remains read generation point broken parts
@@ -117,12 +48,6 @@ stops_salvaging read generation point broken parts form out written said says (E
     front = salvaged_in_part generation point broken parts remains front
 
 -- a fact that follows of each list of parts, for one that is held
-pub of_held : {T E : Type 0} (result : Result T E) (H P : List Portion → Type 0)
-    (parts : List Portion) → H parts → OnOk result ((ps : List Portion) → H ps → P ps)
-    → OnOk result (P parts)
-of_held (Ok x) H P parts h f = f parts h
-of_held (Err e) H P parts h f = tt
-
 pub of_held_err : {T E : Type 0} (result : Result T E) (H P : List Portion → Type 0)
     (parts : List Portion) → H parts → OnErr result ((ps : List Portion) → H ps → P ps)
     → OnErr result (P parts)

@@ -3,6 +3,7 @@
 -- contract.
 use Rattle.std.specs.Prelude.{◌≡◌, ℕ, Bool, true, false, List, [], ◌∷◌, map, replicate}
 use Rattle.std.specs.Prelude.{codes, Some, None, Ok, Err}
+use Rattle.std.specs.Borrow.{Bor}
 use Rattle.std.specs.List.{join_with_byte}
 use Rattle.clap.specs.declared.error.kind.ErrorKind.TheVariants as kinds
 use Rattle.std.specs.declared.io.ErrorKind.TheVariants as io_kinds
@@ -31,6 +32,7 @@ use Rattle.tape_stage.specs.Stages.{Returns, Returned}
 use Rattle.tape_stage.specs.declared.disk.Disk.{Ghosts}
 use Rattle.tape_stage.specs.declared.stage.Stage.{Stage}
 use Rattle.tape_stage.specs.declared.stage.StageFault.TheVariants as stages
+use Rattle.tape_tool.specs.declared.end.End.{End}
 use Rattle.tape_tool.specs.declared.end.End.TheVariants.{Done, Faulted, WrongWords, Incomplete}
 use Rattle.tape_tool.specs.declared.fault.Fault.{Fault}
 use Rattle.tape_tool.specs.declared.fault.Fault.TheVariants.{Tool, OutOfMemory}
@@ -38,8 +40,9 @@ use Rattle.tape_tool.specs.declared.fault.ToolFault.{ToolFault}
 use Rattle.tape_tool.specs.declared.fault.ToolFault.TheVariants.{Image, Label, Write, File, Run}
 use Rattle.tape_tool.specs.declared.fault.ToolFault.TheVariants.{Stage as OfStage, StageInUse}
 use Rattle.tape_tool.specs.declared.staging.StagingFault.TheVariants as staging
+use Rattle.tape_tool.specs.declared.unfit.Unfit.TheVariants as unfits
 use Rattle.tape_tool.specs.Ends.{exit_status, end_of, check_end, extract_end, help_end, words_end}
-use Rattle.tape_tool.specs.Ends.{no_words_end}
+use Rattle.tape_tool.specs.Ends.{no_words_end, IsUnfitEnd}
 use Rattle.tape_tool.specs.Fault.{file_number, write_number, of_system, of_engine, of_list}
 use Rattle.tape_tool.specs.Names.{end_byte, pieces_of, names_in}
 use Rattle.tape_tool.specs.Report.{report}
@@ -84,6 +87,14 @@ pub record CasesOfEnds : Type 0 where
   -- words that are no text, or that could not be had
   pub no_words : map no_words_end (io_kinds.InvalidData ∷ io_kinds.InvalidInput ∷ io_kinds.Other
       ∷ []) ≡ replicate 3 WrongWords
+  -- what is not begun ends by its fault, or as wrong words: never as done, or as incomplete
+  pub not_begun : (fault : Fault) (end : End) → IsUnfitEnd (unfits.Faulted fault) end
+      → end ≡ Faulted fault
+  pub lost : (text : Bor (List ℕ)) → IsUnfitEnd (unfits.Words text) WrongWords
+      × IsUnfitEnd (unfits.Words text) (Faulted OutOfMemory)
+      × (IsUnfitEnd (unfits.Words text) Done → ⊥) × (IsUnfitEnd (unfits.Words text) Incomplete → ⊥)
+  pub no_text : (null : Bool) (number : ℕ) → IsUnfitEnd (unfits.NoText null number) WrongWords
+      × (IsUnfitEnd (unfits.NoText null number) Done → ⊥)
 
 -- the names in a list
 pub record CasesOfNames : Type 0 where

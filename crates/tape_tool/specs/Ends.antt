@@ -1,5 +1,5 @@
 -- How a run of the program ends.
-use Rattle.std.specs.Prelude.{ℕ, Bool, true, false, Option, Some, None, Result, Ok, Err}
+use Rattle.std.specs.Prelude.{◌≡◌, ◌⊎◌, ℕ, Bool, true, false, Option, Some, None, Result, Ok, Err}
 use Rattle.clap.specs.declared.error.kind.ErrorKind.{ErrorKind}
 use Rattle.clap.specs.declared.error.kind.ErrorKind.TheVariants as kinds
 use Rattle.std.specs.declared.io.ErrorKind as io_error
@@ -14,6 +14,8 @@ use Rattle.tape_tool.specs.declared.fault.ToolFault.TheVariants.{File}
 use Rattle.tape_tool.specs.declared.fault.Fault.TheVariants.{Tool, OutOfMemory}
 use Rattle.tape_tool.specs.declared.stage.ending.StageEnding.{StageEnding}
 use Rattle.tape_tool.specs.declared.stage.ending.StageEnding.TheVariants.{Whole, Broken}
+use Rattle.tape_tool.specs.declared.unfit.Unfit.{Unfit}
+use Rattle.tape_tool.specs.declared.unfit.Unfit.TheVariants as unfits
 use Rattle.tape_tool.specs.Fault.{of_engine}
 
 -- the exit status of each end
@@ -69,3 +71,13 @@ words_end _ printed = WrongWords
 abbrev pub no_words_end : io_error.ErrorKind → End
 no_words_end io_kinds.OutOfMemory = Faulted OutOfMemory
 no_words_end _ = WrongWords
+
+-- the words are wrong, or there is no memory for the text that says so
+abbrev pub IsWrongWords : End → Type 0
+IsWrongWords end = (end ≡ WrongWords) ⊎ (end ≡ Faulted OutOfMemory)
+
+-- how a command ends that is not begun, for this reason
+abbrev pub IsUnfitEnd : Unfit → End → Type 0
+IsUnfitEnd (unfits.Words _) end = IsWrongWords end
+IsUnfitEnd (unfits.NoText _ _) end = IsWrongWords end
+IsUnfitEnd (unfits.Faulted fault) end = end ≡ Faulted fault

@@ -10,3 +10,4 @@ pub mod Names
 pub mod Writing
 pub mod CasesOfWriting
 pub mod Words
+pub mod CasesOfWords

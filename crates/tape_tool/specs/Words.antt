@@ -1,42 +1,206 @@
--- What the words of a command line ask for, by what the parser found of them.
-use Rattle.std.specs.Prelude.{◌≡◌, ◌<◌, ◌^◌, ℕ, true, false, List, codes, decimal}
-use Rattle.std.specs.Prelude.{Option, Some, None}
-use Rattle.clap.specs.declared.parser.matches.Found.{Found}
-use Rattle.clap.specs.Words.{first_value, one_text}
+-- What the words of a command line ask for, by what the parser found of them: a row for each word
+-- and each option of a command, which has the texts that stand there.
+use Rattle.std.specs.Prelude.{◌≡◌, ◌≢◌, ◌⊎◌, ◌<◌, ◌≤◌, ◌^◌, ℕ, Bool, true, false, codes, decimal}
+use Rattle.std.specs.Prelude.{List, [], ◌∷◌, ◌++◌, map, length, replicate, if◌then◌else◌}
+use Rattle.std.specs.Prelude.{◌-◌, Option, Some, None, IfSome, option_map, unwrap_or}
+use Rattle.std.specs.Borrow.{Bor}
+use Rattle.std.specs.Str.{bytes_eq}
+use Rattle.clap.specs.Words.{Row, all_of, first_of, kind_of, one_of}
+use Rattle.clap.specs.declared.error.Error.{Error}
+use Rattle.clap.specs.declared.error.kind.ErrorKind.TheVariants.{OutOfMemory, ValueValidation}
 use Rattle.tape_label.specs.declared.values.Format.TheVariants.{Fixed, Counted, Spanned}
+use Rattle.tape_blocks.specs.declared.form.Form.{Form}
 use Rattle.tape_blocks.specs.declared.form.Form.TheVariants.{Lines, Raw}
+use Rattle.tape_writer.specs.Blank.{IsPrefix}
+use Rattle.tape_run.specs.declared.survey.Wording.{Wording}
+use Rattle.tape_run.specs.declared.survey.Wording.TheVariants as wordings
+use Rattle.tape_tool.specs.declared.names.List.{List as ListFile}
+use Rattle.tape_tool.specs.declared.names.Named.{Named}
 use Rattle.tape_tool.specs.declared.words.Order.{Order}
 use Rattle.tape_tool.specs.declared.words.Order.TheVariants as orders
+use Rattle.tape_tool.specs.declared.list.words.Listing.{Listing}
+use Rattle.tape_tool.specs.declared.survey.words.Survey.{Survey}
+use Rattle.tape_tool.specs.declared.extract.words.Extract.{Extract}
+use Rattle.tape_tool.specs.declared.extract.words.Task.{Task}
+use Rattle.tape_tool.specs.declared.unpack.words.Unpack.{Unpack}
+use Rattle.tape_tool.specs.declared.stage.words.StageOrder.{StageOrder}
+use Rattle.tape_tool.specs.declared.init.words.Init.{Init}
 use Rattle.tape_tool.specs.declared.write.words.WriteOrder.{WriteOrder}
 
--- behind a word stands a number of so many bits, in decimal digits
-abbrev pub IsBehind : ℕ → Found → List ℕ → ℕ → Type 0
-IsBehind bits found word n = (n < 2 ^ bits) × (one_text found word ≡ Some (decimal n))
+-- ---- a word
+
+-- the first text of a word, and nothing where it was not given
+abbrev pub text_in : List Row → List ℕ → List ℕ
+text_in rows word = unwrap_or (first_of word rows) []
+
+-- all texts of a word
+abbrev pub texts_in : List Row → List ℕ → List (List ℕ)
+texts_in rows word = unwrap_or (all_of word rows) []
+
+-- a number of so many bits stands there, in decimal digits
+abbrev pub IsNumber : ℕ → List Row → List ℕ → ℕ → Type 0
+IsNumber bits rows word n = (n < 2 ^ bits) × (one_of word rows ≡ Some (decimal n))
+
+-- an option by itself is given, or is not
+pub record IsFlag (rows : List Row) (word : List ℕ) (is_given : Bool) : Type 0 where
+  pub given : one_of word rows ≡ Some (codes "true") → is_given ≡ true
+  pub left_out : one_of word rows ≡ Some (codes "false") → is_given ≡ false
+  pub none : one_of word rows ≡ None → is_given ≡ false
+
+-- the form of an output or of inputs
+pub record IsForm (rows : List Row) (form : Form) : Type 0 where
+  pub raw : first_of (codes "form") rows ≡ Some (codes "raw") → form ≡ Raw
+  pub lines : first_of (codes "form") rows ≡ Some (codes "lines") → form ≡ Lines
+
+-- the texts of a word of which there is one at most
+abbrev pub texts_of_one : Option (Bor (List ℕ)) → List (List ℕ)
+texts_of_one None = []
+texts_of_one (Some text) = text.now ∷ []
+
+-- there are more, or the one stands for a stream
+abbrev pub IsDashOrMore : List (List ℕ) → Type 0
+IsDashOrMore texts = (texts ≡ codes "-" ∷ []) ⊎ (2 ≤ length texts)
+
+-- A command is refused: for want of memory, or as wrong, and then for this reason.
+abbrev pub RefusedFor : Type 0 → Error → Type 0
+RefusedFor reason error =
+    (kind_of error ≡ OutOfMemory) ⊎ ((kind_of error ≡ ValueValidation) × reason)
+
+-- ---- images
+
+-- the file of a list, where it is not on standard input
+abbrev pub list_file : List ℕ → Option (List ℕ)
+list_file path = if bytes_eq path (codes "-") then None else Some path
+
+-- the list that is named, if one is
+pub record IsListIn (rows : List Row) (list : Option ListFile) : Type 0 where
+  pub file : option_map (λ (l : ListFile). option_map (λ p. p.now) l.file) list
+      ≡ option_map list_file (first_of (codes "from") rows)
+  pub null : IfSome list (λ (l : ListFile). IsFlag rows (codes "null") l.null)
+
+-- The images of a run: those of the words, in their order, of which there are 256 at most, and
+-- those of a list.
+pub record NamesImages (rows : List Row) (named : Named) : Type 0 where
+  pub words : map (λ w. w.now) named.words.items ≡ texts_in rows (codes "IMAGE")
+  pub few : length (texts_in rows (codes "IMAGE")) ≤ 256
+  pub list : IsListIn rows named.list
+
+-- there are more
+abbrev pub AreTooMany : List Row → Type 0
+AreTooMany rows = 256 < length (texts_in rows (codes "IMAGE"))
+
+-- ---- commands
+
+-- what `list` is asked for: an image, or standard input where none is named
+pub record AsksToList (rows : List Row) (order : Listing) : Type 0 where
+  pub image : texts_in rows (codes "IMAGE") ≡ texts_of_one order.image
+  pub named : IfSome order.image (λ (i : Bor (List ℕ)). i.now ≢ codes "-")
+  pub places : IsFlag rows (codes "places") order.places
+
+-- whether a survey is told in rows
+abbrev pub is_in_rows : Wording → Bool
+is_in_rows wordings.Rows = true
+is_in_rows wordings.Words = false
+
+-- what `survey` is asked for
+pub record AsksToSurvey (rows : List Row) (order : Survey) : Type 0 where
+  pub images : NamesImages rows order.images
+  pub wording : IsFlag rows (codes "tsv") (is_in_rows order.wording)
+
+-- a set's identifier, with spaces behind it (32)
+abbrev pub padded_set : List ℕ → List ℕ
+padded_set text = text ++ replicate (6 - length text) 32
+
+-- there is no such identifier
+abbrev pub IsNoSet : List ℕ → Type 0
+IsNoSet text = (length text ≡ 0) ⊎ (6 < length text)
+
+-- the file of which set is to be got back, and how
+pub record AsksForFile (rows : List Row) (task : Task) : Type 0 where
+  pub set_id : task.set_id ≡ padded_set (text_in rows (codes "SET"))
+  pub set : IsNoSet (text_in rows (codes "SET")) → ⊥
+  pub file : (n : ℕ) → IsNumber 16 rows (codes "FILE") n → task.file ≡ n
+  pub out : task.out.now ≡ text_in rows (codes "OUT")
+  pub named : text_in rows (codes "OUT") ≢ codes "-"
+  pub form : IsForm rows task.form
+  pub stage : option_map (λ s. s.now) task.stage ≡ first_of (codes "stage") rows
+  pub again : IsFlag rows (codes "again") task.again
+
+-- why there is no such task
+abbrev pub IsNoTask : List Row → Type 0
+IsNoTask rows = IsNoSet (text_in rows (codes "SET")) ⊎ (text_in rows (codes "OUT") ≡ codes "-")
+
+-- what `extract` is asked for
+pub record AsksToExtract (rows : List Row) (order : Extract) : Type 0 where
+  pub task : AsksForFile rows order.task
+  pub images : NamesImages rows order.images
+
+-- why `extract` is refused
+abbrev pub IsNoExtract : List Row → Type 0
+IsNoExtract rows = IsNoTask rows ⊎ AreTooMany rows
+
+-- what `unpack` is asked for
+pub record AsksToUnpack (rows : List Row) (order : Unpack) : Type 0 where
+  pub folder : order.folder.now ≡ text_in rows (codes "DIR")
+  pub named : text_in rows (codes "DIR") ≢ []
+  pub images : NamesImages rows order.images
+  pub form : IsForm rows order.form
+
+-- why `unpack` is refused
+abbrev pub IsNoUnpack : List Row → Type 0
+IsNoUnpack rows = (text_in rows (codes "DIR") ≡ []) ⊎ AreTooMany rows
+
+-- what `stage` is asked for
+pub record AsksForStage (rows : List Row) (order : StageOrder) : Type 0 where
+  pub stage : order.stage.now ≡ text_in rows (codes "PATH")
+  pub out : texts_in rows (codes "OUT") ≡ texts_of_one order.out
+  pub named : IfSome order.out (λ (o : Bor (List ℕ)). o.now ≢ codes "-")
+  pub form : IsForm rows order.form
+  pub damaged : IsFlag rows (codes "damaged") order.damaged
+
+-- what `init` is asked for
+pub record AsksToInit (rows : List Row) (order : Init) : Type 0 where
+  pub folder : order.folder.now ≡ text_in rows (codes "DIR")
+  pub named : text_in rows (codes "DIR") ≢ []
+  pub prefix : order.prefix.characters ≡ text_in rows (codes "PRE")
+  pub is_prefix : IsPrefix (text_in rows (codes "PRE"))
+  pub count : (n : ℕ) → IsNumber 16 rows (codes "COUNT") n → order.count ≡ n
+
+-- why `init` is refused
+abbrev pub IsNoInit : List Row → Type 0
+IsNoInit rows =
+    (text_in rows (codes "DIR") ≡ []) ⊎ (IsPrefix (text_in rows (codes "PRE")) → ⊥)
 
 -- What `write` is asked for: each part by the word of its own.
-pub record AsksToWrite (found : Found) (order : WriteOrder) : Type 0 where
-  pub folder : (text : List ℕ) → first_value found (codes "DIR") ≡ Some text
-      → order.folder.now ≡ text
-  pub capacity : (n : ℕ) → IsBehind 32 found (codes "CAPACITY") n → order.capacity ≡ n
-  pub fixed : first_value found (codes "format") ≡ Some (codes "F") → order.format ≡ Fixed
-  pub counted : first_value found (codes "format") ≡ Some (codes "D") → order.format ≡ Counted
-  pub spanned : first_value found (codes "format") ≡ Some (codes "S") → order.format ≡ Spanned
-  pub block : (n : ℕ) → IsBehind 32 found (codes "block") n → order.block ≡ n
-  pub rec_len : (n : ℕ) → IsBehind 32 found (codes "record") n → order.«record» ≡ Some n
-  pub no_rec_len : one_text found (codes "record") ≡ None → order.«record» ≡ None
-  pub offset : (n : ℕ) → IsBehind 8 found (codes "offset") n → order.offset ≡ n
-  pub padded : one_text found (codes "pad-full") ≡ Some (codes "true") → order.pad_full ≡ true
-  pub plain : one_text found (codes "pad-full") ≡ Some (codes "false") → order.pad_full ≡ false
-  pub raw : first_value found (codes "form") ≡ Some (codes "raw") → order.form ≡ Raw
-  pub lines : first_value found (codes "form") ≡ Some (codes "lines") → order.form ≡ Lines
+pub record AsksToWrite (rows : List Row) (order : WriteOrder) : Type 0 where
+  pub folder : order.folder.now ≡ text_in rows (codes "DIR")
+  pub prefix : order.prefix.characters ≡ text_in rows (codes "PRE")
+  pub files : map (λ w. w.now) order.files.items ≡ texts_in rows (codes "ID=PATH")
+  pub capacity : (n : ℕ) → IsNumber 32 rows (codes "CAPACITY") n → order.capacity ≡ n
+  pub fixed : first_of (codes "format") rows ≡ Some (codes "F") → order.format ≡ Fixed
+  pub counted : first_of (codes "format") rows ≡ Some (codes "D") → order.format ≡ Counted
+  pub spanned : first_of (codes "format") rows ≡ Some (codes "S") → order.format ≡ Spanned
+  pub block : (n : ℕ) → IsNumber 32 rows (codes "block") n → order.block ≡ n
+  pub rec_len : (n : ℕ) → IsNumber 32 rows (codes "record") n → order.«record» ≡ Some n
+  pub no_rec_len : one_of (codes "record") rows ≡ None → order.«record» ≡ None
+  pub offset : (n : ℕ) → IsNumber 8 rows (codes "offset") n → order.offset ≡ n
+  pub padded : IsFlag rows (codes "pad-full") order.pad_full
+  pub form : IsForm rows order.form
 
--- the words ask for `write`, and for just that
-abbrev pub IsWrite : (WriteOrder → Type 0) → Order → Type 0
-IsWrite P (orders.Write order) = P order
-IsWrite P (orders.List _) = ⊥
-IsWrite P (orders.Init _) = ⊥
-IsWrite P (orders.Check _) = ⊥
-IsWrite P (orders.Survey _) = ⊥
-IsWrite P (orders.Unpack _) = ⊥
-IsWrite P (orders.Extract _) = ⊥
-IsWrite P (orders.Stage _) = ⊥
+-- ---- a command line
+
+-- The order is that of the command with this name, and asks for what its rows say.
+abbrev pub IsOrderOf : List ℕ → List Row → Order → Type 0
+IsOrderOf name rows (orders.List order) = (name ≡ codes "list") × AsksToList rows order
+IsOrderOf name rows (orders.Check named) = (name ≡ codes "check") × NamesImages rows named
+IsOrderOf name rows (orders.Survey order) = (name ≡ codes "survey") × AsksToSurvey rows order
+IsOrderOf name rows (orders.Extract order) = (name ≡ codes "extract") × AsksToExtract rows order
+IsOrderOf name rows (orders.Unpack order) = (name ≡ codes "unpack") × AsksToUnpack rows order
+IsOrderOf name rows (orders.Stage order) = (name ≡ codes "stage") × AsksForStage rows order
+IsOrderOf name rows (orders.Init order) = (name ≡ codes "init") × AsksToInit rows order
+IsOrderOf name rows (orders.Write order) = (name ≡ codes "write") × AsksToWrite rows order
+
+-- what is to be done by the command that the parser met, if it met one
+abbrev pub IsOrderIn : Option (List ℕ × List Row) → Order → Type 0
+IsOrderIn None order = ⊥
+IsOrderIn (Some met) order = IsOrderOf met.0 met.1 order

@@ -1,5 +1,5 @@
 -- What `write` makes of its words: the shape of all files, each file's head, and where it is.
-use Rattle.std.specs.Prelude.{◌≡◌, ◌≢◌, ◌⊎◌, ℕ, ◌-◌, min, Bool, true, List, [], codes, replicate}
+use Rattle.std.specs.Prelude.{◌≡◌, ◌≢◌, ◌⊎◌, ℕ, ◌-◌, min, Bool, true, List, codes, replicate}
 use Rattle.std.specs.Prelude.{Option, Some, None}
 use Rattle.tape_label.specs.declared.values.Format.{Format}
 use Rattle.tape_label.specs.declared.values.Format.TheVariants.{Fixed, Counted, Spanned}

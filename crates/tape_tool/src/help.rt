@@ -18,6 +18,9 @@ pub use volumes::{
     RECORD, RECORD_WANTED, WRONG_PREFIX,
 };
 
+/// No command is named. The parser says so itself.
+pub const NO_COMMAND: &str = "name a command, as 'tape list'";
+
 /// What the program does.
 pub const ABOUT: &str = "Reads and writes ANSI-labelled tape volumes (ECMA-13) as SIMH .tap images";
 

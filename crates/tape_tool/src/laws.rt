@@ -4,12 +4,13 @@ ghost use Rattle.tape_tool.specs.Cases.{CasesOfEnds, CasesOfFaults, CasesOfLines
 ghost use Rattle.tape_tool.specs.Cases.{CasesOfStaging};
 ghost use Rattle.tape_tool.specs.CasesOfShowing.{CasesOfShowing};
 ghost use Rattle.tape_tool.specs.CasesOfWriting.{CasesOfWriting};
+ghost use Rattle.tape_tool.specs.CasesOfWords.{CasesOfWords, CasesOfOrders};
 
 use tape_stage::Disk;
 
 /// What the definitions of the program say of cases: how runs end, the numbers of faults, the lines
-/// that are printed, the names in a list, what a session over a stage is, what is shown of one, and
-/// which shapes are refused.
+/// that are printed, the names in a list, what a session over a stage is, what is shown of one,
+/// which shapes are refused, and what words ask for.
 pub fn cases<D: Disk>()
     ensures ends { CasesOfEnds }
     ensures faults { CasesOfFaults }
@@ -18,4 +19,6 @@ pub fn cases<D: Disk>()
     ensures staging { CasesOfStaging D.Disk }
     ensures showing { CasesOfShowing }
     ensures writing { CasesOfWriting }
+    ensures words { CasesOfWords }
+    ensures orders { CasesOfOrders }
 {}

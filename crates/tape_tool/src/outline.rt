@@ -1,4 +1,8 @@
 //! Commands and what stands behind them on a command line, as tables.
+ghost use Rattle.std.specs.Prelude.{◌≡◌, ⊤, IfOk};
+ghost use Rattle.clap.specs.Words.{kind_of};
+ghost use Rattle.tape_tool.specs.Words.{RefusedFor};
+
 use clap::builder::ValueParser;
 use clap::error::ErrorKind;
 use clap::{Arg, ArgAction, Command, Error};
@@ -115,7 +119,9 @@ fn option_argument<'a>(long: Arg<'a>, kind: Kind) -> Arg<'a> {
 }
 
 /// A mistake in the words of a command, with its usage behind the text; or want of memory for it.
-pub fn mistake(alloc: Global, outline: &Outline, text: &str) -> Error {
+pub fn mistake(alloc: Global, outline: &Outline, text: &str) -> Error
+    ensures { RefusedFor ⊤ result }
+{
     match told(alloc, outline, text) {
         Ok(error) => error,
         Err(error) => Error::from(error),
@@ -123,6 +129,8 @@ pub fn mistake(alloc: Global, outline: &Outline, text: &str) -> Error {
 }
 
 /// The same, where there is memory for it.
-fn told(alloc: Global, outline: &Outline, text: &str) -> Result<Error, AllocError> {
+fn told(alloc: Global, outline: &Outline, text: &str) -> Result<Error, AllocError>
+    ensures { IfOk result (λ error. kind_of error ≡ ErrorKind.ValueValidation) }
+{
     command_of(alloc, outline)?.error(ErrorKind::ValueValidation, text)
 }

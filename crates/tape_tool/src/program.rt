@@ -1,4 +1,9 @@
 //! A run of the program, from its words to its exit status.
+ghost use Rattle.std.specs.Prelude.{◌≡◌, Bool, true, false, None, IsSome};
+ghost use Rattle.clap.specs.Words.{kind_of};
+ghost use Rattle.tape_tool.specs.Ends.{exit_status, no_words_end, words_end, IsUnfitEnd};
+ghost use Rattle.tape_tool.specs.Ends.{IsWrongWords};
+
 use crate::check::check;
 use crate::end::{End, finish, no_words_end, words_end};
 use crate::explain::{Explanation, Site};
@@ -39,7 +44,9 @@ pub struct Outcome<'a> {
 }
 
 /// Tells how a call ended, and gives the exit status.
-fn tell<R: Eprint>(rt: &R, outcome: Outcome<'_>) -> u8 {
+fn tell<R: Eprint>(rt: &R, outcome: Outcome<'_>) -> u8
+    ensures { result ≡ exit_status outcome.entry.end }
+{
     let status = finish(rt, outcome.end);
     if let (End::Faulted(fault), Some(site)) = (outcome.end, outcome.explained) {
         let _ = rt.eprint(Explanation { fault, site });
@@ -48,7 +55,9 @@ fn tell<R: Eprint>(rt: &R, outcome: Outcome<'_>) -> u8 {
 }
 
 /// Ends a run whose words could not be had.
-pub fn without_words<R: Eprint>(rt: &R, kind: io::ErrorKind) -> End {
+pub fn without_words<R: Eprint>(rt: &R, kind: io::ErrorKind) -> End
+    ensures { result ≡ no_words_end kind }
+{
     let end = no_words_end(kind);
     if end == End::WrongWords {
         let _ = rt.eprint(help::NO_TEXT);
@@ -68,7 +77,10 @@ pub fn perform<'a, R: Host>(rt: &R, words: &'a [String]) -> Outcome<'a> {
 }
 
 /// Does what the call asks for.
-fn follow<'a, R: Host>(rt: &R, call: &Call<'a>) -> Outcome<'a> {
+fn follow<'a, R: Host>(rt: &R, call: &Call<'a>) -> Outcome<'a>
+    ensures plain { call.now.explained ≡ false → result.explained ≡ None }
+    ensures explained { call.now.explained ≡ true → IsSome result.explained }
+{
     let mut site = Site::Unknown;
     let end = obey(rt, &call.order, &mut site);
     Outcome {
@@ -93,7 +105,9 @@ fn obey<'a, R: Host>(rt: &R, order: &Order<'a>, site: &mut Site<'a>) -> End {
 
 /// Prints what the parser of words has to say: help to standard output, a mistake to standard
 /// error.
-pub fn refuse<R: Print + Eprint>(rt: &R, error: &clap::Error) -> End {
+pub fn refuse<R: Print + Eprint>(rt: &R, error: &clap::Error) -> End
+    ensures { (printed : Bool) × (result ≡ words_end (kind_of error.now) printed) }
+{
     let kind = error.kind();
     // That memory was refused is a fault, and told by the one line of a fault.
     let printed = kind != ErrorKind::OutOfMemory && error.print(rt).is_ok();
@@ -104,6 +118,7 @@ pub fn refuse<R: Print + Eprint>(rt: &R, error: &clap::Error) -> End {
 pub fn refuse_unfit<R>(rt: &R, outline: &Outline, unfit: Unfit) -> End
 where
     R: Print + Eprint + AllocGlobal,
+    ensures { IsUnfitEnd unfit result }
 {
     match unfit {
         Unfit::Faulted(fault) => End::Faulted(fault),
@@ -119,6 +134,8 @@ where
 }
 
 /// Tells a mistake in words that was found behind them.
-fn refuse_words<R: Print + Eprint + AllocGlobal>(rt: &R, outline: &Outline, text: &str) -> End {
+fn refuse_words<R: Print + Eprint + AllocGlobal>(rt: &R, outline: &Outline, text: &str) -> End
+    ensures { IsWrongWords result }
+{
     refuse(rt, &mistake(rt.alloc(), outline, text))
 }

@@ -1,4 +1,8 @@
 //! What the words of a command line ask for.
+ghost use Rattle.std.specs.Prelude.{codes, IfOk};
+ghost use Rattle.clap.specs.Words.{found_of, rows_of};
+ghost use Rattle.tape_tool.specs.Words.{IsFlag};
+
 pub mod parts;
 
 use crate::check::words::{CHECK, check_order};
@@ -8,12 +12,13 @@ use crate::help;
 use crate::init::words::{INIT, Init, init_order};
 use crate::list::words::{LIST, Listing, list_order};
 use crate::names::Named;
-use crate::outline::{Outline, command_of};
+use crate::outline::{Outline, command_of, mistake};
 use crate::stage::words::{STAGE, StageOrder, stage_order};
 use crate::survey::words::{SURVEY, Survey, survey_order};
 use crate::unpack::words::{UNPACK, Unpack, unpack_order};
 use crate::write::words::{WRITE, WriteOrder, write_order};
 use clap::{Arg, ArgAction, ArgMatches, Command, Error};
+use parts::flag_of;
 use std::alloc::{AllocError, Global};
 
 /// What a command line asks for.
@@ -66,29 +71,29 @@ pub fn call_of<'a>(alloc: Global, words: &'a [String]) -> Result<Call<'a>, Error
 }
 
 /// What the words ask for that were found.
-fn call_in<'a>(alloc: Global, matches: &ArgMatches<'a>) -> Result<Call<'a>, Error> {
+fn call_in<'a>(alloc: Global, matches: &ArgMatches<'a>) -> Result<Call<'a>, Error>
+    ensures explained { IfOk result (λ call.
+        IsFlag (rows_of (found_of matches.now)) (codes "explain") call.explained) }
+{
     Ok(Call {
         order: order_of(alloc, matches)?,
-        explained: matches.get_flag("explain"),
+        explained: flag_of(matches, "explain"),
     })
 }
 
 /// What the words of the command ask for, of which the parser has seen to it that there is one.
 fn order_of<'a>(alloc: Global, matches: &ArgMatches<'a>) -> Result<Order<'a>, Error> {
-    match matches.subcommand() {
-        Some(("init", init)) => init_order(alloc, init),
-        Some(("check", check)) => check_order(alloc, check),
-        Some(("survey", survey)) => survey_order(alloc, survey),
-        Some(("write", write)) => write_order(alloc, write),
-        Some(("extract", extract)) => extract_order(alloc, extract),
-        Some(("unpack", unpack)) => unpack_order(alloc, unpack),
-        Some(("stage", stage)) => stage_order(alloc, stage),
-        Some((_, list)) => list_order(alloc, list),
-        None => Ok(Order::List(Listing {
-            image: None,
-            places: false,
-        })),
-    }
+    Ok(match matches.subcommand() {
+        Some(("list", list)) => Order::List(list_order(alloc, list)?),
+        Some(("check", check)) => Order::Check(check_order(alloc, check)?),
+        Some(("survey", survey)) => Order::Survey(survey_order(alloc, survey)?),
+        Some(("extract", extract)) => Order::Extract(extract_order(alloc, extract)?),
+        Some(("unpack", unpack)) => Order::Unpack(unpack_order(alloc, unpack)?),
+        Some(("stage", stage)) => Order::Stage(stage_order(alloc, stage)?),
+        Some(("init", init)) => Order::Init(init_order(alloc, init)?),
+        Some(("write", write)) => Order::Write(write_order(alloc, write)?),
+        _ => return Err(mistake(alloc, &TAPE, help::NO_COMMAND)),
+    })
 }
 
 /// The commands and their words.

@@ -5,8 +5,7 @@ use Rattle.std.specs.List.{before_first}
 use Rattle.std.specs.Prelude.{Some, Ok, slice_index, decimal}
 use Rattle.std.specs.Fmt.{digits}
 use Rattle.std.specs.Io.KnownBytes.{Appends}
-use Rattle.clap.specs.Words.{found_of, one_text}
-use Rattle.tape_tool.specs.declared.words.Order.TheVariants as orders
+use Rattle.clap.specs.Words.{found_of, one_of, rows_of}
 use Rattle.tape_tool.specs.Report.{report}
 use Rattle.tape_tool.proofs.write.run.split.Reads as split
 use Rattle.tape_tool.proofs.write.report.say.Reads as say
@@ -21,8 +20,8 @@ cut_at_the_last_equals_sign κs a r s l word id =
 
 -- offset_forgotten: an offset of 3 is asked for, and the blocks have none
 offset_forgotten : (κs : _) (a : _) (o : _) (s : _)
-    → write_order.Learnt κs a (Ok (orders.Write o)) s
-    → one_text (found_of a.1.0.now) (codes "offset") ≡ Some (decimal 3) → o.offset ≡ 0 → ⊥
+    → write_order.Learnt κs a (Ok o) s
+    → one_of (codes "offset") (rows_of (found_of a.1.0.now)) ≡ Some (decimal 3) → o.offset ≡ 0 → ⊥
 offset_forgotten κs a o s l asked none =
     absurd (let n : 0 ≡ 3 = sym none ∙ l.offset 3 (lit< tt, asked) in omega arith)
 
@@ -32,11 +31,11 @@ bit false = 0
 
 -- pad_full_forgotten: blocks are to be filled up, and are not
 pad_full_forgotten : (κs : _) (a : _) (o : _) (s : _)
-    → write_order.Learnt κs a (Ok (orders.Write o)) s
-    → one_text (found_of a.1.0.now) (codes "pad-full") ≡ Some (codes "true")
+    → write_order.Learnt κs a (Ok o) s
+    → one_of (codes "pad-full") (rows_of (found_of a.1.0.now)) ≡ Some (codes "true")
     → o.pad_full ≡ false → ⊥
 pad_full_forgotten κs a o s l asked none =
-    absurd (let n : 0 ≡ 1 = ap (λ b. bit b) (sym none ∙ l.padded asked) in omega arith)
+    absurd (let n : 0 ≡ 1 = ap (λ b. bit b) (sym none ∙ l.padded.given asked) in omega arith)
 
 -- size_without_the_end_word: an image of 486 bytes is told with 482
 size_without_the_end_word : (W : _) (L : _) (h : _) (e : _) (κs : _) (a : _) (s : _)

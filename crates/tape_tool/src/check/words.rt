@@ -1,8 +1,11 @@
 //! What the words behind `check` ask for.
+ghost use Rattle.std.specs.Prelude.{IfOk, IfErr};
+ghost use Rattle.clap.specs.Words.{found_of, rows_of};
+ghost use Rattle.tape_tool.specs.Words.{AreTooMany, NamesImages, RefusedFor};
+
 use crate::help;
 use crate::names::Named;
 use crate::outline::{Kind, Outline, Word};
-use crate::words::Order;
 use crate::words::parts::named;
 use clap::{ArgMatches, Error};
 use std::alloc::Global;
@@ -22,6 +25,9 @@ pub const CHECK: Outline = Outline {
 };
 
 /// What the words behind `check` ask for.
-pub fn check_order<'a>(alloc: Global, matches: &ArgMatches<'a>) -> Result<Order<'a>, Error> {
-    Ok(Order::Check(named(alloc, matches, &CHECK, help::TOO_MANY_TO_CHECK)?))
+pub fn check_order<'a>(alloc: Global, matches: &ArgMatches<'a>) -> Result<Named<'a>, Error>
+    ensures ok { IfOk result (NamesImages (rows_of (found_of matches.now))) }
+    ensures err { IfErr result (RefusedFor (AreTooMany (rows_of (found_of matches.now)))) }
+{
+    named(alloc, matches, &CHECK, help::TOO_MANY_TO_CHECK)
 }

@@ -1,9 +1,13 @@
 //! What the words behind `extract` ask for.
+ghost use Rattle.std.specs.Prelude.{◌≡◌, IfOk, IfErr, IfSome, IfNone, IsSome};
+ghost use Rattle.clap.specs.Words.{found_of, rows_of};
+ghost use Rattle.tape_tool.specs.Words.{AsksForFile, AsksToExtract, IsNoExtract, IsNoSet, IsNoTask};
+ghost use Rattle.tape_tool.specs.Words.{RefusedFor, padded_set};
+
 use crate::help;
 use crate::names::Named;
 use crate::outline::{Kind, Outline, Word, mistake};
-use crate::words::Order;
-use crate::words::parts::{FORMS, form_of, is_dash, named, text_of};
+use crate::words::parts::{FORMS, flag_of, form_of, is_dash, named, number_of, option_of, text_of};
 use clap::{ArgMatches, Error};
 use std::alloc::Global;
 use tape_blocks::Form;
@@ -54,7 +58,20 @@ pub const EXTRACT: Outline = Outline {
 };
 
 /// What the words behind `extract` ask for. The parser has seen to it that all of them are there.
-pub fn extract_order<'a>(alloc: Global, matches: &ArgMatches<'a>) -> Result<Order<'a>, Error> {
+pub fn extract_order<'a>(alloc: Global, matches: &ArgMatches<'a>) -> Result<Extract<'a>, Error>
+    ensures ok { IfOk result (AsksToExtract (rows_of (found_of matches.now))) }
+    ensures err { IfErr result (RefusedFor (IsNoExtract (rows_of (found_of matches.now)))) }
+{
+    let task = task_of(alloc, matches)?;
+    let images = named(alloc, matches, &EXTRACT, help::TOO_MANY_IMAGES)?;
+    Ok(Extract { task, images })
+}
+
+/// The file of which set is to be got back, and how.
+fn task_of<'a>(alloc: Global, matches: &ArgMatches<'a>) -> Result<Task<'a>, Error>
+    ensures ok { IfOk result (AsksForFile (rows_of (found_of matches.now))) }
+    ensures err { IfErr result (RefusedFor (IsNoTask (rows_of (found_of matches.now)))) }
+{
     let outline = &EXTRACT;
     let Some(set_id) = set_id_of(text_of(matches, "SET")) else {
         return Err(mistake(alloc, outline, help::WRONG_SET));
@@ -63,32 +80,28 @@ pub fn extract_order<'a>(alloc: Global, matches: &ArgMatches<'a>) -> Result<Orde
     if is_dash(out) {
         return Err(mistake(alloc, outline, help::OUT_IS_DASH));
     }
-    let images = named(alloc, matches, outline, help::TOO_MANY_IMAGES)?;
-    let task = task_of(matches, set_id, out);
-    Ok(Order::Extract(Extract { task, images }))
-}
-
-/// The file of this set that is to be got back, and how.
-fn task_of<'a>(matches: &ArgMatches<'a>, set_id: Field<6>, out: &'a str) -> Task<'a> {
-    Task {
+    let stage = option_of(matches, "stage");
+    Ok(Task {
         set_id,
-        file: matches.get_one::<u16>("FILE").unwrap_or(0),
+        file: number_of(matches, "FILE"),
         out,
         form: form_of(matches),
-        stage: matches.get_str("stage"),
-        again: matches.get_flag("again"),
-    }
+        stage,
+        again: flag_of(matches, "again"),
+    })
 }
 
 /// A set's identifier: 1 to 6 bytes, with spaces behind them.
-fn set_id_of(text: &str) -> Option<Field<6>> {
+fn set_id_of(text: &str) -> Option<Field<6>>
+    ensures some { IfSome result (λ id. id ≡ padded_set text.now) }
+    ensures given { IsSome result → IsNoSet text.now → ⊥ }
+    ensures none { IfNone result (IsNoSet text.now) }
+{
     let bytes = text.as_bytes();
     if bytes.is_empty() || bytes.len() > 6 {
         return None;
     }
     let mut padded = [b' '; 6];
-    for (slot, byte) in padded.iter_mut().zip(bytes) {
-        *slot = *byte;
-    }
+    padded[..bytes.len()].copy_from_slice(bytes);
     Some(Field::of_bytes(padded))
 }

@@ -1,8 +1,11 @@
 //! What the words behind `init` ask for.
+ghost use Rattle.std.specs.Prelude.{IfOk, IfErr};
+ghost use Rattle.clap.specs.Words.{found_of, rows_of};
+ghost use Rattle.tape_tool.specs.Words.{AsksToInit, IsNoInit, RefusedFor};
+
 use crate::help;
 use crate::outline::{Kind, Outline, Word, mistake};
-use crate::words::Order;
-use crate::words::parts::text_of;
+use crate::words::parts::{number_of, text_of};
 use clap::{ArgMatches, Error};
 use std::alloc::Global;
 use tape_writer::Prefix;
@@ -30,19 +33,21 @@ pub const INIT: Outline = Outline {
 };
 
 /// What the words behind `init` ask for. The parser has seen to it that all three are there.
-pub fn init_order<'a>(alloc: Global, matches: &ArgMatches<'a>) -> Result<Order<'a>, Error> {
+pub fn init_order<'a>(alloc: Global, matches: &ArgMatches<'a>) -> Result<Init<'a>, Error>
+    ensures ok { IfOk result (AsksToInit (rows_of (found_of matches.now))) }
+    ensures err { IfErr result (RefusedFor (IsNoInit (rows_of (found_of matches.now)))) }
+{
     let outline = &INIT;
     let folder = text_of(matches, "DIR");
-    let count = matches.get_one::<u16>("COUNT").unwrap_or(0);
     if folder.is_empty() {
         return Err(mistake(alloc, outline, help::NO_FOLDER));
     }
     match Prefix::new(text_of(matches, "PRE")) {
-        Some(prefix) => Ok(Order::Init(Init {
+        Some(prefix) => Ok(Init {
             folder,
             prefix,
-            count,
-        })),
+            count: number_of(matches, "COUNT"),
+        }),
         None => Err(mistake(alloc, outline, help::WRONG_PREFIX)),
     }
 }

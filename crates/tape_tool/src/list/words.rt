@@ -1,7 +1,11 @@
 //! What the words behind `list` ask for.
+ghost use Rattle.std.specs.Prelude.{codes, IfOk, IfErr};
+ghost use Rattle.clap.specs.Words.{found_of, rows_of};
+ghost use Rattle.tape_tool.specs.Words.{AsksToList, IsDashOrMore, RefusedFor, texts_in};
+
 use crate::help;
 use crate::outline::{Kind, Outline, Word, mistake};
-use crate::words::Order;
+use crate::words::parts::{at_most_one, flag_of};
 use clap::{ArgMatches, Error};
 use std::alloc::Global;
 
@@ -27,15 +31,17 @@ pub const LIST: Outline = Outline {
 };
 
 /// What the words behind `list` ask for.
-pub fn list_order<'a>(alloc: Global, matches: &ArgMatches<'a>) -> Result<Order<'a>, Error> {
-    let image = match matches.get_strs("IMAGE") {
-        None | Some([]) => None,
-        Some(["-"]) => return Err(mistake(alloc, &LIST, help::DASH)),
-        Some([image]) => Some(*image),
-        Some(_) => return Err(mistake(alloc, &LIST, help::ONE_IMAGE)),
-    };
-    Ok(Order::List(Listing {
-        image,
-        places: matches.get_flag("places"),
-    }))
+pub fn list_order<'a>(alloc: Global, matches: &ArgMatches<'a>) -> Result<Listing<'a>, Error>
+    ensures ok { IfOk result (AsksToList (rows_of (found_of matches.now))) }
+    ensures err { IfErr result (RefusedFor (IsDashOrMore
+        (texts_in (rows_of (found_of matches.now)) (codes "IMAGE")))) }
+{
+    let images = matches.get_strs("IMAGE").unwrap_or(&[]);
+    match at_most_one(images, help::DASH, help::ONE_IMAGE) {
+        Ok(image) => Ok(Listing {
+            image,
+            places: flag_of(matches, "places"),
+        }),
+        Err(text) => Err(mistake(alloc, &LIST, text)),
+    }
 }

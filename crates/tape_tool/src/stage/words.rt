@@ -1,8 +1,11 @@
 //! What the words behind `stage` ask for.
+ghost use Rattle.std.specs.Prelude.{codes, IfOk, IfErr};
+ghost use Rattle.clap.specs.Words.{found_of, rows_of};
+ghost use Rattle.tape_tool.specs.Words.{AsksForStage, IsDashOrMore, RefusedFor, texts_in};
+
 use crate::help;
 use crate::outline::{Kind, Outline, Word, mistake};
-use crate::words::Order;
-use crate::words::parts::{FORMS, form_of, text_of};
+use crate::words::parts::{FORMS, at_most_one, flag_of, form_of, text_of};
 use clap::{ArgMatches, Error};
 use std::alloc::Global;
 use tape_blocks::Form;
@@ -37,18 +40,19 @@ pub const STAGE: Outline = Outline {
 };
 
 /// What the words behind `stage` ask for. The parser has seen to it that a stage is named.
-pub fn stage_order<'a>(alloc: Global, matches: &ArgMatches<'a>) -> Result<Order<'a>, Error> {
-    let outline = &STAGE;
-    let out = match matches.get_strs("OUT") {
-        None | Some([]) => None,
-        Some(["-"]) => return Err(mistake(alloc, outline, help::OUT_IS_DASH)),
-        Some([out]) => Some(*out),
-        Some(_) => return Err(mistake(alloc, outline, help::ONE_OUT)),
-    };
-    Ok(Order::Stage(StageOrder {
-        stage: text_of(matches, "PATH"),
-        out,
-        form: form_of(matches),
-        damaged: matches.get_flag("damaged"),
-    }))
+pub fn stage_order<'a>(alloc: Global, matches: &ArgMatches<'a>) -> Result<StageOrder<'a>, Error>
+    ensures ok { IfOk result (AsksForStage (rows_of (found_of matches.now))) }
+    ensures err { IfErr result (RefusedFor (IsDashOrMore
+        (texts_in (rows_of (found_of matches.now)) (codes "OUT")))) }
+{
+    let outs = matches.get_strs("OUT").unwrap_or(&[]);
+    match at_most_one(outs, help::OUT_IS_DASH, help::ONE_OUT) {
+        Ok(out) => Ok(StageOrder {
+            stage: text_of(matches, "PATH"),
+            out,
+            form: form_of(matches),
+            damaged: flag_of(matches, "damaged"),
+        }),
+        Err(text) => Err(mistake(alloc, &STAGE, text)),
+    }
 }

@@ -1,9 +1,12 @@
 //! What the words behind `survey` ask for.
+ghost use Rattle.std.specs.Prelude.{codes, IfOk, IfErr};
+ghost use Rattle.clap.specs.Words.{found_of, rows_of};
+ghost use Rattle.tape_tool.specs.Words.{AreTooMany, AsksToSurvey, IsFlag, RefusedFor, is_in_rows};
+
 use crate::help;
 use crate::names::Named;
 use crate::outline::{Kind, Outline, Word};
-use crate::words::Order;
-use crate::words::parts::named;
+use crate::words::parts::{flag_of, named};
 use clap::{ArgMatches, Error};
 use std::alloc::Global;
 use tape_run::Wording;
@@ -31,18 +34,23 @@ pub const SURVEY: Outline = Outline {
 };
 
 /// What the words behind `survey` ask for.
-pub fn survey_order<'a>(alloc: Global, matches: &ArgMatches<'a>) -> Result<Order<'a>, Error> {
-    let images = named(alloc, matches, &SURVEY, help::TOO_MANY_TO_SURVEY)?;
-    Ok(Order::Survey(Survey {
-        images,
+pub fn survey_order<'a>(alloc: Global, matches: &ArgMatches<'a>) -> Result<Survey<'a>, Error>
+    ensures ok { IfOk result (AsksToSurvey (rows_of (found_of matches.now))) }
+    ensures err { IfErr result (RefusedFor (AreTooMany (rows_of (found_of matches.now)))) }
+{
+    Ok(Survey {
+        images: named(alloc, matches, &SURVEY, help::TOO_MANY_TO_SURVEY)?,
         wording: wording_of(matches),
-    }))
+    })
 }
 
 /// How a survey is to be told.
-fn wording_of(matches: &ArgMatches<'_>) -> Wording {
-    if matches.get_flag("tsv") {
-        return Wording::Rows;
+fn wording_of(matches: &ArgMatches<'_>) -> Wording
+    ensures { IsFlag (rows_of (found_of matches.now)) (codes "tsv") (is_in_rows result) }
+{
+    if flag_of(matches, "tsv") {
+        Wording::Rows
+    } else {
+        Wording::Words
     }
-    Wording::Words
 }

@@ -1,8 +1,11 @@
 //! What the words behind `unpack` ask for.
+ghost use Rattle.std.specs.Prelude.{IfOk, IfErr};
+ghost use Rattle.clap.specs.Words.{found_of, rows_of};
+ghost use Rattle.tape_tool.specs.Words.{AsksToUnpack, IsNoUnpack, RefusedFor};
+
 use crate::help;
 use crate::names::Named;
 use crate::outline::{Kind, Outline, Word, mistake};
-use crate::words::Order;
 use crate::words::parts::{FORMS, form_of, named, text_of};
 use clap::{ArgMatches, Error};
 use std::alloc::Global;
@@ -37,16 +40,18 @@ pub const UNPACK: Outline = Outline {
 };
 
 /// What the words behind `unpack` ask for. The parser has seen to it that all of them are there.
-pub fn unpack_order<'a>(alloc: Global, matches: &ArgMatches<'a>) -> Result<Order<'a>, Error> {
+pub fn unpack_order<'a>(alloc: Global, matches: &ArgMatches<'a>) -> Result<Unpack<'a>, Error>
+    ensures ok { IfOk result (AsksToUnpack (rows_of (found_of matches.now))) }
+    ensures err { IfErr result (RefusedFor (IsNoUnpack (rows_of (found_of matches.now)))) }
+{
     let outline = &UNPACK;
     let folder = text_of(matches, "DIR");
     if folder.is_empty() {
         return Err(mistake(alloc, outline, help::NO_FOLDER));
     }
-    let images = named(alloc, matches, outline, help::TOO_MANY_TO_UNPACK)?;
-    Ok(Order::Unpack(Unpack {
+    Ok(Unpack {
         folder,
-        images,
+        images: named(alloc, matches, outline, help::TOO_MANY_TO_UNPACK)?,
         form: form_of(matches),
-    }))
+    })
 }

@@ -1,12 +1,11 @@
 //! What the words behind `write` ask for.
-ghost use Rattle.std.specs.Prelude.{◌≡◌, codes, IfOk};
-ghost use Rattle.clap.specs.Words.{found_of};
-ghost use Rattle.tape_tool.specs.Words.{AsksToWrite, IsWrite};
+ghost use Rattle.std.specs.Prelude.{◌≡◌, codes, map, IfOk};
+ghost use Rattle.clap.specs.Words.{found_of, rows_of};
+ghost use Rattle.tape_tool.specs.Words.{AsksToWrite, text_in, texts_in};
 
 use crate::help;
 use crate::outline::{Kind, Outline, Word, mistake};
-use crate::words::Order;
-use crate::words::parts::{FORMS, form_of};
+use crate::words::parts::{FORMS, flag_of, form_of, text_of};
 use clap::{ArgMatches, Error};
 use std::alloc::Global;
 use tape_blocks::Form;
@@ -60,39 +59,45 @@ pub const WRITE: Outline = Outline {
 };
 
 /// What the words behind `write` ask for. The parser has seen to it that they are there.
-pub fn write_order<'a>(alloc: Global, matches: &ArgMatches<'a>) -> Result<Order<'a>, Error>
-    ensures { IfOk result (IsWrite (AsksToWrite (found_of matches.now))) }
+pub fn write_order<'a>(alloc: Global, matches: &ArgMatches<'a>) -> Result<WriteOrder<'a>, Error>
+    ensures { IfOk result (AsksToWrite (rows_of (found_of matches.now))) }
 {
-    let Some(prefix) = Prefix::new(matches.get_str("PRE").unwrap_or("")) else {
+    let Some(prefix) = Prefix::new(text_of(matches, "PRE")) else {
         return Err(mistake(alloc, &WRITE, help::WRONG_PREFIX));
     };
     let order = asked(matches, prefix, files_of(alloc, matches)?);
     match wrong(&order) {
         Some(text) => Err(mistake(alloc, &WRITE, text)),
-        None => Ok(Order::Write(order)),
+        None => Ok(order),
     }
 }
 
 /// The order of these words, with this prefix and these files.
 fn asked<'a>(matches: &ArgMatches<'a>, prefix: Prefix, files: Vec<&'a str>) -> WriteOrder<'a>
-    ensures { AsksToWrite (found_of matches.now) result }
+    ensures { prefix.characters ≡ text_in (rows_of (found_of matches.now)) (codes "PRE")
+        → map (λ w. w.now) files.entry.items
+        ≡ texts_in (rows_of (found_of matches.now)) (codes "ID=PATH")
+        → AsksToWrite (rows_of (found_of matches.now)) result }
 {
     WriteOrder {
-        folder: matches.get_str("DIR").unwrap_or(""),
+        folder: text_of(matches, "DIR"),
         prefix,
         capacity: matches.get_one::<u32>("CAPACITY").unwrap_or(0),
         files,
-        format: format_of(matches.get_str("format").unwrap_or("")),
+        format: format_of(text_of(matches, "format")),
         block: matches.get_one::<u32>("block").unwrap_or(0),
         record: matches.get_one::<u32>("record"),
         offset: matches.get_one::<u8>("offset").unwrap_or(0),
-        pad_full: matches.get_flag("pad-full"),
+        pad_full: flag_of(matches, "pad-full"),
         form: form_of(matches),
     }
 }
 
 /// The words of the files, each of which names a path.
-fn files_of<'a>(alloc: Global, matches: &ArgMatches<'a>) -> Result<Vec<&'a str>, Error> {
+fn files_of<'a>(alloc: Global, matches: &ArgMatches<'a>) -> Result<Vec<&'a str>, Error>
+    ensures { IfOk result (λ files. map (λ w. w.now) files.items
+        ≡ texts_in (rows_of (found_of matches.now)) (codes "ID=PATH")) }
+{
     let files = matches.get_strs("ID=PATH").unwrap_or(&[]);
     if !files.iter().all(|word| word.contains("=")) {
         return Err(mistake(alloc, &WRITE, help::NO_PATH));

@@ -2,6 +2,7 @@ use Rattle.tape_tool.proofs.Examples.{cases_of_ends, cases_of_faults, cases_of_l
 use Rattle.tape_tool.proofs.Examples.{cases_of_names, cases_of_staging}
 use Rattle.tape_tool.proofs.ExamplesOfShowing.{cases_of_showing}
 use Rattle.tape_tool.proofs.ExamplesOfWriting.{cases_of_writing}
+use Rattle.tape_tool.proofs.ExamplesOfWords.{cases_of_words, cases_of_orders}
 use Rattle.tape_tool.proofs.laws.cases.Goals as goal
 
 pub returns-clause-ends : goal.returns-clause-ends
@@ -24,3 +25,9 @@ returns-clause-showing g c = cases_of_showing
 
 pub returns-clause-writing : goal.returns-clause-writing
 returns-clause-writing g c = cases_of_writing
+
+pub returns-clause-words : goal.returns-clause-words
+returns-clause-words g c = cases_of_words
+
+pub returns-clause-orders : goal.returns-clause-orders
+returns-clause-orders g c = cases_of_orders

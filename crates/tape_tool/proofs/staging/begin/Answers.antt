@@ -1,4 +1,4 @@
-use Rattle.std.proofs.Common.{◌≡◌, ℕ, [], refl, ap, ◌∙◌}
+use Rattle.std.proofs.Common.{[], refl, ap, ◌∙◌}
 use Rattle.tape_core.specs.Place.{rest_of}
 use Rattle.tape_core.specs.State.{State}
 use Rattle.tape_core.specs.Table.{saved}

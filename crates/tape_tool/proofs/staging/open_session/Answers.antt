@@ -1,5 +1,4 @@
-use Rattle.std.proofs.Common.{◌≡◌, ℕ, List, sym, subst}
-use Rattle.std.specs.Prelude.{IfErr}
+use Rattle.std.proofs.Common.{ℕ, List, sym, subst}
 use Rattle.tape_stage.specs.Staged.{HoldsNone, KeepsStaged}
 use Rattle.tape_stage.proofs.Refusals.{untouched_by, untouched_then}
 use Rattle.tape_stage.proofs.Results.{if_err, if_ok}

@@ -1,5 +1,5 @@
 -- An answer that the contract of a part of `write` excludes: it is what a wrong body would give.
-use Rattle.std.proofs.Common.{◌≡◌, ap, sym, ◌∙◌, subst, arith}
+use Rattle.std.proofs.Common.{◌≡◌, ap, ◌∙◌, arith}
 use Rattle.std.specs.Prelude.{None}
 use Rattle.tape_label.specs.declared.values.Format.TheVariants.{Counted}
 use Rattle.tape_tool.specs.Writing.{record_length as length_of}

@@ -1,0 +1,60 @@
+-- What the parser's calls give, over the rows of what it found; and mistakes in words.
+use Rattle.std.proofs.Common.{◌≡◌, ◌<◌, ◌^◌, ℕ, Bor, List, [], map, Result, Ok, Err, Option, Some, None}
+use Rattle.std.proofs.Common.{refl, ap, ◌∙◌, arith, inl, inr}
+use Rattle.std.specs.Prelude.{⊤, decimal, unwrap_or, option_map}
+use Rattle.std.specs.Str.Parse.{ParsesUnsigned, ExplainsUnsignedError, HasUnsignedDigitsIfOk}
+use Rattle.std.proofs.lemmas.Fmt.{parse-decimal}
+use Rattle.std.specs.declared.num.ParseIntError.{ParseIntError}
+use Rattle.clap.specs.Words.{ReadsOne, matched_of, raw_values, rows_of}
+use Rattle.clap.specs.declared.parser.matches.Found.{Found}
+use Rattle.clap.proofs.WalkLemmas.{raw_values-rows}
+use Rattle.clap.specs.declared.error.Error.{Error}
+use Rattle.tape_tool.specs.Words.{RefusedFor, texts_in}
+
+abbrev value_of : Result ℕ ParseIntError → ℕ
+value_of (Ok v) = v
+value_of (Err e) = 0
+
+abbrev count_of : Result ℕ ParseIntError → ℕ
+count_of (Ok v) = 1
+count_of (Err e) = 0
+
+-- the digits of a number read as that number
+pub read_back : (bits n : ℕ) (read : Option ℕ) → n < 2 ^ bits → n < 2 ^ 64
+    → ReadsOne (λ t r. ParsesUnsigned bits 10 t r × ExplainsUnsignedError 10 t r
+    × HasUnsignedDigitsIfOk t r) (decimal n) read → read ≡ Some n
+read_back bits n (Some v) fits short g =
+    ap (λ r. Some (value_of r)) (parse-decimal bits n (decimal n) (Ok v) fits short refl g.0)
+read_back bits n None fits short g =
+    absurd (let d : 0 ≡ 1 = ap (λ r. count_of r)
+    (parse-decimal bits n (decimal n) (Err g.0) fits short refl g.1.0) in omega arith)
+
+-- the text of a word is lent, or nothing is
+pub lent : (found : Option (Bor (List ℕ))) (other : Bor (List ℕ)) (text : Option (List ℕ))
+    → option_map (λ t. t.now) found ≡ text → other.now ≡ []
+    → (unwrap_or found other).now ≡ unwrap_or text []
+lent (Some t) other text e none = ap (λ o. unwrap_or o []) e
+lent None other text e none = none ∙ ap (λ o. unwrap_or o []) e
+
+-- and so are the texts of a word
+pub all_lent : (found : Found) (word : List ℕ) (texts : Option (Bor (List (Bor (List ℕ)))))
+    (other given : Bor (List (Bor (List ℕ))))
+    → option_map (λ s. map (λ t. t.now) s.now) texts ≡ option_map raw_values (matched_of found word)
+    → other.now ≡ [] → given ≡ unwrap_or texts other
+    → map (λ t. t.now) given.now ≡ texts_in (rows_of found) word
+all_lent found word (Some s) other given e none is = ap (λ t. map (λ w. w.now) t.now) is
+    ∙ ap (λ o. unwrap_or o []) (e ∙ raw_values-rows found word)
+all_lent found word None other given e none is = ap (λ t. map (λ w. w.now) t.now) is
+    ∙ ap (map (λ w. w.now)) none ∙ ap (λ o. unwrap_or o []) (e ∙ raw_values-rows found word)
+
+-- a mistake is one for this reason
+pub refused_for : {reason : Type 0} (error : Error) → RefusedFor ⊤ error → reason
+    → RefusedFor reason error
+refused_for error (inl none) why = inl none
+refused_for error (inr wrong) why = inr (wrong.0, why)
+
+-- and for a reason that follows from it
+pub refused_also : {reason other : Type 0} (error : Error) → (reason → other)
+    → RefusedFor reason error → RefusedFor other error
+refused_also error f (inl none) = inl none
+refused_also error f (inr wrong) = inr (wrong.0, f wrong.1)

@@ -1,0 +1,167 @@
+-- What the definitions of the words of a command line say of cases.
+use Rattle.std.specs.Prelude.{◌≡◌, ℕ, Bool, true, false, List, [], ◌∷◌, map}
+use Rattle.std.specs.Prelude.{codes, replicate, Option, Some, None, option_map}
+use Rattle.clap.specs.Words.{Row, kind_of}
+use Rattle.clap.specs.declared.builder.value_parser.Reading.TheVariants.{AsWritten}
+use Rattle.clap.specs.declared.error.Error.{Error}
+use Rattle.clap.specs.declared.error.kind.ErrorKind.TheVariants.{OutOfMemory, ValueValidation}
+use Rattle.tape_label.specs.declared.values.Format.TheVariants.{Counted}
+use Rattle.tape_blocks.specs.declared.form.Form.{Form}
+use Rattle.tape_blocks.specs.declared.form.Form.TheVariants.{Lines, Raw}
+use Rattle.tape_run.specs.declared.survey.Wording.TheVariants as wordings
+use Rattle.tape_tool.specs.declared.extract.words.Extract.{Extract}
+use Rattle.tape_tool.specs.declared.init.words.Init.{Init}
+use Rattle.tape_tool.specs.declared.list.words.Listing.{Listing}
+use Rattle.tape_tool.specs.declared.names.List.{List as ListFile}
+use Rattle.tape_tool.specs.declared.names.Named.{Named}
+use Rattle.tape_tool.specs.declared.stage.words.StageOrder.{StageOrder}
+use Rattle.tape_tool.specs.declared.survey.words.Survey.{Survey}
+use Rattle.tape_tool.specs.declared.unpack.words.Unpack.{Unpack}
+use Rattle.tape_tool.specs.declared.words.Order.{Order}
+use Rattle.tape_tool.specs.declared.words.Order.TheVariants as orders
+use Rattle.tape_tool.specs.declared.write.words.WriteOrder.{WriteOrder}
+use Rattle.tape_tool.specs.Words.{AsksForStage, AsksToExtract, AsksToInit, AsksToList}
+use Rattle.tape_tool.specs.Words.{AsksToSurvey, AsksToUnpack, AsksToWrite, IsDashOrMore, IsFlag}
+use Rattle.tape_tool.specs.Words.{IsForm, IsNoExtract, IsNoInit, IsNoSet, IsNoUnpack, IsNumber}
+use Rattle.tape_tool.specs.Words.{IsOrderIn, IsOrderOf, NamesImages, RefusedFor}
+use Rattle.tape_tool.specs.Words.{padded_set, text_in, texts_in}
+
+-- what the parser found of a word or an option
+abbrev pub word : List ℕ → List (List ℕ) → Row
+word id texts = record {
+  id = id;
+  values = texts;
+  count = None;
+  source = None;
+  reading = AsWritten;
+}
+
+-- two images, and a list that is not read from standard input
+abbrev pub shelf : List Row
+shelf = word (codes "IMAGE") (codes "a.tap" ∷ codes "b.tap" ∷ [])
+    ∷ word (codes "from") (codes "names" ∷ []) ∷ word (codes "null") (codes "true" ∷ []) ∷ []
+
+abbrev pub file_of : Option ListFile → Option (Option (List ℕ))
+file_of list = option_map (λ (l : ListFile). option_map (λ p. p.now) l.file) list
+
+-- single words
+pub record CasesOfWords : Type 0 where
+  -- a text is that of its own word, and nothing where the word is not there
+  pub text : text_in (word (codes "PRE") (codes "ABC" ∷ [])
+      ∷ word (codes "DIR") (codes "out" ∷ []) ∷ []) (codes "DIR") ≡ codes "out"
+  pub none : (text_in [] (codes "DIR") ≡ []) × (texts_in [] (codes "IMAGE") ≡ [])
+  -- texts come in their order
+  pub texts : texts_in shelf (codes "IMAGE") ≡ codes "a.tap" ∷ codes "b.tap" ∷ []
+  -- a number is that of its own word, and has to fit
+  pub number : IsNumber 16 (word (codes "FILE") (codes "12" ∷ []) ∷ []) (codes "FILE") 12
+  pub fits : (rows : List Row) → IsNumber 16 rows (codes "FILE") 65536 → ⊥
+  -- an option by itself is given, or is not
+  pub given : (is_given : Bool) → IsFlag shelf (codes "null") is_given → is_given ≡ true
+  pub left_out : (is_given : Bool)
+      → IsFlag (word (codes "null") (codes "false" ∷ []) ∷ []) (codes "null") is_given
+      → is_given ≡ false
+  pub not_there : (is_given : Bool) → IsFlag [] (codes "null") is_given → is_given ≡ false
+  -- a form is that of its name
+  pub form_raw : (form : Form) → IsForm (word (codes "form") (codes "raw" ∷ []) ∷ []) form
+      → form ≡ Raw
+  pub form_lines : (form : Form) → IsForm (word (codes "form") (codes "lines" ∷ []) ∷ []) form
+      → form ≡ Lines
+  -- one name is no mistake, and neither is none; a stream is one, and so are two names
+  pub one : (IsDashOrMore [] → ⊥) × (IsDashOrMore (codes "a.tap" ∷ []) → ⊥)
+  pub dash : IsDashOrMore (codes "-" ∷ [])
+  pub two : IsDashOrMore (codes "a.tap" ∷ codes "b.tap" ∷ [])
+  -- a set's identifier has 1 to 6 bytes, and spaces behind them
+  pub set : padded_set (codes "ABC1") ≡ codes "ABC1  "
+  pub sets : (IsNoSet (codes "ABC001") → ⊥) × (IsNoSet (codes "A") → ⊥)
+  pub no_sets : IsNoSet [] × IsNoSet (codes "ABC0001")
+  -- what is refused is so for want of memory, or as a mistake in words and for its reason
+  pub refused : (error : Error) → RefusedFor ⊥ error → kind_of error ≡ OutOfMemory
+  pub wrong : (error : Error) → kind_of error ≡ ValueValidation → RefusedFor ⊥ error → ⊥
+
+-- what commands are asked for
+pub record CasesOfOrders : Type 0 where
+  -- images are those of the words, in their order, and those of the list in its file
+  pub images : (named : Named) → NamesImages shelf named
+      → (map (λ w. w.now) named.words.items ≡ codes "a.tap" ∷ codes "b.tap" ∷ [])
+      × (file_of named.list ≡ Some (Some (codes "names")))
+  -- of a list that is named its NULs are told
+  pub nulls : (named : Named) (list : ListFile) → NamesImages shelf named
+      → named.list ≡ Some list → list.null ≡ true
+  -- a list on standard input has no file, and without the option there is no list
+  pub input : (named : Named) → NamesImages (word (codes "from") (codes "-" ∷ []) ∷ []) named
+      → file_of named.list ≡ Some None
+  pub no_list : (named : Named) → NamesImages [] named → file_of named.list ≡ None
+  -- 257 words are too many
+  pub few : (named : Named)
+      → NamesImages (word (codes "IMAGE") (replicate 257 (codes "a")) ∷ []) named → ⊥
+  -- `list` lists the image that is named, or standard input, and its places where it is asked to
+  pub list : (order : Listing) → AsksToList (word (codes "IMAGE") (codes "a.tap" ∷ [])
+      ∷ word (codes "places") (codes "true" ∷ []) ∷ []) order
+      → (option_map (λ i. i.now) order.image ≡ Some (codes "a.tap")) × (order.places ≡ true)
+  pub list_input : (order : Listing) → AsksToList [] order
+      → (option_map (λ i. i.now) order.image ≡ None) × (order.places ≡ false)
+  pub list_dash : (order : Listing)
+      → AsksToList (word (codes "IMAGE") (codes "-" ∷ []) ∷ []) order → ⊥
+  -- `survey` tells rows where it is asked to
+  pub survey : (order : Survey) → AsksToSurvey (word (codes "tsv") (codes "true" ∷ []) ∷ shelf)
+      order → (order.wording ≡ wordings.Rows)
+      × (map (λ w. w.now) order.images.words.items ≡ codes "a.tap" ∷ codes "b.tap" ∷ [])
+  pub survey_words : (order : Survey) → AsksToSurvey shelf order
+      → order.wording ≡ wordings.Words
+  -- `extract` gets the file of the set that is named, to its output, over its stage
+  pub extract : (order : Extract) → AsksToExtract (word (codes "SET") (codes "ABC001" ∷ [])
+      ∷ word (codes "FILE") (codes "2" ∷ []) ∷ word (codes "OUT") (codes "out" ∷ [])
+      ∷ word (codes "form") (codes "raw" ∷ []) ∷ word (codes "stage") (codes "kept" ∷ [])
+      ∷ word (codes "again") (codes "true" ∷ []) ∷ shelf) order
+      → (order.task.set_id ≡ codes "ABC001") × (order.task.file ≡ 2)
+      × (order.task.out.now ≡ codes "out") × (order.task.form ≡ Raw)
+      × (option_map (λ s. s.now) order.task.stage ≡ Some (codes "kept"))
+      × (order.task.again ≡ true)
+      × (map (λ w. w.now) order.images.words.items ≡ codes "a.tap" ∷ codes "b.tap" ∷ [])
+  -- and never to standard output, or of a set that there is not
+  pub extract_dash : (order : Extract)
+      → AsksToExtract (word (codes "OUT") (codes "-" ∷ []) ∷ []) order → ⊥
+  pub extract_no_set : (order : Extract) → AsksToExtract [] order → ⊥
+  pub no_extract : (order : Extract) (rows : List Row) → AsksToExtract rows order
+      → IsNoExtract rows → ⊥
+  -- `unpack` goes into its folder, which has a name
+  pub unpack : (order : Unpack) → AsksToUnpack (word (codes "DIR") (codes "out" ∷ [])
+      ∷ word (codes "form") (codes "raw" ∷ []) ∷ shelf) order
+      → (order.folder.now ≡ codes "out") × (order.form ≡ Raw)
+      × (map (λ w. w.now) order.images.words.items ≡ codes "a.tap" ∷ codes "b.tap" ∷ [])
+  pub no_unpack : (order : Unpack) (rows : List Row) → AsksToUnpack rows order
+      → IsNoUnpack rows → ⊥
+  -- `stage` tells of the stage that is named, and its records go to the output
+  pub stage : (order : StageOrder) → AsksForStage (word (codes "OUT") (codes "out" ∷ [])
+      ∷ word (codes "PATH") (codes "kept" ∷ []) ∷ word (codes "form") (codes "raw" ∷ [])
+      ∷ word (codes "damaged") (codes "true" ∷ []) ∷ []) order
+      → (order.stage.now ≡ codes "kept")
+      × (option_map (λ o. o.now) order.out ≡ Some (codes "out")) × (order.form ≡ Raw)
+      × (order.damaged ≡ true)
+  pub stage_dash : (order : StageOrder)
+      → AsksForStage (word (codes "OUT") (codes "-" ∷ []) ∷ []) order → ⊥
+  -- `init` makes as many volumes of its prefix in its folder
+  pub init : (order : Init) → AsksToInit (word (codes "DIR") (codes "out" ∷ [])
+      ∷ word (codes "PRE") (codes "ABC" ∷ []) ∷ word (codes "COUNT") (codes "12" ∷ []) ∷ []) order
+      → (order.folder.now ≡ codes "out") × (order.prefix.characters ≡ codes "ABC")
+      × (order.count ≡ 12)
+  pub no_init : (order : Init) (rows : List Row) → AsksToInit rows order → IsNoInit rows → ⊥
+  -- `write` writes the files of its words into its folder
+  pub write : (order : WriteOrder) → AsksToWrite (word (codes "DIR") (codes "out" ∷ [])
+      ∷ word (codes "PRE") (codes "ABC" ∷ []) ∷ word (codes "CAPACITY") (codes "9000" ∷ [])
+      ∷ word (codes "ID=PATH") (codes "A=a" ∷ codes "B=b" ∷ [])
+      ∷ word (codes "format") (codes "D" ∷ []) ∷ word (codes "block") (codes "2048" ∷ [])
+      ∷ word (codes "record") (codes "80" ∷ []) ∷ word (codes "offset") (codes "4" ∷ [])
+      ∷ word (codes "pad-full") (codes "true" ∷ []) ∷ word (codes "form") (codes "lines" ∷ [])
+      ∷ []) order
+      → (order.folder.now ≡ codes "out") × (order.prefix.characters ≡ codes "ABC")
+      × (order.capacity ≡ 9000)
+      × (map (λ w. w.now) order.files.items ≡ codes "A=a" ∷ codes "B=b" ∷ [])
+      × (order.format ≡ Counted) × (order.block ≡ 2048) × (order.«record» ≡ Some 80)
+      × (order.offset ≡ 4) × (order.pad_full ≡ true) × (order.form ≡ Lines)
+  -- a command's name gives its order, and no other
+  pub names : (rows : List Row) (order : Listing) → IsOrderOf (codes "check") rows
+      (orders.List order) → ⊥
+  pub check : (rows : List Row) (order : Order) → IsOrderIn (Some (codes "check", rows)) order
+      → (named : Named) × (order ≡ orders.Check named) × NamesImages rows named
+  pub no_command : (order : Order) → IsOrderIn None order → ⊥
