@@ -2,12 +2,14 @@
 mod again_program;
 mod calls;
 mod check_program;
+mod desk;
 mod explain;
 mod extract_program;
 mod faults;
 mod image;
 mod init;
 mod program;
+mod seen;
 mod showing;
 mod staged_program;
 mod staging;

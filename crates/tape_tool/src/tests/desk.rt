@@ -1,6 +1,5 @@
 //! The program on a desk of its own: it is given its words and standard input, what it prints,
 //! tells and opens is noted, and for its files and memory the system serves.
-use super::calls::holds;
 use super::words::words_of;
 use crate::program::run;
 use std::alloc::{Allocator, Global};
@@ -10,23 +9,9 @@ use std::fmt::Display;
 use std::fs::{File, Files, Metadata, OpenOptions};
 use std::io;
 use std::io::{BufRead, ErrorKind, Input, Lines, Write};
-use std::process::Abort;
 use std::rt::Runtime;
 use std::test::Fail;
 use std::time::{Clock, Duration};
-
-/// A call of the program, and all that its caller sees of it.
-#[derive(Clone, Copy)]
-pub struct Call<'a> {
-    pub line: &'a str,
-    pub status: u8,
-    /// On standard output.
-    pub out: &'a str,
-    /// On standard error.
-    pub told: &'a str,
-    /// Files, and the bytes in them then.
-    pub files: &'a [(&'a str, &'a [u8])],
-}
 
 /// What stands on standard input: an image of one mark.
 const STANDARD_INPUT: &[u8] = b"\0\0\0\0\xff\xff\xff\xff";
@@ -209,6 +194,17 @@ pub struct Seen {
     pub opened: String,
 }
 
+impl Seen {
+    /// Whether it came to this, where what was opened is looked at or is not.
+    pub fn comes_to(&self, status: u8, out: &str, told: &str, opened: Option<&str>) -> bool {
+        let is_opened = match opened {
+            Some(paths) => self.opened.as_str() == paths,
+            None => true,
+        };
+        self.status == status && self.out.as_str() == out && self.told.as_str() == told && is_opened
+    }
+}
+
 /// Calls the program by a line, where standard output takes what is printed, or takes nothing.
 pub fn called(rt: &HostRuntime, line: &str, takes: bool) -> Result<Seen, Fail> {
     let words = words_of(rt.alloc(), line)?;
@@ -229,30 +225,4 @@ pub fn called(rt: &HostRuntime, line: &str, takes: bool) -> Result<Seen, Fail> {
         told: told.into_inner(),
         opened: opened.into_inner(),
     })
-}
-
-/// Each call, one behind the other, comes to just what stands beside it.
-pub fn each_is_seen<A: Abort>(end: &A, rt: &HostRuntime, calls: &[Call<'_>]) -> Result<(), Fail> {
-    for call in calls {
-        is_seen(end, rt, call)?;
-    }
-    Ok(())
-}
-
-fn is_seen<A: Abort>(end: &A, rt: &HostRuntime, call: &Call<'_>) -> Result<(), Fail> {
-    let seen = called(rt, call.line, true)?;
-    assert!(end;
-        seen.status == call.status
-            && seen.out.as_str() == call.out
-            && seen.told.as_str() == call.told,
-        "{}: {}\n{}{}",
-        call.line,
-        seen.status,
-        seen.out,
-        seen.told
-    );
-    for (path, bytes) in call.files {
-        assert!(end; holds(rt, path, bytes)?, "{path} behind {}", call.line);
-    }
-    Ok(())
 }

@@ -1,0 +1,173 @@
+//! What a caller sees of whole calls: exit status, both streams, and which files are opened.
+use super::calls::{Step, put, take_all};
+use super::desk::called;
+use super::volumes::{first_of_two, second_of_two};
+use std::test::Fail;
+
+/// A line, the exit status, what stands on standard output and on standard error, and, where it is
+/// looked at, what is opened: each path, with a question mark where it could not be.
+type Row<'a> = (&'a str, u8, &'a str, &'a str, Option<&'a str>);
+
+const MADE: &[Step<'_>] = &[
+    Step::PutWorked("seen_cut.tap", 2288),
+    Step::Put("seen_one.txt", b"AB\nCDE\n"),
+    Step::Put("seen_two.txt", b"F\n"),
+    Step::Put("seen_span.bin", &[b'9'; 290]),
+    Step::Put("seen_none.txt", b""),
+    Step::Link("seen_link.txt", "seen_behind.txt"),
+    Step::Folder("seen"),
+];
+
+const ROWS: &[Row<'_>] = &[
+    (
+        "list --places seen_cut.tap",
+        1,
+        "0 88 000001 VOL1 ABC001\n\
+            88 88 000002 HDR1 PAYROLL           ABC001 0001 0001\n\
+            176 88 000003 HDR2 F 00800 00080 00\n\
+            264 4 000004 MARK\n\
+            268 808 000005 BLOCK 00800\n\
+            1076 808 000006 BLOCK 00800\n",
+        "tape: image fault 1 at 1884\n",
+        Some("seen_cut.tap "),
+    ),
+    (
+        "quit",
+        2,
+        "",
+        "error: unrecognized subcommand 'quit'\n\n\
+            Usage: tape [OPTIONS] <COMMAND>\n\nFor more information, try '--help'.\n",
+        Some(""),
+    ),
+    // Each image once, in the order of the words.
+    (
+        "check seen2.tap lost.tap seen1.tap",
+        0,
+        "IMAGE 1 9 MARKED\nIMAGE 2 0 NOT OPENED\nIMAGE 3 12 MARKED\n\
+            SECTION ABC001 1 2 ABC002 0 GOOD\nSECTION ABC001 1 1 ABC001 3 GOOD\n\
+            ALL SECTIONS FOUND\n",
+        "",
+        Some("seen2.tap lost.tap? seen1.tap "),
+    ),
+    (
+        "survey lost.tap seen1.tap",
+        3,
+        "lost.tap: not opened\nseen1.tap: volume ABC001, 1 file\nSet ABC001\n  \
+            1 PAYROLL             00000  wants section 2, on the volume behind ABC001\n",
+        "",
+        Some("lost.tap? seen1.tap "),
+    ),
+    // What lies behind the image that completes the file is not opened. The folder is, to be synced.
+    (
+        "extract ABC001 1 seen.txt lost.tap seen1.tap seen2.tap seen1.tap",
+        0,
+        "REEL 1 NOT OPENED\nREEL 2 SECTION DONE\nREEL 3 COMPLETE\nCOMPLETE 25\n",
+        "",
+        Some("seen.txt.part lost.tap? seen1.tap seen2.tap . "),
+    ),
+    // An output that cannot be made is tried as a new file, in place, and no second time.
+    (
+        "extract ABC001 1 missing/a.txt seen1.tap seen2.tap",
+        1,
+        "REEL 1 SECTION DONE\nREEL 2 COMPLETE\n",
+        "tape: file fault 2\n",
+        Some("missing/a.txt.part? seen1.tap seen2.tap missing/a.txt? "),
+    ),
+    (
+        "write . SEE 100000 ONE=seen_one.txt TWO=seen_two.txt",
+        0,
+        "VOLUME SEE001 876\nFILES 2 VOLUMES 1\n",
+        "",
+        None,
+    ),
+    (
+        "unpack seen SEE001.tap",
+        0,
+        "FILE SEE001 1 COMPLETE 2 seen/SEE001.1.ONE
+\
+            FILE SEE001 2 COMPLETE 1 seen/SEE001.2.TWO
+",
+        "",
+        None,
+    ),
+    (
+        "write . SES 1042 SPAN=seen_span.bin --format S --block 18 --form raw",
+        0,
+        "VOLUME SES001 1032\nVOLUME SES002 486\nFILES 1 VOLUMES 2\n",
+        "",
+        None,
+    ),
+    // Blocks that are longer than what is held, on one volume of more than 100,000 bytes.
+    (
+        "write . SEL 150000 LONG=seen_long.bin --format S --block 9999 --form raw",
+        0,
+        "VOLUME SEL001 120642\nFILES 1 VOLUMES 1\n",
+        "",
+        None,
+    ),
+    (
+        "extract SEL001 1 seen_again.bin SEL001.tap --form raw",
+        0,
+        "REEL 1 COMPLETE\nCOMPLETE 1\n",
+        "",
+        None,
+    ),
+    // An image that takes nothing, and an output through a link of a file without records.
+    (
+        "write . FUL 100000 ONE=seen_one.txt",
+        1,
+        "",
+        "tape: file fault 4\n",
+        None,
+    ),
+    (
+        "write . SEN 100000 NOTHING=seen_none.txt",
+        0,
+        "VOLUME SEN001 460\nFILES 1 VOLUMES 1\n",
+        "",
+        None,
+    ),
+    (
+        "extract SEN001 1 seen_link.txt SEN001.tap",
+        0,
+        "REEL 1 COMPLETE\nCOMPLETE 0\n",
+        "",
+        None,
+    ),
+    ("init . SEI 11", 0, "INIT 11\n", "", None),
+    ("init . SEI 1", 1, "", "tape: file fault 1\n", None),
+];
+
+/// What stands in files then.
+const LEFT: &[Step<'_>] = &[
+    Step::HasLength("seen.txt", 2025),
+    Step::HasLength("seen_again.bin", 120_000),
+    Step::Holds("seen_behind.txt", b""),
+    Step::HasText("SEI011.tap", 8, b"SEI011"),
+    Step::IsMissing("SEI012.tap"),
+];
+
+#[test]
+fn whole_calls(rt: HostRuntime) -> Result<(), Fail> {
+    take_all(&rt, MADE)?;
+    put(&rt, "seen1.tap", first_of_two(rt.alloc())?.bytes.as_slice())?;
+    put(
+        &rt,
+        "seen2.tap",
+        second_of_two(rt.alloc())?.bytes.as_slice(),
+    )?;
+    let long = Vec::from_elem(rt.alloc(), b'9', 120_000)?;
+    put(&rt, "seen_long.bin", long.as_slice())?;
+    for (line, status, out, told, opened) in ROWS {
+        let seen = called(&rt, line, true)?;
+        assert!(rt;
+            seen.comes_to(*status, out, told, *opened),
+            "{line}: {}\n{}{}{}",
+            seen.status,
+            seen.out,
+            seen.told,
+            seen.opened
+        );
+    }
+    take_all(&rt, LEFT)
+}
