@@ -1,7 +1,8 @@
 //! Sessions: one file read from its reels, in any order, into one sink.
+mod output;
 
 ghost use Rattle.std.specs.Prelude.{◌≡◌, [], ◌≢◌, List, Option, None, Ok, Err, IsOk, OnOk, IfOk};
-ghost use Rattle.std.specs.Prelude.{OnErr, IfErr, IfSome, length};
+ghost use Rattle.std.specs.Prelude.{IfErr, IfSome, length};
 ghost use Rattle.tape_blocks.specs.Block.{Portion};
 ghost use Rattle.tape_image.specs.Reader.{IfKnown};
 ghost use Rattle.tape_set.specs.Layout.{FileSet};
@@ -12,26 +13,21 @@ ghost use Rattle.tape_core.specs.Stands.{Stands, weight_of};
 ghost use Rattle.tape_core.specs.Table.{saved, reader_of};
 ghost use Rattle.tape_core.specs.Crash.{AddsNothing, AddsOnly, ThisAlone};
 ghost use Rattle.tape_core.specs.Weight.{IsFront};
-ghost use Rattle.tape_run.specs.Crash.{IsHere, IsNoteOf, IsWalked};
-ghost use Rattle.tape_run.specs.Extracting.{IsWritten};
+ghost use Rattle.tape_run.specs.Crash.{IsHere, IsNoteOf};
 ghost use Rattle.tape_run.specs.Given.{is_device, counted};
 ghost use Rattle.tape_run.specs.Headline.{IsStart};
 ghost use Rattle.tape_run.specs.Lives.{IsResumed};
-ghost use Rattle.tape_run.specs.Output.{AppendsFront};
-ghost use Rattle.tape_run.specs.RecordText.{output_of};
 ghost use Rattle.tape_run.specs.Reels.{Reads, Leaves};
 ghost use Rattle.tape_run.specs.Seen.{seen, IsKept, IsSession};
 ghost use Rattle.tape_run.specs.Steps.{Reeled, ReelFails, Saved, SaveFails, WentBack, RestartFails};
 
 use crate::answer::ReelAnswer;
-use crate::extract::write_file;
-use crate::fault::{EngineFault, RunFault};
+use crate::fault::RunFault;
 use crate::intake::Intake;
 use std::alloc::Global;
-use std::io::{Read, Write};
+use std::io::Read;
 use std::marker::Model;
-use tape_blocks::Form;
-use tape_core::{Answer, Checkpoint, CoreFault, PartSink, PartWalk, ReaderCore, SinkFault};
+use tape_core::{Answer, Checkpoint, CoreFault, PartSink, ReaderCore, SinkFault};
 use tape_image::{ImageBuffer, ImageReader};
 use tape_label::Field;
 use tape_set::{Position, Want};
@@ -319,27 +315,6 @@ impl<S: PartSink> Session<S> {
         ensures { result ≡ self.now.failures }
     {
         self.failures
-    }
-}
-
-impl<S: PartWalk> Session<S> {
-    /// Writes the records that what was delivered so far joins to, as `write_file` does those of a
-    /// sink: of a file that is not complete those before what is wanted.
-    ///
-    /// # Errors
-    ///
-    /// As those of `write_file`.
-    pub fn write_file<W: Write>(&mut self, form: Form, out: &mut W) -> Result<u64, EngineFault>
-        ensures ok { IfOk result (λ records. (parts : List Portion) → S.holds self.old.sink parts
-            → IsWritten None records form (W.contents out.old) (W.contents out.new) parts) }
-        ensures err { OnErr result ((parts : List Portion) → S.holds self.old.sink parts
-            → AppendsFront (W.contents out.old) (W.contents out.new) (output_of form parts)) }
-        // Whatever it answered: the session stands where it stood, and a crash behind it brings
-        // back nothing that none before it could.
-        ensures same { IsWalked S.holds S.crashes self.old self.new }
-        ensures calm { OnOk result (S.refusals self.new.sink ≡ S.refusals self.old.sink) }
-    {
-        write_file(&mut self.intake.sink, form, out)
     }
 }
 

@@ -1,0 +1,35 @@
+//! What a session has, as records.
+ghost use Rattle.std.specs.Prelude.{◌≡◌, List, None, OnOk, OnErr, IfOk};
+ghost use Rattle.tape_blocks.specs.Block.{Portion};
+ghost use Rattle.tape_run.specs.Crash.{IsWalked};
+ghost use Rattle.tape_run.specs.Extracting.{IsWritten};
+ghost use Rattle.tape_run.specs.Output.{AppendsFront};
+ghost use Rattle.tape_run.specs.RecordText.{output_of};
+
+use super::Session;
+use crate::extract::write_file;
+use crate::fault::EngineFault;
+use std::io::Write;
+use tape_blocks::Form;
+use tape_core::PartWalk;
+
+impl<S: PartWalk> Session<S> {
+    /// Writes the records that what was delivered so far joins to, as `write_file` does those of a
+    /// sink: of a file that is not complete those before what is wanted.
+    ///
+    /// # Errors
+    ///
+    /// As those of `write_file`.
+    pub fn write_file<W: Write>(&mut self, form: Form, out: &mut W) -> Result<u64, EngineFault>
+        ensures ok { IfOk result (λ records. (parts : List Portion) → S.holds self.old.sink parts
+            → IsWritten None records form (W.contents out.old) (W.contents out.new) parts) }
+        ensures err { OnErr result ((parts : List Portion) → S.holds self.old.sink parts
+            → AppendsFront (W.contents out.old) (W.contents out.new) (output_of form parts)) }
+        // Whatever it answered: the session stands where it stood, and a crash behind it brings
+        // back nothing that none before it could.
+        ensures same { IsWalked S.holds S.crashes self.old self.new }
+        ensures calm { OnOk result (S.refusals self.new.sink ≡ S.refusals self.old.sink) }
+    {
+        write_file(&mut self.intake.sink, form, out)
+    }
+}
