@@ -18,7 +18,8 @@ use Rattle.tape_tool.specs.declared.words.Order.{Order}
 use Rattle.tape_tool.specs.declared.words.Order.TheVariants as orders
 use Rattle.tape_tool.specs.CasesOfWords.{CasesOfWords, CasesOfOrders, shelf}
 use Rattle.tape_tool.specs.Words.{AsksToExtract, AsksToInit, AsksToUnpack, IsDashOrMore, IsFlag}
-use Rattle.tape_tool.specs.Words.{IsNoExtract, IsNoInit, IsNoSet, IsNoUnpack, IsOrderIn, NamesImages}
+use Rattle.tape_tool.specs.Words.{IsNoExtract, IsNoInit, IsNoSet, IsNoUnpack, IsOrderIn}
+use Rattle.tape_tool.specs.Words.{NamesImages}
 use Rattle.tape_tool.specs.Words.{RefusedFor, is_in_rows, texts_of_one}
 
 abbrev bit : Bool → ℕ
@@ -100,7 +101,10 @@ cases_of_words = record {
   dash = inl refl;
   two = inr (omega arith);
   set = refl;
-  sets = (is_set (codes "ABC001") (omega arith) (omega arith), is_set (codes "A") (omega arith) (omega arith));
+  sets = (
+    is_set (codes "ABC001") (omega arith) (omega arith),
+    is_set (codes "A") (omega arith) (omega arith),
+  );
   no_sets = (inl refl, inr (omega arith));
   refused = for_memory;
   wrong = never_wrong;
@@ -133,13 +137,20 @@ other one two m n same at_one at_two = sym at_one ∙ ap (λ t. get_or t 0 0) sa
 check : (rows : List Row) (order : Order) → IsOrderIn (Some (codes "check", rows)) order
     → (named : Named) × (order ≡ orders.Check named) × NamesImages rows named
 check rows (orders.Check named) h = (named, refl, h.1)
-check rows (orders.List _) h = absurd (let n : 99 ≡ 108 = other _ _ 99 108 h.0 refl refl in omega arith)
-check rows (orders.Survey _) h = absurd (let n : 99 ≡ 115 = other _ _ 99 115 h.0 refl refl in omega arith)
-check rows (orders.Extract _) h = absurd (let n : 99 ≡ 101 = other _ _ 99 101 h.0 refl refl in omega arith)
-check rows (orders.Unpack _) h = absurd (let n : 99 ≡ 117 = other _ _ 99 117 h.0 refl refl in omega arith)
-check rows (orders.Stage _) h = absurd (let n : 99 ≡ 115 = other _ _ 99 115 h.0 refl refl in omega arith)
-check rows (orders.Init _) h = absurd (let n : 99 ≡ 105 = other _ _ 99 105 h.0 refl refl in omega arith)
-check rows (orders.Write _) h = absurd (let n : 99 ≡ 119 = other _ _ 99 119 h.0 refl refl in omega arith)
+check rows (orders.List _) h =
+    absurd (let n : 99 ≡ 108 = other _ _ 99 108 h.0 refl refl in omega arith)
+check rows (orders.Survey _) h =
+    absurd (let n : 99 ≡ 115 = other _ _ 99 115 h.0 refl refl in omega arith)
+check rows (orders.Extract _) h =
+    absurd (let n : 99 ≡ 101 = other _ _ 99 101 h.0 refl refl in omega arith)
+check rows (orders.Unpack _) h =
+    absurd (let n : 99 ≡ 117 = other _ _ 99 117 h.0 refl refl in omega arith)
+check rows (orders.Stage _) h =
+    absurd (let n : 99 ≡ 115 = other _ _ 99 115 h.0 refl refl in omega arith)
+check rows (orders.Init _) h =
+    absurd (let n : 99 ≡ 105 = other _ _ 99 105 h.0 refl refl in omega arith)
+check rows (orders.Write _) h =
+    absurd (let n : 99 ≡ 119 = other _ _ 99 119 h.0 refl refl in omega arith)
 
 pub cases_of_orders : CasesOfOrders
 unfolding digits

@@ -1,5 +1,6 @@
 -- What the parser's calls give, over the rows of what it found; and mistakes in words.
-use Rattle.std.proofs.Common.{◌≡◌, ◌<◌, ◌^◌, ℕ, Bor, List, [], map, Result, Ok, Err, Option, Some, None}
+use Rattle.std.proofs.Common.{◌≡◌, ◌<◌, ◌^◌, ℕ, Bor, List, [], map, Result, Ok, Err, Option}
+use Rattle.std.proofs.Common.{Some, None}
 use Rattle.std.proofs.Common.{refl, ap, ◌∙◌, arith, inl, inr}
 use Rattle.std.specs.Prelude.{⊤, decimal, unwrap_or, option_map}
 use Rattle.std.specs.Str.Parse.{ParsesUnsigned, ExplainsUnsignedError, HasUnsignedDigitsIfOk}

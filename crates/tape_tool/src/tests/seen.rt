@@ -57,7 +57,7 @@ const ROWS: &[Row<'_>] = &[
         "",
         Some("lost.tap? seen1.tap "),
     ),
-    // What lies behind the image that completes the file is not opened. The folder is, to be synced.
+    // Behind the image that completes the file none is opened. The folder is, to be synced.
     (
         "extract ABC001 1 seen.txt lost.tap seen1.tap seen2.tap seen1.tap",
         0,

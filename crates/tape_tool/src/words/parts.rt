@@ -1,9 +1,11 @@
 //! The words that several commands have.
-ghost use Rattle.std.specs.Prelude.{◌≡◌, ◌<◌, ◌≢◌, ℕ, map, length, codes, None, IfOk, IfErr, IfSome};
+ghost use Rattle.std.specs.Prelude.{◌≡◌, ◌<◌, ◌≢◌, ℕ, map, length, codes, None, IfOk, IfErr};
+ghost use Rattle.std.specs.Prelude.{IfSome};
 ghost use Rattle.std.specs.Prelude.{◌↔◌, IsTrue, option_map};
 ghost use Rattle.std.specs.Str.{bytes_eq};
 ghost use Rattle.clap.specs.Words.{first_of, found_of, rows_of};
-ghost use Rattle.tape_tool.specs.Words.{text_in, texts_in, list_file, texts_of_one, IsNumber, IsFlag};
+ghost use Rattle.tape_tool.specs.Words.{text_in, texts_in, list_file, texts_of_one, IsNumber};
+ghost use Rattle.tape_tool.specs.Words.{IsFlag};
 ghost use Rattle.tape_tool.specs.Words.{IsForm, IsListIn, NamesImages, IsDashOrMore, RefusedFor};
 
 use crate::help;

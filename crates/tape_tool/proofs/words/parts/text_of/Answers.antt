@@ -6,4 +6,5 @@ use Rattle.tape_tool.proofs.words.parts.text_of.Goals as goal
 
 pub returns : goal.returns
 returns c = ap (λ t. t.now) c.unwrap_or.ensures
-    ∙ lent c.get_str.result _ _ (c.get_str.ensures ∙ first_value-rows (found_of c.args.matches.now) c.args.name.now) refl
+    ∙ lent c.get_str.result _ _
+    (c.get_str.ensures ∙ first_value-rows (found_of c.args.matches.now) c.args.name.now) refl
