@@ -16,6 +16,7 @@ mod word;
 mod writer;
 
 pub use buffer::ImageBuffer;
+pub use device::fill;
 pub use fault::{ImageCause, ImageFault, ImageWriteFault};
 pub use item::{Ending, Item};
 pub use laws::{

@@ -10,7 +10,6 @@ mod paths;
 mod write_behind;
 mod written;
 
-pub use bytes::fill;
 pub use fault::{FileFault, SystemFault};
 pub use folder::{folder_of, name_in_folder, sync_folder_of};
 pub use image_file::ImageFile;

@@ -8,8 +8,8 @@ use std::fs;
 use std::fs::{File, Metadata};
 use std::io::Read;
 use std::rt::Runtime;
-use tape_image::{Ending, ImageCause, ImageFault, ImageReader};
-use tape_writer::system::{fill, folder_of, name_in_folder};
+use tape_image::{Ending, ImageCause, ImageFault, ImageReader, fill};
+use tape_writer::system::{folder_of, name_in_folder};
 
 /// How the front of a file is told that may keep a tape although it is no image: the place and the
 /// bytes that stand there. The last two are the checkpoints in the slots of a stage.
@@ -138,7 +138,9 @@ fn keeps_no_tape<R: Runtime + AllocGlobal>(rt: &R, path: &str) -> Result<(), Unf
         return Err(refused(FileFault::NotOpened));
     };
     let mut front = [0; FRONT];
-    let count = fill(&mut file, &mut front).map_err(refused)?;
+    let Ok(count) = fill(&mut file, &mut front) else {
+        return Err(refused(FileFault::ReadFailed));
+    };
     if is_named_image(path) || begins_as_kept(&front[..count]) {
         return Err(refused(FileFault::Exists));
     }

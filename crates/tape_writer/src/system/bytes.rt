@@ -1,33 +1,10 @@
-//! Bytes of files, in whatever pieces a system takes and gives them.
-ghost use Rattle.std.specs.Prelude.{◌≡◌, ◌≤◌, length, IfOk, OnOk, OnErr, IsOkUnless};
+//! Bytes of files, in whatever pieces a system takes them.
+ghost use Rattle.std.specs.Prelude.{OnOk, OnErr, IsOkUnless};
 ghost use Rattle.std.specs.Io.KnownBytes.{Appends};
-ghost use Rattle.tape_image.specs.Device.{Fills};
 ghost use Rattle.tape_image.specs.Written.{AppendsFront};
 
 use crate::system::fault::FileFault;
-use std::io::{Read, Write};
-
-/// Reads until the room is full or nothing follows, and says how many bytes came.
-///
-/// # Errors
-///
-/// `ReadFailed` where a read fails, also by an interruption.
-pub fn fill<R: Read>(reader: &mut R, room: &mut [u8]) -> Result<usize, FileFault>
-    ensures filled { IfOk result
-        (Fills (R.remaining reader.old) (R.remaining reader.new) room.new) }
-    ensures within { IfOk result (λ count. count ≤ length room.new) }
-    ensures fault { IsOkUnless result FileFault.ReadFailed }
-{
-    let mut count = 0;
-    'reads: while count < room.len() {
-        match reader.read(&mut room[count..]) {
-            Ok(0) => return Ok(count),
-            Ok(more) => count += more,
-            Err(_) => return Err(FileFault::ReadFailed),
-        }
-    }
-    Ok(count)
-}
+use std::io::Write;
 
 /// Writes all of these bytes, or a front of them where the writer fails.
 ///

@@ -1,10 +1,11 @@
 //! Files of images: how they are opened.
 use crate::blank::{BLANK, BlankImage, Prefix, blank_image, blank_volume};
-use crate::system::bytes::{fill, put_all};
+use crate::system::bytes::put_all;
 use crate::system::fault::FileFault;
 use std::fs::{Files, OpenOptions};
 use std::io::{ErrorKind, Read};
 use std::rt::Runtime;
+use tape_image::fill;
 
 /// Makes the file of an image, or takes the one that is there, if it is a blank volume.
 pub fn open_image<R: Runtime>(
@@ -56,8 +57,10 @@ fn open_blank<R: Runtime>(
 fn is_blank<R: Read>(reader: &mut R, prefix: Prefix, number: u16) -> Result<bool, FileFault> {
     // One byte more than a blank volume has.
     let mut bytes = [0; BLANK + 1];
-    let count = fill(reader, &mut bytes)?;
-    Ok(&bytes[..count] == image_of(prefix, number).as_slice())
+    match fill(reader, &mut bytes) {
+        Ok(count) => Ok(&bytes[..count] == image_of(prefix, number).as_slice()),
+        Err(_) => Err(FileFault::ReadFailed),
+    }
 }
 
 /// Makes the image of a volume without files, with this number from 1 to 999, in a new file.
