@@ -4,7 +4,7 @@
 //! error is a failure. A writer that takes nothing of what is left has failed too, and is not
 //! called again.
 
-ghost use Rattle.std.specs.Prelude.{◌≡◌, ◌≤◌, length, OnOk, OnErr, IsOkUnless};
+ghost use Rattle.std.specs.Prelude.{◌≡◌, ◌≤◌, length, take, replicate, OnOk, OnErr, IsOkUnless};
 ghost use Rattle.std.specs.Io.KnownBytes.{Appends};
 ghost use Rattle.byteorder.specs.Endian.{little_bytes};
 ghost use Rattle.tape_image.specs.Written.{AppendsFront, written_block};
@@ -12,6 +12,13 @@ ghost use Rattle.tape_image.specs.Written.{AppendsFront, written_block};
 use crate::fault::ImageWriteFault;
 use byteorder::{ByteOrder, LittleEndian};
 use std::io::Write;
+
+/// How many bytes a block may have that is spelled before it is written. A writer that holds bytes
+/// takes it at once then, and not its word, its bytes and its word.
+const SHORT: usize = 119;
+
+/// How many bytes a short block takes with its words and its pad byte, at most.
+const SPELLED: usize = SHORT + 9;
 
 /// Writes all the bytes, or a front of them where the writer fails.
 fn put<W: Write>(device: &mut W, bytes: &[u8]) -> Result<(), ImageWriteFault>
@@ -61,6 +68,51 @@ pub(crate) fn put_last<W: Write>(device: &mut W, word: u32) -> Result<(), ImageW
 
 /// Writes a block: its word, its bytes, a pad byte if they are odd, and its word again.
 pub(crate) fn put_block<W: Write>(device: &mut W, content: &[u8]) -> Result<(), ImageWriteFault>
+    requires { length content.now ≤ 99999 }
+    ensures ok { OnOk result
+        (Appends (W.contents device.old) (W.contents device.new) (written_block content.now)) }
+    ensures err { OnErr result
+        (AppendsFront (W.contents device.old) (W.contents device.new) (written_block content.now)) }
+    ensures fault { IsOkUnless result ImageWriteFault.Device }
+{
+    if content.len() <= SHORT {
+        return put_short(device, content);
+    }
+    put_long(device, content)
+}
+
+/// Writes a short block at once.
+fn put_short<W: Write>(device: &mut W, content: &[u8]) -> Result<(), ImageWriteFault>
+    requires { length content.now ≤ 119 }
+    ensures ok { OnOk result
+        (Appends (W.contents device.old) (W.contents device.new) (written_block content.now)) }
+    ensures err { OnErr result
+        (AppendsFront (W.contents device.old) (W.contents device.new) (written_block content.now)) }
+    ensures fault { IsOkUnless result ImageWriteFault.Device }
+{
+    let mut spelled = [0u8; SPELLED];
+    let size = spell(&mut spelled, content);
+    put(device, &spelled[..size])
+}
+
+/// Spells a short block in the front of bytes that are 0, and says how long it is.
+fn spell(spelled: &mut [u8; SPELLED], content: &[u8]) -> usize
+    requires short { length content.now ≤ 119 }
+    requires clear { spelled.old ≡ replicate 128 0 }
+    ensures fits { result ≤ 128 }
+    ensures spelled { take result spelled.new ≡ written_block content.now }
+{
+    let mut word = [0u8; 4];
+    LittleEndian::write_u32(&mut word, content.len() as u32);
+    let end = 4 + content.len() + content.len() % 2;
+    spelled[..4].copy_from_slice(&word);
+    spelled[4..4 + content.len()].copy_from_slice(content);
+    spelled[end..end + 4].copy_from_slice(&word);
+    end + 4
+}
+
+/// Writes a block piece by piece.
+fn put_long<W: Write>(device: &mut W, content: &[u8]) -> Result<(), ImageWriteFault>
     requires { length content.now ≤ 99999 }
     ensures ok { OnOk result
         (Appends (W.contents device.old) (W.contents device.new) (written_block content.now)) }

@@ -144,24 +144,32 @@ fn a_device_that_fails_holds_a_front(rt: HostRuntime) -> Result<(), Fail> {
     Ok(())
 }
 
-#[test]
-fn a_device_that_failed_is_not_called_again(rt: HostRuntime) -> Result<(), Fail> {
+/// A device fails at this call of a block. It gets none after that.
+fn is_left_alone(rt: &impl Abort, content: &[u8], fails_at: u32) {
     let rows = [
-        (Call::Block(&[7, 8]), Some(Device), 0),
+        (Call::Block(content), Some(Device), 0),
         (Call::Block(&[]), Some(Device), 0),
         (Call::Mark, Some(Device), 0),
         (Call::Finish, Some(Device), 0),
     ];
+    let mut writer = ImageWriter::new(FailsOnce { fails_at, calls: 0 });
+    answers(rt, &mut writer, &rows);
+    let calls = writer.into_device().calls;
+    same_count(
+        rt,
+        fails_at as usize,
+        u64::from(calls),
+        u64::from(fails_at) + 1,
+    );
+}
+
+// A short block is one call, a longer one is three.
+#[test]
+fn a_device_that_failed_is_not_called_again(rt: HostRuntime) -> Result<(), Fail> {
+    is_left_alone(&rt, &[7, 8], 0);
+    is_left_alone(&rt, &[7; 119], 0);
     for fails_at in 0..3 {
-        let mut writer = ImageWriter::new(FailsOnce { fails_at, calls: 0 });
-        answers(&rt, &mut writer, &rows);
-        let calls = writer.into_device().calls;
-        same_count(
-            &rt,
-            fails_at as usize,
-            u64::from(calls),
-            u64::from(fails_at + 1),
-        );
+        is_left_alone(&rt, &[7; 120], fails_at);
     }
     Ok(())
 }

@@ -3,7 +3,7 @@ use Rattle.std.specs.Io.KnownBytes.{Appends}
 use Rattle.byteorder.specs.Endian.{little_bytes}
 use Rattle.tape_image.specs.Written.{AppendsFront}
 use Rattle.tape_image.proofs.Pieces.{front_behind, front_more, last_front, on_err, take_one}
-use Rattle.tape_image.proofs.put.put_block.Goals as goal
+use Rattle.tape_image.proofs.put.put_long.Goals as goal
 
 -- the pieces of a block of n bytes behind its content
 abbrev behind : ℕ → List ℕ
