@@ -25,7 +25,7 @@ use Rattle.tape_run.specs.declared.fault.RunFault.{RunFault}
 use Rattle.tape_run.specs.declared.fault.RunFault.TheVariants.{TooFewReels}
 use Rattle.tape_run.specs.declared.script.Step.{Step}
 use Rattle.tape_run.specs.declared.script.Step.TheVariants.{Reel, Save, Restart}
-use Rattle.tape_run.specs.Crash.{IsOf}
+use Rattle.tape_run.specs.Crash.{IsOf, LastAlone}
 use Rattle.tape_run.specs.Given.{IsGiven, AreGiven}
 use Rattle.tape_run.specs.History.{course_of, IsHistory}
 use Rattle.tape_run.specs.Headline.{HasStopped, Stops}
@@ -36,8 +36,10 @@ use Rattle.tape_run.specs.Seen.{Seen, IsKept, IsSession, KeepsNotes}
 use Rattle.tape_run.specs.Steps.{Reeled, ReelFails, Saved, WentBack}
 use Rattle.tape_run.specs.WorkedHistory.{worked_set, vol1, hdr1}
 use Rattle.tape_run.specs.Cases.{CasesOfMounts, CasesOfHistories, CasesOfGiven, CasesOfVolumes}
-use Rattle.tape_run.specs.Cases.{CasesOfSessions, CasesOfMade, CasesOfCrashes}
+use Rattle.tape_run.specs.Cases.{CasesOfSessions, CasesOfMade, CasesOfCrashes, came_by}
+use Rattle.tape_run.specs.CasesOfExtracts.{comes_now}
 use Rattle.tape_run.specs.CasesOfRuns.{CasesOfStops}
+use Rattle.tape_run.proofs.ExamplesOfExtracts.{one_note, of_one_note}
 
 -- ---- what may be mounted
 
@@ -291,8 +293,19 @@ of_a_note : (s : Seen) (back : Point) (there : List Portion) → s.notes ≡ bac
     → IsOf s back there
 of_a_note s back there one front weighs = inr ((0, (rw one refl, front, weighs)))
 
+alone : (s : Seen) (c p : Point) (ps : List Portion) → s.notes ≡ c ∷ []
+    → LastAlone (comes_now ps p) s → p ≡ c
+alone s c p ps one (last, since) = (one_note s c p ps one last).0
+
+alone_since : (s : Seen) (c p : Point) (ps : List Portion) → s.notes ≡ c ∷ []
+    → LastAlone (came_by ps p) s → p ≡ c
+alone_since s c p ps one (last, (t, le, since)) =
+    (of_one_note s c p ps one (since p ps (le, (refl, refl)))).0
+
 pub cases_of_crashes : CasesOfCrashes
 cases_of_crashes = record {
+  alone = alone;
+  alone_since = alone_since;
   of_a_note = of_a_note;
   its_place = its_place;
   noted_place = inr (1, refl);

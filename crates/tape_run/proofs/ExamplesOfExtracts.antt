@@ -241,7 +241,7 @@ none_is_brought s p ps none last =
     let (n, count, i) = last p ps (refl, refl) in absurd (omega (arith, count, ap length none))
 
 -- of one note it is the last
-of_one_note : (s : Seen) (c p : Point) (ps : List Portion) → s.notes ≡ c ∷ [] → IsLast s p ps
+pub of_one_note : (s : Seen) (c p : Point) (ps : List Portion) → s.notes ≡ c ∷ [] → IsLast s p ps
     → (p ≡ c) × IsFront ps s.parts
 of_one_note s c p ps one (n, count, (is, front, weighs)) =
     let first : n ≡ 0 = omega (arith, count, ap length one) in

@@ -10,7 +10,7 @@ use Rattle.tape_core.specs.Point.{Point}
 use Rattle.tape_core.specs.Stands.{weight_of}
 use Rattle.tape_core.specs.Table.{saved}
 use Rattle.tape_core.specs.Weight.{IsFront}
-use Rattle.tape_run.specs.Crash.{IsNoteOf, BringsLast, KeepsLast, IsWalked}
+use Rattle.tape_run.specs.Crash.{IsNoteOf, BringsLast, LastAlone, KeepsLast, IsWalked}
 use Rattle.tape_run.specs.Reeling.{StoodSaved}
 use Rattle.tape_run.specs.Seen.{Seen, seen}
 use Rattle.tape_run.specs.Steps.{Saved, WentBack}
@@ -56,6 +56,20 @@ brings_still r t old new notes front none last = λ back there x.
       (ap (λ z. slice_get z n) notes ∙ is, front_trans there old.parts new.parts f front, w),
     )
 
+-- the same from a past moment on
+pub alone_still : (was now : Crashes) (old new : Seen) → new.notes ≡ old.notes
+    → IsFront old.parts new.parts → AddsNothing was now → LastAlone was old → LastAlone now new
+alone_still was now old new notes front adds (last, (t, le, since)) = (
+  brings_still was.returns now.returns old new notes front
+      (λ back there x. or_nothing (adds.now back there x)) last,
+  (
+    t,
+    omega (arith, le, adds.later),
+    brings_still (was.returned t) (now.returned t) old new notes front
+        (λ back there x. or_nothing (adds.since t back there le x)) since,
+  ),
+)
+
 pub last_stays : {S : Type 0} (refusals : S → ℕ) (crashes : S → Crashes) (a b : Story S)
     (held now : List Portion) → b.notes ≡ a.notes → IsFront held now
     → AddsNothing (crashes a.sink) (crashes b.sink) → KeepsLast refusals crashes a held b now
@@ -95,6 +109,19 @@ last_saved old new point t here only s = λ back there x.
         ap weight_of p ∙ ap (λ (z : Point). z.staged) (sym is),
       ),
     )
+
+-- the same from that moment on
+pub alone_saved : (old new : Seen) (point : Point) (now : Crashes)
+    → point ≡ saved old.place (weight_of old.parts) → ThisAlone point old.parts now → Saved old new
+    → LastAlone now new
+alone_saved old new point now here alone s = (
+  last_saved old new point now.returns here alone.0 s,
+  (
+    now.moment,
+    omega arith,
+    last_saved old new point (now.returned now.moment) here alone.1 s,
+  ),
+)
 
 among_last : (s : Seen) (n : ℕ) (r : Returns) (back : Point) (there : List Portion)
     → length s.notes ≡ n + 1 → BringsLast r s → r back there ⊎ IsNoteOf n s back there

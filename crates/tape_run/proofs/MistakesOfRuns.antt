@@ -143,7 +143,8 @@ script_notes_in_the_list_alone S R LS LR g d h e κs a s held there older l was 
     let one : s.0.now.notes ≡ here ∷ [] = saved_alone r.2.0 old new (map h.remaining a.1.1.0.now)
     (subst (λ v. Runs r.2.0 old v (map h.remaining a.1.1.0.now) new) steps r.2.2)
     ∙ ap (λ l. l ++ here ∷ []) fresh in
-    let (n, count, (is, front, weighs)) = r.3 (ap (is_saved false) steps) older there back in
+    let (n, count, (is, front, weighs)) =
+    (r.3 (ap (is_saved false) steps)).0 older there back in
     let number : n ≡ 0 = omega (arith, count, ap length one) in
     let at : slice_get s.0.now.notes 0 ≡ Some older =
     subst (λ z. slice_get s.0.now.notes z ≡ Some older) number is in

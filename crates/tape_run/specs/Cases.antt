@@ -17,6 +17,7 @@ use Rattle.tape_set.specs.Before.{before}
 use Rattle.tape_set.specs.Reach.{passes}
 use Rattle.tape_set.specs.Reading.{Reading, IsReadingOf, as_read}
 use Rattle.tape_core.specs.declared.sink.SinkFault.{SinkFault}
+use Rattle.tape_core.specs.Crash.{Crashes}
 use Rattle.tape_core.specs.Place.{IsPlaced, place_of, rest_of}
 use Rattle.tape_core.specs.Point.{Point}
 use Rattle.tape_core.specs.Stands.{Stands, weight_of}
@@ -28,7 +29,8 @@ use Rattle.tape_run.specs.declared.fault.RunFault.TheVariants.{OutOfMemory, Othe
 use Rattle.tape_run.specs.declared.script.Step.{Step}
 use Rattle.tape_run.specs.declared.script.Step.TheVariants.{Reel, Save, Restart}
 use Rattle.tape_run.specs.Back.{reels_of, AreVolumes}
-use Rattle.tape_run.specs.Crash.{IsOf, StoodAt}
+use Rattle.tape_run.specs.CasesOfExtracts.{brings, comes_now}
+use Rattle.tape_run.specs.Crash.{IsOf, LastAlone, StoodAt}
 use Rattle.tape_run.specs.Given.{is_device, IsGiven, AreGiven, AreGivenBy, counted, counted_up}
 use Rattle.tape_run.specs.Given.{failed_of, written}
 use Rattle.tape_run.specs.Headline.{Ran, HasRun, IsStart, IsRead}
@@ -283,6 +285,16 @@ pub record CasesOfMade : Type 0 where
 -- ---- crashes
 
 -- of what comes back, and of lives one after another
+-- of a crash at moment 4, and since each moment up to it, alone
+abbrev pub came_by : List Portion → Point → Crashes
+came_by ps c = record {
+  returns = λ back there. ⊥;
+  survives = ⊥;
+  moment = 4;
+  returned = λ t back there. (t ≤ 4) × brings ps c back there;
+  survived = λ t. ⊥;
+}
+
 pub record CasesOfCrashes : Type 0 where
   -- a place of a course is where it is, or one that it noted
   pub its_place : (p q : Position) → IsPlaceOf (record { at = p; notes = [] }) q → q ≡ p
@@ -292,6 +304,11 @@ pub record CasesOfCrashes : Type 0 where
       → IsOf s back there → (back ≡ saved s.place (weight_of s.parts)) × (there ≡ s.parts)
   pub of_a_note : (s : Seen) (back : Point) (there : List Portion) → s.notes ≡ back ∷ []
       → IsFront there s.parts → weight_of there ≡ back.staged → IsOf s back there
+  -- of one note it comes back alone, of a crash now, and from a past moment on
+  pub alone : (s : Seen) (c p : Point) (ps : List Portion) → s.notes ≡ c ∷ []
+      → LastAlone (comes_now ps p) s → p ≡ c
+  pub alone_since : (s : Seen) (c p : Point) (ps : List Portion) → s.notes ≡ c ∷ []
+      → LastAlone (came_by ps p) s → p ≡ c
   pub of_no_step : (s : Seen) (back : Point) (there : List Portion)
       → StoodAt s [] [] back there → IsOf s back there
   pub of_no_reel : (s : Seen) (back : Point) (there : List Portion)

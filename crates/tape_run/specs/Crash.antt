@@ -36,6 +36,12 @@ abbrev pub BringsLast : Returns → Seen → Type 0
 BringsLast returns s = (back : Point) (there : List Portion) → returns back there
     → IsLast s back there
 
+-- Nothing comes back but the note that was made last, with its parts, of a crash now, or at any
+-- moment from a past one on.
+abbrev pub LastAlone : Crashes → Seen → Type 0
+LastAlone now s = BringsLast now.returns s
+    × ((t : ℕ) × (t ≤ now.moment) × BringsLast (now.returned t) s)
+
 -- Nothing comes back but the note that was made last, where it was made on the way or nothing but
 -- the note made last came back before; where none was made on the way nothing else came back since
 -- a moment, if nothing else had up to here; and where something came back whatever a crash leaves

@@ -2,11 +2,11 @@
 use Rattle.std.specs.Prelude.{◌≡◌, ℕ, ◌+◌, Bool, true, List, ◌∷◌, ◌++◌, Option, take}
 use Rattle.std.specs.Prelude.{drop, length}
 use Rattle.tape_blocks.specs.Block.{Portion}
-use Rattle.tape_core.specs.Crash.{Returns}
+use Rattle.tape_core.specs.Crash.{Crashes}
 use Rattle.tape_core.specs.Point.{Point}
 use Rattle.tape_run.specs.declared.fault.RunFault.{RunFault}
 use Rattle.tape_run.specs.declared.script.Step.{Step}
-use Rattle.tape_run.specs.Crash.{StoodAt, BringsLast, is_saved}
+use Rattle.tape_run.specs.Crash.{StoodAt, LastAlone, is_saved}
 use Rattle.tape_run.specs.Given.{written}
 use Rattle.tape_run.specs.Runs.{Runs, RunsUpTo}
 use Rattle.tape_run.specs.Seen.{Seen}
@@ -27,11 +27,11 @@ pub record HasMade (made : ℕ) (which : List Bool) (old : Seen) (steps : List S
 
 -- A step was made: where a crash brought back the note made last alone, if it is said to, it does
 -- so still, if that is said behind the step.
-abbrev pub StaysSaved : Step → Returns → Seen → Returns → Seen → Type 0
-StaysSaved step returned old returns new = (saved : Bool)
-    → (saved ≡ true → BringsLast returned old) → (still : Bool)
+abbrev pub StaysSaved : Step → Crashes → Seen → Crashes → Seen → Type 0
+StaysSaved step before old now new = (saved : Bool)
+    → (saved ≡ true → LastAlone before old) → (still : Bool)
     × ((rest : List Step) → is_saved saved (step ∷ rest) ≡ is_saved still rest)
-    × (still ≡ true → BringsLast returns new)
+    × (still ≡ true → LastAlone now new)
 
 -- Over the row, from this number on, just these were written, as far as it reaches; and so many
 -- numbers are behind them then.

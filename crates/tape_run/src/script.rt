@@ -12,7 +12,7 @@ ghost use Rattle.tape_set.specs.Before.{section_parts};
 ghost use Rattle.tape_core.specs.Place.{rest_of};
 ghost use Rattle.tape_core.specs.Crash.{AddsOnly};
 ghost use Rattle.tape_run.specs.Back.{reels_of, AreVolumes};
-ghost use Rattle.tape_run.specs.Crash.{IsOf, StoodAt, BringsLast, is_saved};
+ghost use Rattle.tape_run.specs.Crash.{IsOf, StoodAt, LastAlone, is_saved};
 ghost use Rattle.tape_run.specs.Headline.{IsStart, IsRead, HasRun, HasStopped, LosesParts};
 ghost use Rattle.tape_run.specs.Given.{written};
 ghost use Rattle.tape_run.specs.Made.{HasMade, WritesFrom, StaysSaved};
@@ -90,7 +90,8 @@ pub fn run<S: PartSink, R: Read>(
         → (stop : HasStopped (seen S.refusals session.old held) steps.now bytes end.step end.fault
         (seen S.refusals session.new now)) × (failed.new ≡ written stop.which failed.old))) }
     // Whatever the set and the history are: each step did what `reel`, `save` and `restart`
-    // promise; and behind a save, and reels, a crash brings back what was saved, alone.
+    // promise; and behind a save, and reels, a crash brings back what was saved, alone, now and
+    // from then on.
     ensures runs { OnOk result ((held : List Portion) → S.holds session.old.sink held
         → IsKept (seen S.refusals session.old held)
         → (now : List Portion) × S.holds session.new.sink now
@@ -98,7 +99,7 @@ pub fn run<S: PartSink, R: Read>(
         × Runs which (seen S.refusals session.old held) steps.now (map R.remaining reels.old)
         (seen S.refusals session.new now))
         × (is_saved false steps.now ≡ true
-        → BringsLast (S.crashes session.new.sink).returns (seen S.refusals session.new now))) }
+        → LastAlone (S.crashes session.new.sink) (seen S.refusals session.new now))) }
     // Where it stopped: the same of the steps before, and the step that is told left what its call
     // promises.
     ensures faults { IfErr result (λ end. (held : List Portion) → S.holds session.old.sink held
@@ -143,8 +144,8 @@ fn make<S: PartSink, R: Read>(
         × ((rest : List Step) → HasMade 1 which (seen S.refusals session.old held) (step ∷ rest)
         (map R.remaining (drop used reels.old)) (seen S.refusals session.new now) rest
         (map R.remaining (drop now_used reels.new)))
-        × StaysSaved step (S.crashes session.old.sink).returns (seen S.refusals session.old held)
-        (S.crashes session.new.sink).returns (seen S.refusals session.new now))) }
+        × StaysSaved step (S.crashes session.old.sink) (seen S.refusals session.old held)
+        (S.crashes session.new.sink) (seen S.refusals session.new now))) }
     ensures unwritten { OnErr result (failed.new ≡ failed.old) }
     ensures err { IfErr result (λ fault. (held : List Portion) → S.holds session.old.sink held
         → IsKept (seen S.refusals session.old held)

@@ -4,9 +4,9 @@ use Rattle.std.proofs.lemmas.List.{drop_more, drop_all, drop-set-lt}
 use Rattle.tape_run.specs.Given.{is_device}
 use Rattle.tape_run.specs.Made.{WritesFrom}
 use Rattle.tape_run.specs.Seen.{seen}
-use Rattle.tape_core.proofs.Crashes.{only_same, or_nothing}
+use Rattle.tape_core.proofs.Crashes.{only_same}
 use Rattle.tape_run.proofs.Crashes.{only_nothing}
-use Rattle.tape_run.proofs.Lasting.{brings_still, last_saved}
+use Rattle.tape_run.proofs.Lasting.{alone_still, alone_saved}
 use Rattle.tape_run.proofs.Made.{reel_makes, save_makes, restart_makes, reel_failed, writes_none}
 use Rattle.tape_run.proofs.Ended.{told_err, kept_save_fails, kept_restart_fails}
 use Rattle.tape_run.proofs.script.make.Goals as goal
@@ -36,11 +36,11 @@ returns-in_ok-answer-in-Reel-clause-ok g c =
             λ saved before. (
               saved,
               λ rest. rw c.in-Reel.is refl,
-              λ is. brings_still _ _ (seen g.S.PartSink.refusals c.args.session.now held)
+              λ is. alone_still _ _ (seen g.S.PartSink.refusals c.args.session.now held)
                   (seen g.S.PartSink.refusals c.reel.new.self now)
                   c.in_ok-answer-in-Reel.ensures.notes
                   front
-                  (λ back there h. or_nothing ((c.reel.ensures.crash held was).now back there h))
+                  (c.reel.ensures.crash held was)
                   (before is),
             ),
           ),
@@ -95,9 +95,10 @@ returns-in_ok-save-in-Save-clause-ok g c = (
         λ before had. (
           true,
           λ rest. rw c.in-Save.is refl,
-          λ is. last_saved _ _ c.in_ok-save-in-Save.field-0 _
+          λ is. alone_saved _ _ c.in_ok-save-in-Save.field-0
+              (g.S.PartSink.crashes c.save.new.self.sink)
               (c.in_ok-save-in-Save.ensures.point held was)
-              (c.in_ok-save-in-Save.ensures.kept held was).0 saved,
+              (c.in_ok-save-in-Save.ensures.kept held was) saved,
         ),
       ),
 )

@@ -1,7 +1,7 @@
 use Rattle.std.proofs.Common.{◌≡◌, Bool, true, false, List, length, map, drop}
 use Rattle.tape_blocks.specs.Block.{Portion}
 use Rattle.tape_core.specs.Crash.{AddsOnly}
-use Rattle.tape_run.specs.Crash.{StoodAt, BringsLast, is_saved}
+use Rattle.tape_run.specs.Crash.{StoodAt, LastAlone, is_saved}
 use Rattle.tape_run.specs.Given.{written}
 use Rattle.tape_run.specs.Made.{HasMade}
 use Rattle.tape_run.specs.Seen.{seen, IsKept}
@@ -21,5 +21,5 @@ invariant-loop-step g l = (which : List Bool) × (length which ≡ l.used)
     (map g.R.Read.remaining l.fn.reels)) (g.S.PartSink.crashes l.fn.session.sink)
     (g.S.PartSink.crashes l.session.sink)
     × ((saved : Bool) × (is_saved false l.steps ≡ is_saved saved (drop l.step l.steps))
-    × (saved ≡ true → BringsLast (g.S.PartSink.crashes l.session.sink).returns
+    × (saved ≡ true → LastAlone (g.S.PartSink.crashes l.session.sink)
     (seen g.S.PartSink.refusals l.session now))))
