@@ -1,6 +1,6 @@
 -- A run is where its history leads.
 use Rattle.std.proofs.Common.{◌≡◌, ℕ, zero, suc, ◌+◌, ◌<◌, Bool, true, false, List, [], ◌∷◌, length}
-use Rattle.std.proofs.Common.{map, take, Some, Ok, refl, sym, ap, subst, ◌∙◌, inl, inr, arith}
+use Rattle.std.proofs.Common.{map, take, Option, Some, refl, sym, ap, subst, ◌∙◌, arith}
 use Rattle.std.proofs.Common.{length-append}
 use Rattle.std.specs.List.{slice_get}
 use Rattle.std.proofs.lemmas.List.{map-append, take-map}
@@ -17,7 +17,7 @@ use Rattle.tape_run.specs.Mount.{after_mount}
 use Rattle.tape_core.specs.Stands.{weight_of}
 use Rattle.tape_run.specs.declared.script.Step.{Step}
 use Rattle.tape_run.specs.declared.script.Step.TheVariants.{Reel, Save, Restart}
-use Rattle.tape_run.specs.Given.{AreGivenBy, failed_of, counted, counted_up}
+use Rattle.tape_run.specs.Given.{failed_of, counted, counted_up}
 use Rattle.tape_run.specs.Seen.{Seen, AreNotes, IsSession}
 use Rattle.tape_run.specs.History.{after, course, course_of, IsHistory}
 use Rattle.tape_run.specs.Steps.{Reeled, Saved, WentBack}
@@ -231,3 +231,11 @@ headline which old new (Restart n ∷ steps) bytes (mid, w, runs) =
       },
       same,
     )
+
+-- over readers that tell their bytes
+pub ran_so : (which : List Bool) (old new : Seen) (steps : List Step)
+    (reels : List (Option (List ℕ))) → Runs which old steps reels new → (bytes : List (List ℕ))
+    → reels ≡ map Some bytes → RanSo which old steps bytes new
+ran_so which old new steps reels runs bytes e =
+    headline which old new steps bytes
+    (subst (λ (z : List (Option (List ℕ))). Runs which old steps z new) e runs)

@@ -16,6 +16,7 @@ pub mod Begin
 pub mod Back
 pub mod Crashes
 pub mod Made
+mod RunSoFar
 pub mod Lives
 pub mod SectionsMet
 pub mod ShownSections

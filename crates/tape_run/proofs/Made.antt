@@ -1,19 +1,25 @@
 -- Steps of a run that were made, one after another.
-use Rattle.std.proofs.Common.{◌≡◌, ℕ, zero, suc, ◌+◌, Bool, List, [], ◌∷◌, drop, Option, Some}
-use Rattle.std.proofs.Common.{None, ◌≤◌, length, take, IfSome, refl, sym, ap, ◌∙◌, subst, inr}
+use Rattle.std.proofs.Common.{◌≡◌, ℕ, zero, suc, ◌+◌, Bool, true, false, List, [], ◌∷◌, drop}
+use Rattle.std.proofs.Common.{Option, Some, None, ◌≤◌, length, take, IfSome, refl, sym, ap, ◌∙◌, subst, inr}
 use Rattle.std.proofs.Common.{◌<◌, arith, append-nil, ◌++◌, slice_set}
 use Rattle.std.proofs.lemmas.List.{append_assoc, take-append-drop}
 use Rattle.std.specs.List.{slice_get}
 use Rattle.std.proofs.lemmas.List.{drop_all}
+use Rattle.tape_blocks.specs.Block.{Portion}
+use Rattle.tape_core.specs.Crash.{AddsNothing, Crashes}
+use Rattle.tape_core.specs.Point.{Point}
+use Rattle.tape_core.specs.Weight.{IsFront}
+use Rattle.tape_run.specs.Crash.{LastAlone}
 use Rattle.tape_run.specs.declared.fault.RunFault.{RunFault}
 use Rattle.tape_run.specs.declared.script.Step.{Step}
 use Rattle.tape_run.specs.declared.script.Step.TheVariants.{Reel, Save, Restart}
 use Rattle.tape_run.specs.Given.{written}
 use Rattle.tape_run.specs.Headline.{LosesParts}
-use Rattle.tape_run.specs.Made.{HasMade, WritesFrom}
+use Rattle.tape_run.specs.Made.{HasMade, IsMade, WritesFrom}
 use Rattle.tape_run.specs.Runs.{Runs, RunsUpTo, Fails}
 use Rattle.tape_run.specs.Seen.{Seen}
 use Rattle.tape_run.specs.Steps.{Reeled, Saved, WentBack, ReelFails}
+use Rattle.tape_run.proofs.Lasting.{alone_still}
 
 -- ---- one step
 
@@ -25,7 +31,7 @@ later which old steps readers n fault end h =
     let same : suc n ≡ 1 + n = omega arith in
     subst (λ k. RunsUpTo which old steps readers k fault end) same h
 
-pub reel_makes : (old mid : Seen) (o : Option (List ℕ)) (failed : Bool)
+reel_makes : (old mid : Seen) (o : Option (List ℕ)) (failed : Bool)
     → IfSome o (λ bytes. Reeled bytes failed old mid) → (readers : List (Option (List ℕ)))
     (steps : List Step)
     → HasMade 1 (failed ∷ []) old (Reel ∷ steps) (o ∷ readers) mid steps readers
@@ -52,7 +58,7 @@ reel_makes old mid (Some bytes) failed r readers steps = record {
   stood = λ back there h. inr ((failed, mid, r, h));
 }
 
-pub save_makes : (old mid : Seen) → Saved old mid → (readers : List (Option (List ℕ)))
+save_makes : (old mid : Seen) → Saved old mid → (readers : List (Option (List ℕ)))
     (steps : List Step) → HasMade 1 [] old (Save ∷ steps) readers mid steps readers
 save_makes old mid v readers steps = record {
   runs = λ more end h. (mid, v, h);
@@ -66,7 +72,7 @@ save_makes old mid v readers steps = record {
   stood = λ back there h. inr ((mid, v, h));
 }
 
-pub restart_makes : (old mid : Seen) (k : ℕ) → WentBack k old mid
+restart_makes : (old mid : Seen) (k : ℕ) → WentBack k old mid
     → (readers : List (Option (List ℕ))) (steps : List Step)
     → HasMade 1 [] old (Restart k ∷ steps) readers mid steps readers
 restart_makes old mid k w readers steps = record {
@@ -79,6 +85,37 @@ restart_makes old mid k w readers steps = record {
     fails = h.fails;
   });
   stood = λ back there h. inr ((mid, w, h));
+}
+
+-- a reel was read: the notes are as they were, and no part went
+pub reel_made : (old mid : Seen) (o : Option (List ℕ)) (failed : Bool)
+    → IfSome o (λ bytes. Reeled bytes failed old mid) → (readers : List (Option (List ℕ)))
+    (was now : Crashes) → mid.notes ≡ old.notes → IsFront old.parts mid.parts
+    → AddsNothing was now → IsMade (failed ∷ []) Reel (o ∷ readers) readers was now old mid
+reel_made old mid o failed r readers was now notes front none = record {
+  makes = reel_makes old mid o failed r readers;
+  stays = λ saved before. (
+    saved,
+    λ rest. refl,
+    λ is. alone_still was now old mid notes front none (before is),
+  );
+}
+
+-- it was noted where the session stands, and that comes back alone
+pub save_made : (old mid : Seen) → Saved old mid → (readers : List (Option (List ℕ)))
+    (was now : Crashes) → LastAlone now mid → IsMade [] Save readers readers was now old mid
+save_made old mid v readers was now last = record {
+  makes = save_makes old mid v readers;
+  stays = λ saved before. (true, λ rest. refl, λ is. last);
+}
+
+-- the session went back to a note
+pub restart_made : (old mid : Seen) (k : ℕ) → WentBack k old mid
+    → (readers : List (Option (List ℕ))) (was now : Crashes)
+    → IsMade [] (Restart k) readers readers was now old mid
+restart_made old mid k w readers was now = record {
+  makes = restart_makes old mid k w readers;
+  stays = λ saved before. (false, λ rest. refl, λ is. absurd (cc));
 }
 
 -- a reel that was not read to its end

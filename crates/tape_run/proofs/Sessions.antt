@@ -14,7 +14,7 @@ use Rattle.tape_set.specs.declared.position.Position.TheVariants.{Awaits, Finish
 use Rattle.tape_core.specs.Point.{Point}
 use Rattle.tape_set.specs.Position.{want_at}
 use Rattle.tape_core.specs.State.{State}
-use Rattle.tape_core.specs.Place.{IsPlaced, rest_of}
+use Rattle.tape_core.specs.Place.{IsPlaced, place_of, rest_of}
 use Rattle.tape_core.specs.Table.{saved, mount_of}
 use Rattle.tape_run.specs.Mount.{Happening, reads, foreign_reel, saves, restarts, IsMount}
 use Rattle.tape_run.specs.Mount.{after_mount}
@@ -228,3 +228,65 @@ kept_restart old new n w k =
     kept_place old.place new.place [] new.notes new.parts (ap (λ (p : State). p.set_id) w.place
     ∙ at.note.of_set) (ap (λ (p : State). p.file) w.place ∙ at.note.of_file)
     (rw (w.notes, same) at.left)
+
+-- The session is at its note of this number, with the front of its parts that this weighs.
+pub record GoesBack (n : ℕ) (point : Point) (old : Seen) (new : List Portion → Seen) : Type 0 where
+  pub parts : List Portion
+  pub front : IsFront parts old.parts
+  pub weighs : weight_of parts ≡ point.staged
+  pub went : WentBack n old (new parts)
+  pub kept : IsKept (new parts)
+
+-- a core went there, and the later notes were forgotten
+pub goes_back : (n : ℕ) (point : Point) (from place : State) (held : List Portion)
+    (notes left : List Point) (failures before refusals : ℕ)
+    → slice_get notes n ≡ Some point → KeepsNotes from [] notes held
+    → (point.set_id ≡ from.set_id → point.file ≡ from.file → place ≡ place_of point)
+    → left ≡ take (n + 1) notes → refusals ≡ before
+    → GoesBack n point (record {
+      place = from;
+      parts = held;
+      notes = notes;
+      failures = failures;
+      refusals = before;
+    }) (λ parts. record {
+      place = place;
+      parts = parts;
+      notes = left;
+      failures = failures;
+      refusals = refusals;
+    })
+goes_back n point from place held notes left failures before refusals noted kept there forgets
+    calm =
+    let at = kept_at from [] notes n point held noted kept in
+    let old : Seen = record {
+      place = from;
+      parts = held;
+      notes = notes;
+      failures = failures;
+      refusals = before;
+    } in
+    let new : Seen = record {
+      place = place;
+      parts = at.ps;
+      notes = left;
+      failures = failures;
+      refusals = refusals;
+    } in
+    let went : WentBack n old new = record {
+      point = point;
+      noted = noted;
+      place = there at.note.of_set at.note.of_file;
+      front = at.is_front;
+      weighs = sym at.note.staged;
+      notes = forgets;
+      count = refl;
+      calm = calm;
+    } in
+    record {
+      parts = at.ps;
+      front = at.is_front;
+      weighs = sym at.note.staged;
+      went = went;
+      kept = kept_restart old new n went kept;
+    }

@@ -25,13 +25,15 @@ pub record HasMade (made : ℕ) (which : List Bool) (old : Seen) (steps : List S
   pub stood : (back : Point) (there : List Portion) → StoodAt new left others back there
       → StoodAt old steps readers back there
 
--- A step was made: where a crash brought back the note made last alone, if it is said to, it does
--- so still, if that is said behind the step.
-abbrev pub StaysSaved : Step → Crashes → Seen → Crashes → Seen → Type 0
-StaysSaved step before old now new = (saved : Bool)
-    → (saved ≡ true → LastAlone before old) → (still : Bool)
-    × ((rest : List Step) → is_saved saved (step ∷ rest) ≡ is_saved still rest)
-    × (still ≡ true → LastAlone now new)
+-- A step was made, with the first of the readers where it is a reel: whatever the steps behind it do
+-- from here, it and they do from before; and where a crash brought back the note made last alone, if
+-- it is said to, it does so still, if that is said behind the step.
+pub record IsMade (which : List Bool) (step : Step) (readers others : List (Option (List ℕ)))
+    (was now : Crashes) (old new : Seen) : Type 0 where
+  pub makes : (rest : List Step) → HasMade 1 which old (step ∷ rest) readers new rest others
+  pub stays : (saved : Bool) → (saved ≡ true → LastAlone was old) → (still : Bool)
+      × ((rest : List Step) → is_saved saved (step ∷ rest) ≡ is_saved still rest)
+      × (still ≡ true → LastAlone now new)
 
 -- Over the row, from this number on, just these were written, as far as it reaches; and so many
 -- numbers are behind them then.

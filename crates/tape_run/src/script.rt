@@ -15,7 +15,7 @@ ghost use Rattle.tape_run.specs.Back.{reels_of, AreVolumes};
 ghost use Rattle.tape_run.specs.Crash.{IsOf, StoodAt, LastAlone, is_saved};
 ghost use Rattle.tape_run.specs.Headline.{IsStart, IsRead, HasRun, HasStopped, LosesParts};
 ghost use Rattle.tape_run.specs.Given.{written};
-ghost use Rattle.tape_run.specs.Made.{HasMade, WritesFrom, StaysSaved};
+ghost use Rattle.tape_run.specs.Made.{IsMade, WritesFrom};
 ghost use Rattle.tape_run.specs.Runs.{Runs, RunsUpTo, Fails};
 ghost use Rattle.tape_run.specs.Seen.{seen, IsKept};
 
@@ -141,11 +141,10 @@ fn make<S: PartSink, R: Read>(
         → IsKept (seen S.refusals session.old held)
         → (now : List Portion) × S.holds session.new.sink now
         × IsKept (seen S.refusals session.new now)
-        × ((rest : List Step) → HasMade 1 which (seen S.refusals session.old held) (step ∷ rest)
-        (map R.remaining (drop used reels.old)) (seen S.refusals session.new now) rest
-        (map R.remaining (drop now_used reels.new)))
-        × StaysSaved step (S.crashes session.old.sink) (seen S.refusals session.old held)
-        (S.crashes session.new.sink) (seen S.refusals session.new now))) }
+        × IsMade which step (map R.remaining (drop used reels.old))
+        (map R.remaining (drop now_used reels.new)) (S.crashes session.old.sink)
+        (S.crashes session.new.sink) (seen S.refusals session.old held)
+        (seen S.refusals session.new now))) }
     ensures unwritten { OnErr result (failed.new ≡ failed.old) }
     ensures err { IfErr result (λ fault. (held : List Portion) → S.holds session.old.sink held
         → IsKept (seen S.refusals session.old held)

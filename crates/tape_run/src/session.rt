@@ -287,10 +287,9 @@ impl<S: PartSink> Session<S> {
             → AddsOnly (IsNoteOf n (seen S.refusals self.old held)) (S.crashes self.old.sink)
             (S.crashes self.new.sink) }
     {
-        if n >= self.notes.len() {
+        let Some(&point) = self.notes.get(n) else {
             return Err(RunFault::NoSuchPoint);
-        }
-        let point = self.notes[n];
+        };
         if point.staged > self.intake.sink.weight() {
             return Err(RunFault::Sink(SinkFault::Failed));
         }

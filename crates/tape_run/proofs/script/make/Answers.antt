@@ -1,13 +1,11 @@
-use Rattle.std.proofs.Common.{◌+◌, [], ◌∷◌, map, get_or, Some, true, false, refl, ap}
-use Rattle.std.proofs.Common.{subst, arith}
+use Rattle.std.proofs.Common.{◌+◌, [], ◌∷◌, map, get_or, Some, refl, ap, subst, arith}
 use Rattle.std.proofs.lemmas.List.{drop_more, drop_all, drop-set-lt}
 use Rattle.tape_run.specs.Given.{is_device}
 use Rattle.tape_run.specs.Made.{WritesFrom}
-use Rattle.tape_run.specs.Seen.{seen}
 use Rattle.tape_core.proofs.Crashes.{only_same}
 use Rattle.tape_run.proofs.Crashes.{only_nothing}
-use Rattle.tape_run.proofs.Lasting.{alone_still, alone_saved}
-use Rattle.tape_run.proofs.Made.{reel_makes, save_makes, restart_makes, reel_failed, writes_none}
+use Rattle.tape_run.proofs.Lasting.{alone_saved}
+use Rattle.tape_run.proofs.Made.{reel_made, save_made, restart_made, reel_failed, writes_none}
 use Rattle.tape_run.proofs.Ended.{told_err, kept_save_fails, kept_restart_fails}
 use Rattle.tape_run.proofs.script.make.Goals as goal
 
@@ -31,37 +29,21 @@ returns-in_ok-answer-in-Reel-clause-ok g c =
             now,
             has,
             keeps kept,
-            λ rest. rw (here, left, c.in-Reel.is) (reel_makes _ _ (rem device) failed reeled _
-                rest),
-            λ saved before. (
-              saved,
-              λ rest. rw c.in-Reel.is refl,
-              λ is. alone_still _ _ (seen g.S.PartSink.refusals c.args.session.now held)
-                  (seen g.S.PartSink.refusals c.reel.new.self now)
-                  c.in_ok-answer-in-Reel.ensures.notes
-                  front
-                  (c.reel.ensures.crash held was)
-                  (before is),
-            ),
+            rw (here, left, c.in-Reel.is) (reel_made _ _ (rem device) failed reeled _ _ _
+                c.in_ok-answer-in-Reel.ensures.notes front (c.reel.ensures.crash held was)),
           ),
     )
 
 pub returns-in_err-answer-in-Reel-clause-err : goal.returns-in_err-answer-in-Reel-clause-err
 returns-in_err-answer-in-Reel-clause-err g c =
-    let fault = c.in_err-answer-in-Reel.field-0.0 in
     let rem = g.R.Read.remaining in
     let reels = c.args.reels.now in
     let device = get_or reels c.args.used c.index-reels-used.result in
     let here = ap (map rem) (drop_more reels c.args.used c.index-reels-used.result
     c.if-used-reels.false) in
-    told_err c.from_residual.result fault _
-    c.from_residual.ensures.1 (λ held was kept.
-    let (now, has, front, keeps, fails) = c.in_err-answer-in-Reel.ensures.err held was in (
-      now,
-      (λ ne. has),
-      keeps kept,
-      rw (here, c.in-Reel.is) (reel_failed _ _ (rem device) _ fault fails),
-    ))
+    told_err _ _ _ c.from_residual.ensures.1 (λ held was kept.
+    let (now, has, front, keeps, fails) = c.in_err-answer-in-Reel.ensures.err held was in
+    (now, (λ ne. has), keeps kept, rw (here, c.in-Reel.is) (reel_failed _ _ (rem device) _ _ fails)))
 
 pub returns-then-used-reels-clause-err : goal.returns-then-used-reels-clause-err
 returns-then-used-reels-clause-err g c = λ held was kept.
@@ -87,33 +69,19 @@ returns-in_ok-save-in-Save-clause-ok g c = (
   [],
   writes_none _ _,
   λ held was kept.
-      let (now, has, keeps, saved) = c.in_ok-save-in-Save.ensures.ok held was in (
-        now,
-        has,
-        keeps kept,
-        λ rest. rw c.in-Save.is (save_makes _ _ saved _ rest),
-        λ before had. (
-          true,
-          λ rest. rw c.in-Save.is refl,
-          λ is. alone_saved _ _ c.in_ok-save-in-Save.field-0
-              (g.S.PartSink.crashes c.save.new.self.sink)
-              (c.in_ok-save-in-Save.ensures.point held was)
-              (c.in_ok-save-in-Save.ensures.kept held was) saved,
-        ),
-      ),
+      let told = c.in_ok-save-in-Save.ensures in
+      let (now, has, keeps, saved) = told.ok held was in
+      let last = alone_saved _ _ c.in_ok-save-in-Save.field-0
+      (g.S.PartSink.crashes c.save.new.self.sink) (told.point held was)
+      (told.kept held was) saved in
+      (now, has, keeps kept, rw c.in-Save.is (save_made _ _ saved _ _ _ last)),
 )
 
 pub returns-in_err-save-in-Save-clause-err : goal.returns-in_err-save-in-Save-clause-err
 returns-in_err-save-in-Save-clause-err g c =
-    let fault = c.in_err-save-in-Save.field-0.0 in
-    told_err c.from_residual-in_err-save-in-Save.result fault _
-    c.from_residual-in_err-save-in-Save.ensures.1 (λ held was kept.
-    let (now, has, fails) = c.in_err-save-in-Save.ensures.err held was in (
-      now,
-      (λ ne. has),
-      kept_save_fails fault _ _ fails kept,
-      rw c.in-Save.is fails,
-    ))
+    told_err _ _ _ c.from_residual-in_err-save-in-Save.ensures.1 (λ held was kept.
+    let (now, has, fails) = c.in_err-save-in-Save.ensures.err held was in
+    (now, (λ ne. has), kept_save_fails _ _ _ fails kept, rw c.in-Save.is fails))
 
 -- ---- going back
 
@@ -122,23 +90,16 @@ returns-in_ok-restart-in-Restart-clause-ok g c = (
   [],
   writes_none _ _,
   λ held was kept.
-      let (now, has, still, went) = c.in_ok-restart-in-Restart.ensures.ok held was kept in (
-        now,
-        has,
-        still,
-        λ rest. rw c.in-Restart.is (restart_makes _ _ c.in-Restart.n went _ rest),
-        λ saved before. (false, λ rest. rw c.in-Restart.is refl, λ is. absurd (cc is)),
-      ),
+      let (now, has, still, went) = c.in_ok-restart-in-Restart.ensures.ok held was kept in
+      (now, has, still, rw c.in-Restart.is (restart_made _ _ c.in-Restart.n went _ _ _)),
 )
 
 pub returns-in_err-restart-in-Restart-clause-err : goal.returns-in_err-restart-in-Restart-clause-err
 returns-in_err-restart-in-Restart-clause-err g c =
-    let fault = c.in_err-restart-in-Restart.field-0.0 in
-    told_err c.from_residual-in_err-restart-in-Restart.result fault _
-    c.from_residual-in_err-restart-in-Restart.ensures.1 (λ held was kept.
+    told_err _ _ _ c.from_residual-in_err-restart-in-Restart.ensures.1 (λ held was kept.
     let (ok, fails) = c.in_err-restart-in-Restart.ensures.err held was kept in (
       held,
       (λ keeps. ok (λ device. keeps (((c.in-Restart.n, ap Some c.in-Restart.is), device)))),
-      kept_restart_fails c.in-Restart.n fault _ _ fails kept,
+      kept_restart_fails c.in-Restart.n _ _ _ fails kept,
       rw c.in-Restart.is fails,
     ))
