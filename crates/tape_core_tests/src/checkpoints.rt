@@ -68,44 +68,24 @@ fn checkpoints_at_the_start_of_a_file(rt: HostRuntime) {
     is_none(&rt, "file 10,000", 10_000, (at_start(0), false, None), 0);
 }
 
+/// A part of a block of a file of format F.
+fn at_part(rt: &impl Abort, part: u32, begun: bool) -> Told {
+    (inside(part), begun, fixed(rt))
+}
+
+/// The first part of a block of a file of format S, where a record is begun.
+fn in_spanned(rt: &impl Abort) -> Told {
+    (inside(0), true, spanned(rt))
+}
+
 #[test]
 fn checkpoints_inside_a_file(rt: HostRuntime) {
-    is_one(
-        &rt,
-        "the greatest",
-        9_999,
-        (inside(0), true, spanned(&rt)),
-        MOST,
-    );
+    is_one(&rt, "the greatest", 9_999, in_spanned(&rt), MOST);
     is_none(&rt, "not known", 1, (inside(0), false, None), 0);
-    is_one(
-        &rt,
-        "part 99,999",
-        1,
-        (inside(99_999), false, fixed(&rt)),
-        0,
-    );
-    is_none(
-        &rt,
-        "part 100,000",
-        1,
-        (inside(100_000), false, fixed(&rt)),
-        0,
-    );
-    is_none(
-        &rt,
-        "begun in format F",
-        1,
-        (inside(0), true, fixed(&rt)),
-        0,
-    );
-    is_none(
-        &rt,
-        "too heavy",
-        1,
-        (inside(0), false, fixed(&rt)),
-        MOST + 1,
-    );
+    is_one(&rt, "part 99,999", 1, at_part(&rt, 99_999, false), 0);
+    is_none(&rt, "part 100,000", 1, at_part(&rt, 100_000, false), 0);
+    is_none(&rt, "begun in format F", 1, at_part(&rt, 0, true), 0);
+    is_none(&rt, "too heavy", 1, at_part(&rt, 0, false), MOST + 1);
 }
 
 /// A block of this section of a file of format F.

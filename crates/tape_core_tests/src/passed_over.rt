@@ -59,6 +59,8 @@ fn data_of_a_section_passed_over(rt: HostRuntime) {
 #[test]
 fn the_trailer_of_a_section_passed_over_is_expected(rt: HostRuntime) {
     let front = [Block(VOL1), Block(HDR1), Block(HDR2), Mark, Bad, Mark];
+    let differs = Useless(SectionDiffers);
+    let spaced = Useless(BadLabel(LabelFault::NotDigits(55)));
     rows(
         &rt,
         2,
@@ -68,20 +70,11 @@ fn the_trailer_of_a_section_passed_over_is_expected(rt: HostRuntime) {
             (Block(EOV1), Passed),
             // Of a section passed over nothing is counted.
             (Block(&counted(EOF1, b"000007")), Passed),
-            (
-                Block(&numbered(EOF1, b"0002", b"0001")),
-                Useless(SectionDiffers),
-            ),
-            (
-                Block(&numbered(EOF1, b"0001", b"0002")),
-                Useless(SectionDiffers),
-            ),
+            (Block(&numbered(EOF1, b"0002", b"0001")), differs),
+            (Block(&numbered(EOF1, b"0001", b"0002")), differs),
             (Block(HDR1), Useless(BadLabel(LabelFault::Identifier))),
             (Block(&EOF1[..79]), Useless(BadLabel(LabelFault::NotEighty))),
-            (
-                Block(&counted(EOF1, b"00000 ")),
-                Useless(BadLabel(LabelFault::NotDigits(55))),
-            ),
+            (Block(&counted(EOF1, b"00000 ")), spaced),
             (Mark, Useless(BadLabel(LabelFault::Identifier))),
             (Bad, Useless(BadItem)),
             (ReelEnd, Useless(ReelEnded)),

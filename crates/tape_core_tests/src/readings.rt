@@ -23,6 +23,18 @@ enum Kind {
     Behind,
 }
 
+/// The position behind a section that was read up to this block: `closed` tells whether all of its
+/// blocks and its trailer were read, `last` whether it ends its file.
+fn behind((sect, block): (u16, u32), closed: bool, last: bool) -> Position {
+    if !closed {
+        Position::awaiting(sect, block)
+    } else if last {
+        Position::Finished
+    } else {
+        Position::awaiting(sect.saturating_add(1), 0)
+    }
+}
+
 /// The position that a reading makes of the front of a block: `good` tells, from its lowest bit on,
 /// which of the items met were read well. `ends` tells whether the volume's section ends its file;
 /// it is `None` where the section awaited stands on another volume.
@@ -48,16 +60,10 @@ fn far(
             _ => {}
         }
     }
-    let Some(last) = ends else {
-        return start;
-    };
-    if closed != 2 || block != seen {
-        return Position::awaiting(sect, block);
+    match ends {
+        None => start,
+        Some(last) => behind((sect, block), closed == 2 && block == seen, last),
     }
-    if last {
-        return Position::Finished;
-    }
-    Position::awaiting(sect.saturating_add(1), 0)
 }
 
 /// Reads the front of a volume in one way, from this position on.

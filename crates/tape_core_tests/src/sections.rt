@@ -58,6 +58,23 @@ fn a_long_section_is_counted_without_its_millions(rt: HostRuntime) {
     wants(&rt, &core, "a wrong count", wanted(1, MANY, 0));
 }
 
+/// The second section of file 1 comes, of these blocks, and completes the file.
+fn complete_second(
+    rt: &impl Abort,
+    core: &mut ReaderCore,
+    name: &str,
+    second: &[u8],
+    blocks: &[(Event<'_>, Answer)],
+    count: &[u8; 6],
+) {
+    front(rt, core, name, &numbered(HDR1, b"0002", b"0001"), second);
+    go_on(rt, core, name, blocks);
+    let end = counted(&numbered(EOF1, b"0002", b"0001"), count);
+    let trailer = [(Mark, Passed), (Block(&end), Complete)];
+    go_on(rt, core, "the trailer of section 2", &trailer);
+    wants(rt, core, name, None);
+}
+
 /// Reads a first section without blocks, which tells nothing before its end.
 fn read_empty_section(rt: &impl Abort, core: &mut ReaderCore) {
     front(rt, core, "no blocks", HDR1, HDR2);
@@ -93,21 +110,8 @@ fn a_first_section_without_blocks_tells_the_form(rt: HostRuntime) {
             (Block(HDR2_D), Useless(SectionDiffers)),
         ],
     );
-    read_section(
-        &rt,
-        &mut core,
-        "the same format",
-        (&head, HDR2),
-        &[
-            (Block(b"AAAA"), Deliver),
-            (Mark, Passed),
-            (
-                Block(&counted(&numbered(EOF1, b"0002", b"0001"), b"000001")),
-                Complete,
-            ),
-        ],
-        None,
-    );
+    let row = [(Block(b"AAAA".as_slice()), Deliver)];
+    complete_second(&rt, &mut core, "the same format", HDR2, &row, b"000001");
 }
 
 /// A reader that awaits section 9,999 takes one without blocks, with this trailer.
@@ -224,37 +228,33 @@ const fn span_broken() -> Answer {
     }))
 }
 
+/// Reads the first section, of format S, with these items; then this is wanted.
+fn read_spanned(
+    rt: &impl Abort,
+    core: &mut ReaderCore,
+    name: &str,
+    row: &[(Event<'_>, Answer)],
+    want: Option<Want>,
+) {
+    read_section(rt, core, name, (HDR1, HDR2_S), row, want);
+}
+
 /// Reads the first section, in which a record begins.
 fn read_front_of_record(rt: &impl Abort, core: &mut ReaderCore) {
-    let headers = (HDR1.as_slice(), HDR2_S.as_slice());
     let middle = [(Block(MIDDLE), span_broken())];
-    read_section(
-        rt,
-        core,
-        "no record is begun",
-        headers,
-        &middle,
-        wanted(1, 0, 0),
-    );
-    let row = [
+    read_spanned(rt, core, "no record is begun", &middle, wanted(1, 0, 0));
+    let left = [
         (Block(FIRST), Deliver),
         (Mark, Passed),
         (Block(&counted(EOF1, b"000001")), Useless(SpanLeft)),
     ];
-    read_section(
-        rt,
-        core,
-        "a record is left begun",
-        headers,
-        &row,
-        wanted(1, 1, 0),
-    );
-    let row = [
+    read_spanned(rt, core, "a record is left begun", &left, wanted(1, 1, 0));
+    let goes_on = [
         (Bad, Passed),
         (Mark, Passed),
         (Block(&counted(EOV1, b"000001")), SectionDone),
     ];
-    read_section(rt, core, "it runs on", headers, &row, wanted(2, 0, 0));
+    read_spanned(rt, core, "it runs on", &goes_on, wanted(2, 0, 0));
 }
 
 #[test]
@@ -263,31 +263,11 @@ fn records_run_on_over_blocks_and_volumes(rt: HostRuntime) {
     read_front_of_record(&rt, &mut core);
     let head = numbered(HDR1, b"0002", b"0001");
     let first = [(Block(FIRST), span_broken())];
-    let want = wanted(2, 0, 0);
-    read_section(
-        &rt,
-        &mut core,
-        "another record",
-        (&head, HDR2_S),
-        &first,
-        want,
-    );
-    read_section(
-        &rt,
-        &mut core,
-        "its end",
-        (&head, HDR2_S),
-        &[
-            (Block(MIDDLE), Deliver),
-            (Block(LAST), Deliver),
-            (Mark, Passed),
-            (
-                Block(&counted(&numbered(EOF1, b"0002", b"0001"), b"000002")),
-                Complete,
-            ),
-        ],
-        None,
-    );
+    front(&rt, &mut core, "another record", &head, HDR2_S);
+    go_on(&rt, &mut core, "another record", &first);
+    wants(&rt, &core, "another record", wanted(2, 0, 0));
+    let row = [(Block(MIDDLE), Deliver), (Block(LAST), Deliver)];
+    complete_second(&rt, &mut core, "its end", HDR2_S, &row, b"000002");
 }
 
 /// The first volume comes, and its section is read.
@@ -317,19 +297,6 @@ fn volumes_are_mounted_in_any_order(rt: HostRuntime) {
     refuse_volume(&rt, &mut core, "2 before 1", &head, Useless(LaterSection));
     read_first_volume(&rt, &mut core);
     refuse_volume(&rt, &mut core, "1 again", HDR1, Useless(EarlierSection));
-    read_section(
-        &rt,
-        &mut core,
-        "volume 2",
-        (&head, HDR2),
-        &[
-            (Block(b"BBBB"), Deliver),
-            (Mark, Passed),
-            (
-                Block(&counted(&numbered(EOF1, b"0002", b"0001"), b"000001")),
-                Complete,
-            ),
-        ],
-        None,
-    );
+    let row = [(Block(b"BBBB".as_slice()), Deliver)];
+    complete_second(&rt, &mut core, "volume 2", HDR2, &row, b"000001");
 }

@@ -105,6 +105,10 @@ fn volume_labels_or_a_header_are_expected(rt: HostRuntime) {
             (ReelEnd, Useless(ReelEnded)),
         ],
     );
+}
+
+#[test]
+fn further_volume_labels_or_a_header_are_expected(rt: HostRuntime) {
     rows(
         &rt,
         1,
@@ -216,6 +220,8 @@ fn blocks_that_were_delivered_are_passed(rt: HostRuntime) {
 #[test]
 fn the_trailer_of_the_section_awaited_is_expected(rt: HostRuntime) {
     let front = [Block(VOL1), Block(HDR1), Block(HDR2), Mark, Mark];
+    let differs = Useless(SectionDiffers);
+    let signed = Useless(BadLabel(LabelFault::NotDigits(55)));
     rows(
         &rt,
         1,
@@ -223,20 +229,11 @@ fn the_trailer_of_the_section_awaited_is_expected(rt: HostRuntime) {
         &[
             (Block(EOF1), Complete),
             (Block(EOV1), SectionDone),
-            (
-                Block(&numbered(EOF1, b"0002", b"0001")),
-                Useless(SectionDiffers),
-            ),
-            (
-                Block(&numbered(EOF1, b"0001", b"0002")),
-                Useless(SectionDiffers),
-            ),
+            (Block(&numbered(EOF1, b"0002", b"0001")), differs),
+            (Block(&numbered(EOF1, b"0001", b"0002")), differs),
             (Block(EOF2), Useless(BadLabel(LabelFault::Identifier))),
             (Block(&EOF1[..79]), Useless(BadLabel(LabelFault::NotEighty))),
-            (
-                Block(&counted(EOF1, b"+00000")),
-                Useless(BadLabel(LabelFault::NotDigits(55))),
-            ),
+            (Block(&counted(EOF1, b"+00000")), signed),
             (Mark, Useless(BadLabel(LabelFault::Identifier))),
             (Bad, Useless(BadItem)),
             (ReelEnd, Useless(ReelEnded)),
