@@ -1,6 +1,6 @@
 -- What the definitions of bytes held before a device say of cases. The call `laws::cases` has them
 -- as its contract, too.
-use Rattle.std.specs.Prelude.{◌≡◌, ℕ, ◌-◌, ◌^◌, ◌≤◌, true, false, List, [], ◌∷◌, length}
+use Rattle.std.specs.Prelude.{◌≡◌, ℕ, ◌-◌, ◌^◌, true, false, List, [], ◌∷◌}
 use Rattle.std.specs.Prelude.{None, Some}
 use Rattle.std.specs.Io.KnownBytes.{Appends}
 use Rattle.tape_writer.specs.Holding.{Holding, taken, TakesAll, PassesOn, fresh, FileTakes}
@@ -15,8 +15,8 @@ pub record CasesOfHolding : Type 0 where
     size = 2;
     failed = false;
   }) ≡ Some (1 ∷ 2 ∷ [])
-  -- bytes are taken behind those before, and counted, as far as the count goes; few are held, and
-  -- the device did not fail
+  -- bytes are taken behind those before, and counted, as far as the count goes; and the device did
+  -- not fail
   pub takes : (bytes : List ℕ) (old new : Holding) → TakesAll bytes old new
       → Appends (taken old) (taken new) bytes
   pub counted : (new : Holding) → TakesAll (3 ∷ 4 ∷ []) (record {
@@ -27,7 +27,6 @@ pub record CasesOfHolding : Type 0 where
   }) new → new.size ≡ 7
   pub counted_up_to : (old new : Holding) → TakesAll (3 ∷ []) old new → old.size ≡ 2 ^ 64 - 1
       → new.size ≡ 2 ^ 64 - 1
-  pub few_held : (old new : Holding) → TakesAll [] old new → length new.held ≤ 8192
   pub did_not_fail : (old new : Holding) → TakesAll [] old new → new.failed ≡ true → ⊥
   -- what is passed on stands behind what the device had, and is held no more
   pub passes : (old new : Holding) → PassesOn old new → Appends old.device new.device old.held

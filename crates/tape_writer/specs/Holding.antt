@@ -16,10 +16,9 @@ pub record Holding : Type 0 where
 abbrev pub taken : Holding → Option (List ℕ)
 taken h = append_known h.device h.held
 
--- these bytes were taken behind all others, and counted; no more than 8,192 bytes are held
+-- these bytes were taken behind all others, and counted
 pub record TakesAll (bytes : List ℕ) (old new : Holding) : Type 0 where
   pub takes : Appends (taken old) (taken new) bytes
-  pub within : length new.held ≤ 8192
   pub size : new.size ≡ min (old.size + length bytes) (2 ^ 64 - 1)
   pub stands : new.failed ≡ false
 

@@ -1,6 +1,7 @@
 //! Files of images, made when they are first written to.
 ghost use Rattle.std.specs.Prelude.{◌≡◌, length, None, Some, IsSome, OnSome};
 ghost use Rattle.std.specs.Prelude.{OnOk, OnErr, IfOk, IsErr};
+ghost use Rattle.std.specs.Option.{option_map_or};
 ghost use Rattle.std.specs.Io.{WritesAtMost};
 ghost use Rattle.std.specs.Io.KnownBytes.{WriteAppends};
 ghost use Rattle.tape_writer.specs.Holding.{Opens, FileTakes, FilePasses};
@@ -48,7 +49,9 @@ impl<'a, R: Runtime + AllocGlobal> ImageFile<'a, R> {
     }
 
     /// How many bytes were taken.
-    pub fn size(&self) -> u64 {
+    pub fn size(&self) -> u64
+        ensures { result ≡ option_map_or (λ file. file.size) self.now.file 0 }
+    {
         match &self.file {
             Some(file) => file.size(),
             None => 0,

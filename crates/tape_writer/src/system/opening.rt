@@ -1,4 +1,7 @@
 //! Files of images: how they are opened.
+ghost use Rattle.std.specs.Prelude.{◌≡◌, ◌↔◌, min, IfOk, IfSome, IsOkUnless, IsTrue};
+ghost use Rattle.tape_writer.specs.Blank.{blank_image, blank_volume};
+
 use crate::blank::{BLANK, BlankImage, Prefix, blank_image, blank_volume};
 use crate::system::bytes::put_all;
 use crate::system::fault::FileFault;
@@ -54,7 +57,15 @@ fn open_blank<R: Runtime>(
 }
 
 /// Whether the reader gives just the image of this blank volume.
-fn is_blank<R: Read>(reader: &mut R, prefix: Prefix, number: u16) -> Result<bool, FileFault> {
+///
+/// # Errors
+///
+/// `ReadFailed` where a read fails.
+fn is_blank<R: Read>(reader: &mut R, prefix: Prefix, number: u16) -> Result<bool, FileFault>
+    ensures found { IfOk result (λ blank. IfSome (R.remaining reader.old) (λ bytes. IsTrue blank
+        ↔ (bytes ≡ blank_image (blank_volume prefix.characters (min number 999))))) }
+    ensures fault { IsOkUnless result FileFault.ReadFailed }
+{
     // One byte more than a blank volume has.
     let mut bytes = [0; BLANK + 1];
     match fill(reader, &mut bytes) {
@@ -80,6 +91,8 @@ pub fn make_image<R: Runtime>(
 }
 
 /// The image of a volume without files.
-fn image_of(prefix: Prefix, number: u16) -> BlankImage {
+fn image_of(prefix: Prefix, number: u16) -> BlankImage
+    ensures { result.items ≡ blank_image (blank_volume prefix.characters (min number 999)) }
+{
     blank_image(&blank_volume(prefix, number.min(999)))
 }

@@ -1,0 +1,47 @@
+use Rattle.std.proofs.Common.{◌≡◌, ◌<◌, ℕ, Bool, List, ◌++◌, length, take, Option, None}
+use Rattle.std.proofs.Common.{Some, sym, ap, ◌∙◌, arith, rules, append-nil, length-append}
+use Rattle.std.proofs.lemmas.Bool.Decides.{Decides-eqb}
+use Rattle.std.proofs.lemmas.List.{length-take-le}
+use Rattle.std.proofs.lemmas.Slice.Eq.{slice_eq-Decides}
+use Rattle.std.specs.Prelude.{◌↔◌, IfSome, IsTrue}
+use Rattle.tape_image.specs.Device.{Fills}
+use Rattle.tape_writer.proofs.system.opening.is_blank.Goals as goal
+
+-- what was taken is all that the reader had, where there was room for more
+all_taken : (xs ys buffer : List ℕ) (n : ℕ) → Fills (Some xs) (Some ys) buffer n
+    → n < length buffer → take n buffer ≡ xs
+all_taken xs ys buffer n fills short = sym (fills.taken
+    ∙ ap (λ rest. take n buffer ++ rest) (fills.short short) ∙ append-nil (take n buffer))
+
+-- so it is a shorter image exactly where the reader had just that
+is_image : (told : Bool) (old new : Option (List ℕ)) (buffer : List ℕ) (n : ℕ)
+    (slice image : List ℕ) → (IsTrue told ↔ (take n buffer ≡ slice)) → slice ≡ image
+    → Fills old new buffer n → length slice < length buffer
+    → IfSome old (λ bytes. IsTrue told ↔ (bytes ≡ image))
+is_image told None new buffer n slice image test is fills less = tt
+is_image told (Some xs) None buffer n slice image test is fills less = absurd fills.taken
+is_image told (Some xs) (Some ys) buffer n slice image test is fills less = (
+  λ yes. let same = test.0 yes in sym (all_taken xs ys buffer n fills (omega (
+    arith,
+    less,
+    ap length same,
+    length-take-le n buffer fills.fits,
+  ))) ∙ same ∙ is,
+  λ same. test.1 (all_taken xs ys buffer n fills (omega (
+    arith,
+    less,
+    ap length same,
+    ap length is,
+    ap length fills.taken,
+    length-append (take n buffer) ys,
+    length-take-le n buffer fills.fits,
+  )) ∙ same ∙ sym is),
+)
+
+pub returns-in-Ok-clause-found : goal.returns-in-Ok-clause-found
+returns-in-Ok-clause-found g c =
+    let test = slice_eq-Decides Decides-eqb (take c.in-Ok.count c.fill.new.buffer)
+    c.as_slice.result.now c.eq.result c.eq.ensures in
+    is_image c.eq.result (g.R.Read.remaining c.args.reader.now) (g.R.Read.remaining c.fill.new.device)
+    c.fill.new.buffer c.in-Ok.count c.as_slice.result.now _ test
+    (c.as_slice.ensures.value ∙ c.image_of.ensures) c.in-Ok.ensures.taken (search rules)
