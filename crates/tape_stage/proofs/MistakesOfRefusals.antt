@@ -1,11 +1,12 @@
 -- Refusals that the contracts of a stage exclude, and what it keeps of a call that the disk failed:
 -- each is what a wrong body would give.
 use Rattle.std.proofs.Common.{◌≡◌, ℕ, ◌≤◌, true, false, refl, sym, ap, ◌∙◌, arith}
-use Rattle.std.specs.Prelude.{Option, Some, None, Err, option_map, unwrap_or}
+use Rattle.std.specs.Prelude.{Option, Some, None, Ok, Err, option_map, unwrap_or}
 use Rattle.tape_core.specs.Point.{Point}
 use Rattle.tape_stage.specs.declared.disk.DiskFault.TheVariants as disk_faults
 use Rattle.tape_stage.specs.declared.stage.StageFault.TheVariants.{Device, Full}
 use Rattle.tape_stage.proofs.disk.file.FileDisk.sync_file.Reads as sync_file
+use Rattle.tape_stage.proofs.disk.file.FileDiskDisk.sync.Reads as sync
 use Rattle.tape_stage.proofs.stage.Stage.create.Reads as create
 use Rattle.tape_stage.proofs.stage.Stage.open_disk.Reads as open_disk
 use Rattle.tape_stage.proofs.stage.Stage.save.Reads as save
@@ -62,4 +63,13 @@ sync_failure_forgotten : (F : _) (L : _) (r : _) (dr : _) (w : _) (dw : _) (k : 
     → s.0.now.lost ≡ false → ⊥
 sync_failure_forgotten F L r dr w dw k dk o dp κs a s l is =
     let e : false ≡ true = sym is ∙ l.lost in
+    absurd (cc)
+
+-- lost_disk_synced: behind a sync that failed the file is not asked, and all is said to be kept
+lost_disk_synced : (F : _) (L : _) (r : _) (dr : _) (w : _) (dw : _) (k : _) (dk : _)
+    (o : _) (dp : _) (κs : _) (a : _) (s : _)
+    → sync.Learnt-named F L r dr w dw k dk o dp κs a (Ok tt) s
+    → a.0.now.lost ≡ true → ⊥
+lost_disk_synced F L r dr w dw k dk o dp κs a s l is =
+    let e : true ≡ false = sym is ∙ l.alive in
     absurd (cc)

@@ -1,6 +1,6 @@
 //! A disk over a file.
-ghost use Rattle.std.specs.Prelude.{◌≡◌, ◌+◌, ◌≤◌, [], false, length, true, IfOk, IfSome, OnErr};
-ghost use Rattle.std.specs.Prelude.{OnOk};
+ghost use Rattle.std.specs.Prelude.{◌≡◌, ◌+◌, ◌≤◌, [], false, length, max, true, IfOk, IfSome};
+ghost use Rattle.std.specs.Prelude.{Ok, OnErr, OnOk};
 ghost use Rattle.tape_core.specs.Weight.{Rose};
 
 use crate::disk::read_ahead::ReadAhead;
@@ -40,7 +40,12 @@ pub type HeldFile<F> = ReadAhead<WriteBehind<FileDisk<F>>>;
 /// `Device`, where the file does not tell its length; it is dropped.
 pub fn held_file<F: Read + Write + Seek + OpenFile + Drop>(
     file: F,
-) -> Result<HeldFile<F>, DiskFault> {
+) -> Result<HeldFile<F>, DiskFault>
+    ensures long { IfSome (F.stream_position file) (λ _. IfSome (F.stream_bytes file)
+        (λ bytes. IfOk result (λ held. held.disk.disk.len ≡ length bytes))) }
+    ensures alive { IfOk result (λ held. held.disk.disk.lost ≡ false) }
+    ensures held { IfOk result (λ held. held.disk.bytes.items ≡ []) }
+{
     Ok(ReadAhead::new(WriteBehind::new(FileDisk::new(file)?)))
 }
 
@@ -54,6 +59,8 @@ impl<F: Seek + Drop> FileDisk<F> {
     pub fn new(file: F) -> Result<FileDisk<F>, DiskFault>
         ensures long { IfSome (F.stream_position file) (λ _. IfSome (F.stream_bytes file)
             (λ bytes. IfOk result (λ disk. disk.len ≡ length bytes))) }
+        ensures alive { IfOk result (λ disk. disk.lost ≡ false) }
+        ensures calm { IfOk result (λ disk. disk.failed ≡ 0) }
     {
         let mut file = file;
         match file.seek(SeekFrom::End(0)) {
@@ -80,6 +87,7 @@ impl<F> FileDisk<F> {
     fn fail(&mut self) -> DiskFault
         ensures same_length { self.new.len ≡ self.old.len }
         ensures counted { Rose self.old.failed self.new.failed }
+        ensures lost { self.new.lost ≡ self.old.lost }
     {
         self.failed = self.failed.saturating_add(1);
         DiskFault::Device
@@ -93,6 +101,7 @@ impl<F: Read + Write + Seek + OpenFile> FileDisk<F> {
         ensures same_length { self.new.len ≡ self.old.len }
         ensures same_count { self.new.failed ≡ self.old.failed }
         ensures alive { OnOk result (self.old.lost ≡ false) }
+        ensures lost { self.new.lost ≡ self.old.lost }
     {
         if self.lost {
             return Err(DiskFault::Device);
@@ -105,6 +114,7 @@ impl<F: Read + Write + Seek + OpenFile> FileDisk<F> {
         ensures same_length { self.new.len ≡ self.old.len }
         ensures same_count { self.new.failed ≡ self.old.failed }
         ensures alive { OnOk result (self.old.lost ≡ false) }
+        ensures lost { self.new.lost ≡ self.old.lost }
     {
         if self.lost {
             return Err(DiskFault::Device);
@@ -117,6 +127,7 @@ impl<F: Read + Write + Seek + OpenFile> FileDisk<F> {
         ensures same_length { self.new.len ≡ self.old.len }
         ensures same_count { self.new.failed ≡ self.old.failed }
         ensures alive { OnOk result (self.old.lost ≡ false) }
+        ensures lost { self.new.lost ≡ self.old.lost }
     {
         if self.lost {
             return Err(DiskFault::Device);
@@ -133,6 +144,7 @@ impl<F: Read + Write + Seek + OpenFile> FileDisk<F> {
         ensures same_count { self.new.failed ≡ self.old.failed }
         ensures alive { OnOk result (self.old.lost ≡ false) }
         ensures lost { OnErr result (self.new.lost ≡ true) }
+        ensures kept { OnOk result (self.new.lost ≡ false) }
     {
         if self.lost {
             return Err(DiskFault::Device);
@@ -168,18 +180,35 @@ impl<F: Read + Write + Seek + OpenFile> Disk for FileDisk<F> {
 
     ghost only_now = { λ _ _ honest _. absurd honest };
 
-    fn len(&mut self) -> Result<u64, DiskFault> {
+    fn len(&mut self) -> Result<u64, DiskFault>
+        ensures value { result ≡ Ok self.old.len }
+        ensures same { self.new ≡ self.old }
+    {
         Ok(self.len)
     }
 
-    fn read(&mut self, place: u64, buf: &mut [u8]) -> Result<(), DiskFault> {
+    fn read(&mut self, place: u64, buf: &mut [u8]) -> Result<(), DiskFault>
+        ensures same_length { self.new.len ≡ self.old.len }
+        ensures cause { OnErr result (Rose self.old.failed self.new.failed) }
+        ensures calm { OnOk result (self.new.failed ≡ self.old.failed) }
+        ensures alive { OnOk result (self.old.lost ≡ false) }
+        ensures lost { self.new.lost ≡ self.old.lost }
+    {
         match self.look(place, buf) {
             Ok(()) => Ok(()),
             Err(_) => Err(self.fail()),
         }
     }
 
-    fn write_at(&mut self, place: u64, bytes: &[u8]) -> Result<(), DiskFault> {
+    fn write_at(&mut self, place: u64, bytes: &[u8]) -> Result<(), DiskFault>
+        ensures long { OnOk result
+            (self.new.len ≡ max self.old.len (place + length bytes.now)) }
+        ensures same_length { OnErr result (self.new.len ≡ self.old.len) }
+        ensures cause { OnErr result (Rose self.old.failed self.new.failed) }
+        ensures calm { OnOk result (self.new.failed ≡ self.old.failed) }
+        ensures alive { OnOk result (self.old.lost ≡ false) }
+        ensures lost { self.new.lost ≡ self.old.lost }
+    {
         let Some(end) = place.checked_add(bytes.len() as u64) else {
             return Err(self.fail());
         };
@@ -192,7 +221,14 @@ impl<F: Read + Write + Seek + OpenFile> Disk for FileDisk<F> {
         }
     }
 
-    fn cut(&mut self, len: u64) -> Result<(), DiskFault> {
+    fn cut(&mut self, len: u64) -> Result<(), DiskFault>
+        ensures short { OnOk result (self.new.len ≡ len) }
+        ensures same_length { OnErr result (self.new.len ≡ self.old.len) }
+        ensures cause { OnErr result (Rose self.old.failed self.new.failed) }
+        ensures calm { OnOk result (self.new.failed ≡ self.old.failed) }
+        ensures alive { OnOk result (self.old.lost ≡ false) }
+        ensures lost { self.new.lost ≡ self.old.lost }
+    {
         match self.cut_file(len) {
             Ok(()) => {
                 self.len = len;
@@ -203,7 +239,14 @@ impl<F: Read + Write + Seek + OpenFile> Disk for FileDisk<F> {
     }
 
     // The length and the bytes: both belong to what a crash leaves.
-    fn sync(&mut self) -> Result<(), DiskFault> {
+    fn sync(&mut self) -> Result<(), DiskFault>
+        ensures same_length { self.new.len ≡ self.old.len }
+        ensures cause { OnErr result (Rose self.old.failed self.new.failed) }
+        ensures calm { OnOk result (self.new.failed ≡ self.old.failed) }
+        ensures alive { OnOk result (self.old.lost ≡ false) }
+        ensures lost { OnErr result (self.new.lost ≡ true) }
+        ensures kept { OnOk result (self.new.lost ≡ false) }
+    {
         match self.sync_file() {
             Ok(()) => Ok(()),
             Err(_) => Err(self.fail()),

@@ -45,6 +45,8 @@ impl MemoryDisk {
     pub fn stop_after(&mut self, count: u64)
         ensures left { self.new.left ≡ Some count }
         ensures bytes { memory_bytes self.new ≡ memory_bytes self.old }
+        ensures content { self.new.content ≡ self.old.content }
+        ensures calm { self.new.failed ≡ self.old.failed }
     {
         self.left = Some(count);
     }

@@ -1,6 +1,6 @@
 //! A stage that is opened for reading alone, its frames whole or not.
 ghost use Rattle.std.specs.Prelude.{◌≡◌, ◌≤◌, ◌+◌, ◌-◌, ℕ, List, IfOk, IfErr, IsErrOf, OnOk};
-ghost use Rattle.std.specs.Prelude.{IfSome};
+ghost use Rattle.std.specs.Prelude.{IfSome, Err};
 ghost use Rattle.tape_blocks.specs.Block.{Portion};
 ghost use Rattle.tape_core.specs.Crash.{lost};
 ghost use Rattle.tape_core.specs.Weight.{Rose};
@@ -131,7 +131,14 @@ impl<D: Disk> PartSink for Salvage<D> {
         Err(self.refuse())
     }
 
-    fn keep(&mut self, _point: &Checkpoint) -> Result<(), SinkFault> {
+    // A keep changes nothing that is held: of an Ok the trait alone would say nothing here.
+    fn keep(&mut self, _point: &Checkpoint) -> Result<(), SinkFault>
+        ensures refused { result ≡ Err SinkFault.Failed }
+        ensures same { (parts : List Portion) → HoldsRest self.old parts
+            → HoldsRest self.new parts }
+        ensures same_weight { self.new.weight ≡ self.old.weight }
+        ensures cause { Rose self.old.refused self.new.refused }
+    {
         Err(self.refuse())
     }
 
