@@ -1,7 +1,7 @@
 -- The parts of a block, as they are put one after another.
 use Rattle.std.proofs.Common.{◌≡◌, ℕ, zero, suc, ◌<◌, ◌≤◌, Bool, List, [], ◌∷◌, ◌++◌, length, map}
-use Rattle.std.proofs.Common.{take, drop, refl, sym, ap, ◌∙◌, arith, append_assoc, length-append}
-use Rattle.std.proofs.lemmas.List.{map-append}
+use Rattle.std.proofs.Common.{◌+◌, take, drop, refl, sym, ap, subst, ◌∙◌, arith, append_assoc}
+use Rattle.std.proofs.Common.{append-nil, length-append}
 use Rattle.tape_blocks.specs.declared.part.Part.{Part}
 use Rattle.tape_blocks.specs.Block.{Portion}
 use Rattle.tape_blocks.specs.Spans.{leaves}
@@ -11,18 +11,9 @@ use Rattle.tape_blocks.specs.declared.parts.Parts.{Parts}
 use Rattle.tape_blocks.specs.PartsLeft.{parts_left}
 use Rattle.tape_blocks.proofs.YieldLaws.{yielded_parts}
 use Rattle.tape_blocks.specs.Judged.{begun_behind}
-
--- where a part stands, so many are before it
-pub number_of : (ps ys rest : List Portion) (p : Portion) → ps ≡ ys ++ p ∷ rest
-    → length ys < length ps
-number_of ps ys rest p e = omega (arith, ap length e, length-append ys (p ∷ rest))
-
-pub front_is : (ps ys rest : List Portion) → ps ≡ ys ++ rest → take (length ys) ps ≡ ys
-front_is ps ys rest e = ap (take (length ys)) e ∙ go ys rest
-  where
-    go : (ys rest : List Portion) → take (length ys) (ys ++ rest) ≡ ys
-    go [] rest = refl
-    go (y ∷ ys) rest = ap (λ (l : List Portion). y ∷ l) (go ys rest)
+use Rattle.tape_core.specs.Crash.{AddsNothing, Crashes}
+use Rattle.tape_core.proofs.Crashes.{only_same}
+use Rattle.tape_run.proofs.Crashes.{adds_then}
 
 -- ---- parts from a number on
 
@@ -38,36 +29,86 @@ drop_push zero ys p h = refl
 drop_push (suc n) [] p h = absurd (omega (arith, h))
 drop_push (suc n) (y ∷ ys) p h = drop_push n ys p (omega (arith, h))
 
-pub count_views : (xs : List Part) → length (map view xs) ≡ length xs
-count_views [] = refl
-count_views (x ∷ xs) = omega (arith, count_views xs)
-
--- a part before the first changes nothing
-pub passed_by : (first : ℕ) (xs : List Part) (x : Part) → length xs < first
-    → drop first (map view (xs ++ x ∷ [])) ≡ drop first (map view xs)
-passed_by first xs x h =
-    let n = count_views xs in
-    let m = count_views (xs ++ x ∷ []) in
-    drop_all first (map view (xs ++ x ∷ [])) (omega (arith, m, length-append xs (x ∷ []), h))
-    ∙ sym (drop_all first (map view xs) (omega (arith, n, h)))
-
--- one more part
-pub put_next : (first : ℕ) (xs : List Part) (x : Part) → first ≤ length xs
-    → drop first (map view (xs ++ x ∷ [])) ≡ drop first (map view xs) ++ view x ∷ []
-put_next first xs x h =
-    ap (drop first) (map-append view xs (x ∷ []))
-    ∙ drop_push first (map view xs) (view x) (omega (arith, h, count_views xs))
-
-pub begun_push : (begun : Bool) (ys : List Portion) (p : Portion)
+begun_push : (begun : Bool) (ys : List Portion) (p : Portion)
     → begun_behind begun (ys ++ p ∷ []) ≡ leaves p.span
 begun_push begun [] p = refl
 begun_push begun (y ∷ ys) p = begun_push (leaves y.span) ys p
 
--- what was put, with one more
-pub held_next : (held ys zs : List Portion) (p : Portion) → zs ≡ ys ++ p ∷ []
-    → (held ++ ys) ++ p ∷ [] ≡ held ++ zs
-held_next held ys zs p e = append_assoc held ys (p ∷ [])
-    ∙ ap (λ (l : List Portion). held ++ l) (sym e)
+-- Of the parts that came of a block those from the first on were put.
+pub record PutSoFar {S : Type 0} (holds : S → List Portion → Type 0) (refusals : S → ℕ)
+    (crashes : S → Crashes) (old new : S) (first seen : ℕ) (begun going : Bool)
+    (came : List Portion) : Type 0 where
+  pub count : seen ≡ length came
+  pub behind : going ≡ begun_behind begun (drop first came)
+  pub calm : refusals new ≡ refusals old
+  pub held_now : (held : List Portion) → holds old held → holds new (held ++ drop first came)
+  pub crash : (held : List Portion) → holds old held → AddsNothing (crashes old) (crashes new)
+
+module _ {S : Type 0} (holds : S → List Portion → Type 0) (refusals : S → ℕ)
+    (crashes : S → Crashes) (old : S) (first : ℕ) (begun : Bool) where
+  abbrev Puts : S → ℕ → Bool → List Portion → Type 0
+  Puts new seen going came = PutSoFar holds refusals crashes old new first seen begun going came
+
+  -- before the first part came
+  pub none_put : Puts old 0 begun []
+  none_put =
+      let none = drop_all first [] (omega arith) in
+      record {
+        count = refl;
+        behind = sym (ap (begun_behind begun) none);
+        calm = refl;
+        held_now = λ held was. subst (holds old)
+            (sym (ap (λ l. held ++ l) none ∙ append-nil held)) was;
+        crash = λ held was. only_same _ _;
+      }
+
+  -- a part before the first changes nothing
+  pub one_passed : (new : S) (seen : ℕ) (going : Bool) (came : List Portion) (p : Portion)
+      → seen < first → Puts new seen going came → Puts new (seen + 1) going (came ++ p ∷ [])
+  one_passed new seen going came p lt s =
+      let all = length-append came (p ∷ []) in
+      let same : drop first (came ++ p ∷ []) ≡ drop first came =
+      drop_all first (came ++ p ∷ []) (omega (arith, all, s.count, lt))
+      ∙ sym (drop_all first came (omega (arith, s.count, lt))) in
+      record {
+        count = omega (arith, s.count, all);
+        behind = s.behind ∙ ap (begun_behind begun) (sym same);
+        calm = s.calm;
+        held_now = λ held was. subst (λ l. holds new (held ++ l)) (sym same) (s.held_now held was);
+        crash = s.crash;
+      }
+
+  -- one more part was put
+  pub one_put : (mid new : S) (seen : ℕ) (going : Bool) (came : List Portion) (p : Portion)
+      → first ≤ seen → ((parts : List Portion) → holds mid parts → holds new (parts ++ p ∷ []))
+      → refusals new ≡ refusals mid
+      → ((parts : List Portion) → holds mid parts → AddsNothing (crashes mid) (crashes new))
+      → Puts mid seen going came → Puts new (seen + 1) (leaves p.span) (came ++ p ∷ [])
+  one_put mid new seen going came p le put calm crash s =
+      let next = drop_push first came p (omega (arith, le, s.count)) in
+      record {
+        count = omega (arith, s.count, length-append came (p ∷ []));
+        behind = sym (ap (begun_behind begun) next ∙ begun_push begun (drop first came) p);
+        calm = calm ∙ s.calm;
+        held_now = λ held was. subst (holds new)
+            (append_assoc held (drop first came) (p ∷ []) ∙ ap (λ l. held ++ l) (sym next))
+            (put _ (s.held_now held was));
+        crash = λ held was. adds_then _ _ _ (s.crash held was) (crash _ (s.held_now held was));
+      }
+
+-- ---- where a part stands
+
+-- where a part stands, so many are before it
+pub number_of : (ps ys rest : List Portion) (p : Portion) → ps ≡ ys ++ p ∷ rest
+    → length ys < length ps
+number_of ps ys rest p e = omega (arith, ap length e, length-append ys (p ∷ rest))
+
+pub front_is : (ps ys rest : List Portion) → ps ≡ ys ++ rest → take (length ys) ps ≡ ys
+front_is ps ys rest e = ap (take (length ys)) e ∙ go ys rest
+  where
+    go : (ys rest : List Portion) → take (length ys) (ys ++ rest) ≡ ys
+    go [] rest = refl
+    go (y ∷ ys) rest = ap (λ (l : List Portion). y ∷ l) (go ys rest)
 
 -- what an iterator over a block's parts has yielded stands before what it has left
 pub stands_here : (s t u : Parts) (xs : List Part) (parts left : List Portion)

@@ -21,7 +21,7 @@ use Rattle.tape_run.specs.Reels.{behind_items}
 use Rattle.tape_run.specs.ByTable.{parts_by, parts_at, parts_of_arrival}
 use Rattle.tape_run.specs.ByTable.{delivered_parts}
 use Rattle.tape_run.specs.ByTable.{IsLed, StopsInside}
-use Rattle.tape_run.proofs.FinalAnswers.{IsIdle, behind_final, idle_items}
+use Rattle.tape_run.proofs.Finals.{IsIdle, behind_final, idle_items}
 use Rattle.tape_core.specs.declared.phase.Phase.{Phase}
 use Rattle.tape_core.specs.declared.phase.Phase.TheVariants.{Broken}
 use Rattle.tape_set.specs.declared.position.Position.TheVariants.{Awaits, Finished}

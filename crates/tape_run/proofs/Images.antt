@@ -1,7 +1,8 @@
 -- The items of an image, taken one after another.
-use Rattle.std.proofs.Common.{◌≡◌, ◌≢◌, ◌⊎◌, ℕ, zero, suc, ◌<◌, ◌≤◌, Bool, false, List, [], ◌∷◌}
-use Rattle.std.proofs.Common.{◌++◌, length, take, Option, Some, None, IfSome, refl, sym, ap, subst}
-use Rattle.std.proofs.Common.{◌∙◌, inl, inr, arith, append_assoc, append-nil, length-append}
+use Rattle.std.proofs.Common.{◌≡◌, ◌≢◌, ◌⊎◌, ℕ, ◌<◌, ◌≤◌, false, List, [], ◌∷◌}
+use Rattle.std.proofs.Common.{◌++◌, length, Option, Some, None, IfSome, Result, Ok, Err, refl}
+use Rattle.std.proofs.Common.{sym, ap, subst, ◌∙◌, inl, inr, arith, append_assoc, append-nil}
+use Rattle.std.proofs.Common.{length-append}
 use Rattle.std.specs.List.{slice_get}
 use Rattle.tape_blocks.specs.Block.{Portion}
 use Rattle.tape_image.specs.declared.item.Ending.{Ending}
@@ -10,161 +11,107 @@ use Rattle.tape_image.specs.declared.fault.ImageCause.{ImageCause}
 use Rattle.tape_image.specs.declared.fault.ImageCause.TheVariants.{Truncated, LengthsDiffer}
 use Rattle.tape_image.specs.declared.fault.ImageCause.TheVariants.{Reserved, TooLong, Device}
 use Rattle.tape_image.specs.declared.fault.ImageCause.TheVariants.{OutOfMemory}
-use Rattle.tape_image.specs.Tape.{TapeItem, block, bad, mark}
-use Rattle.tape_image.specs.Begins.{image_limit, Stop, ends, faults, Begins, Walks}
-use Rattle.tape_image.specs.Reader.{IfKnown}
+use Rattle.tape_image.specs.Tape.{TapeItem}
+use Rattle.tape_image.specs.Begins.{image_limit, Stop, ends, faults, Begins}
+use Rattle.tape_image.specs.Reader.{Reader, IfKnown}
 use Rattle.tape_image.specs.Step as image
-use Rattle.tape_image.specs.Step.{TakesEnd, TakesFault}
-use Rattle.tape_image.proofs.Existence.{Begins-some}
+use Rattle.tape_image.specs.Step.{TakesEnd, TakesFault, Meets, GivesItem}
+use Rattle.tape_image.proofs.Callers.{front_of_image}
 use Rattle.tape_image.proofs.Uniqueness.{Begins-one}
-use Rattle.tape_image.proofs.Walks.{Walks-nil, Walks-trans, Walks-item, Walks-begins}
-use Rattle.tape_image.proofs.Walks.{TakesEnd-behind, TakesFault-behind, TakesFault-begins}
-use Rattle.tape_image.proofs.Walks.{TakesFault-device}
+use Rattle.tape_image.proofs.Walks.{Walks-nil, TakesEnd-behind, TakesFault-behind}
+use Rattle.tape_image.proofs.Walks.{TakesFault-begins, TakesFault-device, known_then, known_all}
+use Rattle.tape_image.proofs.Walks.{known_same}
 use Rattle.tape_set.specs.Layout.{FileSet, items}
 use Rattle.tape_set.specs.Lawful.{IsLawful}
-use Rattle.tape_set.specs.Reading.{as_read}
 use Rattle.tape_set.specs.declared.position.Position.{Position}
 use Rattle.tape_core.specs.declared.answer.Answer.{Answer}
 use Rattle.tape_core.specs.State.{State}
 use Rattle.tape_core.specs.Place.{IsPlaced}
-use Rattle.tape_run.specs.Mount.{Happening, reads, foreign_reel, saves, restarts, IsMount, cut}
+use Rattle.tape_run.specs.Mount.{Happening, reads, IsMount, cut}
 use Rattle.tape_run.specs.Mount.{after_mount}
 use Rattle.tape_core.specs.Follows.{IsFinal}
 use Rattle.tape_run.specs.Under.{is_under}
 use Rattle.tape_run.specs.Taking.{Taken, TakesItem, RefusesItem, ReadsItems, ReadsImage}
-use Rattle.tape_run.specs.Taking.{RefusesImage, SoFar, CutsTable}
+use Rattle.tape_run.specs.Taking.{RefusesImage, SoFar, CutsTable, came_of, fault_of}
 use Rattle.tape_core.specs.Table.{step_of}
 use Rattle.tape_core.specs.Place.{rest_of}
-use Rattle.tape_run.specs.ByTable.{parts_at, delivered_parts, StopsInside}
+use Rattle.tape_run.specs.ByTable.{parts_of_arrival, delivered_parts, StopsInside}
 use Rattle.tape_run.proofs.ByTable.{core_more, parts_more, led_by_final, led_to_end}
 use Rattle.tape_run.specs.Given.{is_device_cause, is_device}
-use Rattle.tape_run.proofs.Mounts.{reached}
-
--- ---- what is known of bytes
-
-pub known_then : (all left next : Option (List ℕ)) (P Q R : List ℕ → List ℕ → Type 0)
-    → ((xs ys zs : List ℕ) → P xs ys → Q ys zs → R xs zs) → IfKnown all left P → IfKnown left next Q
-    → IfKnown all next R
-known_then None left next P Q R f a b = tt
-known_then (Some xs) None next P Q R f a b = absurd a
-known_then (Some xs) (Some ys) None P Q R f a b = absurd b
-known_then (Some xs) (Some ys) (Some zs) P Q R f a b = f xs ys zs a b
-
-pub known_all : (all next : Option (List ℕ)) (R : List ℕ → List ℕ → Type 0) (P : List ℕ → Type 0)
-    → ((xs ys : List ℕ) → R xs ys → P xs) → IfKnown all next R → IfSome all P
-known_all None next R P f h = tt
-known_all (Some xs) None R P f h = absurd h
-known_all (Some xs) (Some ys) R P f h = f xs ys h
-
-pub known_same : (all left : Option (List ℕ)) (R : List ℕ → List ℕ → Type 0) → left ≡ all
-    → ((xs : List ℕ) → R xs xs) → IfKnown all left R
-known_same None left R e f = tt
-known_same (Some xs) None R e f = absurd (cc)
-known_same (Some xs) (Some ys) R e f =
-    let same : ys ≡ xs = cc in
-    subst (λ (l : List ℕ). R xs l) (sym same) (f xs)
+use Rattle.tape_run.proofs.Mounts.{reached, cut_whole}
+use Rattle.tape_run.proofs.Reels.{walks_on}
 
 -- ---- what an image begins with
-
--- items that were walked over are the first that the bytes begin with
-pub front_of_image : (bytes ys : List ℕ) (taken xs : List TapeItem) (q end : ℕ) (stop : Stop)
-    → Walks 0 bytes taken q ys → q ≤ image_limit → Begins 0 bytes xs end stop
-    → (more : List TapeItem) × (xs ≡ taken ++ more)
-front_of_image bytes ys taken xs q end stop w le b =
-    let (more, far, other, rest) = Begins-some q ys le in (
-      more,
-      (Begins-one 0 bytes xs (taken ++ more) end far stop other b
-          (Walks-begins 0 q far bytes ys taken more other w rest)).0,
-    )
 
 whole_image : (bytes : List ℕ) (taken xs : List TapeItem) (end far : ℕ) (stop other : Stop)
     → Begins 0 bytes taken far other → Begins 0 bytes xs end stop → xs ≡ taken
 whole_image bytes taken xs end far stop other a b =
     (Begins-one 0 bytes xs taken end far stop other b a).0
 
-pub item_here : (taken rest : List TapeItem) (item : TapeItem)
-    → Some item ≡ slice_get (taken ++ item ∷ rest) (length taken)
-item_here [] rest item = refl
-item_here (x ∷ taken) rest item = item_here taken rest item
+item_here : (taken rest : List TapeItem) (item : TapeItem)
+    → (length taken < length (taken ++ item ∷ rest))
+    × (Some item ≡ slice_get (taken ++ item ∷ rest) (length taken))
+item_here [] rest item = (omega arith, refl)
+item_here (x ∷ taken) rest item =
+    let (lt, is) = item_here taken rest item in (omega (arith, lt), is)
 
-within : (taken rest : List TapeItem) (item : TapeItem)
-    → length taken < length (taken ++ item ∷ rest)
-within taken rest item = omega (arith, length-append taken (item ∷ rest))
-
--- ---- a mount read to its end
-
-as_read_length : (xs : List TapeItem) (good : List Bool) → length good ≤ length xs
-    → length (as_read xs good) ≡ length good
-as_read_length [] [] h = refl
-as_read_length [] (g ∷ gs) h = absurd (omega (arith, h))
-as_read_length (x ∷ xs) [] h = refl
-as_read_length (x ∷ xs) (g ∷ gs) h = omega (arith, as_read_length xs gs (omega (arith, h)))
-
-take_whole : (n : ℕ) (good : List Bool) → length good ≤ n → take n good ≡ good
-take_whole zero [] h = refl
-take_whole zero (g ∷ gs) h = absurd (omega (arith, h))
-take_whole (suc n) [] h = refl
-take_whole (suc n) (g ∷ gs) h = ap (λ (l : List Bool). g ∷ l) (take_whole n gs (omega (arith, h)))
-
-pub cut_whole : (set : FileSet) (xs : List TapeItem) (h : Happening) → IsMount set xs h
-    → cut (length xs) h ≡ h
-cut_whole set xs (reads r) m =
-    let n = as_read_length (items set r.volume) r.good m.is_reading.within in
-    let le : length r.good ≤ length xs = omega (
-      arith,
-      n,
-      ap length m.whole,
-      length-append (as_read (items set r.volume) r.good) m.more,
-    ) in
-    rw (take_whole (length xs) r.good le) refl
-cut_whole set xs foreign_reel m = refl
-cut_whole set xs saves m = absurd m
-cut_whole set xs (restarts n) m = absurd m
+-- where the item stands behind those taken
+item_at : (xs taken rest : List TapeItem) (item : TapeItem) → xs ≡ taken ++ item ∷ rest
+    → (length taken < length xs) × (Some item ≡ slice_get xs (length taken))
+item_at xs taken rest item e =
+    subst (λ (z : List TapeItem). (length taken < length z)
+    × (Some item ≡ slice_get z (length taken))) (sym e) (item_here taken rest item)
 
 -- ---- a core over the items so far
 
-pub nothing_yet : (core : State) (held : List Portion) (bytes : List ℕ)
-    → SoFar core core held held 0 bytes bytes
-nothing_yet core held bytes =
-    record {
+-- Of an image of which nothing was read.
+pub none_taken : (core : State) (held : List Portion) (left : Option (List ℕ)) (place : ℕ)
+    → place ≡ 0 → IfKnown left left (SoFar core core held held place)
+none_taken core held left place first =
+    known_same left left (SoFar core core held held place) refl (λ bytes. rw first (record {
       items = [];
       walks = Walks-nil 0 bytes;
       core = refl;
       parts = sym (append-nil held);
       so_far = λ set p xs rest h l m e at u. (at, u);
-    }
+    }))
+
+-- The core took what came, and the sink what that delivers.
+pub record IsTaken (came : Option TapeItem) (answer : Answer) (old new : State)
+    (held now : List Portion) : Type 0 where
+  pub step : (answer, new) ≡ step_of old came
+  pub left : came ≡ None → (rest_of new ≡ rest_of old) × IsFinal answer
+  pub puts : now ≡ held ++ parts_of_arrival old came
+  pub takes : TakesItem came answer old new held now
 
 one_taken : (old mid new : State) (held now then : List Portion) (p : ℕ) (bytes ys : List ℕ)
     (s : SoFar old mid held now p bytes ys) (item : TapeItem) (answer : Answer)
-    → TakesItem (Some item) answer mid new now then
+    → IsTaken (Some item) answer mid new now then
     → (set : FileSet) (q : Position) (xs rest : List TapeItem) (h : Happening) → IsLawful set
     → IsMount set xs h → xs ≡ s.items ++ item ∷ rest → IsPlaced set (rest_of old) held
     → is_under old set q xs 0 h
     → Taken set q xs (length s.items) h answer new then
 one_taken old mid new held now then p bytes ys s item answer t set q xs rest h
     l m e at u =
-    let was = s.so_far set q xs (item ∷ rest) h l m e at u in
-    t set q xs (length s.items) h l m was.0 was.1
-    (subst (λ (z : List TapeItem). length s.items < length z) (sym e) (within s.items rest item))
-    (item_here s.items rest item ∙ ap (λ (z : List TapeItem). slice_get z (length s.items)) (sym e))
+    let (placed, under) = s.so_far set q xs (item ∷ rest) h l m e at u in
+    let (within, here) = item_at xs s.items rest item e in
+    t.takes set q xs (length s.items) h l m placed under within here
 
 again : (xs taken rest : List TapeItem) (item : TapeItem) → xs ≡ (taken ++ item ∷ []) ++ rest
     → xs ≡ taken ++ item ∷ rest
 again xs taken rest item e = e ∙ append_assoc taken (item ∷ []) rest
 
-pub one_more : (old mid new : State) (held now
-    then : List Portion) (p q : ℕ) (bytes ys zs : List ℕ) (item : TapeItem) (answer : Answer)
-    → TakesItem (Some item) answer mid new now then
-    → (answer, new) ≡ step_of mid (Some item) → then ≡ now ++ parts_at mid item
+one_more : (old mid new : State) (held now then : List Portion) (p q : ℕ)
+    (bytes ys zs : List ℕ) (item : TapeItem) (answer : Answer)
+    → IsTaken (Some item) answer mid new now then
     → SoFar old mid held now p bytes ys → image.TakesItem p item q ys zs
     → SoFar old new held then q bytes zs
-one_more old mid new held now then p q bytes ys zs item answer t step puts s k =
+one_more old mid new held now then p q bytes ys zs item answer t s k =
     record {
       items = s.items ++ item ∷ [];
-      walks = Walks-trans 0 p q bytes ys zs s.items (item ∷ []) s.walks
-          (Walks-item p q ys zs item k);
-      core = core_more old mid new answer s.items item step s.core;
-      parts = parts_more old mid held now then s.items item puts s.core s.parts;
+      walks = walks_on p q bytes ys zs s.items item s.walks k;
+      core = core_more old mid new answer s.items item t.step s.core;
+      parts = parts_more old mid held now then s.items item t.puts s.core s.parts;
       so_far = λ set r xs rest h l m e at u.
           let there = one_taken old mid new held now then p bytes ys s item answer
           t set r xs rest h l m (again xs s.items rest item e) at u in (
@@ -174,55 +121,51 @@ one_more old mid new held now then p q bytes ys zs item answer t step puts s k =
           );
     }
 
--- the image up to one more item
-walks_more : (p q : ℕ) (bytes ys zs : List ℕ) (taken : List TapeItem) (item : TapeItem)
-    → Walks 0 bytes taken p ys → image.TakesItem p item q ys zs
-    → Walks 0 bytes (taken ++ item ∷ []) q zs
-walks_more p q bytes ys zs taken item w k =
-    Walks-trans 0 p q bytes ys zs taken (item ∷ []) w (Walks-item p q ys zs item k)
+-- An item was taken.
+pub taken_on : (core : State) (held : List Portion) (all : Option (List ℕ)) {mid new : State}
+    {now then : List Portion} {old next : Reader} {came : Option TapeItem} {item : TapeItem}
+    {answer : Answer}
+    → IfKnown all old.left (SoFar core mid held now old.place) → GivesItem old item next
+    → came ≡ Some item → IsTaken came answer mid new now then
+    → IfKnown all next.left (SoFar core new held then next.place)
+taken_on core held all {mid} {new} {now} {then} {old} {next} {came} {item} {answer} known gives
+    is t =
+    known_then all old.left next.left _ _ (SoFar core new held then next.place)
+    (λ xs ys zs s k. one_more core mid new held now then old.place next.place xs ys zs item answer
+    (subst (λ z. IsTaken z answer mid new now then) is t) s k) known gives.takes
 
-pub ends_early : (old mid new : State) (held now
-    then : List Portion) (p q : ℕ) (bytes ys zs : List ℕ) (item : TapeItem) (answer : Answer)
-    → IsFinal answer → q ≤ image_limit
-    → TakesItem (Some item) answer mid new now then
-    → (answer, new) ≡ step_of mid (Some item) → then ≡ now ++ parts_at mid item
+-- the end of medium, or a fault, delivers nothing
+nothing_more : (old mid new : State) (held now then : List Portion) (p : ℕ) (bytes ys : List ℕ)
+    (answer : Answer) → IsTaken None answer mid new now then
+    → SoFar old mid held now p bytes ys → SoFar old mid held then p bytes ys
+nothing_more old mid new held now then p bytes ys answer t s =
+    subst (λ (l : List Portion). SoFar old mid held l p bytes ys)
+    (sym (t.puts ∙ append-nil now)) s
+
+-- ---- what ended the reading
+
+ends_early : (old mid new : State) (held now then : List Portion) (p q : ℕ)
+    (bytes ys zs : List ℕ) (item : TapeItem) (answer : Answer)
+    → IsFinal answer → q ≤ image_limit → IsTaken (Some item) answer mid new now then
     → SoFar old mid held now p bytes ys → image.TakesItem p item q ys zs
     → ReadsImage false old new held then bytes
-ends_early old mid new held now then p q bytes ys zs item answer final le t step
-    puts s k =
+unfolding one_more
+ends_early old mid new held now then p q bytes ys zs item answer final le t s k =
+    let up = one_more old mid new held now then p q bytes ys zs item answer t s k in
     record {
       given = bytes;
       is_given = refl;
       reads = λ set r xs end stop h l b m at u.
-          let (more, e) = front_of_image bytes zs (s.items ++ item ∷ []) xs q end stop
-          (walks_more p q bytes ys zs s.items item s.walks k) le b in
+          let (more, e) = front_of_image bytes zs up.items xs q end stop up.walks le b in
           let there =
           one_taken old mid new held now then p bytes ys s item answer t set r
           xs more h l m (again xs s.items more item e) at u in
           record { at = there.at; position = there.done final };
       table = λ xs end stop b.
-          let (more, e) = front_of_image bytes zs (s.items ++ item ∷ []) xs q end stop
-          (walks_more p q bytes ys zs s.items item s.walks k) le b in
-          led_by_final old mid new answer held then s.items more xs item step
-          final (core_more old mid new answer s.items item step s.core)
-          (parts_more old mid held now then s.items item puts s.core s.parts) e;
+          let (more, e) = front_of_image bytes zs up.items xs q end stop up.walks le b in
+          led_by_final old mid new answer held then s.items more xs item t.step
+          final up.core up.parts e;
     }
-
-pub refused_early : (old mid new : State)
-    (held now then : List Portion) (p q : ℕ) (bytes ys zs : List ℕ) (item : TapeItem)
-    → q ≤ image_limit
-    → RefusesItem (Some item) mid new now then
-    → SoFar old mid held now p bytes ys → image.TakesItem p item q ys zs
-    → RefusesImage old new held then bytes
-refused_early old mid new held now then p q bytes ys zs item le t s k =
-    λ set r xs end stop h l b m at u.
-    let (more, e) = front_of_image bytes zs (s.items ++ item ∷ []) xs q end stop
-    (walks_more p q bytes ys zs s.items item s.walks k) le b in
-    let f = again xs s.items more item e in
-    let was = s.so_far set r xs (item ∷ more) h l m f at u in
-    t set r xs (length s.items) h l m was.0 was.1
-    (subst (λ (z : List TapeItem). length s.items < length z) (sym f) (within s.items more item))
-    (item_here s.items more item ∙ ap (λ (z : List TapeItem). slice_get z (length s.items)) (sym f))
 
 -- all items that the bytes given begin with were taken
 all_taken : (old mid new : State) (held now : List Portion) (p : ℕ) (bytes ys given : List ℕ)
@@ -242,7 +185,7 @@ all_taken old mid new held now p bytes ys given s far other all same =
           (there ∙ ap (after_mount set (rest_of mid).file r) whole);
     }
 
-pub ends_there : (old mid new : State) (held now : List Portion) (p q : ℕ) (bytes ys zs : List ℕ)
+ends_there : (old mid new : State) (held now : List Portion) (p q : ℕ) (bytes ys zs : List ℕ)
     (ending : Ending)
     → rest_of new ≡ rest_of mid
     → SoFar old mid held now p bytes ys → TakesEnd p [] ending q ys zs
@@ -267,7 +210,7 @@ device_or_not (Reserved w) = inr ((λ e. cc, refl))
 device_or_not TooLong = inr ((λ e. cc, refl))
 device_or_not OutOfMemory = inr ((λ e. cc, refl))
 
-pub faults_there : (old mid new : State) (held now : List Portion) (p : ℕ) (bytes ys zs : List ℕ)
+faults_there : (old mid new : State) (held now : List Portion) (p : ℕ) (bytes ys zs : List ℕ)
     (fault : ImageFault)
     → rest_of new ≡ rest_of mid
     → SoFar old mid held now p bytes ys → TakesFault p [] fault ys zs
@@ -303,28 +246,82 @@ faults_there old mid new held now p bytes ys zs fault same s t =
               (TakesFault-begins 0 s.items fault bytes zs all e) b);
         })
 
--- an item takes a word at least
-pub least_four : (item : TapeItem) → 4 ≤ image.least_extent item
-least_four (block bytes) = omega arith
-least_four bad = omega arith
-least_four mark = omega arith
+-- What is known of the bytes, with those that are left left out.
+known_so : (all left next : Option (List ℕ)) (P Q : List ℕ → List ℕ → Type 0)
+    (R : List ℕ → Type 0) → ((xs ys zs : List ℕ) → P xs ys → Q ys zs → R xs)
+    → IfKnown all left P → IfKnown left next Q → IfSome all R
+known_so all left next P Q R f a b =
+    known_all all next (λ xs zs. R xs) R (λ xs zs r. r)
+    (known_then all left next P Q (λ xs zs. R xs) f a b)
 
--- the table's word of a part that was refused
-pub refused_there : (old mid : State)
-    (held now then : List Portion) (p q : ℕ) (bytes ys zs : List ℕ) (item : TapeItem) (new : State)
-    → q ≤ image_limit → StopsInside mid new item now then
-    → SoFar old mid held now p bytes ys → image.TakesItem p item q ys zs
-    → CutsTable old new held then bytes
-refused_there old mid held now then p q bytes ys zs item new le t s k =
-    λ xs end stop b.
-    let (more, e) = front_of_image bytes zs (s.items ++ item ∷ []) xs q end stop
-    (walks_more p q bytes ys zs s.items item s.walks k) le b in
-    record {
-      before = s.items;
-      item = item;
-      behind = more;
-      all = again xs s.items more item e;
-      stops = subst (λ (c : State). StopsInside c new item
-          (held ++ delivered_parts old s.items) then) s.core
-          (subst (λ (l : List Portion). StopsInside mid new item l then) s.parts t);
-    }
+-- The reading ended behind what the reader told.
+pub reads_image : (core : State) (held : List Portion) (all : Option (List ℕ))
+    (old next : Reader) (told : Result (Option TapeItem) ImageFault) {mid new : State}
+    {now then : List Portion} {answer : Answer} {fault : Option ImageFault}
+    → IfKnown all old.left (SoFar core mid held now old.place) → Meets old told next
+    → IsTaken (came_of told) answer mid new now then → IsFinal answer → fault ≡ fault_of told
+    → IfSome all (ReadsImage (is_device fault) core new held then)
+reads_image core held all old next (Ok (Some item)) {mid} {new} {now} {then} {answer} {fault} known
+    m t final is =
+    known_so all old.left next.left _ _ (ReadsImage (is_device fault) core new held then)
+    (λ xs ys zs s k. rw is (ends_early core mid new held now then old.place next.place xs ys zs item
+    answer final m.within t s k)) known m.takes
+reads_image core held all old next (Ok None) {mid} {new} {now} {then} {answer} {fault} known m
+    t final is =
+    known_so all old.left next.left _ _ (ReadsImage (is_device fault) core new held then)
+    (λ xs ys zs s k. rw is (ends_there core mid new held then old.place next.place xs ys zs m.ending
+    (t.left refl).0 (nothing_more core mid new held now then old.place xs ys answer t s) k)) known
+    m.takes
+reads_image core held all old next (Err met) {mid} {new} {now} {then} {answer} {fault} known m
+    t final is =
+    known_so all old.left next.left _ _ (ReadsImage (is_device fault) core new held then)
+    (λ xs ys zs s k. rw is (faults_there core mid new held then old.place xs ys zs met
+    (t.left refl).0 (nothing_more core mid new held now then old.place xs ys answer t s) k)) known
+    m.takes
+
+-- Of what came a part was refused.
+pub record Refuses (came : Option TapeItem) (old new : State) (held now : List Portion)
+    : Type 0 where
+  pub stops : (item : TapeItem) → came ≡ Some item → StopsInside old (rest_of new) item held now
+  pub refuses : RefusesItem came old new held now
+
+-- A part of an item that came was refused: no mount was read to its end, and the table is cut.
+pub refuses_image : (core new : State) (held : List Portion) (all : Option (List ℕ))
+    {mid : State} {now then : List Portion} {old next : Reader} {came : Option TapeItem}
+    {item : TapeItem}
+    → IfKnown all old.left (SoFar core mid held now old.place) → GivesItem old item next
+    → came ≡ Some item → Refuses came mid new now then
+    → IfSome all (RefusesImage core new held then)
+    × IfSome all (CutsTable core (rest_of new) held then)
+refuses_image core new held all {mid} {now} {then} {old} {next} {came} {item} known gives
+    is r = (
+      known_so all old.left next.left _ _ (RefusesImage core new held then)
+          (λ bytes ys zs s k set p xs end stop h l b m at u.
+          let (more, e) = behind bytes ys zs s k xs end stop b in
+          let (placed, under) = s.so_far set p xs (item ∷ more) h l m e at u in
+          let (within, here) = item_at xs s.items more item e in
+          r.refuses set p xs (length s.items) h l m placed under within (is ∙ here))
+          known gives.takes,
+      known_so all old.left next.left _ _ (CutsTable core (rest_of new) held then)
+          (λ bytes ys zs s k xs end stop b.
+          let (more, e) = behind bytes ys zs s k xs end stop b in
+          record {
+            before = s.items;
+            item = item;
+            behind = more;
+            all = e;
+            stops = subst (λ (c : State). StopsInside c (rest_of new) item
+                (held ++ delivered_parts core s.items) then) s.core
+                (subst (λ (l : List Portion). StopsInside mid (rest_of new) item l then) s.parts
+                (r.stops item is));
+          }) known gives.takes,
+    )
+  where
+    behind : (bytes ys zs : List ℕ) (s : SoFar core mid held now old.place bytes ys)
+        → image.TakesItem old.place item next.place ys zs
+        → (xs : List TapeItem) (end : ℕ) (stop : Stop) → Begins 0 bytes xs end stop
+        → (more : List TapeItem) × (xs ≡ s.items ++ item ∷ more)
+    behind bytes ys zs s k xs end stop b =
+        let (more, e) = front_of_image bytes zs (s.items ++ item ∷ []) xs next.place end stop
+        (walks_on old.place next.place bytes ys zs s.items item s.walks k) gives.within b in
+        (more, again xs s.items more item e)

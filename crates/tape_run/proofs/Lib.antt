@@ -1,7 +1,7 @@
 pub mod Blocks
 pub mod Places
 pub mod Notes
-pub mod FinalAnswers
+pub mod Finals
 pub mod ByTable
 pub mod Images
 pub mod Mounts
@@ -15,6 +15,7 @@ pub mod Answered
 pub mod Begin
 pub mod Back
 pub mod Crashes
+pub mod Growing
 pub mod Made
 mod RunSoFar
 pub mod Lives

@@ -36,7 +36,7 @@ use Rattle.tape_run.specs.Seen.{Seen, seen, IsSession, KeepsNotes}
 use Rattle.tape_run.specs.Steps.{Reeled}
 use Rattle.tape_run.proofs.ByTable.{behind_app}
 use Rattle.tape_run.proofs.Completes.{step_tells}
-use Rattle.tape_run.proofs.FinalAnswers.{IsIdle, step_ends, idle_items}
+use Rattle.tape_run.proofs.Finals.{IsIdle, step_ends, idle_items}
 use Rattle.tape_run.proofs.Notes.{weight_more}
 use Rattle.tape_run.proofs.script.run.Reads as run
 use Rattle.tape_run.proofs.session.Session.note.Reads as note

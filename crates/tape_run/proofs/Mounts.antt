@@ -283,3 +283,27 @@ reached core set p xs i (reads r) l m u =
 reached core set p xs i foreign_reel l m u = u.0
 reached core set p xs i saves l m u = absurd m
 reached core set p xs i (restarts n) l m u = absurd m
+
+-- ---- a mount read to its end
+
+as_read_length : (xs : List TapeItem) (good : List Bool) → length good ≤ length xs
+    → length (as_read xs good) ≡ length good
+as_read_length [] [] h = refl
+as_read_length [] (g ∷ gs) h = absurd (omega (arith, h))
+as_read_length (x ∷ xs) [] h = refl
+as_read_length (x ∷ xs) (g ∷ gs) h = omega (arith, as_read_length xs gs (omega (arith, h)))
+
+pub cut_whole : (set : FileSet) (xs : List TapeItem) (h : Happening) → IsMount set xs h
+    → cut (length xs) h ≡ h
+cut_whole set xs (reads r) m =
+    let n = as_read_length (items set r.volume) r.good m.is_reading.within in
+    let le : length r.good ≤ length xs = omega (
+      arith,
+      n,
+      ap length m.whole,
+      length-append (as_read (items set r.volume) r.good) m.more,
+    ) in
+    rw (take_whole (length xs) r.good le) refl
+cut_whole set xs foreign_reel m = refl
+cut_whole set xs saves m = absurd m
+cut_whole set xs (restarts n) m = absurd m

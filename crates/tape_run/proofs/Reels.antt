@@ -1,24 +1,64 @@
--- A core's answers to the items of a reel.
+-- A core's answers to the items of a reel, and to what ends it.
 use Rattle.std.proofs.Common.{◌≡◌, ℕ, ◌+◌, List, [], ◌∷◌, ◌++◌, Option, Some, None, refl, sym, ap}
-use Rattle.std.proofs.Common.{subst, ◌∙◌, inl, inr, arith}
+use Rattle.std.proofs.Common.{Result, Ok, Err, subst, ◌∙◌, inl, inr, arith}
 use Rattle.std.specs.List.{AllByRecursion}
 use Rattle.tape_image.specs.declared.fault.ImageFault.{ImageFault}
 use Rattle.tape_image.specs.declared.item.Ending.{Ending}
 use Rattle.tape_image.specs.Tape.{TapeItem, block}
 use Rattle.tape_image.specs.Begins.{Walks}
 use Rattle.tape_image.specs.Step as image
-use Rattle.tape_image.specs.Step.{TakesEnd, TakesFault}
+use Rattle.tape_image.specs.Reader.{Reader, IfKnown}
+use Rattle.tape_image.specs.Step.{TakesEnd, TakesFault, Meets, GivesItem}
 use Rattle.tape_image.proofs.Walks.{Walks-nil, Walks-trans, Walks-item, TakesEnd-behind}
-use Rattle.tape_image.proofs.Walks.{TakesFault-behind}
+use Rattle.tape_image.proofs.Walks.{TakesFault-behind, known_then, known_same}
 use Rattle.tape_core.specs.declared.answer.Answer.{Answer}
 use Rattle.tape_core.specs.declared.answer.Answer.TheVariants.{Passed, Deliver, SectionDone}
 use Rattle.tape_core.specs.declared.answer.Answer.TheVariants.{Complete, Useless}
 use Rattle.tape_core.specs.State.{State}
+use Rattle.tape_core.specs.Place.{rest_of}
 use Rattle.tape_core.specs.Table.{step_of}
 use Rattle.tape_core.specs.Follows.{IsFinal}
 use Rattle.tape_run.specs.declared.answer.ReelAnswer.{ReelAnswer}
 use Rattle.tape_run.specs.Reels.{behind_items, answers_to, GoesOn, delivered_by, ReadsReel}
 use Rattle.tape_run.specs.Reels.{ReadsToBlock, ReadsSoFar, IsDelivery}
+use Rattle.tape_run.specs.Taking.{came_of, fault_of}
+use Rattle.tape_run.proofs.ByTable.{core_more}
+
+-- ---- what came
+
+final_ends : (answer : Answer) → GoesOn answer → IsFinal answer → ⊥
+final_ends answer (inl e) final = subst IsFinal e final
+final_ends answer (inr e) final = subst IsFinal e final
+
+-- What the reading goes on behind is an item.
+pub item_came : (old new : State) (came : Option TapeItem) (answer : Answer)
+    → (came ≡ None → (rest_of new ≡ rest_of old) × IsFinal answer) → GoesOn answer
+    → (item : TapeItem) × (came ≡ Some item)
+item_came old new None answer left on = absurd (final_ends answer on (left refl).1)
+item_came old new (Some item) answer left on = (item, refl)
+
+-- An item that came is the one that the reader gave.
+pub item_given : (told : Result (Option TapeItem) ImageFault) (old new : Reader) (item : TapeItem)
+    → came_of told ≡ Some item → Meets old told new → GivesItem old item new
+item_given (Ok (Some x)) old new item e m =
+    let same : x ≡ item = cc e in subst (λ y. GivesItem old y new) same m
+item_given (Ok None) old new item e m = absurd (cc e)
+item_given (Err fault) old new item e m = absurd (cc e)
+
+-- A block that was delivered is the one that the reader gave.
+pub block_given : (core : State) (came : Option TapeItem)
+    (told : Result (Option TapeItem) ImageFault) (old new : Reader)
+    → came ≡ came_of told → IsDelivery core came → Meets old told new
+    → (content : List ℕ) × (came ≡ Some (block content)) × GivesItem old (block content) new
+    × ((step_of core (Some (block content))).0 ≡ Deliver)
+block_given core came told old new same (content, is, delivers) m = (
+  content,
+  is,
+  item_given told old new (block content) (sym same ∙ is) m,
+  ap (λ (z : Option TapeItem). (step_of core z).0) (sym is) ∙ delivers,
+)
+
+-- ---- items one after another
 
 answers_more : (core : State) (xs : List TapeItem) (x : TapeItem)
     → answers_to core (xs ++ x ∷ []) ≡ answers_to core xs ++ (step_of (behind_items core xs)
@@ -26,11 +66,6 @@ answers_more : (core : State) (xs : List TapeItem) (x : TapeItem)
 answers_more core [] x = refl
 answers_more core (y ∷ xs) x = ap (λ (l : List Answer). (step_of core (Some y)).0 ∷ l)
     (answers_more (step_of core (Some y)).1 xs x)
-
-behind_more : (core : State) (xs : List TapeItem) (x : TapeItem)
-    → behind_items core (xs ++ x ∷ []) ≡ (step_of (behind_items core xs) (Some x)).1
-behind_more core [] x = refl
-behind_more core (y ∷ xs) x = behind_more (step_of core (Some y)).1 xs x
 
 all_more : (xs : List Answer) (x : Answer) → AllByRecursion GoesOn xs → GoesOn x
     → AllByRecursion GoesOn (xs ++ x ∷ [])
@@ -46,11 +81,19 @@ delivered_more (SectionDone ∷ xs) x = delivered_more xs x
 delivered_more (Complete ∷ xs) x = delivered_more xs x
 delivered_more (Useless why ∷ xs) x = delivered_more xs x
 
-pub nothing_read : (core : State) (bytes : List ℕ) → ReadsSoFar core core 0 0 bytes bytes
-nothing_read core bytes =
-    record { items = []; taken = Walks-nil 0 bytes; on = tt; counted = refl; core = refl }
+-- Of an image of which nothing was read.
+pub none_read : (core : State) (left : Option (List ℕ)) (place : ℕ) → place ≡ 0
+    → IfKnown left left (ReadsSoFar core core 0 place)
+none_read core left place first = known_same left left (ReadsSoFar core core 0 place) refl
+    (λ bytes. rw first (record {
+      items = [];
+      taken = Walks-nil 0 bytes;
+      on = tt;
+      counted = refl;
+      core = refl;
+    }))
 
-walks_on : (p q : ℕ) (bytes ys zs : List ℕ) (items : List TapeItem) (item : TapeItem)
+pub walks_on : (p q : ℕ) (bytes ys zs : List ℕ) (items : List TapeItem) (item : TapeItem)
     → Walks 0 bytes items p ys → image.TakesItem p item q ys zs
     → Walks 0 bytes (items ++ item ∷ []) q zs
 walks_on p q bytes ys zs items item w k =
@@ -63,7 +106,7 @@ answer_is : (core mid new : State) (items : List TapeItem) (item : Option TapeIt
 answer_is core mid new items item answer e f =
     ap (λ (z : Answer × State). z.0) f ∙ ap (λ (c : State). (step_of c item).0) e
 
-pub one_read : (old mid new : State) (blocks more p q : ℕ) (bytes ys zs : List ℕ)
+one_read : (old mid new : State) (blocks more p q : ℕ) (bytes ys zs : List ℕ)
     (item : TapeItem) (answer : Answer)
     → (answer, new) ≡ step_of mid (Some item) → GoesOn answer
     → more ≡ blocks + delivered_by (answer ∷ [])
@@ -80,12 +123,23 @@ one_read old mid new blocks more p q bytes ys zs item answer step on count s k =
           (all_more (answers_to old s.items) answer s.on on);
       counted = count ∙ (ap (λ (n : ℕ). n + delivered_by (answer ∷ [])) s.counted
           ∙ (sym (delivered_more (answers_to old s.items) answer) ∙ ap delivered_by (sym all)));
-      core = ap (λ (z : Answer × State). z.1) step
-          ∙ (ap (λ (c : State). (step_of c (Some item)).1) s.core
-          ∙ sym (behind_more old s.items item));
+      core = core_more old mid new answer s.items item step s.core;
     }
 
-pub by_item : (old mid new : State) (blocks p q : ℕ) (bytes ys zs : List ℕ)
+-- An item was taken behind which the reading goes on.
+pub read_on : (core mid : State) (blocks : ℕ) (all : Option (List ℕ)) {new : State} {more : ℕ}
+    {old next : Reader} {item : TapeItem} {answer : Answer}
+    → IfKnown all old.left (ReadsSoFar core mid blocks old.place) → GivesItem old item next
+    → (answer, new) ≡ step_of mid (Some item) → GoesOn answer
+    → more ≡ blocks + delivered_by (answer ∷ [])
+    → IfKnown all next.left (ReadsSoFar core new more next.place)
+read_on core mid blocks all {new} {more} {old} {next} {item} {answer} known gives step on
+    count =
+    known_then all old.left next.left _ _ (ReadsSoFar core new more next.place)
+    (λ xs ys zs s k. one_read core mid new blocks more old.place next.place xs ys zs item answer
+    step on count s k) known gives.takes
+
+by_item : (old mid new : State) (blocks p q : ℕ) (bytes ys zs : List ℕ)
     (item : TapeItem) (answer : Answer) (reel : ReelAnswer)
     → (answer, new) ≡ step_of mid (Some item) → IsFinal answer
     → reel.answer ≡ answer → reel.fault ≡ None → reel.blocks ≡ blocks
@@ -105,7 +159,7 @@ by_item old mid new blocks p q bytes ys zs item answer reel step final is none c
   });
 }
 
-pub by_medium : (old mid new : State) (blocks p q : ℕ) (bytes ys zs : List ℕ)
+by_medium : (old mid new : State) (blocks p q : ℕ) (bytes ys zs : List ℕ)
     (ending : Ending) (answer : Answer) (reel : ReelAnswer)
     → (answer, new) ≡ step_of mid None
     → reel.answer ≡ answer → reel.fault ≡ None → reel.blocks ≡ blocks
@@ -124,7 +178,7 @@ by_medium old mid new blocks p q bytes ys zs ending answer reel step is none cou
   }));
 }
 
-pub by_fault : (old mid new : State) (blocks p : ℕ) (bytes ys zs : List ℕ)
+by_fault : (old mid new : State) (blocks p : ℕ) (bytes ys zs : List ℕ)
     (fault : ImageFault) (answer : Answer) (reel : ReelAnswer)
     → (answer, new) ≡ step_of mid None
     → reel.answer ≡ answer → reel.fault ≡ Some fault → reel.blocks ≡ blocks
@@ -143,22 +197,41 @@ by_fault old mid new blocks p bytes ys zs fault answer reel step is told count s
       }));
 }
 
-same_block : (item : TapeItem) (content : List ℕ) → Some item ≡ Some (block content)
-    → item ≡ block content
-same_block item content e = cc
+-- The reading ended behind what the reader told.
+pub reads_reel : (core mid : State) (blocks : ℕ) (all : Option (List ℕ)) (old next : Reader)
+    (told : Result (Option TapeItem) ImageFault) {new : State} {answer : Answer} {reel : ReelAnswer}
+    → IfKnown all old.left (ReadsSoFar core mid blocks old.place) → Meets old told next
+    → (answer, new) ≡ step_of mid (came_of told) → IsFinal answer
+    → reel.answer ≡ answer → reel.fault ≡ fault_of told → reel.blocks ≡ blocks
+    → IfKnown all next.left (λ bytes left. ReadsReel core bytes left reel)
+reads_reel core mid blocks all old next (Ok (Some item)) {new} {answer} {reel} known m
+    step final is fault count =
+    known_then all old.left next.left _ _ (λ bytes left. ReadsReel core bytes left reel)
+    (λ xs ys zs s t. by_item core mid new blocks old.place next.place xs ys zs item answer reel step
+    final is fault count s t) known m.takes
+reads_reel core mid blocks all old next (Ok None) {new} {answer} {reel} known m
+    step final is fault count =
+    known_then all old.left next.left _ _ (λ bytes left. ReadsReel core bytes left reel)
+    (λ xs ys zs s t. by_medium core mid new blocks old.place next.place xs ys zs m.ending answer
+    reel step is fault count s t) known m.takes
+reads_reel core mid blocks all old next (Err met) {new} {answer} {reel} known m
+    step final is fault count =
+    known_then all old.left next.left _ _ (λ bytes left. ReadsReel core bytes left reel)
+    (λ xs ys zs s t. by_fault core mid new blocks old.place xs ys zs met answer reel step is fault
+    count s t) known m.takes
 
-pub up_to_block : (old mid : State) (blocks p q : ℕ) (bytes ys zs : List ℕ) (item : TapeItem)
-    → IsDelivery mid (Some item) → ReadsSoFar old mid blocks p bytes ys
-    → image.TakesItem p item q ys zs → ReadsToBlock old bytes zs
-up_to_block old mid blocks p q bytes ys zs item (content, is, delivers) s k =
-    let e = same_block item content is in
-    record {
+-- Of a block that was delivered a part was refused.
+pub reads_to_block : (core mid : State) (blocks : ℕ) (all : Option (List ℕ)) {old next : Reader}
+    {content : List ℕ}
+    → IfKnown all old.left (ReadsSoFar core mid blocks old.place)
+    → GivesItem old (block content) next → (step_of mid (Some (block content))).0 ≡ Deliver
+    → IfKnown all next.left (ReadsToBlock core)
+reads_to_block core mid blocks all {old} {next} {content} known gives delivers =
+    known_then all old.left next.left _ _ (ReadsToBlock core) (λ xs ys zs s k. record {
       items = s.items;
       on = s.on;
       content = content;
-      delivers = ap (λ (c : State). (step_of c (Some (block content))).0) (sym s.core)
-          ∙ (ap (λ (x : TapeItem). (step_of mid (Some x)).0) (sym e) ∙ delivers);
-      at = q;
-      taken = subst (λ (x : TapeItem). Walks 0 bytes (s.items ++ x ∷ []) q zs) e
-          (walks_on p q bytes ys zs s.items item s.taken k);
-    }
+      delivers = ap (λ (c : State). (step_of c (Some (block content))).0) (sym s.core) ∙ delivers;
+      at = next.place;
+      taken = walks_on old.place next.place xs ys zs s.items (block content) s.taken k;
+    }) known gives.takes

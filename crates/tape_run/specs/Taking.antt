@@ -1,6 +1,8 @@
 -- What an intake did with one item, and with the items of a reel.
 use Rattle.std.specs.Prelude.{◌≡◌, ℕ, ◌+◌, ◌<◌, Bool, List, ◌++◌, length, Option, slice_get}
+use Rattle.std.specs.Prelude.{Some, None, Result, Ok, Err}
 use Rattle.tape_blocks.specs.Block.{Portion}
+use Rattle.tape_image.specs.declared.fault.ImageFault.{ImageFault}
 use Rattle.tape_image.specs.Tape.{TapeItem}
 use Rattle.tape_image.specs.Begins.{Stop, Begins, Walks}
 use Rattle.tape_set.specs.Layout.{FileSet}
@@ -16,6 +18,16 @@ use Rattle.tape_run.specs.Reels.{behind_items}
 use Rattle.tape_run.specs.ByTable.{IsLed, IsCutAt, delivered_parts}
 use Rattle.tape_run.specs.Steps.{ReadBy, StoppedBy}
 use Rattle.tape_run.specs.Under.{is_under}
+
+-- what came of an image by what its reader told: an item, or none at the end of medium or a fault
+abbrev pub came_of : Result (Option TapeItem) ImageFault → Option TapeItem
+came_of (Ok came) = came
+came_of (Err fault) = None
+
+-- the fault that was told
+abbrev pub fault_of : Result (Option TapeItem) ImageFault → Option ImageFault
+fault_of (Ok came) = None
+fault_of (Err fault) = Some fault
 
 -- The item was taken: with the parts that the sink holds now the core is right again, and the mount
 -- under way is one item further; with a final answer no item of the mount behind it moves the

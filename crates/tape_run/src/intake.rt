@@ -3,7 +3,7 @@
 ghost use Rattle.std.specs.Prelude.{◌≡◌, is_some, true, false, ◌+◌, ◌++◌, ◌<◌, ◌≤◌, List, Some};
 ghost use Rattle.std.specs.Prelude.{None, OnOk, OnErr, IfOk, IfSome, IfNone, length, ◌∷◌, []};
 ghost use Rattle.tape_blocks.specs.Block.{Portion};
-ghost use Rattle.tape_image.specs.Reader.{going, tape_item, IfKnown};
+ghost use Rattle.tape_image.specs.Reader.{going, seen, IfKnown};
 ghost use Rattle.tape_image.specs.Tape.{block, TapeItem};
 ghost use Rattle.tape_set.specs.Position.{part_of};
 ghost use Rattle.tape_core.specs.Follows.{IsFinal};
@@ -19,13 +19,13 @@ ghost use Rattle.tape_run.specs.Given.{is_device};
 ghost use Rattle.tape_run.specs.Puts.{IsSized, refused_point, PutsBlock, PutsFront};
 ghost use Rattle.tape_run.specs.Reels.{ReadsReel, ReadsToBlock, IsDelivery, GoesOn, delivered_by};
 ghost use Rattle.tape_run.specs.Taking.{TakesItem, RefusesItem, ReadsImage, RefusesImage};
-ghost use Rattle.tape_run.specs.Taking.{CutsTable};
+ghost use Rattle.tape_run.specs.Taking.{CutsTable, came_of, fault_of};
 
 use crate::answer::ReelAnswer;
 use crate::parts::put_parts;
 use std::io::Read;
 use tape_core::{Answer, Checkpoint, Event, PartSink, ReaderCore, SinkFault};
-use tape_image::{ImageReader, Item};
+use tape_image::{ImageFault, ImageReader, Item};
 use tape_set::Position;
 
 /// A core, and the sink of what it delivers.
@@ -35,14 +35,17 @@ pub struct Intake<S> {
     pub sink: S,
 }
 
-/// The event of an item.
-fn event_of<'a>(item: Item<'a>) -> Event<'a>
-    ensures { arrival result ≡ Some (tape_item item.entry) }
+/// The event of what an image's reader told, and the fault of the image that it met.
+fn event_of<'a>(told: Result<Option<Item<'a>>, ImageFault>) -> (Event<'a>, Option<ImageFault>)
+    ensures comes { arrival result.0 ≡ came_of (seen told.entry) }
+    ensures fault { result.1 ≡ fault_of (seen told.entry) }
 {
-    match item {
-        Item::Block(bytes) => Event::Block(bytes),
-        Item::Bad => Event::Bad,
-        Item::Mark => Event::Mark,
+    match told {
+        Ok(Some(Item::Block(bytes))) => (Event::Block(bytes), None),
+        Ok(Some(Item::Bad)) => (Event::Bad, None),
+        Ok(Some(Item::Mark)) => (Event::Mark, None),
+        Ok(None) => (Event::ReelEnd, None),
+        Err(fault) => (Event::ReelEnd, Some(fault)),
     }
 }
 
@@ -98,6 +101,8 @@ impl<S: PartSink> Intake<S> {
             → self.new.core.position ≡ Position.Finished) }
         ensures finished { IfOk result (λ answer.
             self.new.core.position ≡ Position.Finished → answer ≡ Answer.Complete) }
+        ensures left { IfOk result (λ answer. arrival event.entry ≡ None
+            → (rest_of self.new.core ≡ rest_of self.old.core) × IsFinal answer) }
         ensures delivery { OnErr result (IsDelivery self.old.core (arrival event.entry)) }
         ensures ok { IfOk result (λ answer. (held : List Portion) → S.holds self.old.sink held
             → (now : List Portion) × S.holds self.new.sink now × IsFront held now
@@ -191,23 +196,12 @@ impl<S: PartSink> Intake<S> {
     {
         let mut blocks = 0u32;
         'items: loop {
-            match image.next() {
-                Ok(Some(item)) => {
-                    let answer = self.take(event_of(item))?;
-                    let Some(more) = delivered(answer) else {
-                        return Ok(ReelAnswer::new(answer, None, blocks));
-                    };
-                    blocks += more;
-                }
-                Ok(None) => return Ok(ReelAnswer::new(
-                    self.core.step(Event::ReelEnd),
-                    None,
-                    blocks,
-                )),
-                Err(fault) => {
-                    return Ok(ReelAnswer::new(self.core.step(Event::ReelEnd), Some(fault), blocks));
-                }
-            }
+            let (event, fault) = event_of(image.next());
+            let answer = self.take(event)?;
+            let Some(more) = delivered(answer) else {
+                return Ok(ReelAnswer::new(answer, fault, blocks));
+            };
+            blocks += more;
         }
     }
 }

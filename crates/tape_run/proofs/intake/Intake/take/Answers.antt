@@ -88,6 +88,7 @@ returns-in_default g c = record {
   complete = c.step-answer.ensures.complete;
   finished = (subst Tells (sym c.step-answer.ensures.table)
       (step_tells c.args.self.now.core (arrival c.args.event))).told;
+  left = c.step-answer.ensures.left;
   delivery = tt;
   ok = λ held was. (
     held,

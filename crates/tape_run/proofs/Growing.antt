@@ -1,0 +1,34 @@
+-- What a sink holds grows, from call to call.
+use Rattle.std.proofs.Common.{List}
+use Rattle.tape_blocks.specs.Block.{Portion}
+use Rattle.tape_core.specs.Crash.{AddsNothing, Crashes}
+use Rattle.tape_core.specs.Weight.{IsFront}
+use Rattle.tape_run.proofs.Crashes.{adds_then}
+use Rattle.tape_run.proofs.Notes.{front_trans}
+
+-- Whatever list of parts the one holds, the other holds one that begins with it, of which this is
+-- so.
+abbrev pub Grows : (List Portion → Type 0) → (List Portion → Type 0)
+    → (List Portion → List Portion → Type 0) → Type 0
+Grows old new P = (held : List Portion) → old held
+    → (now : List Portion) × new now × IsFront held now × P held now
+
+-- What two calls did, one after the other.
+pub grows_then : {old mid new : List Portion → Type 0}
+    {P Q R : List Portion → List Portion → Type 0}
+    → Grows old mid P → Grows mid new Q
+    → ((held now then : List Portion) → P held now → Q now then → R held then)
+    → Grows old new R
+grows_then first second f = λ held was.
+    let (now, has, front, p) = first held was in
+    let (then, has_then, more, q) = second now has in
+    (then, has_then, front_trans held now then front more, f held now then p q)
+
+-- Where no crash brings more back behind either, none does behind both.
+pub adds_on : {old mid : List Portion → Type 0} {P : List Portion → List Portion → Type 0}
+    {a b c : Crashes} → Grows old mid P → ((held : List Portion) → old held → AddsNothing a b)
+    → ((held : List Portion) → mid held → AddsNothing b c)
+    → (held : List Portion) → old held → AddsNothing a c
+adds_on grows first second = λ held was.
+    let (now, has, front, p) = grows held was in
+    adds_then _ _ _ (first held was) (second now has)
