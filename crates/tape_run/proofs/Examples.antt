@@ -37,9 +37,9 @@ use Rattle.tape_run.specs.Steps.{Reeled, ReelFails, Saved, WentBack}
 use Rattle.tape_run.specs.WorkedHistory.{worked_set, vol1, hdr1}
 use Rattle.tape_run.specs.Cases.{CasesOfMounts, CasesOfHistories, CasesOfGiven, CasesOfVolumes}
 use Rattle.tape_run.specs.Cases.{CasesOfSessions, CasesOfMade, CasesOfCrashes, came_by}
-use Rattle.tape_run.specs.CasesOfExtracts.{comes_now}
+use Rattle.tape_run.specs.CasesOfSaves.{comes_now}
 use Rattle.tape_run.specs.CasesOfRuns.{CasesOfStops}
-use Rattle.tape_run.proofs.ExamplesOfExtracts.{one_note, of_one_note}
+use Rattle.tape_run.proofs.ExamplesOfSaves.{one_note, of_one_note}
 
 -- ---- what may be mounted
 

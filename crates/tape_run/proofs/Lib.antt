@@ -37,6 +37,7 @@ pub mod Left
 pub mod Listing
 pub mod Fronts
 pub mod Completes
+pub mod WorkedReels
 pub mod WorkedHistory
 mod WorkedDays
 pub mod Fitting
@@ -73,6 +74,7 @@ mod ExamplesOfReels
 mod ExamplesOfCatalogues
 mod ExamplesOfSections
 mod ExamplesOfExtracts
+mod ExamplesOfSaves
 mod ExamplesOfRounds
 mod ExamplesOfLaws
 mod Mistakes

@@ -35,7 +35,8 @@ use Rattle.tape_run.specs.WorkedDays.{behind_one}
 use Rattle.tape_run.specs.Back.{reels_of}
 use Rattle.tape_run.proofs.Back.{all_given, by_number, none_of}
 use Rattle.tape_run.proofs.Fronts.{fronts_are_mounts}
-use Rattle.tape_run.proofs.WorkedHistory.{is_lawful, whole_1, whole_2, fit_of}
+use Rattle.tape_run.proofs.WorkedHistory.{is_lawful, fit_of}
+use Rattle.tape_run.proofs.WorkedReels.{whole_1, whole_2}
 
 -- ---- wherever volume 1, or volume 2, broke off
 

@@ -29,7 +29,7 @@ use Rattle.tape_run.specs.declared.fault.RunFault.TheVariants.{OutOfMemory, Othe
 use Rattle.tape_run.specs.declared.script.Step.{Step}
 use Rattle.tape_run.specs.declared.script.Step.TheVariants.{Reel, Save, Restart}
 use Rattle.tape_run.specs.Back.{reels_of, AreVolumes}
-use Rattle.tape_run.specs.CasesOfExtracts.{brings, comes_now}
+use Rattle.tape_run.specs.CasesOfSaves.{brings, comes_now}
 use Rattle.tape_run.specs.Crash.{IsOf, LastAlone, StoodAt}
 use Rattle.tape_run.specs.Given.{is_device, IsGiven, AreGiven, AreGivenBy, counted, counted_up}
 use Rattle.tape_run.specs.Given.{failed_of, written}

@@ -81,6 +81,7 @@ pub mod CasesOfReels
 pub mod CasesOfCatalogues
 pub mod CasesOfSections
 pub mod CasesOfExtracts
+pub mod CasesOfSaves
 pub mod CasesOfRounds
 pub mod CasesOfLaws
 pub mod CasesOfSurveys

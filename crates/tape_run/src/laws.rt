@@ -7,7 +7,8 @@ ghost use Rattle.tape_run.specs.CasesOfReels.{CasesOfAnswers, CasesOfTable, Case
 ghost use Rattle.tape_run.specs.CasesOfCatalogues.{CasesOfCatalogues, CasesOfImages};
 ghost use Rattle.tape_run.specs.CasesOfCatalogues.{CasesOfCopies, CasesOfReports};
 ghost use Rattle.tape_run.specs.CasesOfSections.{CasesOfSections};
-ghost use Rattle.tape_run.specs.CasesOfExtracts.{CasesOfTurns, CasesOfOutputs, CasesOfSaved};
+ghost use Rattle.tape_run.specs.CasesOfExtracts.{CasesOfTurns, CasesOfOutputs};
+ghost use Rattle.tape_run.specs.CasesOfSaves.{CasesOfSaved};
 ghost use Rattle.tape_run.specs.CasesOfRuns.{CasesOfStops};
 ghost use Rattle.tape_run.specs.CasesOfRounds.{CasesOfRounds};
 ghost use Rattle.tape_run.specs.CasesOfLaws.{CasesOfRunLaws, CasesOfCatalogueLaws};

@@ -1,0 +1,116 @@
+-- What the definitions of saves, and of what comes back of a session, say of cases. The call
+-- `laws::cases` has them as its contract.
+use Rattle.std.specs.Prelude.{◌≡◌, ◌≤◌, ◌⊎◌, ℕ, List, [], ◌∷◌, length}
+use Rattle.std.specs.Prelude.{true, false}
+use Rattle.tape_blocks.specs.Block.{Portion}
+use Rattle.tape_set.specs.declared.position.Position.TheVariants.{Finished}
+use Rattle.tape_core.specs.Crash.{Crashes}
+use Rattle.tape_core.specs.Place.{rest_of}
+use Rattle.tape_run.specs.Crash.{IsNoteOf, BringsLast, KeepsLast, LeavesSaved, is_saved}
+use Rattle.tape_run.specs.Reeling.{StoodSaved}
+use Rattle.tape_run.specs.Seen.{Seen}
+use Rattle.tape_run.specs.declared.script.Step.TheVariants.{Reel, Save, Restart}
+use Rattle.tape_core.specs.Point.{Point}
+use Rattle.tape_run.specs.Story.{Story}
+use Rattle.tape_core.specs.Stands.{weight_of}
+use Rattle.tape_core.specs.Table.{saved}
+use Rattle.tape_core.specs.Weight.{IsFront}
+
+-- a sink that brings back one checkpoint, with these parts, and holds any parts
+abbrev pub brings : List Portion → Point → Point → List Portion → Type 0
+brings ps c back there = (back ≡ c) × (there ≡ ps)
+
+-- of a crash now alone, and since a moment alone
+abbrev pub comes_now : List Portion → Point → Crashes
+comes_now ps c = record {
+  returns = brings ps c;
+  survives = c.position ≡ Finished;
+  moment = 0;
+  returned = λ t back there. ⊥;
+  survived = λ t. ⊥;
+}
+
+abbrev pub comes_since : List Portion → Point → Crashes
+comes_since ps c = record {
+  returns = λ back there. ⊥;
+  survives = ⊥;
+  moment = c.file;
+  returned = λ t. brings ps c;
+  survived = λ t. c.position ≡ Finished;
+}
+
+-- of what comes back of a session that was saved
+pub record CasesOfSaved : Type 0 where
+  -- of two notes the first comes back with its own parts, and the last alone is brought
+  pub first_note : (s : Seen) (c d back : Point) (there : List Portion) → s.notes ≡ c ∷ d ∷ []
+      → IsNoteOf 0 s back there
+      → (back ≡ c) × IsFront there s.parts × (weight_of there ≡ back.staged)
+  pub brings_last : (s : Seen) (c d p : Point) (ps : List Portion) → s.notes ≡ c ∷ d ∷ []
+      → BringsLast (brings ps p) s → (p ≡ d) × IsFront ps s.parts × (weight_of ps ≡ p.staged)
+  pub brings_none : (s : Seen) (p : Point) (ps : List Portion) → s.notes ≡ []
+      → BringsLast (brings ps p) s → ⊥
+  pub brings_nothing : (s : Seen) → BringsLast (λ back there. ⊥) s
+  -- the note that was made on the way is brought
+  pub noted_on_the_way : (old new : Story Point) (held now ps : List Portion) (c : Point)
+      → old.notes ≡ [] → new.notes ≡ c ∷ []
+      → KeepsLast (λ s. 0) (comes_now ps) old held new now
+      → (new.sink ≡ c) × IsFront ps now
+  -- where none was made the one that came back alone still does
+  pub none_on_the_way : (old new : Story Point) (held now ps : List Portion) (c : Point)
+      → old.notes ≡ c ∷ [] → new.notes ≡ c ∷ [] → old.sink ≡ c → IsFront ps held
+      → weight_of ps ≡ c.staged → KeepsLast (λ s. 0) (comes_now ps) old held new now
+      → new.sink ≡ c
+  -- where something came back whatever a crash left it does so still
+  pub survives : (old new : Story Point) (held now : List Portion)
+      → KeepsLast (λ s. 0) (comes_now []) old held new now
+      → old.sink.position ≡ Finished → new.sink.position ≡ Finished
+  -- the same since a moment up to the first, where no note was made
+  pub none_since : (old new : Story Point) (held now ps : List Portion) (c : Point) (t : ℕ)
+      → old.notes ≡ c ∷ [] → new.notes ≡ c ∷ [] → old.sink ≡ c → IsFront ps held
+      → weight_of ps ≡ c.staged → t ≤ old.sink.file
+      → KeepsLast (λ s. 0) (comes_since ps) old held new now → new.sink ≡ c
+  pub survived : (old new : Story Point) (held now : List Portion) (t : ℕ) → t ≤ old.sink.file
+      → KeepsLast (λ s. 0) (comes_since []) old held new now
+      → old.sink.position ≡ Finished → new.sink.position ≡ Finished
+  pub goes_on : (old new : Story Point) (held now : List Portion)
+      → KeepsLast (λ s. 0) (comes_since []) old held new now
+      → (length old.notes ≤ length new.notes) × (old.sink.file ≤ new.sink.file)
+  -- a session that stands so is there, and its sink holds these parts
+  pub stood : (old new : Story Point) (held ps : List Portion) (now : Seen) (c : Point)
+      → old.notes ≡ [] → now.notes ≡ c ∷ []
+      → StoodSaved (λ s parts. s.staged ≡ weight_of parts) (λ s. 0) (comes_now ps) old held
+      new now
+      → (new.sink ≡ c) × (now.place ≡ rest_of new.core)
+      × IsFront ps now.parts × (c.staged ≡ weight_of now.parts)
+  -- at a fault nothing comes back but the note made on the way, or where the session stands
+  pub left_at_a_fault : (old new : Story Point) (held ps : List Portion) (now : Seen) (c : Point)
+      → old.notes ≡ [] → now.notes ≡ c ∷ []
+      → LeavesSaved (λ s parts. s.staged ≡ weight_of parts) (λ s. 0) (comes_now ps) old held
+      now new
+      → ((new.sink ≡ c) × IsFront ps now.parts)
+      ⊎ ((new.sink.staged ≡ weight_of ps) × IsFront now.parts ps
+      × (new.sink ≡ saved (rest_of new.core) (weight_of ps)))
+  pub alone_at_a_fault : (old new : Story Point) (held ps : List Portion) (now : Seen) (c : Point)
+      → old.notes ≡ c ∷ [] → now.notes ≡ c ∷ [] → old.sink ≡ c → IsFront ps held
+      → weight_of ps ≡ c.staged
+      → LeavesSaved (λ s parts. ⊥) (λ s. 0) (comes_now ps) old held now new → new.sink ≡ c
+  pub survives_a_fault : (old new : Story Point) (held : List Portion) (now : Seen)
+      → LeavesSaved (λ s parts. ⊥) (λ s. 0) (comes_now []) old held now new
+      → old.sink.position ≡ Finished → new.sink.position ≡ Finished
+  pub alone_up_to_a_fault : (old new : Story Point) (held ps : List Portion) (now : Seen)
+      (c : Point) (t : ℕ) → old.notes ≡ c ∷ [] → now.notes ≡ c ∷ [] → old.sink ≡ c
+      → IsFront ps held → weight_of ps ≡ c.staged → t ≤ old.sink.file
+      → LeavesSaved (λ s parts. ⊥) (λ s. 0) (comes_since ps) old held now new → new.sink ≡ c
+  pub survived_a_fault : (old new : Story Point) (held : List Portion) (now : Seen) (t : ℕ)
+      → t ≤ old.sink.file
+      → LeavesSaved (λ s parts. ⊥) (λ s. 0) (comes_since []) old held now new
+      → old.sink.position ≡ Finished → new.sink.position ≡ Finished
+  pub no_fewer_at_a_fault : (old new : Story Point) (held : List Portion) (now : Seen)
+      → LeavesSaved (λ s parts. ⊥) (λ s. 0) (comes_since []) old held now new
+      → length old.notes ≤ length now.notes
+  -- whether nothing but reels was read since the last save
+  pub read_since : is_saved false (Reel ∷ Save ∷ Reel ∷ []) ≡ true
+  pub went_back_since : is_saved true (Save ∷ Restart 0 ∷ Reel ∷ []) ≡ false
+  pub never_saved : is_saved false (Reel ∷ Reel ∷ []) ≡ false
+  pub saved_before : is_saved true (Reel ∷ []) ≡ true
+  pub saved_again : is_saved false (Restart 0 ∷ Save ∷ []) ≡ true
