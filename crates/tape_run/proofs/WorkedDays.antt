@@ -1,8 +1,8 @@
 -- The worked set where a reader fails, where a part is refused, and on another day.
-use Rattle.std.proofs.Common.{◌≡◌, ◌≤◌, ℕ, zero, suc, ◌+◌, List, [], ◌∷◌, ◌++◌, true, false}
+use Rattle.std.proofs.Common.{◌≡◌, ◌≤◌, ℕ, zero, suc, ◌+◌, List, [], ◌∷◌, true, false}
 use Rattle.std.proofs.Common.{refl, sym, ap, ◌∙◌, subst, inl, inr, lit≤, codes, arith, take}
-use Rattle.std.proofs.Common.{Some, length, length-append}
-use Rattle.std.specs.Prelude.{replicate, drop, min, ⊤}
+use Rattle.std.proofs.Common.{Some, length}
+use Rattle.std.specs.Prelude.{replicate, min, ⊤}
 use Rattle.std.proofs.lemmas.List.{take_all}
 use Rattle.std.proofs.lemmas.Option.{slice_get_within}
 use Rattle.tape_blocks.specs.Block.{Portion}
@@ -25,7 +25,6 @@ use Rattle.tape_run.specs.Mount.{Happening, IsMountOf, reads, cut}
 use Rattle.tape_run.specs.History.{Course, course, course_of, IsHistory}
 use Rattle.tape_run.specs.Given.{AreGiven, failed_of, counted_up}
 use Rattle.tape_run.specs.Headline.{begins, IsStart, IsRead, HasRun, HasStopped, Stops}
-use Rattle.tape_run.specs.Headline.{reels_in}
 use Rattle.tape_run.specs.Lives.{GoesOn}
 use Rattle.tape_run.specs.Seen.{Seen, IsSession}
 use Rattle.tape_run.specs.WorkedHistory.{worked_set, section_1, section_2, first, middle, last}

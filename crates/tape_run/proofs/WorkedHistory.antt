@@ -1,14 +1,12 @@
 -- The worked history, by computation: its set is lawful, and it meets the headline's premises.
 use Rattle.std.proofs.Common.{◌≡◌, ◌≤◌, ℕ, [], ◌∷◌, true, false, refl, sym, ap}
 use Rattle.std.proofs.Common.{◌∙◌, subst, inl, codes, lit≤, lit<, None}
-use Rattle.tape_image.specs.Begins.{ends}
 use Rattle.tape_set.proofs.Worked as w
 use Rattle.tape_set.proofs.Worked.{Fit, made_section, made_form}
 use Rattle.tape_set.proofs.WorkedSpan as sp
 use Rattle.tape_set.specs.Layout.{FileSet}
 use Rattle.tape_set.specs.Lawful.{IsLawful, most_blocks}
 use Rattle.tape_set.specs.Position.{want_at}
-use Rattle.tape_run.specs.Mount.{reads}
 use Rattle.tape_run.specs.History.{Course, IsHistory}
 use Rattle.tape_run.specs.Given.{AreGiven, failed_of}
 use Rattle.tape_run.specs.Seen.{Seen}
