@@ -13,6 +13,7 @@ use Rattle.tape_stage.proofs.disk.file.FileDisk.new.Reads as new
 use Rattle.tape_stage.proofs.disk.file.FileDiskDisk.write_at.Reads as write_at
 use Rattle.tape_stage.proofs.disk.memory.MemoryDisk.crash.Reads as crash
 use Rattle.tape_stage.proofs.disk.read_ahead.ReadAhead.give.Reads as give
+use Rattle.tape_stage.proofs.disk.read_ahead.ReadAhead.look.Reads as look
 use Rattle.tape_stage.proofs.disk.write_behind.WriteBehind.hold.Reads as hold
 use Rattle.tape_stage.proofs.disk.write_behind.WriteBehind.pass_on.Reads as pass_on
 use Rattle.tape_stage.proofs.disk.write_behind.WriteBehind.takes.Reads as takes
@@ -103,6 +104,19 @@ window_read_from_its_start D L g d κs a s l honest seen at size w =
     ∙ ap (λ n. slice_range (1 ∷ 2 ∷ 3 ∷ []) n (n + length a.1.1.0.now)) at
     ∙ ap (λ n. slice_range (1 ∷ 2 ∷ 3 ∷ []) 1 (1 + n)) size in
     absurd (let n : 1 ≡ 2 = ap (λ t. get_or t 0 0) (sym w ∙ e) in omega arith)
+
+-- more_held_than_was_read: of 1 2 a read of one byte at place 1 gives the 9 of another read
+more_held_than_was_read : (D : _) (L : _) (g : _) (d : _) (κs : _) (a : _) (s : _)
+    → look.Learnt-named D L g d κs a (Ok tt) s → g.is_honest a.0.now.disk
+    → g.seen a.0.now.disk ≡ 1 ∷ 2 ∷ [] → a.1.0 ≡ 1 → length a.1.1.0.now ≡ 1
+    → s.1.1.0.now ≡ 9 ∷ [] → ⊥
+more_held_than_was_read D L g d κs a s l honest seen at size w =
+    let e : s.1.1.0.now ≡ slice_range (1 ∷ 2 ∷ []) 1 (1 + 1)
+    = l.bytes honest
+    ∙ ap (λ t. slice_range t a.1.0 (a.1.0 + length a.1.1.0.now)) seen
+    ∙ ap (λ n. slice_range (1 ∷ 2 ∷ []) n (n + length a.1.1.0.now)) at
+    ∙ ap (λ n. slice_range (1 ∷ 2 ∷ []) 1 (1 + n)) size in
+    absurd (let n : 9 ≡ 2 = ap (λ t. get_or t 0 0) (sym w ∙ e) in omega arith)
 
 -- ---- a disk over a file
 

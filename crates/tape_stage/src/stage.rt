@@ -18,6 +18,7 @@
 //! 3. its gate is opened; sync
 pub mod body;
 pub mod cutting;
+pub mod file;
 pub mod found;
 pub mod frame;
 pub mod open_disk;

@@ -17,7 +17,7 @@ fn open(rt: &HostRuntime, path: &str) -> io::Result<File> {
 
 /// A new stage in a file.
 fn made_in(rt: &HostRuntime, path: &str) -> Option<Stage<HeldFile<File>>> {
-    let Ok(mut disk) = held_file(open(rt, path).ok()?) else {
+    let Ok(mut disk) = held_file(rt.alloc(), open(rt, path).ok()?) else {
         return None;
     };
     match disk.len() {
@@ -28,7 +28,7 @@ fn made_in(rt: &HostRuntime, path: &str) -> Option<Stage<HeldFile<File>>> {
 
 /// The stage of a file that was made earlier.
 fn opened_in(rt: &HostRuntime, path: &str) -> Option<(Stage<HeldFile<File>>, Checkpoint)> {
-    let Ok(disk) = held_file(open(rt, path).ok()?) else {
+    let Ok(disk) = held_file(rt.alloc(), open(rt, path).ok()?) else {
         return None;
     };
     Stage::open_disk(rt.alloc(), disk).ok()

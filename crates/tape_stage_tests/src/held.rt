@@ -6,7 +6,9 @@ use std::fs::{File, Metadata, OpenFile, OpenOptions};
 use std::io::{ErrorKind, Read, Seek, SeekFrom, Write};
 use std::test::*;
 use std::{fs, io};
-use tape_stage::{Disk, DiskFault, HeldFile, MemoryDisk, held_file};
+use tape_stage::{
+    Disk, DiskFault, FileDisk, HeldFile, MemoryDisk, ReadAhead, WriteBehind, held_file,
+};
 
 /// The most bytes that such a file gives or takes in one call.
 const AT_ONCE: usize = 5_000;
@@ -105,7 +107,7 @@ impl OpenFile for Counting {
 
 /// A disk over such a file.
 fn disk_counting(alloc: Global, size: usize, failing: u32) -> Option<HeldFile<Counting>> {
-    held_file(Counting::new(alloc, size, failing).ok()?).ok()
+    held_file(alloc, Counting::new(alloc, size, failing).ok()?).ok()
 }
 
 /// The file behind the windows of a disk.
@@ -113,12 +115,18 @@ fn file_of(disk: HeldFile<Counting>) -> Counting {
     disk.into_disk().into_disk().into_file()
 }
 
-/// A disk over a new file.
+/// How many bytes a small window has room for: fewer than some calls move.
+const SMALL: usize = 1_000;
+
+/// A disk over a new file, behind small windows.
 fn made_in(rt: &HostRuntime, path: &str) -> Option<HeldFile<File>> {
     let _ = fs::remove_file(rt, path);
     let mut options = OpenOptions::new();
     options.read(true).write(true).create(true);
-    held_file(options.open(rt, path).ok()?).ok()
+    let behind = Vec::with_capacity(rt.alloc(), SMALL).ok()?;
+    let ahead = vec![in rt.alloc(); 0u8; SMALL].ok()?;
+    let disk = FileDisk::new(options.open(rt, path).ok()?).ok()?;
+    Some(ReadAhead::over(WriteBehind::over(disk, behind), ahead))
 }
 
 /// A record of 85 bytes, all of them the last byte of its number.
@@ -129,29 +137,29 @@ fn record_of(number: u64) -> [u8; 85] {
 /// Whether the disk gives such a record at its place.
 fn gives_record<D: Disk>(disk: &mut D, number: u64) -> bool {
     let mut bytes = [0; 85];
-    number < 300 && read(disk, number * 85, &mut bytes) && bytes == record_of(number)
+    number < 1_200 && read(disk, number * 85, &mut bytes) && bytes == record_of(number)
 }
 
 #[test]
 fn small_calls_are_put_together(rt: HostRuntime) {
-    let Some(mut disk) = disk_counting(rt.alloc(), 25_500, 0) else {
+    let Some(mut disk) = disk_counting(rt.alloc(), 102_000, 0) else {
         assert!(rt; false);
         return;
     };
-    for record in 0..300u64 {
+    for record in 0..1_200u64 {
         assert!(rt;
             write(&mut disk, record * 85, &record_of(record)),
             "{record}"
         );
     }
     assert!(rt; disk.sync() == Ok(()));
-    for record in 0..300u64 {
+    for record in 0..1_200u64 {
         assert!(rt; gives_record(&mut disk, record), "{record}");
     }
-    // In 8,192 bytes there are 96 records of 85: three times so many, which take two calls of the
-    // file, and the rest.
+    // In 32,768 bytes there are 385 records of 85: three times so many, which take seven calls of
+    // the file, and the rest.
     let file = file_of(disk);
-    assert_eq!(rt; (file.writes, file.reads), (7, 7));
+    assert_eq!(rt; (file.writes, file.reads), (22, 22));
 }
 
 #[test]
@@ -188,7 +196,7 @@ fn what_could_not_be_written_is_held_on(rt: HostRuntime) {
 fn behind_a_failed_sync_nothing_is_kept(rt: HostRuntime) -> Result<(), Fail> {
     let mut file = Counting::new(rt.alloc(), 12, 0)?;
     file.unsynced = true;
-    let Ok(mut disk) = held_file(file) else {
+    let Ok(mut disk) = held_file(rt.alloc(), file) else {
         return Err(Fail::from("a disk"));
     };
     assert!(rt; disk.sync() == Err(DiskFault::Device));

@@ -3,9 +3,7 @@ ghost use Rattle.std.specs.Prelude.{◌≡◌, ◌+◌, ◌≤◌, [], false, le
 ghost use Rattle.std.specs.Prelude.{Ok, OnErr, OnOk};
 ghost use Rattle.tape_core.specs.Weight.{Rose};
 
-use crate::disk::read_ahead::ReadAhead;
 use crate::disk::whole::{read_from, write_from};
-use crate::disk::write_behind::WriteBehind;
 use crate::disk::{Disk, DiskFault};
 use std::fs::OpenFile;
 use std::io::{Read, Seek, SeekFrom, Write};
@@ -26,27 +24,6 @@ pub struct FileDisk<F> {
     len: u64,
     failed: u64,
     lost: bool,
-}
-
-/// A file as a disk, up to 8,192 bytes of which are held before they are written, and as many read
-/// ahead.
-pub type HeldFile<F> = ReadAhead<WriteBehind<FileDisk<F>>>;
-
-/// The whole file, behind windows. It has to be open for reading and writing, and nobody else may
-/// change its length.
-///
-/// # Errors
-///
-/// `Device`, where the file does not tell its length; it is dropped.
-pub fn held_file<F: Read + Write + Seek + OpenFile + Drop>(
-    file: F,
-) -> Result<HeldFile<F>, DiskFault>
-    ensures long { IfSome (F.stream_position file) (λ _. IfSome (F.stream_bytes file)
-        (λ bytes. IfOk result (λ held. held.disk.disk.len ≡ length bytes))) }
-    ensures alive { IfOk result (λ held. held.disk.disk.lost ≡ false) }
-    ensures held { IfOk result (λ held. held.disk.bytes.items ≡ []) }
-{
-    Ok(ReadAhead::new(WriteBehind::new(FileDisk::new(file)?)))
 }
 
 impl<F: Seek + Drop> FileDisk<F> {

@@ -1,38 +1,62 @@
 //! Bytes that are read ahead of a disk.
-ghost use Rattle.std.specs.Prelude.{◌≡◌, ◌+◌, ◌≤◌, [], length, slice_range, OnOk, OnErr, IfOk};
+ghost use Rattle.std.specs.Prelude.{◌≡◌, ◌+◌, ◌≤◌, length, take, slice_range, OnOk, OnErr, IfOk};
 ghost use Rattle.std.specs.Prelude.{List, ℕ};
 ghost use Rattle.std.specs.Bool.{OnTrue};
 ghost use Rattle.tape_core.specs.Weight.{Rose};
 ghost use Rattle.tape_stage.specs.Disk.{Elapses, NoMore, SameFact};
 
 use crate::disk::{Disk, DiskFault};
-use arrayvec::ArrayVec;
 
-/// How many bytes are read ahead, at most.
-const ROOM: usize = 8_192;
-
-/// A disk of which up to 8,192 bytes are read ahead, so that small reads in a row are one read of
-/// it. A write and a cut forget them.
+/// A disk of which bytes are read ahead, as many as there is room for, so that small reads in a row
+/// are one read of it. A write and a cut forget them.
 #[derive(Drop)]
 pub struct ReadAhead<D: Disk> {
     pub(crate) disk: D,
     pub(crate) start: u64,
-    pub(crate) bytes: ArrayVec<u8, ROOM>,
+    pub(crate) bytes: Vec<u8>,
+    /// How many of the bytes were read. Those behind them are anything.
+    pub(crate) held: usize,
     pub(crate) failed: u64,
-    ghost within: { start + length bytes.items ≤ D.length_of disk },
-    ghost right: { D.is_honest disk → slice_range (D.seen disk) start (start + length bytes.items)
-        ≡ bytes.items },
+    ghost fits: { held ≤ length bytes.items },
+    ghost within: { start + held ≤ D.length_of disk },
+    ghost right: { D.is_honest disk → slice_range (D.seen disk) start (start + held)
+        ≡ take held bytes.items },
+}
+
+/// Reads so many bytes from a place on, to the front of a room.
+fn read_front<D: Disk>(
+    disk: &mut D,
+    place: u64,
+    room: &mut [u8],
+    count: usize,
+) -> Result<(), DiskFault>
+    requires there { place + count ≤ D.length_of disk.old }
+    requires fits { count ≤ length room.old }
+    ensures bytes { D.is_honest disk.old → OnOk result
+        (slice_range (D.seen disk.old) place (place + count) ≡ take count room.new) }
+    ensures same_length { D.length_of disk.new ≡ D.length_of disk.old }
+    ensures same { D.is_honest disk.old → D.seen disk.new ≡ D.seen disk.old }
+    ensures crash { D.is_honest disk.old → NoMore (D.may_leave disk.old) (D.may_leave disk.new) }
+    ensures time { D.is_honest disk.old
+        → Elapses (D.moment disk.old) (D.moment disk.new) (D.left_since disk.old)
+        (D.left_since disk.new) (D.may_leave disk.new) }
+    ensures honest { SameFact (D.is_honest disk.old) (D.is_honest disk.new) }
+{
+    disk.read(place, &mut room[..count])
 }
 
 impl<D: Disk> ReadAhead<D> {
-    /// Nothing is read ahead.
-    pub fn new(disk: D) -> ReadAhead<D>
+    /// Nothing is read ahead. The room is for as many bytes as it has now, whatever they are.
+    pub fn over(disk: D, room: Vec<u8>) -> ReadAhead<D>
         ensures disk { result.disk ≡ disk }
+        ensures none { result.held ≡ 0 }
+        ensures room { result.bytes ≡ room }
     {
         ReadAhead {
             disk,
             start: 0,
-            bytes: ArrayVec::new(),
+            bytes: room,
+            held: 0,
             failed: 0,
         }
     }
@@ -50,7 +74,7 @@ impl<D: Disk> ReadAhead<D> {
         ensures bytes { D.is_honest self.now.disk → OnTrue result (buf.new
             ≡ slice_range (D.seen self.now.disk) place (place + length buf.old)) }
     {
-        let held = self.bytes.as_slice();
+        let held = &self.bytes[..self.held];
         if place < self.start || place - self.start > held.len() as u64 {
             return false;
         }
@@ -65,18 +89,17 @@ impl<D: Disk> ReadAhead<D> {
     /// Forgets what was read ahead.
     fn forget(&mut self)
         ensures disk { self.new.disk ≡ self.old.disk }
-        ensures bytes { self.new.bytes.items ≡ [] }
+        ensures bytes { self.new.bytes ≡ self.old.bytes }
+        ensures none { self.new.held ≡ 0 }
         ensures start { self.new.start ≡ 0 }
         ensures calm { self.new.failed ≡ self.old.failed }
     {
-        self.bytes.clear();
+        self.held = 0;
         self.start = 0;
     }
 
     /// Reads ahead from a place on, as much as there is and has room. Where that fails it goes
     /// unseen: nobody asked for all of these bytes.
-    // Each call clears its buffer: inlined, that would be done for reads that were held too.
-    #[inline(never)]
     fn look_ahead(&mut self, place: u64)
         requires there { place ≤ D.length_of self.old.disk }
         ensures same_length { D.length_of self.new.disk ≡ D.length_of self.old.disk }
@@ -93,26 +116,13 @@ impl<D: Disk> ReadAhead<D> {
         let Ok(len) = self.disk.len() else {
             return;
         };
-        let mut ahead = [0; ROOM];
-        let room = (len - place).min(ROOM as u64) as usize;
-        if self.disk.read(place, &mut ahead[..room]).is_ok() {
-            self.hold(place, &ahead[..room]);
-        }
-    }
-
-    /// Holds the bytes that stand from a place on.
-    fn hold(&mut self, place: u64, bytes: &[u8])
-        requires fits { length bytes.now ≤ 8192 }
-        requires within { place + length bytes.now ≤ D.length_of self.old.disk }
-        requires right { D.is_honest self.old.disk
-            → slice_range (D.seen self.old.disk) place (place + length bytes.now) ≡ bytes.now }
-        ensures disk { self.new.disk ≡ self.old.disk }
-        ensures calm { self.new.failed ≡ self.old.failed }
-    {
-        self.forget();
-        match self.bytes.try_extend_from_slice(bytes) {
-            Ok(()) => self.start = place,
-            Err(_) => unreachable!(),
+        let count = (len - place).min(self.bytes.len() as u64) as usize;
+        // The read writes over what is held, even where it fails.
+        self.held = 0;
+        self.start = 0;
+        if read_front(&mut self.disk, place, self.bytes.as_mut_slice(), count).is_ok() {
+            self.start = place;
+            self.held = count;
         }
     }
 
@@ -135,7 +145,7 @@ impl<D: Disk> ReadAhead<D> {
         if self.give(place, buf) {
             return Ok(());
         }
-        if buf.len() < ROOM {
+        if buf.len() < self.bytes.len() {
             self.look_ahead(place);
             if self.give(place, buf) {
                 return Ok(());

@@ -1,6 +1,6 @@
 //! Bytes that are held before they are written to a disk.
 ghost use Rattle.std.specs.Prelude.{◌≡◌, ◌+◌, ◌<◌, ◌≤◌, ◌^◌, [], ◌++◌, length, max, ℕ, List};
-ghost use Rattle.std.specs.Prelude.{OnOk, OnErr};
+ghost use Rattle.std.specs.Prelude.{OnOk, OnErr, vec_capacity};
 ghost use Rattle.std.specs.Bool.{OnTrue};
 ghost use Rattle.tape_stage.specs.Disk.{Holds, Torn, Follows, Allows, NoMore, Only, Elapses};
 ghost use Rattle.tape_stage.specs.Disk.{SameFact};
@@ -9,14 +9,10 @@ ghost use Rattle.tape_core.specs.Weight.{Rose};
 ghost use Rattle.tape_stage.specs.Holding.{held_long, held_over, held_counts, held_only};
 
 use crate::disk::{Disk, DiskFault};
-use arrayvec::ArrayVec;
 
-/// How many bytes are held, at most.
-const ROOM: usize = 8_192;
-
-/// A disk before which up to 8,192 bytes are held, so that small writes in a row are one write of
-/// it. What is held is written when a write goes on elsewhere or does not fit, and before a read, a
-/// cut and a sync, so a read sees it and a sync keeps it.
+/// A disk before which bytes are held, as many as there is room for, so that small writes in a row
+/// are one write of it. What is held is written when a write goes on elsewhere or does not fit, and
+/// before a read, a cut and a sync, so a read sees it and a sync keeps it.
 ///
 /// Where that fails the call is `Device`, and the bytes are held on: what a read gives is not
 /// changed by a failure, and the next call writes them again. A disk that is let go does not write
@@ -25,22 +21,27 @@ const ROOM: usize = 8_192;
 pub struct WriteBehind<D: Disk> {
     pub(crate) disk: D,
     pub(crate) start: u64,
-    pub(crate) bytes: ArrayVec<u8, ROOM>,
+    /// Its capacity is the room. It never grows.
+    pub(crate) bytes: Vec<u8>,
     pub(crate) failed: u64,
     ghost within: { start ≤ D.length_of disk },
     ghost low: { start + length bytes.items < 2 ^ 64 },
 }
 
 impl<D: Disk> WriteBehind<D> {
-    /// Nothing is held.
-    pub fn new(disk: D) -> WriteBehind<D>
+    /// Nothing is held. The room is for as many bytes as it has capacity for; what stands in it
+    /// goes.
+    pub fn over(disk: D, room: Vec<u8>) -> WriteBehind<D>
         ensures disk { result.disk ≡ disk }
         ensures bytes { result.bytes.items ≡ [] }
+        ensures room { vec_capacity result.bytes ≡ vec_capacity room }
     {
+        let mut bytes = room;
+        bytes.clear();
         WriteBehind {
             disk,
             start: 0,
-            bytes: ArrayVec::new(),
+            bytes,
             failed: 0,
         }
     }
@@ -94,24 +95,26 @@ impl<D: Disk> WriteBehind<D> {
 
     /// Whether a write of so many bytes goes on where those end that are held, and fits.
     fn takes(&self, place: u64, size: usize) -> bool
-        ensures fits { OnTrue result (length self.now.bytes.items + size ≤ 8192) }
+        ensures fits { OnTrue result
+            (length self.now.bytes.items + size ≤ vec_capacity self.now.bytes) }
         ensures end { OnTrue result (self.now.start + length self.now.bytes.items ≡ place) }
     {
-        size <= self.bytes.remaining_capacity()
+        size <= self.bytes.capacity() - self.bytes.len()
             && self.start <= place
             && place - self.start == self.bytes.len() as u64
     }
 
     /// Adds bytes to those that are held.
     fn add(&mut self, bytes: &[u8])
-        requires fits { length self.old.bytes.items + length bytes.now ≤ 8192 }
+        requires fits { length self.old.bytes.items + length bytes.now
+            ≤ vec_capacity self.old.bytes }
         requires low { self.old.start + (length self.old.bytes.items + length bytes.now) < 2 ^ 64 }
         ensures disk { self.new.disk ≡ self.old.disk }
         ensures start { self.new.start ≡ self.old.start }
         ensures bytes { self.new.bytes.items ≡ self.old.bytes.items ++ bytes.now }
         ensures calm { self.new.failed ≡ self.old.failed }
     {
-        match self.bytes.try_extend_from_slice(bytes) {
+        match self.bytes.extend_from_slice(bytes) {
             Ok(()) => {}
             Err(_) => unreachable!(),
         }
@@ -176,7 +179,7 @@ impl<D: Disk> WriteBehind<D> {
             return Ok(());
         }
         self.pass_on()?;
-        if bytes.len() > ROOM {
+        if bytes.len() > self.bytes.capacity() {
             self.disk.write_at(place, bytes)?;
             return Ok(());
         }

@@ -34,8 +34,9 @@ pub fn session_in<R: Host>(
     if is_in_use(&kept) {
         return Err(ToolFault::StageInUse);
     }
-    let Ok(disk) = held_file(kept) else {
-        return Err(ToolFault::Stage(StageFault::Device));
+    let disk = match held_file(rt.alloc(), kept) {
+        Ok(disk) => disk,
+        Err(fault) => return Err(ToolFault::Stage(fault)),
     };
     // A stage that is made here is nothing without its name.
     if sync_folder_of(rt, path).is_err() {

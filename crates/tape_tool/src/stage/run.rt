@@ -12,7 +12,7 @@ use crate::unfit::Unfit;
 use std::fs::{File, TryLockError};
 use std::io;
 use std::io::{BufWriter, Write};
-use tape_stage::{HeldFile, StageFault, held_file};
+use tape_stage::{HeldFile, held_file};
 
 /// The file of a stage, which is only read.
 type StageDisk = HeldFile<ReadOnly<File>>;
@@ -61,9 +61,9 @@ fn disk_of<R: Host>(rt: &R, path: &str) -> Result<StageDisk, ToolFault> {
     if let Err(TryLockError::WouldBlock) = file.try_lock_shared() {
         return Err(ToolFault::StageInUse);
     }
-    match held_file(ReadOnly { file }) {
+    match held_file(rt.alloc(), ReadOnly { file }) {
         Ok(disk) => Ok(disk),
-        Err(_) => Err(ToolFault::Stage(StageFault::Device)),
+        Err(fault) => Err(ToolFault::Stage(fault)),
     }
 }
 

@@ -143,7 +143,7 @@ fn session_in(rt: &HostRuntime, path: &str) -> io::Result<Option<FileSession>> {
     let mut options = OpenOptions::new();
     options.read(true).write(true).create(true);
     let file = options.open(rt, path)?;
-    let Ok(disk) = held_file(file) else {
+    let Ok(disk) = held_file(rt.alloc(), file) else {
         return Ok(None);
     };
     Ok(open_session(rt.alloc(), disk, Field::of_bytes(*b"ABC001"), 1).ok())

@@ -65,26 +65,26 @@ returns-clause-any g c honest =
 
 -- ---- passed on, and more written than is ever held
 
-pub returns-then-bytes-gt-ROOM-clause-crash : goal.returns-then-bytes-gt-ROOM-clause-crash
-returns-then-bytes-gt-ROOM-clause-crash g c honest =
+pub returns-then-bytes-capacity-clause-crash : goal.returns-then-bytes-capacity-clause-crash
+returns-then-bytes-capacity-clause-crash g c honest =
     let passed = c.in_ok-pass_on.ensures in
     then_follows _ _ _ _ _ _ passed.empty (passed.crash honest)
     (c.write_at.ensures.crash (passed.honest.onward honest))
 
-pub returns-then-bytes-gt-ROOM-clause-stays : goal.returns-then-bytes-gt-ROOM-clause-stays
-returns-then-bytes-gt-ROOM-clause-stays g c honest =
+pub returns-then-bytes-capacity-clause-stays : goal.returns-then-bytes-capacity-clause-stays
+returns-then-bytes-capacity-clause-stays g c honest =
     let passed = c.in_ok-pass_on.ensures in
     then_stays _ _ _ _ _ passed.empty (passed.stays honest)
     (c.write_at.ensures.stays (passed.honest.onward honest))
 
-pub returns-then-bytes-gt-ROOM-clause-any : goal.returns-then-bytes-gt-ROOM-clause-any
-returns-then-bytes-gt-ROOM-clause-any g c honest =
+pub returns-then-bytes-capacity-clause-any : goal.returns-then-bytes-capacity-clause-any
+returns-then-bytes-capacity-clause-any g c honest =
     let passed = c.in_ok-pass_on.ensures in
     then_allows _ _ _ _ _ _ passed.empty (passed.stays honest)
     (c.in_ok-write_at.ensures.any (passed.honest.onward honest))
 
-pub returns-then-bytes-gt-ROOM-clause-time : goal.returns-then-bytes-gt-ROOM-clause-time
-returns-then-bytes-gt-ROOM-clause-time g c honest =
+pub returns-then-bytes-capacity-clause-time : goal.returns-then-bytes-capacity-clause-time
+returns-then-bytes-capacity-clause-time g c honest =
     let passed = c.in_ok-pass_on.ensures in
     let onward = passed.honest.onward honest in
     then_elapses _ _ _ _ _ _ _ _ _ _ _ _ _ passed.empty (passed.crash honest)

@@ -1,6 +1,13 @@
 use Rattle.tape_stage.proofs.HoldingLaws.{then_elapses, same_elapses}
 use Rattle.tape_stage.proofs.disk.write_behind.WriteBehindDisk.read.Goals as goal
 
+pub returns-in-Ok-read-clause-time : goal.returns-in-Ok-read-clause-time
+returns-in-Ok-read-clause-time g c honest =
+    let passed = c.in-Ok.ensures in
+    then_elapses _ _ _ _ _ _ _ _ _ _ _ _ _ passed.empty (passed.crash honest)
+    (λ t x le now. g.met.D.Disk.counts_now c.pass_on.new.self.disk t x (passed.honest.onward honest)
+    le now) (passed.time honest) (c.read.ensures.time (passed.honest.onward honest))
+
 pub returns-in-Err-read-clause-time : goal.returns-in-Err-read-clause-time
 returns-in-Err-read-clause-time g c honest =
     let passed = c.in-Ok.ensures in
