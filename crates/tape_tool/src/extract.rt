@@ -6,7 +6,7 @@ mod program;
 mod stage_file;
 pub mod words;
 
-pub use draft::{Draft, OutName};
+pub use draft::Draft;
 pub use guard::{Way, way_to_out};
 pub use out_file::OutFile;
-pub use program::{extract, extract_file};
+pub use program::{HELD, NOT_MADE, draft_of, extract, extract_file};

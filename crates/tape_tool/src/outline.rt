@@ -3,7 +3,7 @@ ghost use Rattle.std.specs.Prelude.{◌≡◌, ⊤, IfOk};
 ghost use Rattle.clap.specs.Words.{kind_of};
 ghost use Rattle.tape_tool.specs.Words.{RefusedFor};
 
-use clap::builder::ValueParser;
+use clap::builder::{ValueParser, ValueRange};
 use clap::error::ErrorKind;
 use clap::{Arg, ArgAction, Command, Error};
 use std::alloc::{AllocError, Global};
@@ -42,17 +42,17 @@ pub enum Kind {
     FlagOf(&'static str),
     /// An option with a text, which help calls so.
     TextOption(&'static str),
-    /// An option with a number, up to this one, and the number where it is left out.
-    NumberOption(u64, Option<&'static str>),
-    /// An option that help calls so, with one of these names, and the name where it is left out.
-    NameOption(&'static str, &'static [&'static str], &'static str),
+    /// An option with a number, up to this one, and what stands for it where it is left out.
+    NumberOption(u64, &'static [&'static str]),
+    /// An option that help calls so, with one of these names, and the same.
+    NameOption(&'static str, &'static [&'static str], &'static [&'static str]),
 }
 
 /// The command of an outline.
 pub fn command_of<'a>(alloc: Global, outline: &Outline) -> Result<Command<'a>, AllocError> {
     let mut command = bare(alloc, outline)?;
     for word in outline.words {
-        command = with_word(alloc, command, word)?;
+        command = command.arg(argument(alloc, word)?)?;
     }
     match outline.usage {
         Some(usage) => Ok(command.override_usage(usage)),
@@ -62,59 +62,82 @@ pub fn command_of<'a>(alloc: Global, outline: &Outline) -> Result<Command<'a>, A
 
 /// The command with its texts alone.
 fn bare<'a>(alloc: Global, outline: &Outline) -> Result<Command<'a>, AllocError> {
-    let command = Command::new(alloc, outline.name).bin_name(outline.called)?;
-    Ok(command.about(outline.about).after_help(outline.after_help))
-}
-
-/// The command, which takes this word or option too.
-fn with_word<'a>(
-    alloc: Global,
-    command: Command<'a>,
-    word: &Word,
-) -> Result<Command<'a>, AllocError> {
-    command.arg(argument(alloc, word)?)
+    Command::new(alloc, outline.name)
+        .about(outline.about)
+        .after_help(outline.after_help)
+        .bin_name(outline.called)
 }
 
 /// The argument of a word or an option.
 fn argument<'a>(alloc: Global, word: &Word) -> Result<Arg<'a>, AllocError> {
     let Word(name, kind, help) = word;
     let arg = Arg::new(alloc, *name).help(*help);
-    Ok(match *kind {
-        Kind::Text => arg.required(true),
-        Kind::Number(least, most) => {
-            arg.required(true)
-                .value_parser(ValueParser::Unsigned(least, most))
-        }
-        Kind::Texts => arg.required(true).num_args(1..),
-        Kind::TextsOr(option) => arg.required_unless_present(option)?.num_args(1..),
-        Kind::AnyTexts => arg.num_args(..),
+    match *kind {
+        Kind::TextsOr(option) => arg.num_args(1..).required_unless_present(option),
+        Kind::Flag => Ok(arg.long(*name).action(ArgAction::SetTrue)),
         Kind::FlagOf(option) => {
-            arg.long(*name)
-                .action(ArgAction::SetTrue)
-                .requires_arg(option)?
+            let flag = arg.long(*name).action(ArgAction::SetTrue);
+            flag.requires_arg(option)
         }
-        option => option_argument(arg.long(*name), option),
-    })
+        kind if is_option(kind) => Ok(option_argument(arg.long(*name), kind)),
+        kind => Ok(word_argument(arg, kind)),
+    }
 }
 
-/// The argument of an option.
+/// Whether a value is given behind a name.
+fn is_option(kind: Kind) -> bool {
+    matches!(
+        kind,
+        Kind::TextOption(_) | Kind::NumberOption(_, _) | Kind::NameOption(_, _, _)
+    )
+}
+
+/// The argument of a word.
+fn word_argument<'a>(arg: Arg<'a>, kind: Kind) -> Arg<'a> {
+    arg.required(!matches!(kind, Kind::AnyTexts))
+        .num_args(count_of(kind))
+        .value_parser(parser_of(kind))
+}
+
+/// The argument of an option with a value.
 fn option_argument<'a>(long: Arg<'a>, kind: Kind) -> Arg<'a> {
+    long.value_name(value_name_of(kind))
+        .value_parser(parser_of(kind))
+        .default_values(defaults_of(kind))
+}
+
+/// How many values a word takes.
+fn count_of(kind: Kind) -> ValueRange {
     match kind {
-        Kind::TextOption(value) => long.value_name(value),
-        Kind::NumberOption(most, default) => {
-            let number = long
-                .value_name("N")
-                .value_parser(ValueParser::Unsigned(0, most));
-            match default {
-                Some(value) => number.default_value(value),
-                None => number,
-            }
-        }
-        Kind::NameOption(value, names, default) => long
-            .value_name(value)
-            .value_parser(ValueParser::Names(names))
-            .default_value(default),
-        _ => long.action(ArgAction::SetTrue),
+        Kind::Texts => ValueRange::from(1..),
+        Kind::AnyTexts => ValueRange::from(..),
+        _ => ValueRange::from(1),
+    }
+}
+
+/// What a value has to be.
+fn parser_of(kind: Kind) -> ValueParser<'static> {
+    match kind {
+        Kind::Number(least, most) => ValueParser::Unsigned(least, most),
+        Kind::NumberOption(most, _) => ValueParser::Unsigned(0, most),
+        Kind::NameOption(_, names, _) => ValueParser::Names(names),
+        _ => ValueParser::String,
+    }
+}
+
+/// What help calls the value of an option.
+fn value_name_of(kind: Kind) -> &'static str {
+    match kind {
+        Kind::TextOption(name) | Kind::NameOption(name, _, _) => name,
+        _ => "N",
+    }
+}
+
+/// The value of an option that is left out, if it has one.
+fn defaults_of(kind: Kind) -> &'static [&'static str] {
+    match kind {
+        Kind::NumberOption(_, default) | Kind::NameOption(_, _, default) => default,
+        _ => &[],
     }
 }
 

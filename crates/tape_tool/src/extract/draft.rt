@@ -36,29 +36,7 @@ pub struct OutName<'a, R: Files> {
     placed: bool,
 }
 
-/// A draft and the name that it takes, where one could be made.
-pub type Drafted<'a, R> = Option<(OutName<'a, R>, DraftFile<<R as Files>::File>)>;
-
 impl<'a, R: Files> OutName<'a, R> {
-    /// Makes a draft beside the output, under a name that nothing has: `.part` behind the
-    /// output's, and a number behind that where it must. None where none can be made.
-    ///
-    /// Its permissions are those of the file that it is to replace.
-    pub fn make(alloc: Global, files: &'a R, name: &'a str) -> Result<Drafted<'a, R>, AllocError> {
-        for number in 1..=MOST_DRAFTS {
-            let draft = draft_name(alloc, name, number)?;
-            match File::create_new(files, draft.as_str()) {
-                Ok(file) => {
-                    keep_permissions(files, name, &file);
-                    return Ok(Some((OutName::new(files, draft, name), DraftFile { file })));
-                }
-                Err(error) if error.kind() == ErrorKind::AlreadyExists => {}
-                Err(_) => return Ok(None),
-            }
-        }
-        Ok(None)
-    }
-
     fn new(files: &'a R, draft: String, name: &'a str) -> OutName<'a, R> {
         OutName {
             files,
@@ -119,6 +97,34 @@ impl<'a, R: Files> Place<BufWriter<DraftFile<R::File>>> for OutName<'a, R> {
 pub struct Draft<'a, R: Files> {
     pub name: OutName<'a, R>,
     pub file: DraftFile<R::File>,
+}
+
+impl<'a, R: Files> Draft<'a, R> {
+    /// Makes a draft beside the output, under a name that nothing has: `.part` behind the
+    /// output's, and a number behind that where it must. None where none can be made.
+    ///
+    /// Its permissions are those of the file that it is to replace.
+    pub fn make(
+        alloc: Global,
+        files: &'a R,
+        name: &'a str,
+    ) -> Result<Option<Draft<'a, R>>, AllocError> {
+        for number in 1..=MOST_DRAFTS {
+            let draft = draft_name(alloc, name, number)?;
+            match File::create_new(files, draft.as_str()) {
+                Ok(file) => {
+                    keep_permissions(files, name, &file);
+                    return Ok(Some(Draft {
+                        name: OutName::new(files, draft, name),
+                        file: DraftFile { file },
+                    }));
+                }
+                Err(error) if error.kind() == ErrorKind::AlreadyExists => {}
+                Err(_) => return Ok(None),
+            }
+        }
+        Ok(None)
+    }
 }
 
 impl<R: Files> Write for Draft<'_, R> {

@@ -1,5 +1,5 @@
 //! The program around the engines of `extract`: images, memory, the file.
-use super::draft::{Draft, DraftFile, Drafted, OutName};
+use super::draft::{Draft, DraftFile};
 use super::guard::{Way, way_of};
 use super::out_file::OutFile;
 use super::stage_file::session_in;
@@ -11,33 +11,46 @@ use crate::images::Images;
 use crate::names::names_of;
 use crate::program::refuse_unfit;
 use crate::words::{EXTRACT, Extract, Task};
+use std::alloc::Global;
 use std::io;
 use std::io::{BufWriter, Write};
 use std::rt::Runtime;
 use tape_core::{MemorySink, PartWalk, SinkFault};
 use tape_run::{EngineFault, OutSink, RunFault, Session, extract_again, extract_now, extract_to};
+use tape_set::Want;
 
 /// How many bytes of the output are held before they are written, at most.
-const HELD: usize = 65_536;
+pub const HELD: usize = 65_536;
 
 /// The output could not be made.
-const NOT_MADE: End = End::Faulted(Fault::Tool(ToolFault::File(FileFault::NotOpened)));
+pub const NOT_MADE: End = End::Faulted(Fault::Tool(ToolFault::File(FileFault::NotOpened)));
 
 /// Gets the file back that the words name. At a fault the site is where it came.
 pub fn extract<'a, R: Host>(rt: &R, order: &Extract<'a>, site: &mut Site<'a>) -> End {
     let mut text = String::new(rt.alloc());
-    let names = match names_of(rt, &order.images, &mut text, site) {
-        Ok(names) => names,
-        Err(unfit) => return refuse_unfit(rt, &EXTRACT, unfit),
-    };
-    *site = Site::Out(order.task.out);
-    let way = match way_of(rt, order, names.as_slice()) {
-        Ok(way) => way,
-        Err(unfit) => return refuse_unfit(rt, &EXTRACT, unfit),
-    };
-    let mut images = Images::new(rt, names.as_slice());
-    let report = &mut io::writer(rt);
-    extract_file(rt, &order.task, &mut images, way, report, site)
+    match names_of(rt, &order.images, &mut text, site) {
+        Ok(names) => {
+            *site = Site::Out(order.task.out);
+            extract_from(rt, order, names.as_slice(), site)
+        }
+        Err(unfit) => refuse_unfit(rt, &EXTRACT, unfit),
+    }
+}
+
+/// Gets the file back from the images of these names.
+fn extract_from<'a, R: Host>(
+    rt: &R,
+    order: &Extract<'a>,
+    names: &[&str],
+    site: &mut Site<'a>,
+) -> End {
+    match way_of(rt, order, names) {
+        Ok(way) => {
+            let images = &mut Images::new(rt, names);
+            extract_file(rt, &order.task, images, way, &mut io::writer(rt), site)
+        }
+        Err(unfit) => refuse_unfit(rt, &EXTRACT, unfit),
+    }
 }
 
 /// Gets a file back. At a fault the site is where it came.
@@ -67,7 +80,7 @@ fn on_stage<'a, R: Host, P: Write>(
     site: &mut Site<'a>,
 ) -> End {
     let end = match session_in(rt, path, task.set_id, task.file) {
-        Ok(session) => gather(rt, task, images, way, report, session),
+        Ok(mut session) => gather(rt, task, images, way, report, &mut session),
         Err(fault) => {
             *site = Site::Stage(path);
             return end_of(Err(fault));
@@ -81,22 +94,18 @@ fn on_stage<'a, R: Host, P: Write>(
 
 /// A draft of the output, where it is written so and one can be made. Where none can, as in a
 /// folder that is not the user's, the output is written in place.
-fn draft_of<'a, R: Runtime + AllocGlobal>(
+pub fn draft_of<'a, R: Runtime + AllocGlobal>(
     rt: &'a R,
-    task: &Task<'a>,
+    out: &'a str,
     way: Way,
-) -> Result<Drafted<'a, R>, End> {
-    match way {
-        Way::InPlace => Ok(None),
-        Way::Renamed => match OutName::make(rt.alloc(), rt, task.out) {
-            Ok(drafted) => Ok(drafted),
-            Err(_) => Err(End::Faulted(Fault::OutOfMemory)),
-        },
-        Way::New => match OutName::make(rt.alloc(), rt, task.out) {
-            Ok(Some(drafted)) => Ok(Some(drafted)),
-            Ok(None) => Err(NOT_MADE),
-            Err(_) => Err(End::Faulted(Fault::OutOfMemory)),
-        },
+) -> Result<Option<Draft<'a, R>>, End> {
+    if let Way::InPlace = way {
+        return Ok(None);
+    }
+    match Draft::make(rt.alloc(), rt, out) {
+        Ok(None) if matches!(way, Way::New) => Err(NOT_MADE),
+        Ok(draft) => Ok(draft),
+        Err(_) => Err(End::Faulted(Fault::OutOfMemory)),
     }
 }
 
@@ -114,7 +123,7 @@ fn in_memory<'a, R: Runtime + AllocGlobal, P: Write>(
         return End::WrongWords;
     };
     match session.note() {
-        Ok(()) => gather(rt, task, images, way, report, session),
+        Ok(()) => gather(rt, task, images, way, report, &mut session),
         Err(_) => End::Faulted(Fault::OutOfMemory),
     }
 }
@@ -128,20 +137,24 @@ fn at_once<'a, R: Runtime + AllocGlobal, P: Write>(
     way: Way,
     report: &mut P,
 ) -> End {
-    match draft_of(rt, task, way) {
-        Ok(Some((name, file))) => into_draft(rt, task, images, report, name, file),
-        Ok(None) => {
-            let Ok(session) = Session::new(
-                rt.alloc(),
-                task.set_id,
-                task.file,
-                MemorySink::new(rt.alloc()),
-            ) else {
-                return End::WrongWords;
-            };
-            in_place(rt, task, images, report, session)
-        }
+    match draft_of(rt, task.out, way) {
+        Ok(Some(draft)) => into_draft(rt, task, images, report, draft),
+        Ok(None) => from_memory(rt, task, images, report),
         Err(end) => end,
+    }
+}
+
+/// Gathers the file in memory, and writes it in place.
+fn from_memory<R: Runtime + AllocGlobal, P: Write>(
+    rt: &R,
+    task: &Task<'_>,
+    images: &mut Images<'_, R>,
+    report: &mut P,
+) -> End {
+    let sink = MemorySink::new(rt.alloc());
+    match Session::new(rt.alloc(), task.set_id, task.file, sink) {
+        Ok(mut session) => in_place(rt, task, images, report, &mut session),
+        Err(_) => End::WrongWords,
     }
 }
 
@@ -151,32 +164,41 @@ fn into_draft<R: Runtime + AllocGlobal, P: Write>(
     task: &Task<'_>,
     images: &mut Images<'_, R>,
     report: &mut P,
-    name: OutName<'_, R>,
-    file: DraftFile<R::File>,
+    draft: Draft<'_, R>,
 ) -> End {
-    let mut name = name;
-    let Ok(out) = BufWriter::with_capacity(rt.alloc(), HELD, file) else {
-        name.clear();
-        return End::Faulted(Fault::OutOfMemory);
+    let Draft { mut name, file } = draft;
+    let end = match session_into(rt.alloc(), task, file) {
+        Ok(session) => {
+            end_as_written(extract_now(session, images, task.form, &mut name, report))
+        }
+        Err(end) => end,
     };
-    let sink = OutSink::new(out, task.form);
-    let Ok(session) = Session::new(rt.alloc(), task.set_id, task.file, sink) else {
-        return End::WrongWords;
-    };
-    let answer = extract_now(session, images, task.form, &mut name, report);
     name.clear();
-    match answer {
-        Err(fault) => extract_end(Err(as_written(fault))),
-        answer => extract_end(answer),
+    end
+}
+
+/// A session whose records go to this file.
+fn session_into<F: Write + Drop>(
+    alloc: Global,
+    task: &Task<'_>,
+    file: F,
+) -> Result<Session<OutSink<BufWriter<F>>>, End> {
+    let Ok(out) = BufWriter::with_capacity(alloc, HELD, file) else {
+        return Err(End::Faulted(Fault::OutOfMemory));
+    };
+    match Session::new(alloc, task.set_id, task.file, OutSink::new(out, task.form)) {
+        Ok(session) => Ok(session),
+        Err(_) => Err(End::WrongWords),
     }
 }
 
-/// The fault as the program tells it: a part that could not be kept was a record that could not be
-/// written.
-fn as_written(fault: EngineFault) -> EngineFault {
-    match fault {
-        EngineFault::Run(RunFault::Sink(SinkFault::Device)) => EngineFault::WriteFailed,
-        other => other,
+/// How it ends: a part that could not be kept was a record that could not be written.
+fn end_as_written(answer: Result<Option<Want>, EngineFault>) -> End {
+    match answer {
+        Err(EngineFault::Run(RunFault::Sink(SinkFault::Device))) => {
+            extract_end(Err(EngineFault::WriteFailed))
+        }
+        answer => extract_end(answer),
     }
 }
 
@@ -187,14 +209,25 @@ fn gather<'a, R: Runtime + AllocGlobal, S: PartWalk + Drop, P: Write>(
     images: &mut Images<'_, R>,
     way: Way,
     report: &mut P,
-    session: Session<S>,
+    session: &mut Session<S>,
 ) -> End {
-    let (name, file) = match draft_of(rt, task, way) {
-        Ok(Some(drafted)) => drafted,
-        Ok(None) => return in_place(rt, task, images, report, session),
-        Err(end) => return end,
-    };
-    let mut draft = Draft { name, file };
+    match draft_of(rt, task.out, way) {
+        Ok(Some(draft)) => drafted(rt, task, images, report, session, draft),
+        Ok(None) => in_place(rt, task, images, report, session),
+        Err(end) => end,
+    }
+}
+
+/// Reads the images into the session, and writes the file to the draft where it is complete.
+fn drafted<R: Runtime + AllocGlobal, S: PartWalk + Drop, P: Write>(
+    rt: &R,
+    task: &Task<'_>,
+    images: &mut Images<'_, R>,
+    report: &mut P,
+    session: &mut Session<S>,
+    draft: Draft<'_, R>,
+) -> End {
+    let mut draft = draft;
     let end = match BufWriter::with_capacity(rt.alloc(), HELD, &mut draft) {
         Ok(mut out) => written_to(task, images, report, session, &mut out),
         Err(_) => End::Faulted(Fault::OutOfMemory),
@@ -209,7 +242,7 @@ fn in_place<R: Runtime + AllocGlobal, S: PartWalk + Drop, P: Write>(
     task: &Task<'_>,
     images: &mut Images<'_, R>,
     report: &mut P,
-    session: Session<S>,
+    session: &mut Session<S>,
 ) -> End {
     let Ok(mut out) = BufWriter::with_capacity(rt.alloc(), HELD, OutFile::new(rt, task.out)) else {
         return End::Faulted(Fault::OutOfMemory);
@@ -226,14 +259,13 @@ fn written_to<R: Runtime + AllocGlobal, S: PartWalk + Drop, W: Write, P: Write>(
     task: &Task<'_>,
     images: &mut Images<'_, R>,
     report: &mut P,
-    session: Session<S>,
+    session: &mut Session<S>,
     out: &mut W,
 ) -> End {
-    let mut session = session;
     let answer = if task.again {
-        extract_again(&mut session, images, task.form, out, report)
+        extract_again(session, images, task.form, out, report)
     } else {
-        extract_to(&mut session, images, task.form, out, report)
+        extract_to(session, images, task.form, out, report)
     };
     extract_end(answer)
 }

@@ -49,7 +49,7 @@ pub const EXTRACT: Outline = Outline {
         Word("null", Kind::FlagOf("from"), help::NULL),
         Word(
             "form",
-            Kind::NameOption("FORM", FORMS, "lines"),
+            Kind::NameOption("FORM", FORMS, &["lines"]),
             help::FORM_OF_OUT,
         ),
         Word("stage", Kind::TextOption("PATH"), help::STAGE),

@@ -11,6 +11,12 @@ use std::rt::Runtime;
 use tape_image::{ImageCause, ImageFault};
 use tape_run::{list_places_to, list_to};
 
+/// No memory for a buffer.
+const NO_MEMORY: ToolFault = ToolFault::Image(ImageFault {
+    place: 0,
+    cause: ImageCause::OutOfMemory,
+});
+
 /// Lists the image at the path, or that on standard input.
 pub fn list<'a, R: Runtime + AllocGlobal>(rt: &R, order: Listing<'a>, site: &mut Site<'a>) -> End {
     let (listed, read) = match order.image {
@@ -38,20 +44,25 @@ fn list_input<R: Print + AllocGlobal, I: Read + Drop>(
     input: I,
     places: bool,
 ) -> Result<(), ToolFault> {
-    let no_memory = ToolFault::Image(ImageFault {
-        place: 0,
-        cause: ImageCause::OutOfMemory,
-    });
     let Ok(mut reader) = BufReader::with_capacity(rt.alloc(), READ_AHEAD, input) else {
-        return Err(no_memory);
+        return Err(NO_MEMORY);
     };
+    list_from(rt, &mut reader, places)
+}
+
+/// Lists what this reader has left.
+fn list_from<R: Print + AllocGlobal, I: Read>(
+    rt: &R,
+    reader: &mut I,
+    places: bool,
+) -> Result<(), ToolFault> {
     let Ok(mut writer) = BufWriter::new(rt.alloc(), io::writer(rt)) else {
-        return Err(no_memory);
+        return Err(NO_MEMORY);
     };
     let listed = if places {
-        list_places_to(rt.alloc(), &mut reader, &mut writer)
+        list_places_to(rt.alloc(), reader, &mut writer)
     } else {
-        list_to(rt.alloc(), &mut reader, &mut writer)
+        list_to(rt.alloc(), reader, &mut writer)
     };
     Ok(listed?)
 }

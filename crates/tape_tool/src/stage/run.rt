@@ -4,7 +4,7 @@ use super::show::{show_damaged, show_stage};
 use super::words::{STAGE, StageOrder};
 use crate::end::{End, damaged_end, end_of, stage_end};
 use crate::explain::Site;
-use crate::extract::{Draft, OutFile, OutName, Way, way_to_out};
+use crate::extract::{Draft, HELD, NOT_MADE, OutFile, Way, draft_of, way_to_out};
 use crate::fault::{Fault, FileFault, ToolFault};
 use crate::host::Host;
 use crate::program::refuse_unfit;
@@ -16,9 +16,6 @@ use tape_stage::{HeldFile, held_file};
 
 /// The file of a stage, which is only read.
 type StageDisk = HeldFile<ReadOnly<File>>;
-
-/// How many bytes of the output are held before they are written, at most.
-const HELD: usize = 65_536;
 
 /// Tells what the stage that the words name holds. At a fault the site is where it came.
 pub fn stage<'a, R: Host>(rt: &R, order: &StageOrder<'a>, site: &mut Site<'a>) -> End {
@@ -77,23 +74,27 @@ fn show_disk<'a, R: Host>(
     let (Some(out), Some(way)) = (order.out, way) else {
         return show_to(rt, order, disk, &mut io::sink());
     };
-    let drafted = match way {
-        Way::InPlace => Ok(None),
-        Way::Renamed | Way::New => OutName::make(rt.alloc(), rt, out),
-    };
-    match drafted {
-        Ok(Some((name, file))) => {
-            let mut draft = Draft { name, file };
-            let end = match BufWriter::with_capacity(rt.alloc(), HELD, &mut draft) {
-                Ok(mut file) => show_to(rt, order, disk, &mut file),
-                Err(_) => End::Faulted(Fault::OutOfMemory),
-            };
-            draft.name.clear();
-            end
-        }
+    match draft_of(rt, out, way) {
+        Ok(Some(draft)) => show_drafted(rt, order, disk, draft),
         Ok(None) => show_in_place(rt, order, disk, out),
-        Err(_) => End::Faulted(Fault::OutOfMemory),
+        Err(end) => end,
     }
+}
+
+/// The same, with the records written to the draft.
+fn show_drafted<R: Host>(
+    rt: &R,
+    order: &StageOrder<'_>,
+    disk: StageDisk,
+    draft: Draft<'_, R>,
+) -> End {
+    let mut draft = draft;
+    let end = match BufWriter::with_capacity(rt.alloc(), HELD, &mut draft) {
+        Ok(mut file) => show_to(rt, order, disk, &mut file),
+        Err(_) => End::Faulted(Fault::OutOfMemory),
+    };
+    draft.name.clear();
+    end
 }
 
 /// The same, with the records written to what stands under the output's name.
@@ -103,7 +104,7 @@ fn show_in_place<R: Host>(rt: &R, order: &StageOrder<'_>, disk: StageDisk, out: 
     };
     let end = show_to(rt, order, disk, &mut file);
     if file.get_ref().is_refused() {
-        return End::Faulted(Fault::Tool(ToolFault::File(FileFault::NotOpened)));
+        return NOT_MADE;
     }
     end
 }

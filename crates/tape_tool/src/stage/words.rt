@@ -32,7 +32,7 @@ pub const STAGE: Outline = Outline {
         Word("OUT", Kind::AnyTexts, help::OUT_OF_STAGE),
         Word(
             "form",
-            Kind::NameOption("FORM", FORMS, "lines"),
+            Kind::NameOption("FORM", FORMS, &["lines"]),
             help::FORM_OF_OUT,
         ),
         Word("damaged", Kind::Flag, help::DAMAGED),

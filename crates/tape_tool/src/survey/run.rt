@@ -34,6 +34,11 @@ fn survey_files<R: Runtime + AllocGlobal>(
     let Ok(mut report) = BufWriter::new(rt.alloc(), io::writer(rt)) else {
         return Err(EngineFault::Run(RunFault::OutOfMemory));
     };
-    let mut images = Images::new(rt, names);
-    survey_to(rt.alloc(), &mut images, names, wording, &mut report)
+    survey_to(
+        rt.alloc(),
+        &mut Images::new(rt, names),
+        names,
+        wording,
+        &mut report,
+    )
 }

@@ -2,12 +2,10 @@
 use super::calls::{Step, each_ends, ends, put, take_all, with_images};
 use super::volumes::{first_of_two, second_of_two};
 use super::words::words_of;
-use crate::end::{End, finish};
-use crate::fault::{Fault, FileFault, ToolFault};
-use crate::telling::fault_line;
+use crate::end::End;
+use crate::fault::{FileFault, ToolFault};
 use crate::words::{Order, call_of};
 use std::test::Fail;
-use tape_run::RunFault;
 
 const LINES: &[(&str, End)] = &[
     ("check check1.tap check2.tap", End::Done),
@@ -80,12 +78,4 @@ fn at_most_256_images(rt: HostRuntime) -> Result<(), Fail> {
 fn not_257_images(rt: HostRuntime) -> Result<(), Fail> {
     let line = with_images(rt.alloc(), "check", 257)?;
     ends(&rt, line.as_str(), End::WrongWords)
-}
-
-#[test]
-fn statuses(rt: HostRuntime) {
-    let no_memory = Fault::Tool(ToolFault::Run(RunFault::OutOfMemory));
-    assert!(rt; finish(&rt, End::Incomplete) == 3);
-    assert!(rt; finish(&rt, End::Faulted(no_memory)) == 1);
-    assert_eq!(rt; fault_line(no_memory).as_str(), "tape: run fault 4\n");
 }

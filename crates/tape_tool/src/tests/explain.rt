@@ -12,18 +12,21 @@ use tape_image::{ImageCause, ImageFault};
 use tape_run::RunFault;
 use tape_writer::Prefix;
 
-/// Each text has one to three lines of at most 79 columns, none of them empty.
+/// Whether the text has one to three lines of at most 79 columns, none of them empty.
+fn fits(text: &str) -> bool {
+    let count = text.lines().count();
+    let narrow = text
+        .lines()
+        .all(|line| line.starts_with("  ") && line.len() <= 79);
+    text.ends_with("\n") && narrow && 0 < count && count <= 3
+}
+
 #[test]
 fn texts_fit_on_a_screen(rt: HostRuntime) {
-    for text in TEXTS.iter().flat_map(|texts| texts.iter()) {
-        let count = text.lines().count();
-        let fits = text
-            .lines()
-            .all(|line| line.starts_with("  ") && line.len() <= 79);
-        assert!(rt;
-            text.ends_with("\n") && fits && 0 < count && count <= 3,
-            "{text}"
-        );
+    for texts in TEXTS {
+        for text in *texts {
+            assert!(rt; fits(*text), "{text}");
+        }
     }
 }
 

@@ -1,18 +1,15 @@
 //! `extract` as it is called: words, files, ends.
 use super::calls::{Step, each_is_wrong, ends, take_all, with_images};
 use super::words::words_of;
-use crate::end::{End, end_of, extract_end, finish};
+use crate::end::{End, extract_end};
 use crate::extract::words::Extract;
 use crate::fault::{Fault, FileFault, ToolFault};
-use crate::telling::fault_line;
 use crate::words::{Order, call_of};
-use std::process::Abort;
 use std::test::Fail;
 use tape_blocks::Form;
 use tape_core::SinkFault;
 use tape_run::{EngineFault, RunFault};
 use tape_set::Want;
-use tape_stage::StageFault;
 
 const WRITTEN: &[Step<'_>] = &[
     Step::PutWorked("got.tap", 2484),
@@ -224,13 +221,14 @@ const WRONG: &[&str] = &[
     "extract --form records ABC001 1 out.txt a.tap",
 ];
 
-/// What `extract AB 9999 out.txt a.tap b.tap` asks for.
-fn is_order<A: Abort>(rt: &A, order: &Extract<'_>) {
+/// Whether it is what `extract AB 9999 out.txt a.tap b.tap` asks for.
+fn is_order(order: &Extract<'_>) -> bool {
     let task = &order.task;
-    assert!(rt; task.set_id.bytes() == b"AB    ".as_slice());
-    assert!(rt; task.file == 9999 && task.form == Form::Lines);
-    assert!(rt; task.out == "out.txt");
-    assert!(rt; matches!(order.images.words.as_slice(), ["a.tap", "b.tap"]));
+    task.set_id.bytes() == b"AB    ".as_slice()
+        && task.file == 9999
+        && task.form == Form::Lines
+        && task.out == "out.txt"
+        && matches!(order.images.words.as_slice(), ["a.tap", "b.tap"])
 }
 
 #[test]
@@ -239,7 +237,7 @@ fn words_of_extract(rt: HostRuntime) -> Result<(), Fail> {
     let words = words_of(rt.alloc(), "extract AB 9999 out.txt a.tap b.tap")?;
     let call = call_of(rt.alloc(), words.as_slice())?;
     match &call.order {
-        Order::Extract(order) => is_order(&rt, order),
+        Order::Extract(order) => assert!(rt; is_order(order)),
         _ => return Err(Fail::from("an order to extract")),
     }
     Ok(())
@@ -262,50 +260,23 @@ const START: Want = Want {
     part: 0,
 };
 
-/// Faults and how each is told.
-const FAULTS: &[(ToolFault, &str)] = &[
+/// What the engine answers, and how `extract` ends then.
+const ANSWERS: &[(Result<Option<Want>, EngineFault>, End)] = &[
+    (Ok(Some(START)), End::Incomplete),
+    (Ok(None), End::Done),
     (
-        ToolFault::Run(RunFault::Sink(SinkFault::OutOfMemory)),
-        "tape: run fault 1\n",
-    ),
-    (ToolFault::Run(RunFault::OutOfMemory), "tape: run fault 4\n"),
-    (
-        ToolFault::Stage(StageFault::Device),
-        "tape: stage fault 3\n",
-    ),
-    (ToolFault::StageInUse, "tape: stage fault 7\n"),
-];
-
-/// Faults of the engine, and as what they are told.
-const ENGINE_FAULTS: &[(EngineFault, ToolFault)] = &[
-    (
-        EngineFault::WriteFailed,
-        ToolFault::File(FileFault::WriteFailed),
+        Err(EngineFault::WriteFailed),
+        End::Faulted(Fault::Tool(ToolFault::File(FileFault::WriteFailed))),
     ),
     (
-        EngineFault::Run(RunFault::Sink(SinkFault::Failed)),
-        ToolFault::Run(RunFault::Sink(SinkFault::Failed)),
+        Err(EngineFault::Run(RunFault::Sink(SinkFault::Failed))),
+        End::Faulted(Fault::Tool(ToolFault::Run(RunFault::Sink(SinkFault::Failed)))),
     ),
 ];
 
 #[test]
-fn ends_and_fault_lines(rt: HostRuntime) {
-    assert!(rt; finish(&rt, extract_end(Ok(Some(START)))) == 3);
-    assert!(rt; finish(&rt, extract_end(Ok(None))) == 0);
-    for (fault, line) in FAULTS {
-        let fault = Fault::Tool(*fault);
-        assert_eq!(rt; fault_line(fault).as_str(), *line);
-    }
-    for (fault, line) in FAULTS {
-        assert!(rt;
-            end_of(Err(*fault)) == End::Faulted(Fault::Tool(*fault)),
-            "{line}"
-        );
-    }
-    for (fault, told) in ENGINE_FAULTS {
-        assert!(rt;
-            extract_end(Err(*fault)) == End::Faulted(Fault::Tool(*told)),
-            "{fault}"
-        );
+fn ends_of_extract(rt: HostRuntime) {
+    for (row, (answer, end)) in ANSWERS.iter().enumerate() {
+        assert!(rt; extract_end(*answer) == *end, "row {row}");
     }
 }

@@ -1,8 +1,12 @@
 //! How a fault is told.
+use crate::end::{End, end_of};
 use crate::fault::{Fault, FileFault, ToolFault};
 use crate::telling::fault_line;
 use std::process::Abort;
+use tape_core::SinkFault;
 use tape_image::{ImageCause, ImageFault};
+use tape_run::RunFault;
+use tape_stage::StageFault;
 
 fn fault_at(place: u64, cause: ImageCause) -> ToolFault {
     ToolFault::Image(ImageFault { place, cause })
@@ -38,9 +42,25 @@ const FILE_FAULTS: &[(FileFault, &str)] = &[
     (FileFault::WriteFailed, "tape: file fault 4\n"),
 ];
 
-/// The fault is told by this line.
+/// Faults of sessions and stages, and how each is told.
+const OTHER_FAULTS: &[(ToolFault, &str)] = &[
+    (
+        ToolFault::Run(RunFault::Sink(SinkFault::OutOfMemory)),
+        "tape: run fault 1\n",
+    ),
+    (ToolFault::Run(RunFault::OutOfMemory), "tape: run fault 4\n"),
+    (
+        ToolFault::Stage(StageFault::Device),
+        "tape: stage fault 3\n",
+    ),
+    (ToolFault::StageInUse, "tape: stage fault 7\n"),
+];
+
+/// A command with this fault ends by it, and it is told by this line.
 fn is_told<A: Abort>(rt: &A, fault: ToolFault, line: &str) {
-    assert_eq!(rt; fault_line(Fault::Tool(fault)).as_str(), line);
+    let ends = end_of(Err(fault)) == End::Faulted(Fault::Tool(fault));
+    let told = fault_line(Fault::Tool(fault));
+    assert!(rt; ends && told.as_str() == line, "{line}: {told}");
 }
 
 #[test]
@@ -50,5 +70,8 @@ fn the_fault_line_of_each(rt: HostRuntime) {
     }
     for (fault, line) in FILE_FAULTS {
         is_told(&rt, ToolFault::File(*fault), line);
+    }
+    for (fault, line) in OTHER_FAULTS {
+        is_told(&rt, *fault, line);
     }
 }

@@ -13,6 +13,7 @@ use std::io::{ErrorKind, Write};
 use std::process::Abort;
 use std::test::Fail;
 use tape_image::{ImageCause, ImageFault};
+use tape_run::RunFault;
 
 const NOT_WRITTEN: End = End::Faulted(Fault::Tool(ToolFault::File(FileFault::WriteFailed)));
 
@@ -119,6 +120,12 @@ fn a_file_is_listed(rt: HostRuntime) -> Result<(), Fail> {
 const STATUSES: &[(End, u8, &str)] = &[
     (End::Done, 0, ""),
     (End::WrongWords, 2, ""),
+    (End::Incomplete, 3, ""),
+    (
+        End::Faulted(Fault::Tool(ToolFault::Run(RunFault::OutOfMemory))),
+        1,
+        "tape: run fault 4\n",
+    ),
     (CUT_OFF, 1, "tape: image fault 1 at 1884\n"),
     (LAST, 1, "tape: image fault 6 at 18446744073709551615\n"),
     (NOT_WRITTEN, 1, "tape: file fault 4\n"),

@@ -81,10 +81,9 @@ fn is_told_torn<H: Abort + AllocGlobal>(
     let (mut out, mut report) = (Vec::new(rt.alloc()), Vec::new(rt.alloc()));
     let answer = show_damaged(rt.alloc(), disk, Form::Lines, &mut out, &mut report);
     let size = bytes.len();
-    let told = report.as_slice() == lines.as_bytes();
-    assert!(rt; told && out.len() == length, "{size}: {answer:?}");
-    let complete = damaged_end(answer) == End::Done;
-    assert!(rt; complete == (size == 2381), "{size}");
+    let told = report.as_slice() == lines.as_bytes() && out.len() == length;
+    let ends = (damaged_end(answer) == End::Done) == (size == 2381);
+    assert!(rt; told && ends, "{size}: {answer:?}");
     Ok(())
 }
 

@@ -45,8 +45,8 @@ fn day<H: Abort + AllocGlobal>(
     let Some((disk, want)) = read(rt.alloc(), disk, bad)? else {
         return Err(Fail::from("a day"));
     };
-    assert!(rt; want == wanted, "{bad}: {want:?}");
-    assert!(rt; disk.bytes().len() == length, "{bad}");
+    let size = disk.bytes().len();
+    assert!(rt; want == wanted && size == length, "{bad}: {want:?}, {size}");
     Ok(disk)
 }
 
@@ -106,8 +106,8 @@ fn a_stage_of_another_file(rt: HostRuntime) {
     let mut disk = MemoryDisk::new(rt.alloc());
     for (row, (set_id, file, wanted, length)) in ASKED.iter().enumerate() {
         let (same, fault) = fault_of(rt.alloc(), disk, set_id, *file);
-        assert!(rt; fault == *wanted, "row {row}: {file}");
-        assert!(rt; same.bytes().len() == *length, "row {row}: {file}");
+        let holds = same.bytes().len() == *length;
+        assert!(rt; fault == *wanted && holds, "row {row}: {file}");
         disk = same;
     }
 }
@@ -117,8 +117,8 @@ fn no_stage(rt: HostRuntime) -> Result<(), AllocError> {
     let notes = b"notes of another kind".as_slice();
     let disk = MemoryDisk::from_bytes(rt.alloc(), notes.to_vec(rt.alloc())?);
     let (disk, fault) = fault_of(rt.alloc(), disk, b"ABC001", 1);
-    assert!(rt; fault == Some(StagingFault::Stage(StageFault::NoPoint)));
-    assert!(rt; disk.bytes() == notes);
+    let no_point = fault == Some(StagingFault::Stage(StageFault::NoPoint));
+    assert!(rt; no_point && disk.bytes() == notes);
     Ok(())
 }
 

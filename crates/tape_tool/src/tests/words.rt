@@ -82,9 +82,9 @@ fn is_answered<H: Abort + AllocGlobal>(
     let Err(error) = call_of(rt.alloc(), words.as_slice()) else {
         return Err(Fail::from("a line that should be refused"));
     };
-    assert!(rt; error.exit_code() == status, "{line}");
     let said = error.to_string(rt.alloc())?;
-    assert!(rt; said.as_str().contains(text), "{text} in {said}");
+    let same = error.exit_code() == status && said.as_str().contains(text);
+    assert!(rt; same, "{line}: {text} in {said}");
     Ok(())
 }
 

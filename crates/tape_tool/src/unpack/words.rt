@@ -33,7 +33,7 @@ pub const UNPACK: Outline = Outline {
         Word("null", Kind::FlagOf("from"), help::NULL),
         Word(
             "form",
-            Kind::NameOption("FORM", FORMS, "lines"),
+            Kind::NameOption("FORM", FORMS, &["lines"]),
             help::FORM_OF_FILES,
         ),
     ],

@@ -43,9 +43,17 @@ fn write_set<R: Runtime + AllocGlobal>(rt: &R, order: &WriteOrder<'_>) -> Result
     let plan = plan_of(order)?;
     check_ids(order)?;
     let mut files = find_inputs(rt, order)?;
-    let ended = write_in_folder(rt, &plan, files.as_mut_slice())?;
-    let count = files.len() as u64;
-    Ok(say(&mut io::writer(rt), count, ended.as_slice())?)
+    write_files(rt, &plan, files.as_mut_slice())
+}
+
+/// Writes these files on volumes, and says on which.
+fn write_files<R: Runtime + AllocGlobal>(
+    rt: &R,
+    plan: &FolderPlan<'_>,
+    files: &mut [Input<InputFile<'_, R>>],
+) -> Result<(), ToolFault> {
+    let ended = write_in_folder(rt, plan, files)?;
+    Ok(say(&mut io::writer(rt), files.len() as u64, ended.as_slice())?)
 }
 
 /// Where and how the set is to be written.

@@ -47,14 +47,18 @@ pub const WRITE: Outline = Outline {
         Word("ID=PATH", Kind::Texts, help::FILES),
         Word(
             "format",
-            Kind::NameOption("FORMAT", FORMATS, "D"),
+            Kind::NameOption("FORMAT", FORMATS, &["D"]),
             help::FORMAT,
         ),
-        Word("block", Kind::NumberOption(MOST, Some("2048")), help::BLOCK),
-        Word("record", Kind::NumberOption(MOST, None), help::RECORD),
-        Word("offset", Kind::NumberOption(255, Some("0")), help::OFFSET),
+        Word("block", Kind::NumberOption(MOST, &["2048"]), help::BLOCK),
+        Word("record", Kind::NumberOption(MOST, &[]), help::RECORD),
+        Word("offset", Kind::NumberOption(255, &["0"]), help::OFFSET),
         Word("pad-full", Kind::Flag, help::PAD_FULL),
-        Word("form", Kind::NameOption("FORM", FORMS, "lines"), help::FORM),
+        Word(
+            "form",
+            Kind::NameOption("FORM", FORMS, &["lines"]),
+            help::FORM,
+        ),
     ],
 };
 
