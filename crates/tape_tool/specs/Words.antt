@@ -18,6 +18,8 @@ use Rattle.tape_tool.specs.declared.names.List.{List as ListFile}
 use Rattle.tape_tool.specs.declared.names.Named.{Named}
 use Rattle.tape_tool.specs.declared.words.Order.{Order}
 use Rattle.tape_tool.specs.declared.words.Order.TheVariants as orders
+use Rattle.tape_tool.specs.declared.words.Verb.{Verb}
+use Rattle.tape_tool.specs.declared.words.Verb.TheVariants as verbs
 use Rattle.tape_tool.specs.declared.list.words.Listing.{Listing}
 use Rattle.tape_tool.specs.declared.survey.words.Survey.{Survey}
 use Rattle.tape_tool.specs.declared.extract.words.Extract.{Extract}
@@ -188,6 +190,17 @@ pub record AsksToWrite (rows : List Row) (order : WriteOrder) : Type 0 where
   pub form : IsForm rows order.form
 
 -- ---- a command line
+
+-- the name of a command
+abbrev pub name_of : Verb → List ℕ
+name_of verbs.List = codes "list"
+name_of verbs.Check = codes "check"
+name_of verbs.Survey = codes "survey"
+name_of verbs.Extract = codes "extract"
+name_of verbs.Unpack = codes "unpack"
+name_of verbs.Stage = codes "stage"
+name_of verbs.Init = codes "init"
+name_of verbs.Write = codes "write"
 
 -- The order is that of the command with this name, and asks for what its rows say.
 abbrev pub IsOrderOf : List ℕ → List Row → Order → Type 0

@@ -78,6 +78,11 @@ pub fn open_session<D: Disk + Drop>(
     // On any disk, one that can't be believed too.
     ensures same_length { (D.length_of disk ≡ 0 → ⊥) → IfErr result (λ refused.
         IsUnopened refused.fault → D.length_of refused.disk ≡ D.length_of disk) }
+    // A stage that is opened or made is neither full nor one that failed before.
+    ensures not_full { IfErr result
+        (λ refused. refused.fault ≡ StagingFault.Stage StageFault.Full → ⊥) }
+    ensures not_failed { IfErr result
+        (λ refused. refused.fault ≡ StagingFault.Stage StageFault.Failed → ⊥) }
     ensures cause { IfErr result (λ refused. refused.fault ≡ StagingFault.Stage StageFault.Device
         → Rose (D.faults disk) (D.faults refused.disk)) }
 {
@@ -107,6 +112,10 @@ fn begin<D: Disk + Drop>(
         (session.core.set_id ≡ set_id) × (session.core.file ≡ file)) }
     ensures number { IfErr result
         (λ refused. refused.fault ≡ StagingFault.OtherFile → IsFileNumber file → ⊥) }
+    ensures not_full { IfErr result
+        (λ refused. refused.fault ≡ StagingFault.Stage StageFault.Full → ⊥) }
+    ensures not_failed { IfErr result
+        (λ refused. refused.fault ≡ StagingFault.Stage StageFault.Failed → ⊥) }
     ensures cause { IfErr result (λ refused. refused.fault ≡ StagingFault.Stage StageFault.Device
         → Rose (D.faults disk) (D.faults refused.disk)) }
 {
@@ -151,6 +160,10 @@ fn resume<D: Disk>(
         → IfErr result (λ refused. KeepsStaged (D.seen disk) (D.seen refused.disk)) }
     ensures same_length { IfErr result (λ refused.
         IsUnopened refused.fault → D.length_of refused.disk ≡ D.length_of disk) }
+    ensures not_full { IfErr result
+        (λ refused. refused.fault ≡ StagingFault.Stage StageFault.Full → ⊥) }
+    ensures not_failed { IfErr result
+        (λ refused. refused.fault ≡ StagingFault.Stage StageFault.Failed → ⊥) }
     ensures cause { IfErr result (λ refused. refused.fault ≡ StagingFault.Stage StageFault.Device
         → Rose (D.faults disk) (D.faults refused.disk)) }
 {

@@ -1,7 +1,7 @@
 //! What the words of a command line ask for.
-ghost use Rattle.std.specs.Prelude.{codes, IfOk};
-ghost use Rattle.clap.specs.Words.{found_of, rows_of};
-ghost use Rattle.tape_tool.specs.Words.{IsFlag};
+ghost use Rattle.std.specs.Prelude.{◌≡◌, codes, IfOk, IfSome};
+ghost use Rattle.clap.specs.Words.{found_of, rows_of, subcommand_rows_of};
+ghost use Rattle.tape_tool.specs.Words.{IsFlag, IsOrderIn, IsOrderOf, name_of};
 
 pub mod parts;
 
@@ -50,6 +50,19 @@ pub enum Order<'a> {
     Stage(StageOrder<'a>),
 }
 
+/// The commands.
+#[derive(Clone, Copy)]
+enum Verb {
+    List,
+    Check,
+    Survey,
+    Extract,
+    Unpack,
+    Stage,
+    Init,
+    Write,
+}
+
 /// The program. Usage names it as its user does, whatever the file is called.
 const TAPE: Outline = Outline {
     name: "tape",
@@ -72,6 +85,7 @@ pub fn call_of<'a>(alloc: Global, words: &'a [String]) -> Result<Call<'a>, Error
 
 /// What the words ask for that were found.
 fn call_in<'a>(alloc: Global, matches: &ArgMatches<'a>) -> Result<Call<'a>, Error>
+    ensures order { IfOk result (λ call. IsOrderIn (subcommand_rows_of matches.now) call.order) }
     ensures explained { IfOk result (λ call.
         IsFlag (rows_of (found_of matches.now)) (codes "explain") call.explained) }
 {
@@ -82,18 +96,56 @@ fn call_in<'a>(alloc: Global, matches: &ArgMatches<'a>) -> Result<Call<'a>, Erro
 }
 
 /// What the words of the command ask for, of which the parser has seen to it that there is one.
-fn order_of<'a>(alloc: Global, matches: &ArgMatches<'a>) -> Result<Order<'a>, Error> {
-    Ok(match matches.subcommand() {
-        Some(("list", list)) => Order::List(list_order(alloc, list)?),
-        Some(("check", check)) => Order::Check(check_order(alloc, check)?),
-        Some(("survey", survey)) => Order::Survey(survey_order(alloc, survey)?),
-        Some(("extract", extract)) => Order::Extract(extract_order(alloc, extract)?),
-        Some(("unpack", unpack)) => Order::Unpack(unpack_order(alloc, unpack)?),
-        Some(("stage", stage)) => Order::Stage(stage_order(alloc, stage)?),
-        Some(("init", init)) => Order::Init(init_order(alloc, init)?),
-        Some(("write", write)) => Order::Write(write_order(alloc, write)?),
-        _ => return Err(mistake(alloc, &TAPE, help::NO_COMMAND)),
+fn order_of<'a>(alloc: Global, matches: &ArgMatches<'a>) -> Result<Order<'a>, Error>
+    ensures { IfOk result (IsOrderIn (subcommand_rows_of matches.now)) }
+{
+    match matches.subcommand() {
+        Some((name, words)) => order_by(alloc, name, words),
+        None => Err(mistake(alloc, &TAPE, help::NO_COMMAND)),
+    }
+}
+
+/// What these words of the command with this name ask for.
+fn order_by<'a>(alloc: Global, name: &str, words: &ArgMatches<'a>) -> Result<Order<'a>, Error>
+    ensures { IfOk result (IsOrderOf name.now (rows_of (found_of words.now))) }
+{
+    match verb_of(name) {
+        Some(verb) => order_with(alloc, verb, words),
+        None => Err(mistake(alloc, &TAPE, help::NO_COMMAND)),
+    }
+}
+
+/// What these words of this command ask for.
+fn order_with<'a>(alloc: Global, verb: Verb, words: &ArgMatches<'a>) -> Result<Order<'a>, Error>
+    ensures { IfOk result (IsOrderOf (name_of verb) (rows_of (found_of words.now))) }
+{
+    Ok(match verb {
+        Verb::List => Order::List(list_order(alloc, words)?),
+        Verb::Check => Order::Check(check_order(alloc, words)?),
+        Verb::Survey => Order::Survey(survey_order(alloc, words)?),
+        Verb::Extract => Order::Extract(extract_order(alloc, words)?),
+        Verb::Unpack => Order::Unpack(unpack_order(alloc, words)?),
+        Verb::Stage => Order::Stage(stage_order(alloc, words)?),
+        Verb::Init => Order::Init(init_order(alloc, words)?),
+        Verb::Write => Order::Write(write_order(alloc, words)?),
     })
+}
+
+/// The command with this name.
+fn verb_of(name: &str) -> Option<Verb>
+    ensures { IfSome result (λ verb. name.now ≡ name_of verb) }
+{
+    match name {
+        "list" => Some(Verb::List),
+        "check" => Some(Verb::Check),
+        "survey" => Some(Verb::Survey),
+        "extract" => Some(Verb::Extract),
+        "unpack" => Some(Verb::Unpack),
+        "stage" => Some(Verb::Stage),
+        "init" => Some(Verb::Init),
+        "write" => Some(Verb::Write),
+        _ => None,
+    }
 }
 
 /// The commands and their words.
