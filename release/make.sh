@@ -58,7 +58,7 @@ verdicts >"$room/verdicts"
 # The program that was proved: built here, or before, where nothing has changed since.
 (cd crates/tape_tool && rt run -- --version) </dev/null >"$room/run" 2>&1 ||
     fail "$(tail "$room/run")"
-built=crates/tape_tool/out
+built=$PWD/crates/tape_tool/out
 program=$built/tape_tool object=$built/tape_tool.o
 number=$(env -i "$program" --version | cut -d' ' -f2)
 version=$number+$(git log -1 --format=%cd --date=format:%Y%m%d).$(git rev-parse --short=8 HEAD)
@@ -75,8 +75,7 @@ sh "$relink/relink.sh" "$room/tape"
 # Both do what the stored run wants, and all examples.
 for it in "$program" "$room/tape"; do
     # shellcheck disable=SC2046 # the words of the stored run, one a line
-    env -i "$it" $(cat crates/tape_tool/args) <crates/tape_tool/stdin |
-        cmp - crates/tape_tool/stdout
+    (cd crates/tape_tool/data && env -i "$it" $(cat ../args)) | cmp - crates/tape_tool/stdout
     docs/examples.sh "$it" >"$room/log" || fail "$it: $(cat "$room/log")"
 done
 
