@@ -18,8 +18,8 @@ use Rattle.tape_tool.specs.declared.end.End.TheVariants as ends
 use Rattle.tape_writer.specs.declared.system.fault.FileFault.TheVariants as file_faults
 use Rattle.tape_tool.specs.declared.stage.ending.StageEnding.TheVariants as endings
 use Rattle.tape_tool.specs.declared.fault.ToolFault.TheVariants as tool_faults
-use Rattle.tape_tool.specs.declared.fault.Fault.TheVariants as faults
 use Rattle.tape_tool.specs.Ends.{exit_status}
+use Rattle.tape_tool.specs.Fault.{no_memory}
 use Rattle.tape_tool.specs.Staging.{IsOfFile}
 use Rattle.tape_tool.proofs.end.End.status.Reads as status
 use Rattle.tape_tool.proofs.end.end_of.Reads as end_of
@@ -57,7 +57,7 @@ wrong_words_exit_with_zero κs a s h e =
 -- fault_of_command_done: a command that a fault ended is told as done
 fault_of_command_done : (κs : _) (f : _) (s : _) → end_of.Learnt κs (Err f, tt) ends.Done s → ⊥
 fault_of_command_done κs f s h =
-    let e : ends.Done ≡ ends.Faulted (faults.Tool f) = h in
+    let e : ends.Done ≡ ends.Faulted f = h in
     absurd (cc)
 
 -- incomplete_is_done: `extract` wants something still, and is told as done
@@ -91,15 +91,14 @@ mistake_in_words_done κs s h =
 help_not_written_done : (κs : _) (s : _)
     → words_end.Learnt κs (kinds.DisplayHelp, (false, tt)) ends.Done s → ⊥
 help_not_written_done κs s h =
-    let e : ends.Done
-    ≡ ends.Faulted (faults.Tool (tool_faults.File file_faults.WriteFailed)) = h in
+    let e : ends.Done ≡ ends.Faulted (tool_faults.File file_faults.WriteFailed) = h in
     absurd (cc)
 
 -- no_memory_for_words_told_as_wrong_words: want of memory is told as a wrong command line
 no_memory_for_words_told_as_wrong_words : (κs : _) (s : _)
     → no_words_end.Learnt κs (io_kinds.OutOfMemory, tt) ends.WrongWords s → ⊥
 no_memory_for_words_told_as_wrong_words κs s h =
-    let e : ends.WrongWords ≡ ends.Faulted faults.OutOfMemory = h in
+    let e : ends.WrongWords ≡ ends.Faulted no_memory = h in
     absurd (cc)
 
 -- ---- how a fault is told
@@ -116,7 +115,7 @@ no_memory_told_as_device κs s h = absurd (let d : 9 ≡ 10 = h in omega arith)
 
 -- run_fault_number_3: want of memory for the words is told as the third fault of a run
 run_fault_number_3 : (κs : _) (z : _) (s : _)
-    → fault_line.Learnt κs (faults.OutOfMemory, tt) z s
+    → fault_line.Learnt κs (no_memory, tt) z s
     → z.bytes ≡ codes "tape: run fault 3\n" → ⊥
 unfolding digits
 run_fault_number_3 κs z s h w =
@@ -124,7 +123,7 @@ run_fault_number_3 κs z s h w =
 
 -- stage_in_use_told_as_device: a stage that another run has is told as one whose disk failed
 stage_in_use_told_as_device : (κs : _) (z : _) (s : _)
-    → fault_line.Learnt κs (faults.Tool tool_faults.StageInUse, tt) z s
+    → fault_line.Learnt κs (tool_faults.StageInUse, tt) z s
     → z.bytes ≡ codes "tape: stage fault 3\n" → ⊥
 unfolding digits
 stage_in_use_told_as_device κs z s h w =
@@ -133,8 +132,7 @@ stage_in_use_told_as_device κs z s h w =
 -- place_of_fault_left_out: an image is cut off at byte 1,884, and byte 0 is told
 place_of_fault_left_out : (κs : _) (z : _) (s : _)
     → fault_line.Learnt κs (
-      faults.Tool (tool_faults.Image
-          (record { place = 1884; cause = causes.Truncated })),
+      tool_faults.Image (record { place = 1884; cause = causes.Truncated }),
       tt,
     ) z s
     → z.bytes ≡ codes "tape: image fault 1 at 0\n" → ⊥

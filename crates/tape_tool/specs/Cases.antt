@@ -34,8 +34,6 @@ use Rattle.tape_stage.specs.declared.stage.Stage.{Stage}
 use Rattle.tape_stage.specs.declared.stage.StageFault.TheVariants as stages
 use Rattle.tape_tool.specs.declared.end.End.{End}
 use Rattle.tape_tool.specs.declared.end.End.TheVariants.{Done, Faulted, WrongWords, Incomplete}
-use Rattle.tape_tool.specs.declared.fault.Fault.{Fault}
-use Rattle.tape_tool.specs.declared.fault.Fault.TheVariants.{Tool, OutOfMemory}
 use Rattle.tape_tool.specs.declared.fault.ToolFault.{ToolFault}
 use Rattle.tape_tool.specs.declared.fault.ToolFault.TheVariants.{Image, Label, Write, File, Run}
 use Rattle.tape_tool.specs.declared.fault.ToolFault.TheVariants.{Stage as OfStage, StageInUse}
@@ -43,7 +41,8 @@ use Rattle.tape_tool.specs.declared.staging.StagingFault.TheVariants as staging
 use Rattle.tape_tool.specs.declared.unfit.Unfit.TheVariants as unfits
 use Rattle.tape_tool.specs.Ends.{exit_status, end_of, check_end, extract_end, help_end, words_end}
 use Rattle.tape_tool.specs.Ends.{no_words_end, IsUnfitEnd}
-use Rattle.tape_tool.specs.Fault.{file_number, write_number, of_system, of_engine, of_list}
+use Rattle.tape_tool.specs.Fault.{file_number, write_number, no_memory, of_system, of_engine}
+use Rattle.tape_tool.specs.Fault.{of_list}
 use Rattle.tape_tool.specs.Names.{end_byte, pieces_of, names_in}
 use Rattle.tape_tool.specs.Report.{report}
 use Rattle.tape_tool.specs.Staging.{IsOfFile, first_point, StandsAt, GoesOn, Says, IsUnopened}
@@ -52,32 +51,32 @@ use Rattle.tape_tool.specs.Telling.{fault_line}
 -- how runs end
 pub record CasesOfEnds : Type 0 where
   -- 0 done, 1 a fault, 2 a wrong command line, 3 something lacks or is still wanted
-  pub statuses : (fault : Fault)
+  pub statuses : (fault : ToolFault)
       → map exit_status (Done ∷ Faulted fault ∷ WrongWords ∷ Incomplete ∷ []) ≡ 0 ∷ 1 ∷ 2 ∷ 3 ∷ []
   -- a command is done, or ends by its fault
   pub commands : (fault : ToolFault)
-      → (end_of (Ok tt) ≡ Done) × (end_of (Err fault) ≡ Faulted (Tool fault))
+      → (end_of (Ok tt) ≡ Done) × (end_of (Err fault) ≡ Faulted fault)
   -- `check` found all, misses something, or ends by the fault of its engine
   pub checks : (fault : RunFault) → (check_end (Ok true) ≡ Done)
       × (check_end (Ok false) ≡ Incomplete)
-      × (check_end (Err (engine.Run fault)) ≡ Faulted (Tool (Run fault)))
-      × (check_end (Err engine.WriteFailed) ≡ Faulted (Tool (File WriteFailed)))
+      × (check_end (Err (engine.Run fault)) ≡ Faulted (Run fault))
+      × (check_end (Err engine.WriteFailed) ≡ Faulted (File WriteFailed))
   -- `extract` wants nothing more, or something, or ends by the fault of its engine
   pub extracts : (want : Want) (fault : RunFault) → (extract_end (Ok None) ≡ Done)
       × (extract_end (Ok (Some want)) ≡ Incomplete)
-      × (extract_end (Err (engine.Run fault)) ≡ Faulted (Tool (Run fault)))
-      × (extract_end (Err engine.WriteFailed) ≡ Faulted (Tool (File WriteFailed)))
+      × (extract_end (Err (engine.Run fault)) ≡ Faulted (Run fault))
+      × (extract_end (Err engine.WriteFailed) ≡ Faulted (File WriteFailed))
   -- help is a success where it was printed, and so is the version
-  pub help : (help_end true ≡ Done) × (help_end false ≡ Faulted (Tool (File WriteFailed)))
+  pub help : (help_end true ≡ Done) × (help_end false ≡ Faulted (File WriteFailed))
   pub printed : map (λ kind. words_end kind true) (kinds.DisplayHelp ∷ kinds.DisplayVersion ∷ [])
       ≡ Done ∷ Done ∷ []
   pub not_printed : map (λ kind. words_end kind false)
       (kinds.DisplayHelp ∷ kinds.DisplayVersion ∷ [])
-      ≡ replicate 2 (Faulted (Tool (File WriteFailed)))
+      ≡ replicate 2 (Faulted (File WriteFailed))
   -- want of memory for the words is a fault, and all else that can be wrong with them wrong words
   pub no_memory : (printed : Bool)
-      → (words_end kinds.OutOfMemory printed ≡ Faulted OutOfMemory)
-      × (no_words_end io_kinds.OutOfMemory ≡ Faulted OutOfMemory)
+      → (words_end kinds.OutOfMemory printed ≡ Faulted (Run runs.OutOfMemory))
+      × (no_words_end io_kinds.OutOfMemory ≡ Faulted (Run runs.OutOfMemory))
   pub wrong_words : (printed : Bool) → map (λ kind. words_end kind printed) (kinds.InvalidValue
       ∷ kinds.UnknownArgument ∷ kinds.InvalidSubcommand ∷ kinds.NoEquals ∷ kinds.ValueValidation
       ∷ kinds.TooManyValues ∷ kinds.TooFewValues ∷ kinds.WrongNumberOfValues
@@ -88,10 +87,10 @@ pub record CasesOfEnds : Type 0 where
   pub no_words : map no_words_end (io_kinds.InvalidData ∷ io_kinds.InvalidInput ∷ io_kinds.Other
       ∷ []) ≡ replicate 3 WrongWords
   -- what is not begun ends by its fault, or as wrong words: never as done, or as incomplete
-  pub not_begun : (fault : Fault) (end : End) → IsUnfitEnd (unfits.Faulted fault) end
+  pub not_begun : (fault : ToolFault) (end : End) → IsUnfitEnd (unfits.Faulted fault) end
       → end ≡ Faulted fault
   pub lost : (text : Bor (List ℕ)) → IsUnfitEnd (unfits.Words text) WrongWords
-      × IsUnfitEnd (unfits.Words text) (Faulted OutOfMemory)
+      × IsUnfitEnd (unfits.Words text) (Faulted (Run runs.OutOfMemory))
       × (IsUnfitEnd (unfits.Words text) Done → ⊥) × (IsUnfitEnd (unfits.Words text) Incomplete → ⊥)
   pub no_text : (null : Bool) (number : ℕ) → IsUnfitEnd (unfits.NoText null number) WrongWords
       × (IsUnfitEnd (unfits.NoText null number) Done → ⊥)
@@ -130,17 +129,17 @@ pub record CasesOfFaults : Type 0 where
 -- the lines on standard error, and those that `write` prints
 pub record CasesOfLines : Type 0 where
   -- one of each kind of fault; of images alone there is a place
-  pub image : fault_line (Tool (Image (record { place = 1884; cause = causes.Truncated })))
+  pub image : fault_line (Image (record { place = 1884; cause = causes.Truncated }))
       ≡ codes "tape: image fault 1 at 1884\n"
-  pub label : fault_line (Tool (Label (labels.NotACharacter 2))) ≡ codes "tape: label fault 6\n"
-  pub write : fault_line (Tool (Write writes.OutOfMemory)) ≡ codes "tape: write fault 10\n"
-  pub file : fault_line (Tool (File WriteFailed)) ≡ codes "tape: file fault 4\n"
-  pub run : fault_line (Tool (Run runs.OtherFile)) ≡ codes "tape: run fault 5\n"
-  pub stage : fault_line (Tool (OfStage (stages.BadFrame 300))) ≡ codes "tape: stage fault 2\n"
+  pub label : fault_line (Label (labels.NotACharacter 2)) ≡ codes "tape: label fault 6\n"
+  pub write : fault_line (Write writes.OutOfMemory) ≡ codes "tape: write fault 10\n"
+  pub file : fault_line (File WriteFailed) ≡ codes "tape: file fault 4\n"
+  pub run : fault_line (Run runs.OtherFile) ≡ codes "tape: run fault 5\n"
+  pub stage : fault_line (OfStage (stages.BadFrame 300)) ≡ codes "tape: stage fault 2\n"
   -- behind those of a stage itself, which are 1 to 6
-  pub in_use : fault_line (Tool StageInUse) ≡ codes "tape: stage fault 7\n"
+  pub in_use : fault_line StageInUse ≡ codes "tape: stage fault 7\n"
   -- no memory for the words of the command line
-  pub no_memory : fault_line OutOfMemory ≡ codes "tape: run fault 4\n"
+  pub no_memory : fault_line no_memory ≡ codes "tape: run fault 4\n"
   -- a set on two volumes, and one without files
   pub volumes : report 1 (record { volume = codes "ABC001"; size = 2484 }
       ∷ record { volume = codes "ABC002"; size = 460 } ∷ [])

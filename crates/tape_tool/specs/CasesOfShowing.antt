@@ -17,7 +17,6 @@ use Rattle.tape_stage.specs.Salvaged.{Remains, RemainsNone}
 use Rattle.tape_stage.specs.Staged.{Staged, HoldsNone}
 use Rattle.tape_stage.specs.declared.stage.StageFault.{StageFault}
 use Rattle.tape_tool.specs.declared.end.End.TheVariants.{Done, Faulted, Incomplete}
-use Rattle.tape_tool.specs.declared.fault.Fault.TheVariants.{Tool}
 use Rattle.tape_tool.specs.declared.fault.ToolFault.{ToolFault}
 use Rattle.tape_tool.specs.declared.fault.ToolFault.TheVariants.{Stage}
 use Rattle.tape_tool.specs.declared.stage.ending.StageEnding.{StageEnding}
@@ -76,11 +75,11 @@ pub record CasesOfShowing : Type 0 where
   -- how a run ends
   pub ends : (want : Want) (fault : ToolFault) → (stage_end (Ok None) ≡ Done)
       × (stage_end (Ok (Some want)) ≡ Incomplete)
-      × (stage_end (Err fault) ≡ Faulted (Tool fault))
+      × (stage_end (Err fault) ≡ Faulted fault)
   pub damaged_ends : (want : Want) (place : ℕ) (fault : ToolFault)
       → (damaged_end (Ok (Whole None)) ≡ Done) × (damaged_end (Ok (Whole (Some want))) ≡ Incomplete)
       × (damaged_end (Ok (Broken place)) ≡ Incomplete)
-      × (damaged_end (Err fault) ≡ Faulted (Tool fault))
+      × (damaged_end (Err fault) ≡ Faulted fault)
   -- what was shown is what is staged: all records of its parts, and how many there are
   pub shown : (read : List ℕ) (form : Form) (out written said says : Option (List ℕ))
       (want : Option Want) (s : Shows read form out written said says want)

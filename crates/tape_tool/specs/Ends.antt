@@ -11,12 +11,11 @@ use Rattle.tape_tool.specs.declared.end.End.TheVariants.{Done, Faulted, WrongWor
 use Rattle.tape_writer.specs.declared.system.fault.FileFault.TheVariants.{WriteFailed}
 use Rattle.tape_tool.specs.declared.fault.ToolFault.{ToolFault}
 use Rattle.tape_tool.specs.declared.fault.ToolFault.TheVariants.{File}
-use Rattle.tape_tool.specs.declared.fault.Fault.TheVariants.{Tool, OutOfMemory}
 use Rattle.tape_tool.specs.declared.stage.ending.StageEnding.{StageEnding}
 use Rattle.tape_tool.specs.declared.stage.ending.StageEnding.TheVariants.{Whole, Broken}
 use Rattle.tape_tool.specs.declared.unfit.Unfit.{Unfit}
 use Rattle.tape_tool.specs.declared.unfit.Unfit.TheVariants as unfits
-use Rattle.tape_tool.specs.Fault.{of_engine}
+use Rattle.tape_tool.specs.Fault.{no_memory, of_engine}
 
 -- the exit status of each end
 abbrev pub exit_status : End → ℕ
@@ -28,53 +27,53 @@ exit_status Incomplete = 3
 -- how a command ends that answered this
 abbrev pub end_of : Result (Unit {0}) ToolFault → End
 end_of (Ok _) = Done
-end_of (Err fault) = Faulted (Tool fault)
+end_of (Err fault) = Faulted fault
 
 -- how a check ends, which found all or did not
 abbrev pub check_end : Result Bool EngineFault → End
 check_end (Ok true) = Done
 check_end (Ok false) = Incomplete
-check_end (Err fault) = Faulted (Tool (of_engine fault))
+check_end (Err fault) = Faulted (of_engine fault)
 
 -- how `extract` ends: what is still wanted of the file is no success
 abbrev pub extract_end : Result (Option Want) EngineFault → End
 extract_end (Ok None) = Done
 extract_end (Ok (Some want)) = Incomplete
-extract_end (Err fault) = Faulted (Tool (of_engine fault))
+extract_end (Err fault) = Faulted (of_engine fault)
 
 -- how `stage` ends: that something of the file is wanted is no success
 abbrev pub stage_end : Result (Option Want) ToolFault → End
 stage_end (Ok None) = Done
 stage_end (Ok (Some want)) = Incomplete
-stage_end (Err fault) = Faulted (Tool fault)
+stage_end (Err fault) = Faulted fault
 
 -- how `stage --damaged` ends: a success only where the file is complete, and the stage whole
 abbrev pub damaged_end : Result StageEnding ToolFault → End
 damaged_end (Ok (Whole None)) = Done
 damaged_end (Ok (Whole (Some want))) = Incomplete
 damaged_end (Ok (Broken place)) = Incomplete
-damaged_end (Err fault) = Faulted (Tool fault)
+damaged_end (Err fault) = Faulted fault
 
 -- help is a success where it was printed
 abbrev pub help_end : Bool → End
 help_end true = Done
-help_end false = Faulted (Tool (File WriteFailed))
+help_end false = Faulted (File WriteFailed)
 
 -- how a run ends for which the parser of words has only a text, which was printed or was not
 abbrev pub words_end : ErrorKind → Bool → End
-words_end kinds.OutOfMemory printed = Faulted OutOfMemory
+words_end kinds.OutOfMemory printed = Faulted no_memory
 words_end kinds.DisplayHelp printed = help_end printed
 words_end kinds.DisplayVersion printed = help_end printed
 words_end _ printed = WrongWords
 
 -- how a run ends that was given no words, for this reason
 abbrev pub no_words_end : io_error.ErrorKind → End
-no_words_end io_kinds.OutOfMemory = Faulted OutOfMemory
+no_words_end io_kinds.OutOfMemory = Faulted no_memory
 no_words_end _ = WrongWords
 
 -- the words are wrong, or there is no memory for the text that says so
 abbrev pub IsWrongWords : End → Type 0
-IsWrongWords end = (end ≡ WrongWords) ⊎ (end ≡ Faulted OutOfMemory)
+IsWrongWords end = (end ≡ WrongWords) ⊎ (end ≡ Faulted no_memory)
 
 -- how a command ends that is not begun, for this reason
 abbrev pub IsUnfitEnd : Unfit → End → Type 0

@@ -6,6 +6,7 @@ use Rattle.tape_writer.specs.declared.system.fault.SystemFault.{SystemFault}
 use Rattle.tape_writer.specs.declared.system.fault.SystemFault.TheVariants as system
 use Rattle.tape_run.specs.declared.fault.EngineFault.{EngineFault}
 use Rattle.tape_run.specs.declared.fault.EngineFault.TheVariants as engine
+use Rattle.tape_run.specs.declared.fault.RunFault.TheVariants.{OutOfMemory}
 use Rattle.tape_run.specs.declared.fault.ListFault.{ListFault}
 use Rattle.tape_run.specs.declared.fault.ListFault.TheVariants as list
 use Rattle.tape_writer.specs.declared.system.fault.FileFault.{FileFault}
@@ -36,6 +37,10 @@ write_number writes.Device = 9
 write_number writes.OutOfMemory = 10
 write_number writes.Failed = 11
 write_number writes.Finished = 12
+
+-- no memory, for the words of the command line too: the fourth fault of a run
+abbrev pub no_memory : ToolFault
+no_memory = Run OutOfMemory
 
 -- what ends a command where a set was not written
 abbrev pub of_system : SystemFault → ToolFault

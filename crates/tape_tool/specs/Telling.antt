@@ -8,8 +8,6 @@ use Rattle.tape_stage.specs.Faults as stage_faults
 use Rattle.tape_tool.specs.declared.fault.ToolFault.{ToolFault}
 use Rattle.tape_tool.specs.declared.fault.ToolFault.TheVariants.{Image, Label, Write, File, Run}
 use Rattle.tape_tool.specs.declared.fault.ToolFault.TheVariants.{Stage, StageInUse}
-use Rattle.tape_tool.specs.declared.fault.Fault.{Fault}
-use Rattle.tape_tool.specs.declared.fault.Fault.TheVariants.{Tool, OutOfMemory}
 use Rattle.tape_tool.specs.Fault.{file_number, write_number}
 
 -- a kind of fault, and its number
@@ -24,21 +22,16 @@ place_text place = codes " at " ++ decimal place
 abbrev pub image_text : ImageFault → List ℕ
 image_text fault = numbered (codes "image") (number_of fault.cause) ++ place_text fault.place
 
--- the fault of a command
-abbrev pub tool_text : ToolFault → List ℕ
-tool_text (Image fault) = image_text fault
-tool_text (Label fault) = numbered (codes "label") (number fault)
-tool_text (Write fault) = numbered (codes "write") (write_number fault)
-tool_text (File fault) = numbered (codes "file") (file_number fault)
-tool_text (Run fault) = numbered (codes "run") (run_faults.number_of fault)
-tool_text (Stage fault) = numbered (codes "stage") (stage_faults.number fault)
-tool_text StageInUse = numbered (codes "stage") 7
-
--- what ended the program; no memory for the words of the command line is the fourth of a run
-abbrev pub fault_text : Fault → List ℕ
-fault_text (Tool fault) = tool_text fault
-fault_text OutOfMemory = numbered (codes "run") 4
+-- what ended the program
+abbrev pub fault_text : ToolFault → List ℕ
+fault_text (Image fault) = image_text fault
+fault_text (Label fault) = numbered (codes "label") (number fault)
+fault_text (Write fault) = numbered (codes "write") (write_number fault)
+fault_text (File fault) = numbered (codes "file") (file_number fault)
+fault_text (Run fault) = numbered (codes "run") (run_faults.number_of fault)
+fault_text (Stage fault) = numbered (codes "stage") (stage_faults.number fault)
+fault_text StageInUse = numbered (codes "stage") 7
 
 -- the line on standard error
-abbrev pub fault_line : Fault → List ℕ
+abbrev pub fault_line : ToolFault → List ℕ
 fault_line fault = codes "tape: " ++ fault_text fault ++ codes "\n"

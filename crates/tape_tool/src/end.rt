@@ -3,7 +3,7 @@ ghost use Rattle.std.specs.Prelude.{◌≡◌};
 ghost use Rattle.tape_tool.specs.Ends.{exit_status, end_of, help_end, words_end, no_words_end};
 ghost use Rattle.tape_tool.specs.Ends.{check_end, extract_end, stage_end, damaged_end};
 
-use crate::fault::{Fault, FileFault, ToolFault};
+use crate::fault::{FileFault, OUT_OF_MEMORY, ToolFault};
 use crate::stage::StageEnding;
 use crate::telling::fault_line;
 use clap::error::ErrorKind;
@@ -17,7 +17,7 @@ pub enum End {
     /// It did what it was asked for, or printed help.
     Done,
     /// A fault, which is told in one line.
-    Faulted(Fault),
+    Faulted(ToolFault),
     /// The command line asks for nothing that there is.
     WrongWords,
     /// It did what it was asked for, and something is missing or still wanted.
@@ -44,7 +44,7 @@ pub fn end_of(done: Result<(), ToolFault>) -> End
 {
     match done {
         Ok(()) => End::Done,
-        Err(fault) => End::Faulted(Fault::Tool(fault)),
+        Err(fault) => End::Faulted(fault),
     }
 }
 
@@ -55,7 +55,7 @@ pub fn check_end(checked: Result<bool, EngineFault>) -> End
     match checked {
         Ok(true) => End::Done,
         Ok(false) => End::Incomplete,
-        Err(fault) => End::Faulted(Fault::Tool(ToolFault::from(fault))),
+        Err(fault) => End::Faulted(ToolFault::from(fault)),
     }
 }
 
@@ -97,7 +97,7 @@ pub fn words_end(kind: ErrorKind, printed: bool) -> End
     ensures { result ≡ words_end kind printed }
 {
     match kind {
-        ErrorKind::OutOfMemory => End::Faulted(Fault::OutOfMemory),
+        ErrorKind::OutOfMemory => End::Faulted(OUT_OF_MEMORY),
         ErrorKind::DisplayHelp | ErrorKind::DisplayVersion => help_end(printed),
         _ => End::WrongWords,
     }
@@ -110,7 +110,7 @@ fn help_end(printed: bool) -> End
     if printed {
         End::Done
     } else {
-        End::Faulted(Fault::Tool(ToolFault::File(FileFault::WriteFailed)))
+        End::Faulted(ToolFault::File(FileFault::WriteFailed))
     }
 }
 
@@ -119,7 +119,7 @@ pub fn no_words_end(kind: io::ErrorKind) -> End
     ensures { result ≡ no_words_end kind }
 {
     match kind {
-        io::ErrorKind::OutOfMemory => End::Faulted(Fault::OutOfMemory),
+        io::ErrorKind::OutOfMemory => End::Faulted(OUT_OF_MEMORY),
         _ => End::WrongWords,
     }
 }

@@ -1,7 +1,7 @@
 //! What a fault means, in words: behind its one line, where `--explain` asks for them.
 mod files;
 
-use crate::fault::{Fault, ToolFault, number_of_file, number_of_write};
+use crate::fault::{ToolFault, number_of_file, number_of_write};
 use files::{
     FILE, FILE_OF_FOLDER, FILE_OF_IMAGE, FILE_OF_LINES, FILE_OF_LIST, FILE_OF_OUT, FILE_OF_STAGE,
     FILE_OF_VOLUME,
@@ -71,7 +71,7 @@ impl<'a> Site<'a> {
 /// A fault and where it came, as lines of text.
 #[derive(Clone, Copy)]
 pub struct Explanation<'a> {
-    pub fault: Fault,
+    pub fault: ToolFault,
     pub site: Site<'a>,
 }
 
@@ -86,19 +86,16 @@ impl fmt::Display for Explanation<'_> {
 }
 
 /// Whether the fault is one of the file that was under way.
-fn is_at(fault: Fault, site: Site<'_>) -> bool {
+fn is_at(fault: ToolFault, site: Site<'_>) -> bool {
     match (fault, site) {
-        (Fault::Tool(ToolFault::Run(_)), Site::Stage(_)) => true,
-        (Fault::Tool(ToolFault::Run(_)), _) => false,
+        (ToolFault::Run(_), Site::Stage(_)) => true,
+        (ToolFault::Run(_), _) => false,
         _ => true,
     }
 }
 
 /// What the fault is, what stands now, and what to do next.
-pub fn text_of(fault: Fault, site: Site<'_>) -> &'static str {
-    let Fault::Tool(fault) = fault else {
-        return NO_MEMORY;
-    };
+pub fn text_of(fault: ToolFault, site: Site<'_>) -> &'static str {
     match fault {
         ToolFault::Image(fault) => image_text(fault),
         ToolFault::Label(fault) => nth(LABEL, fault.number()),

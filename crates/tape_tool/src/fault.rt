@@ -44,7 +44,7 @@ pub fn number_of_write(fault: WriteFault) -> u8
     }
 }
 
-/// What ends a command of the program.
+/// What ends the program with status 1, and is told in one line.
 #[derive(Clone, Copy, Debug, PartialEq, Eq)]
 pub enum ToolFault {
     /// An image could not be read on.
@@ -62,6 +62,9 @@ pub enum ToolFault {
     /// Another run has the stage open.
     StageInUse,
 }
+
+/// No memory, for the words of the command line too.
+pub const OUT_OF_MEMORY: ToolFault = ToolFault::Run(RunFault::OutOfMemory);
 
 impl From<ImageFault> for ToolFault {
     ghost from_gives = { λ fault e. e ≡ Image fault };
@@ -118,13 +121,4 @@ impl From<SystemFault> for ToolFault {
             SystemFault::File(fault) => ToolFault::File(fault),
         }
     }
-}
-
-/// What ends the program with status 1, and is told in one line.
-#[derive(Clone, Copy, Debug, PartialEq, Eq)]
-pub enum Fault {
-    /// The fault of a command.
-    Tool(ToolFault),
-    /// No memory for the words of the command line.
-    OutOfMemory,
 }

@@ -3,7 +3,7 @@ ghost use Rattle.std.specs.Prelude.{◌≡◌, ◌++◌, ◌∷◌, [], true, fa
 ghost use Rattle.tape_tool.specs.Names.{end_byte, is_name, names_in, pieces_of as cut};
 
 use crate::explain::Site;
-use crate::fault::{Fault, FileFault};
+use crate::fault::{FileFault, OUT_OF_MEMORY};
 use crate::help;
 use crate::unfit::{Unfit, refused};
 use std::alloc::{AllocError, Global};
@@ -154,5 +154,5 @@ fn end_of(null: bool) -> char
 
 /// A growth was refused.
 fn no_memory() -> Unfit {
-    Unfit::Faulted(Fault::OutOfMemory)
+    Unfit::Faulted(OUT_OF_MEMORY)
 }

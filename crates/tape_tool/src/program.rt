@@ -8,7 +8,7 @@ use crate::check::check;
 use crate::end::{End, finish, no_words_end, words_end};
 use crate::explain::{Explanation, Site};
 use crate::extract::extract;
-use crate::fault::Fault;
+use crate::fault::OUT_OF_MEMORY;
 use crate::help;
 use crate::host::Host;
 use crate::init::init;
@@ -31,7 +31,7 @@ pub fn run<R: Host>(rt: &R) -> u8 {
     };
     match words {
         Ok(words) => tell(rt, perform(rt, words.as_slice())),
-        Err(_) => finish(rt, End::Faulted(Fault::OutOfMemory)),
+        Err(_) => finish(rt, End::Faulted(OUT_OF_MEMORY)),
     }
 }
 
@@ -127,7 +127,7 @@ where
             let what = if null { "name" } else { "line" };
             match format!(in rt.alloc(); "{what} {number} {}", help::NO_TEXT_IN_LIST) {
                 Ok(text) => refuse_words(rt, outline, text.as_str()),
-                Err(_) => End::Faulted(Fault::OutOfMemory),
+                Err(_) => End::Faulted(OUT_OF_MEMORY),
             }
         }
     }

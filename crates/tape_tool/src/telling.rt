@@ -1,10 +1,9 @@
 //! The one line on standard error that tells a fault.
 ghost use Rattle.std.specs.Prelude.{◌≡◌, ◌≤◌, ◌+◌, ◌++◌, decimal, length};
 ghost use Rattle.arrayvec.specs.ArrayString.{array_string_len};
-ghost use Rattle.tape_tool.specs.Telling.{numbered, place_text, image_text, tool_text, fault_text};
-ghost use Rattle.tape_tool.specs.Telling.{fault_line};
+ghost use Rattle.tape_tool.specs.Telling.{numbered, place_text, image_text, fault_text, fault_line};
 
-use crate::fault::{Fault, ToolFault, number_of_file, number_of_write};
+use crate::fault::{ToolFault, number_of_file, number_of_write};
 use arrayvec::ArrayString;
 use tape_image::ImageFault;
 
@@ -12,7 +11,7 @@ use tape_image::ImageFault;
 pub type FaultLine = ArrayString<128>;
 
 /// The line that tells the fault: the kind of fault, its number, and the place of an image's.
-pub fn fault_line(fault: Fault) -> FaultLine
+pub fn fault_line(fault: ToolFault) -> FaultLine
     ensures { result.bytes ≡ fault_line fault }
 {
     let mut line = FaultLine::new();
@@ -23,21 +22,9 @@ pub fn fault_line(fault: Fault) -> FaultLine
 }
 
 /// The fault, without the program's name.
-fn put_fault(line: &mut FaultLine, fault: Fault)
+fn put_fault(line: &mut FaultLine, fault: ToolFault)
     requires room { array_string_len line.old ≤ 6 }
     ensures text { line.new.bytes ≡ line.old.bytes ++ fault_text fault }
-    ensures len { array_string_len line.new ≤ 120 }
-{
-    match fault {
-        Fault::Tool(fault) => put_tool_fault(line, fault),
-        Fault::OutOfMemory => put_numbered(line, "run", 4),
-    }
-}
-
-/// The fault of a command.
-fn put_tool_fault(line: &mut FaultLine, fault: ToolFault)
-    requires room { array_string_len line.old ≤ 6 }
-    ensures text { line.new.bytes ≡ line.old.bytes ++ tool_text fault }
     ensures len { array_string_len line.new ≤ 120 }
 {
     match fault {

@@ -1,5 +1,5 @@
 //! Why a command is not begun: its words name files that would be lost by it, or no files.
-use crate::fault::{Fault, FileFault, ToolFault};
+use crate::fault::{FileFault, ToolFault};
 use std::fs::Metadata;
 use std::os::unix::fs::MetadataExt;
 
@@ -11,12 +11,12 @@ pub enum Unfit {
     /// The name with this number, from 1, in a list is no text. It ends with a NUL, or is a line.
     NoText(bool, usize),
     /// What stands there is of no use, or can't be looked at.
-    Faulted(Fault),
+    Faulted(ToolFault),
 }
 
 /// A file is left as it is, for this reason.
 pub fn refused(fault: FileFault) -> Unfit {
-    Unfit::Faulted(Fault::Tool(ToolFault::File(fault)))
+    Unfit::Faulted(ToolFault::File(fault))
 }
 
 /// Whether both are one file, whatever names or links led there. Of a file system that numbers no

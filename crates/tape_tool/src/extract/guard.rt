@@ -1,6 +1,6 @@
 //! What `extract` looks at before it reads: its output may cost no tape and no stage.
 use super::words::Extract;
-use crate::fault::{Fault, FileFault};
+use crate::fault::{FileFault, OUT_OF_MEMORY};
 use crate::help;
 use crate::unfit::{Unfit, refused, same_file};
 use std::alloc::Global;
@@ -169,7 +169,7 @@ fn holds_no_image<R: Runtime + AllocGlobal>(rt: &R, path: &str) -> Result<(), Un
     match begins_as_image(rt.alloc(), &mut file) {
         Ok(false) => Ok(()),
         Ok(true) => Err(refused(FileFault::Exists)),
-        Err(ImageCause::OutOfMemory) => Err(Unfit::Faulted(Fault::OutOfMemory)),
+        Err(ImageCause::OutOfMemory) => Err(Unfit::Faulted(OUT_OF_MEMORY)),
         Err(_) => Err(refused(FileFault::ReadFailed)),
     }
 }

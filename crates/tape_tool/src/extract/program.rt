@@ -5,7 +5,7 @@ use super::out_file::OutFile;
 use super::stage_file::session_in;
 use crate::end::{End, end_of, extract_end};
 use crate::explain::Site;
-use crate::fault::{Fault, FileFault, ToolFault};
+use crate::fault::{FileFault, OUT_OF_MEMORY, ToolFault};
 use crate::host::Host;
 use crate::images::Images;
 use crate::names::names_of;
@@ -23,7 +23,7 @@ use tape_set::Want;
 pub const HELD: usize = 65_536;
 
 /// The output could not be made.
-pub const NOT_MADE: End = End::Faulted(Fault::Tool(ToolFault::File(FileFault::NotOpened)));
+pub const NOT_MADE: End = End::Faulted(ToolFault::File(FileFault::NotOpened));
 
 /// Gets the file back that the words name. At a fault the site is where it came.
 pub fn extract<'a, R: Host>(rt: &R, order: &Extract<'a>, site: &mut Site<'a>) -> End {
@@ -86,7 +86,7 @@ fn on_stage<'a, R: Host, P: Write>(
             return end_of(Err(fault));
         }
     };
-    if let End::Faulted(Fault::Tool(ToolFault::Run(_))) = end {
+    if let End::Faulted(ToolFault::Run(_)) = end {
         *site = Site::Stage(path);
     }
     end
@@ -105,7 +105,7 @@ pub fn draft_of<'a, R: Runtime + AllocGlobal>(
     match Draft::make(rt.alloc(), rt, out) {
         Ok(None) if matches!(way, Way::New) => Err(NOT_MADE),
         Ok(draft) => Ok(draft),
-        Err(_) => Err(End::Faulted(Fault::OutOfMemory)),
+        Err(_) => Err(End::Faulted(OUT_OF_MEMORY)),
     }
 }
 
@@ -124,7 +124,7 @@ fn in_memory<'a, R: Runtime + AllocGlobal, P: Write>(
     };
     match session.note() {
         Ok(()) => gather(rt, task, images, way, report, &mut session),
-        Err(_) => End::Faulted(Fault::OutOfMemory),
+        Err(_) => End::Faulted(OUT_OF_MEMORY),
     }
 }
 
@@ -184,7 +184,7 @@ fn session_into<F: Write + Drop>(
     file: F,
 ) -> Result<Session<OutSink<BufWriter<F>>>, End> {
     let Ok(out) = BufWriter::with_capacity(alloc, HELD, file) else {
-        return Err(End::Faulted(Fault::OutOfMemory));
+        return Err(End::Faulted(OUT_OF_MEMORY));
     };
     match Session::new(alloc, task.set_id, task.file, OutSink::new(out, task.form)) {
         Ok(session) => Ok(session),
@@ -230,7 +230,7 @@ fn drafted<R: Runtime + AllocGlobal, S: PartWalk + Drop, P: Write>(
     let mut draft = draft;
     let end = match BufWriter::with_capacity(rt.alloc(), HELD, &mut draft) {
         Ok(mut out) => written_to(task, images, report, session, &mut out),
-        Err(_) => End::Faulted(Fault::OutOfMemory),
+        Err(_) => End::Faulted(OUT_OF_MEMORY),
     };
     draft.name.clear();
     end
@@ -245,7 +245,7 @@ fn in_place<R: Runtime + AllocGlobal, S: PartWalk + Drop, P: Write>(
     session: &mut Session<S>,
 ) -> End {
     let Ok(mut out) = BufWriter::with_capacity(rt.alloc(), HELD, OutFile::new(rt, task.out)) else {
-        return End::Faulted(Fault::OutOfMemory);
+        return End::Faulted(OUT_OF_MEMORY);
     };
     let end = written_to(task, images, report, session, &mut out);
     if out.get_ref().is_refused() {

@@ -2,7 +2,7 @@
 use super::words::Init;
 use crate::end::{End, end_of};
 use crate::explain::Site;
-use crate::fault::{Fault, ToolFault};
+use crate::fault::{OUT_OF_MEMORY, ToolFault};
 use std::io;
 use std::io::Write;
 use std::rt::Runtime;
@@ -22,20 +22,20 @@ pub fn init<R: Runtime + AllocGlobal>(rt: &R, order: &Init<'_>, site: &mut Site<
 }
 
 /// Makes the image of a volume.
-fn make<R: Runtime + AllocGlobal>(rt: &R, order: &Init<'_>, number: u16) -> Result<(), Fault> {
+fn make<R: Runtime + AllocGlobal>(rt: &R, order: &Init<'_>, number: u16) -> Result<(), ToolFault> {
     let Ok(path) = image_path(rt.alloc(), order.folder, order.prefix, number) else {
-        return Err(Fault::OutOfMemory);
+        return Err(OUT_OF_MEMORY);
     };
     match make_image(rt, path.as_str(), order.prefix, number) {
         Ok(()) => Ok(()),
-        Err(fault) => Err(Fault::Tool(ToolFault::File(fault))),
+        Err(fault) => Err(ToolFault::File(fault)),
     }
 }
 
 /// Tells how many volumes were made.
 fn tell<R: Print + AllocGlobal>(rt: &R, count: u16) -> End {
     let Ok(line) = format!(in rt.alloc(); "INIT {count}\n") else {
-        return End::Faulted(Fault::OutOfMemory);
+        return End::Faulted(OUT_OF_MEMORY);
     };
     match say(&mut io::writer(rt), line.as_str()) {
         Ok(()) => End::Done,

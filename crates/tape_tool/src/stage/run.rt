@@ -5,7 +5,7 @@ use super::words::{STAGE, StageOrder};
 use crate::end::{End, damaged_end, end_of, stage_end};
 use crate::explain::Site;
 use crate::extract::{Draft, HELD, NOT_MADE, OutFile, Way, draft_of, way_to_out};
-use crate::fault::{Fault, FileFault, ToolFault};
+use crate::fault::{FileFault, OUT_OF_MEMORY, ToolFault};
 use crate::host::Host;
 use crate::program::refuse_unfit;
 use crate::unfit::Unfit;
@@ -35,7 +35,7 @@ pub fn stage<'a, R: Host>(rt: &R, order: &StageOrder<'a>, site: &mut Site<'a>) -
             return end_of(Err(fault));
         }
     };
-    if let End::Faulted(Fault::Tool(ToolFault::Stage(_))) = end {
+    if let End::Faulted(ToolFault::Stage(_)) = end {
         *site = Site::Stage(order.stage);
     }
     end
@@ -91,7 +91,7 @@ fn show_drafted<R: Host>(
     let mut draft = draft;
     let end = match BufWriter::with_capacity(rt.alloc(), HELD, &mut draft) {
         Ok(mut file) => show_to(rt, order, disk, &mut file),
-        Err(_) => End::Faulted(Fault::OutOfMemory),
+        Err(_) => End::Faulted(OUT_OF_MEMORY),
     };
     draft.name.clear();
     end
@@ -100,7 +100,7 @@ fn show_drafted<R: Host>(
 /// The same, with the records written to what stands under the output's name.
 fn show_in_place<R: Host>(rt: &R, order: &StageOrder<'_>, disk: StageDisk, out: &str) -> End {
     let Ok(mut file) = BufWriter::with_capacity(rt.alloc(), HELD, OutFile::new(rt, out)) else {
-        return End::Faulted(Fault::OutOfMemory);
+        return End::Faulted(OUT_OF_MEMORY);
     };
     let end = show_to(rt, order, disk, &mut file);
     if file.get_ref().is_refused() {

@@ -4,7 +4,7 @@ use super::image::payroll;
 use super::volumes::{damaged, lost, worked};
 use super::words::words_of;
 use crate::end::End;
-use crate::fault::{Fault, ToolFault};
+use crate::fault::ToolFault;
 use crate::host::Host;
 use crate::program::perform;
 use std::alloc::{AllocError, Global};
@@ -31,7 +31,7 @@ pub fn ends<H: Host + Abort>(rt: &H, line: &str, wanted: End) -> Result<(), Fail
 
 /// The line ends with this fault.
 fn fails<H: Host + Abort>(rt: &H, line: &str, fault: ToolFault) -> Result<(), Fail> {
-    ends(rt, line, End::Faulted(Fault::Tool(fault)))
+    ends(rt, line, End::Faulted(fault))
 }
 
 /// Each line ends as stands beside it.
@@ -117,7 +117,7 @@ pub fn follow_all<H: Host + Abort>(rt: &H, scripts: &[(&str, &[Step<'_>])]) -> R
 fn take<H: Host>(rt: &H, step: &Step<'_>) -> Result<bool, Fail> {
     match *step {
         Step::Ends(line, wanted) => Ok(end_of(rt, line)? == wanted),
-        Step::Fails(line, fault) => Ok(end_of(rt, line)? == End::Faulted(Fault::Tool(fault))),
+        Step::Fails(line, fault) => Ok(end_of(rt, line)? == End::Faulted(fault)),
         Step::Folder(path) => Ok(fs::create_dir(rt, path).is_ok()),
         Step::Put(path, bytes) => put(rt, path, bytes),
         Step::PutWorked(path, length) => put_worked(rt, path, length),

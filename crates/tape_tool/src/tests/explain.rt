@@ -3,7 +3,7 @@ use super::calls::{Step, take_all};
 use super::words::words_of;
 use crate::end::End;
 use crate::explain::{Explanation, Site, TEXTS};
-use crate::fault::{Fault, FileFault, ToolFault};
+use crate::fault::{FileFault, ToolFault};
 use crate::host::Host;
 use crate::program::perform;
 use std::process::Abort;
@@ -171,7 +171,7 @@ const TOLD: &[(ToolFault, Site<'_>, &str)] = &[
 fn faults_are_told_in_words(rt: HostRuntime) -> Result<(), Fail> {
     for (fault, site, text) in TOLD {
         let explanation = Explanation {
-            fault: Fault::Tool(*fault),
+            fault: *fault,
             site: *site,
         };
         let told = format!(in rt.alloc(); "{explanation}")?;

@@ -3,7 +3,7 @@ use super::calls::{Step, each_is_wrong, ends, take_all, with_images};
 use super::words::words_of;
 use crate::end::{End, extract_end};
 use crate::extract::words::Extract;
-use crate::fault::{Fault, FileFault, ToolFault};
+use crate::fault::{FileFault, ToolFault};
 use crate::words::{Order, call_of};
 use std::test::Fail;
 use tape_blocks::Form;
@@ -266,11 +266,11 @@ const ANSWERS: &[(Result<Option<Want>, EngineFault>, End)] = &[
     (Ok(None), End::Done),
     (
         Err(EngineFault::WriteFailed),
-        End::Faulted(Fault::Tool(ToolFault::File(FileFault::WriteFailed))),
+        End::Faulted(ToolFault::File(FileFault::WriteFailed)),
     ),
     (
         Err(EngineFault::Run(RunFault::Sink(SinkFault::Failed))),
-        End::Faulted(Fault::Tool(ToolFault::Run(RunFault::Sink(SinkFault::Failed)))),
+        End::Faulted(ToolFault::Run(RunFault::Sink(SinkFault::Failed))),
     ),
 ];
 

@@ -1,6 +1,6 @@
 //! How a fault is told.
 use crate::end::{End, end_of};
-use crate::fault::{Fault, FileFault, ToolFault};
+use crate::fault::{FileFault, ToolFault};
 use crate::telling::fault_line;
 use std::process::Abort;
 use tape_core::SinkFault;
@@ -58,8 +58,8 @@ const OTHER_FAULTS: &[(ToolFault, &str)] = &[
 
 /// A command with this fault ends by it, and it is told by this line.
 fn is_told<A: Abort>(rt: &A, fault: ToolFault, line: &str) {
-    let ends = end_of(Err(fault)) == End::Faulted(Fault::Tool(fault));
-    let told = fault_line(Fault::Tool(fault));
+    let ends = end_of(Err(fault)) == End::Faulted(fault);
+    let told = fault_line(fault);
     assert!(rt; ends && told.as_str() == line, "{line}: {told}");
 }
 

@@ -1,7 +1,7 @@
 //! Blank volumes. Each test has a prefix of its own.
 use super::calls::{Step, each_ends, follow_all};
 use crate::end::End;
-use crate::fault::{Fault, FileFault, ToolFault};
+use crate::fault::{FileFault, ToolFault};
 use std::test::Fail;
 
 /// The first volume without files: its label, two tape marks and the end of medium.
@@ -47,7 +47,7 @@ const REFUSALS: &[(&str, End)] = &[
     ("init . ABC 1 2", End::WrongWords),
     (
         "init missing ABC 1",
-        End::Faulted(Fault::Tool(ToolFault::File(FileFault::NotOpened))),
+        End::Faulted(ToolFault::File(FileFault::NotOpened)),
     ),
     ("init --help", End::Done),
 ];

@@ -2,7 +2,7 @@
 use super::calls::{Step, each_ends, take_all};
 use super::words::words_of;
 use crate::end::{End, finish};
-use crate::fault::{Fault, FileFault, ToolFault};
+use crate::fault::{FileFault, OUT_OF_MEMORY, ToolFault};
 use crate::program::{refuse, without_words};
 use crate::words::call_of;
 use std::alloc::{AllocError, Global};
@@ -15,25 +15,25 @@ use std::test::Fail;
 use tape_image::{ImageCause, ImageFault};
 use tape_run::RunFault;
 
-const NOT_WRITTEN: End = End::Faulted(Fault::Tool(ToolFault::File(FileFault::WriteFailed)));
+const NOT_WRITTEN: End = End::Faulted(ToolFault::File(FileFault::WriteFailed));
 
-const NOT_OPENED: End = End::Faulted(Fault::Tool(ToolFault::File(FileFault::NotOpened)));
+const NOT_OPENED: End = End::Faulted(ToolFault::File(FileFault::NotOpened));
 
-const NOT_READ: End = End::Faulted(Fault::Tool(ToolFault::Image(ImageFault {
+const NOT_READ: End = End::Faulted(ToolFault::Image(ImageFault {
     place: 0,
     cause: ImageCause::Device,
-})));
+}));
 
-const CUT_OFF: End = End::Faulted(Fault::Tool(ToolFault::Image(ImageFault {
+const CUT_OFF: End = End::Faulted(ToolFault::Image(ImageFault {
     place: 1884,
     cause: ImageCause::Truncated,
-})));
+}));
 
 /// A fault at the greatest place.
-const LAST: End = End::Faulted(Fault::Tool(ToolFault::Image(ImageFault {
+const LAST: End = End::Faulted(ToolFault::Image(ImageFault {
     place: 18_446_744_073_709_551_615,
     cause: ImageCause::OutOfMemory,
-})));
+}));
 
 /// Keeps what is printed, or fails at it.
 #[derive(Drop)]
@@ -122,14 +122,14 @@ const STATUSES: &[(End, u8, &str)] = &[
     (End::WrongWords, 2, ""),
     (End::Incomplete, 3, ""),
     (
-        End::Faulted(Fault::Tool(ToolFault::Run(RunFault::OutOfMemory))),
+        End::Faulted(ToolFault::Run(RunFault::OutOfMemory)),
         1,
         "tape: run fault 4\n",
     ),
     (CUT_OFF, 1, "tape: image fault 1 at 1884\n"),
     (LAST, 1, "tape: image fault 6 at 18446744073709551615\n"),
     (NOT_WRITTEN, 1, "tape: file fault 4\n"),
-    (End::Faulted(Fault::OutOfMemory), 1, "tape: run fault 4\n"),
+    (End::Faulted(OUT_OF_MEMORY), 1, "tape: run fault 4\n"),
 ];
 
 /// The end has this status, and is told so where standard error is open.
@@ -161,7 +161,7 @@ fn words_that_are_no_text(rt: HostRuntime) {
   ls | grep -axv '.*'
 and rename it, or list it by 'tape list < NAME'\n";
     is_without_words(&rt, ErrorKind::InvalidData, End::WrongWords, told);
-    let no_memory = End::Faulted(Fault::OutOfMemory);
+    let no_memory = End::Faulted(OUT_OF_MEMORY);
     is_without_words(&rt, ErrorKind::OutOfMemory, no_memory, "");
 }
 
@@ -208,5 +208,5 @@ fn help_not_written(rt: HostRuntime) -> Result<(), Fail> {
 fn no_memory_for_words(rt: HostRuntime) {
     let streams = Streams::new(rt.alloc(), true);
     let end = refuse(&streams, &clap::Error::from(AllocError));
-    assert!(rt; streams.has_told("") && end == End::Faulted(Fault::OutOfMemory));
+    assert!(rt; streams.has_told("") && end == End::Faulted(OUT_OF_MEMORY));
 }

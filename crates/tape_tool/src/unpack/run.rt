@@ -6,7 +6,7 @@ use crate::end::{End, check_end, end_of};
 use crate::explain::Site;
 use crate::extract::words::Task;
 use crate::extract::{Way, extract_file};
-use crate::fault::{Fault, FileFault, ToolFault};
+use crate::fault::{FileFault, OUT_OF_MEMORY, ToolFault};
 use crate::help;
 use crate::host::Host;
 use crate::images::Images;
@@ -83,7 +83,7 @@ fn unpack_met<R: Host>(
 ) -> End {
     match names_of_set(rt.alloc(), names, met.sets.as_slice(), &file.set_id) {
         Ok(own) => unpack_file(rt, order, &mut Images::new(rt, own.as_slice()), file),
-        Err(_) => End::Faulted(Fault::OutOfMemory),
+        Err(_) => End::Faulted(OUT_OF_MEMORY),
     }
 }
 
@@ -118,7 +118,7 @@ fn unpack_file<R: Host>(
     let name = file_name(&file.set_id, file.file, &file_id);
     match paths_of(rt.alloc(), order.folder, &name) {
         Ok(paths) => unpack_to(rt, order, images, file, &paths),
-        Err(_) => End::Faulted(Fault::OutOfMemory),
+        Err(_) => End::Faulted(OUT_OF_MEMORY),
     }
 }
 
@@ -186,7 +186,7 @@ fn gather<R: Host>(
 /// Tells what became of a file, and ends so.
 fn tell<R: Host>(rt: &R, file: &SetFile, told: &[u8], path: &str, end: End) -> End {
     let Ok(line) = file_line(rt.alloc(), &file.set_id, file.file, told, path) else {
-        return End::Faulted(Fault::OutOfMemory);
+        return End::Faulted(OUT_OF_MEMORY);
     };
     match say(rt, line.as_slice()) {
         Ok(()) => end,

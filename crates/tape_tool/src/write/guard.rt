@@ -1,6 +1,6 @@
 //! What `write` looks at before it writes: no input of a set is one of its images.
 use crate::explain::Site;
-use crate::fault::{Fault, FileFault};
+use crate::fault::{FileFault, OUT_OF_MEMORY};
 use crate::help;
 use crate::unfit::{Unfit, refused, same_file};
 use crate::write::run::split;
@@ -95,5 +95,5 @@ fn plain(found: Metadata) -> Result<Option<Metadata>, Unfit> {
 
 /// A growth was refused.
 fn no_memory() -> Unfit {
-    Unfit::Faulted(Fault::OutOfMemory)
+    Unfit::Faulted(OUT_OF_MEMORY)
 }

@@ -1,4 +1,4 @@
-use Rattle.std.proofs.Common.{◌≡◌, ℕ, [], refl, sym, ap, subst, ◌∙◌}
+use Rattle.std.proofs.Common.{[], refl, sym, ap, subst, ◌∙◌}
 use Rattle.tape_core.specs.State.{State}
 use Rattle.tape_tool.specs.Staging.{IsOfFile, OpensOver}
 use Rattle.tape_stage.specs.declared.stage.Stage.{Stage}
