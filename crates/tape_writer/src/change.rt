@@ -3,7 +3,7 @@
 ghost use Rattle.std.specs.Prelude.{◌≡◌, ◌≢◌, ◌<◌, ◌≤◌, ◌+◌, List, ℕ, length, OnOk, IfErr, Err};
 ghost use Rattle.std.specs.Prelude.{true, false};
 ghost use Rattle.std.specs.List.{AllByRecursion};
-ghost use Rattle.tape_image.specs.Tape.{block as block_item};
+ghost use Rattle.tape_image.specs.Tape.{IsTapeItem, block as block_item};
 ghost use Rattle.tape_blocks.specs.Tight.{Filled};
 ghost use Rattle.tape_set.specs.Sizes.{item_size};
 ghost use Rattle.tape_writer.specs.declared.course.Course.{Course};
@@ -71,7 +71,7 @@ impl<T: TapeOut> Tape<T> {
     ) -> Result<(), WriteFault>
         requires ready { IsReady file.now }
         requires wide { AllByRecursion IsWideVolume volumes.now }
-        requires sized { (0 < length bytes.now) × (length bytes.now ≤ 99999) }
+        requires sized { IsTapeItem (block_item bytes.now) }
         requires roomy { IsRoomy capacity (length volumes.now) self.old.course }
         requires volumes { length volumes.now ≤ 9999 }
         requires capacity { 1024 + length bytes.now ≤ capacity }

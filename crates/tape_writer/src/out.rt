@@ -1,7 +1,7 @@
 //! Where volumes are written.
 
 ghost use Rattle.std.specs.Prelude.{◌<◌, ◌≤◌, ◌∷◌, [], length, OnOk};
-ghost use Rattle.tape_image.specs.Tape.{block, mark};
+ghost use Rattle.tape_image.specs.Tape.{IsTapeItem, block, mark};
 ghost use Rattle.tape_writer.specs.Tapes.{Tapes, Takes, Changes, Closes, Keeps, HasCause};
 ghost use Rattle.tape_label.specs.declared.values.Vol1.{Vol1};
 ghost use Rattle.tape_writer.specs.Tapes.{Failures, Grows};
@@ -26,7 +26,7 @@ pub trait TapeOut {
 
     /// Appends a block of 1 to 99,999 bytes to the volume under way.
     fn block(&mut self, bytes: &[u8]) -> Result<(), OutFault>
-        requires sized { (0 < length bytes.now) × (length bytes.now ≤ 99999) }
+        requires sized { IsTapeItem (block bytes.now) }
         ensures ok { Takes (block bytes.now ∷ []) (holds self.old) result (holds self.new) }
         ensures err { Keeps (holds self.old) result (holds self.new) }
         ensures count { Grows (failures self.old) (failures self.new) }

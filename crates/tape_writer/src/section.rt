@@ -1,6 +1,7 @@
 //! Sections begun and ended.
 
 ghost use Rattle.std.specs.Prelude.{◌≡◌, ◌≤◌, ◌+◌, ◌++◌, List, OnOk, IfErr};
+ghost use Rattle.tape_image.specs.Begins.{image_limit};
 ghost use Rattle.tape_image.specs.Tape.{TapeItem};
 ghost use Rattle.tape_writer.specs.Tapes.{Takes, UnderWay};
 ghost use Rattle.tape_label.specs.declared.values.Vol1.{Vol1};
@@ -23,7 +24,7 @@ impl<T: TapeOut> Tape<T> {
         requires ready { IsReady file.now }
         requires first { 1 ≤ sect }
         requires most { sect ≤ 9999 }
-        requires room { self.old.course.used + 180 ≤ 4294967295 }
+        requires room { self.old.course.used + 180 ≤ image_limit }
         ensures ok { Takes (header_items file.now sect)
             (T.holds self.old.out) result (T.holds self.new.out) }
         ensures front { (volumes : List (List TapeItem)) (items : List TapeItem)
@@ -57,7 +58,7 @@ impl<T: TapeOut> Tape<T> {
         requires ready { IsReady file.now }
         requires first { 1 ≤ self.old.course.sect }
         requires most { self.old.course.sect ≤ 9999 }
-        requires room { self.old.course.used + 184 ≤ 4294967295 }
+        requires room { self.old.course.used + 184 ≤ image_limit }
         ensures ok { Takes
             (trailer_items file.now self.old.course.sect self.old.course.count eof)
             (T.holds self.old.out) result (T.holds self.new.out) }

@@ -1,7 +1,8 @@
 //! Items written, and their sizes counted.
 
 ghost use Rattle.std.specs.Prelude.{◌≡◌, ◌<◌, ◌≤◌, ◌+◌, ◌∷◌, [], length, OnOk, IfErr};
-ghost use Rattle.tape_image.specs.Tape.{block as block_item, mark as mark_item};
+ghost use Rattle.tape_image.specs.Begins.{image_limit};
+ghost use Rattle.tape_image.specs.Tape.{IsTapeItem, block as block_item, mark as mark_item};
 ghost use Rattle.tape_set.specs.Sizes.{item_size};
 ghost use Rattle.tape_writer.specs.Tapes.{Takes, Closes, Keeps, Grows};
 ghost use Rattle.tape_label.specs.declared.values.Vol1.{Vol1};
@@ -23,8 +24,8 @@ pub struct Tape<T> {
 impl<T: TapeOut> Tape<T> {
     /// Writes a block.
     fn block(&mut self, bytes: &[u8]) -> Result<(), WriteFault>
-        requires sized { (0 < length bytes.now) × (length bytes.now ≤ 99999) }
-        requires room { self.old.course.used + item_size (block_item bytes.now) ≤ 4294967295 }
+        requires sized { IsTapeItem (block_item bytes.now) }
+        requires room { self.old.course.used + item_size (block_item bytes.now) ≤ image_limit }
         ensures ok { Takes (block_item bytes.now ∷ [])
             (T.holds self.old.out) result (T.holds self.new.out) }
         ensures err { Keeps (T.holds self.old.out) result (T.holds self.new.out) }
@@ -49,7 +50,7 @@ impl<T: TapeOut> Tape<T> {
 
     /// Writes a tape mark.
     pub(crate) fn mark(&mut self) -> Result<(), WriteFault>
-        requires room { self.old.course.used + 4 ≤ 4294967295 }
+        requires room { self.old.course.used + 4 ≤ image_limit }
         ensures ok { Takes (mark_item ∷ []) (T.holds self.old.out) result (T.holds self.new.out) }
         ensures err { Keeps (T.holds self.old.out) result (T.holds self.new.out) }
         ensures course { OnOk result (self.new.course
@@ -73,7 +74,7 @@ impl<T: TapeOut> Tape<T> {
     /// Writes a label.
     #[tactic(auto, using(crate::proofs::Last::lasting_then, crate::proofs::Last::rose_from))]
     pub(crate) fn label(&mut self, label: [u8; 80]) -> Result<(), WriteFault>
-        requires room { self.old.course.used + 88 ≤ 4294967295 }
+        requires room { self.old.course.used + 88 ≤ image_limit }
         ensures ok { Takes (block_item label ∷ [])
             (T.holds self.old.out) result (T.holds self.new.out) }
         ensures err { Keeps (T.holds self.old.out) result (T.holds self.new.out) }
@@ -92,8 +93,8 @@ impl<T: TapeOut> Tape<T> {
     /// Writes a data block of the section under way.
     #[tactic(auto, using(crate::proofs::Last::kept))]
     pub(crate) fn add_block(&mut self, bytes: &[u8]) -> Result<(), WriteFault>
-        requires sized { (0 < length bytes.now) × (length bytes.now ≤ 99999) }
-        requires room { self.old.course.used + item_size (block_item bytes.now) ≤ 4294967295 }
+        requires sized { IsTapeItem (block_item bytes.now) }
+        requires room { self.old.course.used + item_size (block_item bytes.now) ≤ image_limit }
         // So the count stays in its 32 bits.
         requires count { self.old.course.count ≤ self.old.course.used }
         ensures ok { Takes (block_item bytes.now ∷ [])
@@ -115,7 +116,7 @@ impl<T: TapeOut> Tape<T> {
 
     /// Ends the last volume.
     pub(crate) fn close(&mut self) -> Result<(), WriteFault>
-        requires room { self.old.course.used + 4 ≤ 4294967295 }
+        requires room { self.old.course.used + 4 ≤ image_limit }
         ensures ok { Closes (T.holds self.old.out) result (T.holds self.new.out) }
         ensures err { Keeps (T.holds self.old.out) result (T.holds self.new.out) }
         ensures course { OnOk result (self.new.course

@@ -1,6 +1,7 @@
 //! Volumes begun and changed.
 
 ghost use Rattle.std.specs.Prelude.{◌≡◌, ◌<◌, ◌≤◌, ◌+◌, ◌++◌, ◌∷◌, [], List, OnOk, IfErr, false};
+ghost use Rattle.tape_image.specs.Begins.{image_limit};
 ghost use Rattle.tape_image.specs.Tape.{TapeItem, block as block_item, mark as mark_item};
 ghost use Rattle.tape_writer.specs.Tapes.{Tapes, UnderWay, Changes, Keeps, all_volumes};
 ghost use Rattle.tape_writer.specs.Front.{HoldsFront};
@@ -70,7 +71,7 @@ impl<T: TapeOut> Tape<T> {
         requires ready { IsReady file.now }
         requires first { 1 ≤ self.old.course.sect }
         requires most { self.old.course.sect < 9999 }
-        requires room { self.old.course.used + 192 ≤ 4294967295 }
+        requires room { self.old.course.used + 192 ≤ image_limit }
         requires few { self.old.course.volume < 65535 }
         ensures ok { (volumes : List (List TapeItem)) (items : List TapeItem)
             → T.holds self.old.out (UnderWay volumes items)

@@ -6,7 +6,6 @@ use Rattle.std.specs.Prelude.{◌⊎◌, IfSome}
 use Rattle.std.proofs.lemmas.List.{drop_more, map-append}
 use Rattle.tape_image.specs.Reader.{IfKnown}
 use Rattle.tape_label.specs.declared.values.Head1.{Head1}
-use Rattle.tape_label.specs.declared.values.Vol1.{Vol1}
 use Rattle.tape_blocks.specs.declared.shape.Shape.{Shape}
 use Rattle.tape_writer.specs.declared.course.Opened.{Opened}
 use Rattle.tape_writer.specs.declared.phase.Phase.{Phase}
@@ -25,7 +24,7 @@ use Rattle.tape_writer.specs.Tapes.{Tapes}
 use Rattle.tape_writer.specs.Faults.{IsEnding}
 use Rattle.tape_writer.specs.Told.{Told, with_record}
 use Rattle.tape_writer.specs.State.{SetState, IsWriting, IfFiling, Leaves}
-use Rattle.tape_writer.specs.Refusals.{IsInFile, IsNewFault, IsBeginFault, IsFinishFault}
+use Rattle.tape_writer.specs.Refusals.{IsInFile, IsBeginFault, IsFinishFault}
 use Rattle.tape_writer.specs.Front.{IsInLast, IsLeftInside, IsLeftBehind}
 use Rattle.tape_writer.specs.declared.inputs.cut.Cut.{Cut}
 use Rattle.tape_writer.specs.Records.{to_come, records_of, given, IsFirstLong}
@@ -123,11 +122,6 @@ begin_other capacity n head shape _ due is = is
 pub finish_other : (n : ℕ) (f : WriteFault) → IsFinishFault n f → IsOfInput (Write f) → ⊥
 finish_other n faults.RecordLength due is = due
 finish_other n _ due is = is
-
-pub new_other : (set_id : List ℕ) (volumes : List Vol1) (f : WriteFault)
-    → IsNewFault set_id volumes f → IsOfInput (Write f) → ⊥
-new_other set_id volumes faults.RecordLength due is = due
-new_other set_id volumes _ due is = is
 
 -- a fault at a file's end ends the writer
 pub end_ends : (file : Opened) (phase : Phase) (f : WriteFault) → IsInFile file phase

@@ -42,6 +42,7 @@ pub returns-in-Ok-clause-found : goal.returns-in-Ok-clause-found
 returns-in-Ok-clause-found g c =
     let test = slice_eq-Decides Decides-eqb (take c.in-Ok.count c.fill.new.buffer)
     c.as_slice.result.now c.eq.result c.eq.ensures in
-    is_image c.eq.result (g.R.Read.remaining c.args.reader.now) (g.R.Read.remaining c.fill.new.device)
+    let rem = g.R.Read.remaining in
+    is_image c.eq.result (rem c.args.reader.now) (rem c.fill.new.device)
     c.fill.new.buffer c.in-Ok.count c.as_slice.result.now _ test
     (c.as_slice.ensures.value ∙ c.image_of.ensures) c.in-Ok.ensures.taken (search rules)
