@@ -1,7 +1,7 @@
 -- Steps of a run that were made, one after another.
 use Rattle.std.proofs.Common.{◌≡◌, ℕ, zero, suc, ◌+◌, Bool, true, false, List, [], ◌∷◌, drop}
-use Rattle.std.proofs.Common.{Option, Some, None, ◌≤◌, length, take, IfSome, refl, sym, ap, ◌∙◌, subst, inr}
-use Rattle.std.proofs.Common.{◌<◌, arith, append-nil, ◌++◌, slice_set}
+use Rattle.std.proofs.Common.{Option, Some, None, ◌≤◌, length, take, IfSome, refl, sym, ap, ◌∙◌}
+use Rattle.std.proofs.Common.{subst, inr, ◌<◌, arith, append-nil, ◌++◌, slice_set}
 use Rattle.std.proofs.lemmas.List.{append_assoc, take-append-drop}
 use Rattle.std.specs.List.{slice_get}
 use Rattle.std.proofs.lemmas.List.{drop_all}

@@ -1,6 +1,5 @@
 -- The parts before the first one that leaves its record begun, met in a walk.
 use Rattle.std.proofs.Common.{Ok, ◌≡◌, ℕ, ◌+◌, ◌-◌, ◌<◌, ◌≤◌, Bool, true, false}
-use Rattle.std.proofs.lemmas.List.{nil_from_length}
 use Rattle.std.proofs.Common.{List, [], ◌∷◌, ◌++◌, length, Option, Some, None, refl}
 use Rattle.std.proofs.Common.{sym, ap, subst, ◌∙◌, arith, append_assoc, append-nil}
 use Rattle.std.proofs.Common.{drop, length-append}
@@ -225,8 +224,3 @@ pub pass_goes_on : (ahead after : List Portion → Type 0) (left next : ℕ) (re
 pass_goes_on ahead after left next rest given p some e gives =
     passed ahead after left next rest given p.before p.counted some e (gives (p.before ++ rest)
     p.is_ahead)
-
-pub pass_ends : (ahead : List Portion → Type 0) (left : ℕ) (rest : List Portion)
-    → Passes ahead left rest → left ≡ 0 → ahead rest
-pass_ends ahead left rest p e =
-    subst (λ b. ahead (b ++ rest)) (nil_from_length p.before (p.counted ∙ e)) p.is_ahead

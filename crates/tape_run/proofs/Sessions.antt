@@ -229,6 +229,16 @@ kept_restart old new n w k =
     ∙ at.note.of_set) (ap (λ (p : State). p.file) w.place ∙ at.note.of_file)
     (rw (w.notes, same) at.left)
 
+-- a session of these, with so many readers that failed and so many refusals
+abbrev pub session_of : State → List Portion → List Point → ℕ → ℕ → Seen
+session_of place parts notes failures refusals = record {
+  place = place;
+  parts = parts;
+  notes = notes;
+  failures = failures;
+  refusals = refusals;
+}
+
 -- The session is at its note of this number, with the front of its parts that this weighs.
 pub record GoesBack (n : ℕ) (point : Point) (old : Seen) (new : List Portion → Seen) : Type 0 where
   pub parts : List Portion
@@ -243,36 +253,13 @@ pub goes_back : (n : ℕ) (point : Point) (from place : State) (held : List Port
     → slice_get notes n ≡ Some point → KeepsNotes from [] notes held
     → (point.set_id ≡ from.set_id → point.file ≡ from.file → place ≡ place_of point)
     → left ≡ take (n + 1) notes → refusals ≡ before
-    → GoesBack n point (record {
-      place = from;
-      parts = held;
-      notes = notes;
-      failures = failures;
-      refusals = before;
-    }) (λ parts. record {
-      place = place;
-      parts = parts;
-      notes = left;
-      failures = failures;
-      refusals = refusals;
-    })
+    → GoesBack n point (session_of from held notes failures before)
+    (λ parts. session_of place parts left failures refusals)
 goes_back n point from place held notes left failures before refusals noted kept there forgets
     calm =
     let at = kept_at from [] notes n point held noted kept in
-    let old : Seen = record {
-      place = from;
-      parts = held;
-      notes = notes;
-      failures = failures;
-      refusals = before;
-    } in
-    let new : Seen = record {
-      place = place;
-      parts = at.ps;
-      notes = left;
-      failures = failures;
-      refusals = refusals;
-    } in
+    let old = session_of from held notes failures before in
+    let new = session_of place at.ps left failures refusals in
     let went : WentBack n old new = record {
       point = point;
       noted = noted;

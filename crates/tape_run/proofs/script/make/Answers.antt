@@ -43,7 +43,8 @@ returns-in_err-answer-in-Reel-clause-err g c =
     c.if-used-reels.false) in
     told_err _ _ _ c.from_residual.ensures.1 (λ held was kept.
     let (now, has, front, keeps, fails) = c.in_err-answer-in-Reel.ensures.err held was in
-    (now, (λ ne. has), keeps kept, rw (here, c.in-Reel.is) (reel_failed _ _ (rem device) _ _ fails)))
+    let told = reel_failed _ _ (rem device) _ _ fails in
+    (now, (λ ne. has), keeps kept, rw (here, c.in-Reel.is) told))
 
 pub returns-then-used-reels-clause-err : goal.returns-then-used-reels-clause-err
 returns-then-used-reels-clause-err g c = λ held was kept.

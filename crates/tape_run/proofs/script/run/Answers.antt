@@ -1,4 +1,5 @@
-use Rattle.std.proofs.Common.{◌+◌, [], ◌++◌, length, refl, sym, ap, subst, ◌∙◌, length-append, arith}
+use Rattle.std.proofs.Common.{◌+◌, [], ◌++◌, length, refl, sym, ap, subst, ◌∙◌, length-append}
+use Rattle.std.proofs.Common.{arith}
 use Rattle.std.proofs.lemmas.List.{drop_more}
 use Rattle.tape_run.specs.Given.{written}
 use Rattle.tape_run.specs.Seen.{seen}

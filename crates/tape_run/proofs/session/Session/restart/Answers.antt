@@ -2,11 +2,10 @@ use Rattle.std.proofs.Common.{◌≡◌, Some, [], ap, subst, arith, slice_get}
 use Rattle.std.proofs.lemmas.Grind.{common_steps}
 use Rattle.std.proofs.lemmas.Option.{gets}
 use Rattle.tape_core.specs.Place.{rest_of}
-use Rattle.tape_run.specs.Seen.{Seen}
 use Rattle.tape_run.proofs.Crashes.{cut_only}
 use Rattle.tape_run.proofs.Notes.{front_weighs}
 use Rattle.tape_run.proofs.Places.{from_taken}
-use Rattle.tape_run.proofs.Sessions.{goes_back, kept_at}
+use Rattle.tape_run.proofs.Sessions.{goes_back, kept_at, session_of}
 use Rattle.tape_run.proofs.session.Session.restart.Goals as goal
 
 pub returns-clause-ok : goal.returns-clause-ok
@@ -51,13 +50,8 @@ returns-in-Err-clause-crash g c =
     let s = c.self.inside in
     let point = c.in-Some.field-0.now in
     let noted : slice_get s.notes.items c.args.n ≡ Some point = grind (arith, common_steps, gets) in
-    let here : Seen = record {
-      place = rest_of s.intake.core;
-      parts = held;
-      notes = s.notes.items;
-      failures = s.failures;
-      refusals = g.S.PartSink.refusals s.intake.sink;
-    } in
+    let here = session_of (rest_of s.intake.core) held s.notes.items s.failures
+    (g.S.PartSink.refusals s.intake.sink) in
     cut_only here c.args.n point _ _ noted kept (g.S.PartSink.holds s.intake.sink) was
     c.cut_to.ensures.crash)
 
@@ -67,12 +61,7 @@ returns-clause-crash g c =
     let s = c.self.inside in
     let point = c.in-Some.field-0.now in
     let noted : slice_get s.notes.items c.args.n ≡ Some point = grind (arith, common_steps, gets) in
-    let here : Seen = record {
-      place = rest_of s.intake.core;
-      parts = held;
-      notes = s.notes.items;
-      failures = s.failures;
-      refusals = g.S.PartSink.refusals s.intake.sink;
-    } in
+    let here = session_of (rest_of s.intake.core) held s.notes.items s.failures
+    (g.S.PartSink.refusals s.intake.sink) in
     cut_only here c.args.n point _ _ noted kept (g.S.PartSink.holds s.intake.sink) was
     c.cut_to.ensures.crash)
