@@ -1,6 +1,7 @@
 //! A file section under way: its labels were met, and its data are counted.
 
 ghost use Rattle.std.specs.Prelude.{◌≡◌, ◌<◌};
+ghost use Rattle.tape_set.specs.Lawful.{most_blocks};
 
 use crate::section::{Entry, SectionKey, SectionState};
 use tape_label::{Field, Trail1};
@@ -23,7 +24,7 @@ impl Met {
 
     /// One more data block.
     pub(crate) fn with_block(self, bad: bool) -> Met
-        requires { self.blocks < 4294967295 }
+        requires { self.blocks < most_blocks }
         ensures { result ≡ with_block self bad }
     {
         Met {

@@ -5,6 +5,7 @@ ghost use Rattle.std.specs.Prelude.{◌≡◌, ◌<◌, Ok};
 ghost use Rattle.tape_image.specs.Reader.{tape_item};
 ghost use Rattle.tape_image.specs.Tape.{block, bad, mark};
 ghost use Rattle.tape_label.specs.Kinds.{kind_at};
+ghost use Rattle.tape_set.specs.Lawful.{most_blocks};
 ghost use Rattle.tape_run.specs.Passing.{under_way, blocks_of, volume_phase, labels_phase};
 ghost use Rattle.tape_run.specs.Passing.{header_phase, second_with, told_with, told_by, step};
 
@@ -108,7 +109,7 @@ fn second_phase(met: Met, block: &[u8]) -> Phase
 
 /// Behind a block, and the section that it tells.
 fn block_step(phase: Phase, bytes: &[u8]) -> (Phase, Option<Told>)
-    requires { blocks_of phase < 4294967295 }
+    requires { blocks_of phase < most_blocks }
     ensures { result ≡ step phase (block bytes.now) }
 {
     match phase {
@@ -139,7 +140,7 @@ fn mark_step(phase: Phase) -> (Phase, Option<Told>)
 
 /// Behind a block that could not be read, and the section that it tells.
 fn bad_step(phase: Phase) -> (Phase, Option<Told>)
-    requires { blocks_of phase < 4294967295 }
+    requires { blocks_of phase < most_blocks }
     ensures { result ≡ step phase bad }
 {
     match phase {
@@ -151,7 +152,7 @@ fn bad_step(phase: Phase) -> (Phase, Option<Told>)
 
 /// What is expected behind an item, and the section that it tells, if it tells one.
 pub(crate) fn step(phase: Phase, item: Item<'_>) -> (Phase, Option<Told>)
-    requires { blocks_of phase < 4294967295 }
+    requires { blocks_of phase < most_blocks }
     ensures { result ≡ step phase (tape_item item.entry) }
 {
     match item {

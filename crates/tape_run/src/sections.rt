@@ -7,6 +7,7 @@ ghost use Rattle.std.specs.Map.{lookup};
 ghost use Rattle.tape_run.specs.Noted.{same_key, is_good, better, kept, noted, noted_all};
 ghost use Rattle.tape_run.specs.Passing.{in_list, under_way, blocks_of, step};
 ghost use Rattle.tape_image.specs.Reader.{tape_item};
+ghost use Rattle.tape_set.specs.Lawful.{most_blocks};
 
 use crate::fault::RunFault;
 use crate::met::Told;
@@ -89,7 +90,7 @@ fn note_told(sections: &mut Sections, told: Option<Told>) -> Result<(), RunFault
 
 /// Notes what an item tells, and says what is expected behind it.
 pub(crate) fn take(sections: &mut Sections, phase: Phase, item: Item<'_>) -> Result<Phase, RunFault>
-    requires { blocks_of phase < 4294967295 }
+    requires { blocks_of phase < most_blocks }
     ensures fault { IsOkUnless result faults.OutOfMemory }
     ensures phase { IfOk result (λ next. next ≡ (step phase (tape_item item.entry)).0) }
     ensures ok { OnOk result (sections.new.entries

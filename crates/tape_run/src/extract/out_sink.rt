@@ -6,6 +6,7 @@ ghost use Rattle.tape_blocks.specs.Block.{Portion};
 ghost use Rattle.tape_blocks.specs.Parts.{view};
 ghost use Rattle.tape_blocks.specs.Spans.{leaves, join};
 ghost use Rattle.tape_core.specs.Crash.{lost};
+ghost use Rattle.tape_core.specs.Known.{most_staged};
 ghost use Rattle.tape_run.specs.RecordText.{part_text, output_of};
 ghost use Rattle.tape_run.specs.OutSinks.{TellsAlways, with_end, HasTaken};
 
@@ -39,14 +40,14 @@ pub struct OutSink<W> {
     failed: bool,
     /// How many calls were refused.
     refused: u64,
-    ghost light: { weight ≤ 999999999999999 },
+    ghost light: { weight ≤ most_staged },
     ghost few: { records ≤ weight },
 }
 
 /// How many records have ended behind a part.
 #[inline(always)]
 fn with_end(span: Span, records: u64) -> u64
-    requires { records ≤ 999999999999999 }
+    requires { records ≤ most_staged }
     ensures { result ≡ with_end (leaves span) records }
 {
     if span.leaves() { records } else { records + 1 }

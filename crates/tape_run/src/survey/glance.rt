@@ -1,6 +1,7 @@
 //! What an image is, at a glance over its items.
 ghost use Rattle.std.specs.Prelude.{◌≡◌, ◌<◌, ◌≤◌};
 ghost use Rattle.tape_image.specs.Reader.{tape_item};
+ghost use Rattle.tape_image.specs.Begins.{image_limit};
 ghost use Rattle.tape_run.specs.SurveyGlance.{blank_glance, is_ebcdic, first_of, first_with};
 ghost use Rattle.tape_run.specs.SurveyGlance.{first_other, first_block, is_vol1, is_kind_vol1};
 ghost use Rattle.tape_run.specs.SurveyGlance.{late_with, head_in, head_at, head_of, unread_in};
@@ -248,7 +249,7 @@ fn or_else<T: Copy>(first: Option<T>, second: Option<T>) -> Option<T>
 
 /// The glance behind one more item, with this phase before it and behind it.
 pub(crate) fn look(glance: &Glance, phase: &Phase, item: Item<'_>, next: &Phase) -> Glance
-    requires items { glance.now.items < 4294967295 }
+    requires items { glance.now.items < image_limit }
     requires files { glance.now.files ≤ glance.now.items }
     requires bad { glance.now.bad ≤ glance.now.items }
     ensures exact { result ≡ look_to glance.now phase.now (tape_item item.entry) next.now }

@@ -2,6 +2,7 @@
 ghost use Rattle.std.specs.Result.{IsOkUnless};
 ghost use Rattle.std.specs.Prelude.{◌≡◌, ◌<◌, IfOk, OnOk, option_map};
 ghost use Rattle.tape_image.specs.Reader.{going, tape_item};
+ghost use Rattle.tape_set.specs.Lawful.{most_blocks};
 ghost use Rattle.tape_run.specs.Noted.{noted_all};
 ghost use Rattle.tape_run.specs.Passing.{step, in_list, under_way, blocks_of};
 ghost use Rattle.tape_run.specs.declared.fault.RunFault.TheVariants as faults;
@@ -180,7 +181,7 @@ fn view_items<R: Read>(
 
 /// Notes what an item tells, and says what is expected behind it.
 fn take_behind(sections: &mut Sections, phase: &Phase, item: Item<'_>) -> Result<Phase, RunFault>
-    requires { blocks_of phase.now < 4294967295 }
+    requires { blocks_of phase.now < most_blocks }
     ensures fault { IsOkUnless result faults.OutOfMemory }
     ensures phase { IfOk result (λ next. next ≡ (step phase.now (tape_item item.entry)).0) }
     ensures ok { OnOk result (sections.new.entries
