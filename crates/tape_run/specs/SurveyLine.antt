@@ -39,13 +39,10 @@ first_text (firsts.Block n) = codes "no labels; its first block has " ++ decimal
 first_text firsts.Bad = codes "does not begin with a label"
 first_text firsts.Mark = codes "begins with a tape mark"
 
--- the system that wrote it
-abbrev pub writer_text : List ℕ → List ℕ
-writer_text system = codes ", written by " ++ trimmed_text system
-
--- the same, unless that is spaces
+-- the system that wrote it, unless that is spaces
 abbrev pub written_text : List ℕ → List ℕ
-written_text system = if nat_lt 0 (trimmed_len system) then writer_text system else []
+written_text system =
+    if nat_lt 0 (trimmed_len system) then codes ", written by " ++ trimmed_text system else []
 
 -- the same, where a header label tells it
 abbrev pub system_text : Option Head1 → List ℕ
@@ -58,34 +55,22 @@ files_text n =
     if n == 0 then [] else if n == 1 then codes ", 1 file"
     else codes ", " ++ decimal n ++ codes " files"
 
--- more than one block that could not be read
-abbrev pub many_bad_text : ℕ → List ℕ
-many_bad_text n = codes ", " ++ decimal n ++ codes " blocks that cannot be read"
-
 -- how many blocks could not be read
 abbrev pub bad_text : ℕ → List ℕ
 bad_text n =
     if n == 0 then [] else if n == 1 then codes ", 1 block that cannot be read"
-    else many_bad_text n
-
--- the item that is a volume label
-abbrev pub late_number_text : ℕ → List ℕ
-late_number_text n = codes "; a VOL1 at item " ++ decimal n
+    else codes ", " ++ decimal n ++ codes " blocks that cannot be read"
 
 -- where a volume label stands behind something else
 abbrev pub late_text : Option ℕ → List ℕ
 late_text None = []
-late_text (Some n) = late_number_text n
-
--- the file whose records cannot be read
-abbrev pub unread_file_text : ℕ → List ℕ
-unread_file_text file =
-    codes "; file " ++ decimal file ++ codes " has a record format that is not read"
+late_text (Some n) = codes "; a VOL1 at item " ++ decimal n
 
 -- a file whose records cannot be read, if there is one
 abbrev pub unread_text : Option ℕ → List ℕ
 unread_text None = []
-unread_text (Some file) = unread_file_text file
+unread_text (Some file) =
+    codes "; file " ++ decimal file ++ codes " has a record format that is not read"
 
 -- what an image holds
 abbrev pub glance_text : Glance → List ℕ

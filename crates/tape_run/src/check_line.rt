@@ -1,13 +1,12 @@
 //! The lines of `check`, built without taking memory.
-ghost use Rattle.std.specs.Prelude.{◌≡◌, ◌≤◌, ◌+◌, ◌++◌, length, decimal};
+ghost use Rattle.std.specs.Prelude.{◌≡◌, ◌≤◌, ◌++◌, length};
 ghost use Rattle.arrayvec.specs.ArrayVec.{array_vec_len};
-ghost use Rattle.tape_run.specs.Identifier.{identifier_text};
 ghost use Rattle.tape_run.specs.CheckLine.{stop_fault, stop_text, items_text, met_text};
 ghost use Rattle.tape_run.specs.CheckLine.{image_line, state_text, section_text, section_line};
 ghost use Rattle.tape_run.specs.CheckLine.{lack_line};
 
-use crate::identifier::printed;
 use crate::section::{ImageLine, ImageStop, Lack, SectionLine, SectionState};
+use crate::text::{put, put_decimal, put_identifier};
 use arrayvec::ArrayVec;
 use tape_image::ImageFault;
 use tape_label::Field;
@@ -22,7 +21,7 @@ pub fn image_line(number: usize, met: &Option<ImageLine>) -> CheckLine
 {
     let mut line = CheckLine::new();
     put(&mut line, b"IMAGE ");
-    put_number(&mut line, number as u64);
+    put_decimal(&mut line, number as u64);
     put(&mut line, b" ");
     put_met(&mut line, met);
     put(&mut line, b"\n");
@@ -47,7 +46,7 @@ fn put_items(line: &mut CheckLine, met: &ImageLine)
     ensures items { line.new.items ≡ line.old.items ++ items_text met.now }
     ensures len { array_vec_len line.new ≤ 190 }
 {
-    put_number(line, u64::from(met.items));
+    put_decimal(line, u64::from(met.items));
     put(line, b" ");
     put_stop(line, &met.stop);
 }
@@ -82,9 +81,9 @@ fn put_fault(line: &mut CheckLine, fault: &ImageFault)
     ensures len { array_vec_len line.new ≤ 190 }
 {
     put(line, b"FAULT ");
-    put_number(line, u64::from(fault.cause.number()));
+    put_decimal(line, u64::from(fault.cause.number()));
     put(line, b" ");
-    put_number(line, fault.place);
+    put_decimal(line, fault.place);
 }
 
 /// The line of a section: which one it is, the volume that it was met on, its blocks and its state.
@@ -97,7 +96,7 @@ pub fn section_line(section: &SectionLine) -> CheckLine
     put(&mut line, b" ");
     put_identifier(&mut line, &section.volume);
     put(&mut line, b" ");
-    put_number(&mut line, u64::from(section.blocks));
+    put_decimal(&mut line, u64::from(section.blocks));
     put(&mut line, b" ");
     put(&mut line, state_text(section.state));
     put(&mut line, b"\n");
@@ -123,9 +122,9 @@ fn put_section(line: &mut CheckLine, set_id: &Field<6>, file: u16, sect: u16)
 {
     put_identifier(line, set_id);
     put(line, b" ");
-    put_number(line, u64::from(file));
+    put_decimal(line, u64::from(file));
     put(line, b" ");
-    put_number(line, u64::from(sect));
+    put_decimal(line, u64::from(sect));
 }
 
 /// How a section was met.
@@ -138,37 +137,5 @@ pub(crate) fn state_text(state: SectionState) -> &'static [u8]
         SectionState::Bad => b"BAD",
         SectionState::Count => b"COUNT",
         SectionState::Cut => b"CUT",
-    }
-}
-
-/// An identifier in its full width, with a question mark for each byte that can't be printed.
-fn put_identifier(line: &mut CheckLine, field: &Field<6>)
-    requires { array_vec_len line.old ≤ 100 }
-    ensures items { line.new.items ≡ line.old.items ++ identifier_text field.now }
-    ensures len { array_vec_len line.new ≡ array_vec_len line.old + 6 }
-{
-    for byte in field.bytes() {
-        line.push(printed(*byte));
-    }
-}
-
-/// A number in decimals, without leading zeros.
-fn put_number(line: &mut CheckLine, number: u64)
-    requires room { array_vec_len line.old ≤ 150 }
-    ensures items { line.new.items ≡ line.old.items ++ decimal number }
-    ensures len { array_vec_len line.new ≤ array_vec_len line.old + 40 }
-{
-    put(line, itoa::Buffer::new().format(number).as_bytes());
-}
-
-/// Any text that fits.
-fn put(line: &mut CheckLine, text: &[u8])
-    requires { array_vec_len line.old + length text.now ≤ 256 }
-    ensures items { line.new.items ≡ line.old.items ++ text.now }
-    ensures len { array_vec_len line.new ≡ array_vec_len line.old + length text.now }
-{
-    match line.try_extend_from_slice(text) {
-        Ok(()) => {}
-        Err(_) => unreachable!(),
     }
 }

@@ -13,7 +13,6 @@ mod check_line;
 mod extract;
 pub mod extract_laws;
 mod fault;
-mod identifier;
 mod intake;
 mod lacks;
 pub mod laws;
@@ -33,6 +32,7 @@ mod session;
 mod shelf;
 mod survey;
 pub mod survey_laws;
+pub mod text;
 mod unpack;
 pub mod unpack_laws;
 mod whole;
@@ -45,7 +45,6 @@ pub use extract::{
     write_file,
 };
 pub use fault::{EngineFault, ListFault, RunFault, Stopped, WriteFailed};
-pub use identifier::printed;
 pub use laws::{only_refusals_stop, stands_across_crashes, stood_comes_back};
 pub use list::list_to;
 pub use list_places::list_places_to;

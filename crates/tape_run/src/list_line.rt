@@ -10,16 +10,15 @@ ghost use Rattle.tape_label.specs.Head2.{Head2Fits};
 ghost use Rattle.tape_label.specs.Trail1.{TrailFits};
 ghost use Rattle.tape_label.specs.Kinds.{identifier};
 ghost use Rattle.tape_label.specs.Labels.{IsLabel};
-ghost use Rattle.tape_run.specs.Identifier.{identifier_text};
 ghost use Rattle.tape_run.specs.ListLine.{item_number, vol1_text, head_text};
 ghost use Rattle.tape_run.specs.ListLine.{head1_text, trail1_text, head2_text};
 ghost use Rattle.tape_run.specs.ListLine.{label_text, plain_text};
 ghost use Rattle.tape_run.specs.ListLine.{block_text, item_text, line_of};
 
-use crate::identifier::printed;
+use crate::text::{put, put_identifier};
 use arrayvec::ArrayVec;
 use tape_image::Item;
-use tape_label::{Field, Head1, Head2, Kind, Label, Trail1, Vol1, digits_of};
+use tape_label::{Head1, Head2, Kind, Label, Trail1, Vol1, digits_of};
 
 /// Room for the longest line, which is that of a trailer.
 pub type Line = ArrayVec<u8, 64>;
@@ -190,17 +189,6 @@ fn identifier(kind: Kind) -> &'static [u8; 4]
     }
 }
 
-/// An identifier in its full width, with a question mark for each byte that can't be printed.
-fn put_identifier<const N: usize>(line: &mut Line, field: &Field<N>)
-    requires { array_vec_len line.old + N ≤ 64 }
-    ensures items { line.new.items ≡ line.old.items ++ identifier_text field.now }
-    ensures len { array_vec_len line.new ≡ array_vec_len line.old + N }
-{
-    for byte in field.bytes() {
-        line.push(printed(*byte));
-    }
-}
-
 /// A number in exactly W digits.
 fn put_number<const W: usize>(line: &mut Line, number: u64)
     requires room { array_vec_len line.old + W ≤ 64 }
@@ -209,16 +197,4 @@ fn put_number<const W: usize>(line: &mut Line, number: u64)
     ensures len { array_vec_len line.new ≡ array_vec_len line.old + W }
 {
     put(line, &digits_of::<W>(number));
-}
-
-/// Any text that fits.
-pub fn put(line: &mut Line, text: &[u8])
-    requires { array_vec_len line.old + length text.now ≤ 64 }
-    ensures items { line.new.items ≡ line.old.items ++ text.now }
-    ensures len { array_vec_len line.new ≡ array_vec_len line.old + length text.now }
-{
-    match line.try_extend_from_slice(text) {
-        Ok(()) => {}
-        Err(_) => unreachable!(),
-    }
 }

@@ -13,6 +13,7 @@ use crate::fault::{ListFault, WriteFailed};
 use crate::list::{last_line, reserve};
 use crate::list_line::line_of;
 use crate::output::{flush, write_text};
+use crate::text::{put, put_decimal};
 use arrayvec::ArrayVec;
 use std::alloc::Global;
 use std::io::{Read, Write};
@@ -138,20 +139,8 @@ fn told_at(place: u64, size: u64, line: &[u8]) -> PlacedLine
 fn put_number(line: &mut PlacedLine, number: u64)
     requires room { array_vec_len line.old ≤ 64 }
     ensures items { line.new.items ≡ line.old.items ++ (decimal number ++ codes " ") }
-    ensures len { array_vec_len line.new ≤ array_vec_len line.old + 41 }
+    ensures len { array_vec_len line.new ≤ array_vec_len line.old + 21 }
 {
-    put(line, itoa::Buffer::new().format(number).as_bytes());
+    put_decimal(line, number);
     put(line, b" ");
-}
-
-/// Any text that fits.
-fn put(line: &mut PlacedLine, text: &[u8])
-    requires { array_vec_len line.old + length text.now ≤ 192 }
-    ensures items { line.new.items ≡ line.old.items ++ text.now }
-    ensures len { array_vec_len line.new ≡ array_vec_len line.old + length text.now }
-{
-    match line.try_extend_from_slice(text) {
-        Ok(()) => {}
-        Err(_) => unreachable!(),
-    }
 }

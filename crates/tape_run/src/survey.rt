@@ -16,7 +16,6 @@ mod glance;
 mod line;
 mod rows;
 mod sets;
-pub(crate) mod text;
 mod texts;
 pub(crate) mod view;
 

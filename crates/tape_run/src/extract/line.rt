@@ -6,6 +6,7 @@ ghost use Rattle.tape_run.specs.ReelLine.{outcome_text, reel_line, part_text, aw
 ghost use Rattle.tape_run.specs.ReelLine.{complete_line, last_line};
 
 use crate::answer::ReelAnswer;
+use crate::text::push_decimal;
 use arrayvec::ArrayString;
 use tape_blocks::BlockFault;
 use tape_core::{Answer, Reason};
@@ -22,7 +23,7 @@ pub fn reel_line(number: u64, outcome: Option<ReelAnswer>) -> ReportLine
 {
     let mut line = ReportLine::new();
     line.push_str("REEL ");
-    put_decimal(&mut line, number);
+    push_decimal(&mut line, number);
     line.push_str(" ");
     put_outcome(&mut line, outcome);
     line.push_str("\n");
@@ -45,7 +46,7 @@ fn complete_line(records: u64) -> ReportLine
 {
     let mut line = ReportLine::new();
     line.push_str("COMPLETE ");
-    put_decimal(&mut line, records);
+    push_decimal(&mut line, records);
     line.push_str("\n");
     line
 }
@@ -56,11 +57,11 @@ fn awaits_line(want: &Want) -> ReportLine
 {
     let mut line = ReportLine::new();
     line.push_str("AWAITS ");
-    put_decimal(&mut line, u64::from(want.file));
+    push_decimal(&mut line, u64::from(want.file));
     line.push_str(" ");
-    put_decimal(&mut line, u64::from(want.sect));
+    push_decimal(&mut line, u64::from(want.sect));
     line.push_str(" ");
-    put_decimal(&mut line, u64::from(want.block));
+    push_decimal(&mut line, u64::from(want.block));
     put_part(&mut line, want.part);
     line.push_str("\n");
     line
@@ -74,7 +75,7 @@ fn put_part(line: &mut ReportLine, part: u32)
 {
     if part > 0 {
         line.push_str(" ");
-        put_decimal(line, u64::from(part));
+        push_decimal(line, u64::from(part));
     }
 }
 
@@ -154,7 +155,7 @@ fn put_bad_label(line: &mut ReportLine, fault: LabelFault)
     ensures len { array_string_len line.new ≤ 146 }
 {
     line.push_str("BAD LABEL ");
-    put_decimal(line, u64::from(fault.number()));
+    push_decimal(line, u64::from(fault.number()));
 }
 
 /// The fault of the image that ended the reading, if one did.
@@ -181,16 +182,7 @@ fn put_numbers(line: &mut ReportLine, word: &str, a: u64, b: u64)
     ensures len { array_string_len line.new ≤ array_string_len line.old + 94 }
 {
     line.push_str(word);
-    put_decimal(line, a);
+    push_decimal(line, a);
     line.push_str(" ");
-    put_decimal(line, b);
-}
-
-/// A number in decimals, without leading zeros.
-fn put_decimal(line: &mut ReportLine, number: u64)
-    requires room { array_string_len line.old ≤ 216 }
-    ensures text { line.new.bytes ≡ line.old.bytes ++ decimal number }
-    ensures len { array_string_len line.new ≤ array_string_len line.old + 40 }
-{
-    line.push_str(itoa::Buffer::new().format(number));
+    push_decimal(line, b);
 }

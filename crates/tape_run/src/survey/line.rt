@@ -6,14 +6,13 @@ ghost use Rattle.tape_run.specs.SurveyLine.{bad_text, unread_text, wanted_text, 
 ghost use Rattle.tape_run.specs.SurveyLine.{course_text, stop_text, guess_text, glance_text};
 ghost use Rattle.tape_run.specs.SurveyLine.{seen_text, met_text};
 ghost use Rattle.tape_run.specs.SurveyLine.{sight_text, written_text, early_text, is_told};
-ghost use Rattle.tape_run.specs.SurveyLine.{is_no_image, fault_text, many_bad_text, writer_text};
-ghost use Rattle.tape_run.specs.SurveyLine.{late_number_text, unread_file_text};
+ghost use Rattle.tape_run.specs.SurveyLine.{is_no_image, fault_text};
 
 use super::course::{Course, Wanted};
 use super::glance::{First, Glance};
-use super::text::{Text, put, put_number, put_trimmed, trimmed_len};
 use super::view::Sight;
 use crate::section::ImageStop;
+use crate::text::{Text, put, put_decimal, put_trimmed, trimmed_len};
 use tape_image::ImageFault;
 use tape_label::{Field, Head1};
 
@@ -80,7 +79,7 @@ fn put_first(text: &mut Text, first: &First)
         First::Ebcdic => put(text, b"labels in EBCDIC, which are not read"),
         First::Block(length) => {
             put(text, b"no labels; its first block has ");
-            put_number(text, *length);
+            put_decimal(text, *length);
             put(text, b" bytes");
         }
         First::Bad => put(text, b"does not begin with a label"),
@@ -107,18 +106,9 @@ fn put_written(text: &mut Text, system: &Field<13>)
     ensures len { array_vec_len text.new ≤ 120 }
 {
     if trimmed_len(system.bytes()) > 0 {
-        put_writer(text, system);
+        put(text, b", written by ");
+        put_trimmed(text, system);
     }
-}
-
-/// The system that wrote it.
-fn put_writer(text: &mut Text, system: &Field<13>)
-    requires room { array_vec_len text.old ≤ 90 }
-    ensures items { text.new.items ≡ text.old.items ++ writer_text system.now }
-    ensures len { array_vec_len text.new ≤ 120 }
-{
-    put(text, b", written by ");
-    put_trimmed(text, system);
 }
 
 /// How many sections it has.
@@ -132,7 +122,7 @@ fn put_files(text: &mut Text, files: u32)
         1 => put(text, b", 1 file"),
         _ => {
             put(text, b", ");
-            put_number(text, u64::from(files));
+            put_decimal(text, u64::from(files));
             put(text, b" files");
         }
     }
@@ -147,19 +137,12 @@ fn put_bad(text: &mut Text, bad: u32)
     match bad {
         0 => {}
         1 => put(text, b", 1 block that cannot be read"),
-        _ => put_many_bad(text, bad),
+        _ => {
+            put(text, b", ");
+            put_decimal(text, u64::from(bad));
+            put(text, b" blocks that cannot be read");
+        }
     }
-}
-
-/// More than one that could not be read.
-fn put_many_bad(text: &mut Text, bad: u32)
-    requires room { array_vec_len text.old ≤ 170 }
-    ensures items { text.new.items ≡ text.old.items ++ many_bad_text bad }
-    ensures len { array_vec_len text.new ≤ 250 }
-{
-    put(text, b", ");
-    put_number(text, u64::from(bad));
-    put(text, b" blocks that cannot be read");
 }
 
 /// Where a volume label stands behind something else.
@@ -168,20 +151,10 @@ fn put_late(text: &mut Text, late: Option<u32>)
     ensures items { text.new.items ≡ text.old.items ++ late_text late }
     ensures len { array_vec_len text.new ≤ 330 }
 {
-    match late {
-        Some(number) => put_late_number(text, number),
-        None => {}
+    if let Some(number) = late {
+        put(text, b"; a VOL1 at item ");
+        put_decimal(text, u64::from(number));
     }
-}
-
-/// The item that is a volume label.
-fn put_late_number(text: &mut Text, number: u32)
-    requires room { array_vec_len text.old ≤ 250 }
-    ensures items { text.new.items ≡ text.old.items ++ late_number_text number }
-    ensures len { array_vec_len text.new ≤ 330 }
-{
-    put(text, b"; a VOL1 at item ");
-    put_number(text, u64::from(number));
 }
 
 /// A file whose records cannot be read.
@@ -190,21 +163,11 @@ fn put_unread(text: &mut Text, unread: Option<u16>)
     ensures items { text.new.items ≡ text.old.items ++ unread_text unread }
     ensures len { array_vec_len text.new ≤ 430 }
 {
-    match unread {
-        Some(file) => put_unread_file(text, file),
-        None => {}
+    if let Some(file) = unread {
+        put(text, b"; file ");
+        put_decimal(text, u64::from(file));
+        put(text, b" has a record format that is not read");
     }
-}
-
-/// The file.
-fn put_unread_file(text: &mut Text, file: u16)
-    requires room { array_vec_len text.old ≤ 330 }
-    ensures items { text.new.items ≡ text.old.items ++ unread_file_text file }
-    ensures len { array_vec_len text.new ≤ 430 }
-{
-    put(text, b"; file ");
-    put_number(text, u64::from(file));
-    put(text, b" has a record format that is not read");
 }
 
 /// How far it follows the order of a volume.
@@ -240,7 +203,7 @@ fn put_left(text: &mut Text, number: u32, wanted: Wanted)
 {
     if is_told(wanted) {
         put(text, b"; item ");
-        put_number(text, u64::from(number));
+        put_decimal(text, u64::from(number));
         put(text, wanted_text(wanted));
     }
 }
@@ -291,9 +254,9 @@ fn put_fault(text: &mut Text, fault: &ImageFault)
     ensures len { array_vec_len text.new ≤ 900 }
 {
     put(text, b"; image fault ");
-    put_number(text, u64::from(fault.cause.number()));
+    put_decimal(text, u64::from(fault.cause.number()));
     put(text, b" at ");
-    put_number(text, fault.place);
+    put_decimal(text, fault.place);
     put_guess(text, fault);
 }
 

@@ -11,10 +11,10 @@ use super::files::{FileKey, FileNote};
 use super::glance::{First, Glance};
 use super::line::put_met;
 use super::sets::{Standing, is_mixed, standing_of};
-use super::text::{Text, put, put_number, put_trimmed};
 use super::view::{Findings, Sight};
 use crate::check_line::{state_text, stop_text};
 use crate::section::{Entry, SectionKey};
+use crate::text::{Text, put, put_decimal, put_trimmed};
 use tape_label::{Field, Head1};
 
 /// A tab.
@@ -32,7 +32,7 @@ fn put_count(text: &mut Text, number: u32)
     ensures items { text.new.items ≡ text.old.items ++ decimal number }
     ensures len { array_vec_len text.new ≤ array_vec_len text.old + 40 }
 {
-    put_number(text, u64::from(number));
+    put_decimal(text, u64::from(number));
 }
 
 /// The columns of an image between its name and the words at the end.

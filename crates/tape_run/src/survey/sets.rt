@@ -8,7 +8,6 @@ ghost use Rattle.tape_run.specs.SurveySets.{wanted_text, damaged_text, differs_t
 ghost use Rattle.tape_run.specs.SurveySets.{set_line, is_all, behind_by, is_mixed, missing_text};
 
 use super::files::{FileKey, FileNote, any_differs};
-use super::text::{Text, put, put_field, put_number, put_trimmed};
 use super::view::Findings;
 use crate::check::is_found;
 use crate::check_line::state_text;
@@ -16,6 +15,7 @@ use crate::lacks::lack_of;
 use crate::report::report_of;
 use crate::section::{Entry, SectionKey};
 use crate::sections::Sections;
+use crate::text::{Text, put, put_decimal, put_identifier, put_trimmed};
 use std::alloc::{AllocError, Global};
 use tape_label::Field;
 
@@ -77,9 +77,9 @@ fn put_known(text: &mut Text, note: Option<&FileNote>)
 {
     match note {
         Some(note) => {
-            put_field(text, &note.head.file_id);
+            put_identifier(text, &note.head.file_id);
             put(text, b"  ");
-            put_field(text, &note.head.created);
+            put_identifier(text, &note.head.created);
         }
         None => put(text, b"(no label was met)"),
     }
@@ -120,7 +120,7 @@ fn put_wanted(text: &mut Text, sect: u16)
     ensures len { array_vec_len text.new ≤ 180 }
 {
     put(text, b"wants section ");
-    put_number(text, u64::from(sect));
+    put_decimal(text, u64::from(sect));
 }
 
 /// A section of which no copy is whole.
@@ -130,7 +130,7 @@ fn put_damaged(text: &mut Text, sect: u16, entry: &Entry)
     ensures len { array_vec_len text.new ≤ 300 }
 {
     put(text, b"section ");
-    put_number(text, u64::from(sect));
+    put_decimal(text, u64::from(sect));
     put(text, b" is ");
     put(text, state_text(entry.state));
     put(text, b" on ");
@@ -171,7 +171,7 @@ pub(crate) fn file_line(findings: &Findings, set_id: Field<6>, file: u16) -> Tex
     let key = FileKey { set_id, file };
     let note = findings.files.get(&key);
     put(&mut text, b"  ");
-    put_number(&mut text, u64::from(file));
+    put_decimal(&mut text, u64::from(file));
     put(&mut text, b" ");
     put_known(&mut text, note);
     put(&mut text, b"  ");

@@ -8,11 +8,11 @@ ghost use Rattle.tape_run.specs.SurveyRows.{section_row};
 use super::Wording;
 use super::rows::{file_row, section_row};
 use super::sets::{file_line, set_line};
-use super::text::Text;
 use super::view::Findings;
 use crate::report::{Sets, sets_of};
 use crate::section::{Entry, SectionKey};
 use crate::sections::Sections;
+use crate::text::Text;
 use std::alloc::{AllocError, Global};
 use tape_label::Field;
 

@@ -5,7 +5,7 @@ ghost use Rattle.tape_run.specs.UnpackLine.{file_front, path_text, file_line, fa
 ghost use Rattle.tape_run.specs.UnpackLine.{left_over_line};
 
 use crate::survey::name_text;
-use crate::survey::text::{Text, put, put_field, put_number};
+use crate::text::{Text, put, put_decimal, put_identifier};
 use std::alloc::{AllocError, Global};
 use tape_label::Field;
 
@@ -64,9 +64,9 @@ fn file_front(set_id: &Field<6>, file: u16) -> Text
 {
     let mut text = Text::new();
     put(&mut text, b"FILE ");
-    put_field(&mut text, set_id);
+    put_identifier(&mut text, set_id);
     put(&mut text, b" ");
-    put_number(&mut text, u64::from(file));
+    put_decimal(&mut text, u64::from(file));
     put(&mut text, b" ");
     text
 }

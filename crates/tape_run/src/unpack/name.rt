@@ -4,7 +4,7 @@ ghost use Rattle.arrayvec.specs.ArrayVec.{array_vec_len};
 ghost use Rattle.tape_run.specs.Unpacking.{is_plain, hex, escaped, escaped_all, fit, fit_text};
 ghost use Rattle.tape_run.specs.Unpacking.{file_name};
 
-use crate::survey::text::{Text, put, put_number, trimmed_len};
+use crate::text::{Text, put, put_decimal, trimmed_len};
 use tape_label::Field;
 
 /// The name of a file, `SET.FILE.NAME`: its set identifier, its number there and its file
@@ -21,7 +21,7 @@ pub fn file_name(set_id: &Field<6>, file: u16, file_id: &Field<17>) -> Text
     let mut text = Text::new();
     put_escaped(&mut text, set_id);
     put(&mut text, b".");
-    put_number(&mut text, u64::from(file));
+    put_decimal(&mut text, u64::from(file));
     put(&mut text, b".");
     put_fit(&mut text, file_id);
     text

@@ -10,6 +10,6 @@ returns-clause-items c =
     let fault = c.args.fault.now in
     five _ _ _ _ _ _ (codes "; image fault ") (decimal (number_of fault.cause)) (codes " at ")
     (decimal fault.place) (guess_text fault) c.put.ensures.items
-    (c.put_number.ensures.items
+    (c.put_decimal.ensures.items
     ∙ ap (λ n. c.put.new.text.items ++ decimal n) (c.from.ensures ∙ c.number.ensures))
-    c.put-2.ensures.items c.put_number-2.ensures.items c.put_guess.ensures.items
+    c.put-2.ensures.items c.put_decimal-2.ensures.items c.put_guess.ensures.items

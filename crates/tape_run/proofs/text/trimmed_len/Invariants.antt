@@ -1,7 +1,7 @@
 use Rattle.std.proofs.Common.{◌≡◌, ◌+◌, ◌≤◌, length, take}
 use Rattle.std.specs.List.{suffix_len}
 use Rattle.tape_run.specs.SurveyLine.{is_space}
-use Rattle.tape_run.proofs.survey.text.trimmed_len.Given as goal
+use Rattle.tape_run.proofs.text.trimmed_len.Given as goal
 
 abbrev pub invariant-spaces : goal.invariant-spaces
 invariant-spaces l = (l.count ≤ length l.bytes)

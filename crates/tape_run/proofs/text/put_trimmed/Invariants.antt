@@ -1,7 +1,7 @@
 use Rattle.std.proofs.Common.{◌≡◌, ◌+◌, ◌++◌, map, take}
 use Rattle.arrayvec.specs.ArrayVec.{array_vec_len}
 use Rattle.tape_run.specs.Identifier.{printed}
-use Rattle.tape_run.proofs.survey.text.put_trimmed.Given as goal
+use Rattle.tape_run.proofs.text.put_trimmed.Given as goal
 
 abbrev pub invariant-loop-byte : goal.invariant-loop-byte
 invariant-loop-byte g l = record {

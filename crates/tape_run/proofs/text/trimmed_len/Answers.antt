@@ -1,7 +1,7 @@
 use Rattle.std.proofs.Common.{arith, rules}
 use Rattle.std.proofs.lemmas.List.{take_all}
 use Rattle.std.proofs.lemmas.List.Sums.{suffix_len-take_yes}
-use Rattle.tape_run.proofs.survey.text.trimmed_len.Goals as goal
+use Rattle.tape_run.proofs.text.trimmed_len.Goals as goal
 
 pub spaces-init : goal.spaces-init
 spaces-init c = search (rules, take_all)

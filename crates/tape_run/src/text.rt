@@ -1,0 +1,91 @@
+//! Texts of at most so many bytes, built without taking memory.
+ghost use Rattle.std.specs.Prelude.{◌≡◌, ◌≤◌, ◌+◌, ◌++◌, length, decimal};
+ghost use Rattle.arrayvec.specs.ArrayString.{array_string_len};
+ghost use Rattle.arrayvec.specs.ArrayVec.{array_vec_len};
+ghost use Rattle.tape_run.specs.Identifier.{printed, identifier_text};
+ghost use Rattle.tape_run.specs.SurveyLine.{trimmed_len, trimmed_text};
+
+use arrayvec::{ArrayString, ArrayVec};
+use tape_label::Field;
+
+/// Room for the longest text of `survey`, and for each of `unpack`.
+pub type Text = ArrayVec<u8, 1024>;
+
+/// The byte, or a question mark for one outside the printable range.
+pub(crate) fn printed(byte: u8) -> u8
+    ensures { result ≡ printed byte }
+{
+    if (b' '..=b'~').contains(&byte) {
+        byte
+    } else {
+        b'?'
+    }
+}
+
+/// Adds bytes that fit.
+pub fn put<const N: usize>(text: &mut ArrayVec<u8, N>, more: &[u8])
+    requires { array_vec_len text.old + length more.now ≤ N }
+    ensures items { text.new.items ≡ text.old.items ++ more.now }
+    ensures len { array_vec_len text.new ≡ array_vec_len text.old + length more.now }
+{
+    match text.try_extend_from_slice(more) {
+        Ok(()) => {}
+        Err(_) => unreachable!(),
+    }
+}
+
+/// Adds a number in decimals, without leading zeros.
+pub fn put_decimal<const N: usize>(text: &mut ArrayVec<u8, N>, number: u64)
+    requires room { array_vec_len text.old + 20 ≤ N }
+    ensures items { text.new.items ≡ text.old.items ++ decimal number }
+    ensures len { array_vec_len text.new ≤ array_vec_len text.old + 20 }
+{
+    put(text, itoa::Buffer::new().format(number).as_bytes());
+}
+
+/// Adds a number in decimals, without leading zeros, to a string.
+pub fn push_decimal<const N: usize>(text: &mut ArrayString<N>, number: u64)
+    requires room { array_string_len text.old + 20 ≤ N }
+    ensures text { text.new.bytes ≡ text.old.bytes ++ decimal number }
+    ensures len { array_string_len text.new ≤ array_string_len text.old + 20 }
+{
+    text.push_str(itoa::Buffer::new().format(number));
+}
+
+/// Adds an identifier in its full width, with a question mark for each byte that can't be printed.
+pub fn put_identifier<const W: usize, const N: usize>(text: &mut ArrayVec<u8, N>, field: &Field<W>)
+    requires { array_vec_len text.old + W ≤ N }
+    ensures items { text.new.items ≡ text.old.items ++ identifier_text field.now }
+    ensures len { array_vec_len text.new ≡ array_vec_len text.old + W }
+{
+    for byte in field.bytes() {
+        text.push(printed(*byte));
+    }
+}
+
+/// How long bytes are without the spaces at their end.
+pub(crate) fn trimmed_len(bytes: &[u8]) -> usize
+    ensures { result ≡ trimmed_len bytes.now }
+{
+    let mut count = bytes.len();
+    'spaces: while count > 0 && bytes[count - 1] == b' ' {
+        count -= 1;
+    }
+    count
+}
+
+/// Adds an identifier without the spaces at its end, with a question mark for each byte that can't
+/// be printed.
+pub(crate) fn put_trimmed<const W: usize, const N: usize>(
+    text: &mut ArrayVec<u8, N>,
+    field: &Field<W>,
+)
+    requires { array_vec_len text.old + W ≤ N }
+    ensures items { text.new.items ≡ text.old.items ++ trimmed_text field.now }
+    ensures len { array_vec_len text.new ≤ array_vec_len text.old + W }
+{
+    let bytes = field.bytes();
+    for byte in &bytes[..trimmed_len(bytes)] {
+        text.push(printed(*byte));
+    }
+}
