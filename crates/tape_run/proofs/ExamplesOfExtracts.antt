@@ -21,6 +21,13 @@ use Rattle.tape_blocks.specs.declared.form.Form.{Form}
 use Rattle.tape_set.specs.declared.position.Position.TheVariants.{Finished}
 use Rattle.tape_run.specs.CasesOfExtracts.{CasesOfTurns, CasesOfOutputs, Listed, Known, Readers}
 use Rattle.tape_run.specs.CasesOfExtracts.{ExtractsListed, StopsListed, StopsListedNow}
+use Rattle.tape_run.specs.CasesOfExtracts.{CasesOfCauses, FailsEmpty, FailsUnknown}
+use Rattle.tape_core.specs.Weight.{Rose}
+use Rattle.tape_core.specs.declared.sink.SinkFault.{SinkFault}
+use Rattle.tape_core.specs.declared.sink.SinkFault.TheVariants.{Failed}
+use Rattle.tape_run.specs.declared.fault.EngineFault.TheVariants.{Run}
+use Rattle.tape_run.specs.declared.fault.RunFault.TheVariants.{Sink}
+use Rattle.tape_run.specs.Causes.{CannotEnd}
 use Rattle.tape_run.specs.Extracting.{IsWritten}
 use Rattle.tape_set.specs.declared.position.Want.{Want}
 use Rattle.tape_set.specs.Position.{want_at}
@@ -211,4 +218,35 @@ cases_of_outputs = record {
   tells_nothing = λ tells. absurd (let e = tells [] in cc e);
   refused = λ s. refl;
   ended = (refl, refl);
+}
+
+refused_writing : (cause : SinkFault) (old new : ℕ) → FailsEmpty (Run (Sink cause)) old new
+    → Rose old new
+refused_writing cause old new (inl rose) = rose
+refused_writing cause old new (inr (is, none)) = absurd (none [] refl)
+
+only_failed : (cause : SinkFault) (old new : ℕ) → FailsUnknown (Run (Sink cause)) old new
+    → Rose old new ⊎ (cause ≡ Failed)
+only_failed cause old new (inl rose) = inl rose
+only_failed cause old new (inr (is, none)) = inr is
+
+ends_but_for_it : (form : Form) → CannotEnd false false form form → ⊥
+ends_but_for_it form (inl e) = cc e
+ends_but_for_it form (inr (inl e)) = cc e
+ends_but_for_it form (inr (inr other)) = other refl
+
+pub cases_of_causes : CasesOfCauses
+cases_of_causes = record {
+  refused_writing = refused_writing;
+  told_refusal = inl (inl (omega arith));
+  only_failed = only_failed;
+  fewer_given = inr (refl, λ parts none. none);
+  no_other_fault = λ old new. (λ h. h, λ h. h, λ h. h, λ h. h);
+  write_failed = λ old new h. h;
+  not_ended = λ failed begun form asked fault h. h;
+  three_reasons = λ failed begun form asked.
+      ((refl, inl refl), (refl, inr (inl refl)), λ other. (refl, inr (inr other)));
+  writer_failed = λ failed begun form asked h.
+      (λ e. h (inl e), λ e. h (inr (inl e)), λ other. h (inr (inr other)));
+  ends_but_for_it = ends_but_for_it;
 }

@@ -33,6 +33,7 @@ pub mod WholeCopies
 pub mod Lacking
 pub mod Lasting
 pub mod Walked
+pub mod Causes
 pub mod Left
 pub mod Listing
 pub mod Fronts

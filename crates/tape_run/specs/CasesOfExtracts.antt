@@ -20,6 +20,15 @@ use Rattle.tape_core.specs.declared.answer.Reason.TheVariants.{BlockCount, Broke
 use Rattle.tape_core.specs.Crash.{lost}
 use Rattle.tape_core.specs.Place.{IsPlaced, rest_of}
 use Rattle.tape_core.specs.State.{State}
+use Rattle.tape_core.specs.Weight.{Rose}
+use Rattle.tape_core.specs.declared.sink.SinkFault.{SinkFault}
+use Rattle.tape_core.specs.declared.sink.SinkFault.TheVariants.{Device, Failed}
+use Rattle.tape_run.specs.declared.fault.EngineFault.{EngineFault}
+use Rattle.tape_run.specs.declared.fault.EngineFault.TheVariants.{Run, WriteFailed}
+use Rattle.tape_run.specs.declared.fault.RunFault.{RunFault}
+use Rattle.tape_run.specs.declared.fault.RunFault.TheVariants.{Sink, NoSuchPoint, TooFewReels}
+use Rattle.tape_run.specs.declared.fault.RunFault.TheVariants.{OutOfMemory, OtherFile}
+use Rattle.tape_run.specs.Causes.{WritingFails, EndingFails}
 use Rattle.tape_run.specs.Extracting.{IsWritten, Ends, Extracts, Stops}
 use Rattle.tape_run.specs.ExtractingNow.{IsPut, EndsNow, ExtractsNow, StopsNow, Takes, refused_by}
 use Rattle.tape_run.specs.Lead.{Lead, over_reel}
@@ -276,3 +285,40 @@ pub record CasesOfOutputs : Type 0 where
   pub tells_nothing : TellsAlways {W = List ℕ} (λ w. None) → ⊥
   pub refused : (s : OutSink Known) → refused_by s ≡ s.refused
   pub ended : (with_end true 3 ≡ 3) × (with_end false 3 ≡ 4)
+
+-- ---- why it was not
+
+-- of a sink that is its count of refused calls, and holds no part, or of which nothing is held
+abbrev pub FailsEmpty : EngineFault → ℕ → ℕ → Type 0
+FailsEmpty = WritingFails (λ s ps. ps ≡ []) (λ s. s)
+
+abbrev pub FailsUnknown : EngineFault → ℕ → ℕ → Type 0
+FailsUnknown = WritingFails (λ s ps. ⊥) (λ s. s)
+
+pub record CasesOfCauses : Type 0 where
+  -- a refusal is told where one was counted, of whatever cause
+  pub refused_writing : (cause : SinkFault) (old new : ℕ) → FailsEmpty (Run (Sink cause)) old new
+      → Rose old new
+  pub told_refusal : FailsEmpty (Run (Sink Device)) 3 4
+  -- of a sink of which nothing is held Failed may come where none was, and no other
+  pub only_failed : (cause : SinkFault) (old new : ℕ) → FailsUnknown (Run (Sink cause)) old new
+      → Rose old new ⊎ (cause ≡ Failed)
+  pub fewer_given : FailsUnknown (Run (Sink Failed)) 3 3
+  -- no other fault comes, and a write that failed is no refusal
+  pub no_other_fault : (old new : ℕ) → (FailsUnknown (Run NoSuchPoint) old new → ⊥)
+      × (FailsUnknown (Run TooFewReels) old new → ⊥) × (FailsUnknown (Run OutOfMemory) old new → ⊥)
+      × (FailsUnknown (Run OtherFile) old new → ⊥)
+  pub write_failed : (old new : ℕ) → FailsUnknown WriteFailed old new → new ≡ old
+  -- what a sink wrote is not ended for one of three reasons, each of which is one
+  pub not_ended : (failed begun : Bool) (form asked : Form) (fault : RunFault)
+      → EndingFails failed begun form asked (Run fault)
+      → (fault ≡ Sink Failed) × ((failed ≡ true) ⊎ (begun ≡ true) ⊎ (form ≢ asked))
+  pub three_reasons : (failed begun : Bool) (form asked : Form)
+      → (EndingFails true begun form asked (Run (Sink Failed)))
+      × (EndingFails failed true form asked (Run (Sink Failed)))
+      × (form ≢ asked → EndingFails failed begun form asked (Run (Sink Failed)))
+  -- or the writer failed, and there is no such reason
+  pub writer_failed : (failed begun : Bool) (form asked : Form)
+      → EndingFails failed begun form asked WriteFailed → (failed ≡ true → ⊥) × (begun ≡ true → ⊥)
+      × (form ≢ asked → ⊥)
+  pub ends_but_for_it : (form : Form) → EndingFails false false form form WriteFailed

@@ -68,6 +68,7 @@ pub mod ReelLine
 pub mod RecordText
 pub mod RecordFront
 pub mod OutSinks
+pub mod Causes
 pub mod Reeling
 pub mod Extracting
 pub mod Rounds

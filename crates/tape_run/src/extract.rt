@@ -1,8 +1,9 @@
 //! `extract`: a file of a set, from its reels in any order.
-ghost use Rattle.std.specs.Prelude.{◌≡◌, ◌≢◌, None, List, OnOk, IfOk, OnErr};
+ghost use Rattle.std.specs.Prelude.{◌≡◌, ◌≢◌, None, List, OnOk, IfOk, OnErr, IfErr};
 ghost use Rattle.std.specs.Io.KnownBytes.{Appends};
 ghost use Rattle.tape_blocks.specs.Block.{Portion};
 ghost use Rattle.tape_core.specs.Crash.{AddsNothing};
+ghost use Rattle.tape_run.specs.Causes.{WritingFails};
 ghost use Rattle.tape_run.specs.Crash.{IsWalked};
 ghost use Rattle.tape_run.specs.Output.{AppendsFront};
 ghost use Rattle.tape_run.specs.Extracting.{Extracts, Stops, EndsFile, StopsAtEnd, IsWritten};
@@ -90,6 +91,8 @@ fn end_file<S: PartWalk, W: Write, P: Write>(
     ensures err { OnErr result (StopsAtEnd S.holds session.old form W.contents out.old out.new
         (P.contents report.old) (P.contents report.new)) }
     ensures same { IsWalked S.holds S.crashes session.old session.new }
+    ensures cause { IfErr result (λ fault.
+        WritingFails S.holds S.refusals fault session.old.sink session.new.sink) }
     ensures calm { OnOk result (S.refusals session.new.sink ≡ S.refusals session.old.sink) }
 {
     if let Some(want) = session.want() {
@@ -114,6 +117,7 @@ fn end_report<P: Write>(report: &mut P, want: Option<Want>, records: u64) -> Res
         (last_line want records)) }
     ensures err { OnErr result (AppendsFront (P.contents report.old) (P.contents report.new)
         (last_line want records)) }
+    ensures fault { IfErr result (λ fault. fault ≡ EngineFault.WriteFailed) }
 {
     write_text(report, last_line(want, records).as_bytes())?;
     Ok(flush(report)?)
@@ -140,6 +144,8 @@ pub fn write_file<S: PartWalk, W: Write>(
     // Whatever it answered: a crash behind it brings back nothing that none before it could.
     ensures crash { (parts : List Portion) → S.holds sink.old parts
         → AddsNothing (S.crashes sink.old) (S.crashes sink.new) }
+    ensures cause { IfErr result (λ fault.
+        WritingFails S.holds S.refusals fault sink.old sink.new) }
     ensures calm { OnOk result (S.refusals sink.new ≡ S.refusals sink.old) }
 {
     let records = write_parts(sink, form, out)?;

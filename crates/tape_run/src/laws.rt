@@ -7,7 +7,7 @@ ghost use Rattle.tape_run.specs.CasesOfReels.{CasesOfAnswers, CasesOfTable, Case
 ghost use Rattle.tape_run.specs.CasesOfCatalogues.{CasesOfCatalogues, CasesOfImages};
 ghost use Rattle.tape_run.specs.CasesOfCatalogues.{CasesOfCopies, CasesOfReports};
 ghost use Rattle.tape_run.specs.CasesOfSections.{CasesOfSections};
-ghost use Rattle.tape_run.specs.CasesOfExtracts.{CasesOfTurns, CasesOfOutputs};
+ghost use Rattle.tape_run.specs.CasesOfExtracts.{CasesOfTurns, CasesOfOutputs, CasesOfCauses};
 ghost use Rattle.tape_run.specs.CasesOfSaves.{CasesOfSaved};
 ghost use Rattle.tape_run.specs.CasesOfRuns.{CasesOfStops};
 ghost use Rattle.tape_run.specs.CasesOfRounds.{CasesOfRounds};
@@ -86,6 +86,7 @@ pub fn cases()
     ensures unpacking { CasesOfUnpacking }
     ensures turns { CasesOfTurns }
     ensures outputs { CasesOfOutputs }
+    ensures causes { CasesOfCauses }
     ensures saved { CasesOfSaved }
     ensures rounds { CasesOfRounds }
     ensures run_laws { CasesOfRunLaws }

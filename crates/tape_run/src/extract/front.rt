@@ -1,9 +1,11 @@
 //! The records that the parts of a sink join to, written in one walk as far as each part is one.
-ghost use Rattle.std.specs.Prelude.{◌≡◌, ◌++◌, List, length, OnOk, OnErr, IfOk};
+ghost use Rattle.std.specs.Prelude.{◌≡◌, ◌++◌, List, length, OnOk, OnErr, IfOk, IfErr};
 ghost use Rattle.std.specs.Io.KnownBytes.{Appends};
 ghost use Rattle.tape_blocks.specs.Block.{Portion};
 ghost use Rattle.tape_blocks.specs.Spans.{join};
 ghost use Rattle.tape_core.specs.Crash.{AddsNothing};
+ghost use Rattle.tape_core.specs.Weight.{Rose};
+ghost use Rattle.tape_run.specs.Causes.{WritingFails};
 ghost use Rattle.tape_run.specs.Output.{AppendsFront};
 ghost use Rattle.tape_run.specs.RecordText.{output_of};
 ghost use Rattle.tape_run.specs.RecordFront.{EachEnds, WritesFront};
@@ -12,7 +14,7 @@ use super::records::{count_records, walk_fault, write_part, write_records};
 use crate::fault::EngineFault;
 use std::io::Write;
 use tape_blocks::Form;
-use tape_core::PartWalk;
+use tape_core::{PartWalk, SinkFault};
 
 /// What was written of the parts of a sink in the first walk.
 #[derive(Clone, Copy)]
@@ -45,6 +47,8 @@ pub fn write_parts<S: PartWalk, W: Write>(
     ensures kept { (parts : List Portion) → S.holds sink.old parts → S.holds sink.new parts }
     ensures crash { (parts : List Portion) → S.holds sink.old parts
         → AddsNothing (S.crashes sink.old) (S.crashes sink.new) }
+    ensures cause { IfErr result (λ fault.
+        WritingFails S.holds S.refusals fault sink.old sink.new) }
     ensures calm { OnOk result (S.refusals sink.new ≡ S.refusals sink.old) }
 {
     let front = write_front(sink, form, out)?;
@@ -68,6 +72,8 @@ fn write_front<S: PartWalk, W: Write>(
     ensures kept { (parts : List Portion) → S.holds sink.old parts → S.holds sink.new parts }
     ensures crash { (parts : List Portion) → S.holds sink.old parts
         → AddsNothing (S.crashes sink.old) (S.crashes sink.new) }
+    ensures cause { IfErr result (λ fault.
+        WritingFails S.holds S.refusals fault sink.old sink.new) }
     ensures calm { OnOk result (S.refusals sink.new ≡ S.refusals sink.old) }
 {
     // No sink weighs more than its limit, so the count below stays far from a u64's greatest value.
@@ -110,24 +116,31 @@ fn write_rest<S: PartWalk, W: Write>(
     ensures kept { (parts : List Portion) → S.holds sink.old parts → S.holds sink.new parts }
     ensures crash { (parts : List Portion) → S.holds sink.old parts
         → AddsNothing (S.crashes sink.old) (S.crashes sink.new) }
+    ensures cause { IfErr result (λ fault. WritingFails (λ s rest. (first : List Portion)
+        × S.holds s (first ++ rest) × (length first ≡ passed) × EachEnds first)
+        S.refusals fault sink.old sink.new) }
     ensures calm { OnOk result (S.refusals sink.new ≡ S.refusals sink.old) }
 {
     let records = match count_records(sink) {
         Ok(records) => records,
         Err(cause) => return Err(walk_fault(cause)),
     };
-    pass_parts(sink, passed)?;
+    match pass_parts(sink, passed) {
+        Ok(()) => {}
+        Err(cause) => return Err(walk_fault(cause)),
+    }
     write_records(sink, records.saturating_sub(passed), form, out)?;
     Ok(records)
 }
 
 /// Begins the walk behind so many parts.
-fn pass_parts<S: PartWalk>(sink: &mut S, count: u64) -> Result<(), EngineFault>
+fn pass_parts<S: PartWalk>(sink: &mut S, count: u64) -> Result<(), SinkFault>
     ensures ok { OnOk result ((first rest : List Portion) → S.holds sink.old (first ++ rest)
         → length first ≡ count → S.ahead sink.new rest) }
     ensures kept { (parts : List Portion) → S.holds sink.old parts → S.holds sink.new parts }
     ensures crash { (parts : List Portion) → S.holds sink.old parts
         → AddsNothing (S.crashes sink.old) (S.crashes sink.new) }
+    ensures cause { OnErr result (Rose (S.refusals sink.old) (S.refusals sink.new)) }
     ensures calm { OnOk result (S.refusals sink.new ≡ S.refusals sink.old) }
 {
     sink.rewind();
@@ -135,7 +148,7 @@ fn pass_parts<S: PartWalk>(sink: &mut S, count: u64) -> Result<(), EngineFault>
     'parts: while left > 0 {
         match sink.next_part() {
             Ok(_) => left -= 1,
-            Err(fault) => return Err(walk_fault(fault)),
+            Err(fault) => return Err(fault),
         }
     }
     Ok(())

@@ -1,12 +1,13 @@
 //! A sink that writes the records of a file as its parts come, and keeps none of them.
 ghost use Rattle.std.specs.Prelude.{◌≡◌, ◌≤◌, ◌<◌, ◌+◌, [], List, Some, length, OnOk, OnErr};
-ghost use Rattle.std.specs.Prelude.{IfOk};
+ghost use Rattle.std.specs.Prelude.{IfOk, IfErr};
 ghost use Rattle.std.specs.Io.KnownBytes.{Appends};
 ghost use Rattle.tape_blocks.specs.Block.{Portion};
 ghost use Rattle.tape_blocks.specs.Parts.{view};
 ghost use Rattle.tape_blocks.specs.Spans.{leaves, join};
 ghost use Rattle.tape_core.specs.Crash.{lost};
 ghost use Rattle.tape_core.specs.Known.{most_staged};
+ghost use Rattle.tape_run.specs.Causes.{EndingFails};
 ghost use Rattle.tape_run.specs.RecordText.{part_text, output_of};
 ghost use Rattle.tape_run.specs.OutSinks.{TellsAlways, with_end, HasTaken};
 
@@ -88,6 +89,7 @@ impl<W: Write + Drop> OutSink<W> {
             self.out self.weight self.records self.begun self.failed parts
             → (given.1 ≡ length (join parts).records)
             × (TellsAlways W.contents → W.contents given.0 ≡ Some (output_of form parts))) }
+        ensures cause { IfErr result (EndingFails self.failed self.begun self.form form) }
     {
         let mut sink = self;
         if sink.failed || sink.begun || sink.form != form {

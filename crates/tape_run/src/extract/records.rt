@@ -1,10 +1,12 @@
 //! The records that the parts of a sink join to, counted and written, part by part.
-ghost use Rattle.std.specs.Prelude.{◌≡◌, List, length, OnOk, OnErr, IfOk};
+ghost use Rattle.std.specs.Prelude.{◌≡◌, List, length, OnOk, OnErr, IfOk, IfErr};
 ghost use Rattle.std.specs.Io.KnownBytes.{Appends};
 ghost use Rattle.tape_blocks.specs.Block.{Portion};
 ghost use Rattle.tape_blocks.specs.Parts.{view};
 ghost use Rattle.tape_blocks.specs.Spans.{join};
 ghost use Rattle.tape_core.specs.Crash.{AddsNothing};
+ghost use Rattle.tape_core.specs.Weight.{Rose};
+ghost use Rattle.tape_run.specs.Causes.{WritingFails};
 ghost use Rattle.tape_run.specs.Output.{AppendsFront};
 ghost use Rattle.tape_run.specs.RecordText.{record_end, output_of, part_text};
 
@@ -25,6 +27,7 @@ pub fn count_records<S: PartWalk>(sink: &mut S) -> Result<u64, SinkFault>
     ensures kept { (parts : List Portion) → S.holds sink.old parts → S.holds sink.new parts }
     ensures crash { (parts : List Portion) → S.holds sink.old parts
         → AddsNothing (S.crashes sink.old) (S.crashes sink.new) }
+    ensures cause { OnErr result (Rose (S.refusals sink.old) (S.refusals sink.new)) }
     ensures calm { OnOk result (S.refusals sink.new ≡ S.refusals sink.old) }
 {
     // No sink weighs more than its limit, so the count below stays far from a u64's greatest value.
@@ -67,6 +70,8 @@ pub fn write_records<S: PartWalk, W: Write>(
     ensures kept { (parts : List Portion) → S.holds sink.old parts → S.holds sink.new parts }
     ensures crash { (parts : List Portion) → S.holds sink.old parts
         → AddsNothing (S.crashes sink.old) (S.crashes sink.new) }
+    ensures cause { IfErr result (λ fault. WritingFails (λ s parts. S.ahead s parts
+        × (records ≡ length (join parts).records)) S.refusals fault sink.old sink.new) }
     ensures calm { OnOk result (S.refusals sink.new ≡ S.refusals sink.old) }
 {
     let mut left = records;

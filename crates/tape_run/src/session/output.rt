@@ -1,6 +1,7 @@
 //! What a session has, as records.
-ghost use Rattle.std.specs.Prelude.{◌≡◌, List, None, OnOk, OnErr, IfOk};
+ghost use Rattle.std.specs.Prelude.{◌≡◌, List, None, OnOk, OnErr, IfOk, IfErr};
 ghost use Rattle.tape_blocks.specs.Block.{Portion};
+ghost use Rattle.tape_run.specs.Causes.{WritingFails};
 ghost use Rattle.tape_run.specs.Crash.{IsWalked};
 ghost use Rattle.tape_run.specs.Extracting.{IsWritten};
 ghost use Rattle.tape_run.specs.Output.{AppendsFront};
@@ -28,6 +29,8 @@ impl<S: PartWalk> Session<S> {
         // Whatever it answered: the session stands where it stood, and a crash behind it brings
         // back nothing that none before it could.
         ensures same { IsWalked S.holds S.crashes self.old self.new }
+        ensures cause { IfErr result (λ fault.
+            WritingFails S.holds S.refusals fault self.old.sink self.new.sink) }
         ensures calm { OnOk result (S.refusals self.new.sink ≡ S.refusals self.old.sink) }
     {
         write_file(&mut self.intake.sink, form, out)

@@ -7,7 +7,7 @@ use Rattle.tape_run.proofs.ExamplesOfCatalogues.{cases_of_copies, cases_of_repor
 use Rattle.tape_run.proofs.ExamplesOfSections.{cases_of_sections}
 use Rattle.tape_run.proofs.ExamplesOfUnpacking.{cases_of_unpacking}
 use Rattle.tape_run.proofs.ExamplesOfSurveys.{cases_of_glances, cases_of_wholes, cases_of_surveys}
-use Rattle.tape_run.proofs.ExamplesOfExtracts.{cases_of_turns, cases_of_outputs}
+use Rattle.tape_run.proofs.ExamplesOfExtracts.{cases_of_turns, cases_of_outputs, cases_of_causes}
 use Rattle.tape_run.proofs.ExamplesOfSaves.{cases_of_saved}
 use Rattle.tape_run.proofs.ExamplesOfRounds.{cases_of_rounds}
 use Rattle.tape_run.proofs.ExamplesOfLaws.{cases_of_run_laws, cases_of_catalogue_laws}
@@ -81,6 +81,9 @@ returns-clause-saved c = cases_of_saved
 
 pub returns-clause-outputs : goal.returns-clause-outputs
 returns-clause-outputs c = cases_of_outputs
+
+pub returns-clause-causes : goal.returns-clause-causes
+returns-clause-causes c = cases_of_causes
 
 pub returns-clause-rounds : goal.returns-clause-rounds
 returns-clause-rounds c = cases_of_rounds

@@ -1,6 +1,7 @@
 use Rattle.std.proofs.Common.{subst}
-use Rattle.std.proofs.lemmas.Result.{IfOk-weaker}
+use Rattle.std.proofs.lemmas.Result.{IfOk-weaker, IfErr-weaker}
 use Rattle.tape_run.specs.RecordFront.{WritesFront}
+use Rattle.tape_run.proofs.Causes.{fails_behind}
 use Rattle.tape_run.proofs.Fitting.{on_err_map}
 use Rattle.tape_run.proofs.RecordFronts.{front_all, rest_written, rest_failed}
 use Rattle.tape_run.proofs.extract.front.write_parts.Goals as goal
@@ -29,3 +30,20 @@ returns-clause-err g c = on_err_map c.write_rest.result _ _
     f (wrote f.first f.rest (subst (g.S.PartSink.holds c.write_front.new.sink) f.are
     (c.write_front.ensures.kept parts was)) f.counted f.each))
     c.write_rest.ensures.err
+
+pub returns-clause-cause : goal.returns-clause-cause
+returns-clause-cause g c = IfErr-weaker c.write_rest.result _ _
+    (λ fault. fails_behind _ _ g.S.PartSink.refusals fault c.args.sink.now c.write_front.new.sink _
+    c.in_ok-front.ensures.calm
+    (λ parts was.
+    let f = c.in_ok-front.ensures.ok parts was in (
+      f.rest,
+      (
+        f.first,
+        subst (g.S.PartSink.holds c.write_front.new.sink) f.are
+            (c.write_front.ensures.kept parts was),
+        f.counted,
+        f.each,
+      ),
+    )))
+    c.write_rest.ensures.cause

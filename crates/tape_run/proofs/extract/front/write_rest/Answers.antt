@@ -1,7 +1,9 @@
-use Rattle.std.proofs.Common.{◌≡◌, length, arith, List, ℕ, ◌++◌, ◌-◌}
+use Rattle.std.proofs.Common.{◌≡◌, ◌∙◌, length, arith, List, ℕ, ◌++◌, ◌-◌}
 use Rattle.tape_blocks.specs.Block.{Portion}
 use Rattle.tape_blocks.specs.Spans.{join}
 use Rattle.tape_run.specs.RecordFront.{EachEnds}
+use Rattle.tape_run.proofs.Causes.{fails_behind}
+use Rattle.tape_run.proofs.Ended.{told_err}
 use Rattle.tape_run.proofs.Fitting.{on_err}
 use Rattle.tape_run.proofs.RecordFronts.{front_records}
 use Rattle.tape_run.proofs.extract.front.write_rest.Goals as goal
@@ -16,9 +18,9 @@ left_is all passed left first rest counted long each e =
 
 pub returns-in_err-write_records-clause-err : goal.returns-in_err-write_records-clause-err
 returns-in_err-write_records-clause-err g c =
-    on_err c.from_residual-in_err-write_records.result _
+    on_err c.from_residual.result _
     (λ first rest was long each. c.in_err-write_records.ensures.err rest
-    (c.in_ok-pass_parts.ensures.ok first rest (c.count_records.ensures.kept _ was) long)
+    (c.in-Ok-pass_parts.ensures.ok first rest (c.count_records.ensures.kept _ was) long)
     (left_is c.in-Ok.records c.args.passed _ first rest (c.in-Ok.ensures.count _ was) long each
     c.saturating_sub.ensures))
 
@@ -26,7 +28,22 @@ pub returns-clause-ok : goal.returns-clause-ok
 returns-clause-ok g c = λ first rest was long each. (
   c.in-Ok.ensures.count _ was,
   c.in_ok-write_records.ensures.ok rest
-      (c.in_ok-pass_parts.ensures.ok first rest (c.count_records.ensures.kept _ was) long)
+      (c.in-Ok-pass_parts.ensures.ok first rest (c.count_records.ensures.kept _ was) long)
       (left_is c.in-Ok.records c.args.passed _ first rest (c.in-Ok.ensures.count _ was) long each
       c.saturating_sub.ensures),
 )
+
+pub returns-in_err-write_records-clause-cause : goal.returns-in_err-write_records-clause-cause
+returns-in_err-write_records-clause-cause g c =
+    told_err c.from_residual.result c.in_err-write_records.field-0.0 _ c.from_residual.ensures.1
+    (fails_behind _ _ g.S.PartSink.refusals c.in_err-write_records.field-0.0 c.args.sink.now
+    c.pass_parts.new.sink _ (c.in-Ok-pass_parts.ensures.calm ∙ c.in-Ok.ensures.calm)
+    (λ rest (first, was, long, each). (
+      rest,
+      (
+        c.in-Ok-pass_parts.ensures.ok first rest (c.count_records.ensures.kept _ was) long,
+        left_is c.in-Ok.records c.args.passed _ first rest (c.in-Ok.ensures.count _ was) long each
+            c.saturating_sub.ensures,
+      ),
+    ))
+    c.in_err-write_records.ensures.cause)
