@@ -26,8 +26,8 @@ pub record HasMade (made : ℕ) (which : List Bool) (old : Seen) (steps : List S
       → StoodAt old steps readers back there
 
 -- A step was made, with the first of the readers where it is a reel: whatever the steps behind it
--- do from here, it and they do from before; and where a crash brought back the note made last alone,
--- if it is said to, it does so still, if that is said behind the step.
+-- do from here, it and they do from before; and where a crash brought back the last note alone, if
+-- it is said to, it does so still, if that is said behind the step.
 pub record IsMade (which : List Bool) (step : Step) (readers others : List (Option (List ℕ)))
     (was now : Crashes) (old new : Seen) : Type 0 where
   pub makes : (rest : List Step) → HasMade 1 which old (step ∷ rest) readers new rest others
