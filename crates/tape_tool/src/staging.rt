@@ -14,7 +14,7 @@ use tape_core::{Checkpoint, ReaderCore};
 use tape_label::Field;
 use tape_label::laws::same_field;
 use tape_run::Session;
-use tape_stage::{Disk, Stage, StageFault};
+use tape_stage::{Disk, Refused, Stage, StageFault};
 
 /// Why there is no session over a stage.
 #[derive(Clone, Copy, PartialEq, Eq)]
@@ -24,13 +24,6 @@ pub enum StagingFault {
     /// What is staged is a file of another number or of another set; or the number is that of no
     /// file.
     OtherFile,
-}
-
-/// The disk that was handed in, and why there is no session over it.
-#[derive(Drop)]
-pub struct NoSession<D> {
-    pub disk: D,
-    pub fault: StagingFault,
 }
 
 /// A session for this file over the stage that the disk holds: it goes on where the stage's
@@ -46,7 +39,7 @@ pub fn open_session<D: Disk + Drop>(
     disk: D,
     set_id: Field<6>,
     file: u16,
-) -> Result<Session<Stage<D>>, NoSession<D>>
+) -> Result<Session<Stage<D>>, Refused<D, StagingFault>>
     // Where something is staged the session stands at the checkpoint that was read, with its parts.
     ensures goes_on { D.is_honest disk → (D.length_of disk ≡ 0 → ⊥)
         → IfOk result (GoesOn set_id file (D.seen disk)) }
@@ -90,7 +83,7 @@ pub fn open_session<D: Disk + Drop>(
     match disk.len() {
         Ok(0) => begin(alloc, disk, set_id, file),
         Ok(_) => resume(alloc, disk, set_id, file),
-        Err(_) => Err(NoSession {
+        Err(_) => Err(Refused {
             disk,
             fault: StagingFault::Stage(StageFault::Device),
         }),
@@ -103,7 +96,7 @@ fn begin<D: Disk + Drop>(
     disk: D,
     set_id: Field<6>,
     file: u16,
-) -> Result<Session<Stage<D>>, NoSession<D>>
+) -> Result<Session<Stage<D>>, Refused<D, StagingFault>>
     requires empty { D.length_of disk ≡ 0 }
     ensures begins { D.is_honest disk → IfOk result (StandsAt (first_point set_id file) []) }
     ensures start { IfOk result
@@ -121,7 +114,7 @@ fn begin<D: Disk + Drop>(
 {
     let Ok(core) = ReaderCore::new(set_id, file) else {
         let fault = StagingFault::OtherFile;
-        return Err(NoSession { disk, fault });
+        return Err(Refused { disk, fault });
     };
     match Stage::create(alloc, disk, &core.save(0)) {
         Ok(stage) => {
@@ -131,7 +124,7 @@ fn begin<D: Disk + Drop>(
             };
             Ok(session)
         }
-        Err(refused) => Err(NoSession {
+        Err(refused) => Err(Refused {
             disk: refused.disk,
             fault: StagingFault::Stage(refused.fault),
         }),
@@ -144,7 +137,7 @@ fn resume<D: Disk>(
     disk: D,
     set_id: Field<6>,
     file: u16,
-) -> Result<Session<Stage<D>>, NoSession<D>>
+) -> Result<Session<Stage<D>>, Refused<D, StagingFault>>
     ensures goes_on { D.is_honest disk → IfOk result (GoesOn set_id file (D.seen disk)) }
     ensures file { IfOk result (λ session.
         (session.core.set_id ≡ set_id) × (session.core.file ≡ file)) }
@@ -172,12 +165,12 @@ fn resume<D: Disk>(
             if same_file(&point, set_id, file) {
                 return Ok(Session::resume(alloc, &point, stage));
             }
-            Err(NoSession {
+            Err(Refused {
                 disk: stage.into_disk(),
                 fault: StagingFault::OtherFile,
             })
         }
-        Err(refused) => Err(NoSession {
+        Err(refused) => Err(Refused {
             disk: refused.disk,
             fault: StagingFault::Stage(refused.fault),
         }),

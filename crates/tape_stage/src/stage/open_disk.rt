@@ -107,14 +107,17 @@ fn make<D: Disk>(alloc: Global, disk: &mut D, point: Checkpoint) -> Result<(), S
 
 /// What was handed in, and why it was refused.
 #[derive(Drop)]
-pub struct Refused<D> {
+pub struct Refused<D, F> {
     pub disk: D,
-    pub fault: StageFault,
+    pub fault: F,
 }
 
 impl<D: Disk> Stage<D> {
     /// Finds the stage that a disk holds, and cuts what follows it. It may crash too.
-    pub fn open_disk(alloc: Global, disk: D) -> Result<(Stage<D>, Checkpoint), Refused<D>>
+    pub fn open_disk(
+        alloc: Global,
+        disk: D,
+    ) -> Result<(Stage<D>, Checkpoint), Refused<D, StageFault>>
         ensures not_full { IfErr result (λ refused. refused.fault ≡ StageFault.Full → ⊥) }
         ensures not_failed { IfErr result (λ refused. refused.fault ≡ StageFault.Failed → ⊥) }
         ensures ok { D.is_honest disk → IfOk result (λ opened. (parts : List Portion)
@@ -178,7 +181,11 @@ impl<D: Disk> Stage<D> {
     }
 
     /// Makes a stage on a disk that holds nothing.
-    pub fn create(alloc: Global, disk: D, point: &Checkpoint) -> Result<Stage<D>, Refused<D>>
+    pub fn create(
+        alloc: Global,
+        disk: D,
+        point: &Checkpoint,
+    ) -> Result<Stage<D>, Refused<D, StageFault>>
         requires empty { D.length_of disk ≡ 0 }
         requires none { point.now.staged ≡ 0 }
         ensures cause { IfErr result (λ refused. refused.fault ≡ StageFault.Device

@@ -64,7 +64,10 @@ impl<D: Disk> Salvage<D> {
     /// # Errors
     ///
     /// `NoPoint` where no slot counts; `OutOfMemory`; `Device`. Each hands the disk back.
-    pub fn open_disk(alloc: Global, disk: D) -> Result<(Salvage<D>, Checkpoint), Refused<D>>
+    pub fn open_disk(
+        alloc: Global,
+        disk: D,
+    ) -> Result<(Salvage<D>, Checkpoint), Refused<D, StageFault>>
         ensures remains { D.is_honest disk → IfOk result (λ opened. (g : ℕ)
             × (parts : List Portion) × Remains (D.seen disk) g opened.1 opened.0.broken parts
             × HoldsRest opened.0 parts) }

@@ -1,7 +1,7 @@
 //! Sessions over stages, from one day to another.
 use super::calls::{Step, stands, take_all};
 use super::volumes::{damaged, worked};
-use crate::staging::{NoSession, StagingFault, open_session};
+use crate::staging::{StagingFault, open_session};
 use std::alloc::{AllocError, Global};
 use std::fs::{File, OpenOptions};
 use std::process::Abort;
@@ -10,7 +10,7 @@ use std::{fs, io};
 use tape_label::Field;
 use tape_run::Session;
 use tape_set::Want;
-use tape_stage::{HeldFile, MemoryDisk, Stage, StageFault, held_file};
+use tape_stage::{HeldFile, MemoryDisk, Refused, Stage, StageFault, held_file};
 
 /// A session over the stage in a file.
 type FileSession = Session<Stage<HeldFile<File>>>;
@@ -86,7 +86,7 @@ fn fault_of(
 ) -> (MemoryDisk, Option<StagingFault>) {
     match open_session(alloc, disk, Field::of_bytes(*set_id), file) {
         Ok(session) => (session.into_sink().into_disk(), None),
-        Err(NoSession { disk, fault }) => (disk, Some(fault)),
+        Err(Refused { disk, fault }) => (disk, Some(fault)),
     }
 }
 
