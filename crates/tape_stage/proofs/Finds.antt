@@ -121,13 +121,3 @@ pub found_read : (found : Found) (parts : List Portion) (bytes : List ℕ) → I
 found_read found parts bytes is holding =
     staged_named found.in_second found.generation found.point parts bytes
     (found_staged found parts bytes is holding)
-
--- what is staged is behind the slot that was found
-pub staged_holds : (found : Found) (bytes : List ℕ) (g : ℕ) (point : Point) (parts : List Portion)
-    → IsFound found bytes → Staged bytes g point parts → Holding found.point.staged parts bytes
-staged_holds found bytes g point parts is staged =
-    let named = best_of found.in_second found.generation found.point bytes is.slot is.other in
-    let both : Some (found.generation, found.point) ≡ Some (g, point) = sym named ∙ staged.slot in
-    let e : (found.generation, found.point) ≡ (g, point) = cc in
-    let weight : found.point.staged ≡ point.staged = ap (λ (p : Slot). p.1.staged) e in
-    subst (λ (n : ℕ). Holding n parts bytes) (sym weight) staged.parts_are

@@ -189,11 +189,12 @@ pub refused : (place end : ℕ) (bytes : List ℕ) (parts : List Portion) → pl
 refused place end bytes parts low none ahead = let one =
     one_ahead place end bytes parts low ahead in none one.part.span one.part.bytes one.frame_is
 
-pub ahead_none : (place end : ℕ) (bytes : List ℕ) (parts : List Portion) → end ≤ place
-    → AheadIn place end bytes parts → AheadIn place end bytes []
-ahead_none place end bytes parts low ahead =
-    subst (λ (ps : List Portion). AheadIn place end bytes ps)
-    (none_ahead place end bytes parts low ahead) ahead
+-- nothing is ahead of the end, and that is so again from there on
+pub nothing_ahead : (place end : ℕ) (bytes : List ℕ) (parts : List Portion) → end ≤ place
+    → AheadIn place end bytes parts → (parts ≡ []) × AheadIn place end bytes []
+nothing_ahead place end bytes parts low ahead =
+    let none = none_ahead place end bytes parts low ahead in
+    (none, subst (λ (ps : List Portion). AheadIn place end bytes ps) none ahead)
 
 -- what is held is ahead of the front
 pub held_ahead : (weight : ℕ) (parts : List Portion) (bytes : List ℕ) → Holding weight parts bytes

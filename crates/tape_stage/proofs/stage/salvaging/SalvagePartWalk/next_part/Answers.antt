@@ -2,7 +2,7 @@ use Rattle.std.proofs.Common.{◌≡◌, ◌+◌, length, take, refl, sym, ◌�
 use Rattle.std.proofs.lemmas.List.{with_items_is, length-take-le}
 use Rattle.tape_stage.specs.Staged.{Holding}
 use Rattle.tape_core.proofs.Crashes.{only_same}
-use Rattle.tape_stage.proofs.Giving.{given, none_ahead, ahead_none}
+use Rattle.tape_stage.proofs.Giving.{given, nothing_ahead}
 use Rattle.tape_stage.proofs.stage.salvaging.SalvagePartWalk.next_part.Goals as goal
 
 pub returns-then-self : goal.returns-then-self
@@ -16,16 +16,10 @@ returns-then-self g c =
           kept = λ parts holds. holds;
           crash = λ parts holds. only_same _ _;
           same_weight = refl;
-          gives =
-              λ parts is. (
-                none_ahead (256 + s.walked) (256 + s.weight) bytes parts
-                    (omega (arith, c.if-self.true)) is.1,
-                (
-                  is.0,
-                  ahead_none (256 + s.walked)
-                      (256 + s.weight) bytes parts (omega (arith, c.if-self.true)) is.1,
-                ),
-              );
+          gives = λ parts is.
+              let none = nothing_ahead (256 + s.walked) (256 + s.weight) bytes parts
+              (omega (arith, c.if-self.true)) is.1 in
+              (none.0, (is.0, none.1));
           lends = tt;
           counts = refl;
         },
