@@ -10,6 +10,10 @@ use Rattle.tape_stage.specs.Fields.{fields_of}
 use Rattle.tape_stage.specs.Reading.{point_in}
 use Rattle.tape_stage.specs.Text.{IsPointText, pieces}
 
+-- the greatest generation
+abbrev pub most_generation : ℕ
+most_generation = 999999999999999
+
 -- a generation and its checkpoint
 abbrev pub Slot : Type 0
 Slot = ℕ × Point

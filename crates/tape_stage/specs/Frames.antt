@@ -4,7 +4,7 @@ use Rattle.std.specs.Int.{to_be_bytes}
 use Rattle.std.proofs.Common.{w32}
 use Rattle.tape_blocks.specs.declared.part.Span.{Span}
 use Rattle.tape_blocks.specs.Block.{Portion}
-use Rattle.tape_stage.specs.Parts.{frames, AllShort}
+use Rattle.tape_stage.specs.Parts.{frames, longest_part, AllShort}
 use Rattle.tape_blocks.specs.Block.{indicator}
 
 -- From the place to the end stand the frames of these parts.
@@ -20,7 +20,7 @@ pub record IsFrameAt (place end : ℕ) (bytes : List ℕ) (span : Span)
   pub room : place + (5 + length content) ≤ end
   pub header : take 5 (drop place bytes) ≡ indicator span ∷ to_be_bytes w32 (length content)
   pub content_is : take (length content) (drop (place + 5) bytes) ≡ content
-  pub short : length content ≤ 99999
+  pub short : length content ≤ longest_part
 
 -- No frame of at most 99,999 bytes stands there.
 abbrev pub NoFrameAt : ℕ → ℕ → List ℕ → Type 0

@@ -14,10 +14,14 @@ frame part = indicator part.span ∷ to_be_bytes w32 (length part.bytes) ++ part
 abbrev pub frames : List Portion → List ℕ
 frames parts = flat_map frame parts
 
+-- the most bytes of a part
+abbrev pub longest_part : ℕ
+longest_part = 99999
+
 -- each part is short enough
 abbrev pub AllShort : List Portion → Type 0
 AllShort [] = Unit {0}
-AllShort (part ∷ parts) = (length part.bytes ≤ 99999) × AllShort parts
+AllShort (part ∷ parts) = (length part.bytes ≤ longest_part) × AllShort parts
 
 -- the first of the parts, of this weight
 pub record IsFront (weight : ℕ) (front parts : List Portion) : Type 0 where

@@ -7,7 +7,7 @@ use Rattle.std.proofs.Common.{w32}
 use Rattle.tape_blocks.specs.declared.part.Span.{Span}
 use Rattle.tape_blocks.specs.Block.{Portion}
 use Rattle.tape_stage.specs.Disk.{CutShort}
-use Rattle.tape_stage.specs.Parts.{frame, frames, AllShort}
+use Rattle.tape_stage.specs.Parts.{frame, frames, longest_part, AllShort}
 use Rattle.tape_blocks.specs.Block.{indicator}
 use Rattle.tape_stage.specs.Body.{body_text, body_of}
 use Rattle.tape_core.specs.Point.{Point}
@@ -127,7 +127,7 @@ blank = replicate 15 48 ++ replicate 112 32
 
 -- the five bytes are the header of no part of at most 99,999 bytes
 abbrev pub IsNoHeader : List ℕ → Type 0
-IsNoHeader header = (span : Span) (size : ℕ) → size ≤ 99999
+IsNoHeader header = (span : Span) (size : ℕ) → size ≤ longest_part
     → header ≡ indicator span ∷ to_be_bytes w32 size → ⊥
 
 -- the bytes stand for no checkpoint with its parts

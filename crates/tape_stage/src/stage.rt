@@ -33,16 +33,22 @@ pub mod slots;
 pub mod walking;
 
 ghost use Rattle.std.specs.Prelude.{◌≡◌, ◌+◌, ◌≤◌, false, length, None};
+ghost use Rattle.tape_core.specs.Known.{most_staged};
 ghost use Rattle.tape_stage.specs.Faults.{number};
 ghost use Rattle.tape_stage.specs.declared.stage.StageFault.TheVariants.{Device, OutOfMemory};
+ghost use Rattle.tape_stage.specs.Parts.{longest_part};
+ghost use Rattle.tape_stage.specs.Body.{most_generation};
 
 use crate::disk::{Disk, DiskFault};
 use std::alloc::AllocError;
 use tape_core::Checkpoint;
 use thiserror::Error;
 
-/// The greatest generation, and the greatest weight of staged parts.
-pub(crate) const MOST: u64 = 999_999_999_999_999;
+/// The greatest generation.
+pub(crate) const MOST_GENERATION: u64 = 999_999_999_999_999;
+
+/// The greatest weight of staged parts.
+pub(crate) const MOST_STAGED: u64 = 999_999_999_999_999;
 
 /// What stands in the gate of a slot that counts. Any other byte is a closed gate.
 pub(crate) const OPEN: u8 = b'O';
@@ -131,7 +137,7 @@ pub struct Stage<D: Disk> {
     ghost long: { failed ≡ false → 256 + weight ≤ D.length_of disk },
     ghost settled: { failed ≡ false → pending ≡ None },
     ghost behind: { walked ≤ weight },
-    ghost room: { 99999 ≤ length buffer.items },
-    ghost bounded: { weight ≤ 999999999999999 },
-    ghost bounded_generation: { generation ≤ 999999999999999 },
+    ghost room: { longest_part ≤ length buffer.items },
+    ghost bounded: { weight ≤ most_staged },
+    ghost bounded_generation: { generation ≤ most_generation },
 }

@@ -8,10 +8,12 @@ ghost use Rattle.tape_stage.specs.Text.{Fit};
 ghost use Rattle.tape_stage.specs.declared.point.fields.Version.TheVariants.{Two};
 
 use crate::point::fields::{Fields, Form};
+use crate::point::to_fields::SPACES;
 use tape_core::{Checkpoint, Known};
 use tape_set::Position;
 
-const SPACES: [u8; 17] = [b' '; 17];
+/// The greatest number of a block.
+const MOST_BLOCKS: u64 = 4_294_967_295;
 
 /// Whether the section, the block and the part are such as the state has.
 fn place_agrees(fields: &Fields) -> bool
@@ -20,7 +22,7 @@ fn place_agrees(fields: &Fields) -> bool
     if fields.flags.done {
         return fields.sect == 0 && fields.place.block == 0 && fields.place.part == 0;
     }
-    fields.place.block <= 4_294_967_295
+    fields.place.block <= MOST_BLOCKS
 }
 
 /// Whether nothing is said of the file.

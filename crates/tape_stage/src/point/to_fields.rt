@@ -12,7 +12,8 @@ use tape_core::{Checkpoint, Known};
 use tape_label::Field;
 use tape_set::Position;
 
-const SPACES: [u8; 17] = [b' '; 17];
+/// A file identifier that says nothing.
+pub(crate) const SPACES: [u8; 17] = [b' '; 17];
 
 /// The state, and whether a record is begun and anything known.
 fn flags_of(position: Position, begun: bool, known: &Option<Known>) -> Flags

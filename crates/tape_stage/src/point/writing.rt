@@ -11,9 +11,9 @@ use crate::point::fields::Fields;
 use arrayvec::ArrayVec;
 use tape_label::{Format, digits_of};
 
-/// Adds a piece.
-fn put(text: &mut ArrayVec<u8, 80>, piece: &[u8])
-    requires { array_vec_len text.old + length piece.now ≤ 80 }
+/// Adds a piece that fits.
+pub(crate) fn put<const N: usize>(text: &mut ArrayVec<u8, N>, piece: &[u8])
+    requires { array_vec_len text.old + length piece.now ≤ N }
     ensures items { text.new.items ≡ text.old.items ++ piece.now }
     ensures len { array_vec_len text.new ≡ array_vec_len text.old + length piece.now }
 {
@@ -33,10 +33,10 @@ fn put_number<const W: usize>(text: &mut ArrayVec<u8, 80>, number: u64)
     put(text, &digits_of::<W>(number));
 }
 
-/// The text that was put together.
-fn whole(text: ArrayVec<u8, 80>) -> [u8; 80]
-    requires { array_vec_len text ≡ 80 }
-    ensures { result ≡ text.items }
+/// What was put together.
+pub(crate) fn whole<const N: usize>(text: ArrayVec<u8, N>) -> [u8; N]
+    requires { array_vec_len text ≡ N }
+    ensures { result ≡ text.entry.items }
 {
     match text.into_inner() {
         Ok(characters) => characters,

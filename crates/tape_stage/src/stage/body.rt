@@ -1,35 +1,13 @@
 //! The 127 bytes behind a gate.
-ghost use Rattle.std.specs.Prelude.{◌≡◌, ◌+◌, ◌<◌, ◌≤◌, ◌^◌, ◌++◌, length, IfSome};
-ghost use Rattle.arrayvec.specs.ArrayVec.{array_vec_len};
-ghost use Rattle.tape_stage.specs.Body.{body_text, body_of, FitBody};
+ghost use Rattle.std.specs.Prelude.{◌≡◌, ◌<◌, ◌≤◌, ◌^◌, length, IfSome};
+ghost use Rattle.tape_core.specs.Known.{most_staged};
+ghost use Rattle.tape_stage.specs.Body.{body_text, body_of, FitBody, most_generation};
 
+use crate::point::writing::{put, whole};
 use crate::point::{read_point, write_point};
 use arrayvec::ArrayVec;
 use tape_core::Checkpoint;
 use tape_label::{digits_of, digits_value};
-
-/// Adds a piece.
-fn put(body: &mut ArrayVec<u8, 127>, piece: &[u8])
-    requires { array_vec_len body.old + length piece.now ≤ 127 }
-    ensures items { body.new.items ≡ body.old.items ++ piece.now }
-    ensures len { array_vec_len body.new ≡ array_vec_len body.old + length piece.now }
-{
-    match body.try_extend_from_slice(piece) {
-        Ok(()) => {}
-        Err(_) => unreachable!(),
-    }
-}
-
-/// The body that was put together.
-fn whole(body: ArrayVec<u8, 127>) -> [u8; 127]
-    requires { array_vec_len body ≡ 127 }
-    ensures { result ≡ body.items }
-{
-    match body.into_inner() {
-        Ok(bytes) => bytes,
-        Err(_) => unreachable!(),
-    }
-}
 
 /// The generation, the checkpoint and spaces.
 pub(crate) fn body_bytes(generation: u64, point: Checkpoint) -> [u8; 127]
@@ -48,8 +26,8 @@ pub(crate) fn body_bytes(generation: u64, point: Checkpoint) -> [u8; 127]
 pub(crate) fn read_body(body: &[u8]) -> Option<(u64, Checkpoint)>
     requires { length body.now ≡ 127 }
     ensures says { body_of body.now ≡ result }
-    ensures generation { IfSome result (λ read. read.0 ≤ 999999999999999) }
-    ensures staged { IfSome result (λ read. read.1.staged ≤ 999999999999999) }
+    ensures generation { IfSome result (λ read. read.0 ≤ most_generation) }
+    ensures staged { IfSome result (λ read. read.1.staged ≤ most_staged) }
 {
     let generation = digits_value(&body[..15])?;
     match read_point(&body[15..95]) {

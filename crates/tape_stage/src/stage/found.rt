@@ -1,6 +1,7 @@
 //! What the slots of a stage file say.
 
 ghost use Rattle.std.specs.Prelude.{◌≡◌, ◌≤◌};
+ghost use Rattle.tape_core.specs.Known.{most_staged};
 
 use tape_core::Checkpoint;
 
@@ -18,7 +19,7 @@ impl Found {
     /// What the parts weigh that the checkpoint tells.
     pub(crate) fn staged(&self) -> u64
         ensures value { result ≡ self.now.point.staged }
-        ensures bound { result ≤ 999999999999999 }
+        ensures bound { result ≤ most_staged }
     {
         self.point.staged
     }

@@ -9,6 +9,7 @@ ghost use Rattle.tape_stage.specs.Moments.{Passes};
 ghost use Rattle.tape_blocks.specs.Block.{indicator};
 ghost use Rattle.tape_stage.specs.Frames.{IsFrameAt, NoFrameAt};
 ghost use Rattle.tape_blocks.specs.declared.part.Span.{Span};
+ghost use Rattle.tape_stage.specs.Parts.{longest_part};
 
 use crate::disk::Disk;
 use crate::stage::walking::header_of;
@@ -25,8 +26,8 @@ pub(crate) fn read_frame<D: Disk>(
 ) -> Result<(Span, usize), SinkFault>
     requires inside { place < end }
     requires there { end ≤ D.length_of disk.old }
-    requires room { 99999 ≤ length buffer.old }
-    ensures short { IfOk result (λ found. found.1 ≤ 99999) }
+    requires room { longest_part ≤ length buffer.old }
+    ensures short { IfOk result (λ found. found.1 ≤ longest_part) }
     ensures sized { IfOk result (λ found. found.1 ≤ length buffer.new) }
     ensures long { length buffer.new ≡ length buffer.old }
     ensures ends { IfOk result (λ found. place + (5 + found.1) ≤ end) }

@@ -8,10 +8,12 @@ ghost use Rattle.tape_stage.specs.Staged.{blank};
 ghost use Rattle.tape_stage.specs.Faults.{SaysNone, IsNotDevice, OnBadFrame};
 ghost use Rattle.tape_stage.specs.Found.{IsBadPlace};
 ghost use Rattle.tape_stage.specs.Stages.{IsStage, IsOpened, Holds, Survives, Returns};
-ghost use Rattle.tape_stage.specs.Body.{body_text, FitBody};
+ghost use Rattle.tape_stage.specs.Body.{body_text, FitBody, most_generation};
 ghost use Rattle.tape_stage.specs.Disk.{Only};
 ghost use Rattle.tape_core.specs.Weight.{Rose};
 ghost use Rattle.tape_core.specs.Point.{Point};
+ghost use Rattle.tape_core.specs.Known.{most_staged};
+ghost use Rattle.tape_stage.specs.Parts.{longest_part};
 
 use crate::disk::Disk;
 use crate::disk::kept::write_kept;
@@ -26,7 +28,7 @@ const ROOM: usize = 100_000;
 
 /// The buffer that parts are lent from.
 pub(crate) fn buffer_of(alloc: Global) -> Result<Vec<u8>, AllocError>
-    ensures room { IfOk result (λ buffer. 99999 ≤ length buffer.items) }
+    ensures room { IfOk result (λ buffer. longest_part ≤ length buffer.items) }
 {
     Vec::from_elem(alloc, 0u8, ROOM)
 }
@@ -37,10 +39,10 @@ fn recover<D: Disk>(alloc: Global, disk: &mut D) -> Result<(Found, Vec<u8>), Sta
     ensures not_failed { IsErrOf result StageFault.Failed → ⊥ }
     ensures found { D.is_honest disk.old → IfOk result
         (λ opened. IsOpened D.seen D.may_leave opened.0 disk.old disk.new) }
-    ensures room { IfOk result (λ opened. 99999 ≤ length opened.1.items) }
+    ensures room { IfOk result (λ opened. longest_part ≤ length opened.1.items) }
     ensures long { IfOk result (λ opened. 256 + opened.0.point.staged ≤ D.length_of disk.new) }
-    ensures generation { IfOk result (λ opened. opened.0.generation ≤ 999999999999999) }
-    ensures staged { IfOk result (λ opened. opened.0.point.staged ≤ 999999999999999) }
+    ensures generation { IfOk result (λ opened. opened.0.generation ≤ most_generation) }
+    ensures staged { IfOk result (λ opened. opened.0.point.staged ≤ most_staged) }
     ensures none { D.is_honest disk.old → IfErr result
         (λ fault. SaysNone fault → HoldsNone (D.seen disk.old)) }
     ensures at { D.is_honest disk.old → IfErr result

@@ -11,6 +11,8 @@ ghost use Rattle.tape_stage.specs.Faults.{SaysNone, OnBadFrame};
 ghost use Rattle.tape_stage.specs.Disk.{CutShort, Only};
 ghost use Rattle.tape_stage.specs.OnlyReading.{OnlyReads};
 ghost use Rattle.tape_core.specs.Weight.{Rose};
+ghost use Rattle.tape_core.specs.Known.{most_staged};
+ghost use Rattle.tape_stage.specs.Body.{most_generation};
 
 use crate::disk::{Disk, DiskFault};
 use crate::stage::body::read_body;
@@ -23,8 +25,8 @@ use tape_core::Checkpoint;
 fn read_slot(gate: u8, body: &[u8]) -> Option<(u64, Checkpoint)>
     requires { length body.now ≡ 127 }
     ensures says { read_slot gate body.now ≡ result }
-    ensures generation { IfSome result (λ read. read.0 ≤ 999999999999999) }
-    ensures staged { IfSome result (λ read. read.1.staged ≤ 999999999999999) }
+    ensures generation { IfSome result (λ read. read.0 ≤ most_generation) }
+    ensures staged { IfSome result (λ read. read.1.staged ≤ most_staged) }
 {
     if gate == OPEN {
         return read_body(body);
@@ -36,8 +38,8 @@ fn read_slot(gate: u8, body: &[u8]) -> Option<(u64, Checkpoint)>
 fn slot(bytes: &[u8], second: bool) -> Option<(u64, Checkpoint)>
     requires { length bytes.now ≡ 256 }
     ensures says { slot_at second bytes.now ≡ result }
-    ensures generation { IfSome result (λ read. read.0 ≤ 999999999999999) }
-    ensures staged { IfSome result (λ read. read.1.staged ≤ 999999999999999) }
+    ensures generation { IfSome result (λ read. read.0 ≤ most_generation) }
+    ensures staged { IfSome result (λ read. read.1.staged ≤ most_staged) }
 {
     if second {
         return read_slot(bytes[128], &bytes[129..256]);
@@ -69,8 +71,8 @@ fn find(bytes: &[u8]) -> Option<Found>
     ensures found { MatchOption result
         ((slot_at false bytes.now ≡ None) × (slot_at true bytes.now ≡ None))
         (λ found. IsFound found bytes.now) }
-    ensures generation { IfSome result (λ found. found.generation ≤ 999999999999999) }
-    ensures staged { IfSome result (λ found. found.point.staged ≤ 999999999999999) }
+    ensures generation { IfSome result (λ found. found.generation ≤ most_generation) }
+    ensures staged { IfSome result (λ found. found.point.staged ≤ most_staged) }
 {
     let first = slot(bytes, false);
     let second = slot(bytes, true);
@@ -119,8 +121,8 @@ pub(crate) fn find_on<D: Disk>(disk: &mut D) -> Result<Found, StageFault>
     ensures not_failed { IsErrOf result StageFault.Failed → ⊥ }
     ensures found { D.is_honest disk.old → IfOk result (λ found. IsFound found (D.seen disk.old)) }
     ensures long { IfOk result (λ found. 256 ≤ D.length_of disk.new) }
-    ensures generation { IfOk result (λ found. found.generation ≤ 999999999999999) }
-    ensures staged { IfOk result (λ found. found.point.staged ≤ 999999999999999) }
+    ensures generation { IfOk result (λ found. found.generation ≤ most_generation) }
+    ensures staged { IfOk result (λ found. found.point.staged ≤ most_staged) }
     ensures none { D.is_honest disk.old → IfErr result
         (λ fault. SaysNone fault → RemainsNone (D.seen disk.old)) }
     ensures no_frame { IfErr result (λ fault. OnBadFrame fault (λ place. ⊥)) }
@@ -155,8 +157,8 @@ pub(crate) fn look<D: Disk>(disk: &mut D) -> Result<Found, StageFault>
     ensures parts { D.is_honest disk.old → IfOk result
         (λ found. (parts : List Portion) × Holding found.point.staged parts (D.seen disk.old)) }
     ensures long { IfOk result (λ found. 256 + found.point.staged ≤ D.length_of disk.new) }
-    ensures generation { IfOk result (λ found. found.generation ≤ 999999999999999) }
-    ensures staged { IfOk result (λ found. found.point.staged ≤ 999999999999999) }
+    ensures generation { IfOk result (λ found. found.generation ≤ most_generation) }
+    ensures staged { IfOk result (λ found. found.point.staged ≤ most_staged) }
     ensures none { D.is_honest disk.old → IfErr result
         (λ fault. SaysNone fault → HoldsNone (D.seen disk.old)) }
     ensures at { D.is_honest disk.old → IfErr result

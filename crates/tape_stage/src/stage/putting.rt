@@ -11,9 +11,11 @@ ghost use Rattle.tape_stage.specs.Staged.{StagedIn, IsPut, FrontOf, KeepsFront};
 ghost use Rattle.tape_stage.specs.Stages.{IsStage, HasRefused};
 ghost use Rattle.tape_stage.specs.Disk.{SameFact};
 ghost use Rattle.tape_core.specs.Weight.{Rose};
+ghost use Rattle.tape_core.specs.Known.{most_staged};
+ghost use Rattle.tape_stage.specs.Parts.{longest_part};
 
 use crate::disk::{Disk, DiskFault};
-use crate::stage::{MOST, Stage, StageFault};
+use crate::stage::{MOST_STAGED, Stage, StageFault};
 use tape_blocks::{Part, Span};
 
 /// The digit of a span.
@@ -39,7 +41,7 @@ fn header(span: Span, size: u32) -> [u8; 5]
 /// Writes a part's frame at a place.
 fn write_frame<D: Disk>(disk: &mut D, place: u64, part: Part<'_>) -> Result<(), DiskFault>
     requires there { place ≤ D.length_of disk.old }
-    requires short { length part.bytes.now ≤ 99999 }
+    requires short { length part.bytes.now ≤ longest_part }
     requires low { place < 2 ^ 60 }
     ensures written { D.is_honest disk.old
         → OnOk result (IsPut place (view part.entry) (D.seen disk.old) (D.seen disk.new)) }
@@ -61,7 +63,7 @@ fn write_frame<D: Disk>(disk: &mut D, place: u64, part: Part<'_>) -> Result<(), 
 impl<D: Disk> Stage<D> {
     /// Adds a part. It is not acknowledged yet.
     pub(crate) fn put_part(&mut self, part: Part<'_>) -> Result<(), StageFault>
-        requires { length part.bytes.now ≤ 99999 }
+        requires { length part.bytes.now ≤ longest_part }
         ensures ok { D.is_honest self.old.disk → OnOk result ((acked parts : List Portion)
             → IsStage self.old acked parts
             → IsStage self.new acked (parts ++ view part.entry ∷ [])) }
@@ -81,14 +83,14 @@ impl<D: Disk> Stage<D> {
         ensures cause { IsErrOf result StageFault.Device
             → Rose (D.faults self.old.disk) (D.faults self.new.disk) }
         ensures full { IsErrOf result StageFault.Full → (self.new ≡ self.old)
-            × (999999999999999 < self.old.weight + (5 + length part.entry.bytes.now)) }
+            × (most_staged < self.old.weight + (5 + length part.entry.bytes.now)) }
         ensures honest { SameFact (D.is_honest self.old.disk) (D.is_honest self.new.disk) }
     {
         if self.failed {
             return Err(StageFault::Failed);
         }
         let size = 5 + part.bytes.len() as u64;
-        if size > MOST - self.weight {
+        if size > MOST_STAGED - self.weight {
             return Err(StageFault::Full);
         }
         let place = 256 + self.weight;

@@ -1,6 +1,8 @@
 //! What remains of a stage whose frames break off.
 
 ghost use Rattle.std.specs.Prelude.{◌≡◌, ◌+◌, ◌≤◌, length};
+ghost use Rattle.tape_core.specs.Known.{most_staged};
+ghost use Rattle.tape_stage.specs.Parts.{longest_part};
 
 use crate::disk::Disk;
 
@@ -20,8 +22,8 @@ pub struct Salvage<D: Disk> {
     pub(crate) refused: u64,
     ghost long: { 256 + weight ≤ D.length_of disk },
     ghost behind: { walked ≤ weight },
-    ghost room: { 99999 ≤ length buffer.items },
-    ghost bounded: { weight ≤ 999999999999999 },
+    ghost room: { longest_part ≤ length buffer.items },
+    ghost bounded: { weight ≤ most_staged },
 }
 
 impl<D: Disk> Salvage<D> {

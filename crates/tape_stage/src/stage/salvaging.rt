@@ -11,6 +11,7 @@ ghost use Rattle.tape_stage.specs.OnlyReading.{OnlyReads};
 ghost use Rattle.tape_stage.specs.Salvaged.{Remains, RemainsNone, HoldsRest, RestAhead};
 ghost use Rattle.tape_stage.specs.Salvaged.{FramedTo, WalkedIn, standing};
 ghost use Rattle.tape_core.specs.Point.{Point};
+ghost use Rattle.tape_core.specs.Known.{most_staged};
 
 use crate::disk::Disk;
 use crate::stage::StageFault;
@@ -40,7 +41,7 @@ fn remains<D: Disk>(disk: &mut D) -> Result<(Checkpoint, Option<u64>), StageFaul
     ensures found { D.is_honest disk.old → IfOk result (λ found. (g : ℕ) × (parts : List Portion)
         × Remains (D.seen disk.old) g found.0 found.1 parts) }
     ensures within { IfOk result (λ found. WalkedIn found.0.staged (D.length_of disk.new) found.1) }
-    ensures staged { IfOk result (λ found. found.0.staged ≤ 999999999999999) }
+    ensures staged { IfOk result (λ found. found.0.staged ≤ most_staged) }
     ensures none { D.is_honest disk.old → IfErr result
         (λ fault. SaysNone fault → RemainsNone (D.seen disk.old)) }
     ensures no_frame { IfErr result (λ fault. OnBadFrame fault (λ place. ⊥)) }

@@ -7,10 +7,11 @@ ghost use Rattle.tape_stage.specs.Parts.{IsFront};
 ghost use Rattle.tape_stage.specs.Staged.{Holding, IsEither, KeepsFrames, Staged};
 ghost use Rattle.tape_stage.specs.Stages.{IsStage, HasRefused};
 ghost use Rattle.tape_core.specs.Weight.{Rose};
+ghost use Rattle.tape_stage.specs.Body.{most_generation};
 
 use crate::disk::Disk;
 use crate::stage::slots::replace_slot;
-use crate::stage::{MOST, Stage, StageFault};
+use crate::stage::{MOST_GENERATION, Stage, StageFault};
 use tape_core::Checkpoint;
 
 impl<D: Disk> Stage<D> {
@@ -18,16 +19,16 @@ impl<D: Disk> Stage<D> {
     /// none.
     fn next_generation(&self) -> Result<u64, StageFault>
         ensures next { IfOk result (λ generation. generation ≡ self.now.generation + 1) }
-        ensures room { OnOk result (self.now.generation < 999999999999999) }
+        ensures room { OnOk result (self.now.generation < most_generation) }
         ensures alive { OnOk result (self.now.failed ≡ false) }
         ensures refused { IfErr result (HasRefused self.now self.now) }
         ensures calm { IsErrOf result StageFault.Device → ⊥ }
-        ensures full { IsErrOf result StageFault.Full → 999999999999999 ≤ self.now.generation }
+        ensures full { IsErrOf result StageFault.Full → most_generation ≤ self.now.generation }
     {
         if self.failed {
             return Err(StageFault::Failed);
         }
-        if self.generation >= MOST {
+        if self.generation >= MOST_GENERATION {
             return Err(StageFault::Full);
         }
         Ok(self.generation + 1)
@@ -38,7 +39,7 @@ impl<D: Disk> Stage<D> {
         requires { point.now.staged ≤ self.old.weight }
         ensures pending { IsErrOf result StageFault.Device → self.new.pending ≡ Some point.now }
         ensures not_pending { OnOk result (self.new.pending ≡ None) }
-        ensures full { IsErrOf result StageFault.Full → 999999999999999 ≤ self.old.generation }
+        ensures full { IsErrOf result StageFault.Full → most_generation ≤ self.old.generation }
         ensures ok { D.is_honest self.old.disk → OnOk result ((acked parts front : List Portion)
             → IsStage self.old acked parts → Holding point.now.staged front (D.seen self.old.disk)
             → IsStage self.new front parts) }
@@ -114,7 +115,7 @@ impl<D: Disk> Stage<D> {
         requires { point.now.staged ≡ self.old.weight }
         ensures pending { IsErrOf result StageFault.Device → self.new.pending ≡ Some point.now }
         ensures not_pending { OnOk result (self.new.pending ≡ None) }
-        ensures full { IsErrOf result StageFault.Full → 999999999999999 ≤ self.old.generation }
+        ensures full { IsErrOf result StageFault.Full → most_generation ≤ self.old.generation }
         ensures ok { D.is_honest self.old.disk → OnOk result ((acked parts : List Portion)
             → IsStage self.old acked parts → IsStage self.new parts parts) }
         ensures any_moment { D.is_honest self.old.disk → (acked parts : List Portion)
@@ -141,7 +142,7 @@ impl<D: Disk> Stage<D> {
     pub fn restart(&mut self, point: &Checkpoint) -> Result<(), StageFault>
         requires { point.now.staged ≤ self.old.weight }
         ensures not_pending { OnOk result (self.new.pending ≡ None) }
-        ensures full { IsErrOf result StageFault.Full → 999999999999999 ≤ self.old.generation }
+        ensures full { IsErrOf result StageFault.Full → most_generation ≤ self.old.generation }
         ensures ok { D.is_honest self.old.disk → OnOk result ((acked parts front : List Portion)
             → IsStage self.old acked parts → IsFront point.now.staged front parts
             → IsStage self.new front front) }

@@ -10,9 +10,14 @@ ghost use Rattle.tape_stage.specs.Salvaged.{FramedTo, WalkedIn};
 ghost use Rattle.tape_blocks.specs.declared.part.Span.{Span};
 ghost use Rattle.tape_stage.specs.OnlyReading.{OnlyReads};
 ghost use Rattle.tape_core.specs.Weight.{Rose};
+ghost use Rattle.tape_core.specs.Known.{most_staged};
+ghost use Rattle.tape_stage.specs.Parts.{longest_part};
 
 use crate::disk::{Disk, DiskFault};
 use tape_blocks::Span;
+
+/// The most bytes of a part.
+const LONGEST_PART: u32 = 99_999;
 
 /// The span that a digit names.
 fn span_by(digit: u8) -> Option<Span>
@@ -31,11 +36,11 @@ fn span_by(digit: u8) -> Option<Span>
 /// What a header tells.
 pub(crate) fn header_of(header: &[u8; 5]) -> Option<(Span, u64)>
     ensures { MatchOption result (IsNoHeader header.now)
-        (λ found. (found.1 ≤ 99999) × (header.now ≡ indicator found.0 ∷ to_be_bytes w32 found.1)) }
+        (λ found. (found.1 ≤ longest_part) × (header.now ≡ indicator found.0 ∷ to_be_bytes w32 found.1)) }
 {
     let span = span_by(header[0])?;
     let size = u32::from_be_bytes([header[1], header[2], header[3], header[4]]);
-    if size > 99_999 {
+    if size > LONGEST_PART {
         return None;
     }
     Some((span, u64::from(size)))
@@ -44,7 +49,7 @@ pub(crate) fn header_of(header: &[u8; 5]) -> Option<(Span, u64)>
 /// The size of the part that a header tells of.
 fn part_size(header: &[u8; 5]) -> Option<u64>
     ensures { MatchOption result (IsNoHeader header.now)
-        (λ size. (size ≤ 99999) × ((span : Span)
+        (λ size. (size ≤ longest_part) × ((span : Span)
         × (header.now ≡ indicator span ∷ to_be_bytes w32 size))) }
 {
     match header_of(header) {
@@ -58,7 +63,7 @@ fn part_size(header: &[u8; 5]) -> Option<u64>
 pub(crate) fn walk<D: Disk>(disk: &mut D, staged: u64, limit: u64) -> Result<Option<u64>, DiskFault>
     requires low { 256 ≤ limit }
     requires there { limit ≡ min (256 + staged) (D.length_of disk.old) }
-    requires fits { staged ≤ 999999999999999 }
+    requires fits { staged ≤ most_staged }
     ensures within { IfOk result (λ broken. WalkedIn staged limit broken) }
     ensures framed { D.is_honest disk.old → IfOk result
         (λ broken. (parts : List Portion) × FramedTo staged broken parts (D.seen disk.old)) }
@@ -86,17 +91,10 @@ pub(crate) fn walk<D: Disk>(disk: &mut D, staged: u64, limit: u64) -> Result<Opt
     Ok(None)
 }
 
-/// The lesser of two numbers.
-fn lesser(a: u64, b: u64) -> u64
-    ensures { result ≡ min a b }
-{
-    if a < b { a } else { b }
-}
-
 /// Where the frames break off that should weigh so much, if they do.
 pub(crate) fn break_of<D: Disk>(disk: &mut D, staged: u64) -> Result<Option<u64>, DiskFault>
     requires long { 256 ≤ D.length_of disk.old }
-    requires fits { staged ≤ 999999999999999 }
+    requires fits { staged ≤ most_staged }
     ensures within { IfOk result (λ broken. WalkedIn staged (D.length_of disk.new) broken) }
     ensures framed { D.is_honest disk.old → IfOk result
         (λ broken. (parts : List Portion) × FramedTo staged broken parts (D.seen disk.old)) }
@@ -106,5 +104,5 @@ pub(crate) fn break_of<D: Disk>(disk: &mut D, staged: u64) -> Result<Option<u64>
     ensures honest { D.is_honest disk.old → D.is_honest disk.new }
 {
     let len = disk.len()?;
-    walk(disk, staged, lesser(256 + staged, len))
+    walk(disk, staged, (256 + staged).min(len))
 }

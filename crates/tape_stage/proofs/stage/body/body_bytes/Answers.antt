@@ -14,7 +14,7 @@ returns-clause-text c =
     let e2 = e3 ∙ c.put-3.ensures.items in
     let e1 =
     e2 ∙ ap (λ (l : List ℕ). l ++ R)
-    (c.put-2.ensures.items ∙ ap (λ (l : List ℕ). c.put.new.body.items ++ l)
+    (c.put-2.ensures.items ∙ ap (λ (l : List ℕ). c.put.new.text.items ++ l)
     c.write_point.ensures.text) in
     e1 ∙ ap (λ (l : List ℕ). (l ++ P) ++ R)
     (c.put.ensures.items ∙ ap (λ (l : List ℕ). l ++ c.digits_of.result) c.new-body.ensures ∙
