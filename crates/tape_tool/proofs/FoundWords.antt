@@ -53,9 +53,3 @@ pub refused_for : {reason : Type 0} (error : Error) → RefusedFor ⊤ error →
     → RefusedFor reason error
 refused_for error (inl none) why = inl none
 refused_for error (inr wrong) why = inr (wrong.0, why)
-
--- and for a reason that follows from it
-pub refused_also : {reason other : Type 0} (error : Error) → (reason → other)
-    → RefusedFor reason error → RefusedFor other error
-refused_also error f (inl none) = inl none
-refused_also error f (inr wrong) = inr (wrong.0, f wrong.1)

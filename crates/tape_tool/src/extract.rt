@@ -2,11 +2,11 @@
 mod draft;
 mod guard;
 mod out_file;
-mod program;
+mod run;
 mod stage_file;
 pub mod words;
 
 pub use draft::Draft;
 pub use guard::{Way, way_to_out};
 pub use out_file::OutFile;
-pub use program::{HELD, NOT_MADE, draft_of, extract, extract_file};
+pub use run::{HELD, NOT_MADE, draft_of, extract, extract_file};

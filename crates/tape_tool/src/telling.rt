@@ -1,11 +1,12 @@
 //! The one line on standard error that tells a fault.
-ghost use Rattle.std.specs.Prelude.{◌≡◌, ◌≤◌, ◌+◌, ◌++◌, decimal, length};
+ghost use Rattle.std.specs.Prelude.{◌≡◌, ◌≤◌, ◌++◌, length};
 ghost use Rattle.arrayvec.specs.ArrayString.{array_string_len};
 ghost use Rattle.tape_tool.specs.Telling.{numbered, place_text, image_text, fault_text, fault_line};
 
 use crate::fault::{ToolFault, number_of_file, number_of_write};
 use arrayvec::ArrayString;
 use tape_image::ImageFault;
+use tape_run::text::push_decimal;
 
 /// Room for the longest fault line, which is that of an image.
 pub type FaultLine = ArrayString<128>;
@@ -56,7 +57,7 @@ fn put_place(line: &mut FaultLine, place: u64)
     ensures len { array_string_len line.new ≤ 120 }
 {
     line.push_str(" at ");
-    put_decimal(line, place);
+    push_decimal(line, place);
 }
 
 /// A kind of fault and its number.
@@ -68,14 +69,5 @@ fn put_numbered(line: &mut FaultLine, kind: &str, number: u8)
 {
     line.push_str(kind);
     line.push_str(" fault ");
-    put_decimal(line, u64::from(number));
-}
-
-/// A number in decimals, without leading zeros.
-fn put_decimal(line: &mut FaultLine, number: u64)
-    requires room { array_string_len line.old ≤ 80 }
-    ensures text { line.new.bytes ≡ line.old.bytes ++ decimal number }
-    ensures len { array_string_len line.new ≤ array_string_len line.old + 40 }
-{
-    line.push_str(itoa::Buffer::new().format(number));
+    push_decimal(line, u64::from(number));
 }

@@ -26,14 +26,7 @@ pub fn session_in<R: Host>(
     set_id: Field<6>,
     file: u16,
 ) -> Result<FileSession, ToolFault> {
-    let mut options = OpenOptions::new();
-    options.read(true).write(true).create(true);
-    let Ok(kept) = options.open(rt, path) else {
-        return Err(ToolFault::File(FileFault::NotOpened));
-    };
-    if is_in_use(&kept) {
-        return Err(ToolFault::StageInUse);
-    }
+    let kept = locked(rt, path)?;
     let disk = match held_file(rt.alloc(), kept) {
         Ok(disk) => disk,
         Err(fault) => return Err(ToolFault::Stage(fault)),
@@ -54,10 +47,18 @@ pub fn session_in<R: Host>(
     }
 }
 
-/// Locks the file; whether another run has it. A file system without locks has no answer, and then
-/// nobody is kept out.
-fn is_in_use(file: &File) -> bool {
-    matches!(file.try_lock(), Err(TryLockError::WouldBlock))
+/// The file at this path, made where none is there, and locked. A file system without locks has no
+/// answer, and then nobody is kept out.
+fn locked<R: Host>(rt: &R, path: &str) -> Result<File, ToolFault> {
+    let mut options = OpenOptions::new();
+    options.read(true).write(true).create(true);
+    let Ok(file) = options.open(rt, path) else {
+        return Err(ToolFault::File(FileFault::NotOpened));
+    };
+    match file.try_lock() {
+        Err(TryLockError::WouldBlock) => Err(ToolFault::StageInUse),
+        _ => Ok(file),
+    }
 }
 
 /// The fault as the program tells it.

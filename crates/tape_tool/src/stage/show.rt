@@ -1,10 +1,9 @@
 //! What a stage holds, and the records of it.
-ghost use Rattle.std.specs.Prelude.{◌≡◌, ◌≤◌, ◌+◌, ◌++◌, decimal, codes, length, List};
+ghost use Rattle.std.specs.Prelude.{◌≡◌, ◌≤◌, ◌++◌, List};
 ghost use Rattle.std.specs.Prelude.{IfOk, IfErr, OnOk, OnErr, None};
 ghost use Rattle.std.specs.Io.KnownBytes.{Appends};
 ghost use Rattle.arrayvec.specs.ArrayVec.{array_vec_len};
 ghost use Rattle.tape_blocks.specs.Block.{Portion};
-ghost use Rattle.tape_run.specs.Identifier.{identifier_text};
 ghost use Rattle.tape_run.specs.Output.{AppendsFront};
 ghost use Rattle.tape_set.specs.Position.{want_at};
 ghost use Rattle.tape_stage.specs.Salvaged.{HoldsRest};
@@ -20,8 +19,8 @@ use std::alloc::Global;
 use std::io::Write;
 use tape_blocks::Form;
 use tape_core::{Checkpoint, PartWalk};
-use tape_label::Field;
-use tape_run::{EngineFault, WriteFailed, flush, last_line, printed, write_file, write_text};
+use tape_run::text::{put, put_decimal, put_identifier};
+use tape_run::{EngineFault, WriteFailed, flush, last_line, write_file, write_text};
 use tape_set::Want;
 use tape_stage::{Disk, Salvage, Stage, StageFault};
 
@@ -235,36 +234,4 @@ fn put_stage(lines: &mut Lines, point: &Checkpoint, records: u64)
     put(lines, b" ");
     put_decimal(lines, records);
     put(lines, b"\n");
-}
-
-/// An identifier in its full width, with a question mark for each byte that can't be printed.
-fn put_identifier(lines: &mut Lines, field: &Field<6>)
-    requires { array_vec_len lines.old ≤ 100 }
-    ensures items { lines.new.items ≡ lines.old.items ++ identifier_text field.now }
-    ensures len { array_vec_len lines.new ≡ array_vec_len lines.old + 6 }
-{
-    for byte in field.bytes() {
-        lines.push(printed(*byte));
-    }
-}
-
-/// A number in decimals, without leading zeros.
-fn put_decimal(lines: &mut Lines, number: u64)
-    requires room { array_vec_len lines.old ≤ 300 }
-    ensures items { lines.new.items ≡ lines.old.items ++ decimal number }
-    ensures len { array_vec_len lines.new ≤ array_vec_len lines.old + 40 }
-{
-    put(lines, itoa::Buffer::new().format(number).as_bytes());
-}
-
-/// Any text that fits.
-fn put(lines: &mut Lines, text: &[u8])
-    requires { array_vec_len lines.old + length text.now ≤ 512 }
-    ensures items { lines.new.items ≡ lines.old.items ++ text.now }
-    ensures len { array_vec_len lines.new ≡ array_vec_len lines.old + length text.now }
-{
-    match lines.try_extend_from_slice(text) {
-        Ok(()) => {}
-        Err(_) => unreachable!(),
-    }
 }

@@ -1,11 +1,11 @@
 //! What `write` prints.
-ghost use Rattle.std.specs.Prelude.{◌≡◌, ◌≤◌, ◌+◌, ◌++◌, decimal, length, OnOk};
+ghost use Rattle.std.specs.Prelude.{◌≡◌, OnOk};
 ghost use Rattle.std.specs.Io.KnownBytes.{Appends};
-ghost use Rattle.arrayvec.specs.ArrayVec.{array_vec_len};
 ghost use Rattle.tape_tool.specs.Report.{volume_line, files_line, report};
 
 use arrayvec::ArrayVec;
 use std::io::Write;
+use tape_run::text::{put, put_decimal};
 use tape_run::{WriteFailed, flush, write_text};
 use tape_writer::system::Ended;
 
@@ -52,25 +52,4 @@ fn files_line(files: u64, volumes: u64) -> Line
     put_decimal(&mut line, volumes);
     put(&mut line, b"\n");
     line
-}
-
-/// A number in decimals, without leading zeros.
-fn put_decimal(line: &mut Line, number: u64)
-    requires room { array_vec_len line.old ≤ 44 }
-    ensures items { line.new.items ≡ line.old.items ++ decimal number }
-    ensures len { array_vec_len line.new ≤ array_vec_len line.old + 20 }
-{
-    put(line, itoa::Buffer::new().format(number).as_bytes());
-}
-
-/// Any text that fits.
-fn put(line: &mut Line, text: &[u8])
-    requires { array_vec_len line.old + length text.now ≤ 64 }
-    ensures items { line.new.items ≡ line.old.items ++ text.now }
-    ensures len { array_vec_len line.new ≡ array_vec_len line.old + length text.now }
-{
-    match line.try_extend_from_slice(text) {
-        Ok(()) => {}
-        Err(_) => unreachable!(),
-    }
 }

@@ -1,5 +1,5 @@
 //! The program around the engines of `extract`: images, memory, the file.
-use super::draft::{Draft, DraftFile};
+use super::draft::Draft;
 use super::guard::{Way, way_of};
 use super::out_file::OutFile;
 use super::stage_file::session_in;
