@@ -36,7 +36,8 @@ fn span_by(digit: u8) -> Option<Span>
 /// What a header tells.
 pub(crate) fn header_of(header: &[u8; 5]) -> Option<(Span, u64)>
     ensures { MatchOption result (IsNoHeader header.now)
-        (λ found. (found.1 ≤ longest_part) × (header.now ≡ indicator found.0 ∷ to_be_bytes w32 found.1)) }
+        (λ found. (found.1 ≤ longest_part)
+        × (header.now ≡ indicator found.0 ∷ to_be_bytes w32 found.1)) }
 {
     let span = span_by(header[0])?;
     let size = u32::from_be_bytes([header[1], header[2], header[3], header[4]]);
