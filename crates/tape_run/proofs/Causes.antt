@@ -1,6 +1,7 @@
 -- Why records were not written: a call behind others of which none was refused.
-use Rattle.std.proofs.Common.{◌≡◌, ℕ, List, inl, inr, subst, ◌∙◌}
+use Rattle.std.proofs.Common.{◌≡◌, ◌<◌, ℕ, List, inl, inr, subst, ◌∙◌, arith}
 use Rattle.tape_blocks.specs.Block.{Portion}
+use Rattle.tape_core.specs.Weight.{Rose}
 use Rattle.tape_run.specs.declared.fault.EngineFault.{EngineFault}
 use Rattle.tape_run.specs.declared.fault.EngineFault.TheVariants.{Run, WriteFailed}
 use Rattle.tape_run.specs.declared.fault.RunFault.TheVariants.{Sink, NoSuchPoint, TooFewReels}
@@ -21,3 +22,8 @@ fails_behind holds mid_holds refusals (Run TooFewReels) old mid new calm has h =
 fails_behind holds mid_holds refusals (Run OutOfMemory) old mid new calm has h = h
 fails_behind holds mid_holds refusals (Run OtherFile) old mid new calm has h = h
 fails_behind holds mid_holds refusals WriteFailed old mid new calm has h = h ∙ calm
+
+-- a count that stands, and not at its greatest value, did not rise
+pub not_rose : (old new : ℕ) → new ≡ old → old < 18446744073709551615 → Rose old new → ⊥
+not_rose old new same few (inl e) = absurd (omega (arith, same, e))
+not_rose old new same few (inr e) = absurd (omega (arith, same, few, e))

@@ -88,3 +88,4 @@ mod MistakesOfReports
 mod MistakesOfRuns
 mod MistakesOfStops
 mod MistakesOfSaves
+mod MistakesOfCauses

@@ -1,14 +1,16 @@
 -- Answers that the contracts of a walk over records, and of what is asked of a session before it is
 -- read, exclude: each is what a wrong body would give.
 use Rattle.std.proofs.Common.{◌≡◌, true, false, List, [], ◌∷◌, length, ap, ◌∙◌, subst, arith}
-use Rattle.std.proofs.Common.{codes}
-use Rattle.std.specs.Prelude.{Some, Ok}
+use Rattle.std.proofs.Common.{codes, ◌<◌}
+use Rattle.std.specs.Prelude.{Some, Ok, Err}
 use Rattle.std.specs.Io.KnownBytes.{Appends}
 use Rattle.tape_blocks.specs.declared.part.Span.TheVariants.{Whole, First}
 use Rattle.tape_blocks.specs.Block.{Portion}
+use Rattle.tape_core.specs.declared.sink.SinkFault.TheVariants.{Full}
 use Rattle.tape_blocks.specs.declared.form.Form.TheVariants.{Lines}
 use Rattle.tape_run.specs.RecordText.{output_of}
 use Rattle.tape_run.specs.Reeling.{goes_back}
+use Rattle.tape_run.proofs.Causes.{not_rose}
 use Rattle.tape_run.proofs.extract.has_note.Reads as has_note
 use Rattle.tape_run.proofs.extract.records.count_records.Reads as count_records
 use Rattle.tape_run.proofs.extract.records.write_records.Reads as write_records
@@ -26,6 +28,12 @@ begun_rest_counted : (S : _) (L : _) (g : _) (d : _) (g' : _) (d' : _) (κs : _)
     → count_records.Learnt-named S L g d g' d' κs a (Ok 1) s → g'.holds a.0.now begun → ⊥
 begun_rest_counted S L g d g' d' κs a s l holds =
     absurd (let n : 1 ≡ 0 = l.count begun holds in omega arith)
+
+-- heavy_sink_told_as_full: records are not counted since the sink is full, and it refused no call
+heavy_sink_told_as_full : (S : _) (L : _) (g : _) (d : _) (g' : _) (d' : _) (κs : _) (a : _)
+    (s : _) → count_records.Learnt-named S L g d g' d' κs a (Err Full) s
+    → g'.refusals s.0.now ≡ g'.refusals a.0.now → g'.refusals a.0.now < 18446744073709551615 → ⊥
+heavy_sink_told_as_full S L g d g' d' κs a s l same few = not_rose _ _ same few l.cause
 
 -- begun_rest_written: a record that is begun and not ended is written
 begun_rest_written : (S : _) (W : _) (LS : _) (LW : _) (g : _) (d : _) (g' : _) (d' : _) (h : _)
