@@ -21,6 +21,8 @@ mod extract;
 #[cfg(test)]
 mod image;
 #[cfg(test)]
+mod let_go;
+#[cfg(test)]
 mod list_faults;
 #[cfg(test)]
 mod listed_labels;
