@@ -2,8 +2,9 @@
 
 ghost use Rattle.std.specs.Result.{IsOkUnless};
 ghost use Rattle.tape_run.specs.declared.fault.RunFault.TheVariants as faults;
-ghost use Rattle.std.specs.Prelude.{◌≡◌, ◌<◌, OnOk, OnErr, IfOk};
+ghost use Rattle.std.specs.Prelude.{◌≡◌, ◌≢◌, ◌<◌, None, OnOk, OnErr, IfOk, IsOk};
 ghost use Rattle.std.specs.Map.{lookup};
+ghost use Rattle.indexmap.specs.IndexMap.{spare};
 ghost use Rattle.tape_run.specs.Noted.{same_key, is_good, better, kept, noted, noted_all};
 ghost use Rattle.tape_run.specs.Passing.{in_list, under_way, blocks_of, step};
 ghost use Rattle.tape_image.specs.Reader.{tape_item};
@@ -53,6 +54,7 @@ fn note(sections: &mut Sections, key: SectionKey, entry: Entry) -> Result<(), Ru
     ensures fault { IsOkUnless result faults.OutOfMemory }
     ensures ok { OnOk result (sections.new.entries ≡ noted sections.old.entries (key, entry)) }
     ensures err { OnErr result (sections.new.entries ≡ sections.old.entries) }
+    ensures room { 0 < spare sections.old → IsOk result }
 {
     let kept = kept_of(sections, &key, entry);
     match sections.insert(key, kept) {
@@ -65,6 +67,7 @@ fn note(sections: &mut Sections, key: SectionKey, entry: Entry) -> Result<(), Ru
 fn make_room(sections: &mut Sections, phase: &Phase) -> Result<(), RunFault>
     ensures fault { IsOkUnless result faults.OutOfMemory }
     ensures same { sections.new.entries ≡ sections.old.entries }
+    ensures room { OnOk result (under_way phase.now ≢ None → 0 < spare sections.new) }
 {
     if phase.under_way().is_none() {
         return Ok(());
@@ -81,6 +84,8 @@ fn note_told(sections: &mut Sections, told: Option<Told>) -> Result<(), RunFault
     ensures ok { OnOk result (sections.new.entries
         ≡ noted_all sections.old.entries (in_list told)) }
     ensures err { OnErr result (sections.new.entries ≡ sections.old.entries) }
+    ensures none { told ≡ None → sections.new ≡ sections.old }
+    ensures room { (told ≢ None → 0 < spare sections.old) → IsOk result }
 {
     match told {
         Some((key, entry)) => note(sections, key, entry),
@@ -88,7 +93,8 @@ fn note_told(sections: &mut Sections, told: Option<Told>) -> Result<(), RunFault
     }
 }
 
-/// Notes what an item tells, and says what is expected behind it.
+/// Notes what an item tells, and says what is expected behind it. A section that is under way then
+/// has its room already: want of memory is told at its headers, and not where it ends.
 pub(crate) fn take(sections: &mut Sections, phase: Phase, item: Item<'_>) -> Result<Phase, RunFault>
     requires { blocks_of phase < most_blocks }
     ensures fault { IsOkUnless result faults.OutOfMemory }
@@ -96,6 +102,7 @@ pub(crate) fn take(sections: &mut Sections, phase: Phase, item: Item<'_>) -> Res
     ensures ok { OnOk result (sections.new.entries
         ≡ noted_all sections.old.entries (in_list (step phase (tape_item item.entry)).1)) }
     ensures err { OnErr result (sections.new.entries ≡ sections.old.entries) }
+    ensures room { IfOk result (λ next. under_way next ≢ None → 0 < spare sections.new) }
 {
     let (next, told) = step(phase, item);
     make_room(sections, &next)?;
@@ -109,6 +116,7 @@ pub(crate) fn close(sections: &mut Sections, phase: Phase) -> Result<(), RunFaul
     ensures ok { OnOk result (sections.new.entries
         ≡ noted_all sections.old.entries (in_list (under_way phase))) }
     ensures err { OnErr result (sections.new.entries ≡ sections.old.entries) }
+    ensures room { (under_way phase ≢ None → 0 < spare sections.old) → IsOk result }
 {
     note_told(sections, phase.under_way())
 }

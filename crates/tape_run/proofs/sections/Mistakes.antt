@@ -1,11 +1,16 @@
--- An answer that the contract of what is kept of a section excludes: a wrong body would give it.
-use Rattle.std.proofs.Common.{◌≡◌, sym, ap, ◌∙◌}
-use Rattle.std.specs.Prelude.{not, ◌&&◌, if◌then◌else◌}
+-- Answers that the contracts of what is kept of sections exclude: each is what a wrong body would
+-- give.
+use Rattle.std.proofs.Common.{◌≡◌, ℕ, ◌<◌, sym, ap, subst, ◌∙◌, arith}
+use Rattle.std.specs.Prelude.{not, ◌&&◌, if◌then◌else◌, Ok, Option, Some, None}
+use Rattle.indexmap.specs.IndexMap.{spare}
+use Rattle.tape_run.specs.Passing.{Told, cut, under_way}
+use Rattle.tape_run.specs.declared.passing.Phase.TheVariants.{Data}
 use Rattle.tape_run.specs.declared.section.Entry.{Entry}
 use Rattle.tape_run.specs.declared.section.SectionState.{SectionState}
 use Rattle.tape_run.specs.declared.section.SectionState.TheVariants.{Bad, Cut}
 use Rattle.tape_run.specs.Noted.{is_good}
 use Rattle.tape_run.proofs.sections.better.Reads as keeps
+use Rattle.tape_run.proofs.sections.take.Reads as take
 
 -- later_cut_replaces_bad: a section that was met as bad is met again cut off, and this is kept.
 later_cut_replaces_bad : (κs : _) (s : _) (old new : Entry)
@@ -15,3 +20,13 @@ later_cut_replaces_bad κs s old new h bad cut_off =
     let e : new ≡ old = h ∙ ap k cut_off in
     let f : Cut ≡ Bad = sym cut_off ∙ ap (λ v. v.state) e ∙ bad in
     absurd (cc f)
+
+-- room_not_made: a section's data are behind its headers, and there is no room to note it
+room_not_made : (κs : _) (a : _) (next : _) (s : _) (met : _) → take.Learnt-named κs a (Ok next) s
+    → next ≡ Data met → spare s.0.now ≡ 0 → ⊥
+room_not_made κs a next s met l is none =
+    let there : under_way next ≡ None → ⊥ = λ e.
+    let f : Some (cut met) ≡ None = sym (ap under_way is) ∙ e in
+    absurd (cc f) in
+    let some : 0 < spare s.0.now = l.room there in
+    absurd (omega (arith, some, none))
