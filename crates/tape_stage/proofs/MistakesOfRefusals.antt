@@ -1,10 +1,11 @@
 -- Refusals that the contracts of a stage exclude, and what it keeps of a call that the disk failed:
 -- each is what a wrong body would give.
-use Rattle.std.proofs.Common.{◌≡◌, ℕ, ◌≤◌, true, false, refl, sym, ap, ◌∙◌, arith}
+use Rattle.std.proofs.Common.{◌≡◌, ℕ, ◌≤◌, true, false, refl, sym, ap, subst, ◌∙◌, arith}
 use Rattle.std.specs.Prelude.{Option, Some, None, Ok, Err, option_map, unwrap_or}
 use Rattle.tape_core.specs.Point.{Point}
 use Rattle.tape_stage.specs.declared.disk.DiskFault.TheVariants as disk_faults
-use Rattle.tape_stage.specs.declared.stage.StageFault.TheVariants.{Device, Full}
+use Rattle.tape_stage.specs.declared.stage.StageFault.TheVariants.{Device, Full, NoPoint}
+use Rattle.tape_stage.specs.Faults.{SaysNone}
 use Rattle.tape_stage.proofs.disk.file.FileDisk.sync_file.Reads as sync_file
 use Rattle.tape_stage.proofs.disk.file.FileDiskDisk.sync.Reads as sync
 use Rattle.tape_stage.proofs.stage.Stage.create.Reads as create
@@ -29,6 +30,12 @@ good_stage_refused_as_full D L g d κs a refused s l w = l.not_full w
 create_told_as_full : (D : _) (L : _) (g : _) (d : _) (κs : _) (a : _) (refused : _) (s : _)
     → create.Learnt-named D L g d κs a (Err refused) s → refused.fault ≡ Full → ⊥
 create_told_as_full D L g d κs a refused s l w = l.not_full w
+
+-- no_memory_told_as_no_stage: a disk that holds nothing, where a stage was to be made, is told to
+-- hold none
+no_memory_told_as_no_stage : (D : _) (L : _) (g : _) (d : _) (κs : _) (a : _) (refused : _) (s : _)
+    → create.Learnt-named D L g d κs a (Err refused) s → refused.fault ≡ NoPoint → ⊥
+no_memory_told_as_no_stage D L g d κs a refused s l w = l.not_none (subst SaysNone (sym w) tt)
 
 -- ---- the checkpoint that was being saved
 

@@ -100,6 +100,7 @@ fn make<D: Disk>(alloc: Global, disk: &mut D, point: Checkpoint) -> Result<(), S
     ensures back { D.is_honest disk.new → D.is_honest disk.old }
     ensures not_full { IsErrOf result StageFault.Full → ⊥ }
     ensures not_failed { IsErrOf result StageFault.Failed → ⊥ }
+    ensures not_none { IfErr result (λ fault. SaysNone fault → ⊥) }
 {
     // The gate is opened when both slots are kept.
     let header = header(alloc, point)?;
@@ -201,6 +202,8 @@ impl<D: Disk> Stage<D> {
             → (back ≡ point.now) × (there ≡ [])) }
         ensures not_full { IfErr result (λ refused. refused.fault ≡ StageFault.Full → ⊥) }
         ensures not_failed { IfErr result (λ refused. refused.fault ≡ StageFault.Failed → ⊥) }
+        // Nothing is read that could be no stage.
+        ensures not_none { IfErr result (λ refused. SaysNone refused.fault → ⊥) }
     {
         let mut disk = disk;
         let Ok(buffer) = buffer_of(alloc) else {
