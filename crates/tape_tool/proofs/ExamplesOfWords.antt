@@ -1,7 +1,10 @@
 -- The cases of the words of a command line.
 use Rattle.std.proofs.Common.{◌≡◌, ◌≢◌, ◌≤◌, ◌<◌, ℕ, Bool, true, false, List, [], ◌∷◌, length}
 use Rattle.std.proofs.Common.{Bor, Option, Some, None, refl, sym, ap, ◌∙◌, subst, inl, inr, arith}
-use Rattle.std.proofs.Common.{codes, get_or, lit<}
+use Rattle.std.proofs.Common.{codes, get_or, lit<, zero, suc}
+use Rattle.std.proofs.lemmas.List.Elements.{All-cons, All-nil}
+use Rattle.std.specs.List.{Contains}
+use Rattle.std.specs.Str.Parse.{IsNumeral, digits_value, without_leading_plus}
 use Rattle.std.specs.Prelude.{option_map, IfSome}
 use Rattle.std.specs.Fmt.{digits}
 use Rattle.clap.specs.Words.{Row, kind_of}
@@ -50,7 +53,7 @@ no_text None e = refl
 no_text (Some t) e = absurd (let n : 0 ≡ 1 = ap length e in omega arith)
 
 -- a stream is never the one
-never_dash : (found : Option (Bor (List ℕ))) → codes "-" ∷ [] ≡ texts_of_one found
+pub never_dash : (found : Option (Bor (List ℕ))) → codes "-" ∷ [] ≡ texts_of_one found
     → IfSome found (λ t. t.now ≢ codes "-") → ⊥
 never_dash None e named = absurd (let n : 1 ≡ 0 = ap length e in omega arith)
 never_dash (Some t) e named = named (ap front (sym e))
@@ -84,6 +87,18 @@ never_wrong error wrong (inl none) =
     absurd (let n : 1 ≡ 0 = ap place (sym none ∙ wrong) in omega arith)
 never_wrong error wrong (inr why) = why.1
 
+-- nothing is there
+missing : {text : List ℕ} → None ≡ Some text → ⊥
+missing e = cc
+
+text_is : {one two : List ℕ} → Some one ≡ Some two → one ≡ two
+text_is e = cc
+
+-- a word of one byte, which is no equals sign
+lacks : (byte : ℕ) → byte ≢ 61 → Contains (byte ∷ []) 61 → ⊥
+lacks byte other (zero, _, e) = other e
+lacks byte other (suc k, within, _) = absurd (let n : suc k < 1 = within in omega (arith, n))
+
 pub cases_of_words : CasesOfWords
 unfolding digits
 cases_of_words = record {
@@ -97,6 +112,22 @@ cases_of_words = record {
   not_there = λ is_given f. f.none refl;
   form_raw = λ form f. f.raw refl;
   form_lines = λ form f. f.lines refl;
+  form_default = λ f. missing (f.only_raw refl);
+  has_number = (
+    (codes "4", refl, (lit< tt, (lit< tt, tt)), lit< tt),
+    (codes "+04", refl, (lit< tt, (lit< tt, (lit< tt, tt))), lit< tt),
+  );
+  no_number = (
+    λ h. missing h.1,
+    λ h. absurd (let n : 20 < 10 = (subst (λ t. IsNumeral 10 (without_leading_plus t))
+        (sym (text_is h.1)) h.2).1.1.0 in omega (arith, n)),
+    λ h. absurd (let n : 256 < 256 = subst (λ t. digits_value 10 (without_leading_plus t) < 256)
+        (sym (text_is h.1)) h.3 in omega (arith, n)),
+  );
+  paths = All-cons (λ w. Contains w 61) (codes "A=a") (codes "=b=" ∷ []) (1, lit< tt, refl)
+      (All-cons (λ w. Contains w 61) (codes "=b=") [] (0, lit< tt, refl)
+      (All-nil (λ w. Contains w 61)));
+  no_path = λ all. lacks 98 (omega arith) (all 1 [] (lit< tt));
   one = (named_none, named_one);
   dash = inl refl;
   two = inr (omega arith);
@@ -117,16 +148,17 @@ nulls named list n is =
     = subst (λ l. IfSome l (λ f. IsFlag shelf (codes "null") f.null)) is n.list.null in
     null.given refl
 
-no_extract : (order : Extract) (rows : List Row) → AsksToExtract rows order → IsNoExtract rows → ⊥
+pub no_extract : (order : Extract) (rows : List Row) → AsksToExtract rows order
+    → IsNoExtract rows → ⊥
 no_extract order rows asked (inl (inl none)) = asked.task.set none
 no_extract order rows asked (inl (inr dash)) = asked.task.named dash
 no_extract order rows asked (inr many) = absurd (omega (arith, asked.images.few, many))
 
-no_unpack : (order : Unpack) (rows : List Row) → AsksToUnpack rows order → IsNoUnpack rows → ⊥
+pub no_unpack : (order : Unpack) (rows : List Row) → AsksToUnpack rows order → IsNoUnpack rows → ⊥
 no_unpack order rows asked (inl none) = asked.named none
 no_unpack order rows asked (inr many) = absurd (omega (arith, asked.images.few, many))
 
-no_init : (order : Init) (rows : List Row) → AsksToInit rows order → IsNoInit rows → ⊥
+pub no_init : (order : Init) (rows : List Row) → AsksToInit rows order → IsNoInit rows → ⊥
 no_init order rows asked (inl none) = asked.named none
 no_init order rows asked (inr wrong) = wrong asked.is_prefix
 
@@ -200,6 +232,7 @@ cases_of_orders = record {
     a.padded.given refl,
     a.form.lines refl,
   );
+  no_write = λ order rows a. a.lawful;
   names = λ rows order h.
       absurd (let n : 99 ≡ 108 = other _ _ 99 108 h.0 refl refl in omega arith);
   check = check;

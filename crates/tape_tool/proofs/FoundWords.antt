@@ -1,15 +1,16 @@
 -- What the parser's calls give, over the rows of what it found; and mistakes in words.
 use Rattle.std.proofs.Common.{◌≡◌, ◌<◌, ◌^◌, ℕ, Bor, List, [], map, Result, Ok, Err, Option}
 use Rattle.std.proofs.Common.{Some, None}
-use Rattle.std.proofs.Common.{refl, ap, ◌∙◌, arith, inl, inr}
+use Rattle.std.proofs.Common.{refl, sym, ap, ◌∙◌, arith, inl, inr}
 use Rattle.std.specs.Prelude.{⊤, decimal, unwrap_or, option_map}
 use Rattle.std.specs.Str.Parse.{ParsesUnsigned, ExplainsUnsignedError, HasUnsignedDigitsIfOk}
 use Rattle.std.proofs.lemmas.Fmt.{parse-decimal}
 use Rattle.std.specs.declared.num.ParseIntError.{ParseIntError}
-use Rattle.clap.specs.Words.{ReadsOne, matched_of, raw_values, rows_of}
+use Rattle.clap.specs.Words.{ReadsOne, kind_of, matched_of, raw_values, rows_of}
 use Rattle.clap.specs.declared.parser.matches.Found.{Found}
 use Rattle.clap.proofs.WalkLemmas.{raw_values-rows}
 use Rattle.clap.specs.declared.error.Error.{Error}
+use Rattle.clap.specs.declared.error.kind.ErrorKind.TheVariants.{OutOfMemory, ValueValidation}
 use Rattle.tape_tool.specs.Words.{RefusedFor, texts_in}
 
 abbrev value_of : Result ℕ ParseIntError → ℕ
@@ -53,3 +54,16 @@ pub refused_for : {reason : Type 0} (error : Error) → RefusedFor ⊤ error →
     → RefusedFor reason error
 refused_for error (inl none) why = inl none
 refused_for error (inr wrong) why = inr (wrong.0, why)
+
+-- and for a reason that follows from it
+pub refused_also : {reason other : Type 0} (error : Error) → (reason → other)
+    → RefusedFor reason error → RefusedFor other error
+refused_also error f (inl none) = inl none
+refused_also error f (inr wrong) = inr (wrong.0, f wrong.1)
+
+-- what is refused as wrong has its reason
+pub reason_of : {reason : Type 0} (error : Error) → kind_of error ≡ ValueValidation
+    → RefusedFor reason error → reason
+reason_of error wrong (inl none) =
+    absurd (let e : OutOfMemory ≡ ValueValidation = sym none ∙ wrong in cc)
+reason_of error wrong (inr why) = why.1

@@ -3,6 +3,7 @@ mod Showing
 mod LinesOfVolumes
 mod ListedNames
 mod FoundWords
+mod WordsOfWriting
 mod Mistakes
 mod MistakesOfNames
 mod MistakesOfWords
@@ -10,3 +11,5 @@ mod Examples
 mod ExamplesOfShowing
 mod ExamplesOfWriting
 mod ExamplesOfWords
+mod ExamplesOfWrongWords
+mod Commands

@@ -22,8 +22,9 @@ use Rattle.tape_tool.specs.declared.words.Order.TheVariants as orders
 use Rattle.tape_tool.specs.declared.write.words.WriteOrder.{WriteOrder}
 use Rattle.tape_tool.specs.Words.{AsksForStage, AsksToExtract, AsksToInit, AsksToList}
 use Rattle.tape_tool.specs.Words.{AsksToSurvey, AsksToUnpack, AsksToWrite, IsDashOrMore, IsFlag}
-use Rattle.tape_tool.specs.Words.{IsForm, IsNoExtract, IsNoInit, IsNoSet, IsNoUnpack, IsNumber}
-use Rattle.tape_tool.specs.Words.{IsOrderIn, IsOrderOf, NamesImages, RefusedFor}
+use Rattle.tape_tool.specs.Words.{HavePaths, IsForm, IsNoExtract, IsNoInit, IsNoOrderIn}
+use Rattle.tape_tool.specs.Words.{IsNoOrderOf, IsNoSet, IsNoUnpack, IsNoWrite, IsNumber, IsOrderIn}
+use Rattle.tape_tool.specs.Words.{IsOrderOf, IsSomeNumber, NamesImages, RefusedFor}
 use Rattle.tape_tool.specs.Words.{padded_set, text_in, texts_in}
 
 -- what the parser found of a word or an option
@@ -66,6 +67,17 @@ pub record CasesOfWords : Type 0 where
       → form ≡ Raw
   pub form_lines : (form : Form) → IsForm (word (codes "form") (codes "lines" ∷ []) ∷ []) form
       → form ≡ Lines
+  -- and raw is none that was not named
+  pub form_default : IsForm [] Raw → ⊥
+  -- a number is there in its digits, also behind a plus sign; no other text is one
+  pub has_number : IsSomeNumber 8 (word (codes "offset") (codes "4" ∷ []) ∷ []) (codes "offset")
+      × IsSomeNumber 8 (word (codes "offset") (codes "+04" ∷ []) ∷ []) (codes "offset")
+  pub no_number : (IsSomeNumber 8 [] (codes "offset") → ⊥)
+      × (IsSomeNumber 8 (word (codes "offset") (codes "4k" ∷ []) ∷ []) (codes "offset") → ⊥)
+      × (IsSomeNumber 8 (word (codes "offset") (codes "256" ∷ []) ∷ []) (codes "offset") → ⊥)
+  -- each word of a file needs an equals sign
+  pub paths : HavePaths (codes "A=a" ∷ codes "=b=" ∷ [])
+  pub no_path : HavePaths (codes "A=a" ∷ codes "b" ∷ []) → ⊥
   -- one name is no mistake, and neither is none; a stream is one, and so are two names
   pub one : (IsDashOrMore [] → ⊥) × (IsDashOrMore (codes "a.tap" ∷ []) → ⊥)
   pub dash : IsDashOrMore (codes "-" ∷ [])
@@ -159,9 +171,62 @@ pub record CasesOfOrders : Type 0 where
       × (map (λ w. w.now) order.files.items ≡ codes "A=a" ∷ codes "B=b" ∷ [])
       × (order.format ≡ Counted) × (order.block ≡ 2048) × (order.«record» ≡ Some 80)
       × (order.offset ≡ 4) × (order.pad_full ≡ true) × (order.form ≡ Lines)
+  pub no_write : (order : WriteOrder) (rows : List Row) → AsksToWrite rows order
+      → IsNoWrite rows → ⊥
   -- a command's name gives its order, and no other
   pub names : (rows : List Row) (order : Listing) → IsOrderOf (codes "check") rows
       (orders.List order) → ⊥
   pub check : (rows : List Row) (order : Order) → IsOrderIn (Some (codes "check", rows)) order
       → (named : Named) × (order ≡ orders.Check named) × NamesImages rows named
   pub no_command : (order : Order) → IsOrderIn None order → ⊥
+
+-- words of `write`: its prefix, its folder, a word of a file, and its options
+abbrev pub to_write : List ℕ → List ℕ → List ℕ → List Row → List Row
+to_write prefix folder file options = word (codes "PRE") (prefix ∷ [])
+    ∷ word (codes "DIR") (folder ∷ []) ∷ word (codes "ID=PATH") (file ∷ []) ∷ options
+
+-- a format, and one other option
+abbrev pub with_format : List ℕ → List ℕ → List ℕ → List Row
+with_format format option text = word (codes "format") (format ∷ [])
+    ∷ word option (text ∷ []) ∷ []
+
+-- these options of `write` are refused, though all else is as it should be
+abbrev pub AreRefused : List Row → Type 0
+AreRefused options = IsNoWrite (to_write (codes "ABC") (codes "out") (codes "A=a") options)
+
+-- why commands are refused
+pub record CasesOfWrongWords : Type 0 where
+  -- `write` takes F with a record length, S without one, raw or not, and D with one or without,
+  -- but not raw
+  pub fixed : AreRefused (with_format (codes "F") (codes "record") (codes "80")) → ⊥
+  pub spanned : AreRefused (with_format (codes "S") (codes "form") (codes "raw")) → ⊥
+  pub counted : AreRefused (with_format (codes "D") (codes "record") (codes "80")) → ⊥
+  pub counted_lines : AreRefused (with_format (codes "D") (codes "form") (codes "lines")) → ⊥
+  pub no_length : AreRefused (with_format (codes "F") (codes "form") (codes "lines"))
+  pub a_length : AreRefused (with_format (codes "S") (codes "record") (codes "80"))
+  pub raw : AreRefused (with_format (codes "D") (codes "form") (codes "raw"))
+  -- and neither what is no prefix, nor a word without a path, nor a folder without a name
+  pub prefix : IsNoWrite (to_write (codes "abc") (codes "out") (codes "A=a")
+      (with_format (codes "S") (codes "form") (codes "lines")))
+  pub path : IsNoWrite (to_write (codes "ABC") (codes "out") (codes "a")
+      (with_format (codes "S") (codes "form") (codes "lines")))
+  pub folder : IsNoWrite (to_write (codes "ABC") [] (codes "A=a")
+      (with_format (codes "S") (codes "form") (codes "lines")))
+  -- a name that no command has is refused, whatever stands behind it
+  pub unknown : (rows : List Row) → IsNoOrderOf (codes "lost") rows
+  -- and that of a command for a mistake in its own words alone
+  pub list : IsNoOrderOf (codes "list") (word (codes "OUT") (codes "-" ∷ []) ∷ []) → ⊥
+  pub check : IsNoOrderOf (codes "check") (word (codes "IMAGE") (codes "-" ∷ []) ∷ []) → ⊥
+  pub survey : IsNoOrderOf (codes "survey") (word (codes "IMAGE") (codes "-" ∷ []) ∷ []) → ⊥
+  pub extract : IsNoOrderOf (codes "extract") (word (codes "SET") (codes "ABC001" ∷ []) ∷ [])
+      → ⊥
+  pub unpack : IsNoOrderOf (codes "unpack") (word (codes "DIR") (codes "out" ∷ []) ∷ []) → ⊥
+  pub stage : IsNoOrderOf (codes "stage") (word (codes "IMAGE") (codes "-" ∷ []) ∷ []) → ⊥
+  pub init : IsNoOrderOf (codes "init") (word (codes "DIR") (codes "out" ∷ [])
+      ∷ word (codes "PRE") (codes "ABC" ∷ []) ∷ []) → ⊥
+  pub write : IsNoOrderOf (codes "write") (to_write (codes "ABC") (codes "out") (codes "A=a")
+      (with_format (codes "S") (codes "form") (codes "raw"))) → ⊥
+  pub met : IsNoOrderIn (Some (codes "list", [])) → ⊥
+  -- what is asked for is never refused
+  pub never_both : (met : Option (List ℕ × List Row)) (order : Order) → IsOrderIn met order
+      → IsNoOrderIn met → ⊥

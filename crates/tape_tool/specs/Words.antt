@@ -2,9 +2,11 @@
 -- and each option of a command, which has the texts that stand there.
 use Rattle.std.specs.Prelude.{◌≡◌, ◌≢◌, ◌⊎◌, ◌<◌, ◌≤◌, ◌^◌, ℕ, Bool, true, false, codes, decimal}
 use Rattle.std.specs.Prelude.{List, [], ◌∷◌, ◌++◌, map, length, replicate, if◌then◌else◌}
-use Rattle.std.specs.Prelude.{◌-◌, Option, Some, None, IfSome, option_map, unwrap_or}
+use Rattle.std.specs.Prelude.{◌-◌, ⊤, Option, Some, None, IfSome, option_map, unwrap_or}
 use Rattle.std.specs.Borrow.{Bor}
+use Rattle.std.specs.List.{All, Contains}
 use Rattle.std.specs.Str.{bytes_eq}
+use Rattle.std.specs.Str.Parse.{IsNumeral, digits_value, without_leading_plus}
 use Rattle.clap.specs.Words.{Row, all_of, first_of, kind_of, one_of}
 use Rattle.clap.specs.declared.error.Error.{Error}
 use Rattle.clap.specs.declared.error.kind.ErrorKind.TheVariants.{OutOfMemory, ValueValidation}
@@ -43,6 +45,13 @@ texts_in rows word = unwrap_or (all_of word rows) []
 abbrev pub IsNumber : ℕ → List Row → List ℕ → ℕ → Type 0
 IsNumber bits rows word n = (n < 2 ^ bits) × (one_of word rows ≡ Some (decimal n))
 
+-- Some number of so many bits stands there, in decimal digits with or without a plus sign before
+-- them.
+abbrev pub IsSomeNumber : ℕ → List Row → List ℕ → Type 0
+IsSomeNumber bits rows word = (text : List ℕ) × (one_of word rows ≡ Some text)
+    × IsNumeral 10 (without_leading_plus text)
+    × (digits_value 10 (without_leading_plus text) < 2 ^ bits)
+
 -- an option by itself is given, or is not
 pub record IsFlag (rows : List Row) (word : List ℕ) (is_given : Bool) : Type 0 where
   pub given : one_of word rows ≡ Some (codes "true") → is_given ≡ true
@@ -53,6 +62,7 @@ pub record IsFlag (rows : List Row) (word : List ℕ) (is_given : Bool) : Type 0
 pub record IsForm (rows : List Row) (form : Form) : Type 0 where
   pub raw : first_of (codes "form") rows ≡ Some (codes "raw") → form ≡ Raw
   pub lines : first_of (codes "form") rows ≡ Some (codes "lines") → form ≡ Lines
+  pub only_raw : form ≡ Raw → first_of (codes "form") rows ≡ Some (codes "raw")
 
 -- the texts of a word of which there is one at most
 abbrev pub texts_of_one : Option (Bor (List ℕ)) → List (List ℕ)
@@ -173,6 +183,31 @@ abbrev pub IsNoInit : List Row → Type 0
 IsNoInit rows =
     (text_in rows (codes "DIR") ≡ []) ⊎ (IsPrefix (text_in rows (codes "PRE")) → ⊥)
 
+-- in each word of a file there is an equals sign (61), behind which its path stands
+abbrev pub HavePaths : List (List ℕ) → Type 0
+HavePaths = All (λ word. Contains word 61)
+
+-- Words of `write` that don't go together. Format F needs a record length, and S takes none. Any
+-- other format is D, whose records cannot be joined.
+abbrev pub AreAtOdds : List Row → Type 0
+AreAtOdds rows =
+    ((text_in rows (codes "format") ≡ codes "F") × (IsSomeNumber 32 rows (codes "record") → ⊥))
+    ⊎ ((text_in rows (codes "format") ≡ codes "S") × IsSomeNumber 32 rows (codes "record"))
+    ⊎ ((text_in rows (codes "format") ≢ codes "F") × (text_in rows (codes "format") ≢ codes "S")
+    × (first_of (codes "form") rows ≡ Some (codes "raw")))
+
+-- the same of the order that they give
+abbrev pub IsAtOdds : WriteOrder → Type 0
+IsAtOdds order = ((order.format ≡ Fixed) × (order.«record» ≡ None))
+    ⊎ ((order.format ≡ Spanned) × (order.«record» ≢ None))
+    ⊎ ((order.format ≡ Counted) × (order.form ≡ Raw))
+
+-- why `write` is refused
+abbrev pub IsNoWrite : List Row → Type 0
+IsNoWrite rows = (IsPrefix (text_in rows (codes "PRE")) → ⊥)
+    ⊎ (HavePaths (texts_in rows (codes "ID=PATH")) → ⊥)
+    ⊎ (text_in rows (codes "DIR") ≡ []) ⊎ AreAtOdds rows
+
 -- What `write` is asked for: each part by the word of its own.
 pub record AsksToWrite (rows : List Row) (order : WriteOrder) : Type 0 where
   pub folder : order.folder.now ≡ text_in rows (codes "DIR")
@@ -188,6 +223,7 @@ pub record AsksToWrite (rows : List Row) (order : WriteOrder) : Type 0 where
   pub offset : (n : ℕ) → IsNumber 8 rows (codes "offset") n → order.offset ≡ n
   pub padded : IsFlag rows (codes "pad-full") order.pad_full
   pub form : IsForm rows order.form
+  pub lawful : IsNoWrite rows → ⊥
 
 -- ---- a command line
 
@@ -217,3 +253,24 @@ IsOrderOf name rows (orders.Write order) = (name ≡ codes "write") × AsksToWri
 abbrev pub IsOrderIn : Option (List ℕ × List Row) → Order → Type 0
 IsOrderIn None order = ⊥
 IsOrderIn (Some met) order = IsOrderOf met.0 met.1 order
+
+-- why the words of a command are refused
+abbrev pub IsNoOrder : Verb → List Row → Type 0
+IsNoOrder verbs.List rows = IsDashOrMore (texts_in rows (codes "IMAGE"))
+IsNoOrder verbs.Check rows = AreTooMany rows
+IsNoOrder verbs.Survey rows = AreTooMany rows
+IsNoOrder verbs.Extract rows = IsNoExtract rows
+IsNoOrder verbs.Unpack rows = IsNoUnpack rows
+IsNoOrder verbs.Stage rows = IsDashOrMore (texts_in rows (codes "OUT"))
+IsNoOrder verbs.Init rows = IsNoInit rows
+IsNoOrder verbs.Write rows = IsNoWrite rows
+
+-- and why a command line is: no command has the name that the parser met, or it refuses its rows
+abbrev pub IsNoOrderOf : List ℕ → List Row → Type 0
+IsNoOrderOf name rows = ((verb : Verb) → name ≢ name_of verb)
+    ⊎ ((verb : Verb) × (name ≡ name_of verb) × IsNoOrder verb rows)
+
+-- the same, where the parser may have met no command
+abbrev pub IsNoOrderIn : Option (List ℕ × List Row) → Type 0
+IsNoOrderIn None = ⊤
+IsNoOrderIn (Some met) = IsNoOrderOf met.0 met.1

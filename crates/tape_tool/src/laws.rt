@@ -4,13 +4,13 @@ ghost use Rattle.tape_tool.specs.Cases.{CasesOfEnds, CasesOfFaults, CasesOfLines
 ghost use Rattle.tape_tool.specs.Cases.{CasesOfStaging};
 ghost use Rattle.tape_tool.specs.CasesOfShowing.{CasesOfShowing};
 ghost use Rattle.tape_tool.specs.CasesOfWriting.{CasesOfWriting};
-ghost use Rattle.tape_tool.specs.CasesOfWords.{CasesOfWords, CasesOfOrders};
+ghost use Rattle.tape_tool.specs.CasesOfWords.{CasesOfWords, CasesOfOrders, CasesOfWrongWords};
 
 use tape_stage::Disk;
 
 /// What the definitions of the program say of cases: how runs end, the numbers of faults, the lines
 /// that are printed, the names in a list, what a session over a stage is, what is shown of one,
-/// which shapes are refused, and what words ask for.
+/// which shapes are refused, what words ask for, and why they are refused.
 pub fn cases<D: Disk>()
     ensures ends { CasesOfEnds }
     ensures faults { CasesOfFaults }
@@ -21,4 +21,5 @@ pub fn cases<D: Disk>()
     ensures writing { CasesOfWriting }
     ensures words { CasesOfWords }
     ensures orders { CasesOfOrders }
+    ensures wrong_words { CasesOfWrongWords }
 {}

@@ -1,7 +1,8 @@
 //! What the words of a command line ask for.
-ghost use Rattle.std.specs.Prelude.{◌≡◌, codes, IfOk, IfSome};
+ghost use Rattle.std.specs.Prelude.{◌≡◌, ◌≢◌, codes, IfOk, IfErr, IfSome, IfNone};
 ghost use Rattle.clap.specs.Words.{found_of, rows_of, subcommand_rows_of};
-ghost use Rattle.tape_tool.specs.Words.{IsFlag, IsOrderIn, IsOrderOf, name_of};
+ghost use Rattle.tape_tool.specs.Words.{IsFlag, IsNoOrder, IsNoOrderIn, IsNoOrderOf, IsOrderIn};
+ghost use Rattle.tape_tool.specs.Words.{IsOrderOf, RefusedFor, name_of};
 
 pub mod parts;
 
@@ -88,6 +89,7 @@ fn call_in<'a>(alloc: Global, matches: &ArgMatches<'a>) -> Result<Call<'a>, Erro
     ensures order { IfOk result (λ call. IsOrderIn (subcommand_rows_of matches.now) call.order) }
     ensures explained { IfOk result (λ call.
         IsFlag (rows_of (found_of matches.now)) (codes "explain") call.explained) }
+    ensures err { IfErr result (RefusedFor (IsNoOrderIn (subcommand_rows_of matches.now))) }
 {
     Ok(Call {
         order: order_of(alloc, matches)?,
@@ -97,7 +99,8 @@ fn call_in<'a>(alloc: Global, matches: &ArgMatches<'a>) -> Result<Call<'a>, Erro
 
 /// What the words of the command ask for, of which the parser has seen to it that there is one.
 fn order_of<'a>(alloc: Global, matches: &ArgMatches<'a>) -> Result<Order<'a>, Error>
-    ensures { IfOk result (IsOrderIn (subcommand_rows_of matches.now)) }
+    ensures ok { IfOk result (IsOrderIn (subcommand_rows_of matches.now)) }
+    ensures err { IfErr result (RefusedFor (IsNoOrderIn (subcommand_rows_of matches.now))) }
 {
     match matches.subcommand() {
         Some((name, words)) => order_by(alloc, name, words),
@@ -107,7 +110,8 @@ fn order_of<'a>(alloc: Global, matches: &ArgMatches<'a>) -> Result<Order<'a>, Er
 
 /// What these words of the command with this name ask for.
 fn order_by<'a>(alloc: Global, name: &str, words: &ArgMatches<'a>) -> Result<Order<'a>, Error>
-    ensures { IfOk result (IsOrderOf name.now (rows_of (found_of words.now))) }
+    ensures ok { IfOk result (IsOrderOf name.now (rows_of (found_of words.now))) }
+    ensures err { IfErr result (RefusedFor (IsNoOrderOf name.now (rows_of (found_of words.now)))) }
 {
     match verb_of(name) {
         Some(verb) => order_with(alloc, verb, words),
@@ -117,7 +121,8 @@ fn order_by<'a>(alloc: Global, name: &str, words: &ArgMatches<'a>) -> Result<Ord
 
 /// What these words of this command ask for.
 fn order_with<'a>(alloc: Global, verb: Verb, words: &ArgMatches<'a>) -> Result<Order<'a>, Error>
-    ensures { IfOk result (IsOrderOf (name_of verb) (rows_of (found_of words.now))) }
+    ensures ok { IfOk result (IsOrderOf (name_of verb) (rows_of (found_of words.now))) }
+    ensures err { IfErr result (RefusedFor (IsNoOrder verb (rows_of (found_of words.now)))) }
 {
     Ok(match verb {
         Verb::List => Order::List(list_order(alloc, words)?),
@@ -133,7 +138,8 @@ fn order_with<'a>(alloc: Global, verb: Verb, words: &ArgMatches<'a>) -> Result<O
 
 /// The command with this name.
 fn verb_of(name: &str) -> Option<Verb>
-    ensures { IfSome result (λ verb. name.now ≡ name_of verb) }
+    ensures some { IfSome result (λ verb. name.now ≡ name_of verb) }
+    ensures none { IfNone result ((verb : Verb) → name.now ≢ name_of verb) }
 {
     match name {
         "list" => Some(Verb::List),

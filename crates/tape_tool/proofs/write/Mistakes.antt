@@ -1,11 +1,17 @@
 -- Answers that the contracts of `write` exclude: each is what a wrong body would give.
 use Rattle.std.proofs.Common.{◌≡◌, ◌==◌, ℕ, Bool, true, false, [], ◌∷◌, length, ap, sym, ◌∙◌}
-use Rattle.std.proofs.Common.{subst, arith, codes, lit<}
+use Rattle.std.proofs.Common.{subst, arith, codes, lit<, List, refl, None, Err, inl, inr}
 use Rattle.std.specs.List.{before_first}
 use Rattle.std.specs.Prelude.{Some, Ok, slice_index, decimal}
 use Rattle.std.specs.Fmt.{digits}
 use Rattle.std.specs.Io.KnownBytes.{Appends}
-use Rattle.clap.specs.Words.{found_of, one_of, rows_of}
+use Rattle.clap.specs.Words.{Row, found_of, kind_of, one_of, rows_of}
+use Rattle.clap.specs.declared.error.kind.ErrorKind.TheVariants.{ValueValidation}
+use Rattle.tape_writer.specs.Blank.{IsPrefix}
+use Rattle.tape_tool.specs.Words.{AreAtOdds, HavePaths, text_in, texts_in}
+use Rattle.tape_tool.proofs.ExamplesOfWrongWords.{has_path, is_prefix, missing, other}
+use Rattle.tape_tool.proofs.FoundWords.{reason_of}
+use Rattle.tape_tool.proofs.WordsOfWriting.{lawful}
 use Rattle.tape_tool.specs.Report.{report}
 use Rattle.tape_tool.proofs.write.run.split.Reads as split
 use Rattle.tape_tool.proofs.write.report.say.Reads as say
@@ -18,12 +24,33 @@ cut_at_the_last_equals_sign κs a r s l word id =
     absurd (let n : 3 ≡ 1
     = ap length (sym id ∙ l.id ∙ ap (λ w. before_first (λ byte. byte == 61) w) word) in omega arith)
 
+-- S without a record length is not at odds
+fits : (rows : List Row) → text_in rows (codes "format") ≡ codes "S"
+    → one_of (codes "record") rows ≡ None → AreAtOdds rows → ⊥
+fits rows format none (inl h) = other _ _ 83 70 (omega arith) refl refl (sym format ∙ h.0)
+fits rows format none (inr (inl h)) = missing (sym none ∙ h.1.1)
+fits rows format none (inr (inr h)) = h.1 format
+
 -- offset_forgotten: an offset of 3 is asked for, and the blocks have none
 offset_forgotten : (κs : _) (a : _) (o : _) (s : _)
-    → write_order.Learnt κs a (Ok o) s
+    → write_order.Learnt-named κs a (Ok o) s
     → one_of (codes "offset") (rows_of (found_of a.1.0.now)) ≡ Some (decimal 3) → o.offset ≡ 0 → ⊥
 offset_forgotten κs a o s l asked none =
-    absurd (let n : 0 ≡ 3 = sym none ∙ l.offset 3 (lit< tt, asked) in omega arith)
+    absurd (let n : 0 ≡ 3 = sym none ∙ l.ok.offset 3 (lit< tt, asked) in omega arith)
+
+-- lawful_write_refused: format S is asked for without a record length, and is refused as wrong
+lawful_write_refused : (κs : _) (a : _) (e : _) (s : _) → write_order.Learnt-named κs a (Err e) s
+    → kind_of e ≡ ValueValidation
+    → text_in (rows_of (found_of a.1.0.now)) (codes "PRE") ≡ codes "ABC"
+    → text_in (rows_of (found_of a.1.0.now)) (codes "DIR") ≡ codes "out"
+    → texts_in (rows_of (found_of a.1.0.now)) (codes "ID=PATH") ≡ codes "A=a" ∷ []
+    → text_in (rows_of (found_of a.1.0.now)) (codes "format") ≡ codes "S"
+    → one_of (codes "record") (rows_of (found_of a.1.0.now)) ≡ None → ⊥
+lawful_write_refused κs a e s l wrong prefix folder files format none =
+    let rows = rows_of (found_of a.1.0.now) in
+    lawful rows (subst IsPrefix (sym prefix) is_prefix) (subst HavePaths (sym files) has_path)
+    (λ h. absurd (let n : 3 ≡ 0 = ap length (sym folder ∙ h) in omega arith))
+    (fits rows format none) (reason_of e wrong l.err)
 
 abbrev bit : Bool → ℕ
 bit true = 1
@@ -31,11 +58,11 @@ bit false = 0
 
 -- pad_full_forgotten: blocks are to be filled up, and are not
 pad_full_forgotten : (κs : _) (a : _) (o : _) (s : _)
-    → write_order.Learnt κs a (Ok o) s
+    → write_order.Learnt-named κs a (Ok o) s
     → one_of (codes "pad-full") (rows_of (found_of a.1.0.now)) ≡ Some (codes "true")
     → o.pad_full ≡ false → ⊥
 pad_full_forgotten κs a o s l asked none =
-    absurd (let n : 0 ≡ 1 = ap (λ b. bit b) (sym none ∙ l.padded.given asked) in omega arith)
+    absurd (let n : 0 ≡ 1 = ap (λ b. bit b) (sym none ∙ l.ok.padded.given asked) in omega arith)
 
 -- size_without_the_end_word: an image of 486 bytes is told with 482
 size_without_the_end_word : (W : _) (L : _) (h : _) (e : _) (κs : _) (a : _) (s : _)

@@ -1,7 +1,10 @@
 //! What the words behind `write` ask for.
-ghost use Rattle.std.specs.Prelude.{◌≡◌, codes, map, IfOk};
+ghost use Rattle.std.specs.Prelude.{◌≡◌, ◌↔◌, ◌⊎◌, [], codes, map, IfOk, IfErr, IfSome, IfNone};
+ghost use Rattle.std.specs.Prelude.{IsTrue};
+ghost use Rattle.std.specs.List.{Contains};
 ghost use Rattle.clap.specs.Words.{found_of, rows_of};
-ghost use Rattle.tape_tool.specs.Words.{AsksToWrite, text_in, texts_in};
+ghost use Rattle.tape_tool.specs.Words.{AreAtOdds, AsksToWrite, HavePaths, IsAtOdds, IsNoWrite};
+ghost use Rattle.tape_tool.specs.Words.{RefusedFor, text_in, texts_in};
 
 use crate::help;
 use crate::outline::{Kind, Outline, Word, mistake};
@@ -64,7 +67,8 @@ pub const WRITE: Outline = Outline {
 
 /// What the words behind `write` ask for. The parser has seen to it that they are there.
 pub fn write_order<'a>(alloc: Global, matches: &ArgMatches<'a>) -> Result<WriteOrder<'a>, Error>
-    ensures { IfOk result (AsksToWrite (rows_of (found_of matches.now))) }
+    ensures ok { IfOk result (AsksToWrite (rows_of (found_of matches.now))) }
+    ensures err { IfErr result (RefusedFor (IsNoWrite (rows_of (found_of matches.now)))) }
 {
     let Some(prefix) = Prefix::new(text_of(matches, "PRE")) else {
         return Err(mistake(alloc, &WRITE, help::WRONG_PREFIX));
@@ -78,10 +82,13 @@ pub fn write_order<'a>(alloc: Global, matches: &ArgMatches<'a>) -> Result<WriteO
 
 /// The order of these words, with this prefix and these files.
 fn asked<'a>(matches: &ArgMatches<'a>, prefix: Prefix, files: Vec<&'a str>) -> WriteOrder<'a>
-    ensures { prefix.characters ≡ text_in (rows_of (found_of matches.now)) (codes "PRE")
+    ensures asks { prefix.characters ≡ text_in (rows_of (found_of matches.now)) (codes "PRE")
         → map (λ w. w.now) files.entry.items
         ≡ texts_in (rows_of (found_of matches.now)) (codes "ID=PATH")
+        → (IsNoWrite (rows_of (found_of matches.now)) → ⊥)
         → AsksToWrite (rows_of (found_of matches.now)) result }
+    ensures folder { result.folder.now ≡ text_in (rows_of (found_of matches.now)) (codes "DIR") }
+    ensures odds { IsAtOdds result ↔ AreAtOdds (rows_of (found_of matches.now)) }
 {
     WriteOrder {
         folder: text_of(matches, "DIR"),
@@ -99,18 +106,45 @@ fn asked<'a>(matches: &ArgMatches<'a>, prefix: Prefix, files: Vec<&'a str>) -> W
 
 /// The words of the files, each of which names a path.
 fn files_of<'a>(alloc: Global, matches: &ArgMatches<'a>) -> Result<Vec<&'a str>, Error>
-    ensures { IfOk result (λ files. map (λ w. w.now) files.items
+    ensures ok { IfOk result (λ files. map (λ w. w.now) files.items
         ≡ texts_in (rows_of (found_of matches.now)) (codes "ID=PATH")) }
+    ensures paths { IfOk result (λ _.
+        HavePaths (texts_in (rows_of (found_of matches.now)) (codes "ID=PATH"))) }
+    ensures err { IfErr result (RefusedFor
+        (HavePaths (texts_in (rows_of (found_of matches.now)) (codes "ID=PATH")) → ⊥)) }
 {
     let files = matches.get_strs("ID=PATH").unwrap_or(&[]);
-    if !files.iter().all(|word| word.contains("=")) {
+    if !have_paths(files) {
         return Err(mistake(alloc, &WRITE, help::NO_PATH));
     }
     Ok(Vec::from_slice(alloc, files)?)
 }
 
+/// Whether each of these words names a path.
+fn have_paths(words: &[&str]) -> bool
+    ensures { IsTrue result ↔ HavePaths (map (λ w. w.now) words.now) }
+{
+    for word in words {
+        if !has_path(word) {
+            return false;
+        }
+    }
+    true
+}
+
+/// Whether the word names a path, which stands behind an equals sign.
+fn has_path(word: &str) -> bool
+    ensures { IsTrue result ↔ Contains word.now 61 }
+{
+    word.contains('=')
+}
+
 /// What is wrong with words that don't go together.
-fn wrong(order: &WriteOrder<'_>) -> Option<&'static str> {
+fn wrong(order: &WriteOrder<'_>) -> Option<&'static str>
+    ensures some { IfSome result (λ _. (order.now.folder.now ≡ []) ⊎ IsAtOdds order.now) }
+    ensures folder { IfNone result (order.now.folder.now ≡ [] → ⊥) }
+    ensures none { IfNone result (IsAtOdds order.now → ⊥) }
+{
     if order.folder.is_empty() {
         return Some(help::NO_FOLDER);
     }
@@ -122,11 +156,11 @@ fn wrong(order: &WriteOrder<'_>) -> Option<&'static str> {
     }
 }
 
-/// The format with this name.
+/// The format with this name. Any other name is that of D.
 fn format_of(name: &str) -> Format
-    ensures fixed { name.now ≡ codes "F" → result ≡ Format.Fixed }
+    ensures fixed { (result ≡ Format.Fixed) ↔ (name.now ≡ codes "F") }
     ensures counted { name.now ≡ codes "D" → result ≡ Format.Counted }
-    ensures spanned { name.now ≡ codes "S" → result ≡ Format.Spanned }
+    ensures spanned { (result ≡ Format.Spanned) ↔ (name.now ≡ codes "S") }
 {
     match name {
         "F" => Format::Fixed,

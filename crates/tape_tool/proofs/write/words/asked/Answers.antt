@@ -1,21 +1,22 @@
 use Rattle.std.proofs.Common.{[], codes, ap, ◌∙◌, arith}
 use Rattle.std.specs.Prelude.{unwrap_or}
-use Rattle.clap.specs.Words.{found_of}
+use Rattle.clap.specs.Words.{found_of, rows_of}
 use Rattle.clap.proofs.WalkLemmas.{one_text-rows}
 use Rattle.tape_tool.proofs.FoundWords.{read_back}
+use Rattle.tape_tool.proofs.WordsOfWriting.{at_odds, number_given}
 use Rattle.tape_tool.proofs.write.words.asked.Goals as goal
 
-pub returns : goal.returns
-returns c prefix files = let found = found_of c.args.matches.now in record {
+pub returns-clause-asks : goal.returns-clause-asks
+returns-clause-asks c prefix files lawful = let found = found_of c.args.matches.now in record {
   folder = c.text_of.ensures;
   prefix = prefix;
   files = files;
   capacity = λ n h. c.unwrap_or.ensures ∙ ap (λ r. unwrap_or r 0)
       (read_back 32 n _ h.0 (omega (arith, h.0))
       (c.get_one.ensures.value _ (one_text-rows found (codes "CAPACITY") ∙ h.1)));
-  fixed = λ e. c.format_of.ensures.fixed (c.text_of-2.ensures ∙ ap (λ o. unwrap_or o []) e);
+  fixed = λ e. c.format_of.ensures.fixed.1 (c.text_of-2.ensures ∙ ap (λ o. unwrap_or o []) e);
   counted = λ e. c.format_of.ensures.counted (c.text_of-2.ensures ∙ ap (λ o. unwrap_or o []) e);
-  spanned = λ e. c.format_of.ensures.spanned (c.text_of-2.ensures ∙ ap (λ o. unwrap_or o []) e);
+  spanned = λ e. c.format_of.ensures.spanned.1 (c.text_of-2.ensures ∙ ap (λ o. unwrap_or o []) e);
   block = λ n h. c.unwrap_or-2.ensures ∙ ap (λ r. unwrap_or r 0)
       (read_back 32 n _ h.0 (omega (arith, h.0))
       (c.get_one-2.ensures.value _ (one_text-rows found (codes "block") ∙ h.1)));
@@ -27,4 +28,12 @@ returns c prefix files = let found = found_of c.args.matches.now in record {
       (c.get_one-4.ensures.value _ (one_text-rows found (codes "offset") ∙ h.1)));
   padded = c.flag_of.ensures;
   form = c.form_of.ensures;
+  lawful = lawful;
 }
+
+pub returns-clause-odds : goal.returns-clause-odds
+returns-clause-odds c = let found = found_of c.args.matches.now in
+    at_odds (rows_of found) c.text_of-2.result.now c.format_of.result c.get_one-3.result
+    c.form_of.result c.text_of-2.ensures c.format_of.ensures.fixed c.format_of.ensures.spanned
+    (number_given found (codes "record") 32 c.get_one-3.result c.get_one-3.ensures.none
+    c.get_one-3.ensures.value) c.form_of.ensures
