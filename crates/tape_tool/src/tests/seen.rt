@@ -1,6 +1,6 @@
 //! What a caller sees of whole calls: exit status, both streams, and which files are opened.
-use super::calls::{Step, put, take_all};
-use super::desk::called;
+use super::calls::{Step, put, take_all, with_images};
+use super::desk::{Seen, called};
 use super::volumes::{first_of_two, second_of_two};
 use std::test::Fail;
 
@@ -170,4 +170,47 @@ fn whole_calls(rt: HostRuntime) -> Result<(), Fail> {
         );
     }
     take_all(&rt, LEFT)
+}
+
+/// Calls that read images: what is opened before them, and how what is printed ends where there are
+/// 300 of them, none of which is there.
+const READERS: &[(&str, &str, &str)] = &[
+    ("check", "many.names ", "\nIMAGE 300 0 NOT OPENED\n"),
+    ("survey", "many.names ", "\nlost.tap: not opened\n"),
+    (
+        "extract ABC001 1 many.txt",
+        "many.names many.txt.part ",
+        "\nREEL 300 NOT OPENED\nAWAITS 1 1 0\n",
+    ),
+    ("unpack many", "many.names ", ""),
+];
+
+/// Whether 300 images were looked for, behind what was opened first, and this is printed last.
+fn looks_for_all(seen: &Seen, first: &str, last: &str) -> bool {
+    let (opened, out) = (seen.opened.as_str(), seen.out.as_str());
+    let looked_for = opened.len() == first.len() + 300 * "lost.tap? ".len();
+    seen.status == 3 && opened.starts_with(first) && looked_for && out.ends_with(last)
+}
+
+/// A call by this line, with 256 images behind it and those of a list.
+fn called_with_all(rt: &HostRuntime, line: &str) -> Result<Seen, Fail> {
+    let mut line = with_images(rt.alloc(), line, 256)?;
+    line.push_str(" --from many.names")?;
+    called(rt, line.as_str(), true)
+}
+
+/// No image is left out, however many words and lines of a list name them.
+#[test]
+fn many_images(rt: HostRuntime) -> Result<(), Fail> {
+    let mut names = Vec::new(rt.alloc());
+    for _ in 0..44 {
+        names.extend_from_slice(b"lost.tap\n")?;
+    }
+    put(&rt, "many.names", names.as_slice())?;
+    take_all(&rt, &[Step::Folder("many")])?;
+    for (line, first, last) in READERS {
+        let seen = called_with_all(&rt, line)?;
+        assert!(rt; looks_for_all(&seen, first, last), "{line}: {}", seen.out);
+    }
+    Ok(())
 }
