@@ -93,4 +93,6 @@ cases_of_staging disk = record {
       says n point parts staged (set, is);
   unopened = (tt, tt, tt);
   opened = (λ h. h, λ h. h);
+  none_told = (tt, tt);
+  not_told = (λ h. h, λ h. h, λ h. h);
 }

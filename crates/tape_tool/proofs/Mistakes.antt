@@ -20,7 +20,9 @@ use Rattle.tape_tool.specs.declared.stage.ending.StageEnding.TheVariants as endi
 use Rattle.tape_tool.specs.declared.fault.ToolFault.TheVariants as tool_faults
 use Rattle.tape_tool.specs.Ends.{exit_status}
 use Rattle.tape_tool.specs.Fault.{no_memory}
-use Rattle.tape_tool.specs.Staging.{IsOfFile}
+use Rattle.tape_stage.specs.declared.stage.StageFault.TheVariants as stage_faults
+use Rattle.tape_tool.specs.declared.staging.StagingFault.TheVariants as staging_faults
+use Rattle.tape_tool.specs.Staging.{IsOfFile, SaysNoStage}
 use Rattle.tape_tool.proofs.end.End.status.Reads as status
 use Rattle.tape_tool.proofs.end.end_of.Reads as end_of
 use Rattle.tape_tool.proofs.end.damaged_end.Reads as damaged_end
@@ -156,6 +158,13 @@ empty_disk_opened : (D : _) (L : _) (g : _) (d : _) (e : _) (κs : _) (a : _) (s
 empty_disk_opened D L g d e κs a session s l honest empty two =
     absurd (let n : 2 ≡ 1 = ap sect_of
     (sym two ∙ ap (λ (v : State). v.position) (l.begins honest empty).resumed.place) in omega arith)
+
+-- empty_disk_told_as_no_stage: want of memory for a new stage is told as a file that is none
+empty_disk_told_as_no_stage : (D : _) (L : _) (g : _) (d : _) (e : _) (κs : _) (a : _)
+    (refused : _) (s : _) → open_session.Learnt-named D L g d e κs a (Err refused) s
+    → g.length_of a.1.0 ≡ 0 → refused.fault ≡ staging_faults.Stage stage_faults.NoPoint → ⊥
+empty_disk_told_as_no_stage D L g d e κs a refused s l empty told =
+    l.not_none empty (subst SaysNoStage (sym told) tt)
 
 -- stage_of_another_file_emptied: what is staged of another file is gone from the disk
 stage_of_another_file_emptied : (D : _) (L : _) (g : _) (d : _) (e : _) (κs : _) (a : _)

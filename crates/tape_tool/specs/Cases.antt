@@ -46,6 +46,7 @@ use Rattle.tape_tool.specs.Fault.{of_list}
 use Rattle.tape_tool.specs.Names.{end_byte, pieces_of, names_in}
 use Rattle.tape_tool.specs.Report.{report}
 use Rattle.tape_tool.specs.Staging.{IsOfFile, first_point, StandsAt, GoesOn, Says, IsUnopened}
+use Rattle.tape_tool.specs.Staging.{SaysNoStage}
 use Rattle.tape_tool.specs.Telling.{fault_line}
 
 -- how runs end
@@ -205,3 +206,8 @@ pub record CasesOfStaging {D : Type 0} (disk : Ghosts D) : Type 0 where
       × IsUnopened (staging.Stage stages.OutOfMemory)
   -- one whose disk failed may have been, and one of another file was
   pub opened : (IsUnopened (staging.Stage stages.Device) → ⊥) × (IsUnopened staging.OtherFile → ⊥)
+  -- of no stage tell NoPoint and BadFrame, and no other fault
+  pub none_told : SaysNoStage (staging.Stage stages.NoPoint)
+      × SaysNoStage (staging.Stage (stages.BadFrame 300))
+  pub not_told : (SaysNoStage (staging.Stage stages.Device) → ⊥)
+      × (SaysNoStage (staging.Stage stages.OutOfMemory) → ⊥) × (SaysNoStage staging.OtherFile → ⊥)

@@ -62,3 +62,8 @@ Says set_id file read faults.OtherFile = (generation : ℕ) (point : Point) (par
 abbrev pub IsUnopened : StagingFault → Type 0
 IsUnopened (faults.Stage fault) = IsNotDevice fault
 IsUnopened faults.OtherFile = ⊥
+
+-- The fault says that the bytes are those of no stage.
+abbrev pub SaysNoStage : StagingFault → Type 0
+SaysNoStage (faults.Stage fault) = SaysNone fault
+SaysNoStage faults.OtherFile = ⊥

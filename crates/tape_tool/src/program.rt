@@ -1,8 +1,9 @@
 //! A run of the program, from its words to its exit status.
-ghost use Rattle.std.specs.Prelude.{◌≡◌, Bool, true, false, None, IsSome};
+ghost use Rattle.std.specs.Prelude.{◌≡◌, ◌≢◌, Bool, true, false, None, IsSome, IfErr};
 ghost use Rattle.clap.specs.Words.{kind_of};
 ghost use Rattle.tape_tool.specs.Ends.{exit_status, no_words_end, words_end, IsUnfitEnd};
 ghost use Rattle.tape_tool.specs.Ends.{IsWrongWords};
+ghost use Rattle.tape_tool.specs.Fault.{no_memory};
 
 use crate::check::check;
 use crate::end::{End, finish, no_words_end, words_end};
@@ -21,17 +22,34 @@ use crate::unpack::unpack;
 use crate::words::{Call, Order, call_of};
 use crate::write::run::write;
 use clap::error::ErrorKind;
+use std::alloc::AllocError;
 use std::{env, io};
 
 /// Runs the program, tells a fault, and gives the exit status.
 pub fn run<R: Host>(rt: &R) -> u8 {
-    let words = match env::args(rt) {
-        Ok(words) => words.collect::<Vec<String>>(rt.alloc()),
-        Err(error) => return finish(rt, without_words(rt, error.kind())),
-    };
-    match words {
+    match words_of(rt) {
         Ok(words) => tell(rt, perform(rt, words.as_slice())),
-        Err(_) => finish(rt, End::Faulted(OUT_OF_MEMORY)),
+        Err(end) => finish(rt, end),
+    }
+}
+
+/// The words of the command line, the program's own name first; or how a run without them ends.
+fn words_of<R: Host>(rt: &R) -> Result<Vec<String>, End>
+    ensures { IfErr result (λ end. end ≢ End.Done) }
+{
+    match env::args(rt) {
+        Ok(words) => kept(words.collect(rt.alloc())),
+        Err(error) => Err(without_words(rt, error.kind())),
+    }
+}
+
+/// These words, for which there was memory; or how a run ends for which there was none.
+fn kept(words: Result<Vec<String>, AllocError>) -> Result<Vec<String>, End>
+    ensures { IfErr result (λ end. end ≡ End.Faulted no_memory) }
+{
+    match words {
+        Ok(words) => Ok(words),
+        Err(_) => Err(End::Faulted(OUT_OF_MEMORY)),
     }
 }
 

@@ -7,7 +7,7 @@ ghost use Rattle.tape_run.specs.Seen.{seen};
 ghost use Rattle.tape_stage.specs.Moments.{Untouched};
 ghost use Rattle.tape_stage.specs.Staged.{HoldsNone, KeepsStaged};
 ghost use Rattle.tape_tool.specs.Staging.{IsOfFile, StandsAt, GoesOn, Says, IsUnopened};
-ghost use Rattle.tape_tool.specs.Staging.{OpensOver, first_point};
+ghost use Rattle.tape_tool.specs.Staging.{OpensOver, SaysNoStage, first_point};
 
 use std::alloc::Global;
 use tape_core::{Checkpoint, ReaderCore};
@@ -56,6 +56,9 @@ pub fn open_session<D: Disk + Drop>(
         → IfErr result (λ refused. Says set_id file (D.seen disk) refused.fault) }
     ensures number { D.length_of disk ≡ 0 → IfErr result
         (λ refused. refused.fault ≡ StagingFault.OtherFile → IsFileNumber file → ⊥) }
+    // An empty disk is never told to hold no stage: one is made.
+    ensures not_none { D.length_of disk ≡ 0 → IfErr result
+        (λ refused. SaysNoStage refused.fault → ⊥) }
     // At any moment of it, where the disk has bytes.
     ensures any_moment { D.is_honest disk → (D.length_of disk ≡ 0 → ⊥)
         → IfOk result (λ session. OpensOver D.Disk disk session.sink.disk) }
@@ -105,6 +108,7 @@ fn begin<D: Disk + Drop>(
         (session.core.set_id ≡ set_id) × (session.core.file ≡ file)) }
     ensures number { IfErr result
         (λ refused. refused.fault ≡ StagingFault.OtherFile → IsFileNumber file → ⊥) }
+    ensures not_none { IfErr result (λ refused. SaysNoStage refused.fault → ⊥) }
     ensures not_full { IfErr result
         (λ refused. refused.fault ≡ StagingFault.Stage StageFault.Full → ⊥) }
     ensures not_failed { IfErr result

@@ -1,8 +1,9 @@
 -- Answers that the contracts of `write` exclude: each is what a wrong body would give.
-use Rattle.std.proofs.Common.{◌≡◌, ◌==◌, ℕ, Bool, true, false, [], ◌∷◌, length, ap, sym, ◌∙◌}
-use Rattle.std.proofs.Common.{subst, arith, codes, lit<, List, refl, None, Err, inl, inr}
+use Rattle.std.proofs.Common.{◌≡◌, ◌==◌, ℕ, ◌+◌, Bool, true, false, [], ◌∷◌, ◌++◌, length, ap}
+use Rattle.std.proofs.Common.{sym, ◌∙◌, subst, arith, codes, lit<, length-append, List, refl, None}
+use Rattle.std.proofs.Common.{inl, inr}
 use Rattle.std.specs.List.{before_first}
-use Rattle.std.specs.Prelude.{Some, Ok, slice_index, decimal}
+use Rattle.std.specs.Prelude.{Some, Ok, Err, slice_index, decimal}
 use Rattle.std.specs.Fmt.{digits}
 use Rattle.std.specs.Io.KnownBytes.{Appends}
 use Rattle.clap.specs.Words.{Row, found_of, kind_of, one_of, rows_of}
@@ -12,6 +13,7 @@ use Rattle.tape_tool.specs.Words.{AreAtOdds, HavePaths, text_in, texts_in}
 use Rattle.tape_tool.proofs.ExamplesOfWrongWords.{has_path, is_prefix, missing, other}
 use Rattle.tape_tool.proofs.FoundWords.{reason_of}
 use Rattle.tape_tool.proofs.WordsOfWriting.{lawful}
+use Rattle.tape_run.specs.Output.{AppendsFront}
 use Rattle.tape_tool.specs.Report.{report}
 use Rattle.tape_tool.proofs.write.run.split.Reads as split
 use Rattle.tape_tool.proofs.write.report.say.Reads as say
@@ -78,3 +80,18 @@ size_without_the_end_word W L h e κs a s l files ended old new =
     (subst (λ v. Appends v (h.contents s.0.now) (report a.1.0 a.1.1.0.now)) old l.ok) in
     absurd (let n : 50 ≡ 54 = ap (λ v. slice_index v 16) (r ∙ ap (λ v. report v a.1.1.0.now) files
     ∙ ap (report 1) ended) in omega arith)
+
+-- more_printed_where_it_fails: behind all lines, which could not be passed on, more is printed
+more_printed_where_it_fails : (W : _) (L : _) (h : _) (e : _) (κs : _) (a : _) (f : _) (s : _)
+    → say.Learnt-named W L h e κs a (Err f) s → h.contents a.0.now ≡ Some []
+    → h.contents s.0.now ≡ Some (report a.1.0 a.1.1.0.now ++ 63 ∷ []) → ⊥
+more_printed_where_it_fails W L h e κs a f s l old new =
+    let all = report a.1.0 a.1.1.0.now in
+    let part : AppendsFront (Some []) (Some (all ++ 63 ∷ [])) all
+    = subst (λ v. AppendsFront (Some []) v all) new
+    (subst (λ v. AppendsFront v (h.contents s.0.now) all) old l.front) in
+    let longer : length all + 1 ≡ length part.0
+    = sym (length-append all (63 ∷ [])) ∙ ap length part.2 in
+    let shorter : length all ≡ length part.0 + length part.1
+    = ap length part.3 ∙ length-append part.0 part.1 in
+    absurd (omega (arith, longer, shorter))

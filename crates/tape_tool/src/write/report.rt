@@ -1,6 +1,7 @@
 //! What `write` prints.
-ghost use Rattle.std.specs.Prelude.{◌≡◌, OnOk};
+ghost use Rattle.std.specs.Prelude.{◌≡◌, OnOk, OnErr};
 ghost use Rattle.std.specs.Io.KnownBytes.{Appends};
+ghost use Rattle.tape_run.specs.Output.{AppendsFront};
 ghost use Rattle.tape_tool.specs.Report.{volume_line, files_line, report};
 
 use arrayvec::ArrayVec;
@@ -16,10 +17,13 @@ type Line = ArrayVec<u8, 64>;
 ///
 /// # Errors
 ///
-/// `WriteFailed` where the writer fails, also where its flush does.
+/// `WriteFailed` where the writer fails, also where its flush does. What was printed is a front of
+/// these lines.
 pub fn say<W: Write>(writer: &mut W, files: u64, ended: &[Ended]) -> Result<(), WriteFailed>
     ensures ok { OnOk result
         (Appends (W.contents writer.old) (W.contents writer.new) (report files ended.now)) }
+    ensures front { OnErr result
+        (AppendsFront (W.contents writer.old) (W.contents writer.new) (report files ended.now)) }
 {
     for volume in ended {
         write_text(writer, &volume_line(volume))?;

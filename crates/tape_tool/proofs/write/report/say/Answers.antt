@@ -1,8 +1,11 @@
-use Rattle.std.proofs.Common.{◌++◌, take, sym, ap, subst, ◌∙◌, rules}
+use Rattle.std.proofs.Common.{◌≡◌, ◌++◌, length, take, sym, ap, subst, ◌∙◌, rules, arith}
+use Rattle.std.proofs.lemmas.List.{take_all}
 use Rattle.std.specs.Io.KnownBytes.{Appends}
 use Rattle.std.proofs.KnownBytes.{Appends-trans}
-use Rattle.tape_tool.specs.Report.{volume_line, volume_lines}
-use Rattle.tape_tool.proofs.LinesOfVolumes.{lines_more}
+use Rattle.tape_run.specs.Output.{AppendsFront}
+use Rattle.tape_run.proofs.Fitting.{front_then, on_err, whole_front}
+use Rattle.tape_tool.specs.Report.{volume_line, volume_lines, files_line}
+use Rattle.tape_tool.proofs.LinesOfVolumes.{lines_more, front_of_lines}
 use Rattle.tape_tool.proofs.write.report.say.Goals as goal
 
 pub loop-volume-preserved : goal.loop-volume-preserved
@@ -19,3 +22,44 @@ loop-volume-preserved g c =
     (g.W.Write.contents c.write_text.new.writer)) (sym more)
     (Appends-trans _ (g.W.Write.contents c.loop-volume.writer) _ (volume_lines front)
     (volume_line item) c.loop-volume.invariant line)
+
+pub returns-in_err-write_text-clause-front : goal.returns-in_err-write_text-clause-front
+returns-in_err-write_text-clause-front g c =
+    let all = c.args.ended.now in
+    let item = c.volume-item.result in
+    let part : AppendsFront (g.W.Write.contents c.loop-volume.writer)
+    (g.W.Write.contents c.write_text.new.writer) (volume_line item) = search rules in
+    on_err c.from_residual.result _
+    (front_of_lines _ _ _ all c.loop-volume.volume-index item
+    (files_line c.args.files (length all)) c.loop-volume-test.true c.volume-item.is
+    c.loop-volume.invariant part)
+
+pub returns-in_err-write_text-2-clause-front : goal.returns-in_err-write_text-2-clause-front
+returns-in_err-write_text-2-clause-front g c =
+    let all = c.args.ended.now in
+    let whole : take c.loop-volume.volume-index all ≡ all =
+    take_all _ _ (omega arith) in
+    let lines : Appends (g.W.Write.contents c.args.writer.now)
+    (g.W.Write.contents c.loop-volume.writer) (volume_lines all)
+    = subst (λ v. Appends (g.W.Write.contents c.args.writer.now)
+    (g.W.Write.contents c.loop-volume.writer) (volume_lines v)) whole c.loop-volume.invariant in
+    let part : AppendsFront (g.W.Write.contents c.loop-volume.writer)
+    (g.W.Write.contents c.write_text-2.new.writer) (files_line c.args.files (length all))
+    = search rules in
+    on_err c.from_residual-in_err-write_text-2.result _ (front_then _ _ _ _ _ lines part)
+
+pub returns-clause-front : goal.returns-clause-front
+returns-clause-front g c =
+    let all = c.args.ended.now in
+    let whole : take c.loop-volume.volume-index all ≡ all =
+    take_all _ _ (omega arith) in
+    let lines : Appends (g.W.Write.contents c.args.writer.now)
+    (g.W.Write.contents c.loop-volume.writer) (volume_lines all)
+    = subst (λ v. Appends (g.W.Write.contents c.args.writer.now)
+    (g.W.Write.contents c.loop-volume.writer) (volume_lines v)) whole c.loop-volume.invariant in
+    let last : Appends (g.W.Write.contents c.loop-volume.writer)
+    (g.W.Write.contents c.write_text-2.new.writer) (files_line c.args.files (length all))
+    = search rules in
+    on_err c.flush.result _
+    (whole_front _ _ _ _ (Appends-trans _ _ _ (volume_lines all) (files_line c.args.files
+    (length all)) lines last) c.flush.ensures.kept)
