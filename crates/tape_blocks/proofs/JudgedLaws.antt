@@ -6,9 +6,9 @@ use Rattle.std.specs.Prelude.{if◌then◌else◌, IfOk, IfErr}
 use Rattle.std.proofs.lemmas.Bool.{ltb-true, ltb-false}
 use Rattle.tape_label.specs.declared.values.Format.{Format}
 use Rattle.tape_label.specs.declared.values.Format.TheVariants.{Fixed}
-use Rattle.tape_blocks.specs.declared.fault.BlockCause.TheVariants.{ShortOffset, SpanBroken}
-use Rattle.tape_blocks.specs.declared.fault.BlockFault.{BlockFault}
-use Rattle.tape_blocks.specs.declared.unit.Found.{Found}
+use Rattle.tape_blocks.specs.declared.check.BlockCause.TheVariants.{ShortOffset, SpanBroken}
+use Rattle.tape_blocks.specs.declared.check.BlockFault.{BlockFault}
+use Rattle.tape_blocks.specs.declared.check.Found.{Found}
 use Rattle.tape_blocks.specs.Block.{Portion, spellings, Holds}
 use Rattle.tape_blocks.specs.Faults.{bool_eq, FaultStands, HasFault, fault}
 use Rattle.tape_blocks.specs.Judged.{unless_fault, judged}

@@ -7,9 +7,9 @@ use Rattle.std.proofs.lemmas.Bool.{le-ltb, lt-ltb}
 use Rattle.std.proofs.lemmas.List.{drop-drop, drop_at, append-nil, length-drop}
 use Rattle.tape_label.specs.declared.values.Format.{Format}
 use Rattle.tape_label.specs.declared.values.Format.TheVariants.{Fixed}
-use Rattle.tape_blocks.specs.declared.fault.BlockCause.TheVariants.{ShortOffset}
-use Rattle.tape_blocks.specs.declared.fault.BlockFault.{BlockFault}
-use Rattle.tape_blocks.specs.declared.unit.Found.{Found}
+use Rattle.tape_blocks.specs.declared.check.BlockCause.TheVariants.{ShortOffset}
+use Rattle.tape_blocks.specs.declared.check.BlockFault.{BlockFault}
+use Rattle.tape_blocks.specs.declared.check.Found.{Found}
 use Rattle.tape_blocks.specs.Block.{Portion, spelling, spellings, IsUnit}
 use Rattle.tape_blocks.specs.Faults.{bool_eq, first_fault, tests, IsFront, fault}
 use Rattle.tape_blocks.specs.Judged.{in_order, begun_behind, unless_fault, judged_behind, judged}

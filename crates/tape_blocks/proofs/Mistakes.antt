@@ -5,14 +5,14 @@ use Rattle.std.proofs.Common.{◌∙◌, subst, arith, codes, Option, Some, None
 use Rattle.std.proofs.Common.{true≢false}
 use Rattle.tape_label.specs.declared.values.Format.{Format}
 use Rattle.tape_label.specs.declared.values.Format.TheVariants.{Fixed, Counted, Spanned}
-use Rattle.tape_blocks.specs.declared.fault.BlockCause.TheVariants.{ShortOffset, NotMultiple}
-use Rattle.tape_blocks.specs.declared.fault.BlockCause.TheVariants.{BadCount, BadPadding}
-use Rattle.tape_blocks.specs.declared.fault.BlockFault.{BlockFault}
-use Rattle.tape_blocks.specs.declared.fault.PackFault.TheVariants.{ShapeRange}
-use Rattle.tape_blocks.specs.declared.part.Span.{Span}
-use Rattle.tape_blocks.specs.declared.part.Span.TheVariants.{Whole, Middle, Last}
-use Rattle.tape_blocks.specs.declared.shape.Shape.{Shape}
-use Rattle.tape_blocks.specs.declared.unit.Found.{Found}
+use Rattle.tape_blocks.specs.declared.check.BlockCause.TheVariants.{ShortOffset, NotMultiple}
+use Rattle.tape_blocks.specs.declared.check.BlockCause.TheVariants.{BadCount, BadPadding}
+use Rattle.tape_blocks.specs.declared.check.BlockFault.{BlockFault}
+use Rattle.tape_blocks.specs.declared.offer.PackFault.TheVariants.{ShapeRange}
+use Rattle.tape_blocks.specs.declared.parts.Span.{Span}
+use Rattle.tape_blocks.specs.declared.parts.Span.TheVariants.{Whole, Middle, Last}
+use Rattle.tape_blocks.specs.declared.parts.Shape.{Shape}
+use Rattle.tape_blocks.specs.declared.check.Found.{Found}
 use Rattle.tape_blocks.specs.Block.{Portion, Holds}
 use Rattle.tape_blocks.specs.Faults.{fault}
 use Rattle.tape_blocks.specs.Numbers.{cause_number, pack_fault_number}
@@ -20,14 +20,14 @@ use Rattle.tape_blocks.specs.Spans.{InOrder, continues}
 use Rattle.tape_blocks.specs.Units.{unit_at}
 use Rattle.tape_blocks.proofs.JoinLaws.{one_list}
 use Rattle.tape_blocks.proofs.UnitLaws.{some, none}
-use Rattle.tape_blocks.proofs.fault.BlockCause.number.Reads as number_of_cause
-use Rattle.tape_blocks.proofs.fault.BlockFault.number.Reads as number_of_fault
-use Rattle.tape_blocks.proofs.fault.PackFault.number.Reads as number_of_refusal
-use Rattle.tape_blocks.proofs.shape.Shape.of.Reads as shape_of
-use Rattle.tape_blocks.proofs.shape.Shape.is_writable.Reads as is_writable
-use Rattle.tape_blocks.proofs.part.Span.continues.Reads as span_continues
-use Rattle.tape_blocks.proofs.part.Span.leaves.Reads as span_leaves
-use Rattle.tape_blocks.proofs.unit.unit_at.Reads as unit
+use Rattle.tape_blocks.proofs.check.BlockCause.number.Reads as number_of_cause
+use Rattle.tape_blocks.proofs.check.BlockFault.number.Reads as number_of_fault
+use Rattle.tape_blocks.proofs.offer.PackFault.number.Reads as number_of_refusal
+use Rattle.tape_blocks.proofs.parts.Shape.of.Reads as shape_of
+use Rattle.tape_blocks.proofs.parts.Shape.is_writable.Reads as is_writable
+use Rattle.tape_blocks.proofs.parts.Span.continues.Reads as span_continues
+use Rattle.tape_blocks.proofs.parts.Span.leaves.Reads as span_leaves
+use Rattle.tape_blocks.proofs.check.unit_at.Reads as unit
 use Rattle.tape_blocks.proofs.check.check_block.Reads as check_block
 
 -- ---- shapes, and what worked blocks hold

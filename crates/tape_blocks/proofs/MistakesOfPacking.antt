@@ -4,10 +4,10 @@ use Rattle.std.proofs.Common.{drop, get_or, refl, sym, ap, ◌∙◌, subst, ari
 use Rattle.std.proofs.Common.{Err, Bor, MutBor, inl, inr, true≢false}
 use Rattle.std.specs.List.{AllByRecursion}
 use Rattle.tape_label.specs.declared.values.Format.TheVariants.{Fixed, Counted, Spanned}
-use Rattle.tape_blocks.specs.declared.fault.PackFault.TheVariants.{RecordLength}
+use Rattle.tape_blocks.specs.declared.offer.PackFault.TheVariants.{RecordLength}
 use Rattle.tape_blocks.specs.declared.offer.Offer.TheVariants.{Taken, BlockReady}
-use Rattle.tape_blocks.specs.declared.part.Span.TheVariants.{Whole, Middle, Last}
-use Rattle.tape_blocks.specs.declared.shape.Shape.{Shape}
+use Rattle.tape_blocks.specs.declared.parts.Span.TheVariants.{Whole, Middle, Last}
+use Rattle.tape_blocks.specs.declared.parts.Shape.{Shape}
 use Rattle.tape_blocks.specs.Block.{Portion, Holds}
 use Rattle.tape_blocks.specs.Packing.{Packing, Fills, Offers, IsFull, the_packing, size_of}
 use Rattle.tape_blocks.specs.Records.{contents}

@@ -4,10 +4,10 @@ use Rattle.std.proofs.Common.{◌≡◌, ◌<◌, ℕ, List, [], ◌∷◌, leng
 use Rattle.std.proofs.Common.{arith, codes, Some, None, Ok, Bor, MutBor}
 use Rattle.tape_label.specs.declared.values.Format.{Format}
 use Rattle.tape_label.specs.declared.values.Format.TheVariants.{Fixed, Counted, Spanned}
-use Rattle.tape_blocks.specs.declared.part.Part.{Part}
-use Rattle.tape_blocks.specs.declared.part.Span.TheVariants.{Whole, First}
+use Rattle.tape_blocks.specs.declared.parts.Part.{Part}
+use Rattle.tape_blocks.specs.declared.parts.Span.TheVariants.{Whole, First}
 use Rattle.tape_blocks.specs.declared.parts.Parts.{Parts}
-use Rattle.tape_blocks.specs.declared.shape.Shape.{Shape}
+use Rattle.tape_blocks.specs.declared.parts.Shape.{Shape}
 use Rattle.tape_blocks.specs.Block.{Portion, Holds}
 use Rattle.tape_blocks.specs.Laws.{HoldRecords}
 use Rattle.tape_blocks.specs.Parts.{view, parts_by}

@@ -6,7 +6,7 @@ use Rattle.std.proofs.lemmas.List.{take-replicate, with_items_is}
 use Rattle.std.specs.Vec.{with_items}
 use Rattle.std.specs.declared.alloc.Global.{Global}
 use Rattle.std.specs.declared.vec.Vec.{Vec}
-use Rattle.tape_blocks.specs.declared.shape.Shape.{Shape}
+use Rattle.tape_blocks.specs.declared.parts.Shape.{Shape}
 use Rattle.tape_blocks.specs.Block.{Portion, head_len, spelling, IsUnit, Holds}
 use Rattle.tape_blocks.specs.Packed.{parts_in, Keeps}
 use Rattle.tape_blocks.specs.Packing.{Given, the_packing, IsWritable, size_of, written, padded_len}

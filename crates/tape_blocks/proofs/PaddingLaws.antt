@@ -7,11 +7,11 @@ use Rattle.std.proofs.lemmas.Bool.{ltb-true, lt-ltb}
 use Rattle.tape_label.specs.Digits.{number_of}
 use Rattle.tape_label.specs.declared.values.Format.{Format}
 use Rattle.tape_label.specs.declared.values.Format.TheVariants.{Fixed, Counted, Spanned}
-use Rattle.tape_blocks.specs.declared.fault.BlockCause.TheVariants.{BadCount, PastEnd}
-use Rattle.tape_blocks.specs.declared.fault.BlockFault.{BlockFault}
-use Rattle.tape_blocks.specs.declared.part.Span.{Span}
-use Rattle.tape_blocks.specs.declared.part.Span.TheVariants.{Whole}
-use Rattle.tape_blocks.specs.declared.unit.Found.{Found}
+use Rattle.tape_blocks.specs.declared.check.BlockCause.TheVariants.{BadCount, PastEnd}
+use Rattle.tape_blocks.specs.declared.check.BlockFault.{BlockFault}
+use Rattle.tape_blocks.specs.declared.parts.Span.{Span}
+use Rattle.tape_blocks.specs.declared.parts.Span.TheVariants.{Whole}
+use Rattle.tape_blocks.specs.declared.check.Found.{Found}
 use Rattle.tape_blocks.specs.Block.{first_other, IsPadding, span_by}
 use Rattle.tape_blocks.specs.Units.{padding_by, short_by, counted, spanned, unit_at}
 use Rattle.tape_blocks.specs.Faults.{fault}

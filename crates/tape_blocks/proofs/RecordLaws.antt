@@ -6,10 +6,10 @@ use Rattle.std.specs.declared.vec.Vec.{Vec}
 use Rattle.std.specs.List.{Contains}
 use Rattle.std.proofs.lemmas.List.{take-append-drop, take_more, map-append}
 use Rattle.std.proofs.lemmas.List.Elements.{Contains-append_left, Contains-append_right}
-use Rattle.tape_blocks.specs.declared.fault.PackFault.{PackFault}
-use Rattle.tape_blocks.specs.declared.fault.PackFault.TheVariants.{RecordLength, ShapeRange}
-use Rattle.tape_blocks.specs.declared.fault.PackFault.TheVariants.{OutOfMemory}
-use Rattle.tape_blocks.specs.declared.shape.Shape.{Shape}
+use Rattle.tape_blocks.specs.declared.offer.PackFault.{PackFault}
+use Rattle.tape_blocks.specs.declared.offer.PackFault.TheVariants.{RecordLength, ShapeRange}
+use Rattle.tape_blocks.specs.declared.offer.PackFault.TheVariants.{OutOfMemory}
+use Rattle.tape_blocks.specs.declared.parts.Shape.{Shape}
 use Rattle.tape_blocks.specs.Packing.{IsWritable, HasRecordLength}
 use Rattle.tape_blocks.specs.Records.{contents, AreRecordsOf, IsRefusedFor, IsRefusedOne}
 

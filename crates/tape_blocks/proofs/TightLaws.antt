@@ -5,7 +5,7 @@ use Rattle.std.specs.List.{AllByRecursion}
 use Rattle.std.proofs.lemmas.List.{append-nil}
 use Rattle.std.proofs.lemmas.List.Concat.{flat_map-cons, flat_map-append}
 use Rattle.tape_label.specs.declared.values.Format.TheVariants.{Spanned}
-use Rattle.tape_blocks.specs.declared.shape.Shape.{Shape}
+use Rattle.tape_blocks.specs.declared.parts.Shape.{Shape}
 use Rattle.tape_blocks.specs.Block.{Portion, spelling, spellings}
 use Rattle.tape_blocks.specs.Packing.{IsFull}
 use Rattle.tape_blocks.specs.Run.{AreClosed}

@@ -12,11 +12,11 @@ use Rattle.tape_label.proofs.DigitLaws.{digits-number_of, number_of-digits, numb
 use Rattle.tape_label.proofs.DigitLaws.{all_ascii_digits-digits}
 use Rattle.tape_label.specs.declared.values.Format.{Format}
 use Rattle.tape_label.specs.declared.values.Format.TheVariants.{Fixed, Counted, Spanned}
-use Rattle.tape_blocks.specs.declared.fault.BlockCause.TheVariants.{BadCount, PastEnd}
-use Rattle.tape_blocks.specs.declared.fault.BlockFault.{BlockFault}
-use Rattle.tape_blocks.specs.declared.part.Span.{Span}
-use Rattle.tape_blocks.specs.declared.part.Span.TheVariants.{Whole, First, Middle, Last}
-use Rattle.tape_blocks.specs.declared.unit.Found.{Found}
+use Rattle.tape_blocks.specs.declared.check.BlockCause.TheVariants.{BadCount, PastEnd}
+use Rattle.tape_blocks.specs.declared.check.BlockFault.{BlockFault}
+use Rattle.tape_blocks.specs.declared.parts.Span.{Span}
+use Rattle.tape_blocks.specs.declared.parts.Span.TheVariants.{Whole, First, Middle, Last}
+use Rattle.tape_blocks.specs.declared.check.Found.{Found}
 use Rattle.tape_blocks.specs.Block.{Portion, indicator, head_len, spelling, IsUnit, first_other}
 use Rattle.tape_blocks.specs.Block.{span_by}
 use Rattle.tape_blocks.specs.Parts.{portion}

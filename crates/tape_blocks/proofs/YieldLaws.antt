@@ -2,8 +2,8 @@
 use Rattle.std.proofs.Common.{◌≡◌, List, [], ◌∷◌, ◌++◌, ap, ◌∙◌, map, refl}
 use Rattle.std.specs.Iterator.{YieldsFirstBy, Yields}
 use Rattle.tape_blocks.specs.declared.parts.Parts.{Parts}
-use Rattle.tape_blocks.specs.declared.part.Part.{Part}
-use Rattle.tape_blocks.specs.declared.part.Span.{Span}
+use Rattle.tape_blocks.specs.declared.parts.Part.{Part}
+use Rattle.tape_blocks.specs.declared.parts.Span.{Span}
 use Rattle.tape_blocks.specs.Block.{Portion}
 use Rattle.tape_blocks.specs.Parts.{view}
 use Rattle.tape_blocks.specs.PartsLeft.{parts_left}

@@ -6,8 +6,8 @@ use Rattle.std.specs.List.{position, flat_map, AllByRecursion}
 use Rattle.tape_label.specs.Digits.{digits}
 use Rattle.tape_label.specs.declared.values.Format.{Format}
 use Rattle.tape_label.specs.declared.values.Format.TheVariants.{Fixed, Counted, Spanned}
-use Rattle.tape_blocks.specs.declared.part.Span.{Span}
-use Rattle.tape_blocks.specs.declared.part.Span.TheVariants.{Whole, First, Middle, Last}
+use Rattle.tape_blocks.specs.declared.parts.Span.{Span}
+use Rattle.tape_blocks.specs.declared.parts.Span.TheVariants.{Whole, First, Middle, Last}
 
 -- a part: a record or a piece of one, wherever its bytes lie
 pub record Portion : Type 0 where

@@ -4,9 +4,9 @@ use Rattle.std.specs.Prelude.{◌≡◌, ◌≢◌, ◌≤◌, ◌<◌, ◌+◌,
 use Rattle.std.specs.Prelude.{length, drop, replicate, Option, is_some, Ok}
 use Rattle.tape_label.specs.declared.values.Format.{Format}
 use Rattle.tape_label.specs.declared.values.Format.TheVariants.{Spanned}
-use Rattle.tape_blocks.specs.declared.shape.Shape.{Shape}
-use Rattle.tape_blocks.specs.declared.fault.PackFault.TheVariants.{RecordLength, OutOfMemory}
-use Rattle.tape_blocks.specs.declared.part.Span.TheVariants.{Whole, First, Last}
+use Rattle.tape_blocks.specs.declared.parts.Shape.{Shape}
+use Rattle.tape_blocks.specs.declared.offer.PackFault.TheVariants.{RecordLength, OutOfMemory}
+use Rattle.tape_blocks.specs.declared.parts.Span.TheVariants.{Whole, First, Last}
 use Rattle.tape_blocks.specs.declared.offer.Offer.{Offer}
 use Rattle.tape_blocks.specs.declared.offer.Offer.TheVariants.{BlockReady}
 use Rattle.tape_blocks.specs.Block.{Portion, Holds}

@@ -1,7 +1,7 @@
 -- Blocks that pass.
 use Rattle.std.specs.Prelude.{ℕ, Bool, List}
 use Rattle.tape_label.specs.declared.values.Format.{Format}
-use Rattle.tape_blocks.specs.declared.shape.Shape.{Shape}
+use Rattle.tape_blocks.specs.declared.parts.Shape.{Shape}
 use Rattle.tape_blocks.specs.Block.{Portion, Holds}
 use Rattle.tape_blocks.specs.Spans.{InOrder}
 

@@ -7,12 +7,12 @@ use Rattle.std.specs.Str.{all_ascii_digits}
 use Rattle.tape_label.specs.Digits.{number_of}
 use Rattle.tape_label.specs.declared.values.Format.{Format}
 use Rattle.tape_label.specs.declared.values.Format.TheVariants.{Fixed, Counted, Spanned}
-use Rattle.tape_blocks.specs.declared.fault.BlockCause.{BlockCause}
-use Rattle.tape_blocks.specs.declared.fault.BlockCause.TheVariants.{ShortOffset, NotMultiple}
-use Rattle.tape_blocks.specs.declared.fault.BlockCause.TheVariants.{BadCount, PastEnd, BadIndicator}
-use Rattle.tape_blocks.specs.declared.fault.BlockCause.TheVariants.{SpanBroken, BadPadding}
-use Rattle.tape_blocks.specs.declared.fault.BlockFault.{BlockFault}
-use Rattle.tape_blocks.specs.declared.part.Span.{Span}
+use Rattle.tape_blocks.specs.declared.check.BlockCause.{BlockCause}
+use Rattle.tape_blocks.specs.declared.check.BlockCause.TheVariants.{ShortOffset, NotMultiple}
+use Rattle.tape_blocks.specs.declared.check.BlockCause.TheVariants.{BadCount, PastEnd, BadIndicator}
+use Rattle.tape_blocks.specs.declared.check.BlockCause.TheVariants.{SpanBroken, BadPadding}
+use Rattle.tape_blocks.specs.declared.check.BlockFault.{BlockFault}
+use Rattle.tape_blocks.specs.declared.parts.Span.{Span}
 use Rattle.tape_blocks.specs.Block.{Portion, span_by, first_other, spellings, BeginsWith}
 use Rattle.tape_blocks.specs.Spans.{continues, InOrder}
 

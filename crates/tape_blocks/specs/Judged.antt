@@ -2,8 +2,8 @@
 use Rattle.std.specs.Prelude.{ℕ, ◌+◌, nat_lt, Bool, List, [], ◌∷◌, length, drop, Option, Some, None}
 use Rattle.std.specs.Prelude.{Result, Ok, Err, if◌then◌else◌}
 use Rattle.tape_label.specs.declared.values.Format.{Format}
-use Rattle.tape_blocks.specs.declared.fault.BlockCause.TheVariants.{ShortOffset}
-use Rattle.tape_blocks.specs.declared.fault.BlockFault.{BlockFault}
+use Rattle.tape_blocks.specs.declared.check.BlockCause.TheVariants.{ShortOffset}
+use Rattle.tape_blocks.specs.declared.check.BlockFault.{BlockFault}
 use Rattle.tape_blocks.specs.Block.{Portion, spellings}
 use Rattle.tape_blocks.specs.Spans.{continues, leaves}
 use Rattle.tape_blocks.specs.Faults.{bool_eq, first_fault, tests, fault}

@@ -5,8 +5,8 @@ use Rattle.tape_label.specs.declared.values.Format.{Format}
 use Rattle.tape_label.specs.declared.values.Format.TheVariants.{Fixed, Spanned}
 use Rattle.tape_blocks.specs.Block.{Portion, Holds}
 use Rattle.std.specs.List.{AllByRecursion}
-use Rattle.tape_blocks.specs.declared.shape.Shape.{Shape}
-use Rattle.tape_blocks.specs.declared.fault.BlockFault.{BlockFault}
+use Rattle.tape_blocks.specs.declared.parts.Shape.{Shape}
+use Rattle.tape_blocks.specs.declared.check.BlockFault.{BlockFault}
 use Rattle.tape_blocks.specs.Faults.{HasFault}
 use Rattle.tape_blocks.specs.Checked.{Passes}
 use Rattle.tape_blocks.specs.Judged.{judged}

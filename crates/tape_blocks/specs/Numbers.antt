@@ -1,12 +1,12 @@
 -- The fixed numbers of the faults.
 use Rattle.std.specs.Prelude.{ℕ}
-use Rattle.tape_blocks.specs.declared.fault.BlockCause.{BlockCause}
-use Rattle.tape_blocks.specs.declared.fault.BlockCause.TheVariants.{ShortOffset, NotMultiple}
-use Rattle.tape_blocks.specs.declared.fault.BlockCause.TheVariants.{BadCount, PastEnd, BadIndicator}
-use Rattle.tape_blocks.specs.declared.fault.BlockCause.TheVariants.{SpanBroken, BadPadding}
-use Rattle.tape_blocks.specs.declared.fault.PackFault.{PackFault}
-use Rattle.tape_blocks.specs.declared.fault.PackFault.TheVariants.{RecordLength, ShapeRange}
-use Rattle.tape_blocks.specs.declared.fault.PackFault.TheVariants.{OutOfMemory}
+use Rattle.tape_blocks.specs.declared.check.BlockCause.{BlockCause}
+use Rattle.tape_blocks.specs.declared.check.BlockCause.TheVariants.{ShortOffset, NotMultiple}
+use Rattle.tape_blocks.specs.declared.check.BlockCause.TheVariants.{BadCount, PastEnd, BadIndicator}
+use Rattle.tape_blocks.specs.declared.check.BlockCause.TheVariants.{SpanBroken, BadPadding}
+use Rattle.tape_blocks.specs.declared.offer.PackFault.{PackFault}
+use Rattle.tape_blocks.specs.declared.offer.PackFault.TheVariants.{RecordLength, ShapeRange}
+use Rattle.tape_blocks.specs.declared.offer.PackFault.TheVariants.{OutOfMemory}
 
 -- of the causes for which a block is refused
 abbrev pub cause_number : BlockCause → ℕ

@@ -3,10 +3,10 @@ use Rattle.std.specs.Prelude.{ℕ, ◌≡◌, false, List, [], ◌∷◌, ◌++�
 use Rattle.std.specs.declared.alloc.Global.{Global}
 use Rattle.std.specs.declared.vec.Vec.{Vec}
 use Rattle.std.specs.List.{Contains, AllByRecursion}
-use Rattle.tape_blocks.specs.declared.fault.PackFault.{PackFault}
-use Rattle.tape_blocks.specs.declared.fault.PackFault.TheVariants.{RecordLength, ShapeRange}
-use Rattle.tape_blocks.specs.declared.fault.PackFault.TheVariants.{OutOfMemory}
-use Rattle.tape_blocks.specs.declared.shape.Shape.{Shape}
+use Rattle.tape_blocks.specs.declared.offer.PackFault.{PackFault}
+use Rattle.tape_blocks.specs.declared.offer.PackFault.TheVariants.{RecordLength, ShapeRange}
+use Rattle.tape_blocks.specs.declared.offer.PackFault.TheVariants.{OutOfMemory}
+use Rattle.tape_blocks.specs.declared.parts.Shape.{Shape}
 use Rattle.tape_blocks.specs.Packing.{Packing, IsWritable, HasRecordLength}
 use Rattle.tape_blocks.specs.Run.{RunOf}
 use Rattle.tape_blocks.specs.Tight.{Filled, bytes_of_all}

@@ -3,7 +3,7 @@
 use Rattle.std.specs.Prelude.{◌≡◌, ℕ, ◌<◌, true, false, List, [], ◌∷◌, ◌++◌, length, Option, None}
 use Rattle.std.specs.List.{AllByRecursion}
 use Rattle.tape_label.specs.declared.values.Format.TheVariants.{Spanned}
-use Rattle.tape_blocks.specs.declared.shape.Shape.{Shape}
+use Rattle.tape_blocks.specs.declared.parts.Shape.{Shape}
 use Rattle.tape_blocks.specs.Spans.{InOrder, content_after, join}
 use Rattle.tape_blocks.specs.Packing.{Packing, HasRecordLength, IsFull}
 use Rattle.tape_blocks.specs.Tight.{Filled, IsWritten, AreSegments, first_len, parts_of_all}

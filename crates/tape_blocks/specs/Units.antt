@@ -6,12 +6,12 @@ use Rattle.std.specs.Str.{all_ascii_digits}
 use Rattle.tape_label.specs.Digits.{number_of}
 use Rattle.tape_label.specs.declared.values.Format.{Format}
 use Rattle.tape_label.specs.declared.values.Format.TheVariants.{Fixed, Counted, Spanned}
-use Rattle.tape_blocks.specs.declared.fault.BlockCause.TheVariants.{NotMultiple, BadCount, PastEnd}
-use Rattle.tape_blocks.specs.declared.fault.BlockCause.TheVariants.{BadIndicator, BadPadding}
-use Rattle.tape_blocks.specs.declared.fault.BlockFault.{BlockFault}
-use Rattle.tape_blocks.specs.declared.part.Span.{Span}
-use Rattle.tape_blocks.specs.declared.part.Span.TheVariants.{Whole}
-use Rattle.tape_blocks.specs.declared.unit.Found.{Found}
+use Rattle.tape_blocks.specs.declared.check.BlockCause.TheVariants.{NotMultiple, BadCount, PastEnd}
+use Rattle.tape_blocks.specs.declared.check.BlockCause.TheVariants.{BadIndicator, BadPadding}
+use Rattle.tape_blocks.specs.declared.check.BlockFault.{BlockFault}
+use Rattle.tape_blocks.specs.declared.parts.Span.{Span}
+use Rattle.tape_blocks.specs.declared.parts.Span.TheVariants.{Whole}
+use Rattle.tape_blocks.specs.declared.check.Found.{Found}
 use Rattle.tape_blocks.specs.Block.{first_other, span_by}
 use Rattle.tape_blocks.specs.Faults.{fault}
 

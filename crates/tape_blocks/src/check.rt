@@ -1,17 +1,216 @@
-//! Blocks checked.
+//! Blocks checked, and why one is refused.
 
-ghost use Rattle.std.specs.Prelude.{◌≡◌, Bool, List, IfOk, IfErr, Ok, Err};
-ghost use Rattle.tape_blocks.specs.declared.fault.BlockFault.{BlockFault};
-ghost use Rattle.tape_blocks.specs.Block.{Portion, Holds};
+ghost use Rattle.std.specs.Prelude.{◌≡◌, Bool, List, IfOk, IfErr, Ok, Err, ◌≤◌, ◌<◌, length};
+ghost use Rattle.std.specs.Prelude.{IfSome, None};
+ghost use Rattle.tape_blocks.specs.declared.check.BlockFault.{BlockFault};
+ghost use Rattle.tape_blocks.specs.Block.{Portion, Holds, first_other, span_by};
 ghost use Rattle.tape_blocks.specs.Checked.{Passes};
 ghost use Rattle.tape_blocks.specs.Faults.{HasFault, bool_eq};
 ghost use Rattle.tape_blocks.specs.Judged.{judged};
 ghost use Rattle.tape_blocks.specs.Spans.{InOrder, continues};
+ghost use Rattle.tape_blocks.specs.Units.{unit_at, counted, padding_by};
+ghost use Rattle.tape_blocks.specs.Numbers.{cause_number};
 
-use crate::fault::{BlockCause, BlockFault};
-use crate::part::Span;
-use crate::shape::Shape;
-use crate::unit::unit_at;
+use crate::parts::{Shape, Span};
+use tape_label::{Format, digits_value};
+use thiserror::Error;
+
+/// What is wrong at a place of a block.
+#[derive(Clone, Copy, Debug, PartialEq, Eq, Error)]
+pub enum BlockCause {
+    /// The block is shorter than its offset.
+    #[error("the block is shorter than its offset")]
+    ShortOffset,
+    /// Behind whole records of format F stands a rest that is shorter than a record and not all
+    /// circumflexes.
+    #[error("the block is no multiple of the record length")]
+    NotMultiple,
+    /// A count has fewer than four characters or one that is no digit, or counts less than what
+    /// stands before the content.
+    #[error("a count is no count")]
+    BadCount,
+    /// A count is more than what is left of the block.
+    #[error("a record ends past the block")]
+    PastEnd,
+    /// A segment of format S begins with none of the indicators `0` to `3`.
+    #[error("an indicator is no indicator")]
+    BadIndicator,
+    /// A part goes on with a record that has not begun, or begins one where another has not ended.
+    #[error("a record does not go on as it began")]
+    SpanBroken,
+    /// In the padding stands a byte that is no circumflex.
+    #[error("the padding has another byte")]
+    BadPadding,
+}
+
+impl BlockCause {
+    /// The cause's fixed number, from 1 to 7.
+    pub fn number(&self) -> u8
+        ensures { result ≡ cause_number self.now }
+    {
+        match self {
+            BlockCause::ShortOffset => 1,
+            BlockCause::NotMultiple => 2,
+            BlockCause::BadCount => 3,
+            BlockCause::PastEnd => 4,
+            BlockCause::BadIndicator => 5,
+            BlockCause::SpanBroken => 6,
+            BlockCause::BadPadding => 7,
+        }
+    }
+}
+
+/// Why a block is refused, and where.
+#[derive(Clone, Copy, Debug, PartialEq, Eq, Error)]
+#[error("{cause}, at {place}")]
+pub struct BlockFault {
+    /// The byte of the block, counted from 0, at which it is wrong.
+    pub place: usize,
+    /// What is wrong there.
+    pub cause: BlockCause,
+}
+
+impl BlockFault {
+    /// The fixed number of the cause, from 1 to 7.
+    pub fn number(&self) -> u8
+        ensures { result ≡ cause_number self.now.cause }
+    {
+        self.cause.number()
+    }
+}
+
+/// A unit: its span, the length of what stands before its content, and its whole length.
+#[derive(Clone, Copy, Debug, PartialEq, Eq)]
+pub(crate) struct Found {
+    pub span: Span,
+    pub head: usize,
+    pub len: usize,
+}
+
+/// No unit stands at the front, for this cause.
+fn fault(cause: BlockCause) -> Result<Option<Found>, BlockFault>
+    ensures { result ≡ Err (record { place = 0; cause = cause }) }
+{
+    Err(BlockFault { place: 0, cause })
+}
+
+/// The first place of a byte that is no circumflex.
+fn first_other(bytes: &[u8]) -> Option<usize>
+    ensures value { result ≡ first_other bytes.now }
+    ensures inside { IfSome result (λ place. place < length bytes.now) }
+{
+    bytes.iter().position(|c| *c != b'^')
+}
+
+/// Padding up to the end, or the first other byte.
+fn padding(bytes: &[u8]) -> Result<Option<Found>, BlockFault>
+    ensures exact { result ≡ padding_by (first_other bytes.now) }
+    ensures none { IfOk result (λ unit. unit ≡ None) }
+    ensures place { IfErr result (λ f. f.place ≤ length bytes.now) }
+{
+    match first_other(bytes) {
+        None => Ok(None),
+        Some(place) => Err(BlockFault {
+            place,
+            cause: BlockCause::BadPadding,
+        }),
+    }
+}
+
+/// The span that a character indicates.
+fn span_by(indicator: u8) -> Option<Span>
+    ensures { result ≡ span_by indicator }
+{
+    match indicator {
+        b'0' => Some(Span::Whole),
+        b'1' => Some(Span::First),
+        b'2' => Some(Span::Middle),
+        b'3' => Some(Span::Last),
+        _ => None,
+    }
+}
+
+/// A unit with a count, which stands in the last four characters of the head and counts the head
+/// too.
+#[inline(always)]
+fn counted(span: Span, head: usize, bytes: &[u8]) -> Result<Option<Found>, BlockFault>
+    requires { 4 ≤ head }
+    ensures exact { result ≡ counted span head bytes.now }
+    ensures inside { IfOk result (λ unit. IfSome unit (λ found.
+        (head ≤ found.len) × (found.head ≤ found.len) × (found.len ≤ length bytes.now))) }
+    ensures place { IfErr result (λ f. f.place ≡ 0) }
+{
+    if bytes.len() < head {
+        return fault(BlockCause::BadCount);
+    }
+    match digits_value(&bytes[head - 4..head]) {
+        None => fault(BlockCause::BadCount),
+        Some(count) if (count as usize) < head => fault(BlockCause::BadCount),
+        Some(count) if bytes.len() < count as usize => fault(BlockCause::PastEnd),
+        Some(count) => Ok(Some(Found {
+            span,
+            head,
+            len: count as usize,
+        })),
+    }
+}
+
+/// A record of the fixed length. A rest that is shorter than one is padding.
+#[tactic(auto, unfolding(crate::specs::Units::unit_at))]
+#[inline(always)]
+fn fixed(rec_len: usize, bytes: &[u8]) -> Result<Option<Found>, BlockFault>
+    ensures exact { result ≡ unit_at Format.Fixed rec_len bytes.now }
+    ensures inside { IfOk result (λ unit. IfSome unit (λ found.
+        (found.head ≤ found.len) × (found.len ≤ length bytes.now))) }
+    ensures more { IfOk result (λ unit. IfSome unit (λ found. found.len ≡ rec_len)) }
+    ensures place { IfErr result (λ f. f.place ≡ 0) }
+{
+    if bytes.len() >= rec_len {
+        return Ok(Some(Found {
+            span: Span::Whole,
+            head: 0,
+            len: rec_len,
+        }));
+    }
+    match first_other(bytes) {
+        None => Ok(None),
+        Some(_) => fault(BlockCause::NotMultiple),
+    }
+}
+
+/// The unit at the front, or none where padding stands. The fault's place is counted from the
+/// front.
+#[tactic(auto, unfolding(crate::specs::Units::unit_at))]
+#[inline(always)]
+pub(crate) fn unit_at(
+    format: Format,
+    rec_len: usize,
+    bytes: &[u8],
+) -> Result<Option<Found>, BlockFault>
+    ensures exact { result ≡ unit_at format rec_len bytes.now }
+    ensures inside { IfOk result (λ unit. IfSome unit (λ found.
+        (found.head ≤ found.len) × (found.len ≤ length bytes.now))) }
+    ensures more { IfOk result (λ unit. IfSome unit (λ found.
+        (format ≡ Format.Fixed → 1 ≤ rec_len) → 1 ≤ found.len)) }
+    ensures place { IfErr result (λ f. f.place ≤ length bytes.now) }
+{
+    match format {
+        Format::Fixed => fixed(rec_len, bytes),
+        Format::Counted => match bytes {
+            [] => Ok(None),
+            [b'^', ..] => padding(bytes),
+            _ => counted(Span::Whole, 4, bytes),
+        },
+        Format::Spanned => match bytes {
+            [] => Ok(None),
+            [b'^', ..] => padding(bytes),
+            [indicator, ..] => match span_by(*indicator) {
+                None => fault(BlockCause::BadIndicator),
+                Some(span) => counted(span, 5, bytes),
+            },
+        },
+    }
+}
 
 /// Whether the span may stand where a record is begun or not.
 fn may_follow(span: Span, begun: bool) -> bool

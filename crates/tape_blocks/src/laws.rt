@@ -10,11 +10,9 @@ ghost use Rattle.tape_blocks.specs.Records.{contents, IsRefusedFor};
 ghost use Rattle.tape_blocks.specs.Cases.{CasesOfOffers, CasesOfBlocks, CasesOfLaws};
 ghost use Rattle.tape_blocks.specs.Checked.{IsChecked};
 
-use crate::fault::PackFault;
+use crate::offer::PackFault;
 use crate::packing::pack_all;
-use crate::part::Span;
-use crate::parts::Parts;
-use crate::shape::Shape;
+use crate::parts::{Parts, Shape, Span};
 use std::alloc::{AllocError, Global};
 use tape_label::Format;
 

@@ -2,25 +2,16 @@
 #![tactic(auto)]
 
 mod check;
-mod fault;
-mod form;
 pub mod laws;
 mod offer;
 mod packer;
 mod packing;
-mod part;
 mod parts;
 mod put;
-mod shape;
-mod unit;
 mod writing;
 
-pub use check::check_block;
-pub use fault::{BlockCause, BlockFault, PackFault};
-pub use form::Form;
-pub use offer::Offer;
+pub use check::{BlockCause, BlockFault, check_block};
+pub use offer::{Offer, PackFault};
 pub use packer::Packer;
 pub use packing::pack_all;
-pub use part::{Part, Span};
-pub use parts::Parts;
-pub use shape::Shape;
+pub use parts::{Form, Part, Parts, Shape, Span};

@@ -1,4 +1,9 @@
-//! What an offer answers.
+//! What an offer answers, and why a packer refuses.
+
+ghost use Rattle.std.specs.Prelude.{◌≡◌};
+ghost use Rattle.tape_blocks.specs.Numbers.{pack_fault_number};
+
+use thiserror::Error;
 
 /// What became of the rest of a record that was offered to a packer.
 #[derive(Clone, Copy, Debug, PartialEq, Eq)]
@@ -8,4 +13,31 @@ pub enum Offer {
     /// So many of its first bytes were taken, and the block is closed: take it, and offer what
     /// remains.
     BlockReady(usize),
+}
+
+/// Why a packer refuses.
+#[derive(Clone, Copy, Debug, PartialEq, Eq, Error)]
+pub enum PackFault {
+    /// The record has a length that its shape does not allow.
+    #[error("the record's length is not one of its shape")]
+    RecordLength,
+    /// Blocks of this shape are not written.
+    #[error("blocks of this shape are not written")]
+    ShapeRange,
+    /// Memory was refused.
+    #[error("out of memory")]
+    OutOfMemory,
+}
+
+impl PackFault {
+    /// The fault's fixed number, from 8 to 10.
+    pub fn number(&self) -> u8
+        ensures { result ≡ pack_fault_number self.now }
+    {
+        match self {
+            PackFault::RecordLength => 8,
+            PackFault::ShapeRange => 9,
+            PackFault::OutOfMemory => 10,
+        }
+    }
 }

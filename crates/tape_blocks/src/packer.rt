@@ -3,17 +3,16 @@
 ghost use Rattle.std.specs.Prelude.{◌≡◌, ◌≢◌, ◌+◌, ◌≤◌, ◌⊎◌, [], true, false, IfOk, IfErr, IfSome};
 ghost use Rattle.std.specs.Prelude.{IfNone, length, replicate, vec_capacity, ⊤, IsTrue, ◌↔◌};
 ghost use Rattle.std.specs.Borrow.{sem};
+ghost use mathlib.Core.Option.{none};
+ghost use denote.Follow.{follows_so};
 ghost use Rattle.tape_blocks.specs.Block.{Portion, IsUnit, head_len};
 ghost use Rattle.tape_blocks.specs.Packing.{Packing, Given, IsWritable, Offers, IsJudged};
 ghost use Rattle.tape_blocks.specs.Packing.{IsRefused, emptied, size_of, with_part};
 ghost use Rattle.tape_blocks.specs.Spans.{span_of};
-ghost use mathlib.Core.Option.{none};
-ghost use denote.Follow.{follows_so};
 
-use crate::fault::PackFault;
-use crate::offer::Offer;
+use crate::offer::{Offer, PackFault};
+use crate::parts::Shape;
 use crate::put::{put_padding, put_unit};
-use crate::shape::Shape;
 use crate::writing::{has_record_length, has_room, head_len, padded_len, span};
 use std::alloc::{AllocError, Global};
 use std::marker::Model;

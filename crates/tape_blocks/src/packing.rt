@@ -6,10 +6,9 @@ ghost use Rattle.tape_blocks.specs.Records.{contents, AreRecordsOf, IsRefusedFor
 ghost use Rattle.tape_blocks.specs.Records.{PutsRecord};
 ghost use Rattle.tape_blocks.specs.Tight.{Packs};
 
-use crate::fault::PackFault;
-use crate::offer::Offer;
+use crate::offer::{Offer, PackFault};
 use crate::packer::Packer;
-use crate::shape::Shape;
+use crate::parts::Shape;
 use std::alloc::Global;
 
 /// A copy of the block under way, if there is one, behind the others.

@@ -4,7 +4,7 @@ ghost use Rattle.std.specs.Prelude.{◌≡◌, ◌≢◌, ◌+◌, ◌-◌, ◌<
 ghost use Rattle.tape_label.specs.Digits.{digits};
 ghost use Rattle.tape_blocks.specs.Block.{Portion, IsUnit, spelling, indicator, head_len};
 
-use crate::part::Span;
+use crate::parts::Span;
 use crate::writing::head_len;
 use tape_label::{Format, digits_of};
 

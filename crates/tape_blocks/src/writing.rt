@@ -5,8 +5,7 @@ ghost use Rattle.tape_blocks.specs.Block.{head_len};
 ghost use Rattle.tape_blocks.specs.Packing.{HasRecordLength, padded_len, least_room};
 ghost use Rattle.tape_blocks.specs.Spans.{span_of};
 
-use crate::part::Span;
-use crate::shape::Shape;
+use crate::parts::{Shape, Span};
 use tape_label::Format;
 
 /// Whether a record of this length is written.

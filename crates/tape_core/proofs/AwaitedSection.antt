@@ -16,7 +16,7 @@ use Rattle.tape_set.proofs.Numbering.{FileOf, section_found}
 use Rattle.tape_set.proofs.Reaching.{passes_longer, passes_length}
 use Rattle.tape_set.proofs.Volumes.{IsOn}
 use Rattle.tape_set.proofs.Forms.{one_form, forms_alike, form_told}
-use Rattle.tape_core.specs.declared.phase.Heading.{Heading}
+use Rattle.tape_core.specs.declared.event.Heading.{Heading}
 use Rattle.tape_core.specs.State.{State}
 use Rattle.tape_core.specs.Follows.{FileTells, KnownAt, IsAt, reading, to_come, Among, Inside}
 use Rattle.tape_core.specs.Follows.{Reached}

@@ -11,14 +11,14 @@ use Rattle.tape_set.specs.Layout.{nth, data_group, trailer_group, entries, secti
 use Rattle.tape_set.specs.Before.{parts_at}
 use Rattle.tape_set.specs.Lawful.{FileForm, IsLawful}
 use Rattle.tape_set.specs.Reach.{good_run}
-use Rattle.tape_core.specs.declared.answer.Reason.{Reason}
-use Rattle.tape_core.specs.declared.answer.Reason.TheVariants.{BadItem, ReelEnded}
-use Rattle.tape_core.specs.declared.phase.Heading.{Heading}
-use Rattle.tape_core.specs.declared.phase.Phase.{Phase}
-use Rattle.tape_core.specs.declared.phase.Phase.TheVariants.{Over, Broken, Volume as AtVolume}
-use Rattle.tape_core.specs.declared.phase.Phase.TheVariants.{VolumeLabels, Header2, Headers}
-use Rattle.tape_core.specs.declared.phase.Phase.TheVariants.{DataPassed, DataWanted, TrailerPassed}
-use Rattle.tape_core.specs.declared.phase.Phase.TheVariants.{TrailerWanted, Trailers, NextFile}
+use Rattle.tape_core.specs.declared.event.Reason.{Reason}
+use Rattle.tape_core.specs.declared.event.Reason.TheVariants.{BadItem, ReelEnded}
+use Rattle.tape_core.specs.declared.event.Heading.{Heading}
+use Rattle.tape_core.specs.declared.event.Phase.{Phase}
+use Rattle.tape_core.specs.declared.event.Phase.TheVariants.{Over, Broken, Volume as AtVolume}
+use Rattle.tape_core.specs.declared.event.Phase.TheVariants.{VolumeLabels, Header2, Headers}
+use Rattle.tape_core.specs.declared.event.Phase.TheVariants.{DataPassed, DataWanted, TrailerPassed}
+use Rattle.tape_core.specs.declared.event.Phase.TheVariants.{TrailerWanted, Trailers, NextFile}
 use Rattle.tape_core.specs.State.{State}
 use Rattle.tape_core.specs.Table.{Outcome, useless, passed, at_bad}
 use Rattle.tape_core.specs.Follows.{IsAt, to_come, Left, Among, BarrenNext, BarrenTrailers}

@@ -23,7 +23,7 @@ use Rattle.tape_set.proofs.Numbering.{FileOf}
 use Rattle.tape_set.proofs.Volumes.{IsOn}
 use Rattle.tape_set.proofs.FileParts.{before_more, block_in_order, begun_behind-append, order_rest}
 use Rattle.tape_set.proofs.Forms.{one_form, blocks_held}
-use Rattle.tape_core.specs.declared.phase.Heading.{Heading}
+use Rattle.tape_core.specs.declared.event.Heading.{Heading}
 use Rattle.tape_core.specs.State.{State}
 use Rattle.tape_core.specs.Table.{Outcome, at_awaited}
 use Rattle.tape_core.specs.Follows.{FileTells, KnownAt, IsAt, Among, Inside, Reached, InData}

@@ -11,8 +11,8 @@ use Rattle.tape_set.specs.declared.position.Position.{Position}
 use Rattle.tape_set.specs.declared.position.Position.TheVariants.{Awaits}
 use Rattle.tape_set.specs.Position.{is_start}
 use Rattle.tape_set.specs.Lawful.{FileForm}
-use Rattle.tape_core.specs.declared.phase.Heading.{Heading}
-use Rattle.tape_core.specs.declared.phase.Phase.{Phase}
+use Rattle.tape_core.specs.declared.event.Heading.{Heading}
+use Rattle.tape_core.specs.declared.event.Phase.{Phase}
 use Rattle.tape_core.specs.Known.{IsForm, PositionFits}
 use Rattle.tape_core.specs.State.{IsState, State, ToldFits, told}
 

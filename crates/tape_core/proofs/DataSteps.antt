@@ -13,11 +13,11 @@ use Rattle.tape_set.specs.Layout.{a_mark, is_data, nth, data_group, trailer_grou
 use Rattle.tape_set.specs.Before.{parts_at}
 use Rattle.tape_set.specs.Lawful.{FileForm, IsLawful}
 use Rattle.tape_set.specs.Reach.{passes, far, before_data, moved, stopped, good_run}
-use Rattle.tape_core.specs.declared.answer.Reason.{Reason}
-use Rattle.tape_core.specs.declared.answer.Reason.TheVariants.{BadItem}
-use Rattle.tape_core.specs.declared.phase.Heading.{Heading}
-use Rattle.tape_core.specs.declared.phase.Phase.{Phase}
-use Rattle.tape_core.specs.declared.phase.Phase.TheVariants.{Over, DataWanted, TrailerWanted}
+use Rattle.tape_core.specs.declared.event.Reason.{Reason}
+use Rattle.tape_core.specs.declared.event.Reason.TheVariants.{BadItem}
+use Rattle.tape_core.specs.declared.event.Heading.{Heading}
+use Rattle.tape_core.specs.declared.event.Phase.{Phase}
+use Rattle.tape_core.specs.declared.event.Phase.TheVariants.{Over, DataWanted, TrailerWanted}
 use Rattle.tape_core.specs.State.{State}
 use Rattle.tape_core.specs.Table.{Outcome, useless, passed}
 use Rattle.tape_core.specs.Follows.{IsAt, reading, Among, Inside, Reached, InData}

@@ -4,14 +4,14 @@ use Rattle.std.proofs.Common.{Option, Some, None, Ok, ap, sym, subst, inl, inr, 
 use Rattle.tape_label.specs.Kinds.{kind_at}
 use Rattle.tape_label.specs.Reading.{head_at, head1_at}
 use Rattle.tape_label.specs.VolumeLabels.{is_volume_label}
-use Rattle.tape_blocks.specs.declared.part.Part.{Part}
+use Rattle.tape_blocks.specs.declared.parts.Part.{Part}
 use Rattle.tape_blocks.specs.Block.{Portion}
 use Rattle.tape_blocks.specs.Parts.{view}
 use Rattle.tape_set.specs.Layout.{FileSet}
 use Rattle.tape_set.specs.Lawful.{FileForm}
 use Rattle.tape_set.specs.declared.position.Position.TheVariants.{Awaits}
 use Rattle.tape_set.specs.Position.{start, awaiting}
-use Rattle.tape_core.specs.declared.phase.Phase.TheVariants.{Broken}
+use Rattle.tape_core.specs.declared.event.Phase.TheVariants.{Broken}
 use Rattle.tape_core.specs.Follows.{IsAt, KnownAt, FileTells}
 use Rattle.tape_core.specs.Point.{Point}
 use Rattle.tape_core.specs.Stands.{inside_block}

@@ -20,14 +20,14 @@ use Rattle.tape_set.specs.Lawful.{FileForm, IsLawful, IsVolume}
 use Rattle.tape_set.specs.Reach.{good_run}
 use Rattle.tape_set.proofs.Everywhere.{every_at, nth_found}
 use Rattle.tape_set.proofs.Volumes.{IsOn}
-use Rattle.tape_core.specs.declared.answer.Reason.{Reason}
-use Rattle.tape_core.specs.declared.answer.Reason.TheVariants.{NotLabelled, NotOnReel, ReelEnded}
-use Rattle.tape_core.specs.declared.phase.Heading.{Heading}
-use Rattle.tape_core.specs.declared.phase.Phase.{Phase}
-use Rattle.tape_core.specs.declared.phase.Phase.TheVariants.{Over, Broken, Volume as AtVolume}
-use Rattle.tape_core.specs.declared.phase.Phase.TheVariants.{VolumeLabels, Header2, Headers}
-use Rattle.tape_core.specs.declared.phase.Phase.TheVariants.{DataPassed, DataWanted, TrailerPassed}
-use Rattle.tape_core.specs.declared.phase.Phase.TheVariants.{TrailerWanted, Trailers, NextFile}
+use Rattle.tape_core.specs.declared.event.Reason.{Reason}
+use Rattle.tape_core.specs.declared.event.Reason.TheVariants.{NotLabelled, NotOnReel, ReelEnded}
+use Rattle.tape_core.specs.declared.event.Heading.{Heading}
+use Rattle.tape_core.specs.declared.event.Phase.{Phase}
+use Rattle.tape_core.specs.declared.event.Phase.TheVariants.{Over, Broken, Volume as AtVolume}
+use Rattle.tape_core.specs.declared.event.Phase.TheVariants.{VolumeLabels, Header2, Headers}
+use Rattle.tape_core.specs.declared.event.Phase.TheVariants.{DataPassed, DataWanted, TrailerPassed}
+use Rattle.tape_core.specs.declared.event.Phase.TheVariants.{TrailerWanted, Trailers, NextFile}
 use Rattle.tape_core.specs.Labels.{heading_of}
 use Rattle.tape_core.specs.State.{State}
 use Rattle.tape_core.specs.Table.{Outcome, useless, passed, at_block, at_item, at_head1, at_awaited}

@@ -26,10 +26,10 @@ use Rattle.tape_set.specs.Lawful.{FileForm, IsLawful, IsHeader, TellsForm, form_
 use Rattle.tape_set.specs.Reach.{passes, before_data, stopped, good_run}
 use Rattle.tape_set.proofs.Volumes.{IsOn}
 use Rattle.tape_set.proofs.Forms.{head1_same}
-use Rattle.tape_core.specs.declared.answer.Reason.{Reason}
-use Rattle.tape_core.specs.declared.phase.Heading.{Heading}
-use Rattle.tape_core.specs.declared.phase.Phase.{Phase}
-use Rattle.tape_core.specs.declared.phase.Phase.TheVariants.{Over}
+use Rattle.tape_core.specs.declared.event.Reason.{Reason}
+use Rattle.tape_core.specs.declared.event.Heading.{Heading}
+use Rattle.tape_core.specs.declared.event.Phase.{Phase}
+use Rattle.tape_core.specs.declared.event.Phase.TheVariants.{Over}
 use Rattle.tape_core.specs.Labels.{heading_of, form_at, other_file_id, other_shape}
 use Rattle.tape_core.specs.State.{State, is_broken}
 use Rattle.tape_core.specs.Table.{Outcome, in_phase, useless, passed, at_head1, data_phase}

@@ -9,9 +9,9 @@ use Rattle.tape_set.specs.declared.position.Position.TheVariants.{Awaits, Finish
 use Rattle.tape_set.specs.Layout.{FileSet, Volume, item_of, nth, entries, items}
 use Rattle.tape_set.specs.Lawful.{IsLawful}
 use Rattle.tape_set.specs.Reach.{passes}
-use Rattle.tape_core.specs.declared.answer.Reason.{Reason}
-use Rattle.tape_core.specs.declared.answer.Reason.TheVariants.{ReelEnded}
-use Rattle.tape_core.specs.declared.phase.Phase.TheVariants.{Over}
+use Rattle.tape_core.specs.declared.event.Reason.{Reason}
+use Rattle.tape_core.specs.declared.event.Reason.TheVariants.{ReelEnded}
+use Rattle.tape_core.specs.declared.event.Phase.TheVariants.{Over}
 use Rattle.tape_core.specs.State.{State}
 use Rattle.tape_core.specs.Table.{Outcome, useless, at_item, unless_complete, step_of}
 use Rattle.tape_core.specs.Follows.{IsAt, Follows, IsReading, Idle}

@@ -15,7 +15,7 @@ use Rattle.tape_label.specs.Trail1.{IsTrail1}
 use Rattle.tape_label.proofs.Apart.{HasKind-unique}
 use Rattle.tape_label.proofs.VolumeLabels.{volume_label_again, no_volume_label}
 use Rattle.tape_set.specs.Lawful.{FileForm, IsVolumeLabel}
-use Rattle.tape_core.specs.declared.phase.Heading.{Heading}
+use Rattle.tape_core.specs.declared.event.Heading.{Heading}
 use Rattle.tape_label.specs.VolumeLabels.{is_volume_label}
 use Rattle.tape_core.specs.Labels.{same_shape, other_shape, other_file_id}
 use Rattle.tape_core.specs.Follows.{FitsHeading, IsNoHeader}

@@ -5,7 +5,7 @@ use Rattle.std.specs.Prelude.{slice_get, slice_range}
 use Rattle.std.proofs.lemmas.List.{drop-take, take-take, take-append-le, drop_at, take_all}
 use Rattle.std.proofs.lemmas.List.{length-take-le, length-drop}
 use Rattle.tape_blocks.specs.Block.{Portion}
-use Rattle.tape_core.specs.declared.entry.Entry.{Entry}
+use Rattle.tape_core.specs.declared.event.Entry.{Entry}
 use Rattle.tape_core.specs.Entries.{part_at, parts_from, end_from, AreLaid, IsLaid}
 use Rattle.tape_core.specs.Stands.{weight_of}
 

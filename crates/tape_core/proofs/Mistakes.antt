@@ -8,12 +8,12 @@ use Rattle.tape_label.specs.Kinds.{kind_at}
 use Rattle.tape_label.specs.Reading.{head1_at, trail1_at}
 use Rattle.tape_set.specs.declared.position.Position.TheVariants.{Awaits}
 use Rattle.tape_set.specs.Position.{part_of}
-use Rattle.tape_core.specs.declared.answer.Answer.TheVariants.{Passed, Deliver, Complete}
-use Rattle.tape_core.specs.declared.answer.Answer.TheVariants.{SectionDone, Useless}
-use Rattle.tape_core.specs.declared.answer.Reason.TheVariants as reasons
+use Rattle.tape_core.specs.declared.event.Answer.TheVariants.{Passed, Deliver, Complete}
+use Rattle.tape_core.specs.declared.event.Answer.TheVariants.{SectionDone, Useless}
+use Rattle.tape_core.specs.declared.event.Reason.TheVariants as reasons
 use Rattle.tape_core.specs.declared.event.Event.{Event}
 use Rattle.tape_core.specs.declared.event.Event.TheVariants as events
-use Rattle.tape_core.specs.declared.phase.Phase.TheVariants as phases
+use Rattle.tape_core.specs.declared.event.Phase.TheVariants as phases
 use Rattle.tape_core.specs.State.{State}
 use Rattle.tape_core.specs.Table.{at_wanted_trailer, at_head1, first_label}
 use Rattle.tape_core.proofs.Cases.{fixed, at_start, inside, headed, head, trailer}

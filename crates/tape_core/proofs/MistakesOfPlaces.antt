@@ -7,8 +7,8 @@ use Rattle.tape_set.specs.declared.position.Position.TheVariants.{Awaits}
 use Rattle.tape_set.specs.declared.position.Want.{Want}
 use Rattle.tape_set.specs.Position.{at_part, part_of, want_at}
 use Rattle.tape_set.specs.Lawful.{FileForm}
-use Rattle.tape_core.specs.declared.fault.CoreFault.TheVariants.{FileNumber, OtherFile}
-use Rattle.tape_core.specs.declared.phase.Phase.TheVariants as phases
+use Rattle.tape_core.specs.declared.event.CoreFault.TheVariants.{FileNumber, OtherFile}
+use Rattle.tape_core.specs.declared.event.Phase.TheVariants as phases
 use Rattle.tape_core.specs.Faults as faults
 use Rattle.tape_core.specs.Known.{IsFileNumber}
 use Rattle.tape_core.specs.Point.{Point}
@@ -17,8 +17,8 @@ use Rattle.tape_core.proofs.Cases.{at_start}
 use Rattle.tape_core.proofs.checkpoint.Checkpoint.from_parts.Reads as point_of
 use Rattle.tape_core.proofs.checkpoint.Checkpoint.inside_block.Reads as inside_block
 use Rattle.tape_core.proofs.checkpoint.Checkpoint.position.Reads as position
-use Rattle.tape_core.proofs.fault.CoreFault.number.Reads as number
-use Rattle.tape_core.proofs.known.Known.from_parts.Reads as form_of
+use Rattle.tape_core.proofs.event.CoreFault.number.Reads as number
+use Rattle.tape_core.proofs.checkpoint.Known.from_parts.Reads as form_of
 use Rattle.tape_core.proofs.reader.ReaderCore.mount.Reads as mount
 use Rattle.tape_core.proofs.reader.ReaderCore.new.Reads as new
 use Rattle.tape_core.proofs.reader.ReaderCore.restart.Reads as restart

@@ -11,12 +11,12 @@ use Rattle.tape_set.specs.Layout.{data_group, trailer_group, entries, section_of
 use Rattle.tape_set.specs.Before.{parts_at}
 use Rattle.tape_set.specs.Lawful.{IsLawful}
 use Rattle.tape_set.specs.Reach.{passes, far, moved, stopped}
-use Rattle.tape_core.specs.declared.phase.Heading.{Heading}
-use Rattle.tape_core.specs.declared.phase.Phase.{Phase}
-use Rattle.tape_core.specs.declared.phase.Phase.TheVariants.{Over, Broken, Volume as AtVolume}
-use Rattle.tape_core.specs.declared.phase.Phase.TheVariants.{VolumeLabels, Header2, Headers}
-use Rattle.tape_core.specs.declared.phase.Phase.TheVariants.{DataPassed, DataWanted, TrailerPassed}
-use Rattle.tape_core.specs.declared.phase.Phase.TheVariants.{TrailerWanted, Trailers, NextFile}
+use Rattle.tape_core.specs.declared.event.Heading.{Heading}
+use Rattle.tape_core.specs.declared.event.Phase.{Phase}
+use Rattle.tape_core.specs.declared.event.Phase.TheVariants.{Over, Broken, Volume as AtVolume}
+use Rattle.tape_core.specs.declared.event.Phase.TheVariants.{VolumeLabels, Header2, Headers}
+use Rattle.tape_core.specs.declared.event.Phase.TheVariants.{DataPassed, DataWanted, TrailerPassed}
+use Rattle.tape_core.specs.declared.event.Phase.TheVariants.{TrailerWanted, Trailers, NextFile}
 use Rattle.tape_core.specs.State.{State}
 use Rattle.tape_core.specs.Follows.{IsAt, reading, to_come, Left, Among, BarrenNext, BarrenTrailers}
 use Rattle.tape_core.specs.Follows.{BarrenTrailer, BarrenData, Inside, Reached, Follows}

@@ -8,13 +8,13 @@ use Rattle.std.proofs.lemmas.Slice.Eq.{bytes_eq-Decides}
 use Rattle.tape_image.specs.Tape.{TapeItem}
 use Rattle.tape_set.specs.declared.position.Position.{Position}
 use Rattle.tape_set.specs.declared.position.Position.TheVariants.{Awaits, Finished}
-use Rattle.tape_core.specs.declared.phase.Phase.{Phase}
-use Rattle.tape_core.specs.declared.phase.Phase.TheVariants.{Over, Broken, Volume, VolumeLabels}
-use Rattle.tape_core.specs.declared.phase.Phase.TheVariants.{Header2, Headers, DataPassed}
-use Rattle.tape_core.specs.declared.phase.Phase.TheVariants.{DataWanted, TrailerPassed}
-use Rattle.tape_core.specs.declared.phase.Phase.TheVariants.{TrailerWanted, Trailers, NextFile}
-use Rattle.tape_core.specs.declared.fault.CoreFault.{CoreFault}
-use Rattle.tape_core.specs.declared.fault.CoreFault.TheVariants.{OtherFile}
+use Rattle.tape_core.specs.declared.event.Phase.{Phase}
+use Rattle.tape_core.specs.declared.event.Phase.TheVariants.{Over, Broken, Volume, VolumeLabels}
+use Rattle.tape_core.specs.declared.event.Phase.TheVariants.{Header2, Headers, DataPassed}
+use Rattle.tape_core.specs.declared.event.Phase.TheVariants.{DataWanted, TrailerPassed}
+use Rattle.tape_core.specs.declared.event.Phase.TheVariants.{TrailerWanted, Trailers, NextFile}
+use Rattle.tape_core.specs.declared.event.CoreFault.{CoreFault}
+use Rattle.tape_core.specs.declared.event.CoreFault.TheVariants.{OtherFile}
 use Rattle.tape_core.specs.Point.{Point}
 use Rattle.tape_core.specs.State.{State, is_broken}
 use Rattle.tape_core.specs.Place.{resting, rest_of, place_of, IsPlaced}

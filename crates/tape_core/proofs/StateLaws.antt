@@ -7,7 +7,7 @@ use Rattle.std.proofs.lemmas.Bool.Decides.{nat_tests}
 use Rattle.std.specs.List.{AllByRecursion}
 use Rattle.tape_label.specs.declared.values.Format.{Format}
 use Rattle.tape_label.specs.declared.values.Format.TheVariants.{Fixed, Counted, Spanned}
-use Rattle.tape_blocks.specs.declared.part.Span.TheVariants.{Whole}
+use Rattle.tape_blocks.specs.declared.parts.Span.TheVariants.{Whole}
 use Rattle.tape_blocks.specs.Block.{Portion, IsUnit}
 use Rattle.tape_blocks.specs.Spans.{InOrder, leaves}
 use Rattle.tape_blocks.specs.Faults.{bool_eq}
@@ -16,12 +16,12 @@ use Rattle.tape_set.specs.declared.position.Position.{Position}
 use Rattle.tape_set.specs.Position.{is_start, awaiting}
 use Rattle.tape_set.specs.Lawful.{FileForm}
 use Rattle.tape_set.proofs.FileParts.{begun_behind-append}
-use Rattle.tape_core.specs.declared.phase.Phase.{Phase}
-use Rattle.tape_core.specs.declared.phase.Phase.TheVariants.{DataWanted, Over, Broken}
-use Rattle.tape_core.specs.declared.phase.Phase.TheVariants.{Volume as AtVolume, VolumeLabels}
-use Rattle.tape_core.specs.declared.phase.Phase.TheVariants.{Header2, Headers, DataPassed}
-use Rattle.tape_core.specs.declared.phase.Phase.TheVariants.{TrailerPassed, TrailerWanted, Trailers}
-use Rattle.tape_core.specs.declared.phase.Phase.TheVariants.{NextFile}
+use Rattle.tape_core.specs.declared.event.Phase.{Phase}
+use Rattle.tape_core.specs.declared.event.Phase.TheVariants.{DataWanted, Over, Broken}
+use Rattle.tape_core.specs.declared.event.Phase.TheVariants.{Volume as AtVolume, VolumeLabels}
+use Rattle.tape_core.specs.declared.event.Phase.TheVariants.{Header2, Headers, DataPassed}
+use Rattle.tape_core.specs.declared.event.Phase.TheVariants.{TrailerPassed, TrailerWanted, Trailers}
+use Rattle.tape_core.specs.declared.event.Phase.TheVariants.{NextFile}
 use Rattle.tape_core.specs.Known.{is_spanned}
 use Rattle.tape_core.specs.Parts.{parts_in, goes_on_at, begun_before, other_front}
 use Rattle.tape_core.specs.State.{ToldFits, is_broken}

@@ -6,8 +6,8 @@ use Rattle.std.proofs.Common.{inl, append_assoc, arith, length-append}
 use Rattle.std.specs.Prelude.{slice_get, map, ◌==◌}
 use Rattle.std.specs.List.{AllByRecursion}
 use Rattle.std.proofs.lemmas.Bool.Decides.{nat_tests}
-use Rattle.tape_label.specs.declared.fault.LabelFault.{LabelFault}
-use Rattle.tape_label.specs.declared.fault.LabelFault.TheVariants as faults
+use Rattle.tape_label.specs.declared.label.LabelFault.{LabelFault}
+use Rattle.tape_label.specs.declared.label.LabelFault.TheVariants as faults
 use Rattle.tape_label.specs.declared.values.Head1.{Head1}
 use Rattle.tape_label.specs.declared.values.Trail1.{Trail1}
 use Rattle.tape_label.specs.Reading.{head1_at, trail1_at}
@@ -22,12 +22,12 @@ use Rattle.tape_set.specs.Lawful.{IsLawful, IsSection}
 use Rattle.tape_set.proofs.Everywhere.{every, every_both, every_rest}
 use Rattle.tape_set.proofs.Volumes.{IsOn, sections_on_are}
 use Rattle.tape_set.proofs.Forms.{trail1_same}
-use Rattle.tape_core.specs.declared.answer.Reason.{Reason}
-use Rattle.tape_core.specs.declared.answer.Reason.TheVariants.{NotOnReel, SectionDiffers, BadLabel}
-use Rattle.tape_core.specs.declared.phase.Heading.{Heading}
-use Rattle.tape_core.specs.declared.phase.Phase.{Phase}
-use Rattle.tape_core.specs.declared.phase.Phase.TheVariants.{Over, DataPassed, TrailerPassed}
-use Rattle.tape_core.specs.declared.phase.Phase.TheVariants.{Trailers, NextFile}
+use Rattle.tape_core.specs.declared.event.Reason.{Reason}
+use Rattle.tape_core.specs.declared.event.Reason.TheVariants.{NotOnReel, SectionDiffers, BadLabel}
+use Rattle.tape_core.specs.declared.event.Heading.{Heading}
+use Rattle.tape_core.specs.declared.event.Phase.{Phase}
+use Rattle.tape_core.specs.declared.event.Phase.TheVariants.{Over, DataPassed, TrailerPassed}
+use Rattle.tape_core.specs.declared.event.Phase.TheVariants.{Trailers, NextFile}
 use Rattle.tape_core.specs.State.{State}
 use Rattle.tape_core.specs.Table.{Outcome, useless, passed, at_item, at_head1, at_passed_trailer}
 use Rattle.tape_core.specs.Table.{other_numbers}

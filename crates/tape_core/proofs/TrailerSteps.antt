@@ -20,11 +20,11 @@ use Rattle.tape_set.proofs.Numbering.{FileOf}
 use Rattle.tape_set.proofs.Volumes.{IsOn}
 use Rattle.tape_set.proofs.FileParts.{file_is, file_lawful, ends_at, before_next, before_end}
 use Rattle.tape_set.proofs.Forms.{one_form}
-use Rattle.tape_core.specs.declared.answer.Reason.{Reason}
-use Rattle.tape_core.specs.declared.answer.Reason.TheVariants.{BadItem}
-use Rattle.tape_core.specs.declared.phase.Heading.{Heading}
-use Rattle.tape_core.specs.declared.phase.Phase.{Phase}
-use Rattle.tape_core.specs.declared.phase.Phase.TheVariants.{Over}
+use Rattle.tape_core.specs.declared.event.Reason.{Reason}
+use Rattle.tape_core.specs.declared.event.Reason.TheVariants.{BadItem}
+use Rattle.tape_core.specs.declared.event.Heading.{Heading}
+use Rattle.tape_core.specs.declared.event.Phase.{Phase}
+use Rattle.tape_core.specs.declared.event.Phase.TheVariants.{Over}
 use Rattle.tape_core.specs.State.{State}
 use Rattle.tape_core.specs.Table.{Outcome, useless, passed, at_passed_trailer, at_wanted_trailer}
 use Rattle.tape_core.specs.Table.{at_end, other_numbers}

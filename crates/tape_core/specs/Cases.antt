@@ -4,9 +4,9 @@ use Rattle.std.specs.Prelude.{◌≡◌, ◌≢◌, ◌<◌, ◌≤◌, ◌+◌,
 use Rattle.std.specs.Prelude.{◌∷◌, ◌++◌, length, drop, replicate, codes, slice_get, Option, Some}
 use Rattle.std.specs.Prelude.{None, Result, Ok, Err}
 use Rattle.tape_image.specs.Tape.{TapeItem, block, bad, mark}
-use Rattle.tape_blocks.specs.declared.shape.Shape.{Shape}
-use Rattle.tape_blocks.specs.declared.part.Part.{Part}
-use Rattle.tape_blocks.specs.declared.part.Span.TheVariants.{Whole, First}
+use Rattle.tape_blocks.specs.declared.parts.Shape.{Shape}
+use Rattle.tape_blocks.specs.declared.parts.Part.{Part}
+use Rattle.tape_blocks.specs.declared.parts.Span.TheVariants.{Whole, First}
 use Rattle.tape_blocks.specs.Block.{Portion, Holds}
 use Rattle.tape_blocks.specs.Parts.{view}
 use Rattle.tape_blocks.specs.Spans.{InOrder}
@@ -18,9 +18,9 @@ use Rattle.tape_set.specs.Lawful.{FileForm, TellsForm}
 use Rattle.tape_set.specs.Before.{before, IsIn}
 use Rattle.tape_set.specs.Reach.{far}
 use Rattle.tape_blocks.specs.Judged.{begun_behind}
-use Rattle.tape_core.specs.declared.answer.Answer.TheVariants.{Passed, Deliver, Complete}
-use Rattle.tape_core.specs.declared.phase.Phase.TheVariants.{Over, Broken, Volume, VolumeLabels}
-use Rattle.tape_core.specs.declared.phase.Phase.TheVariants.{NextFile}
+use Rattle.tape_core.specs.declared.event.Answer.TheVariants.{Passed, Deliver, Complete}
+use Rattle.tape_core.specs.declared.event.Phase.TheVariants.{Over, Broken, Volume, VolumeLabels}
+use Rattle.tape_core.specs.declared.event.Phase.TheVariants.{NextFile}
 use Rattle.tape_core.specs.declared.sink.SinkFault.{SinkFault}
 use Rattle.tape_core.specs.Crash.{Returns, Crashes, IsThis, OnlyThis, ThisAlone}
 use Rattle.tape_core.specs.Crash.{AddsNothing, AddsOnly, lost}

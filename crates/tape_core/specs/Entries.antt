@@ -2,10 +2,10 @@
 use Rattle.std.specs.Prelude.{◌≡◌, ◌≤◌, ℕ, ◌+◌, List, [], ◌∷◌, length, slice_range, Option, Some}
 use Rattle.std.specs.Prelude.{None}
 use Rattle.std.proofs.Props.{props}
-use Rattle.tape_blocks.specs.declared.part.Part.{Part}
+use Rattle.tape_blocks.specs.declared.parts.Part.{Part}
 use Rattle.tape_blocks.specs.Parts.{view}
 use Rattle.tape_blocks.specs.Block.{Portion}
-use Rattle.tape_core.specs.declared.entry.Entry.{Entry}
+use Rattle.tape_core.specs.declared.event.Entry.{Entry}
 
 -- the part that an entry tells, which begins at `start` of the bytes
 abbrev pub part_at : ℕ → Entry → List ℕ → Portion

@@ -23,14 +23,14 @@ use Rattle.tape_set.specs.Before.{before, IsIn}
 use Rattle.tape_set.specs.Lawful.{FileForm, TellsForm, IsVolumeLabel}
 use Rattle.tape_set.specs.Reading.{Reading}
 use Rattle.tape_set.specs.Reach.{far, before_data, passes, good_run, stopped}
-use Rattle.tape_core.specs.declared.answer.Answer.{Answer}
-use Rattle.tape_core.specs.declared.answer.Answer.TheVariants.{Passed, Deliver}
-use Rattle.tape_core.specs.declared.phase.Heading.{Heading}
-use Rattle.tape_core.specs.declared.phase.Phase.{Phase}
-use Rattle.tape_core.specs.declared.phase.Phase.TheVariants.{Over, Broken, Volume, VolumeLabels}
-use Rattle.tape_core.specs.declared.phase.Phase.TheVariants.{Header2, Headers, DataPassed}
-use Rattle.tape_core.specs.declared.phase.Phase.TheVariants.{DataWanted, TrailerPassed}
-use Rattle.tape_core.specs.declared.phase.Phase.TheVariants.{TrailerWanted, Trailers, NextFile}
+use Rattle.tape_core.specs.declared.event.Answer.{Answer}
+use Rattle.tape_core.specs.declared.event.Answer.TheVariants.{Passed, Deliver}
+use Rattle.tape_core.specs.declared.event.Heading.{Heading}
+use Rattle.tape_core.specs.declared.event.Phase.{Phase}
+use Rattle.tape_core.specs.declared.event.Phase.TheVariants.{Over, Broken, Volume, VolumeLabels}
+use Rattle.tape_core.specs.declared.event.Phase.TheVariants.{Header2, Headers, DataPassed}
+use Rattle.tape_core.specs.declared.event.Phase.TheVariants.{DataWanted, TrailerPassed}
+use Rattle.tape_core.specs.declared.event.Phase.TheVariants.{TrailerWanted, Trailers, NextFile}
 use Rattle.tape_core.specs.Labels.{heading_of}
 use Rattle.tape_core.specs.Known.{is_finished}
 use Rattle.tape_core.specs.State.{State, is_broken}

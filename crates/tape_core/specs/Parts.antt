@@ -4,7 +4,7 @@ use Rattle.std.specs.Prelude.{ℕ, zero, suc, nat_le, ◌||◌, not, Bool, false
 use Rattle.std.specs.Prelude.{take, drop, Option, Some, None}
 use Rattle.tape_label.specs.declared.values.Format.{Format}
 use Rattle.tape_label.specs.declared.values.Format.TheVariants.{Fixed, Counted, Spanned}
-use Rattle.tape_blocks.specs.declared.part.Span.{Span}
+use Rattle.tape_blocks.specs.declared.parts.Span.{Span}
 use Rattle.tape_blocks.specs.Block.{Portion, span_by}
 use Rattle.tape_blocks.specs.Spans.{continues}
 use Rattle.tape_blocks.specs.Faults.{bool_eq}

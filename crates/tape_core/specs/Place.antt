@@ -3,8 +3,8 @@ use Rattle.std.specs.Prelude.{◌≡◌, List}
 use Rattle.tape_blocks.specs.Block.{Portion}
 use Rattle.tape_set.specs.Layout.{FileSet}
 use Rattle.tape_set.specs.Before.{before}
-use Rattle.tape_core.specs.declared.phase.Phase.{Phase}
-use Rattle.tape_core.specs.declared.phase.Phase.TheVariants.{Over, Broken}
+use Rattle.tape_core.specs.declared.event.Phase.{Phase}
+use Rattle.tape_core.specs.declared.event.Phase.TheVariants.{Over, Broken}
 use Rattle.tape_core.specs.State.{State}
 use Rattle.tape_core.specs.Point.{Point}
 use Rattle.tape_core.specs.Follows.{IsAt}

@@ -2,9 +2,9 @@
 use Rattle.std.specs.Prelude.{◌≡◌, ℕ, Bool, true, false, List, Option, Some, None}
 use Rattle.tape_set.specs.declared.position.Position.{Position}
 use Rattle.tape_set.specs.Lawful.{FileForm}
-use Rattle.tape_core.specs.declared.phase.Phase.{Phase}
-use Rattle.tape_core.specs.declared.phase.Phase.TheVariants.{Broken, Headers, DataWanted}
-use Rattle.tape_core.specs.declared.phase.Phase.TheVariants.{TrailerWanted}
+use Rattle.tape_core.specs.declared.event.Phase.{Phase}
+use Rattle.tape_core.specs.declared.event.Phase.TheVariants.{Broken, Headers, DataWanted}
+use Rattle.tape_core.specs.declared.event.Phase.TheVariants.{TrailerWanted}
 use Rattle.tape_core.specs.Known.{StandFits, IsFileNumber, is_spanned}
 
 pub record State : Type 0 where

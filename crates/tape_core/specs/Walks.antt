@@ -1,7 +1,7 @@
 -- What a sink gives back.
 use Rattle.std.specs.Prelude.{◌≡◌, ℕ, ◌<◌, ◌≤◌, length, List, [], ◌∷◌, Option, Some, None, Result}
 use Rattle.std.specs.Prelude.{Ok, Err}
-use Rattle.tape_blocks.specs.declared.part.Part.{Part}
+use Rattle.tape_blocks.specs.declared.parts.Part.{Part}
 use Rattle.tape_blocks.specs.Block.{Portion}
 use Rattle.tape_blocks.specs.Parts.{view}
 use Rattle.tape_core.specs.Crash.{AddsNothing, Crashes}

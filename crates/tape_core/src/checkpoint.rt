@@ -1,4 +1,4 @@
-//! Where the reading of a file stands, to be kept and gone back to.
+//! Checkpoints, what they know of the file, and which of them there are.
 
 ghost use Rattle.std.specs.Prelude.{◌≡◌, ◌↔◌, ◌<◌, ◌≤◌, ◌-◌, ◌++◌, ℕ, List, true, false, length};
 ghost use Rattle.std.specs.Prelude.{take, drop, is_some, IfSome, IsSome};
@@ -7,13 +7,12 @@ ghost use Rattle.tape_blocks.specs.Judged.{begun_behind};
 ghost use Rattle.tape_set.specs.Layout.{FileSet};
 ghost use Rattle.tape_set.specs.Before.{before};
 ghost use Rattle.tape_core.specs.Known.{PositionFits, StandFits, IsFileNumber, is_finished};
-ghost use Rattle.tape_core.specs.Known.{most_staged};
-ghost use Rattle.tape_core.specs.Range.{in_range};
+ghost use Rattle.tape_core.specs.Known.{most_staged, IsForm, may_span};
+ghost use Rattle.tape_core.specs.Range.{in_range, length_in_range, form_in_range};
+ghost use Rattle.tape_core.specs.Range.{position_in_range, known_where_due, may_begin};
 
-use crate::known::Known;
-use crate::range::{is_in_range, may_span};
 use std::marker::Model;
-use tape_label::Field;
+use tape_label::{Field, Format};
 use tape_set::Position;
 
 /// Where the reading of a file stands, and how much of it is kept.
@@ -197,5 +196,149 @@ impl Checkpoint {
         let begun = begun && may_span(&self.known);
         let position = p.at_part(part);
         Checkpoint::of(self.set_id, self.file, position, begun, self.known, staged)
+    }
+}
+
+/// What all sections of a file have alike, as their HDR1 and HDR2 told. Its numbers have their
+/// digits: the type holds that, and whoever makes one proves it.
+#[derive(Clone, Copy, Debug, PartialEq, Eq)]
+pub struct Known {
+    /// F, D or S.
+    pub format: Format,
+    /// The record length of format F, 1 to 99,999; 0 in the others, where it binds no reader.
+    pub rec_len: u32,
+    /// How many characters stand before the first record of each block, 0 to 99.
+    pub offset: u8,
+    /// The file identifier.
+    pub file_id: Field<17>,
+}
+
+// In contracts it is the form of the file.
+impl Model for Known {
+    ghost use Rattle.tape_set.specs.Lawful.{FileForm};
+    ghost use Rattle.tape_core.specs.Known.{IsForm};
+
+    ghost Value = { FileForm };
+
+    ghost view = { λ k. record {
+      file_id = k.file_id;
+      format = k.format;
+      rec_len = k.rec_len;
+      offset = k.offset;
+    } };
+
+    ghost invariant = { λ k. IsForm k.format k.rec_len k.offset };
+
+    ghost inverse = { λ f. record {
+      format = f.format;
+      rec_len = f.rec_len;
+      offset = f.offset;
+      file_id = f.file_id;
+    } };
+}
+
+impl Known {
+    /// What is known of a file by these; `None` where they are out of range: a record length of
+    /// format F is 1 to 99,999, that of the others 0, and an offset is at most 99.
+    pub fn from_parts(format: Format, rec_len: u32, offset: u8, file_id: Field<17>) -> Option<Known>
+        ensures value { IfSome result (λ known. known ≡ record {
+          file_id = file_id;
+          format = format;
+          rec_len = rec_len;
+          offset = offset;
+        }) }
+        ensures rules { IsSome result ↔ IsForm format rec_len offset }
+        // The same as a function of what was given.
+        ensures range { is_some result ≡ form_in_range (record {
+          file_id = file_id;
+          format = format;
+          rec_len = rec_len;
+          offset = offset;
+        }) }
+    {
+        if !(length_in_range(format, rec_len) && offset <= 99) {
+            return None;
+        }
+        Some(Known {
+            format,
+            rec_len,
+            offset,
+            file_id,
+        })
+    }
+}
+
+/// Whether records of this format may have this length.
+fn length_in_range(format: Format, rec_len: u32) -> bool
+    ensures { result ≡ length_in_range format rec_len }
+{
+    match format {
+        Format::Fixed => 1 <= rec_len && rec_len <= 99_999,
+        Format::Counted | Format::Spanned => rec_len == 0,
+    }
+}
+
+/// The greatest weight of staged parts.
+pub(crate) const MOST_STAGED: u64 = 999_999_999_999_999;
+
+/// Whether these are the numbers and flags of a checkpoint.
+pub(crate) fn is_in_range(
+    file: u16,
+    position: Position,
+    begun: bool,
+    known: &Option<Known>,
+    staged: u64,
+) -> bool
+    ensures { (set_id : List ℕ) → result ≡ in_range (record {
+      set_id = set_id;
+      file = file;
+      position = position;
+      begun = begun;
+      known = known.now;
+      staged = staged;
+    }) }
+{
+    1 <= file
+        && file <= 9_999
+        && position_in_range(position)
+        && known_where_due(known, position)
+        && (!begun || may_begin(known, position))
+        && staged <= MOST_STAGED
+}
+
+/// Whether the position's numbers have their digits.
+fn position_in_range(position: Position) -> bool
+    ensures { result ≡ position_in_range position }
+{
+    match position {
+        Position::Awaits { sect, part, .. } => 1 <= sect && sect <= 9_999 && part <= 99_999,
+        Position::Finished => true,
+    }
+}
+
+/// Whether something is known exactly where the file is not at its start.
+fn known_where_due(known: &Option<Known>, position: Position) -> bool
+    ensures { result ≡ known_where_due known.now position }
+{
+    match known {
+        Some(_) => !position.is_start(),
+        None => position.is_start(),
+    }
+}
+
+/// Whether a record may be begun there.
+fn may_begin(known: &Option<Known>, position: Position) -> bool
+    ensures { result ≡ may_begin known.now position }
+{
+    may_span(known) && !matches!(position, Position::Finished)
+}
+
+/// Whether the records of the file may run on from block to block.
+pub(crate) fn may_span(known: &Option<Known>) -> bool
+    ensures { result ≡ may_span known.now }
+{
+    match known {
+        Some(known) => matches!(known.format, Format::Spanned),
+        None => false,
     }
 }

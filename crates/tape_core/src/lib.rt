@@ -3,27 +3,16 @@
 //! blocks go to, and the checkpoints that both can go back to.
 #![tactic(auto)]
 
-mod answer;
 mod checkpoint;
-mod entry;
 mod event;
-mod fault;
-mod known;
-mod labels;
 pub mod laws;
 mod memory;
-mod parts;
-mod phase;
-mod range;
 mod reader;
 mod refusing;
 mod sink;
 
-pub use answer::{Answer, Reason};
-pub use checkpoint::Checkpoint;
-pub use event::Event;
-pub use fault::CoreFault;
-pub use known::Known;
+pub use checkpoint::{Checkpoint, Known};
+pub use event::{Answer, CoreFault, Event, Reason};
 pub use memory::MemorySink;
 pub use reader::ReaderCore;
 pub use refusing::Refusing;

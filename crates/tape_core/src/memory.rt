@@ -9,9 +9,8 @@ ghost use Rattle.tape_core.specs.Known.{most_staged};
 ghost use Rattle.tape_core.specs.Stands.{weight_of};
 ghost use Rattle.tape_core.specs.Entries.{IsLaid, laid_one_way, end_from, viewed};
 
-use crate::checkpoint::Checkpoint;
-use crate::entry::Entry;
-use crate::range::MOST_STAGED;
+use crate::checkpoint::{Checkpoint, MOST_STAGED};
+use crate::event::Entry;
 use crate::sink::{PartSink, PartWalk, SinkFault};
 use std::alloc::{AllocError, Global};
 use tape_blocks::Part;

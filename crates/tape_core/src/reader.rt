@@ -1,28 +1,24 @@
 //! The reader of one file.
 
+mod arrivals;
+mod label_rules;
+
 ghost use Rattle.std.specs.Prelude.{◌≡◌, ◌≤◌, ◌++◌, ◌∷◌, [], ℕ, List, Bool, Ok, Err, Some, None};
 ghost use Rattle.std.specs.Prelude.{IsSome, IfOk, OnOk, OnErr, length, slice_get, if◌then◌else◌};
+ghost use Rattle.std.specs.Prelude.{◌≢◌};
 ghost use Rattle.tape_image.specs.Tape.{TapeItem, bad};
 ghost use Rattle.tape_blocks.specs.Block.{Portion};
 ghost use Rattle.tape_set.specs.Layout.{FileSet, nth, items, entries};
 ghost use Rattle.tape_set.specs.Before.{before, IsIn};
 ghost use Rattle.tape_set.specs.Lawful.{IsLawful};
 ghost use Rattle.tape_set.specs.Reach.{far, passes};
-ghost use Rattle.tape_set.specs.Position.{start, want_at};
+ghost use Rattle.tape_set.specs.Position.{start, want_at, sect_of, block_of, part_of};
+ghost use Rattle.tape_core.specs.State.{ToldFits, told};
+ghost use Rattle.tape_core.specs.Table as Table;
 
-mod arrivals;
-mod begins;
-mod data;
-mod label_rules;
-mod moves;
-
-use crate::answer::Answer;
-use crate::checkpoint::Checkpoint;
-use crate::event::Event;
-use crate::fault::CoreFault;
-use crate::known::Known;
-use crate::parts::shape_of;
-use crate::phase::Phase;
+use crate::checkpoint::{Checkpoint, Known};
+use crate::event::{Answer, CoreFault, Event, Phase, Reason};
+use crate::reader::arrivals::shape_of;
 use std::marker::Model;
 use tape_blocks::Shape;
 use tape_label::Field;
@@ -228,5 +224,65 @@ impl ReaderCore {
         ensures refused { OnErr result (self.new ≡ self.old) }
     {
         self.go_to(checkpoint)
+    }
+}
+
+impl ReaderCore {
+    /// What came was expected, and now this is.
+    pub(crate) fn passed(&mut self, phase: Phase) -> Answer
+        requires { ToldFits self.old.begun (told phase) }
+        ensures table { (result, self.new) ≡ Table.passed self.old phase }
+        ensures silent { result ≢ Answer.Deliver }
+    {
+        self.phase = phase;
+        Answer::Passed
+    }
+
+    /// The reading is over.
+    pub(crate) fn useless(&mut self, why: Reason) -> Answer
+        ensures table { (result, self.new) ≡ Table.useless self.old why }
+        ensures silent { result ≢ Answer.Deliver }
+    {
+        self.phase = Phase::Over;
+        Answer::Useless(why)
+    }
+
+    /// The reading is over, and none begins before a restart.
+    pub(crate) fn broken(&mut self, why: Reason) -> Answer
+        ensures table { (result, self.new) ≡ Table.broken self.old why }
+        ensures silent { result ≢ Answer.Deliver }
+    {
+        self.phase = Phase::Broken;
+        Answer::Useless(why)
+    }
+
+    /// The number of the section awaited; 0 where the file is complete.
+    pub(crate) fn sect(&self) -> u16
+        ensures { result ≡ sect_of self.now.position }
+    {
+        match self.position {
+            Position::Awaits { sect, .. } => sect,
+            Position::Finished => 0,
+        }
+    }
+
+    /// The number of the block awaited; 0 where the file is complete.
+    pub(crate) fn block(&self) -> u32
+        ensures { result ≡ block_of self.now.position }
+    {
+        match self.position {
+            Position::Awaits { block, .. } => block,
+            Position::Finished => 0,
+        }
+    }
+
+    /// How many parts of the block awaited were delivered; 0 where the file is complete.
+    pub(crate) fn part(&self) -> u32
+        ensures { result ≡ part_of self.now.position }
+    {
+        match self.position {
+            Position::Awaits { part, .. } => part,
+            Position::Finished => 0,
+        }
     }
 }

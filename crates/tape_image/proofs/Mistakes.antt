@@ -3,14 +3,14 @@
 use Rattle.std.proofs.Common.{◌≡◌, [], ◌∷◌, length, sym, ap, ◌∙◌, arith}
 use Rattle.std.specs.Prelude.{Some, None, Err}
 use Rattle.tape_image.specs.declared.item.Ending.TheVariants.{Marked}
-use Rattle.tape_image.specs.declared.fault.ImageCause.TheVariants.{TooLong, Device}
-use Rattle.tape_image.specs.declared.fault.ImageWriteFault.TheVariants.{Finished}
-use Rattle.tape_image.specs.declared.buffer.ImageBuffer.TheInside.{Inside}
-use Rattle.tape_image.specs.contracts.buffer.ImageBuffer.{the_invariant}
+use Rattle.tape_image.specs.declared.item.ImageCause.TheVariants.{TooLong, Device}
+use Rattle.tape_image.specs.declared.item.ImageWriteFault.TheVariants.{Finished}
+use Rattle.tape_image.specs.declared.block.ImageBuffer.TheInside.{Inside}
+use Rattle.tape_image.specs.contracts.block.ImageBuffer.{the_invariant}
 use Rattle.tape_image.specs.Fault.{number_of, write_number_of}
 use Rattle.tape_image.specs.Reader.{ended, ending_of}
-use Rattle.tape_image.proofs.fault.ImageCause.number.Reads as cause_number
-use Rattle.tape_image.proofs.fault.ImageWriteFault.number.Reads as write_number
+use Rattle.tape_image.proofs.item.ImageCause.number.Reads as cause_number
+use Rattle.tape_image.proofs.item.ImageWriteFault.number.Reads as write_number
 use Rattle.tape_image.proofs.reader.ImageReader.new.Reads as new
 use Rattle.tape_image.proofs.reader.ImageReader.over.Reads as over
 use Rattle.tape_image.proofs.reader.ImageReader.ending.Reads as ending

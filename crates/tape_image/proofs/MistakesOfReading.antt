@@ -6,10 +6,10 @@ use Rattle.std.proofs.Common.{subst, arith, length-append}
 use Rattle.std.specs.Prelude.{Option, Some, Result, Ok, Err}
 use Rattle.tape_image.specs.declared.item.Ending.TheVariants.{Marked, Physical}
 use Rattle.tape_image.specs.declared.item.Item.{Item}
-use Rattle.tape_image.specs.declared.fault.ImageCause.{ImageCause}
-use Rattle.tape_image.specs.declared.fault.ImageCause.TheVariants.{Truncated, LengthsDiffer}
-use Rattle.tape_image.specs.declared.fault.ImageCause.TheVariants.{Reserved, TooLong, Device}
-use Rattle.tape_image.specs.declared.fault.ImageFault.{ImageFault}
+use Rattle.tape_image.specs.declared.item.ImageCause.{ImageCause}
+use Rattle.tape_image.specs.declared.item.ImageCause.TheVariants.{Truncated, LengthsDiffer}
+use Rattle.tape_image.specs.declared.item.ImageCause.TheVariants.{Reserved, TooLong, Device}
+use Rattle.tape_image.specs.declared.item.ImageFault.{ImageFault}
 use Rattle.tape_image.specs.Tape.{TapeItem, block, bad, mark}
 use Rattle.tape_image.specs.Spelling.{a_block, a_gap}
 use Rattle.tape_image.specs.Begins.{image_limit, Stop, ends, faults, Stops, Begins}

@@ -3,9 +3,9 @@
 use Rattle.std.proofs.Common.{◌≡◌, ℕ, List, [], ◌∷◌, length, sum, sym, ap, ◌∙◌, subst, arith}
 use Rattle.std.specs.Prelude.{Bool, true, false, MatchBool, ◌==◌, ◌||◌, nat_lt, Result, Ok, Err}
 use Rattle.std.specs.Prelude.{Some}
-use Rattle.tape_image.specs.declared.fault.ImageWriteFault.{ImageWriteFault}
-use Rattle.tape_image.specs.declared.fault.ImageWriteFault.TheVariants.{BlockLength, Device}
-use Rattle.tape_image.specs.declared.fault.ImageWriteFault.TheVariants.{TooLong}
+use Rattle.tape_image.specs.declared.item.ImageWriteFault.{ImageWriteFault}
+use Rattle.tape_image.specs.declared.item.ImageWriteFault.TheVariants.{BlockLength, Device}
+use Rattle.tape_image.specs.declared.item.ImageWriteFault.TheVariants.{TooLong}
 use Rattle.tape_image.specs.Tape.{mark}
 use Rattle.byteorder.specs.Endian.{little_bytes}
 use Rattle.tape_image.specs.Word.{end_word}

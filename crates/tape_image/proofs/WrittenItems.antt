@@ -9,7 +9,7 @@ use Rattle.std.proofs.lemmas.Bool.Decides.{nat_tests}
 use Rattle.std.proofs.lemmas.List.{length-replicate}
 use Rattle.byteorder.specs.Endian.{little_bytes, little_number}
 use Rattle.byteorder.specs.Numbers.{little_number-reads_back}
-use Rattle.tape_image.specs.declared.fault.ImageWriteFault.TheVariants.{Device}
+use Rattle.tape_image.specs.declared.item.ImageWriteFault.TheVariants.{Device}
 use Rattle.tape_image.specs.Tape.{TapeItem, block, bad, mark}
 use Rattle.tape_image.specs.Word.{IsWord, mark_word, end_word, block_len}
 use Rattle.tape_image.specs.Spelling.{IsSpelling, a_mark, a_block, Leads}

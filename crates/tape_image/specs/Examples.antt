@@ -4,11 +4,11 @@ use Rattle.std.specs.Prelude.{Result, Ok, Err, None}
 use Rattle.std.specs.Io.KnownBytes.{Appends}
 use Rattle.tape_image.specs.declared.item.Ending.{Ending}
 use Rattle.tape_image.specs.declared.item.Ending.TheVariants.{Marked, Physical}
-use Rattle.tape_image.specs.declared.fault.ImageCause.TheVariants.{Truncated, LengthsDiffer}
-use Rattle.tape_image.specs.declared.fault.ImageCause.TheVariants.{Reserved, TooLong, Device}
-use Rattle.tape_image.specs.declared.fault.ImageFault.{ImageFault}
-use Rattle.tape_image.specs.declared.fault.ImageWriteFault.{ImageWriteFault}
-use Rattle.tape_image.specs.declared.fault.ImageWriteFault.TheVariants as refusal
+use Rattle.tape_image.specs.declared.item.ImageCause.TheVariants.{Truncated, LengthsDiffer}
+use Rattle.tape_image.specs.declared.item.ImageCause.TheVariants.{Reserved, TooLong, Device}
+use Rattle.tape_image.specs.declared.item.ImageFault.{ImageFault}
+use Rattle.tape_image.specs.declared.item.ImageWriteFault.{ImageWriteFault}
+use Rattle.tape_image.specs.declared.item.ImageWriteFault.TheVariants as refusal
 use Rattle.tape_image.specs.declared.item.Item.{Item}
 use Rattle.tape_image.specs.Tape.{TapeItem, block, bad, mark, IsTapeItem}
 use Rattle.tape_image.specs.Spelling.{IsSpelling, Spells, end_len}

@@ -1,8 +1,8 @@
 -- How the private state of an `ImageWriter` stands for what callers see, and what private calls
 -- answer.
 use Rattle.std.specs.Prelude.{◌≡◌, ℕ, ◌+◌, ◌<◌, ◌≤◌, Result, Ok, Err}
-use Rattle.tape_image.specs.declared.fault.ImageWriteFault.{ImageWriteFault}
-use Rattle.tape_image.specs.declared.fault.ImageWriteFault.TheVariants.{Device, Finished, TooLong}
+use Rattle.tape_image.specs.declared.item.ImageWriteFault.{ImageWriteFault}
+use Rattle.tape_image.specs.declared.item.ImageWriteFault.TheVariants.{Device, Finished, TooLong}
 use Rattle.tape_image.specs.declared.writer.Phase.{Phase}
 use Rattle.tape_image.specs.declared.writer.Phase.TheVariants.{Open, Done, Broken}
 use Rattle.tape_image.specs.Begins.{image_limit}

@@ -4,9 +4,9 @@ use Rattle.std.specs.Prelude.{Result, Ok, Err, MatchBool}
 use Rattle.std.specs.List.{flat_map}
 use Rattle.std.specs.Io.KnownBytes.{Appends}
 use Rattle.byteorder.specs.Endian.{little_bytes}
-use Rattle.tape_image.specs.declared.fault.ImageWriteFault.{ImageWriteFault}
-use Rattle.tape_image.specs.declared.fault.ImageWriteFault.TheVariants.{BlockLength, Device}
-use Rattle.tape_image.specs.declared.fault.ImageWriteFault.TheVariants.{Finished, TooLong}
+use Rattle.tape_image.specs.declared.item.ImageWriteFault.{ImageWriteFault}
+use Rattle.tape_image.specs.declared.item.ImageWriteFault.TheVariants.{BlockLength, Device}
+use Rattle.tape_image.specs.declared.item.ImageWriteFault.TheVariants.{Finished, TooLong}
 use Rattle.tape_image.specs.Tape.{TapeItem, block, bad, mark}
 use Rattle.tape_image.specs.Word.{end_word}
 use Rattle.tape_image.specs.Spelling.{Spells}

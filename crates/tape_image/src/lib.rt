@@ -3,22 +3,14 @@
 #![tactic(auto)]
 
 mod block;
-mod buffer;
-mod device;
-mod fault;
-mod front;
 mod item;
 pub mod laws;
 mod put;
 mod reader;
-mod state;
-mod word;
 mod writer;
 
-pub use buffer::ImageBuffer;
-pub use device::fill;
-pub use fault::{ImageCause, ImageFault, ImageWriteFault};
-pub use item::{Ending, Item};
+pub use block::{ImageBuffer, fill};
+pub use item::{Ending, ImageCause, ImageFault, ImageWriteFault, Item};
 pub use laws::{
     a_spelling_or_a_stop_stands, bytes_begin_with_one_list_of_items,
     calls_give_the_items_that_bytes_begin_with, definitions_are_held_by_examples,

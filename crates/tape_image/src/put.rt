@@ -9,7 +9,7 @@ ghost use Rattle.std.specs.Io.KnownBytes.{Appends};
 ghost use Rattle.byteorder.specs.Endian.{little_bytes};
 ghost use Rattle.tape_image.specs.Written.{AppendsFront, written_block};
 
-use crate::fault::ImageWriteFault;
+use crate::item::ImageWriteFault;
 use byteorder::{ByteOrder, LittleEndian};
 use std::io::Write;
 

@@ -6,9 +6,9 @@ ghost use Rattle.tape_image.specs.Tape.{mark};
 ghost use Rattle.tape_image.specs.Word.{end_word};
 ghost use Rattle.tape_image.specs.Written.{written};
 
-use crate::fault::ImageWriteFault;
+use crate::block::{END, IMAGE_LIMIT, LONGEST_BLOCK, MARK, WORD, extent_of_block};
+use crate::item::ImageWriteFault;
 use crate::put::{put_block, put_last, put_word};
-use crate::word::{END, IMAGE_LIMIT, LONGEST_BLOCK, MARK, WORD, extent_of_block};
 use std::io::Write;
 use std::marker::Model;
 

@@ -4,8 +4,8 @@ use Rattle.std.proofs.Common.{◌≡◌, ◌≤◌, ℕ, List, [], length, true,
 use Rattle.std.proofs.Common.{arith, codes, lit≤}
 use Rattle.std.specs.Prelude.{◌++◌, ◌-◌, replicate, slice_index, Some, None, unwrap_or, IfNone}
 use Rattle.std.specs.Prelude.{Result, Ok, Err}
-use Rattle.tape_label.specs.declared.fault.LabelFault.{LabelFault}
-use Rattle.tape_label.specs.declared.fault.LabelFault.TheVariants as faults
+use Rattle.tape_label.specs.declared.label.LabelFault.{LabelFault}
+use Rattle.tape_label.specs.declared.label.LabelFault.TheVariants as faults
 use Rattle.tape_label.specs.declared.values.Format.TheVariants.{Counted}
 use Rattle.tape_label.specs.declared.values.Kind.TheVariants as kinds
 use Rattle.tape_label.specs.declared.values.Head1.{Head1}
@@ -20,15 +20,15 @@ use Rattle.tape_label.specs.Kinds.{trailer}
 use Rattle.tape_label.specs.Positions.{positions}
 use Rattle.tape_label.specs.Reading.{vol1_fields, head_at, head1_at, format_at, offset_at}
 use Rattle.tape_label.specs.Reading.{head2_at}
-use Rattle.tape_label.proofs.characters.is_a_character.Reads as is_a_character
-use Rattle.tape_label.proofs.characters.first_other.Reads as first_other_found
-use Rattle.tape_label.proofs.digits.digits_of.Reads as digits_of
-use Rattle.tape_label.proofs.digits.digits_value.Reads as digits_value
-use Rattle.tape_label.proofs.fault.LabelFault.number.Reads as number
-use Rattle.tape_label.proofs.field.Field.new.Reads as new_field
-use Rattle.tape_label.proofs.field.Field.of_bytes.Reads as of_bytes
-use Rattle.tape_label.proofs.field.Field.bytes.Reads as bytes
-use Rattle.tape_label.proofs.identify.kind.Reads as kind
+use Rattle.tape_label.proofs.values.is_a_character.Reads as is_a_character
+use Rattle.tape_label.proofs.values.first_other.Reads as first_other_found
+use Rattle.tape_label.proofs.reading.digits_of.Reads as digits_of
+use Rattle.tape_label.proofs.reading.digits_value.Reads as digits_value
+use Rattle.tape_label.proofs.label.LabelFault.number.Reads as number
+use Rattle.tape_label.proofs.values.Field.new.Reads as new_field
+use Rattle.tape_label.proofs.values.Field.of_bytes.Reads as of_bytes
+use Rattle.tape_label.proofs.values.Field.bytes.Reads as bytes
+use Rattle.tape_label.proofs.label.kind.Reads as kind
 use Rattle.tape_label.proofs.reading.read_vol1.Reads as read_vol1
 use Rattle.tape_label.proofs.reading.read_head1.Reads as read_head1
 use Rattle.tape_label.proofs.reading.read_head2.Reads as read_head2

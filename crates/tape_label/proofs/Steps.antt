@@ -7,8 +7,8 @@ use Rattle.std.specs.Prelude.{IfOk}
 use Rattle.std.proofs.lemmas.Bool.{ltb-false, le-ltb, eqb-true}
 use Rattle.std.proofs.lemmas.List.{length-take, length-drop, drop_more}
 use Rattle.std.proofs.lemmas.Slice.Eq.{bytes_eq-Decides}
-use Rattle.tape_label.specs.declared.fault.LabelFault.{LabelFault}
-use Rattle.tape_label.specs.declared.fault.LabelFault.TheVariants as faults
+use Rattle.tape_label.specs.declared.label.LabelFault.{LabelFault}
+use Rattle.tape_label.specs.declared.label.LabelFault.TheVariants as faults
 use Rattle.tape_label.specs.declared.values.Kind.{Kind}
 use Rattle.tape_label.specs.Digits.{digits, number_of}
 use Rattle.tape_label.specs.Kinds.{identifier}

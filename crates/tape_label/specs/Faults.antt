@@ -1,9 +1,9 @@
 -- The fixed number of each fault of a label.
 use Rattle.std.specs.Prelude.{ℕ}
-use Rattle.tape_label.specs.declared.fault.LabelFault.{LabelFault}
-use Rattle.tape_label.specs.declared.fault.LabelFault.TheVariants.{NotEighty, Identifier, NotDigits}
-use Rattle.tape_label.specs.declared.fault.LabelFault.TheVariants.{Format, FieldRange}
-use Rattle.tape_label.specs.declared.fault.LabelFault.TheVariants.{NotACharacter, FieldLength}
+use Rattle.tape_label.specs.declared.label.LabelFault.{LabelFault}
+use Rattle.tape_label.specs.declared.label.LabelFault.TheVariants.{NotEighty, Identifier, NotDigits}
+use Rattle.tape_label.specs.declared.label.LabelFault.TheVariants.{Format, FieldRange}
+use Rattle.tape_label.specs.declared.label.LabelFault.TheVariants.{NotACharacter, FieldLength}
 
 abbrev pub number : LabelFault → ℕ
 number NotEighty = 1

@@ -1,8 +1,8 @@
 -- Any of the labels: which one a block is.
 use Rattle.std.specs.Prelude.{ℕ, ◌==◌, List, length, if◌then◌else◌, Option, Some, None, Result, Ok}
 use Rattle.std.specs.Prelude.{Err}
-use Rattle.tape_label.specs.declared.fault.LabelFault.{LabelFault}
-use Rattle.tape_label.specs.declared.fault.LabelFault.TheVariants.{NotEighty, Identifier}
+use Rattle.tape_label.specs.declared.label.LabelFault.{LabelFault}
+use Rattle.tape_label.specs.declared.label.LabelFault.TheVariants.{NotEighty, Identifier}
 use Rattle.tape_label.specs.declared.label.Label.{Label}
 use Rattle.tape_label.specs.declared.label.Label.TheVariants as labels
 use Rattle.tape_label.specs.declared.values.Kind.{Kind}

@@ -3,8 +3,8 @@
 use Rattle.std.specs.Prelude.{ℕ, ◌-◌, ◌==◌, nat_lt, ◌||◌, List, length, codes, slice_index, Bool}
 use Rattle.std.specs.Prelude.{true, false, if◌then◌else◌, Result, Ok, Err}
 use Rattle.std.specs.Str.{bytes_eq, all_ascii_digits}
-use Rattle.tape_label.specs.declared.fault.LabelFault.{LabelFault}
-use Rattle.tape_label.specs.declared.fault.LabelFault.TheVariants as faults
+use Rattle.tape_label.specs.declared.label.LabelFault.{LabelFault}
+use Rattle.tape_label.specs.declared.label.LabelFault.TheVariants as faults
 use Rattle.tape_label.specs.declared.values.Kind.{Kind}
 use Rattle.tape_label.specs.declared.values.Kind.TheVariants as kinds
 use Rattle.tape_label.specs.declared.values.Format.{Format}

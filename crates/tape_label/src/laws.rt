@@ -11,11 +11,9 @@ ghost use Rattle.tape_label.specs.Widths.{IsWide, IsWideVolume};
 ghost use Rattle.tape_label.specs.Cases.{CasesOfLabels};
 ghost use Rattle.tape_label.specs.Laws.{HasOneKind, IsNotBoth, IsSecondLabel, readings};
 
-use crate::digits::{digits_of, digits_value};
-use crate::fault::LabelFault;
-use crate::field::Field;
-use crate::reading::{read_head1, read_head2, read_trail1, read_vol1};
-use crate::values::{Head1, Head2, Kind, Trail1, Vol1};
+use crate::label::LabelFault;
+use crate::reading::{digits_of, digits_value, read_head1, read_head2, read_trail1, read_vol1};
+use crate::values::{Field, Head1, Head2, Kind, Trail1, Vol1};
 use crate::writing::{write_head1, write_head2, write_trail1, write_vol1};
 
 /// A number that fits its digits is read from them again.

@@ -1,18 +1,125 @@
-//! Labels read: exactly those that have their fields, and of the others the first fault.
+//! The fields of a label, read from its characters.
 
-ghost use Rattle.std.specs.Prelude.{◌≡◌, ◌≢◌, IfOk, Ok, Err, length};
+ghost use Rattle.std.specs.Prelude.{◌≡◌, ◌≢◌, IfOk, Ok, Err, length, ◌<◌, ◌≤◌, ◌+◌, ◌-◌, ◌^◌, ℕ};
+ghost use Rattle.std.specs.Prelude.{IfSome, Some, None, if◌then◌else◌};
+ghost use Rattle.std.specs.Str.{all_ascii_digits};
 ghost use Rattle.tape_label.specs.Vol1.{IsVol1};
 ghost use Rattle.tape_label.specs.Head1.{IsHead1};
 ghost use Rattle.tape_label.specs.Head2.{IsHead2};
 ghost use Rattle.tape_label.specs.Trail1.{IsTrail1};
 ghost use Rattle.tape_label.specs.Kinds.{HasKind, IsFirstTrailer, IsSecond};
 ghost use Rattle.tape_label.specs.Reading.{vol1_at, vol1_fields, head_at, head1_at, trail1_at};
-ghost use Rattle.tape_label.specs.Reading.{head2_at};
+ghost use Rattle.tape_label.specs.Reading.{head2_at, character_at, number_at, end_at, format_at};
+ghost use Rattle.tape_label.specs.Reading.{offset_at};
+ghost use Rattle.tape_label.specs.Digits.{digits, number_of};
 
-use crate::at::{character_at, end_at, format_at, number_at, offset_at};
-use crate::fault::LabelFault;
-use crate::field::field_at;
-use crate::values::{Format, Head1, Head2, Kind, Trail1, Vol1};
+use crate::label::LabelFault;
+use crate::values::{Format, Head1, Head2, Kind, Trail1, Vol1, field_at};
+
+/// The number that these digits are, leading zeros allowed; `None` where one of the bytes is no
+/// digit. No digits at all are the number 0. Nineteen digits always fit a `u64`.
+#[tactic(auto, using(crate::proofs::DigitLaws::counted_digits))]
+pub fn digits_value(text: &[u8]) -> Option<u64>
+    requires { length text.now ≤ 19 }
+    ensures found { IfSome result (λ n. text.now ≡ digits (length text.now) n) }
+    ensures only { (n : ℕ) → n < 10 ^ length text.now → text.now ≡ digits (length text.now) n
+        → result ≡ Some n }
+    ensures small { IfSome result (λ n. n < 10 ^ length text.now) }
+    // The same as a function of the text.
+    ensures exact { result
+        ≡ (if all_ascii_digits text.now then Some (number_of text.now) else None) }
+{
+    let mut number: u64 = 0;
+    for byte in text {
+        if !byte.is_ascii_digit() {
+            return None;
+        }
+        number = number * 10 + u64::from(byte - b'0');
+    }
+    Some(number)
+}
+
+/// The number in `W` digits, with leading zeros.
+pub fn digits_of<const W: usize>(number: u64) -> [u8; W]
+    requires { number < 10 ^ W }
+    ensures { result ≡ digits W number }
+{
+    let mut text = [b'0'; W];
+    let mut rest = number;
+    let mut place = W;
+    while place > 0 {
+        place -= 1;
+        text[place] = b'0' + (rest % 10) as u8;
+        rest /= 10;
+    }
+    text
+}
+
+/// The character at this position, counted from 1.
+pub(crate) fn character_at(label: &[u8], position: usize) -> u8
+    requires first { 1 ≤ position }
+    requires last { position ≤ length label.now }
+    ensures { result ≡ character_at label.now position }
+{
+    label[position - 1]
+}
+
+/// The number in digits at the positions `first` to `last`, counted from 1, which is not below the
+/// least.
+pub(crate) fn number_at(label: &[u8], first: u8, last: u8, least: u64) -> Result<u64, LabelFault>
+    requires first { 1 ≤ first }
+    requires order { first ≤ last }
+    requires last { last ≤ length label.now }
+    requires width { last < first + 19 }
+    ensures exact { result ≡ number_at label.now first last least }
+    ensures small { IfOk result (λ n. n < 10 ^ (last - (first - 1))) }
+{
+    match digits_value(&label[first as usize - 1..last as usize]) {
+        None => Err(LabelFault::NotDigits(first)),
+        Some(number) if number < least => Err(LabelFault::FieldRange(first)),
+        Some(number) => Ok(number),
+    }
+}
+
+/// Whether the first trailer label is that of a file's end.
+#[tactic(auto, unfolding(crate::specs::Reading::end_at))]
+pub(crate) fn end_at(label: &[u8]) -> Result<bool, LabelFault>
+    requires { length label.now ≡ 80 }
+    ensures { result ≡ end_at label.now }
+{
+    match &label[..4] {
+        b"EOF1" => Ok(true),
+        b"EOV1" => Ok(false),
+        _ => Err(LabelFault::Identifier),
+    }
+}
+
+/// The record format of a second label.
+#[tactic(auto, unfolding(crate::specs::Reading::format_at))]
+pub(crate) fn format_at(label: &[u8]) -> Result<Format, LabelFault>
+    requires { length label.now ≡ 80 }
+    ensures { result ≡ format_at label.now }
+{
+    match character_at(label, 5) {
+        b'F' => Ok(Format::Fixed),
+        b'D' => Ok(Format::Counted),
+        b'S' => Ok(Format::Spanned),
+        other => Err(LabelFault::Format(other)),
+    }
+}
+
+/// The buffer offset of a second label, which some systems leave blank for 0.
+#[tactic(auto, unfolding(crate::specs::Reading::offset_at))]
+pub(crate) fn offset_at(label: &[u8]) -> Result<u8, LabelFault>
+    requires { length label.now ≡ 80 }
+    ensures { result ≡ offset_at label.now }
+{
+    if &label[50..52] == b"  ".as_slice() {
+        return Ok(0);
+    }
+    let offset = number_at(label, 51, 52, 0)?;
+    Ok(offset as u8)
+}
 
 /// Reads a volume label (ECMA-13, 4th edition, "Volume Header Label"). The version at position 80
 /// and what stands in reserved positions are not judged.

@@ -9,7 +9,7 @@ ghost use Rattle.tape_label.specs.Kinds.{identifier};
 ghost use Rattle.tape_label.specs.Written.{text_of, HaveWidths, vol1_pieces, head_pieces};
 ghost use Rattle.tape_label.specs.Written.{head2_pieces};
 
-use crate::digits::digits_of;
+use crate::reading::digits_of;
 use crate::values::{Head1, Head2, Kind, Vol1};
 use arrayvec::ArrayVec;
 

@@ -8,9 +8,9 @@ use Rattle.tape_image.specs.Tape.{TapeItem, block}
 use Rattle.tape_set.specs.Lawful.{FileForm}
 use Rattle.tape_set.specs.declared.position.Position.{Position}
 use Rattle.tape_set.specs.Position.{part_of, at_part}
-use Rattle.tape_core.specs.declared.answer.Answer.{Answer}
-use Rattle.tape_core.specs.declared.answer.Answer.TheVariants.{Passed, Deliver, SectionDone}
-use Rattle.tape_core.specs.declared.answer.Answer.TheVariants.{Complete, Useless}
+use Rattle.tape_core.specs.declared.event.Answer.{Answer}
+use Rattle.tape_core.specs.declared.event.Answer.TheVariants.{Passed, Deliver, SectionDone}
+use Rattle.tape_core.specs.declared.event.Answer.TheVariants.{Complete, Useless}
 use Rattle.tape_core.specs.State.{State}
 use Rattle.tape_core.specs.Parts.{parts_in}
 use Rattle.tape_core.specs.Place.{rest_of}
@@ -22,8 +22,8 @@ use Rattle.tape_run.specs.ByTable.{parts_by, parts_at, parts_of_arrival}
 use Rattle.tape_run.specs.ByTable.{delivered_parts}
 use Rattle.tape_run.specs.ByTable.{IsLed, StopsInside}
 use Rattle.tape_run.proofs.Finals.{IsIdle, behind_final, idle_items}
-use Rattle.tape_core.specs.declared.phase.Phase.{Phase}
-use Rattle.tape_core.specs.declared.phase.Phase.TheVariants.{Broken}
+use Rattle.tape_core.specs.declared.event.Phase.{Phase}
+use Rattle.tape_core.specs.declared.event.Phase.TheVariants.{Broken}
 use Rattle.tape_set.specs.declared.position.Position.TheVariants.{Awaits, Finished}
 use Rattle.tape_core.specs.Place.{resting}
 use Rattle.tape_core.specs.Table.{mount_of, mounted}

@@ -17,7 +17,7 @@ use Rattle.tape_core.specs.Point.{Point}
 use Rattle.tape_blocks.specs.Block.{Portion}
 use Rattle.tape_run.specs.Output.{AppendsFront}
 use Rattle.tape_run.specs.RecordText.{output_of}
-use Rattle.tape_blocks.specs.declared.form.Form.{Form}
+use Rattle.tape_blocks.specs.declared.parts.Form.{Form}
 use Rattle.tape_set.specs.declared.position.Position.TheVariants.{Finished}
 use Rattle.tape_run.specs.CasesOfExtracts.{CasesOfTurns, CasesOfOutputs, Listed, Known, Readers}
 use Rattle.tape_run.specs.CasesOfExtracts.{ExtractsListed, StopsListed, StopsListedNow}

@@ -8,7 +8,7 @@ use Rattle.tape_label.specs.VolumeLabels.{is_volume_label}
 use Rattle.tape_blocks.specs.Units.{unit_at}
 use Rattle.tape_blocks.specs.Parts.{parts_by}
 use Rattle.tape_blocks.specs.Judged.{judged}
-use Rattle.tape_core.specs.declared.answer.Answer.TheVariants.{Complete}
+use Rattle.tape_core.specs.declared.event.Answer.TheVariants.{Complete}
 use Rattle.tape_run.specs.declared.script.Step.TheVariants.{Save, Restart}
 use Rattle.tape_run.specs.Lead.{Lead, lead}
 use Rattle.tape_run.specs.Reels.{GoesOn}

@@ -5,11 +5,11 @@ use Rattle.std.proofs.Common.{append-nil, length-append}
 use Rattle.std.specs.Io.KnownBytes.{Appends, Keeps}
 use Rattle.std.proofs.KnownBytes.{Appends-trans, Appends-nil}
 use Rattle.tape_image.specs.declared.item.Ending.{Ending}
-use Rattle.tape_image.specs.declared.fault.ImageCause.{ImageCause}
-use Rattle.tape_image.specs.declared.fault.ImageCause.TheVariants.{Truncated, LengthsDiffer}
-use Rattle.tape_image.specs.declared.fault.ImageCause.TheVariants.{Reserved, TooLong, Device}
-use Rattle.tape_image.specs.declared.fault.ImageCause.TheVariants.{OutOfMemory}
-use Rattle.tape_image.specs.declared.fault.ImageFault.{ImageFault}
+use Rattle.tape_image.specs.declared.item.ImageCause.{ImageCause}
+use Rattle.tape_image.specs.declared.item.ImageCause.TheVariants.{Truncated, LengthsDiffer}
+use Rattle.tape_image.specs.declared.item.ImageCause.TheVariants.{Reserved, TooLong, Device}
+use Rattle.tape_image.specs.declared.item.ImageCause.TheVariants.{OutOfMemory}
+use Rattle.tape_image.specs.declared.item.ImageFault.{ImageFault}
 use Rattle.tape_image.specs.Tape.{TapeItem, block, bad, mark}
 use Rattle.tape_image.specs.Begins.{ends, faults, Walks}
 use Rattle.tape_image.specs.Reader.{IfKnown}

@@ -3,10 +3,10 @@ use Rattle.std.proofs.Common.{◌≡◌, ℕ, ◌+◌, ◌≤◌, List, [], ◌�
 use Rattle.std.proofs.Common.{◌∙◌, subst, arith, inl, inr}
 use Rattle.std.specs.Prelude.{Option, Some, None, Ok, Err, slice_get, IfSome}
 use Rattle.tape_blocks.specs.Block.{Portion}
-use Rattle.tape_image.specs.declared.fault.ImageCause.TheVariants as causes
+use Rattle.tape_image.specs.declared.item.ImageCause.TheVariants as causes
 use Rattle.tape_set.specs.declared.position.Position.TheVariants.{Awaits, Finished}
 use Rattle.tape_set.specs.Position.{block_of, want_at}
-use Rattle.tape_core.specs.declared.fault.CoreFault.TheVariants.{FileNumber}
+use Rattle.tape_core.specs.declared.event.CoreFault.TheVariants.{FileNumber}
 use Rattle.tape_core.specs.Known.{IsFileNumber}
 use Rattle.tape_core.specs.Point.{Point}
 use Rattle.tape_core.specs.State.{State}
@@ -18,7 +18,7 @@ use Rattle.tape_run.specs.Given as given
 use Rattle.tape_run.specs.Given.{counted}
 use Rattle.tape_run.specs.Seen.{seen, IsKept, IsNote, KeepsNotes}
 use Rattle.tape_run.proofs.Headline.{took_so_many}
-use Rattle.tape_run.proofs.answer.ReelAnswer.is_device.Reads as is_device
+use Rattle.tape_run.proofs.intake.ReelAnswer.is_device.Reads as is_device
 use Rattle.tape_run.proofs.fault.RunFault.number.Reads as number
 use Rattle.tape_run.proofs.session.Session.new.Reads as new
 use Rattle.tape_run.proofs.session.Session.resume.Reads as resume

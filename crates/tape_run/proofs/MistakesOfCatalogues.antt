@@ -2,7 +2,7 @@
 use Rattle.std.proofs.Common.{◌≡◌, ℕ, List, [], ◌∷◌, ◌++◌, length, map, true, false, sym, ap}
 use Rattle.std.proofs.Common.{◌∙◌, subst, arith, codes}
 use Rattle.std.specs.Prelude.{Option, Some, None, Ok, MatchOption}
-use Rattle.tape_image.specs.declared.fault.ImageCause.{ImageCause}
+use Rattle.tape_image.specs.declared.item.ImageCause.{ImageCause}
 use Rattle.tape_image.specs.declared.item.Ending.TheVariants as endings
 use Rattle.tape_image.specs.Tape.{TapeItem, block}
 use Rattle.tape_image.specs.Begins.{Begins, ends, faults}

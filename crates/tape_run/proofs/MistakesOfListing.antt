@@ -3,7 +3,7 @@ use Rattle.std.proofs.Common.{◌≡◌, ℕ, List, [], ◌∷◌, length, sym}
 use Rattle.std.proofs.Common.{ap, ◌∙◌, subst, arith, codes}
 use Rattle.std.specs.Prelude.{Some, Ok, Err, slice_index}
 use Rattle.std.specs.Io.KnownBytes.{Appends}
-use Rattle.tape_image.specs.declared.fault.ImageCause.TheVariants as causes
+use Rattle.tape_image.specs.declared.item.ImageCause.TheVariants as causes
 use Rattle.tape_image.specs.declared.item.Ending.TheVariants.{Physical}
 use Rattle.tape_image.specs.Tape.{TapeItem, mark}
 use Rattle.tape_image.specs.Begins.{Begins, ends, faults}

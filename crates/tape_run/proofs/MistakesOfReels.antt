@@ -3,8 +3,8 @@ use Rattle.std.proofs.Common.{◌≡◌, ◌⊎◌, inl, inr, ℕ, ◌+◌, ◌�
 use Rattle.std.proofs.Common.{sym, ap, ◌∙◌, subst, arith, length-append, append_assoc, append-nil}
 use Rattle.std.specs.Prelude.{Option, Some, None, Ok}
 use Rattle.std.specs.List.{AllByRecursion}
-use Rattle.tape_image.specs.declared.fault.ImageCause.TheVariants as causes
-use Rattle.tape_image.specs.declared.fault.ImageFault.{ImageFault}
+use Rattle.tape_image.specs.declared.item.ImageCause.TheVariants as causes
+use Rattle.tape_image.specs.declared.item.ImageFault.{ImageFault}
 use Rattle.tape_image.specs.declared.item.Ending.TheVariants as endings
 use Rattle.tape_image.specs.Tape.{TapeItem, mark}
 use Rattle.tape_image.specs.Begins.{image_limit, Stop, ends, faults, Begins, in_word, nothing}
@@ -17,11 +17,11 @@ use Rattle.tape_set.specs.declared.position.Position.TheVariants.{Awaits, Finish
 use Rattle.tape_blocks.specs.Block.{Portion}
 use Rattle.tape_core.proofs.Crashes.{or_nothing}
 use Rattle.tape_core.specs.Point.{Point}
-use Rattle.tape_core.specs.declared.answer.Answer.TheVariants.{SectionDone, Complete, Useless}
-use Rattle.tape_core.specs.declared.answer.Reason.TheVariants.{NotLabelled}
+use Rattle.tape_core.specs.declared.event.Answer.TheVariants.{SectionDone, Complete, Useless}
+use Rattle.tape_core.specs.declared.event.Reason.TheVariants.{NotLabelled}
 use Rattle.tape_core.specs.State.{State}
 use Rattle.tape_core.specs.Table.{mount_of, reader_of}
-use Rattle.tape_run.specs.declared.answer.ReelAnswer.{ReelAnswer}
+use Rattle.tape_run.specs.declared.intake.ReelAnswer.{ReelAnswer}
 use Rattle.tape_run.specs.Reels.{Reads, ReadsReel, EndedByItem, EndedByMedium, EndedByFault, GoesOn}
 use Rattle.tape_run.specs.Reels.{answers_to, delivered_by}
 use Rattle.tape_run.proofs.session.Session.reel.Reads as reel

@@ -7,7 +7,7 @@ use Rattle.std.specs.Io.KnownBytes.{Appends}
 use Rattle.tape_run.specs.declared.section.SectionLine.{SectionLine}
 use Rattle.tape_run.specs.declared.section.SectionState.TheVariants as states
 use Rattle.tape_run.specs.CheckLine as check_lines
-use Rattle.tape_run.proofs.output.write_text.Reads as write_text
+use Rattle.tape_run.proofs.text.write_text.Reads as write_text
 use Rattle.tape_run.proofs.text.printed.Reads as printed
 use Rattle.tape_run.proofs.check_line.image_line.Reads as image_line
 use Rattle.tape_run.proofs.check_line.section_line.Reads as section_line

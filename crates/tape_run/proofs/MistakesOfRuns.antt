@@ -4,7 +4,7 @@ use Rattle.std.proofs.Common.{◌≡◌, ◌⊎◌, inl, inr, ℕ, List, [], ◌
 use Rattle.std.proofs.Common.{Bool, true, false, refl}
 use Rattle.std.proofs.Common.{sym, ap, ◌∙◌, subst, arith, codes, length}
 use Rattle.std.specs.Prelude.{Option, Some, Ok, IsSome, slice_get, option_map}
-use Rattle.tape_blocks.specs.declared.part.Span.TheVariants as spans
+use Rattle.tape_blocks.specs.declared.parts.Span.TheVariants as spans
 use Rattle.tape_blocks.specs.Block.{Portion}
 use Rattle.tape_set.specs.declared.position.Position.TheVariants.{Awaits}
 use Rattle.tape_set.specs.Position.{part_of, start, block_of}

@@ -4,7 +4,7 @@ use Rattle.std.proofs.Common.{Bool, ◌≡◌, inl, inr, ℕ, List, [], ◌∷�
 use Rattle.std.proofs.Common.{sym, ap, ◌∙◌, ◌+◌, subst, arith, length-append}
 use Rattle.std.specs.Prelude.{Option, Some, None, Ok, Err, IfSome, map, slice_get}
 use Rattle.tape_blocks.specs.Block.{Portion}
-use Rattle.tape_image.specs.declared.fault.ImageFault.{ImageFault}
+use Rattle.tape_image.specs.declared.item.ImageFault.{ImageFault}
 use Rattle.tape_image.specs.Begins.{Begins, Stop}
 use Rattle.tape_image.specs.Tape.{TapeItem}
 use Rattle.tape_set.specs.declared.position.Position.{Position}
@@ -12,10 +12,10 @@ use Rattle.tape_set.specs.declared.position.Position.TheVariants.{Awaits, Finish
 use Rattle.tape_set.specs.Before.{before}
 use Rattle.tape_set.specs.Layout.{FileSet}
 use Rattle.tape_set.specs.Position.{block_of}
-use Rattle.tape_core.specs.declared.answer.Answer.TheVariants.{Complete, SectionDone, Useless}
-use Rattle.tape_core.specs.declared.answer.Reason.{Reason}
-use Rattle.tape_core.specs.declared.answer.Reason.TheVariants.{BlockCount}
-use Rattle.tape_core.specs.declared.phase.Phase.TheVariants.{Broken, Over}
+use Rattle.tape_core.specs.declared.event.Answer.TheVariants.{Complete, SectionDone, Useless}
+use Rattle.tape_core.specs.declared.event.Reason.{Reason}
+use Rattle.tape_core.specs.declared.event.Reason.TheVariants.{BlockCount}
+use Rattle.tape_core.specs.declared.event.Phase.TheVariants.{Broken, Over}
 use Rattle.tape_core.specs.declared.sink.SinkFault.TheVariants.{Device}
 use Rattle.tape_core.specs.Follows.{IsFinal}
 use Rattle.tape_core.specs.Place.{rest_of, resting}

@@ -11,9 +11,9 @@ use Rattle.tape_set.specs.Layout.{FileSet, items}
 use Rattle.tape_set.specs.Lawful.{IsLawful}
 use Rattle.tape_set.specs.Reading.{Reading, as_read}
 use Rattle.tape_set.specs.Reach.{far}
-use Rattle.tape_core.specs.declared.answer.Answer.{Answer}
-use Rattle.tape_core.specs.declared.answer.Answer.TheVariants.{Passed, Deliver, SectionDone}
-use Rattle.tape_core.specs.declared.answer.Answer.TheVariants.{Complete, Useless}
+use Rattle.tape_core.specs.declared.event.Answer.{Answer}
+use Rattle.tape_core.specs.declared.event.Answer.TheVariants.{Passed, Deliver, SectionDone}
+use Rattle.tape_core.specs.declared.event.Answer.TheVariants.{Complete, Useless}
 use Rattle.tape_core.specs.State.{State}
 use Rattle.tape_core.specs.Place.{rest_of, IsPlaced}
 use Rattle.tape_core.specs.Table.{Outcome, step_of, mount_of}

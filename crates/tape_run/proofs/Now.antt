@@ -10,7 +10,7 @@ use Rattle.tape_set.specs.declared.position.Want.{Want}
 use Rattle.tape_set.specs.Position.{want_at}
 use Rattle.tape_run.specs.Seen.{seen}
 use Rattle.tape_run.specs.Story.{Story}
-use Rattle.tape_blocks.specs.declared.form.Form.{Form}
+use Rattle.tape_blocks.specs.declared.parts.Form.{Form}
 use Rattle.tape_run.specs.Output.{AppendsFront}
 use Rattle.tape_run.specs.RecordText.{output_of}
 use Rattle.tape_run.specs.ReelLine.{reel_lines, last_line}

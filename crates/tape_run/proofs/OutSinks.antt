@@ -9,7 +9,7 @@ use Rattle.tape_blocks.specs.Spans.{leaves, join, content_after, Joined}
 use Rattle.tape_blocks.proofs.JoinLaws.{join_ends, join_goes_on}
 use Rattle.tape_core.specs.Stands.{weight_of}
 use Rattle.tape_core.proofs.Weights.{weight_of-one_more, front_of_all}
-use Rattle.tape_blocks.specs.declared.form.Form.{Form}
+use Rattle.tape_blocks.specs.declared.parts.Form.{Form}
 use Rattle.tape_run.specs.RecordText.{record_end, records_text, part_text}
 use Rattle.tape_run.specs.OutSinks.{begun_text, text_so_far, with_end, TellsAlways, IsText}
 use Rattle.tape_run.specs.OutSinks.{HasTaken}

@@ -11,7 +11,7 @@ use Rattle.tape_image.specs.Word.{block_extent}
 use Rattle.tape_image.specs.Spelling.{Spelling, IsSpelling, IsFramed, item_of, a_mark, a_gap}
 use Rattle.tape_image.specs.Spelling.{a_block}
 use Rattle.tape_image.specs.Begins.{Walks}
-use Rattle.tape_image.specs.declared.fault.ImageFault.{ImageFault}
+use Rattle.tape_image.specs.declared.item.ImageFault.{ImageFault}
 use Rattle.tape_image.specs.Step.{TakesItem}
 use Rattle.tape_image.proofs.Spellings.{one_spelling, same_back}
 use Rattle.tape_image.proofs.Walks.{Walks-nil, Walks-trans, Walks-item, TakesEnd-behind}

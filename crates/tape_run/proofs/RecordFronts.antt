@@ -9,8 +9,8 @@ use Rattle.std.proofs.KnownBytes.{Appends-nil, Appends-trans}
 use Rattle.tape_blocks.specs.Block.{Portion}
 use Rattle.tape_blocks.specs.Parts.{view}
 use Rattle.tape_blocks.specs.Spans.{leaves, with_record, join_after, join}
-use Rattle.tape_blocks.specs.declared.form.Form.{Form}
-use Rattle.tape_blocks.specs.declared.part.Part.{Part}
+use Rattle.tape_blocks.specs.declared.parts.Form.{Form}
+use Rattle.tape_blocks.specs.declared.parts.Part.{Part}
 use Rattle.tape_core.specs.Walks.{GivesPart}
 use Rattle.tape_core.specs.Stands.{weight_of}
 use Rattle.tape_run.specs.Output.{AppendsFront}

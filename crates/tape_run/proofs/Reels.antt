@@ -2,7 +2,7 @@
 use Rattle.std.proofs.Common.{◌≡◌, ℕ, ◌+◌, List, [], ◌∷◌, ◌++◌, Option, Some, None, refl, sym, ap}
 use Rattle.std.proofs.Common.{Result, Ok, Err, subst, ◌∙◌, inl, inr, arith}
 use Rattle.std.specs.List.{AllByRecursion}
-use Rattle.tape_image.specs.declared.fault.ImageFault.{ImageFault}
+use Rattle.tape_image.specs.declared.item.ImageFault.{ImageFault}
 use Rattle.tape_image.specs.declared.item.Ending.{Ending}
 use Rattle.tape_image.specs.Tape.{TapeItem, block}
 use Rattle.tape_image.specs.Begins.{Walks}
@@ -11,14 +11,14 @@ use Rattle.tape_image.specs.Reader.{Reader, IfKnown}
 use Rattle.tape_image.specs.Step.{TakesEnd, TakesFault, Meets, GivesItem}
 use Rattle.tape_image.proofs.Walks.{Walks-nil, Walks-trans, Walks-item, TakesEnd-behind}
 use Rattle.tape_image.proofs.Walks.{TakesFault-behind, known_then, known_same}
-use Rattle.tape_core.specs.declared.answer.Answer.{Answer}
-use Rattle.tape_core.specs.declared.answer.Answer.TheVariants.{Passed, Deliver, SectionDone}
-use Rattle.tape_core.specs.declared.answer.Answer.TheVariants.{Complete, Useless}
+use Rattle.tape_core.specs.declared.event.Answer.{Answer}
+use Rattle.tape_core.specs.declared.event.Answer.TheVariants.{Passed, Deliver, SectionDone}
+use Rattle.tape_core.specs.declared.event.Answer.TheVariants.{Complete, Useless}
 use Rattle.tape_core.specs.State.{State}
 use Rattle.tape_core.specs.Place.{rest_of}
 use Rattle.tape_core.specs.Table.{step_of}
 use Rattle.tape_core.specs.Follows.{IsFinal}
-use Rattle.tape_run.specs.declared.answer.ReelAnswer.{ReelAnswer}
+use Rattle.tape_run.specs.declared.intake.ReelAnswer.{ReelAnswer}
 use Rattle.tape_run.specs.Reels.{behind_items, answers_to, GoesOn, delivered_by, ReadsReel}
 use Rattle.tape_run.specs.Reels.{ReadsToBlock, ReadsSoFar, IsDelivery}
 use Rattle.tape_run.specs.Taking.{came_of, fault_of}

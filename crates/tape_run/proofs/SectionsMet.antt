@@ -5,7 +5,7 @@ use Rattle.std.proofs.Common.{append-nil, length-append}
 use Rattle.std.specs.Prelude.{⊤, map, ◌==◌, ◌||◌, not, if◌then◌else◌}
 use Rattle.std.proofs.lemmas.Bool.Decides.{nat_tests}
 use Rattle.tape_image.specs.Tape.{TapeItem, block, mark}
-use Rattle.tape_label.specs.declared.fault.LabelFault.{LabelFault}
+use Rattle.tape_label.specs.declared.label.LabelFault.{LabelFault}
 use Rattle.tape_label.specs.declared.values.Kind.{Kind}
 use Rattle.tape_label.specs.declared.values.Kind.TheVariants as kinds
 use Rattle.tape_label.specs.declared.values.Vol1.{Vol1}

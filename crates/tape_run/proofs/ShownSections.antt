@@ -4,7 +4,7 @@ use Rattle.std.proofs.Common.{Result, Ok, Err, refl, sym, subst, append_assoc}
 use Rattle.std.specs.Prelude.{◌||◌, if◌then◌else◌}
 use Rattle.std.specs.List.{AllByRecursion}
 use Rattle.tape_image.specs.Tape.{TapeItem, block, bad, mark}
-use Rattle.tape_label.specs.declared.fault.LabelFault.{LabelFault}
+use Rattle.tape_label.specs.declared.label.LabelFault.{LabelFault}
 use Rattle.tape_label.specs.declared.values.Trail1.{Trail1}
 use Rattle.tape_label.specs.Kinds.{kind_at}
 use Rattle.tape_label.specs.VolumeLabels.{is_volume_label}

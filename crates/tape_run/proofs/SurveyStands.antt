@@ -6,7 +6,7 @@ use Rattle.std.specs.Prelude.{⊤, ◌≢◌, map, if◌then◌else◌}
 use Rattle.std.specs.List.{AllByRecursion, flat_map}
 use Rattle.std.proofs.lemmas.Grind.{flat_map-append}
 use Rattle.tape_image.specs.Tape.{TapeItem, block, mark}
-use Rattle.tape_label.specs.declared.fault.LabelFault.{LabelFault}
+use Rattle.tape_label.specs.declared.label.LabelFault.{LabelFault}
 use Rattle.tape_label.specs.declared.values.Kind.{Kind}
 use Rattle.tape_label.specs.declared.values.Kind.TheVariants as kinds
 use Rattle.tape_label.specs.declared.values.Vol1.{Vol1}

@@ -7,8 +7,8 @@ use Rattle.tape_blocks.specs.Judged.{begun_behind}
 use Rattle.tape_image.specs.Tape.{TapeItem, block}
 use Rattle.tape_set.specs.Lawful.{FileForm}
 use Rattle.tape_set.specs.Position.{part_of, at_part, next_block}
-use Rattle.tape_core.specs.declared.answer.Answer.{Answer}
-use Rattle.tape_core.specs.declared.answer.Answer.TheVariants.{Deliver}
+use Rattle.tape_core.specs.declared.event.Answer.{Answer}
+use Rattle.tape_core.specs.declared.event.Answer.TheVariants.{Deliver}
 use Rattle.tape_core.specs.Place.{place_of, rest_of, IsPlaced}
 use Rattle.tape_core.specs.State.{State}
 use Rattle.tape_core.specs.Table.{saved, step_of}

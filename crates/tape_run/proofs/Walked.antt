@@ -1,7 +1,7 @@
 -- Sinks that were walked.
 use Rattle.std.proofs.Common.{◌≡◌, ℕ, List, Option, Result, Ok, refl, subst, ◌∙◌}
 use Rattle.tape_blocks.specs.Block.{Portion}
-use Rattle.tape_blocks.specs.declared.part.Part.{Part}
+use Rattle.tape_blocks.specs.declared.parts.Part.{Part}
 use Rattle.tape_core.specs.Crash.{Crashes, AddsNothing}
 use Rattle.tape_core.proofs.Crashes.{only_same}
 use Rattle.tape_core.specs.Walks.{Counts, HasGiven}

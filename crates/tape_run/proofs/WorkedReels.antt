@@ -10,7 +10,7 @@ use Rattle.tape_image.specs.Spelling.{Spelling}
 use Rattle.tape_image.specs.Begins.{Begins, ends, faults}
 use Rattle.tape_image.specs.Begins as begin
 use Rattle.tape_image.specs.declared.item.Ending.TheVariants.{Marked, Physical}
-use Rattle.tape_image.specs.declared.fault.ImageCause.TheVariants.{Truncated}
+use Rattle.tape_image.specs.declared.item.ImageCause.TheVariants.{Truncated}
 use Rattle.tape_label.specs.Kinds.{kind_at}
 use Rattle.tape_label.specs.VolumeLabels.{is_volume_label}
 use Rattle.tape_label.specs.Reading.{head1_at, head_at}

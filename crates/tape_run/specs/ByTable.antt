@@ -5,8 +5,8 @@ use Rattle.tape_image.specs.Tape.{TapeItem, block}
 use Rattle.tape_set.specs.Lawful.{FileForm}
 use Rattle.tape_set.specs.declared.position.Position.{Position}
 use Rattle.tape_set.specs.Position.{part_of, at_part}
-use Rattle.tape_core.specs.declared.answer.Answer.{Answer}
-use Rattle.tape_core.specs.declared.answer.Answer.TheVariants.{Deliver}
+use Rattle.tape_core.specs.declared.event.Answer.{Answer}
+use Rattle.tape_core.specs.declared.event.Answer.TheVariants.{Deliver}
 use Rattle.tape_core.specs.State.{State}
 use Rattle.tape_core.specs.Parts.{parts_in}
 use Rattle.tape_core.specs.Place.{rest_of}

@@ -3,9 +3,9 @@
 use Rattle.std.specs.Prelude.{◌≡◌, ◌≤◌, ℕ, ◌+◌, Bool, true, false, List, [], ◌∷◌, ◌++◌}
 use Rattle.std.specs.Prelude.{length, take, slice_get, Some, None, IsSome}
 use Rattle.std.specs.Prelude.{Option}
-use Rattle.tape_image.specs.declared.fault.ImageCause.TheVariants.{Truncated}
-use Rattle.tape_image.specs.declared.fault.ImageCause.TheVariants.{Device}
-use Rattle.tape_image.specs.declared.fault.ImageCause.TheVariants.{OutOfMemory as NoMemory}
+use Rattle.tape_image.specs.declared.item.ImageCause.TheVariants.{Truncated}
+use Rattle.tape_image.specs.declared.item.ImageCause.TheVariants.{Device}
+use Rattle.tape_image.specs.declared.item.ImageCause.TheVariants.{OutOfMemory as NoMemory}
 use Rattle.tape_image.specs.Tape.{TapeItem, block, mark}
 use Rattle.tape_image.specs.Begins.{Stop, Begins}
 use Rattle.tape_blocks.specs.Block.{Portion}

@@ -6,9 +6,9 @@ use Rattle.std.specs.List.{AllByRecursion, flat_map}
 use Rattle.std.specs.Io.KnownBytes.{Appends}
 use Rattle.tape_image.specs.declared.item.Ending.{Ending}
 use Rattle.tape_image.specs.declared.item.Ending.TheVariants as endings
-use Rattle.tape_image.specs.declared.fault.ImageFault.{ImageFault}
+use Rattle.tape_image.specs.declared.item.ImageFault.{ImageFault}
 use Rattle.tape_image.specs.Step.{TakesEnd, TakesFault}
-use Rattle.tape_image.specs.declared.fault.ImageCause.TheVariants.{Truncated, Device}
+use Rattle.tape_image.specs.declared.item.ImageCause.TheVariants.{Truncated, Device}
 use Rattle.tape_image.specs.Tape.{TapeItem, block, mark}
 use Rattle.tape_image.specs.Begins.{Begins, ends}
 use Rattle.tape_image.specs.Reader.{IfKnown}

@@ -3,7 +3,7 @@
 use Rattle.std.specs.Prelude.{◌≡◌, ◌≢◌, ◌<◌, ◌≤◌, ◌⊎◌, ℕ, List, [], ◌∷◌, ◌++◌, length, map, Option}
 use Rattle.std.specs.Prelude.{Some, None, Bool, true, false, ⊤, is_some}
 use Rattle.std.specs.Io.KnownBytes.{Appends}
-use Rattle.tape_blocks.specs.declared.form.Form.{Form}
+use Rattle.tape_blocks.specs.declared.parts.Form.{Form}
 use Rattle.tape_blocks.specs.Block.{Portion}
 use Rattle.tape_blocks.specs.Spans.{join}
 use Rattle.tape_image.specs.Reader.{IfKnown}
@@ -15,8 +15,8 @@ use Rattle.tape_set.specs.declared.position.Want.{Want}
 use Rattle.tape_set.specs.Position.{want_at}
 use Rattle.tape_set.specs.Layout.{FileSet}
 use Rattle.tape_set.specs.Lawful.{IsLawful}
-use Rattle.tape_core.specs.declared.answer.Answer.TheVariants.{SectionDone, Useless}
-use Rattle.tape_core.specs.declared.answer.Reason.TheVariants.{BlockCount, Broken, BadItem}
+use Rattle.tape_core.specs.declared.event.Answer.TheVariants.{SectionDone, Useless}
+use Rattle.tape_core.specs.declared.event.Reason.TheVariants.{BlockCount, Broken, BadItem}
 use Rattle.tape_core.specs.Crash.{lost}
 use Rattle.tape_core.specs.Place.{IsPlaced, rest_of}
 use Rattle.tape_core.specs.State.{State}

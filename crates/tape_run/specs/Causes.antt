@@ -1,7 +1,7 @@
 -- Why records were not written.
 use Rattle.std.specs.Prelude.{◌≡◌, ◌≢◌, ◌⊎◌, ℕ, Bool, true, List}
 use Rattle.tape_blocks.specs.Block.{Portion}
-use Rattle.tape_blocks.specs.declared.form.Form.{Form}
+use Rattle.tape_blocks.specs.declared.parts.Form.{Form}
 use Rattle.tape_core.specs.Weight.{Rose}
 use Rattle.tape_core.specs.declared.sink.SinkFault.{SinkFault}
 use Rattle.tape_core.specs.declared.sink.SinkFault.TheVariants.{Failed}

@@ -1,6 +1,6 @@
 -- Worked lines of a report: they hold the definitions.
 use Rattle.std.specs.Prelude.{◌≡◌, true, false, [], ◌∷◌, ◌++◌, codes, Option, Some, None}
-use Rattle.tape_image.specs.declared.fault.ImageCause.TheVariants.{Truncated}
+use Rattle.tape_image.specs.declared.item.ImageCause.TheVariants.{Truncated}
 use Rattle.tape_run.specs.declared.section.ImageStop.TheVariants.{Marked, Physical, Fault}
 use Rattle.tape_run.specs.declared.section.ImageLine.{ImageLine}
 use Rattle.tape_run.specs.declared.section.SectionState.TheVariants.{Good, Bad, Count, Cut}

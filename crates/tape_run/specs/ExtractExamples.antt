@@ -1,13 +1,13 @@
 -- Worked examples of what `extract` reports and writes: they hold the definitions.
 use Rattle.std.specs.Prelude.{◌≡◌, ℕ, List, [], ◌∷◌, ◌++◌, Option, Some, None, codes, decimal}
-use Rattle.tape_image.specs.declared.fault.ImageCause.TheVariants.{Truncated}
-use Rattle.tape_blocks.specs.declared.part.Span.TheVariants.{Whole, First, Middle, Last}
+use Rattle.tape_image.specs.declared.item.ImageCause.TheVariants.{Truncated}
+use Rattle.tape_blocks.specs.declared.parts.Span.TheVariants.{Whole, First, Middle, Last}
 use Rattle.tape_blocks.specs.Block.{Portion}
 use Rattle.tape_set.specs.declared.position.Want.{Want}
-use Rattle.tape_core.specs.declared.answer.Answer.TheVariants.{Useless}
-use Rattle.tape_core.specs.declared.answer.Reason.TheVariants.{ReelEnded}
-use Rattle.tape_run.specs.declared.answer.ReelAnswer.{ReelAnswer}
-use Rattle.tape_blocks.specs.declared.form.Form.TheVariants.{Lines, Raw}
+use Rattle.tape_core.specs.declared.event.Answer.TheVariants.{Useless}
+use Rattle.tape_core.specs.declared.event.Reason.TheVariants.{ReelEnded}
+use Rattle.tape_run.specs.declared.intake.ReelAnswer.{ReelAnswer}
+use Rattle.tape_blocks.specs.declared.parts.Form.TheVariants.{Lines, Raw}
 use Rattle.tape_run.specs.RecordText.{output_of}
 use Rattle.tape_run.specs.ReelLine.{reel_line, reel_lines, awaits_line}
 

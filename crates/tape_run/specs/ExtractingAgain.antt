@@ -2,13 +2,13 @@
 use Rattle.std.specs.Prelude.{◌≡◌, ◌⊎◌, ℕ, ◌<◌, ◌≤◌, List, ◌++◌, length, map, Option, None}
 use Rattle.std.specs.Io.KnownBytes.{Appends}
 use Rattle.tape_blocks.specs.Block.{Portion}
-use Rattle.tape_blocks.specs.declared.form.Form.{Form}
+use Rattle.tape_blocks.specs.declared.parts.Form.{Form}
 use Rattle.tape_set.specs.declared.position.Position.TheVariants.{Finished}
 use Rattle.tape_set.specs.declared.position.Want.{Want}
 use Rattle.tape_core.specs.Crash.{Crashes}
 use Rattle.tape_core.specs.State.{State}
 use Rattle.tape_run.specs.Crash.{LeavesSaved}
-use Rattle.tape_run.specs.declared.answer.ReelAnswer.{ReelAnswer}
+use Rattle.tape_run.specs.declared.intake.ReelAnswer.{ReelAnswer}
 use Rattle.tape_run.specs.Extracting.{Ends}
 use Rattle.tape_run.specs.Output.{AppendsFront}
 use Rattle.tape_run.specs.RecordText.{output_of}

@@ -6,7 +6,7 @@ use Rattle.tape_image.specs.Tape.{TapeItem, block}
 use Rattle.tape_set.specs.declared.position.Position.{Position}
 use Rattle.tape_set.specs.Layout.{FileSet}
 use Rattle.tape_set.specs.Lawful.{FileForm}
-use Rattle.tape_core.specs.declared.answer.Answer.{Answer}
+use Rattle.tape_core.specs.declared.event.Answer.{Answer}
 use Rattle.tape_core.specs.State.{State}
 use Rattle.tape_core.specs.Follows.{IsAt, IsFinal, Gives}
 use Rattle.tape_run.specs.Mount.{Happening, after_mount}

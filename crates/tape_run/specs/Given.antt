@@ -1,11 +1,11 @@
 -- The bytes that readers gave, and the count of readers that failed.
 use Rattle.std.specs.Prelude.{◌≡◌, ◌⊎◌, ℕ, zero, suc, ◌+◌, Bool, true, false, List, [], ◌∷◌, ◌++◌}
 use Rattle.std.specs.Prelude.{min, Option, Some, None}
-use Rattle.tape_image.specs.declared.fault.ImageFault.{ImageFault}
-use Rattle.tape_image.specs.declared.fault.ImageCause.{ImageCause}
-use Rattle.tape_image.specs.declared.fault.ImageCause.TheVariants.{Truncated, LengthsDiffer}
-use Rattle.tape_image.specs.declared.fault.ImageCause.TheVariants.{Reserved, TooLong, Device}
-use Rattle.tape_image.specs.declared.fault.ImageCause.TheVariants.{OutOfMemory}
+use Rattle.tape_image.specs.declared.item.ImageFault.{ImageFault}
+use Rattle.tape_image.specs.declared.item.ImageCause.{ImageCause}
+use Rattle.tape_image.specs.declared.item.ImageCause.TheVariants.{Truncated, LengthsDiffer}
+use Rattle.tape_image.specs.declared.item.ImageCause.TheVariants.{Reserved, TooLong, Device}
+use Rattle.tape_image.specs.declared.item.ImageCause.TheVariants.{OutOfMemory}
 
 -- whether the reader failed
 abbrev pub is_device_cause : ImageCause → Bool

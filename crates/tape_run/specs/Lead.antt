@@ -4,7 +4,7 @@ use Rattle.std.specs.Prelude.{⊤}
 use Rattle.tape_blocks.specs.Block.{Portion}
 use Rattle.tape_image.specs.Tape.{TapeItem}
 use Rattle.tape_image.specs.Begins.{Stop, Begins}
-use Rattle.tape_core.specs.declared.phase.Phase.TheVariants.{Over}
+use Rattle.tape_core.specs.declared.event.Phase.TheVariants.{Over}
 use Rattle.tape_core.specs.Point.{Point}
 use Rattle.tape_core.specs.State.{State}
 use Rattle.tape_core.specs.Place.{rest_of}

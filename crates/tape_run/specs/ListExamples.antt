@@ -3,8 +3,8 @@
 use Rattle.std.specs.Prelude.{◌≡◌, ◌≢◌, ℕ, List, [], ◌∷◌, ◌++◌, Option, codes}
 use Rattle.std.specs.Io.KnownBytes.{Appends, Keeps}
 use Rattle.tape_image.specs.declared.item.Ending.TheVariants.{Marked}
-use Rattle.tape_image.specs.declared.fault.ImageCause.TheVariants.{Device, OutOfMemory}
-use Rattle.tape_image.specs.declared.fault.ImageFault.{ImageFault}
+use Rattle.tape_image.specs.declared.item.ImageCause.TheVariants.{Device, OutOfMemory}
+use Rattle.tape_image.specs.declared.item.ImageFault.{ImageFault}
 use Rattle.tape_image.specs.Tape.{bad, mark}
 use Rattle.tape_image.specs.Begins.{ends}
 use Rattle.tape_image.specs.Reader.{IfKnown}

@@ -2,9 +2,9 @@
 use Rattle.std.specs.Prelude.{◌≡◌, ◌≢◌, ℕ, ◌+◌, List, [], ◌∷◌, ◌++◌, length, Option}
 use Rattle.std.specs.Io.KnownBytes.{Appends, Keeps}
 use Rattle.tape_image.specs.declared.item.Ending.{Ending}
-use Rattle.tape_image.specs.declared.fault.ImageCause.{ImageCause}
-use Rattle.tape_image.specs.declared.fault.ImageCause.TheVariants.{Device, OutOfMemory}
-use Rattle.tape_image.specs.declared.fault.ImageFault.{ImageFault}
+use Rattle.tape_image.specs.declared.item.ImageCause.{ImageCause}
+use Rattle.tape_image.specs.declared.item.ImageCause.TheVariants.{Device, OutOfMemory}
+use Rattle.tape_image.specs.declared.item.ImageFault.{ImageFault}
 use Rattle.tape_image.specs.Tape.{TapeItem}
 use Rattle.tape_image.specs.Begins.{ends, Walks}
 use Rattle.tape_image.specs.Reader.{IfKnown}

@@ -4,7 +4,7 @@ use Rattle.std.specs.Prelude.{Some, None, IsSome, is_some}
 use Rattle.tape_blocks.specs.Block.{Portion}
 use Rattle.tape_blocks.specs.Spans.{join}
 use Rattle.tape_core.specs.Stands.{weight_of}
-use Rattle.tape_blocks.specs.declared.form.Form.{Form}
+use Rattle.tape_blocks.specs.declared.parts.Form.{Form}
 use Rattle.tape_run.specs.RecordText.{output_of}
 
 -- what there is of a record that is begun

@@ -1,21 +1,21 @@
 -- The lines that `extract` reports. Numbers are decimals without leading zeros.
 use Rattle.std.specs.Prelude.{ℕ, ◌+◌, List, [], ◌∷◌, ◌++◌, Option, Some, None, codes, decimal}
 use Rattle.std.specs.Prelude.{if◌then◌else◌, ◌==◌}
-use Rattle.tape_image.specs.declared.fault.ImageFault.{ImageFault}
+use Rattle.tape_image.specs.declared.item.ImageFault.{ImageFault}
 use Rattle.tape_image.specs.Fault as image_faults
 use Rattle.tape_label.specs.Faults as label_faults
 use Rattle.tape_blocks.specs.Numbers.{cause_number}
 use Rattle.tape_set.specs.declared.position.Want.{Want}
-use Rattle.tape_core.specs.declared.answer.Answer.{Answer}
-use Rattle.tape_core.specs.declared.answer.Answer.TheVariants.{Passed, Deliver, SectionDone}
-use Rattle.tape_core.specs.declared.answer.Answer.TheVariants.{Complete, Useless}
-use Rattle.tape_core.specs.declared.answer.Reason.{Reason}
-use Rattle.tape_core.specs.declared.answer.Reason.TheVariants.{NotLabelled, OtherSet, NotOnReel}
-use Rattle.tape_core.specs.declared.answer.Reason.TheVariants.{LaterSection, EarlierSection}
-use Rattle.tape_core.specs.declared.answer.Reason.TheVariants.{BadItem, ReelEnded, BadBlock}
-use Rattle.tape_core.specs.declared.answer.Reason.TheVariants.{BlockCount, SpanLeft, SectionDiffers}
-use Rattle.tape_core.specs.declared.answer.Reason.TheVariants.{BadLabel, Broken}
-use Rattle.tape_run.specs.declared.answer.ReelAnswer.{ReelAnswer}
+use Rattle.tape_core.specs.declared.event.Answer.{Answer}
+use Rattle.tape_core.specs.declared.event.Answer.TheVariants.{Passed, Deliver, SectionDone}
+use Rattle.tape_core.specs.declared.event.Answer.TheVariants.{Complete, Useless}
+use Rattle.tape_core.specs.declared.event.Reason.{Reason}
+use Rattle.tape_core.specs.declared.event.Reason.TheVariants.{NotLabelled, OtherSet, NotOnReel}
+use Rattle.tape_core.specs.declared.event.Reason.TheVariants.{LaterSection, EarlierSection}
+use Rattle.tape_core.specs.declared.event.Reason.TheVariants.{BadItem, ReelEnded, BadBlock}
+use Rattle.tape_core.specs.declared.event.Reason.TheVariants.{BlockCount, SpanLeft, SectionDiffers}
+use Rattle.tape_core.specs.declared.event.Reason.TheVariants.{BadLabel, Broken}
+use Rattle.tape_run.specs.declared.intake.ReelAnswer.{ReelAnswer}
 
 -- a word, and two numbers behind it
 abbrev pub two_numbers : List ℕ → ℕ → ℕ → List ℕ

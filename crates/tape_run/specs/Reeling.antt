@@ -12,13 +12,13 @@ use Rattle.tape_set.specs.declared.position.Position.TheVariants.{Finished}
 use Rattle.tape_set.specs.Layout.{FileSet}
 use Rattle.tape_set.specs.Lawful.{IsLawful}
 use Rattle.tape_core.specs.State.{State}
-use Rattle.tape_core.specs.declared.answer.Answer.{Answer}
-use Rattle.tape_core.specs.declared.answer.Answer.TheVariants.{Useless}
-use Rattle.tape_core.specs.declared.answer.Reason.TheVariants.{BlockCount, Broken}
+use Rattle.tape_core.specs.declared.event.Answer.{Answer}
+use Rattle.tape_core.specs.declared.event.Answer.TheVariants.{Useless}
+use Rattle.tape_core.specs.declared.event.Reason.TheVariants.{BlockCount, Broken}
 use Rattle.tape_core.specs.Place.{IsPlaced, rest_of}
 use Rattle.tape_core.specs.Crash.{Crashes}
 use Rattle.tape_core.specs.Point.{Point}
-use Rattle.tape_run.specs.declared.answer.ReelAnswer.{ReelAnswer}
+use Rattle.tape_run.specs.declared.intake.ReelAnswer.{ReelAnswer}
 use Rattle.tape_run.specs.Crash.{KeepsLast, LeavesSaved}
 use Rattle.tape_run.specs.Given.{is_device, IsGiven}
 use Rattle.tape_run.specs.Mount.{Happening, IsMountOf, after_mount}

@@ -1,20 +1,20 @@
 -- What a reel answers: the core's answers to the items that the reader gave, one after another.
 use Rattle.std.specs.Prelude.{◌≡◌, ◌⊎◌, ℕ, ◌+◌, List, [], ◌∷◌, ◌++◌, Option, Some, None, ⊤}
 use Rattle.std.specs.List.{AllByRecursion}
-use Rattle.tape_image.specs.declared.fault.ImageFault.{ImageFault}
+use Rattle.tape_image.specs.declared.item.ImageFault.{ImageFault}
 use Rattle.tape_image.specs.declared.item.Ending.{Ending}
 use Rattle.tape_image.specs.Tape.{TapeItem, block}
 use Rattle.tape_image.specs.Begins.{Walks}
 use Rattle.tape_image.specs.Reader.{IfKnown}
 use Rattle.tape_image.specs.Step.{TakesEnd, TakesFault}
-use Rattle.tape_core.specs.declared.answer.Answer.{Answer}
-use Rattle.tape_core.specs.declared.answer.Answer.TheVariants.{Passed, Deliver, Complete}
+use Rattle.tape_core.specs.declared.event.Answer.{Answer}
+use Rattle.tape_core.specs.declared.event.Answer.TheVariants.{Passed, Deliver, Complete}
 use Rattle.tape_set.specs.declared.position.Position.{Position}
 use Rattle.tape_set.specs.declared.position.Position.TheVariants.{Awaits, Finished}
 use Rattle.tape_core.specs.State.{State}
 use Rattle.tape_core.specs.Table.{step_of, mount_of}
 use Rattle.tape_core.specs.Follows.{IsFinal}
-use Rattle.tape_run.specs.declared.answer.ReelAnswer.{ReelAnswer}
+use Rattle.tape_run.specs.declared.intake.ReelAnswer.{ReelAnswer}
 use Rattle.tape_run.specs.declared.fault.RunFault.{RunFault}
 use Rattle.tape_run.specs.declared.fault.RunFault.TheVariants.{Sink, OutOfMemory}
 

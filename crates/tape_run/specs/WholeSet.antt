@@ -6,7 +6,7 @@ use Rattle.tape_set.specs.Lawful.{IsLawful}
 use Rattle.tape_set.specs.Laws.{StandsIn}
 use Rattle.tape_run.specs.declared.section.SectionKey.{SectionKey}
 use Rattle.tape_image.specs.declared.item.Ending.{Ending}
-use Rattle.tape_image.specs.declared.fault.ImageCause.TheVariants.{Device}
+use Rattle.tape_image.specs.declared.item.ImageCause.TheVariants.{Device}
 use Rattle.tape_image.specs.Begins.{ends, Begins}
 use Rattle.tape_run.specs.declared.section.ImageStop.{ImageStop}
 use Rattle.tape_run.specs.declared.section.ImageStop.TheVariants.{Marked, Physical, Fault}

@@ -2,7 +2,7 @@
 -- out, and what the headline says of them.
 use Rattle.std.specs.Prelude.{◌≡◌, ℕ, Bool, true, false, List, [], ◌∷◌, ◌++◌, None, codes}
 use Rattle.std.specs.Prelude.{replicate}
-use Rattle.tape_blocks.specs.declared.part.Span.TheVariants.{First, Middle, Last}
+use Rattle.tape_blocks.specs.declared.parts.Span.TheVariants.{First, Middle, Last}
 use Rattle.tape_blocks.specs.Block.{Portion}
 use Rattle.tape_blocks.specs.Spans.{join}
 use Rattle.tape_set.specs.declared.position.Position.{Position}

@@ -1,4 +1,5 @@
 //! `check`: which file sections are on any images, which are whole, and which are missing.
+
 ghost use Rattle.std.specs.Prelude.{◌≡◌, [], List, map, option_map, IfOk, IfErr, OnOk, OnErr};
 ghost use Rattle.std.specs.List.{flat_map};
 ghost use Rattle.std.specs.Io.KnownBytes.{Appends};
@@ -11,11 +12,11 @@ ghost use Rattle.tape_run.specs.Output.{AppendsFront};
 
 use crate::catalogue::Catalogue;
 use crate::check_line::{image_line, lack_line, section_line};
+use crate::extract::images::Shelf;
 use crate::fault::{EngineFault, NO_MEMORY, WriteFailed};
-use crate::output::{flush, write_text};
 use crate::report::check_set;
 use crate::section::{ImageLine, Lack, SectionLine};
-use crate::shelf::Shelf;
+use crate::text::{flush, write_text};
 use std::alloc::{AllocError, Global};
 use std::io::{Read, Write};
 

@@ -1,32 +1,125 @@
-//! A core and its sink: items taken, parts put.
+//! A reel read into a sink, and what a mount answers.
 
 ghost use Rattle.std.specs.Prelude.{◌≡◌, is_some, true, false, ◌+◌, ◌++◌, ◌<◌, ◌≤◌, List, Some};
-ghost use Rattle.std.specs.Prelude.{None, OnOk, OnErr, IfOk, IfSome, IfNone, length, ◌∷◌, []};
-ghost use Rattle.tape_blocks.specs.Block.{Portion};
+ghost use Rattle.std.specs.Prelude.{None, OnOk, OnErr, IfOk, IfSome, IfNone, length, ◌∷◌, [], Bool};
+ghost use Rattle.std.specs.Prelude.{drop, IfErr};
 ghost use Rattle.tape_image.specs.Reader.{going, seen, IfKnown};
 ghost use Rattle.tape_image.specs.Tape.{block, TapeItem};
+ghost use Rattle.tape_blocks.specs.Block.{Portion, Holds};
+ghost use Rattle.tape_blocks.specs.Spans.{InOrder};
 ghost use Rattle.tape_set.specs.Position.{part_of};
 ghost use Rattle.tape_core.specs.Follows.{IsFinal};
 ghost use Rattle.tape_core.specs.Known.{is_finished};
 ghost use Rattle.tape_core.specs.Place.{rest_of};
 ghost use Rattle.tape_core.specs.Arrive.{arrival};
 ghost use Rattle.tape_core.specs.Table.{step_of};
-ghost use Rattle.tape_run.specs.Followed.{IsChecked};
 ghost use Rattle.tape_core.specs.Crash.{AddsNothing};
 ghost use Rattle.tape_core.specs.Weight.{IsFront, Rose};
+ghost use Rattle.tape_run.specs.Followed.{IsChecked};
 ghost use Rattle.tape_run.specs.ByTable.{parts_of_arrival, StopsInside};
 ghost use Rattle.tape_run.specs.Given.{is_device};
-ghost use Rattle.tape_run.specs.Puts.{IsSized, refused_point, PutsBlock, PutsFront};
+ghost use Rattle.tape_run.specs.Puts.{IsSized, refused_point, PutsBlock, PutsFront, PutsFew};
 ghost use Rattle.tape_run.specs.Reels.{ReadsReel, ReadsToBlock, IsDelivery, GoesOn, delivered_by};
 ghost use Rattle.tape_run.specs.Taking.{TakesItem, RefusesItem, ReadsImage, RefusesImage};
 ghost use Rattle.tape_run.specs.Taking.{CutsTable, came_of, fault_of};
 
-use crate::answer::ReelAnswer;
-use crate::parts::put_parts;
 use std::io::Read;
+use tape_blocks::{Parts, Shape};
 use tape_core::{Answer, Checkpoint, Event, PartSink, ReaderCore, SinkFault};
-use tape_image::{ImageFault, ImageReader, Item};
+use tape_image::{ImageCause, ImageFault, ImageReader, Item};
 use tape_set::Position;
+
+/// What a reel answered.
+#[derive(Clone, Copy, PartialEq, Eq)]
+pub struct ReelAnswer {
+    /// The last answer of the reading: the one that ended it.
+    pub answer: Answer,
+    /// The fault of the image that ended the reading, if one did.
+    pub fault: Option<ImageFault>,
+    /// How many blocks of the file were delivered.
+    pub blocks: u32,
+}
+
+impl ReelAnswer {
+    /// An answer of these three.
+    pub(crate) fn new(answer: Answer, fault: Option<ImageFault>, blocks: u32) -> ReelAnswer
+        ensures answer { result.answer ≡ answer }
+        ensures fault { result.fault ≡ fault }
+        ensures blocks { result.blocks ≡ blocks }
+    {
+        ReelAnswer {
+            answer,
+            fault,
+            blocks,
+        }
+    }
+
+    /// Whether the reader failed.
+    pub fn is_device(&self) -> bool
+        ensures { result ≡ is_device self.now.fault }
+    {
+        match self.fault {
+            Some(fault) => matches!(fault.cause, ImageCause::Device),
+            None => false,
+        }
+    }
+}
+
+/// A part of a block that a sink refused.
+#[derive(Clone, Copy)]
+pub struct Refused {
+    /// Why.
+    pub cause: SinkFault,
+    /// The part's number in its block, counted from 0.
+    pub part: u32,
+    /// Whether a record is begun behind the parts before it.
+    pub begun: bool,
+}
+
+/// Puts the parts of a checked block, from this one on. `begun` tells whether a record is begun
+/// before it.
+pub fn put_parts<S: PartSink>(
+    sink: &mut S,
+    shape: &Shape,
+    block: &[u8],
+    first: u32,
+    begun: bool,
+) -> Result<(), Refused>
+    requires short { length block.now ≤ 99999 }
+    requires checked { (begun : Bool) × (end : Bool) × (parts : List Portion)
+        × Holds shape.now.format shape.now.rec_len shape.now.offset block.now parts
+        × InOrder begun parts end }
+    ensures ok { OnOk result ((held parts : List Portion)
+        → Holds shape.now.format shape.now.rec_len shape.now.offset block.now parts
+        → S.holds sink.old held → S.holds sink.new (held ++ drop first parts)) }
+    ensures err { IfErr result (λ refused. (held parts : List Portion)
+        → Holds shape.now.format shape.now.rec_len shape.now.offset block.now parts
+        → S.holds sink.old held → PutsFew (S.holds sink.new) held parts first begun refused) }
+    ensures within { IfErr result (λ refused. (first ≤ refused.part) × (refused.part ≤ 99999)) }
+    ensures cause { OnErr result (Rose (S.refusals sink.old) (S.refusals sink.new)) }
+    ensures calm { OnOk result (S.refusals sink.new ≡ S.refusals sink.old) }
+    ensures crash { (held : List Portion) → S.holds sink.old held
+        → AddsNothing (S.crashes sink.old) (S.crashes sink.new) }
+{
+    let mut going = begun;
+    let mut seen = 0u32;
+    for part in Parts::new(shape, block) {
+        if first <= seen {
+            match sink.put(part) {
+                Ok(()) => going = part.span.leaves(),
+                Err(cause) => {
+                    return Err(Refused {
+                        cause,
+                        part: seen,
+                        begun: going,
+                    });
+                }
+            }
+        }
+        seen += 1;
+    }
+    Ok(())
+}
 
 /// A core, and the sink of what it delivers.
 #[derive(Drop)]

@@ -4,7 +4,6 @@
 //! write such a file, and reports of what reels gave, to any writer.
 #![tactic(auto)]
 
-mod answer;
 mod catalogue;
 pub mod catalogue_laws;
 mod check;
@@ -21,15 +20,12 @@ pub mod list_laws;
 mod list_line;
 mod list_places;
 mod met;
-mod output;
-mod parts;
 mod passing;
 mod report;
 mod script;
 mod section;
 mod sections;
 mod session;
-mod shelf;
 mod survey;
 pub mod survey_laws;
 pub mod text;
@@ -37,7 +33,7 @@ mod unpack;
 pub mod unpack_laws;
 mod whole;
 
-pub use answer::ReelAnswer;
+pub use crate::extract::images::Shelf;
 pub use catalogue::Catalogue;
 pub use check::check_to;
 pub use extract::{
@@ -45,16 +41,16 @@ pub use extract::{
     write_file,
 };
 pub use fault::{EngineFault, ListFault, RunFault, Stopped, WriteFailed};
+pub use intake::ReelAnswer;
 pub use laws::{only_refusals_stop, stands_across_crashes, stood_comes_back};
 pub use list::list_to;
 pub use list_places::list_places_to;
-pub use output::{flush, write_text};
 pub use report::{Report, check_set};
 pub use script::{Step, run};
 pub use section::{Entry, ImageLine, ImageStop, Lack, SectionKey, SectionLine, SectionState};
 pub use session::Session;
-pub use shelf::Shelf;
 pub use survey::{Wording, survey_to};
+pub use text::{flush, write_text};
 pub use unpack::line::{Fate, fate_text, file_line, left_over_line};
 pub use unpack::name::file_name;
 pub use unpack::{Heading, SetFile, ShelfFiles, files_on};

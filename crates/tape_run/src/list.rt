@@ -8,7 +8,7 @@ ghost use Rattle.tape_run.specs.Listed.{ListsToEnd, ListsInPart, FitsFault};
 
 use crate::fault::{ListFault, WriteFailed};
 use crate::list_line::line_of;
-use crate::output::{flush, write_text};
+use crate::text::{flush, write_text};
 use std::alloc::Global;
 use std::io::{Read, Write};
 use tape_image::{Ending, ImageBuffer, ImageCause, ImageFault, ImageReader};

@@ -1,19 +1,19 @@
 //! `list --places`: the listing of an image, with the place and the size of each item.
-ghost use Rattle.std.specs.Prelude.{◌≡◌, ◌≤◌, ◌+◌, ◌++◌, length, decimal};
-ghost use Rattle.std.specs.Prelude.{IfErr, OnOk, OnErr, codes};
+
+ghost use Rattle.std.specs.Prelude.{◌≡◌, ◌≤◌, ◌+◌, ◌++◌, length, decimal, IfErr, OnOk, OnErr};
+ghost use Rattle.std.specs.Prelude.{codes};
 ghost use Rattle.std.specs.Io.KnownBytes.{Appends};
 ghost use Rattle.arrayvec.specs.ArrayVec.{array_vec_len};
-ghost use Rattle.tape_run.specs.Output.{AppendsFront};
-ghost use Rattle.tape_run.specs.Placed.{item_extent, told_at, placed_end, PlacesToEnd, FitsPlaces};
 ghost use Rattle.tape_image.specs.Reader.{IfKnown, going, tape_item};
 ghost use Rattle.tape_image.specs.Spelling.{end_len};
 ghost use Rattle.tape_image.specs.Tape.{IsTapeItem};
+ghost use Rattle.tape_run.specs.Output.{AppendsFront};
+ghost use Rattle.tape_run.specs.Placed.{item_extent, told_at, placed_end, PlacesToEnd, FitsPlaces};
 
 use crate::fault::{ListFault, WriteFailed};
 use crate::list::{last_line, reserve};
 use crate::list_line::line_of;
-use crate::output::{flush, write_text};
-use crate::text::{put, put_decimal};
+use crate::text::{flush, put, put_decimal, write_text};
 use arrayvec::ArrayVec;
 use std::alloc::Global;
 use std::io::{Read, Write};

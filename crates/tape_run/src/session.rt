@@ -1,10 +1,11 @@
 //! Sessions: one file read from its reels, in any order, into one sink.
+
 mod output;
 
 ghost use Rattle.std.specs.Prelude.{◌≡◌, [], ◌≢◌, List, Option, None, Ok, Err, IsOk, OnOk, IfOk};
 ghost use Rattle.std.specs.Prelude.{IfErr, IfSome, length};
-ghost use Rattle.tape_blocks.specs.Block.{Portion};
 ghost use Rattle.tape_image.specs.Reader.{IfKnown};
+ghost use Rattle.tape_blocks.specs.Block.{Portion};
 ghost use Rattle.tape_set.specs.Layout.{FileSet};
 ghost use Rattle.tape_set.specs.Position.{want_at};
 ghost use Rattle.tape_core.specs.Known.{IsFileNumber};
@@ -21,9 +22,8 @@ ghost use Rattle.tape_run.specs.Reels.{Reads, Leaves};
 ghost use Rattle.tape_run.specs.Seen.{seen, IsKept, IsSession};
 ghost use Rattle.tape_run.specs.Steps.{Reeled, ReelFails, Saved, SaveFails, WentBack, RestartFails};
 
-use crate::answer::ReelAnswer;
 use crate::fault::RunFault;
-use crate::intake::Intake;
+use crate::intake::{Intake, ReelAnswer};
 use std::alloc::Global;
 use std::io::Read;
 use std::marker::Model;

@@ -20,8 +20,8 @@ mod texts;
 pub(crate) mod view;
 
 use crate::check::pass_on;
+use crate::extract::images::Shelf;
 use crate::fault::{EngineFault, NO_MEMORY};
-use crate::shelf::Shelf;
 use line::sight_text;
 use rows::{middle_cells, words_cell};
 use sets::is_all;

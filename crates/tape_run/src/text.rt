@@ -1,11 +1,16 @@
-//! Texts of at most so many bytes, built without taking memory.
-ghost use Rattle.std.specs.Prelude.{◌≡◌, ◌≤◌, ◌+◌, ◌++◌, length, decimal};
+//! Texts of at most so many bytes, built without taking memory, and text that is written.
+
+ghost use Rattle.std.specs.Prelude.{◌≡◌, ◌≤◌, ◌+◌, ◌++◌, length, decimal, OnOk, OnErr};
+ghost use Rattle.std.specs.Io.KnownBytes.{Appends, Keeps};
 ghost use Rattle.arrayvec.specs.ArrayString.{array_string_len};
 ghost use Rattle.arrayvec.specs.ArrayVec.{array_vec_len};
 ghost use Rattle.tape_run.specs.Identifier.{printed, identifier_text};
 ghost use Rattle.tape_run.specs.SurveyLine.{trimmed_len, trimmed_text};
+ghost use Rattle.tape_run.specs.Output.{AppendsFront};
 
+use crate::fault::WriteFailed;
 use arrayvec::{ArrayString, ArrayVec};
+use std::io::Write;
 use tape_label::Field;
 
 /// Room for the longest text of `survey`, and for each of `unpack`.
@@ -87,5 +92,44 @@ pub(crate) fn put_trimmed<const W: usize, const N: usize>(
     let bytes = field.bytes();
     for byte in &bytes[..trimmed_len(bytes)] {
         text.push(printed(*byte));
+    }
+}
+
+/// Writes all of the text.
+///
+/// # Errors
+///
+/// `WriteFailed` where the writer answers an error, an interruption too, or takes nothing of what
+/// is left; then it took a front of the text. A write that failed is not tried again.
+#[inline(always)]
+pub fn write_text<W: Write>(writer: &mut W, text: &[u8]) -> Result<(), WriteFailed>
+    ensures ok { OnOk result
+        (Appends (W.contents writer.old) (W.contents writer.new) text.now) }
+    ensures err { OnErr result
+        (AppendsFront (W.contents writer.old) (W.contents writer.new) text.now) }
+{
+    let mut rest = text;
+    'writes: while !rest.is_empty() {
+        match writer.write(rest) {
+            Ok(0) => return Err(WriteFailed),
+            Ok(n) => rest = &rest[n..],
+            // An interruption is a failure too: std's own calls would try again.
+            Err(_) => return Err(WriteFailed),
+        }
+    }
+    Ok(())
+}
+
+/// Has the writer pass on all that it holds.
+///
+/// # Errors
+///
+/// `WriteFailed` where the writer answers an error.
+pub fn flush<W: Write>(writer: &mut W) -> Result<(), WriteFailed>
+    ensures kept { Keeps (W.contents writer.old) (W.contents writer.new) }
+{
+    match writer.flush() {
+        Ok(()) => Ok(()),
+        Err(_) => Err(WriteFailed),
     }
 }

@@ -1,18 +1,19 @@
 //! `unpack`: which files are on the images of a shelf.
-ghost use Rattle.std.specs.Prelude.{◌≡◌, ◌<◌, ◌+◌, ◌++◌, ◌∷◌, [], length, take, IfOk, OnOk};
-ghost use Rattle.std.specs.Prelude.{option_map};
-ghost use Rattle.std.specs.Result.{IsOkUnless};
-ghost use Rattle.tape_run.specs.SurveyRead.{nothing_found};
-ghost use Rattle.tape_run.specs.Unpacking.{heading_of, file_of, files_from, set_files};
-ghost use Rattle.tape_run.specs.Unpacking.{files_of, set_of, FilesOn, ViewsAll};
-ghost use Rattle.tape_run.specs.declared.fault.RunFault.TheVariants as faults;
 
 pub mod line;
 pub mod name;
 
+ghost use Rattle.std.specs.Prelude.{◌≡◌, ◌<◌, ◌+◌, ◌++◌, ◌∷◌, [], length, take, IfOk, OnOk};
+ghost use Rattle.std.specs.Prelude.{option_map};
+ghost use Rattle.std.specs.Result.{IsOkUnless};
+ghost use Rattle.tape_run.specs.SurveyRead.{nothing_found};
+ghost use Rattle.tape_run.specs.Unpacking.{heading_of, file_of, files_from, set_files, files_of};
+ghost use Rattle.tape_run.specs.Unpacking.{set_of, FilesOn, ViewsAll};
+ghost use Rattle.tape_run.specs.declared.fault.RunFault.TheVariants as faults;
+
+use crate::extract::images::Shelf;
 use crate::fault::RunFault;
 use crate::report::{Sets, sets_of};
-use crate::shelf::Shelf;
 use crate::survey::files::{FileKey, FileNote};
 use crate::survey::view::{Findings, Sight};
 use std::alloc::{AllocError, Global};

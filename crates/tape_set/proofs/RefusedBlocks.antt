@@ -13,7 +13,7 @@ use Rattle.tape_label.specs.declared.values.Trail1.{Trail1}
 use Rattle.tape_label.specs.Head1.{HeadFits}
 use Rattle.tape_label.specs.Head2.{Head2Fits}
 use Rattle.tape_label.specs.Trail1.{TrailFits}
-use Rattle.tape_blocks.specs.declared.shape.Shape.{Shape}
+use Rattle.tape_blocks.specs.declared.parts.Shape.{Shape}
 use Rattle.tape_blocks.specs.Block.{Holds}
 use Rattle.tape_blocks.specs.Spans.{InOrder}
 use Rattle.tape_blocks.specs.Tight.{Chain, Filled}

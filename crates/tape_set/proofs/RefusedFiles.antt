@@ -4,7 +4,7 @@ use Rattle.std.proofs.Common.{lit≤, lit<}
 use Rattle.std.specs.Prelude.{replicate}
 use Rattle.tape_label.specs.declared.values.Format.TheVariants.{Fixed}
 use Rattle.tape_label.specs.Head2.{Head2Fits}
-use Rattle.tape_blocks.specs.declared.shape.Shape.{Shape}
+use Rattle.tape_blocks.specs.declared.parts.Shape.{Shape}
 use Rattle.tape_blocks.specs.Block.{Holds}
 use Rattle.tape_blocks.specs.Spans.{InOrder}
 use Rattle.tape_blocks.specs.Tight.{Filled}

@@ -13,7 +13,7 @@ use Rattle.tape_label.specs.Head2.{Head2Fits}
 use Rattle.tape_label.specs.Written.{text_of, head1_pieces}
 use Rattle.tape_label.proofs.DigitLaws.{length-digits}
 use Rattle.tape_label.proofs.Texts.{head1_text_is}
-use Rattle.tape_blocks.specs.declared.shape.Shape.{Shape}
+use Rattle.tape_blocks.specs.declared.parts.Shape.{Shape}
 use Rattle.tape_set.specs.Layout.{Section}
 use Rattle.tape_set.specs.Lawful.{FileForm, TellsForm, IsVolume, form_of}
 use Rattle.tape_set.specs.Tight.{second_of}

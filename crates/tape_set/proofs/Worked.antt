@@ -21,7 +21,7 @@ use Rattle.tape_label.specs.Written.{text_of, vol1_pieces, head1_pieces, trail1_
 use Rattle.tape_label.specs.Written.{head2_pieces}
 use Rattle.tape_label.proofs.DigitLaws.{length-digits}
 use Rattle.tape_label.proofs.Texts.{head1_text_is, trail1_text_is, head2_text_is}
-use Rattle.tape_blocks.specs.declared.shape.Shape.{Shape}
+use Rattle.tape_blocks.specs.declared.parts.Shape.{Shape}
 use Rattle.tape_blocks.specs.Block.{Portion, Holds}
 use Rattle.tape_blocks.specs.Packing.{written}
 use Rattle.tape_blocks.specs.Tight.{Filled}

@@ -3,7 +3,7 @@
 use Rattle.std.proofs.Common.{◌≡◌, ◌≤◌, ℕ, [], ◌∷◌, true, false, refl, sym, subst, lit≤}
 use Rattle.tape_label.specs.declared.values.Format.TheVariants.{Counted, Spanned}
 use Rattle.tape_label.specs.Head2.{Head2Fits}
-use Rattle.tape_blocks.specs.declared.shape.Shape.{Shape}
+use Rattle.tape_blocks.specs.declared.parts.Shape.{Shape}
 use Rattle.tape_set.specs.Layout.{FileSet}
 use Rattle.tape_set.specs.Lawful.{IsLawful, HasForm}
 use Rattle.tape_set.specs.Tight.{second_of}

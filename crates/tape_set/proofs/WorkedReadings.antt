@@ -5,7 +5,7 @@ use Rattle.std.specs.Prelude.{replicate, IsSome}
 use Rattle.tape_image.specs.Tape.{block, bad}
 use Rattle.tape_label.specs.declared.values.Format.TheVariants.{Fixed}
 use Rattle.tape_label.specs.declared.values.Kind.TheVariants as kinds
-use Rattle.tape_blocks.specs.declared.shape.Shape.{Shape}
+use Rattle.tape_blocks.specs.declared.parts.Shape.{Shape}
 use Rattle.tape_set.specs.declared.position.Position.TheVariants.{Finished}
 use Rattle.tape_set.specs.Position.{awaiting}
 use Rattle.tape_set.specs.Layout.{FileSet, nth, items}

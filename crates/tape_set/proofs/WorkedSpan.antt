@@ -7,8 +7,8 @@ use Rattle.std.specs.List.{AllByRecursion}
 use Rattle.tape_image.specs.Tape.{IsTapeItem}
 use Rattle.tape_label.specs.declared.values.Format.TheVariants.{Fixed, Spanned}
 use Rattle.tape_label.specs.Head2.{Head2Fits}
-use Rattle.tape_blocks.specs.declared.shape.Shape.{Shape}
-use Rattle.tape_blocks.specs.declared.part.Span.TheVariants.{First, Middle, Last}
+use Rattle.tape_blocks.specs.declared.parts.Shape.{Shape}
+use Rattle.tape_blocks.specs.declared.parts.Span.TheVariants.{First, Middle, Last}
 use Rattle.tape_blocks.specs.Block.{Portion, Holds}
 use Rattle.tape_blocks.specs.Spans.{InOrder}
 use Rattle.tape_blocks.specs.Packing.{written, IsWritable}

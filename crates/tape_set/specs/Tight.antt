@@ -8,7 +8,7 @@ use Rattle.tape_label.specs.declared.values.Kind.{Kind}
 use Rattle.tape_label.specs.declared.values.Kind.TheVariants as kinds
 use Rattle.tape_label.specs.declared.values.Head2.{Head2}
 use Rattle.tape_label.specs.Head2.{IsHead2}
-use Rattle.tape_blocks.specs.declared.shape.Shape.{Shape}
+use Rattle.tape_blocks.specs.declared.parts.Shape.{Shape}
 use Rattle.tape_blocks.specs.Packing.{IsWritable, HasRecordLength}
 use Rattle.tape_blocks.specs.Tight as packing
 use Rattle.tape_blocks.specs.Tight.{Filled}

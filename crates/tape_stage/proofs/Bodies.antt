@@ -7,7 +7,7 @@ use Rattle.std.specs.Str.{all_ascii_digits}
 use Rattle.tape_label.specs.Digits.{digits, number_of}
 use Rattle.tape_label.proofs.DigitLaws.{length-digits, all_ascii_digits-digits, number_of-digits}
 use Rattle.tape_core.specs.Point.{Point}
-use Rattle.tape_stage.specs.declared.point.fields.Version.TheVariants.{Two}
+use Rattle.tape_stage.specs.declared.point.Version.TheVariants.{Two}
 use Rattle.tape_stage.specs.Text.{IsPointText}
 use Rattle.std.specs.Result.{result_ok}
 use Rattle.tape_stage.specs.Reading.{point_in}

@@ -1,8 +1,8 @@
 -- The cases of disks and stages.
 use Rattle.std.proofs.Common.{◌≡◌, ◌⊎◌, ◌∙◌, List, ℕ, [], ◌∷◌, refl, inl}
 use Rattle.std.proofs.Common.{inr, arith, get_or, ap, take, subst, Some, Ok}
-use Rattle.tape_blocks.specs.declared.part.Span.TheVariants as spans
-use Rattle.tape_blocks.specs.declared.part.Part.{Part}
+use Rattle.tape_blocks.specs.declared.parts.Span.TheVariants as spans
+use Rattle.tape_blocks.specs.declared.parts.Part.{Part}
 use Rattle.tape_blocks.specs.Block.{Portion}
 use Rattle.tape_blocks.specs.Parts.{view}
 use Rattle.tape_stage.specs.declared.disk.Disk.{Ghosts}

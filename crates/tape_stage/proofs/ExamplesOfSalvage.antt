@@ -1,6 +1,6 @@
 -- The cases of what remains of a stage.
 use Rattle.std.proofs.Common.{◌≡◌, [], ◌∷◌, refl, ap, get_or, arith}
-use Rattle.tape_blocks.specs.declared.part.Span.TheVariants as spans
+use Rattle.tape_blocks.specs.declared.parts.Span.TheVariants as spans
 use Rattle.tape_stage.specs.CasesOfSalvage.{CasesOfSalvage, cut_frame, frame_and_none}
 use Rattle.tape_stage.specs.Frames.{NoFrameAt}
 use Rattle.tape_stage.specs.declared.disk.Disk.{Ghosts}

@@ -6,12 +6,12 @@ use Rattle.tape_stage.specs.Text.{state_letter, flag_digit, format_letter}
 use Rattle.tape_stage.specs.Reading.{◌>>=◌, chars_at, number_at, flag_at, format_at, tail_at}
 use Rattle.tape_stage.specs.Reading.{place_at, flags_at, form_at, staged_at, state_position}
 use Rattle.tape_stage.specs.Reading.{fields_at}
-use Rattle.tape_stage.specs.declared.point.fields.Version.{Version}
-use Rattle.tape_stage.specs.declared.point.fields.Version.TheVariants.{One, Two}
-use Rattle.tape_stage.specs.declared.point.fields.Place.{Place}
-use Rattle.tape_stage.specs.declared.point.fields.Flags.{Flags}
-use Rattle.tape_stage.specs.declared.point.fields.Form.{Form}
-use Rattle.tape_stage.specs.declared.point.fields.Fields.{Fields}
+use Rattle.tape_stage.specs.declared.point.Version.{Version}
+use Rattle.tape_stage.specs.declared.point.Version.TheVariants.{One, Two}
+use Rattle.tape_stage.specs.declared.point.Place.{Place}
+use Rattle.tape_stage.specs.declared.point.Flags.{Flags}
+use Rattle.tape_stage.specs.declared.point.Form.{Form}
+use Rattle.tape_stage.specs.declared.point.Fields.{Fields}
 use Rattle.tape_stage.proofs.Steps.{bind_ok, ok_is, HasDigits, number_found, number_again}
 use Rattle.tape_stage.proofs.Steps.{flag_found, flag_again, format_found, format_again, tail_found}
 use Rattle.tape_stage.proofs.Steps.{tail_again}

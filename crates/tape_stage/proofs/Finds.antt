@@ -11,7 +11,7 @@ use Rattle.tape_stage.specs.Staged.{Holding, Loses, Ready, StandsLike}
 use Rattle.tape_stage.specs.Found.{IsFound}
 use Rattle.tape_stage.specs.Salvaged.{RemainsNone}
 use Rattle.tape_core.specs.Point.{Point}
-use Rattle.tape_stage.specs.declared.stage.found.Found.{Found}
+use Rattle.tape_stage.specs.declared.stage.Found.{Found}
 use Rattle.tape_stage.proofs.Tears.{slot_alike, gate_alike, closed_none, open_reads}
 use Rattle.tape_stage.proofs.Tears.{alike_holding, best_named, staged_named}
 use Rattle.tape_stage.specs.Body.{Slot}

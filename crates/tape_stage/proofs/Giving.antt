@@ -5,8 +5,8 @@ use Rattle.std.proofs.lemmas.List.{take-take, take_at, drop_at, drop-take, lengt
 use Rattle.std.proofs.lemmas.List.{length-drop, drop-drop}
 use Rattle.std.proofs.lemmas.Nat.{from_be_bytes-to_be_bytes_4}
 use Rattle.std.specs.Int.{to_be_bytes, from_be_bytes}
-use Rattle.tape_blocks.specs.declared.part.Span.{Span}
-use Rattle.tape_blocks.specs.declared.part.Span.TheVariants.{Whole, First, Middle, Last}
+use Rattle.tape_blocks.specs.declared.parts.Span.{Span}
+use Rattle.tape_blocks.specs.declared.parts.Span.TheVariants.{Whole, First, Middle, Last}
 use Rattle.tape_blocks.specs.Block.{Portion}
 use Rattle.tape_stage.specs.Parts.{frame, frames, AllShort}
 use Rattle.tape_blocks.specs.Block.{indicator}

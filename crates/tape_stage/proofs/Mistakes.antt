@@ -19,11 +19,11 @@ use Rattle.tape_stage.specs.Stages.{IsStage, Holds}
 use Rattle.tape_stage.specs.declared.stage.StageFault.TheVariants.{Device, Full, NoPoint}
 use Rattle.tape_stage.proofs.Once.{staged_remains}
 use Rattle.tape_stage.proofs.stage.opening.find_on.Reads as find_on
-use Rattle.tape_stage.proofs.stage.sinking.StagePartWalk.next_part.Reads as next_part
-use Rattle.tape_stage.proofs.stage.sinking.StagePartWalk.rewind.Reads as rewind
-use Rattle.tape_stage.proofs.stage.slots.close_gate.Reads as close_gate
-use Rattle.tape_stage.proofs.stage.slots.fill_slot.Reads as fill_slot
-use Rattle.tape_stage.proofs.stage.slots.open_gate.Reads as open_gate
+use Rattle.tape_stage.proofs.stage.putting.StagePartWalk.next_part.Reads as next_part
+use Rattle.tape_stage.proofs.stage.putting.StagePartWalk.rewind.Reads as rewind
+use Rattle.tape_stage.proofs.stage.saving.close_gate.Reads as close_gate
+use Rattle.tape_stage.proofs.stage.saving.fill_slot.Reads as fill_slot
+use Rattle.tape_stage.proofs.stage.saving.open_gate.Reads as open_gate
 use Rattle.tape_stage.proofs.stage.Stage.cut_back.Reads as cut_back
 use Rattle.tape_stage.proofs.stage.Stage.open_disk.Reads as open_disk
 use Rattle.tape_stage.proofs.stage.Stage.parts.Reads as parts

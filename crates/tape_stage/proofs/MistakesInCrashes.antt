@@ -12,10 +12,10 @@ use Rattle.tape_stage.specs.Staged.{Ready, Staged, StagedIn}
 use Rattle.tape_stage.specs.Stages.{Holds, IsStage, Survived}
 use Rattle.tape_stage.proofs.Torn.{alike_byte}
 use Rattle.tape_stage.proofs.stage.putting.write_frame.Reads as write_frame
-use Rattle.tape_stage.proofs.stage.slots.close_gate.Reads as close_gate
+use Rattle.tape_stage.proofs.stage.saving.close_gate.Reads as close_gate
 use Rattle.tape_stage.proofs.stage.Stage.restart.Reads as restart
 use Rattle.tape_stage.proofs.stage.Stage.save.Reads as save
-use Rattle.tape_stage.proofs.stage.sinking.StagePartSink.keep.Reads as keep
+use Rattle.tape_stage.proofs.stage.putting.StagePartSink.keep.Reads as keep
 
 -- where nothing was left before, what was left has P
 since_then : {A P : Type 0} → (A → ⊥) → A ⊎ P → P

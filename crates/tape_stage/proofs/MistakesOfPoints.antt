@@ -8,20 +8,20 @@ use Rattle.tape_core.specs.Point.{Point}
 use Rattle.tape_label.specs.Written.{text_of}
 use Rattle.tape_label.specs.declared.values.Format.TheVariants.{Counted}
 use Rattle.tape_set.specs.declared.position.Position.TheVariants.{Awaits}
-use Rattle.tape_stage.specs.declared.point.fields.Version.TheVariants.{One, Two}
-use Rattle.tape_stage.specs.declared.point.fault.PointFault.TheVariants as faults
+use Rattle.tape_stage.specs.declared.point.Version.TheVariants.{One, Two}
+use Rattle.tape_stage.specs.declared.point.text.PointFault.TheVariants as faults
 use Rattle.tape_stage.specs.declared.stage.StageFault.TheVariants.{Full}
 use Rattle.tape_stage.specs.Faults as stage
 use Rattle.tape_stage.specs.Fields.{fields_of}
 use Rattle.tape_stage.specs.PointFaults as point
 use Rattle.tape_stage.specs.Reading.{number_at}
 use Rattle.tape_stage.specs.Text.{pieces, IsPointText}
-use Rattle.tape_stage.proofs.point.characters.number_at.Reads as number_at_reads
-use Rattle.tape_stage.proofs.point.characters.tail_at.Reads as tail_at
+use Rattle.tape_stage.proofs.point.text.number_at.Reads as number_at_reads
+use Rattle.tape_stage.proofs.point.text.tail_at.Reads as tail_at
 use Rattle.tape_stage.proofs.laws.point_again.Reads as point_again
 use Rattle.tape_stage.proofs.point.read_point.Reads as read_point
 use Rattle.tape_stage.proofs.point.write_point.Reads as write_point
-use Rattle.tape_stage.proofs.point.fault.PointFault.number.Reads as point_number
+use Rattle.tape_stage.proofs.point.text.PointFault.number.Reads as point_number
 use Rattle.tape_stage.proofs.stage.StageFault.number.Reads as stage_number
 
 -- point_fault_number_of_another: a text out of range has the number of a wrong field

@@ -2,7 +2,7 @@
 use Rattle.std.proofs.Common.{◌≡◌, ◌⊎◌, inl, inr, ℕ, ◌+◌, List, take, ap, ◌∙◌, subst, arith}
 use Rattle.tape_blocks.specs.Block.{Portion}
 use Rattle.tape_stage.specs.declared.disk.Disk.{Ghosts}
-use Rattle.tape_stage.specs.declared.stage.found.Found.{Found}
+use Rattle.tape_stage.specs.declared.stage.Found.{Found}
 use Rattle.tape_stage.specs.Disk.{CutShort}
 use Rattle.tape_stage.specs.Found.{IsFound}
 use Rattle.tape_stage.specs.Moments.{Passes, Untouched}

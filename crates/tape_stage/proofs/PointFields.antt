@@ -14,10 +14,10 @@ use Rattle.tape_core.specs.Known.{IsForm, PositionFits, is_finished}
 use Rattle.tape_core.specs.Point.{Point}
 use Rattle.tape_core.specs.Range.{length_in_range, form_in_range, in_range}
 use Rattle.tape_core.proofs.Ranges.{ranged, in_range_is}
-use Rattle.tape_stage.specs.declared.point.fields.Place.{Place}
-use Rattle.tape_stage.specs.declared.point.fields.Version.{Version}
-use Rattle.tape_stage.specs.declared.point.fields.Form.{Form}
-use Rattle.tape_stage.specs.declared.point.fields.Fields.{Fields}
+use Rattle.tape_stage.specs.declared.point.Place.{Place}
+use Rattle.tape_stage.specs.declared.point.Version.{Version}
+use Rattle.tape_stage.specs.declared.point.Form.{Form}
+use Rattle.tape_stage.specs.declared.point.Fields.{Fields}
 use Rattle.tape_stage.specs.Fields.{place_of, form_of, fields_of, position_by, form_as, known_as}
 use Rattle.tape_stage.specs.Fields.{known_by, point_by}
 use Rattle.tape_stage.specs.Range.{place_agrees, is_blank, form_agrees, is_right}

@@ -13,11 +13,11 @@ use Rattle.tape_set.specs.Position.{sect_of, block_of, part_of}
 use Rattle.tape_set.specs.Lawful.{FileForm}
 use Rattle.tape_core.specs.Known.{PositionFits}
 use Rattle.tape_core.specs.Point.{Point}
-use Rattle.tape_stage.specs.declared.point.fault.PointFault.{PointFault}
-use Rattle.tape_stage.specs.declared.point.fault.PointFault.TheVariants as faults
-use Rattle.tape_stage.specs.declared.point.fields.Version.{Version}
-use Rattle.tape_stage.specs.declared.point.fields.Version.TheVariants.{One, Two}
-use Rattle.tape_stage.specs.declared.point.fields.Fields.{Fields}
+use Rattle.tape_stage.specs.declared.point.text.PointFault.{PointFault}
+use Rattle.tape_stage.specs.declared.point.text.PointFault.TheVariants as faults
+use Rattle.tape_stage.specs.declared.point.Version.{Version}
+use Rattle.tape_stage.specs.declared.point.Version.TheVariants.{One, Two}
+use Rattle.tape_stage.specs.declared.point.Fields.{Fields}
 use Rattle.tape_stage.specs.Fields.{form_of, fields_of, point_by}
 use Rattle.tape_stage.specs.Range.{is_right}
 use Rattle.tape_stage.specs.Reading.{text_at, right_point, reading}

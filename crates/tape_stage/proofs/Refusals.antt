@@ -10,7 +10,7 @@ use Rattle.tape_stage.specs.Disk.{CutShort, Elapses, NoMore}
 use Rattle.tape_stage.specs.Found.{IsFound}
 use Rattle.tape_stage.specs.Moments.{Untouched}
 use Rattle.tape_stage.specs.Staged.{Staged, KeepsStaged}
-use Rattle.tape_stage.specs.declared.stage.found.Found.{Found}
+use Rattle.tape_stage.specs.declared.stage.Found.{Found}
 use Rattle.tape_stage.proofs.Finds.{best_of}
 use Rattle.tape_stage.proofs.Passing.{stands, weaken, follow}
 

@@ -4,13 +4,13 @@ use Rattle.std.proofs.Common.{w32, Some, sym, ap, ◌∙◌, subst, arith}
 use Rattle.std.specs.Prelude.{Option, None}
 use Rattle.std.specs.Int.{to_be_bytes, from_be_bytes}
 use Rattle.std.proofs.lemmas.Nat.{from_be_bytes-to_be_bytes_4}
-use Rattle.tape_blocks.specs.declared.part.Span.{Span}
+use Rattle.tape_blocks.specs.declared.parts.Span.{Span}
 use Rattle.tape_blocks.specs.Block.{Portion, indicator}
 use Rattle.tape_stage.specs.Found.{IsFound, IsBadPlace}
 use Rattle.tape_stage.specs.Frames.{NoFrameAt}
 use Rattle.tape_stage.specs.Salvaged.{FramedTo, Remains, RemainsNone}
 use Rattle.tape_stage.specs.Staged.{Holding, HoldsNone, WalkedTo}
-use Rattle.tape_stage.specs.declared.stage.found.Found.{Found}
+use Rattle.tape_stage.specs.declared.stage.Found.{Found}
 use Rattle.tape_stage.proofs.Finds.{best_of}
 use Rattle.tape_stage.proofs.Once.{remains_once, staged_remains}
 use Rattle.tape_stage.proofs.Walks.{walked_holding}

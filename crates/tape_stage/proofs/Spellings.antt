@@ -1,10 +1,10 @@
 -- One text for a checkpoint in a version, and one checkpoint for a text.
 use Rattle.std.proofs.Common.{◌≡◌, Result, Ok, refl, sym, ap, ◌∙◌, arith}
 use Rattle.tape_label.specs.Written.{text_of}
-use Rattle.tape_stage.specs.declared.point.fault.PointFault.{PointFault}
-use Rattle.tape_stage.specs.declared.point.fields.Version.{Version}
-use Rattle.tape_stage.specs.declared.point.fields.Version.TheVariants.{One, Two}
-use Rattle.tape_stage.specs.declared.point.fields.Fields.{Fields}
+use Rattle.tape_stage.specs.declared.point.text.PointFault.{PointFault}
+use Rattle.tape_stage.specs.declared.point.Version.{Version}
+use Rattle.tape_stage.specs.declared.point.Version.TheVariants.{One, Two}
+use Rattle.tape_stage.specs.declared.point.Fields.{Fields}
 use Rattle.tape_stage.specs.Fields.{fields_of}
 use Rattle.tape_stage.specs.Laws.{IsTextOfOne, IsTextOnce, HasBothTexts}
 use Rattle.tape_stage.specs.Reading.{text_at}

@@ -11,8 +11,8 @@ use Rattle.tape_label.specs.Digits.{digits, number_of}
 use Rattle.tape_label.proofs.DigitLaws.{digits-number_of, number_of-digits, number_of-lt}
 use Rattle.tape_label.proofs.DigitLaws.{all_ascii_digits-digits}
 use Rattle.tape_label.proofs.Steps.{length-positions, character_found, character_is}
-use Rattle.tape_stage.specs.declared.point.fault.PointFault.{PointFault}
-use Rattle.tape_stage.specs.declared.point.fault.PointFault.TheVariants as faults
+use Rattle.tape_stage.specs.declared.point.text.PointFault.{PointFault}
+use Rattle.tape_stage.specs.declared.point.text.PointFault.TheVariants as faults
 use Rattle.tape_stage.specs.Text.{format_letter}
 use Rattle.tape_stage.specs.Reading.{◌>>=◌, chars_at, number_at, flag_at, format_at, tail_at}
 

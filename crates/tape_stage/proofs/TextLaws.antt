@@ -9,11 +9,11 @@ use Rattle.std.proofs.lemmas.List.{take_all, length-drop}
 use Rattle.std.proofs.lemmas.Slice.Eq.{bytes_eq-Decides}
 use Rattle.tape_label.proofs.Pieces.{StandAt}
 use Rattle.tape_label.proofs.Steps.{character_found, character_is}
-use Rattle.tape_stage.specs.declared.point.fault.PointFault.{PointFault}
-use Rattle.tape_stage.specs.declared.point.fault.PointFault.TheVariants as faults
-use Rattle.tape_stage.specs.declared.point.fields.Version.{Version}
-use Rattle.tape_stage.specs.declared.point.fields.Version.TheVariants.{One, Two}
-use Rattle.tape_stage.specs.declared.point.fields.Fields.{Fields}
+use Rattle.tape_stage.specs.declared.point.text.PointFault.{PointFault}
+use Rattle.tape_stage.specs.declared.point.text.PointFault.TheVariants as faults
+use Rattle.tape_stage.specs.declared.point.Version.{Version}
+use Rattle.tape_stage.specs.declared.point.Version.TheVariants.{One, Two}
+use Rattle.tape_stage.specs.declared.point.Fields.{Fields}
 use Rattle.tape_stage.specs.Text.{version_digit, pieces, Fit}
 use Rattle.tape_stage.specs.Reading.{◌>>=◌, version_by, fields_at, text_at}
 use Rattle.tape_stage.proofs.Steps.{bind_ok, done, ok_is}

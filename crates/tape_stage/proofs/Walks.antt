@@ -9,7 +9,7 @@ use Rattle.tape_blocks.specs.Block.{Portion}
 use Rattle.tape_stage.specs.Parts.{frame, frames}
 use Rattle.tape_blocks.specs.Block.{indicator}
 use Rattle.tape_stage.specs.Staged.{Holding, IsPut, WalkedTo}
-use Rattle.tape_blocks.specs.declared.part.Span.{Span}
+use Rattle.tape_blocks.specs.declared.parts.Span.{Span}
 use Rattle.tape_stage.proofs.FrameLaws.{put_holding}
 
 pub walked_holding : (place : ℕ) (bytes : List ℕ) → place ≤ length bytes

@@ -5,7 +5,7 @@ use Rattle.std.specs.Str.{all_ascii_digits}
 use Rattle.tape_label.specs.Digits.{digits, number_of}
 use Rattle.tape_label.specs.Written.{text_of}
 use Rattle.tape_core.specs.Point.{Point}
-use Rattle.tape_stage.specs.declared.point.fields.Version.TheVariants.{Two}
+use Rattle.tape_stage.specs.declared.point.Version.TheVariants.{Two}
 use Rattle.tape_stage.specs.Fields.{fields_of}
 use Rattle.tape_stage.specs.Reading.{point_in}
 use Rattle.tape_stage.specs.Text.{IsPointText, pieces}

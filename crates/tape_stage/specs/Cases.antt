@@ -3,9 +3,9 @@
 use Rattle.std.specs.Prelude.{◌≡◌, ◌⊎◌, ◌≤◌, ◌+◌, ◌-◌, ◌==◌, ℕ, List, [], ◌∷◌, ◌++◌, take, drop}
 use Rattle.std.specs.Prelude.{length, min, replicate, codes, Some, None, Bool, true, false, not}
 use Rattle.std.specs.Prelude.{Option, Result, Ok}
-use Rattle.tape_blocks.specs.declared.part.Span.{Span}
-use Rattle.tape_blocks.specs.declared.part.Span.TheVariants.{Whole}
-use Rattle.tape_blocks.specs.declared.part.Part.{Part}
+use Rattle.tape_blocks.specs.declared.parts.Span.{Span}
+use Rattle.tape_blocks.specs.declared.parts.Span.TheVariants.{Whole}
+use Rattle.tape_blocks.specs.declared.parts.Part.{Part}
 use Rattle.tape_blocks.specs.Block.{Portion}
 use Rattle.tape_blocks.specs.Parts.{view}
 use Rattle.tape_label.specs.declared.values.Format.TheVariants.{Spanned}
@@ -18,7 +18,7 @@ use Rattle.tape_stage.specs.declared.disk.content.Call.TheVariants.{Cut, Sync}
 use Rattle.tape_stage.specs.Body.{body_text, point_text}
 use Rattle.tape_stage.specs.Calls.{IsImage, WasImage, worst_by}
 use Rattle.tape_stage.specs.declared.disk.Disk.{Ghosts}
-use Rattle.tape_stage.specs.declared.stage.found.Found.{Found}
+use Rattle.tape_stage.specs.declared.stage.Found.{Found}
 use Rattle.tape_stage.specs.declared.disk.memory.MemoryDisk.{MemoryDisk}
 use Rattle.tape_stage.specs.declared.stage.part_reader.PartReader.{PartReader}
 use Rattle.tape_stage.specs.declared.stage.Stage.{Stage}

@@ -5,8 +5,8 @@ use Rattle.std.specs.Prelude.{◌≡◌, ◌⊎◌, ◌≤◌, ℕ, List, length
 use Rattle.tape_blocks.specs.Block.{Portion}
 use Rattle.tape_set.specs.Position.{block_of, part_of}
 use Rattle.tape_core.specs.Point.{Point, IsPoint}
-use Rattle.tape_stage.specs.declared.point.fields.Version.{Version}
-use Rattle.tape_stage.specs.declared.point.fields.Version.TheVariants.{One, Two}
+use Rattle.tape_stage.specs.declared.point.Version.{Version}
+use Rattle.tape_stage.specs.declared.point.Version.TheVariants.{One, Two}
 use Rattle.tape_stage.specs.Fields.{form_of}
 use Rattle.tape_stage.specs.Laws.{IsTextOfOne, IsTextOnce, HasBothTexts}
 use Rattle.tape_stage.specs.Staged.{Staged, StagedIn, IsEither}

@@ -8,10 +8,10 @@ use Rattle.tape_set.specs.Position.{sect_of, block_of, part_of}
 use Rattle.tape_set.specs.Lawful.{FileForm}
 use Rattle.tape_core.specs.Known.{is_finished}
 use Rattle.tape_core.specs.Point.{Point}
-use Rattle.tape_stage.specs.declared.point.fields.Place.{Place}
-use Rattle.tape_stage.specs.declared.point.fields.Flags.{Flags}
-use Rattle.tape_stage.specs.declared.point.fields.Form.{Form}
-use Rattle.tape_stage.specs.declared.point.fields.Fields.{Fields}
+use Rattle.tape_stage.specs.declared.point.Place.{Place}
+use Rattle.tape_stage.specs.declared.point.Flags.{Flags}
+use Rattle.tape_stage.specs.declared.point.Form.{Form}
+use Rattle.tape_stage.specs.declared.point.Fields.{Fields}
 
 -- ---- the fields of a checkpoint
 

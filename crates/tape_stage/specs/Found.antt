@@ -4,7 +4,7 @@ use Rattle.tape_stage.specs.Staged.{best, WalkedTo}
 use Rattle.tape_stage.specs.Frames.{NoFrameAt}
 use Rattle.tape_core.specs.Point.{Point}
 use Rattle.tape_stage.specs.Staged.{gate_at, slot_at, Loses}
-use Rattle.tape_stage.specs.declared.stage.found.Found.{Found}
+use Rattle.tape_stage.specs.declared.stage.Found.{Found}
 
 -- the slot that counts, and the other one's gate
 pub record IsFound (found : Found) (bytes : List ℕ) : Type 0 where

@@ -1,7 +1,7 @@
 -- The fixed numbers of the faults of a checkpoint's text.
 use Rattle.std.specs.Prelude.{ℕ}
-use Rattle.tape_stage.specs.declared.point.fault.PointFault.{PointFault}
-use Rattle.tape_stage.specs.declared.point.fault.PointFault.TheVariants as faults
+use Rattle.tape_stage.specs.declared.point.text.PointFault.{PointFault}
+use Rattle.tape_stage.specs.declared.point.text.PointFault.TheVariants as faults
 
 -- in the order in which the tests are made
 abbrev pub number : PointFault → ℕ

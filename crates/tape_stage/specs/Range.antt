@@ -5,8 +5,8 @@ use Rattle.std.specs.Str.{bytes_eq}
 use Rattle.tape_label.specs.declared.values.Format.{Format}
 use Rattle.tape_set.specs.Lawful.{most_blocks}
 use Rattle.tape_core.specs.Range.{form_in_range, in_range}
-use Rattle.tape_stage.specs.declared.point.fields.Form.{Form}
-use Rattle.tape_stage.specs.declared.point.fields.Fields.{Fields}
+use Rattle.tape_stage.specs.declared.point.Form.{Form}
+use Rattle.tape_stage.specs.declared.point.Fields.{Fields}
 use Rattle.tape_stage.specs.Fields.{form_as, point_by}
 
 -- no section, block and part is awaited behind a whole file; else a block is one that a section may

@@ -9,14 +9,14 @@ use Rattle.tape_label.specs.declared.values.Format.{Format}
 use Rattle.tape_label.specs.declared.values.Format.TheVariants.{Fixed, Counted, Spanned}
 use Rattle.tape_label.specs.Digits.{number_of}
 use Rattle.tape_core.specs.Point.{Point}
-use Rattle.tape_stage.specs.declared.point.fault.PointFault.{PointFault}
-use Rattle.tape_stage.specs.declared.point.fault.PointFault.TheVariants as faults
-use Rattle.tape_stage.specs.declared.point.fields.Version.{Version}
-use Rattle.tape_stage.specs.declared.point.fields.Version.TheVariants.{One, Two}
-use Rattle.tape_stage.specs.declared.point.fields.Place.{Place}
-use Rattle.tape_stage.specs.declared.point.fields.Flags.{Flags}
-use Rattle.tape_stage.specs.declared.point.fields.Form.{Form}
-use Rattle.tape_stage.specs.declared.point.fields.Fields.{Fields}
+use Rattle.tape_stage.specs.declared.point.text.PointFault.{PointFault}
+use Rattle.tape_stage.specs.declared.point.text.PointFault.TheVariants as faults
+use Rattle.tape_stage.specs.declared.point.Version.{Version}
+use Rattle.tape_stage.specs.declared.point.Version.TheVariants.{One, Two}
+use Rattle.tape_stage.specs.declared.point.Place.{Place}
+use Rattle.tape_stage.specs.declared.point.Flags.{Flags}
+use Rattle.tape_stage.specs.declared.point.Form.{Form}
+use Rattle.tape_stage.specs.declared.point.Fields.{Fields}
 use Rattle.tape_stage.specs.Fields.{point_by}
 use Rattle.tape_stage.specs.Range.{is_right}
 

@@ -5,7 +5,7 @@ use Rattle.std.specs.Io.BufRead.{Rests}
 use mir.Syntax.{named}
 use Rattle.tape_stage.specs.declared.disk.Disk.{Ghosts}
 use Rattle.tape_core.specs.Walks.{HasGiven}
-use Rattle.tape_blocks.specs.declared.part.Part.{Part}
+use Rattle.tape_blocks.specs.declared.parts.Part.{Part}
 use Rattle.tape_core.specs.declared.sink.SinkFault.{SinkFault}
 use Rattle.tape_stage.specs.Stages.{Holds, IsAhead, crashes_of}
 use Rattle.tape_stage.specs.declared.stage.Stage.{Stage}

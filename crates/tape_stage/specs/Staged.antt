@@ -4,7 +4,7 @@ use Rattle.std.specs.Prelude.{length, take, drop, get_or, ◌++◌, replicate, O
 use Rattle.std.specs.Prelude.{if◌then◌else◌, ◌==◌, nat_lt}
 use Rattle.std.specs.Int.{to_be_bytes}
 use Rattle.std.proofs.Common.{w32}
-use Rattle.tape_blocks.specs.declared.part.Span.{Span}
+use Rattle.tape_blocks.specs.declared.parts.Span.{Span}
 use Rattle.tape_blocks.specs.Block.{Portion}
 use Rattle.tape_stage.specs.Disk.{CutShort}
 use Rattle.tape_stage.specs.Parts.{frame, frames, longest_part, AllShort}

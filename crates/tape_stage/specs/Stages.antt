@@ -7,7 +7,7 @@ use Rattle.tape_core.specs.Stands.{weight_of}
 use Rattle.tape_stage.specs.Frames.{AheadIn}
 use Rattle.tape_stage.specs.Staged.{Staged, Holding, Ready}
 use Rattle.tape_core.specs.Point.{Point}
-use Rattle.tape_stage.specs.declared.stage.found.Found.{Found}
+use Rattle.tape_stage.specs.declared.stage.Found.{Found}
 use Rattle.tape_stage.specs.declared.stage.Stage.{Stage}
 use Rattle.tape_stage.specs.declared.stage.StageFault.{StageFault}
 use Rattle.tape_stage.specs.declared.stage.StageFault.TheVariants.{Device, Full, Failed}

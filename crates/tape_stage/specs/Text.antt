@@ -7,10 +7,10 @@ use Rattle.tape_label.specs.Written.{Piece, chars, spaces, number, text_of}
 use Rattle.tape_set.specs.Lawful.{FileForm}
 use Rattle.tape_core.specs.Known.{IsForm}
 use Rattle.tape_core.specs.Point.{Point, IsPoint}
-use Rattle.tape_stage.specs.declared.point.fields.Version.{Version}
-use Rattle.tape_stage.specs.declared.point.fields.Version.TheVariants.{One, Two}
-use Rattle.tape_stage.specs.declared.point.fields.Place.{Place}
-use Rattle.tape_stage.specs.declared.point.fields.Fields.{Fields}
+use Rattle.tape_stage.specs.declared.point.Version.{Version}
+use Rattle.tape_stage.specs.declared.point.Version.TheVariants.{One, Two}
+use Rattle.tape_stage.specs.declared.point.Place.{Place}
+use Rattle.tape_stage.specs.declared.point.Fields.{Fields}
 use Rattle.tape_stage.specs.Fields.{place_of, form_of, fields_of}
 
 -- ---- the text of fields, piece by piece

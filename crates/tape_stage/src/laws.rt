@@ -10,7 +10,7 @@ ghost use Rattle.tape_stage.specs.Salvaged.{RemainsOnce};
 ghost use Rattle.tape_stage.specs.StageLaws.{EitherStands, NamedStands, ReadsOneOf, StandsOnce};
 
 use crate::disk::Disk;
-use crate::point::fault::PointFault;
+use crate::point::text::PointFault;
 use crate::point::{read_point, write_point};
 use tape_core::Checkpoint;
 

@@ -7,14 +7,13 @@ pub mod laws;
 mod point;
 mod stage;
 
-pub use disk::file::FileDisk;
+pub use disk::file::{FileDisk, HeldFile, held_file};
 pub use disk::memory::MemoryDisk;
 pub use disk::read_ahead::ReadAhead;
 pub use disk::write_behind::WriteBehind;
 pub use disk::{Disk, DiskFault};
-pub use point::fault::PointFault;
+pub use point::text::PointFault;
 pub use point::{read_point, write_point};
-pub use stage::file::{HeldFile, held_file};
 pub use stage::open_disk::Refused;
 pub use stage::part_reader::PartReader;
 pub use stage::salvage::Salvage;

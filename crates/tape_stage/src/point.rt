@@ -1,26 +1,84 @@
-//! Checkpoints read and written.
-pub mod characters;
-pub mod fault;
-pub mod fields;
-pub mod groups;
-pub mod range;
-pub mod reading;
-pub mod to_fields;
-pub mod writing;
+//! Checkpoints read and written: their fields, and the rules that these keep together.
 
-ghost use Rattle.std.specs.Prelude.{◌≡◌, IfOk, Ok};
+pub mod text;
+
+ghost use Rattle.std.specs.Prelude.{◌≡◌, IfOk, Ok, ◌<◌, true, is_some, IfSome};
+ghost use Rattle.tape_set.specs.Position.{sect_of};
 ghost use Rattle.tape_core.specs.Point.{Point};
+ghost use Rattle.tape_core.specs.Known.{PositionFits};
 ghost use Rattle.tape_stage.specs.Reading.{reading};
-ghost use Rattle.tape_stage.specs.Text.{IsPointText};
-ghost use Rattle.tape_stage.specs.declared.point.fields.Version.{Version};
-ghost use Rattle.tape_stage.specs.declared.point.fields.Version.TheVariants.{Two};
+ghost use Rattle.tape_stage.specs.Text.{IsPointText, Fit, IsWritable, KnownFits};
+ghost use Rattle.tape_stage.specs.declared.point.Version.{Version};
+ghost use Rattle.tape_stage.specs.declared.point.Version.TheVariants.{Two};
+ghost use Rattle.tape_stage.specs.Fields.{fields_of, flags_of, form_of, place_of, known_by};
+ghost use Rattle.tape_stage.specs.Fields.{point_by, position_by};
+ghost use Rattle.tape_stage.specs.Range.{form_agrees, is_blank, is_right, place_agrees};
 
-use crate::point::fault::PointFault;
-use crate::point::range::checkpoint_of;
-use crate::point::reading::text_at;
-use crate::point::to_fields::fields_of;
-use crate::point::writing::fields_text;
-use tape_core::Checkpoint;
+use crate::point::text::{PointFault, fields_text, text_at};
+use tape_core::{Checkpoint, Known};
+use tape_label::{Field, Format};
+use tape_set::Position;
+
+/// The versions of the text.
+#[derive(Clone, Copy)]
+pub enum Version {
+    /// With a block of six digits, and no part. It is read, and not written any more.
+    One,
+    /// With a block of ten digits and a part.
+    Two,
+}
+
+/// The numbers of the block and of the part.
+#[derive(Clone, Copy)]
+pub struct Place {
+    /// The number of the block in its section, counted from 0.
+    pub block: u64,
+    /// How many of its parts were delivered.
+    pub part: u64,
+}
+
+/// `D` or `R`, and the two digits behind it.
+#[derive(Clone, Copy)]
+pub struct Flags {
+    /// Whether the whole file was delivered.
+    pub done: bool,
+    /// Whether a record is begun.
+    pub begun: bool,
+    /// Whether anything is known of the file.
+    pub known: bool,
+}
+
+/// What is said of the file.
+#[derive(Clone, Copy)]
+pub struct Form {
+    /// F, D or S, or a space.
+    pub format: Option<Format>,
+    /// The record length of format F.
+    pub rec_len: u64,
+    /// The buffer offset.
+    pub offset: u64,
+    /// The file identifier.
+    pub file_id: Field<17>,
+}
+
+/// All fields behind the version, which are the same in both versions.
+#[derive(Clone, Copy)]
+pub struct Fields {
+    /// The file set identifier.
+    pub set_id: Field<6>,
+    /// The number of the file.
+    pub file: u64,
+    /// The number of the section.
+    pub sect: u64,
+    /// The block and the part.
+    pub place: Place,
+    /// The state, and what is begun and known.
+    pub flags: Flags,
+    /// What is said of the file.
+    pub form: Form,
+    /// The weight of the parts that are staged.
+    pub staged: u64,
+}
 
 /// Reads the text of a checkpoint, in version 1 or 2. A text of version 1 has part 0.
 ///
@@ -58,4 +116,168 @@ pub fn write_point(point: &Checkpoint) -> [u8; 80]
     ensures { IsPointText Two result point.now }
 {
     fields_text(&fields_of(point))
+}
+
+/// A file identifier that says nothing.
+const SPACES: [u8; 17] = [b' '; 17];
+
+/// The state, and whether a record is begun and anything known.
+fn flags_of(position: Position, begun: bool, known: &Option<Known>) -> Flags
+    ensures { result ≡ flags_of position begun known.now }
+{
+    Flags {
+        done: matches!(position, Position::Finished),
+        begun,
+        known: known.is_some(),
+    }
+}
+
+/// What is said of the file.
+fn form_of(known: &Option<Known>) -> Form
+    ensures value { result ≡ form_of known.now }
+    ensures rec_len { result.rec_len < 100000 }
+    ensures offset { result.offset < 100 }
+    ensures known { KnownFits known.now }
+{
+    match known {
+        Some(known) => Form {
+            format: Some(known.format),
+            rec_len: u64::from(known.rec_len),
+            offset: u64::from(known.offset),
+            file_id: known.file_id,
+        },
+        None => Form {
+            format: None,
+            rec_len: 0,
+            offset: 0,
+            file_id: Field::of_bytes(SPACES),
+        },
+    }
+}
+
+/// The number of the section.
+fn sect_of(position: Position) -> u64
+    requires { PositionFits position }
+    ensures value { result ≡ sect_of position }
+    ensures fits { result < 10000 }
+{
+    match position {
+        Position::Awaits { sect, .. } => u64::from(sect),
+        Position::Finished => 0,
+    }
+}
+
+/// The numbers of the block and the part.
+fn place_of(position: Position) -> Place
+    requires { PositionFits position }
+    ensures value { result ≡ place_of position }
+    ensures block { result.block < 10000000000 }
+    ensures part { result.part < 100000 }
+{
+    match position {
+        Position::Awaits { block, part, .. } => Place {
+            block: u64::from(block),
+            part: u64::from(part),
+        },
+        Position::Finished => Place { block: 0, part: 0 },
+    }
+}
+
+/// The fields of a checkpoint.
+pub(crate) fn fields_of(point: &Checkpoint) -> Fields
+    ensures value { result ≡ fields_of point.now }
+    ensures fit { Fit Two result }
+    ensures writable { IsWritable Two point.now }
+{
+    Fields {
+        set_id: point.set_id,
+        file: u64::from(point.file),
+        sect: sect_of(point.position),
+        place: place_of(point.position),
+        flags: flags_of(point.position, point.begun, &point.known),
+        form: form_of(&point.known),
+        staged: point.staged,
+    }
+}
+
+/// The greatest number of a block.
+const MOST_BLOCKS: u64 = 4_294_967_295;
+
+/// Whether the section, the block and the part are such as the state has.
+fn place_agrees(fields: &Fields) -> bool
+    ensures { result ≡ place_agrees fields.now }
+{
+    if fields.flags.done {
+        return fields.sect == 0 && fields.place.block == 0 && fields.place.part == 0;
+    }
+    fields.place.block <= MOST_BLOCKS
+}
+
+/// Whether nothing is said of the file.
+fn is_blank(form: &Form) -> bool
+    ensures { result ≡ is_blank form.now }
+{
+    form.rec_len == 0 && form.offset == 0 && form.file_id.bytes() == SPACES.as_slice()
+}
+
+/// The position that these fields tell.
+fn position_by(fields: &Fields) -> Position
+    requires agrees { place_agrees fields.now ≡ true }
+    requires fits { Fit Two fields.now }
+    ensures { result ≡ position_by fields.now }
+{
+    if fields.flags.done {
+        return Position::Finished;
+    }
+    Position::Awaits {
+        sect: fields.sect as u16,
+        block: fields.place.block as u32,
+        part: fields.place.part as u32,
+    }
+}
+
+/// What is known of the file, which may be nothing; no answer where the fields do not agree.
+fn known_by(form: &Form, known: bool) -> Option<Option<Known>>
+    requires rec_len { form.now.rec_len < 100000 }
+    requires offset { form.now.offset < 100 }
+    ensures agrees { is_some result ≡ form_agrees form.now known form.now.format }
+    ensures value { IfSome result (λ told. told ≡ known_by form.now) }
+{
+    let Some(format) = form.format else {
+        if known || !is_blank(form) {
+            return None;
+        }
+        return Some(None);
+    };
+    if !known {
+        return None;
+    }
+    match Known::from_parts(format, form.rec_len as u32, form.offset as u8, form.file_id) {
+        Some(known) => Some(Some(known)),
+        None => None,
+    }
+}
+
+/// The checkpoint that has these fields, if one has them.
+pub(crate) fn checkpoint_of(fields: &Fields) -> Option<Checkpoint>
+    requires { Fit Two fields.now }
+    ensures right { is_some result ≡ is_right fields.now }
+    ensures value { IfSome result (λ c. c ≡ point_by fields.now) }
+{
+    if !place_agrees(fields) {
+        return None;
+    }
+    let Some(known) = known_by(&fields.form, fields.flags.known) else {
+        return None;
+    };
+    let position = position_by(fields);
+    let begun = fields.flags.begun;
+    Checkpoint::from_parts(
+        fields.set_id,
+        fields.file as u16,
+        position,
+        begun,
+        known,
+        fields.staged,
+    )
 }

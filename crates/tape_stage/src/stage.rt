@@ -16,11 +16,8 @@
 //! 1. its gate is closed where it stands open; sync, which keeps the frames put before, too
 //! 2. its generation and its checkpoint are written; sync
 //! 3. its gate is opened; sync
-pub mod body;
-pub mod cutting;
-pub mod file;
-pub mod found;
-pub mod frame;
+
+pub mod frames;
 pub mod open_disk;
 pub mod opening;
 pub mod part_reader;
@@ -28,9 +25,6 @@ pub mod putting;
 pub mod salvage;
 pub mod salvaging;
 pub mod saving;
-pub mod sinking;
-pub mod slots;
-pub mod walking;
 
 ghost use Rattle.std.specs.Prelude.{◌≡◌, ◌+◌, ◌≤◌, false, length, None};
 ghost use Rattle.tape_core.specs.Known.{most_staged};
@@ -140,4 +134,24 @@ pub struct Stage<D: Disk> {
     ghost room: { longest_part ≤ length buffer.items },
     ghost bounded: { weight ≤ most_staged },
     ghost bounded_generation: { generation ≤ most_generation },
+}
+
+/// The slot that is meant, its generation and its checkpoint, and whether the other slot's gate
+/// stands open.
+#[derive(Clone, Copy)]
+pub(crate) struct Found {
+    pub(crate) in_second: bool,
+    pub(crate) other_open: bool,
+    pub(crate) generation: u64,
+    pub(crate) point: Checkpoint,
+}
+
+impl Found {
+    /// What the parts weigh that the checkpoint tells.
+    pub(crate) fn staged(&self) -> u64
+        ensures value { result ≡ self.now.point.staged }
+        ensures bound { result ≤ most_staged }
+    {
+        self.point.staged
+    }
 }

@@ -5,7 +5,7 @@ use Rattle.tape_stage.specs.declared.disk.Disk.{Ghosts}
 use Rattle.std.proofs.lemmas.List.Splits.{join_with_byte-slice_split}
 use Rattle.tape_tool.specs.Cases.{CasesOfEnds, CasesOfFaults, CasesOfLines, CasesOfNames}
 use Rattle.tape_tool.specs.Cases.{CasesOfStaging}
-use Rattle.tape_tool.specs.declared.end.End.TheVariants.{Done, Incomplete}
+use Rattle.tape_tool.specs.declared.program.End.TheVariants.{Done, Incomplete}
 use Rattle.tape_tool.specs.Ends.{exit_status, IsWrongWords}
 use Rattle.tape_tool.specs.Names.{end_byte, names_in}
 

@@ -1,7 +1,7 @@
 -- The cases of `stage`.
 use Rattle.std.proofs.Common.{List, ℕ, Option, refl, inl, inr}
 use Rattle.std.specs.Fmt.{digits}
-use Rattle.tape_blocks.specs.declared.form.Form.{Form}
+use Rattle.tape_blocks.specs.declared.parts.Form.{Form}
 use Rattle.tape_tool.specs.declared.fault.ToolFault.{ToolFault}
 use Rattle.tape_tool.specs.Showing.{unopened, in_part, nothing, salvaged_in_part}
 use Rattle.tape_tool.specs.CasesOfShowing.{CasesOfShowing, StopSays, SalvageSays}

@@ -15,7 +15,7 @@ use Rattle.tape_run.specs.declared.survey.Wording.{Wording}
 use Rattle.tape_run.specs.declared.survey.Wording.TheVariants as wordings
 use Rattle.tape_tool.specs.declared.extract.words.Extract.{Extract}
 use Rattle.tape_tool.specs.declared.init.words.Init.{Init}
-use Rattle.tape_tool.specs.declared.names.Named.{Named}
+use Rattle.tape_tool.specs.declared.images.Named.{Named}
 use Rattle.tape_tool.specs.declared.unpack.words.Unpack.{Unpack}
 use Rattle.tape_tool.specs.declared.words.Order.{Order}
 use Rattle.tape_tool.specs.declared.words.Order.TheVariants as orders

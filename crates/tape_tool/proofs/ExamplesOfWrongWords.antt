@@ -12,7 +12,7 @@ use Rattle.tape_tool.specs.declared.words.Verb.TheVariants as verbs
 use Rattle.tape_tool.specs.CasesOfWords.{AreRefused, CasesOfWrongWords, to_write, with_format, word}
 use Rattle.tape_tool.specs.Words.{AreAtOdds, AreTooMany, IsSomeNumber, HavePaths, IsDashOrMore}
 use Rattle.tape_tool.specs.Words.{IsNoExtract, IsNoInit, IsNoUnpack, name_of}
-use Rattle.tape_tool.specs.declared.names.Named.{Named}
+use Rattle.tape_tool.specs.declared.images.Named.{Named}
 use Rattle.tape_tool.specs.declared.words.Order.{Order}
 use Rattle.tape_tool.specs.declared.words.Order.TheVariants as orders
 use Rattle.tape_tool.specs.Words.{IsNoOrderIn, IsNoOrderOf, IsOrderIn, IsOrderOf, NamesImages}

@@ -7,14 +7,14 @@ use Rattle.std.specs.Prelude.{◌≤◌, Some, Ok, Err, slice_index}
 use Rattle.std.specs.Fmt.{digits}
 use Rattle.clap.specs.declared.error.kind.ErrorKind.TheVariants as kinds
 use Rattle.std.specs.declared.io.ErrorKind.TheVariants as io_kinds
-use Rattle.tape_image.specs.declared.fault.ImageCause.TheVariants as causes
+use Rattle.tape_image.specs.declared.item.ImageCause.TheVariants as causes
 use Rattle.tape_core.specs.State.{State}
 use Rattle.tape_set.specs.declared.position.Position.TheVariants.{Awaits}
 use Rattle.tape_set.specs.declared.position.Want.{Want}
 use Rattle.tape_set.specs.Position.{sect_of}
 use Rattle.tape_stage.specs.Staged.{Staged}
 use Rattle.tape_writer.specs.declared.fault.WriteFault.TheVariants as write_faults
-use Rattle.tape_tool.specs.declared.end.End.TheVariants as ends
+use Rattle.tape_tool.specs.declared.program.End.TheVariants as ends
 use Rattle.tape_writer.specs.declared.system.fault.FileFault.TheVariants as file_faults
 use Rattle.tape_tool.specs.declared.stage.ending.StageEnding.TheVariants as endings
 use Rattle.tape_tool.specs.declared.fault.ToolFault.TheVariants as tool_faults
@@ -23,13 +23,13 @@ use Rattle.tape_tool.specs.Fault.{no_memory}
 use Rattle.tape_stage.specs.declared.stage.StageFault.TheVariants as stage_faults
 use Rattle.tape_tool.specs.declared.staging.StagingFault.TheVariants as staging_faults
 use Rattle.tape_tool.specs.Staging.{IsOfFile, SaysNoStage}
-use Rattle.tape_tool.proofs.end.End.status.Reads as status
-use Rattle.tape_tool.proofs.end.end_of.Reads as end_of
-use Rattle.tape_tool.proofs.end.damaged_end.Reads as damaged_end
-use Rattle.tape_tool.proofs.end.extract_end.Reads as extract_end
-use Rattle.tape_tool.proofs.end.words_end.Reads as words_end
-use Rattle.tape_tool.proofs.end.no_words_end.Reads as no_words_end
-use Rattle.tape_tool.proofs.end.check_end.Reads as check_end
+use Rattle.tape_tool.proofs.program.End.status.Reads as status
+use Rattle.tape_tool.proofs.program.end_of.Reads as end_of
+use Rattle.tape_tool.proofs.program.damaged_end.Reads as damaged_end
+use Rattle.tape_tool.proofs.program.extract_end.Reads as extract_end
+use Rattle.tape_tool.proofs.program.words_end.Reads as words_end
+use Rattle.tape_tool.proofs.program.no_words_end.Reads as no_words_end
+use Rattle.tape_tool.proofs.program.check_end.Reads as check_end
 use Rattle.tape_tool.proofs.fault.number_of_file.Reads as number_of_file
 use Rattle.tape_tool.proofs.fault.number_of_write.Reads as number_of_write
 use Rattle.tape_tool.proofs.telling.fault_line.Reads as fault_line

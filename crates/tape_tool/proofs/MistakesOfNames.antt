@@ -4,7 +4,7 @@ use Rattle.std.proofs.Common.{arith, codes}
 use Rattle.std.proofs.lemmas.List.{length-map}
 use Rattle.std.specs.Prelude.{Ok, slice_index}
 use Rattle.tape_tool.specs.Names.{names_in}
-use Rattle.tape_tool.proofs.names.all_names.Reads as all_names
+use Rattle.tape_tool.proofs.images.all_names.Reads as all_names
 
 -- the names of these words, and of a list of lines with this text
 named : (names words known : List (List ℕ)) (null : Bool) (text lines : List ℕ)

@@ -3,8 +3,8 @@ use Rattle.std.proofs.Common.{◌≡◌, ℕ, Bool, true, false, List, [], ◌�
 use Rattle.std.proofs.Common.{Option, Some, None, subst, arith, codes}
 use Rattle.std.specs.Prelude.{Ok, IfSome, map, option_map, slice_index, unwrap_or}
 use Rattle.clap.specs.Words.{all_of, first_of, found_of, one_of, rows_of}
-use Rattle.tape_blocks.specs.declared.form.Form.{Form}
-use Rattle.tape_blocks.specs.declared.form.Form.TheVariants.{Lines, Raw}
+use Rattle.tape_blocks.specs.declared.parts.Form.{Form}
+use Rattle.tape_blocks.specs.declared.parts.Form.TheVariants.{Lines, Raw}
 use Rattle.tape_run.specs.declared.survey.Wording.TheVariants as wordings
 use Rattle.tape_tool.specs.Words.{IsFlag, is_in_rows, text_in}
 use Rattle.tape_tool.proofs.check.words.check_order.Reads as check_order

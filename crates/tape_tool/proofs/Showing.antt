@@ -2,7 +2,7 @@
 use Rattle.std.proofs.Common.{ℕ, List, [], Option, None, Result, Ok, Err}
 use Rattle.std.proofs.Common.{OnErr, IfErr, sym, subst, append-nil}
 use Rattle.tape_blocks.specs.Block.{Portion}
-use Rattle.tape_blocks.specs.declared.form.Form.{Form}
+use Rattle.tape_blocks.specs.declared.parts.Form.{Form}
 use Rattle.tape_set.specs.declared.position.Want.{Want}
 use Rattle.tape_core.specs.Point.{Point}
 use Rattle.tape_run.specs.Extracting.{IsWritten}

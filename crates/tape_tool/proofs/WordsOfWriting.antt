@@ -12,8 +12,8 @@ use Rattle.clap.specs.declared.parser.matches.Found.{Found}
 use Rattle.clap.proofs.WalkLemmas.{one_text-rows}
 use Rattle.tape_label.specs.declared.values.Format.{Format}
 use Rattle.tape_label.specs.declared.values.Format.TheVariants.{Fixed, Counted, Spanned}
-use Rattle.tape_blocks.specs.declared.form.Form.{Form}
-use Rattle.tape_blocks.specs.declared.form.Form.TheVariants.{Raw}
+use Rattle.tape_blocks.specs.declared.parts.Form.{Form}
+use Rattle.tape_blocks.specs.declared.parts.Form.TheVariants.{Raw}
 use Rattle.tape_tool.specs.Words.{AreAtOdds, IsSomeNumber, HavePaths, IsForm, IsNoWrite}
 use Rattle.tape_tool.specs.Words.{text_in, texts_in}
 use Rattle.tape_writer.specs.Blank.{IsPrefix}

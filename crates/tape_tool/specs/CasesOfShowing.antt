@@ -5,7 +5,7 @@ use Rattle.std.specs.Prelude.{codes}
 use Rattle.std.specs.Io.KnownBytes.{Appends, Keeps}
 use Rattle.tape_blocks.specs.Block.{Portion}
 use Rattle.tape_blocks.specs.Spans.{join}
-use Rattle.tape_blocks.specs.declared.form.Form.{Form}
+use Rattle.tape_blocks.specs.declared.parts.Form.{Form}
 use Rattle.tape_set.specs.declared.position.Want.{Want}
 use Rattle.tape_set.specs.declared.position.Position.{Position}
 use Rattle.tape_set.specs.declared.position.Position.TheVariants.{Awaits, Finished}
@@ -16,7 +16,7 @@ use Rattle.tape_stage.specs.Faults.{SaysNone}
 use Rattle.tape_stage.specs.Salvaged.{Remains, RemainsNone}
 use Rattle.tape_stage.specs.Staged.{Staged, HoldsNone}
 use Rattle.tape_stage.specs.declared.stage.StageFault.{StageFault}
-use Rattle.tape_tool.specs.declared.end.End.TheVariants.{Done, Faulted, Incomplete}
+use Rattle.tape_tool.specs.declared.program.End.TheVariants.{Done, Faulted, Incomplete}
 use Rattle.tape_tool.specs.declared.fault.ToolFault.{ToolFault}
 use Rattle.tape_tool.specs.declared.fault.ToolFault.TheVariants.{Stage}
 use Rattle.tape_tool.specs.declared.stage.ending.StageEnding.{StageEnding}

@@ -6,14 +6,14 @@ use Rattle.clap.specs.declared.builder.value_parser.Reading.TheVariants.{AsWritt
 use Rattle.clap.specs.declared.error.Error.{Error}
 use Rattle.clap.specs.declared.error.kind.ErrorKind.TheVariants.{OutOfMemory, ValueValidation}
 use Rattle.tape_label.specs.declared.values.Format.TheVariants.{Counted}
-use Rattle.tape_blocks.specs.declared.form.Form.{Form}
-use Rattle.tape_blocks.specs.declared.form.Form.TheVariants.{Lines, Raw}
+use Rattle.tape_blocks.specs.declared.parts.Form.{Form}
+use Rattle.tape_blocks.specs.declared.parts.Form.TheVariants.{Lines, Raw}
 use Rattle.tape_run.specs.declared.survey.Wording.TheVariants as wordings
 use Rattle.tape_tool.specs.declared.extract.words.Extract.{Extract}
 use Rattle.tape_tool.specs.declared.init.words.Init.{Init}
 use Rattle.tape_tool.specs.declared.list.words.Listing.{Listing}
-use Rattle.tape_tool.specs.declared.names.List.{List as ListFile}
-use Rattle.tape_tool.specs.declared.names.Named.{Named}
+use Rattle.tape_tool.specs.declared.images.List.{List as ListFile}
+use Rattle.tape_tool.specs.declared.images.Named.{Named}
 use Rattle.tape_tool.specs.declared.stage.words.StageOrder.{StageOrder}
 use Rattle.tape_tool.specs.declared.survey.words.Survey.{Survey}
 use Rattle.tape_tool.specs.declared.unpack.words.Unpack.{Unpack}

@@ -6,8 +6,8 @@ use Rattle.std.specs.declared.io.ErrorKind as io_error
 use Rattle.std.specs.declared.io.ErrorKind.TheVariants as io_kinds
 use Rattle.tape_set.specs.declared.position.Want.{Want}
 use Rattle.tape_run.specs.declared.fault.EngineFault.{EngineFault}
-use Rattle.tape_tool.specs.declared.end.End.{End}
-use Rattle.tape_tool.specs.declared.end.End.TheVariants.{Done, Faulted, WrongWords, Incomplete}
+use Rattle.tape_tool.specs.declared.program.End.{End}
+use Rattle.tape_tool.specs.declared.program.End.TheVariants.{Done, Faulted, WrongWords, Incomplete}
 use Rattle.tape_writer.specs.declared.system.fault.FileFault.TheVariants.{WriteFailed}
 use Rattle.tape_tool.specs.declared.fault.ToolFault.{ToolFault}
 use Rattle.tape_tool.specs.declared.fault.ToolFault.TheVariants.{File}

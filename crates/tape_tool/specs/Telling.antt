@@ -1,6 +1,6 @@
 -- The line that tells a fault.
 use Rattle.std.specs.Prelude.{ℕ, List, ◌++◌, codes, decimal}
-use Rattle.tape_image.specs.declared.fault.ImageFault.{ImageFault}
+use Rattle.tape_image.specs.declared.item.ImageFault.{ImageFault}
 use Rattle.tape_image.specs.Fault.{number_of}
 use Rattle.tape_label.specs.Faults.{number}
 use Rattle.tape_run.specs.Fault as run_faults

@@ -11,13 +11,13 @@ use Rattle.clap.specs.Words.{Row, all_of, first_of, kind_of, one_of}
 use Rattle.clap.specs.declared.error.Error.{Error}
 use Rattle.clap.specs.declared.error.kind.ErrorKind.TheVariants.{OutOfMemory, ValueValidation}
 use Rattle.tape_label.specs.declared.values.Format.TheVariants.{Fixed, Counted, Spanned}
-use Rattle.tape_blocks.specs.declared.form.Form.{Form}
-use Rattle.tape_blocks.specs.declared.form.Form.TheVariants.{Lines, Raw}
+use Rattle.tape_blocks.specs.declared.parts.Form.{Form}
+use Rattle.tape_blocks.specs.declared.parts.Form.TheVariants.{Lines, Raw}
 use Rattle.tape_writer.specs.Blank.{IsPrefix}
 use Rattle.tape_run.specs.declared.survey.Wording.{Wording}
 use Rattle.tape_run.specs.declared.survey.Wording.TheVariants as wordings
-use Rattle.tape_tool.specs.declared.names.List.{List as ListFile}
-use Rattle.tape_tool.specs.declared.names.Named.{Named}
+use Rattle.tape_tool.specs.declared.images.List.{List as ListFile}
+use Rattle.tape_tool.specs.declared.images.Named.{Named}
 use Rattle.tape_tool.specs.declared.words.Order.{Order}
 use Rattle.tape_tool.specs.declared.words.Order.TheVariants as orders
 use Rattle.tape_tool.specs.declared.words.Verb.{Verb}

@@ -1,11 +1,164 @@
-//! The images of a run, for `check` and `extract`.
-ghost use Rattle.std.specs.Prelude.{⊤, length};
+//! Which images: those that words and lists name, opened one at a time.
 
-use std::alloc::AllocError;
+ghost use Rattle.std.specs.Prelude.{⊤, length, ◌≡◌, ◌++◌, ◌∷◌, [], true, false, map, IfOk, OnOk};
+ghost use Rattle.std.specs.Prelude.{IfSome};
+ghost use Rattle.tape_tool.specs.Names.{end_byte, is_name, names_in, pieces_of as cut};
+
+use crate::explain::Site;
+use crate::fault::{FileFault, OUT_OF_MEMORY};
+use crate::help;
+use crate::unfit::{Unfit, refused};
+use std::alloc::{AllocError, Global};
 use std::fs::{File, Files};
-use std::io::BufReader;
+use std::io::{BufReader, ErrorKind, Read};
 use std::rt::Runtime;
 use tape_run::Shelf;
+
+/// What names the images of a run.
+#[derive(Drop)]
+pub struct Named<'a> {
+    /// The names among the words.
+    pub words: Vec<&'a str>,
+    pub list: Option<List<'a>>,
+}
+
+/// A list of names.
+#[derive(Clone, Copy)]
+pub struct List<'a> {
+    /// Its file, where it is not on standard input.
+    pub file: Option<&'a str>,
+    /// Whether each name ends with a NUL, and not with a line feed.
+    pub null: bool,
+}
+
+/// The names of all images: those of the words, and behind them those of the list, whose text is
+/// kept for them. Nothing else is opened. At a fault the site is the list.
+///
+/// # Errors
+///
+/// `Faulted` with `NotOpened` or `ReadFailed` where the list could not be read to its end, or with
+/// `OutOfMemory`. `NoText` where it is not UTF-8 text; `Words` where lines of it hold a NUL, and
+/// where no image is named.
+pub fn names_of<'t, 'a: 't, R: Runtime + AllocGlobal>(
+    rt: &R,
+    named: &Named<'a>,
+    text: &'t mut String,
+    site: &mut Site<'a>,
+) -> Result<Vec<&'t str>, Unfit> {
+    let mut null = false;
+    if let Some(list) = named.list {
+        *site = Site::List(list.file);
+        *text = read_list(rt, list)?;
+        null = list.null;
+    }
+    match all_names(rt.alloc(), named.words.as_slice(), text.as_str(), null) {
+        Ok(names) if names.is_empty() => Err(Unfit::Words(help::NO_IMAGE)),
+        Ok(names) => Ok(names),
+        Err(_) => Err(no_memory()),
+    }
+}
+
+/// The text of a list.
+fn read_list<R: Runtime + AllocGlobal>(rt: &R, list: List<'_>) -> Result<String, Unfit> {
+    match String::from_utf8(bytes_of(rt, list)?) {
+        Err(error) => {
+            let place = error.utf8_error().valid_up_to();
+            Err(Unfit::NoText(list.null, number_at(error.as_bytes(), list.null, place)))
+        }
+        // No name of a file has one.
+        Ok(text) if !list.null && text.as_str().contains('\0') => {
+            Err(Unfit::Words(help::NUL_IN_LINES))
+        }
+        Ok(text) => Ok(text),
+    }
+}
+
+/// The bytes of a list.
+fn bytes_of<R: Runtime + AllocGlobal>(rt: &R, list: List<'_>) -> Result<Vec<u8>, Unfit> {
+    let Some(path) = list.file else {
+        return read_all(rt.alloc(), &mut rt.reader());
+    };
+    match File::open(rt, path) {
+        Ok(mut file) => read_all(rt.alloc(), &mut file),
+        Err(_) => Err(refused(FileFault::NotOpened)),
+    }
+}
+
+/// All that a reader has left.
+fn read_all<D: Read>(alloc: Global, device: &mut D) -> Result<Vec<u8>, Unfit>
+    ensures { IfOk result (λ bytes.
+        IfSome (D.remaining device.old) (λ left. bytes.items ≡ left)) }
+{
+    let mut bytes = Vec::new(alloc);
+    match device.read_to_end(&mut bytes) {
+        Ok(_) => Ok(bytes),
+        Err(error) if error.kind() == ErrorKind::OutOfMemory => Err(no_memory()),
+        Err(_) => Err(refused(FileFault::ReadFailed)),
+    }
+}
+
+/// The number of the name that this place of a list is in, from 1, with those that are empty.
+fn number_at(list: &[u8], null: bool, place: usize) -> usize {
+    let end = end_of(null);
+    let mut number = 1usize;
+    for byte in list.iter().take(place) {
+        if char::from(*byte) == end {
+            number = number.saturating_add(1);
+        }
+    }
+    number
+}
+
+/// The names of the words, and behind them those in the text of a list.
+pub fn all_names<'a>(
+    alloc: Global,
+    words: &[&'a str],
+    text: &'a str,
+    null: bool,
+) -> Result<Vec<&'a str>, AllocError>
+    ensures { IfOk result (λ names. map (λ n. n.now) names.items
+        ≡ map (λ w. w.now) words.now ++ names_in null text.now) }
+{
+    let mut names = Vec::from_slice(alloc, words)?;
+    let pieces = pieces_of(alloc, text, null)?;
+    for piece in pieces.as_slice() {
+        push_name(&mut names, *piece)?;
+    }
+    Ok(names)
+}
+
+/// Puts a piece behind the names, where it is one.
+fn push_name<'a>(names: &mut Vec<&'a str>, piece: &'a str) -> Result<(), AllocError>
+    ensures name { is_name piece.now ≡ true
+        → OnOk result (names.new.items ≡ names.old.items ++ piece.entry ∷ []) }
+    ensures none { is_name piece.now ≡ false
+        → OnOk result (names.new.items ≡ names.old.items) }
+{
+    if piece.is_empty() {
+        return Ok(());
+    }
+    names.push(piece)?;
+    Ok(())
+}
+
+/// What stands between the ends in the text of a list.
+fn pieces_of(alloc: Global, text: &str, null: bool) -> Result<Vec<&str>, AllocError>
+    ensures { IfOk result (λ pieces. map (λ p. p.now) pieces.items ≡ cut null text.now) }
+{
+    text.split(end_of(null)).collect(alloc)
+}
+
+/// What each name in a list ends with.
+fn end_of(null: bool) -> char
+    ensures { result ≡ end_byte null }
+{
+    if null { '\0' } else { '\n' }
+}
+
+/// A growth was refused.
+fn no_memory() -> Unfit {
+    Unfit::Faulted(OUT_OF_MEMORY)
+}
 
 /// How many bytes of an image are read ahead, at most.
 pub const READ_AHEAD: usize = 32_768;

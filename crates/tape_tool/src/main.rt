@@ -6,7 +6,6 @@ mod program;
 mod words;
 
 // How it ends.
-mod end;
 mod fault;
 mod telling;
 
@@ -29,7 +28,6 @@ mod write;
 mod host;
 mod images;
 mod laws;
-mod names;
 mod staging;
 #[cfg(test)]
 mod tests;

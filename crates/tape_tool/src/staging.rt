@@ -1,20 +1,25 @@
-//! Sessions over stages: begun on one day, and gone on with on another.
+//! Sessions over stages, on any disk and in a file.
+
 ghost use Rattle.std.specs.Prelude.{◌≡◌, ◌↔◌, [], IfOk, IfErr, IsTrue};
 ghost use Rattle.tape_core.specs.Known.{IsFileNumber};
 ghost use Rattle.tape_core.specs.Weight.{Rose};
-ghost use Rattle.tape_run.specs.Headline.{IsStart};
-ghost use Rattle.tape_run.specs.Seen.{seen};
 ghost use Rattle.tape_stage.specs.Moments.{Untouched};
 ghost use Rattle.tape_stage.specs.Staged.{HoldsNone, KeepsStaged};
-ghost use Rattle.tape_tool.specs.Staging.{IsOfFile, StandsAt, GoesOn, Says, IsUnopened};
-ghost use Rattle.tape_tool.specs.Staging.{OpensOver, SaysNoStage, first_point};
+ghost use Rattle.tape_run.specs.Headline.{IsStart};
+ghost use Rattle.tape_run.specs.Seen.{seen};
+ghost use Rattle.tape_tool.specs.Staging.{IsOfFile, StandsAt, GoesOn, Says, IsUnopened, OpensOver};
+ghost use Rattle.tape_tool.specs.Staging.{SaysNoStage, first_point};
 
+use crate::fault::{FileFault, ToolFault};
+use crate::host::Host;
 use std::alloc::Global;
+use std::fs::{File, OpenOptions, TryLockError};
 use tape_core::{Checkpoint, ReaderCore};
 use tape_label::Field;
 use tape_label::laws::same_field;
-use tape_run::Session;
-use tape_stage::{Disk, Refused, Stage, StageFault};
+use tape_run::{RunFault, Session};
+use tape_stage::{Disk, HeldFile, Refused, Stage, StageFault, held_file};
+use tape_writer::system::sync_folder_of;
 
 /// Why there is no session over a stage.
 #[derive(Clone, Copy, PartialEq, Eq)]
@@ -186,4 +191,65 @@ pub fn same_file(point: &Checkpoint, set_id: Field<6>, file: u16) -> bool
     ensures { IsTrue result ↔ IsOfFile set_id file point.now }
 {
     same_field(&point.set_id, &set_id) && point.file == file
+}
+
+/// A session over the stage in a file.
+type FileSession = Session<Stage<HeldFile<File>>>;
+
+/// The session of the stage in the file at this path. Where no file is there, or an empty one, a
+/// stage is made.
+///
+/// The file is locked before anything is read of it, for as long as it is open.
+///
+/// # Errors
+///
+/// `StageInUse` where another run has the stage; `NotOpened` where there can be no such file; else
+/// that of opening or making the stage.
+pub fn session_in<R: Host>(
+    rt: &R,
+    path: &str,
+    set_id: Field<6>,
+    file: u16,
+) -> Result<FileSession, ToolFault> {
+    let kept = locked(rt, path)?;
+    let disk = match held_file(rt.alloc(), kept) {
+        Ok(disk) => disk,
+        Err(fault) => return Err(ToolFault::Stage(fault)),
+    };
+    // A stage that is made here is nothing without its name.
+    if sync_folder_of(rt, path).is_err() {
+        return Err(ToolFault::Stage(StageFault::Device));
+    }
+    match open_session(rt.alloc(), disk, set_id, file) {
+        Ok(mut session) => {
+            // The stage stands here, and behind a reel that counted wrong it does so again.
+            if let Err(fault) = session.note() {
+                return Err(ToolFault::Run(fault));
+            }
+            Ok(session)
+        }
+        Err(refused) => Err(tool_fault(refused.fault)),
+    }
+}
+
+/// The file at this path, made where none is there, and locked. A file system without locks has no
+/// answer, and then nobody is kept out.
+fn locked<R: Host>(rt: &R, path: &str) -> Result<File, ToolFault> {
+    let mut options = OpenOptions::new();
+    options.read(true).write(true).create(true);
+    let Ok(file) = options.open(rt, path) else {
+        return Err(ToolFault::File(FileFault::NotOpened));
+    };
+    match file.try_lock() {
+        Err(TryLockError::WouldBlock) => Err(ToolFault::StageInUse),
+        _ => Ok(file),
+    }
+}
+
+/// The fault as the program tells it.
+fn tool_fault(fault: StagingFault) -> ToolFault {
+    match fault {
+        StagingFault::Stage(fault) => ToolFault::Stage(fault),
+        StagingFault::OtherFile => ToolFault::Run(RunFault::OtherFile),
+    }
 }

@@ -20,7 +20,7 @@ use Rattle.tape_label.specs.Reading.{begins_as}
 use Rattle.tape_label.specs.Written.{HaveWidths, vol1_pieces, head_pieces, head2_pieces}
 use Rattle.tape_label.proofs.DigitLaws.{length-digits}
 use Rattle.tape_label.proofs.Texts.{vol1_text_is, head1_text_is, head2_text_is, trail1_text_is}
-use Rattle.tape_blocks.specs.declared.shape.Shape.{Shape}
+use Rattle.tape_blocks.specs.declared.parts.Shape.{Shape}
 use Rattle.tape_blocks.specs.Packing.{IsWritable, HasWritableRecords}
 use Rattle.tape_set.specs.Tight.{second_of}
 use Rattle.tape_writer.specs.declared.course.Opened.{Opened}

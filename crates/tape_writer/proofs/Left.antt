@@ -5,7 +5,7 @@ use Rattle.std.specs.Prelude.{IfErr, Result, Ok, Err}
 use Rattle.std.proofs.lemmas.List.{length-map}
 use Rattle.tape_label.specs.declared.values.Vol1.{Vol1}
 use Rattle.tape_label.specs.declared.values.Head1.{Head1}
-use Rattle.tape_blocks.specs.declared.shape.Shape.{Shape}
+use Rattle.tape_blocks.specs.declared.parts.Shape.{Shape}
 use Rattle.tape_blocks.specs.declared.offer.Offer.TheVariants.{BlockReady}
 use Rattle.tape_blocks.specs.Block.{Portion}
 use Rattle.tape_blocks.specs.Packing.{Packing, IsJudged, Offers, emptied}

@@ -5,7 +5,7 @@ use Rattle.std.proofs.Common.{true, false, refl, sym, ap, ◌∙◌, subst, arit
 use Rattle.std.specs.Prelude.{Ok, Err, ◌<◌, nat_le, slice_get, unwrap_or}
 use Rattle.std.specs.List.{AllByRecursion}
 use Rattle.std.proofs.lemmas.Bool.Decides.{nat_tests}
-use Rattle.tape_blocks.specs.declared.shape.Shape.{Shape}
+use Rattle.tape_blocks.specs.declared.parts.Shape.{Shape}
 use Rattle.tape_blocks.specs.Tight.{Filled}
 use Rattle.tape_blocks.specs.Tight as packing
 use Rattle.tape_set.specs.Tight.{least_capacity, takes_next}

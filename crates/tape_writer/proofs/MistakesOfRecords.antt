@@ -5,7 +5,7 @@ use Rattle.std.specs.Prelude.{Ok, None, replicate, ◌-◌}
 use Rattle.std.specs.List.{AllByRecursion}
 use Rattle.std.proofs.lemmas.List.{length-replicate}
 use Rattle.tape_label.specs.declared.values.Format.TheVariants.{Fixed}
-use Rattle.tape_blocks.specs.declared.shape.Shape.{Shape}
+use Rattle.tape_blocks.specs.declared.parts.Shape.{Shape}
 use Rattle.tape_blocks.specs.Block.{Portion, spellings}
 use Rattle.tape_blocks.specs.Spans.{join}
 use Rattle.tape_blocks.specs.Packing.{Packing, size_of, least_room, padded_len, written}

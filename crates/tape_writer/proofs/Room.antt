@@ -8,7 +8,7 @@ use Rattle.std.proofs.lemmas.List.{length-replicate}
 use Rattle.tape_image.specs.Tape.{block}
 use Rattle.tape_label.specs.declared.values.Format.{Format}
 use Rattle.tape_label.specs.declared.values.Format.TheVariants.{Fixed, Counted, Spanned}
-use Rattle.tape_blocks.specs.declared.shape.Shape.{Shape}
+use Rattle.tape_blocks.specs.declared.parts.Shape.{Shape}
 use Rattle.tape_blocks.specs.declared.offer.Offer.TheVariants.{Taken, BlockReady}
 use Rattle.tape_blocks.specs.Block.{Portion, spellings, head_len}
 use Rattle.tape_blocks.specs.Spans.{span_of}

@@ -4,7 +4,7 @@ use Rattle.std.proofs.Common.{None, refl, sym, ap, ◌∙◌, subst, arith, drop
 use Rattle.std.specs.List.{AllByRecursion}
 use Rattle.std.proofs.lemmas.List.{append-nil}
 use Rattle.tape_label.specs.declared.values.Vol1.{Vol1}
-use Rattle.tape_blocks.specs.declared.shape.Shape.{Shape}
+use Rattle.tape_blocks.specs.declared.parts.Shape.{Shape}
 use Rattle.tape_blocks.specs.declared.offer.Offer.TheVariants.{BlockReady}
 use Rattle.tape_blocks.specs.Block.{Portion}
 use Rattle.tape_blocks.specs.Spans.{InOrder, Joined, span_of, join}

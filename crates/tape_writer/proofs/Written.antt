@@ -7,8 +7,8 @@ use Rattle.byteorder.specs.Endian.{little_bytes}
 use Rattle.tape_image.specs.declared.item.Ending.TheVariants.{Marked}
 use Rattle.tape_image.specs.Tape.{TapeItem, block, bad, mark}
 use Rattle.tape_image.specs.Word.{end_word}
-use Rattle.tape_image.specs.declared.fault.ImageWriteFault.{ImageWriteFault}
-use Rattle.tape_image.specs.declared.fault.ImageWriteFault.TheVariants as faults
+use Rattle.tape_image.specs.declared.item.ImageWriteFault.{ImageWriteFault}
+use Rattle.tape_image.specs.declared.item.ImageWriteFault.TheVariants as faults
 use Rattle.tape_image.specs.Written.{written, is_no_block}
 use Rattle.std.specs.Prelude.{MatchBool}
 use Rattle.tape_image.specs.Writer.{Writer, Standing, writing, finished, broken}

@@ -5,7 +5,7 @@ use Rattle.std.specs.Prelude.{false}
 use Rattle.std.specs.List.{AllByRecursion}
 use Rattle.tape_image.specs.Tape.{TapeItem, block, mark}
 use Rattle.tape_label.specs.declared.values.Vol1.{Vol1}
-use Rattle.tape_blocks.specs.declared.shape.Shape.{Shape}
+use Rattle.tape_blocks.specs.declared.parts.Shape.{Shape}
 use Rattle.tape_blocks.specs.Packing.{Packing, HasRecordLength, the_packing}
 use Rattle.tape_blocks.specs.Run.{RunOf, Going}
 use Rattle.tape_blocks.specs.Spans.{InOrder}

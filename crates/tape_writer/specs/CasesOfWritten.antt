@@ -5,7 +5,7 @@ use Rattle.std.specs.Prelude.{Some, Err}
 use Rattle.std.specs.List.{AllByRecursion, flat_map}
 use Rattle.tape_label.specs.declared.values.Head1.{Head1}
 use Rattle.tape_label.specs.declared.values.Vol1.{Vol1}
-use Rattle.tape_blocks.specs.declared.shape.Shape.{Shape}
+use Rattle.tape_blocks.specs.declared.parts.Shape.{Shape}
 use Rattle.tape_set.specs.Layout.{Section, Placed, numbered, all_items}
 use Rattle.tape_set.specs.Lawful.{IsFile}
 use Rattle.tape_writer.specs.declared.course.Opened.{Opened}

@@ -1,7 +1,7 @@
 -- Where no volume is left for a set that is written from inputs.
 use Rattle.std.specs.Prelude.{◌≡◌, ◌⊎◌, ℕ, ◌+◌, List, [], ◌∷◌, ◌++◌, length, Option, IfSome}
 use Rattle.tape_label.specs.declared.values.Head1.{Head1}
-use Rattle.tape_blocks.specs.declared.shape.Shape.{Shape}
+use Rattle.tape_blocks.specs.declared.parts.Shape.{Shape}
 use Rattle.tape_writer.specs.Tapes.{Tapes}
 use Rattle.tape_writer.specs.Told.{Told}
 use Rattle.tape_writer.specs.State.{SetState, IsOutOfVolumes}

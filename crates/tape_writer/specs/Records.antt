@@ -4,7 +4,7 @@ use Rattle.std.specs.Prelude.{length, if◌then◌else◌, Option}
 use Rattle.std.specs.Io.KnownBytes.{prepend_known}
 use Rattle.tape_label.specs.declared.values.Format.{Format}
 use Rattle.tape_label.specs.declared.values.Format.TheVariants.{Fixed, Counted, Spanned}
-use Rattle.tape_blocks.specs.declared.shape.Shape.{Shape}
+use Rattle.tape_blocks.specs.declared.parts.Shape.{Shape}
 use Rattle.tape_writer.specs.declared.inputs.cut.Cut.{Cut}
 use Rattle.tape_writer.specs.declared.inputs.cut.Cut.TheVariants.{Lines, Length, Whole}
 use Rattle.tape_writer.specs.declared.inputs.records.Records.{Records}

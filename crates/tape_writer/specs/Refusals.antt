@@ -4,7 +4,7 @@ use Rattle.std.specs.Prelude.{◌≡◌, ◌<◌, ◌≤◌, ℕ, List, length}
 use Rattle.std.specs.List.{AllByRecursion}
 use Rattle.tape_label.specs.declared.values.Vol1.{Vol1}
 use Rattle.tape_label.specs.declared.values.Head1.{Head1}
-use Rattle.tape_blocks.specs.declared.shape.Shape.{Shape}
+use Rattle.tape_blocks.specs.declared.parts.Shape.{Shape}
 use Rattle.tape_blocks.specs.Packing.{IsWritable}
 use Rattle.tape_set.specs.Tight.{least_capacity}
 use Rattle.tape_writer.specs.declared.course.Opened.{Opened}

@@ -5,7 +5,7 @@ use Rattle.tape_image.specs.Tape.{TapeItem}
 use Rattle.tape_label.specs.declared.values.Vol1.{Vol1}
 use Rattle.tape_label.specs.declared.values.Head1.{Head1}
 use Rattle.tape_label.specs.declared.values.Kind.TheVariants as kinds
-use Rattle.tape_blocks.specs.declared.shape.Shape.{Shape}
+use Rattle.tape_blocks.specs.declared.parts.Shape.{Shape}
 use Rattle.tape_blocks.specs.Spans.{join}
 use Rattle.tape_set.specs.Layout.{FileSet, Section, Placed, Volume, numbered, all_items}
 use Rattle.tape_set.specs.Before.{section_parts}

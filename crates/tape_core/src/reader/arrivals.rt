@@ -1,19 +1,27 @@
-//! What comes, by what is expected.
+//! What comes from a reel, while it is awaited and when it is there.
 
-ghost use Rattle.std.specs.Prelude.{◌≡◌, ◌≢◌, false, Some};
+ghost use Rattle.std.specs.Prelude.{◌≡◌, ◌≢◌, false, Some, ◌<◌, ◌≤◌, ◌⊎◌, Bool, List, true, length};
+ghost use Rattle.std.specs.Prelude.{OnOk, IfOk, Ok, not};
 ghost use Rattle.tape_image.specs.Tape.{block as block'};
+ghost use Rattle.tape_blocks.specs.Block.{Portion, Holds};
+ghost use Rattle.tape_blocks.specs.Spans.{InOrder};
+ghost use Rattle.tape_blocks.specs.Faults.{bool_eq};
+ghost use Rattle.tape_blocks.specs.Judged.{judged};
+ghost use Rattle.tape_set.specs.Lawful.{most_blocks};
+ghost use Rattle.tape_set.specs.Position.{block_of, part_of};
 ghost use Rattle.tape_core.specs.Arrive.{arrival};
 ghost use Rattle.tape_core.specs.Follows.{Checked};
 ghost use Rattle.tape_core.specs.Known.{is_finished};
-ghost use Rattle.tape_core.specs.State.{ToldFits, wants_data};
+ghost use Rattle.tape_core.specs.State.{ToldFits, wants_data, State};
 ghost use Rattle.tape_core.specs.Table as Table;
+ghost use Rattle.tape_core.specs.Parts as Parts';
 
-use crate::answer::{Answer, Reason};
-use crate::event::Event;
-use crate::known::Known;
-use crate::phase::{Heading, Phase};
+use crate::checkpoint::{Checkpoint, Known};
+use crate::event::{Answer, CoreFault, Event, Heading, Phase, Reason};
 use crate::reader::ReaderCore;
-use tape_label::{LabelFault, is_volume_label, kind, read_head1, read_trail1};
+use tape_blocks::{Parts, Shape, check_block};
+use tape_label::laws::same_field;
+use tape_label::{Format, LabelFault, is_volume_label, kind, read_head1, read_trail1};
 use tape_set::Position;
 
 impl ReaderCore {
@@ -134,4 +142,199 @@ impl ReaderCore {
             _ => self.useless(Reason::ReelEnded),
         }
     }
+}
+
+impl ReaderCore {
+    /// A reading begins.
+    pub(crate) fn begin(&mut self)
+        ensures table { self.new ≡ Table.mount_of self.old }
+    {
+        self.phase = match (self.phase, self.position) {
+            (Phase::Broken, _) => Phase::Broken,
+            (_, Position::Finished) => Phase::Over,
+            _ => Phase::Volume,
+        };
+    }
+
+    /// Goes to a checkpoint of this file.
+    pub(crate) fn go_to(&mut self, checkpoint: &Checkpoint) -> Result<(), CoreFault>
+        ensures value { (result, self.new) ≡ Table.restart_of self.old checkpoint.now }
+    {
+        if !same_field(&self.set_id, &checkpoint.set_id) || self.file != checkpoint.file {
+            return Err(CoreFault::OtherFile);
+        }
+        self.position = checkpoint.position;
+        self.begun = checkpoint.begun;
+        self.known = checkpoint.known;
+        self.phase = Phase::Over;
+        Ok(())
+    }
+}
+
+impl ReaderCore {
+    /// A block: one that was delivered before is passed. What is expected is changed in place,
+    /// since nearly all that a reel holds are such blocks.
+    #[inline(always)]
+    pub(crate) fn at_data(&mut self, block: &[u8]) -> Answer
+        requires wanted { wants_data self.old.phase ≡ true }
+        requires waits { is_finished self.old.position ≡ false }
+        ensures table { (result, self.new) ≡ Table.at_block self.old self.old.phase block.now }
+        ensures checked { result ≡ Answer.Deliver
+            → Checked (Some (block' block.now)) self.old self.new }
+    {
+        let number = self.block();
+        let part = self.part();
+        let Phase::DataWanted(_, form, seen) = &mut self.phase else {
+            unreachable!()
+        };
+        if *seen < number {
+            *seen += 1;
+            return Answer::Passed;
+        }
+        match judge_awaited(form, number, part, self.begun, block) {
+            Err(why) => self.useless(why),
+            Ok(end) => {
+                *seen = number + 1;
+                self.known = Some(*form);
+                self.position = self.position.next_block();
+                self.begun = end;
+                Answer::Deliver
+            }
+        }
+    }
+
+    /// An item that could not be read, behind so many blocks: one that was delivered before may be
+    /// bad, the one awaited may not.
+    pub(crate) fn at_bad_data(&mut self, heading: Heading, form: Known, seen: u32) -> Answer
+        requires told { ToldFits self.old.begun (Some form) }
+        ensures table { (result, self.new) ≡ Table.at_bad_data self.old heading form seen }
+        ensures silent { result ≢ Answer.Deliver }
+    {
+        if seen < self.block() {
+            self.passed(Phase::DataWanted(heading, form, seen + 1))
+        } else {
+            self.useless(Reason::BadItem)
+        }
+    }
+
+    /// The mark behind so many blocks: all that were delivered before have to stand before it.
+    pub(crate) fn at_data_end(&mut self, heading: Heading, form: Known, seen: u32) -> Answer
+        requires told { ToldFits self.old.begun (Some form) }
+        ensures table { (result, self.new) ≡ Table.at_data_end self.old heading form seen }
+        ensures silent { result ≢ Answer.Deliver }
+    {
+        if seen < self.block() {
+            self.useless(Reason::SectionDiffers)
+        } else {
+            self.passed(Phase::TrailerWanted(heading, form))
+        }
+    }
+}
+
+/// Whether a block leaves a record begun, where it is the one of this number, or why it is not. So
+/// many of its parts were delivered, and `begun` is said of the next.
+#[inline(always)]
+fn judge_awaited(
+    form: &Known,
+    number: u32,
+    part: u32,
+    begun: bool,
+    block: &[u8],
+) -> Result<bool, Reason>
+    requires told { ToldFits begun (Some form.now) }
+    ensures table { (core : State) (heading : Heading) → block_of core.position ≡ number
+        → part_of core.position ≡ part → core.begun ≡ begun
+        → Table.at_awaited core heading form.now block.now
+        ≡ Table.found_awaited core heading form.now result }
+    ensures more { OnOk result (number < most_blocks) }
+    ensures told { IfOk result (λ end. ToldFits end (Some form.now)) }
+    ensures holds { IfOk result (λ end. (begun : Bool) × (parts : List Portion)
+        × Holds form.now.format form.now.rec_len form.now.offset block.now parts
+        × InOrder begun parts end
+        × ((part ≡ 0) ⊎ (part < length parts))
+        × (length parts ≤ length block.now)) }
+{
+    if number == u32::MAX {
+        return Err(Reason::SectionDiffers);
+    }
+    let before = begun_before(form, part, begun, block);
+    match check_block(&shape_of(form), before, block) {
+        Err(fault) => Err(Reason::BadBlock(fault)),
+        Ok(_) if other_front(form, part, begun, block) => Err(Reason::SectionDiffers),
+        Ok(end) => Ok(end),
+    }
+}
+
+/// The shape of the file's blocks, as far as it binds a reader.
+pub(crate) fn shape_of(known: &Known) -> Shape
+    ensures format { result.format ≡ known.now.format }
+    ensures rec_len { result.rec_len ≡ known.now.rec_len }
+    ensures offset { result.offset ≡ known.now.offset }
+    ensures block_len { result.block_len ≡ 0 }
+    ensures pad_full { result.pad_full ≡ Bool.false }
+{
+    Shape {
+        format: known.format,
+        block_len: 0,
+        rec_len: known.rec_len,
+        offset: known.offset,
+        pad_full: false,
+    }
+}
+
+/// Whether the block's first unit goes on with a record: in format S its indicator is `2` or `3`.
+fn goes_on_at(format: Format, offset: u8, block: &[u8]) -> bool
+    ensures { result ≡ Parts'.goes_on_at format offset block.now }
+{
+    match format {
+        Format::Fixed | Format::Counted => false,
+        Format::Spanned => {
+            let offset = usize::from(offset);
+            if offset >= block.len() {
+                return false;
+            }
+            matches!(block[offset], b'2' | b'3')
+        }
+    }
+}
+
+/// Whether a record is begun where the block begins, of which so many parts were delivered;
+/// `begun` is said of the part that is awaited.
+pub(crate) fn begun_before(known: &Known, part: u32, begun: bool, block: &[u8]) -> bool
+    ensures { result ≡ Parts'.begun_before known.now part begun block.now }
+{
+    if part == 0 {
+        begun
+    } else {
+        goes_on_at(known.format, known.offset, block)
+    }
+}
+
+/// Whether the two are not the same.
+fn differs(a: bool, b: bool) -> bool
+    ensures { result ≡ not (bool_eq a b) }
+{
+    if a { !b } else { b }
+}
+
+/// Whether the block, which was checked, cannot be the one of which so many parts were delivered:
+/// it has no more, or behind these no record is begun where one is, or the other way.
+pub(crate) fn other_front(known: &Known, part: u32, begun: bool, block: &[u8]) -> bool
+    requires { (before : Bool) × (end : Bool)
+        × (judged known.now.format known.now.rec_len known.now.offset before block.now ≡ Ok end) }
+    ensures { result ≡ Parts'.other_front known.now part begun block.now }
+{
+    if part == 0 {
+        return false;
+    }
+    let mut going = goes_on_at(known.format, known.offset, block);
+    let mut left = part;
+    for each in Parts::new(&shape_of(known), block) {
+        if left == 0 {
+            return differs(going, begun);
+        }
+        going = each.span.leaves();
+        left -= 1;
+    }
+    true
 }

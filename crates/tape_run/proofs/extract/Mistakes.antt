@@ -4,16 +4,16 @@ use Rattle.std.proofs.Common.{◌≡◌, true, false, List, [], ◌∷◌, lengt
 use Rattle.std.proofs.Common.{codes, ◌<◌}
 use Rattle.std.specs.Prelude.{Some, Ok, Err}
 use Rattle.std.specs.Io.KnownBytes.{Appends}
-use Rattle.tape_blocks.specs.declared.part.Span.TheVariants.{Whole, First}
+use Rattle.tape_blocks.specs.declared.parts.Span.TheVariants.{Whole, First}
 use Rattle.tape_blocks.specs.Block.{Portion}
 use Rattle.tape_core.specs.declared.sink.SinkFault.TheVariants.{Full}
-use Rattle.tape_blocks.specs.declared.form.Form.TheVariants.{Lines}
+use Rattle.tape_blocks.specs.declared.parts.Form.TheVariants.{Lines}
 use Rattle.tape_run.specs.RecordText.{output_of}
 use Rattle.tape_run.specs.Reeling.{goes_back}
 use Rattle.tape_run.proofs.Causes.{not_rose}
 use Rattle.tape_run.proofs.extract.has_note.Reads as has_note
-use Rattle.tape_run.proofs.extract.records.count_records.Reads as count_records
-use Rattle.tape_run.proofs.extract.records.write_records.Reads as write_records
+use Rattle.tape_run.proofs.extract.count_records.Reads as count_records
+use Rattle.tape_run.proofs.extract.write_records.Reads as write_records
 
 -- the first part of a record that is not ended
 abbrev begun : List Portion

@@ -6,7 +6,7 @@ use Rattle.tape_blocks.specs.Block.{Portion, Holds}
 use Rattle.tape_set.specs.declared.position.Position.TheVariants.{Awaits}
 use Rattle.tape_set.specs.Position.{block_of, part_of}
 use Rattle.tape_set.specs.Lawful.{FileForm}
-use Rattle.tape_core.specs.declared.answer.Answer.TheVariants.{Passed}
+use Rattle.tape_core.specs.declared.event.Answer.TheVariants.{Passed}
 use Rattle.tape_core.specs.Arrive.{arrival}
 use Rattle.tape_core.specs.Known.{may_span}
 use Rattle.tape_core.specs.Point.{Point}

@@ -1,14 +1,14 @@
 //! `extract` that goes round its images.
+
 ghost use Rattle.std.specs.Prelude.{◌≡◌, ◌≢◌, ◌⊎◌, None, OnOk, IfOk, OnErr};
 ghost use Rattle.std.specs.Bool.{OnTrue, OnFalse};
 ghost use Rattle.tape_run.specs.ExtractingAgain.{ExtractsAgain, StopsAgain};
 ghost use Rattle.tape_run.specs.Rounds.{TakesRounds, StopsInRound};
 
-use super::images::read_round;
-use super::{end_file, has_note};
+use crate::extract::images::{Shelf, read_round};
+use crate::extract::{end_file, has_note};
 use crate::fault::EngineFault;
 use crate::session::Session;
-use crate::shelf::Shelf;
 use std::io::{Read, Write};
 use tape_blocks::Form;
 use tape_core::{PartSink, PartWalk};

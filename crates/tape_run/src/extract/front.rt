@@ -10,7 +10,7 @@ ghost use Rattle.tape_run.specs.Output.{AppendsFront};
 ghost use Rattle.tape_run.specs.RecordText.{output_of};
 ghost use Rattle.tape_run.specs.RecordFront.{EachEnds, WritesFront};
 
-use super::records::{count_records, walk_fault, write_part, write_records};
+use crate::extract::{count_records, walk_fault, write_part, write_records};
 use crate::fault::EngineFault;
 use std::io::Write;
 use tape_blocks::Form;

@@ -1,21 +1,62 @@
-//! Images read one after another, and a line reported for each.
-ghost use Rattle.std.specs.Prelude.{◌≡◌, ◌≢◌, ◌≤◌, ◌+◌, Some, Bool, List, OnOk, OnErr, true};
-ghost use Rattle.std.specs.Prelude.{false};
-ghost use Rattle.tape_set.specs.declared.position.Position.TheVariants.{Finished};
+//! Images on a shelf, mounted one behind another.
+
+ghost use Rattle.std.specs.Prelude.{◌≡◌, ◌≢◌, ◌≤◌, ◌+◌, Some, Bool, List, OnOk, OnErr, true, false};
+ghost use Rattle.std.specs.Prelude.{ℕ, IfOk, length};
 ghost use Rattle.tape_blocks.specs.Block.{Portion};
+ghost use Rattle.tape_set.specs.declared.position.Position.TheVariants.{Finished};
 ghost use Rattle.tape_run.specs.Crash.{KeepsLast, LeavesStep};
 ghost use Rattle.tape_run.specs.Seen.{seen, IsKept};
-ghost use Rattle.tape_run.specs.Reeling.{Takes, TakesAll, StopsReading, IsReported};
-ghost use Rattle.tape_run.specs.Reeling.{is_doubtful, IsNoted, WentToLast, IsKeptFor};
+ghost use Rattle.tape_run.specs.Reeling.{Takes, TakesAll, StopsReading, IsReported, is_doubtful};
+ghost use Rattle.tape_run.specs.Reeling.{IsNoted, WentToLast, IsKeptFor, Mounting, Took};
 
-use super::line::reel_line;
-use crate::answer::ReelAnswer;
+use crate::extract::line::reel_line;
 use crate::fault::{EngineFault, NO_MEMORY, RunFault};
-use crate::output::write_text;
+use crate::intake::ReelAnswer;
 use crate::session::Session;
-use crate::shelf::Shelf;
+use crate::text::write_text;
+use std::alloc::AllocError;
 use std::io::{Read, Write};
 use tape_core::{Answer, PartSink, Reason};
+
+/// Images on a shelf, each mounted by its number.
+pub trait Shelf<R: Read> {
+    /// How many there are.
+    ghost size: { Self → ℕ };
+
+    /// What mounting the one with a number gives, and the shelf then.
+    ghost gives: { Mounting Self R };
+
+    /// How many images there are.
+    fn count(&self) -> usize
+        ensures { result ≡ size self.now };
+
+    /// Mounts the image with this number, counted from 0. `None` is one that is not there.
+    ///
+    /// # Errors
+    ///
+    /// `AllocError`, where there is no memory to read it with. Nothing changed.
+    fn mount(&mut self, number: usize) -> Result<Option<R>, AllocError>
+        ensures ok { IfOk result (λ image. gives self.old number image self.new) }
+        ensures err { OnErr result (self.new ≡ self.old) };
+}
+
+/// Readers are a shelf, from which each is taken once.
+impl<R: Read> Shelf<R> for Vec<Option<R>> {
+    ghost size = { λ readers. length readers.items };
+
+    ghost gives = { λ old number image new. Took old.items number image new.items };
+
+    fn count(&self) -> usize {
+        self.len()
+    }
+
+    fn mount(&mut self, number: usize) -> Result<Option<R>, AllocError> {
+        match self.get_mut(number) {
+            Some(image) => Ok(image.take()),
+            None => Ok(None),
+        }
+    }
+}
 
 /// Mounts the images in their order, until the file is complete. `back` says whether the session
 /// goes back behind a reel that is in doubt.

@@ -1,11 +1,12 @@
 //! The lines that `extract` reports, built without taking memory.
+
 ghost use Rattle.std.specs.Prelude.{◌≡◌, ◌≤◌, ◌+◌, ◌++◌, length};
 ghost use Rattle.arrayvec.specs.ArrayString.{array_string_len};
 ghost use Rattle.tape_run.specs.ReelLine.{two_numbers, reason_text, answer_text, end_text};
 ghost use Rattle.tape_run.specs.ReelLine.{outcome_text, reel_line, part_text, awaits_line};
 ghost use Rattle.tape_run.specs.ReelLine.{complete_line, last_line};
 
-use crate::answer::ReelAnswer;
+use crate::intake::ReelAnswer;
 use crate::text::push_decimal;
 use arrayvec::ArrayString;
 use tape_blocks::BlockFault;

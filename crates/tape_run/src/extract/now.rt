@@ -1,14 +1,14 @@
 //! `extract` without a stage: the records are written as the images are read.
+
 ghost use Rattle.std.specs.Prelude.{◌≡◌, ◌≢◌, ℕ, List, Option, None, OnOk, IfOk, OnErr};
 ghost use Rattle.tape_run.specs.OutSinks.{TellsAlways};
 ghost use Rattle.tape_run.specs.ExtractingNow.{Takes, refused_by, ExtractsNow, StopsNow};
 
-use super::end_report;
-use super::images::read_images;
-use super::out_sink::OutSink;
+use crate::extract::end_report;
+use crate::extract::images::{Shelf, read_images};
+use crate::extract::out_sink::OutSink;
 use crate::fault::{EngineFault, WriteFailed};
 use crate::session::Session;
-use crate::shelf::Shelf;
 use std::io::{Read, Write};
 use tape_blocks::Form;
 use tape_set::Want;

@@ -1,6 +1,7 @@
 //! A sink that writes the records of a file as its parts come, and keeps none of them.
-ghost use Rattle.std.specs.Prelude.{◌≡◌, ◌≤◌, ◌<◌, ◌+◌, [], List, Some, length, OnOk, OnErr};
-ghost use Rattle.std.specs.Prelude.{IfOk, IfErr};
+
+ghost use Rattle.std.specs.Prelude.{◌≡◌, ◌≤◌, ◌<◌, ◌+◌, [], List, Some, length, OnOk, OnErr, IfOk};
+ghost use Rattle.std.specs.Prelude.{IfErr};
 ghost use Rattle.std.specs.Io.KnownBytes.{Appends};
 ghost use Rattle.tape_blocks.specs.Block.{Portion};
 ghost use Rattle.tape_blocks.specs.Parts.{view};
@@ -11,9 +12,9 @@ ghost use Rattle.tape_run.specs.Causes.{EndingFails};
 ghost use Rattle.tape_run.specs.RecordText.{part_text, output_of};
 ghost use Rattle.tape_run.specs.OutSinks.{TellsAlways, with_end, HasTaken};
 
-use super::records::{walk_fault, write_part};
+use crate::extract::{walk_fault, write_part};
 use crate::fault::EngineFault;
-use crate::output::flush;
+use crate::text::flush;
 use std::io::Write;
 use tape_blocks::{Form, Part, Span};
 use tape_core::{Checkpoint, PartSink, SinkFault};

@@ -1,10 +1,14 @@
 //! A disk over a file.
-ghost use Rattle.std.specs.Prelude.{◌≡◌, ◌+◌, ◌≤◌, [], false, length, max, true, IfOk, IfSome};
-ghost use Rattle.std.specs.Prelude.{Ok, OnErr, OnOk};
+
+ghost use Rattle.std.specs.Prelude.{◌≡◌, ◌+◌, ◌≤◌, [], false, length, max, true, IfOk, IfSome, Ok};
+ghost use Rattle.std.specs.Prelude.{OnErr, OnOk, ◌⊎◌, IfErr};
 ghost use Rattle.tape_core.specs.Weight.{Rose};
 
-use crate::disk::whole::{read_from, write_from};
+use crate::disk::read_ahead::ReadAhead;
+use crate::disk::write_behind::WriteBehind;
 use crate::disk::{Disk, DiskFault};
+use crate::stage::StageFault;
+use std::alloc::{AllocError, Global};
 use std::fs::OpenFile;
 use std::io::{Read, Seek, SeekFrom, Write};
 
@@ -229,4 +233,95 @@ impl<F: Read + Write + Seek + OpenFile> Disk for FileDisk<F> {
             Err(_) => Err(self.fail()),
         }
     }
+}
+
+/// Fills the buffer from a place on. An end before that, or an interruption, is a failure.
+pub(crate) fn read_from<R: Read + Seek>(
+    file: &mut R,
+    place: u64,
+    buf: &mut [u8],
+) -> Result<(), DiskFault>
+    ensures same_size { length buf.new ≡ length buf.old }
+{
+    match file.seek(SeekFrom::Start(place)) {
+        Ok(_) => read_whole(file, buf),
+        Err(_) => Err(DiskFault::Device),
+    }
+}
+
+/// Reads on until the buffer is full.
+fn read_whole<R: Read>(file: &mut R, buf: &mut [u8]) -> Result<(), DiskFault>
+    ensures same_size { length buf.new ≡ length buf.old }
+{
+    let mut at = 0;
+    'reads: while at < buf.len() {
+        match file.read(&mut buf[at..]) {
+            Ok(0) => return Err(DiskFault::Device),
+            Ok(n) => at += n,
+            Err(_) => return Err(DiskFault::Device),
+        }
+    }
+    Ok(())
+}
+
+/// Writes all bytes from a place on.
+pub(crate) fn write_from<W: Write + Seek>(
+    file: &mut W,
+    place: u64,
+    bytes: &[u8],
+) -> Result<(), DiskFault> {
+    match file.seek(SeekFrom::Start(place)) {
+        Ok(_) => write_whole(file, bytes),
+        Err(_) => Err(DiskFault::Device),
+    }
+}
+
+/// Writes all bytes. A write that takes nothing is a failure, and so is an interruption.
+fn write_whole<W: Write>(file: &mut W, bytes: &[u8]) -> Result<(), DiskFault> {
+    let mut rest = bytes;
+    'writes: while !rest.is_empty() {
+        match file.write(rest) {
+            Ok(0) => return Err(DiskFault::Device),
+            Ok(n) => rest = &rest[n..],
+            Err(_) => return Err(DiskFault::Device),
+        }
+    }
+    Ok(())
+}
+
+/// How many bytes are held before they are written, and how many are read ahead, at most.
+const ROOM: usize = 32_768;
+
+/// A file as a disk, up to 32,768 bytes of which are held before they are written, and as many read
+/// ahead.
+pub type HeldFile<F> = ReadAhead<WriteBehind<FileDisk<F>>>;
+
+/// The whole file, behind windows. It has to be open for reading and writing, and nobody else may
+/// change its length.
+///
+/// # Errors
+///
+/// `OutOfMemory`, where there is no room for the windows: nothing was asked of the file. `Device`,
+/// where it does not tell its length. It is dropped.
+pub fn held_file<F: Read + Write + Seek + OpenFile + Drop>(
+    alloc: Global,
+    file: F,
+) -> Result<HeldFile<F>, StageFault>
+    ensures fault { IfErr result
+        (λ fault. (fault ≡ StageFault.OutOfMemory) ⊎ (fault ≡ StageFault.Device)) }
+    ensures long { IfSome (F.stream_position file) (λ _. IfSome (F.stream_bytes file)
+        (λ bytes. IfOk result (λ held. held.disk.disk.len ≡ length bytes))) }
+    ensures alive { IfOk result (λ held. held.disk.disk.lost ≡ false) }
+    ensures held { IfOk result (λ held. held.disk.bytes.items ≡ []) }
+{
+    let behind = Vec::with_capacity(alloc, ROOM)?;
+    let ahead = read_room(alloc)?;
+    let disk = FileDisk::new(file)?;
+    Ok(ReadAhead::over(WriteBehind::over(disk, behind), ahead))
+}
+
+/// The room for what is read ahead.
+// What stands in it matters to nobody: so many bytes in a proof would.
+fn read_room(alloc: Global) -> Result<Vec<u8>, AllocError> {
+    vec![in alloc; 0u8; ROOM]
 }

@@ -1,28 +1,56 @@
 //! Opening.
+
 ghost use Rattle.std.specs.Prelude.{◌≡◌, ◌⊎◌, ◌+◌, ◌≤◌, ◌∷◌, ◌++◌, [], ℕ, List, length, false};
-ghost use Rattle.std.specs.Prelude.{take, IfOk, IfErr, OnOk, OnErr, IsErrOf};
-ghost use Rattle.tape_stage.specs.Moments.{Passes, Untouched};
+ghost use Rattle.std.specs.Prelude.{take, IfOk, IfErr, OnOk, OnErr, IsErrOf, ◌<◌, ◌^◌, IfSome};
 ghost use Rattle.tape_blocks.specs.Block.{Portion};
-ghost use Rattle.tape_stage.specs.Staged.{Staged, StandsLike, HoldsNone, KeepsStaged, Ready};
-ghost use Rattle.tape_stage.specs.Staged.{blank};
-ghost use Rattle.tape_stage.specs.Faults.{SaysNone, IsNotDevice, OnBadFrame};
-ghost use Rattle.tape_stage.specs.Found.{IsBadPlace};
-ghost use Rattle.tape_stage.specs.Stages.{IsStage, IsOpened, Holds, Survives, Returns};
-ghost use Rattle.tape_stage.specs.Body.{body_text, FitBody, most_generation};
-ghost use Rattle.tape_stage.specs.Disk.{Only};
 ghost use Rattle.tape_core.specs.Weight.{Rose};
 ghost use Rattle.tape_core.specs.Point.{Point};
 ghost use Rattle.tape_core.specs.Known.{most_staged};
+ghost use Rattle.tape_stage.specs.Moments.{Passes, Untouched};
+ghost use Rattle.tape_stage.specs.Staged.{Staged, StandsLike, HoldsNone, KeepsStaged, Ready, blank};
+ghost use Rattle.tape_stage.specs.Faults.{SaysNone, IsNotDevice, OnBadFrame};
+ghost use Rattle.tape_stage.specs.Found.{IsBadPlace};
+ghost use Rattle.tape_stage.specs.Stages.{IsStage, IsOpened, Holds, Survives, Returns};
+ghost use Rattle.tape_stage.specs.Body.{body_text, FitBody, most_generation, body_of};
+ghost use Rattle.tape_stage.specs.Disk.{Only};
 ghost use Rattle.tape_stage.specs.Parts.{longest_part};
 
-use crate::disk::Disk;
-use crate::disk::kept::write_kept;
-use crate::stage::body::body_bytes;
-use crate::stage::found::Found;
+use crate::disk::{Disk, write_kept};
+use crate::point::text::{put, whole};
+use crate::point::{read_point, write_point};
 use crate::stage::opening::{cut_kept, look};
-use crate::stage::{CLOSED, OPEN, Stage, StageFault};
+use crate::stage::{CLOSED, Found, OPEN, Stage, StageFault};
+use arrayvec::ArrayVec;
 use std::alloc::{AllocError, Global};
 use tape_core::Checkpoint;
+use tape_label::{digits_of, digits_value};
+
+/// The generation, the checkpoint and spaces.
+pub(crate) fn body_bytes(generation: u64, point: Checkpoint) -> [u8; 127]
+    requires { generation < 10 ^ 15 }
+    ensures text { result ≡ body_text generation point }
+    ensures fit { FitBody generation point }
+{
+    let mut body = ArrayVec::new();
+    put(&mut body, &digits_of::<15>(generation));
+    put(&mut body, &write_point(&point));
+    put(&mut body, &[b' '; 32]);
+    whole(body)
+}
+
+/// What the bytes behind a gate say, if they say something.
+pub(crate) fn read_body(body: &[u8]) -> Option<(u64, Checkpoint)>
+    requires { length body.now ≡ 127 }
+    ensures says { body_of body.now ≡ result }
+    ensures generation { IfSome result (λ read. read.0 ≤ most_generation) }
+    ensures staged { IfSome result (λ read. read.1.staged ≤ most_staged) }
+{
+    let generation = digits_value(&body[..15])?;
+    match read_point(&body[15..95]) {
+        Ok(point) => Some((generation, point)),
+        Err(_) => None,
+    }
+}
 
 const ROOM: usize = 100_000;
 

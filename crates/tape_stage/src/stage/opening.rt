@@ -1,24 +1,24 @@
 //! How a stage is found again on a disk.
-ghost use Rattle.std.specs.Prelude.{◌≡◌, ◌+◌, ◌≤◌, ◌==◌, ◌⊎◌, ℕ, List, length, take, OnOk};
-ghost use Rattle.std.specs.Prelude.{OnErr, IfOk, IfErr, IsErrOf, IfSome, MatchOption, None, Some};
-ghost use Rattle.std.specs.Prelude.{false, true, not};
-ghost use Rattle.tape_stage.specs.Moments.{Passes};
+
+ghost use Rattle.std.specs.Prelude.{◌≡◌, ◌+◌, ◌≤◌, ◌==◌, ◌⊎◌, ℕ, List, length, take, OnOk, OnErr};
+ghost use Rattle.std.specs.Prelude.{IfOk, IfErr, IsErrOf, IfSome, MatchOption, None, Some, false};
+ghost use Rattle.std.specs.Prelude.{true, not};
 ghost use Rattle.tape_blocks.specs.Block.{Portion};
+ghost use Rattle.tape_core.specs.Weight.{Rose};
+ghost use Rattle.tape_core.specs.Known.{most_staged};
+ghost use Rattle.tape_stage.specs.Moments.{Passes};
 ghost use Rattle.tape_stage.specs.Staged.{read_slot, slot_at, HoldsNone, Holding, Loses};
 ghost use Rattle.tape_stage.specs.Found.{IsFound, IsBadPlace};
 ghost use Rattle.tape_stage.specs.Salvaged.{RemainsNone};
 ghost use Rattle.tape_stage.specs.Faults.{SaysNone, OnBadFrame};
 ghost use Rattle.tape_stage.specs.Disk.{CutShort, Only};
 ghost use Rattle.tape_stage.specs.OnlyReading.{OnlyReads};
-ghost use Rattle.tape_core.specs.Weight.{Rose};
-ghost use Rattle.tape_core.specs.Known.{most_staged};
 ghost use Rattle.tape_stage.specs.Body.{most_generation};
 
 use crate::disk::{Disk, DiskFault};
-use crate::stage::body::read_body;
-use crate::stage::found::Found;
-use crate::stage::walking::break_of;
-use crate::stage::{OPEN, StageFault};
+use crate::stage::frames::break_of;
+use crate::stage::open_disk::read_body;
+use crate::stage::{Found, OPEN, StageFault};
 use tape_core::Checkpoint;
 
 /// What a slot says, where its gate is open.

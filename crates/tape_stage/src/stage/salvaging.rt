@@ -1,26 +1,25 @@
 //! A stage that is opened for reading alone, its frames whole or not.
+
 ghost use Rattle.std.specs.Prelude.{◌≡◌, ◌≤◌, ◌+◌, ◌-◌, ℕ, List, IfOk, IfErr, IsErrOf, OnOk};
 ghost use Rattle.std.specs.Prelude.{IfSome, Err};
 ghost use Rattle.tape_blocks.specs.Block.{Portion};
 ghost use Rattle.tape_core.specs.Crash.{lost};
 ghost use Rattle.tape_core.specs.Weight.{Rose};
+ghost use Rattle.tape_core.specs.Point.{Point};
+ghost use Rattle.tape_core.specs.Known.{most_staged};
 ghost use Rattle.tape_stage.specs.Faults.{SaysNone, OnBadFrame};
 ghost use Rattle.tape_stage.specs.Found.{IsFound};
 ghost use Rattle.tape_stage.specs.Moments.{Untouched};
 ghost use Rattle.tape_stage.specs.OnlyReading.{OnlyReads};
-ghost use Rattle.tape_stage.specs.Salvaged.{Remains, RemainsNone, HoldsRest, RestAhead};
-ghost use Rattle.tape_stage.specs.Salvaged.{FramedTo, WalkedIn, standing};
-ghost use Rattle.tape_core.specs.Point.{Point};
-ghost use Rattle.tape_core.specs.Known.{most_staged};
+ghost use Rattle.tape_stage.specs.Salvaged.{Remains, RemainsNone, HoldsRest, RestAhead, FramedTo};
+ghost use Rattle.tape_stage.specs.Salvaged.{WalkedIn, standing};
 
 use crate::disk::Disk;
-use crate::stage::StageFault;
-use crate::stage::found::Found;
-use crate::stage::frame::read_frame;
+use crate::stage::frames::{break_of, read_frame};
 use crate::stage::open_disk::{Refused, buffer_of};
 use crate::stage::opening::find_on;
 use crate::stage::salvage::Salvage;
-use crate::stage::walking::break_of;
+use crate::stage::{Found, StageFault};
 use std::alloc::Global;
 use tape_blocks::Part;
 use tape_core::{Checkpoint, PartSink, PartWalk, SinkFault};

@@ -1,7 +1,7 @@
 -- An answer that the contract of having the words excludes: it is what a wrong body would give.
 use Rattle.std.proofs.Common.{◌≡◌}
 use Rattle.std.specs.Prelude.{Err}
-use Rattle.tape_tool.specs.declared.end.End.TheVariants as ends
+use Rattle.tape_tool.specs.declared.program.End.TheVariants as ends
 use Rattle.tape_tool.specs.Fault.{no_memory}
 use Rattle.tape_tool.proofs.program.kept.Reads as kept
 

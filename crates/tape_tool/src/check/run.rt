@@ -1,10 +1,9 @@
 //! `check` as the program runs it: over files, to standard output.
+
 use super::words::CHECK;
-use crate::end::{End, check_end};
 use crate::explain::Site;
-use crate::images::Images;
-use crate::names::{Named, names_of};
-use crate::program::refuse_unfit;
+use crate::images::{Images, Named, names_of};
+use crate::program::{End, check_end, refuse_unfit};
 use std::io;
 use std::io::BufWriter;
 use std::rt::Runtime;

@@ -4,9 +4,9 @@ ghost use Rattle.clap.specs.Words.{found_of, rows_of};
 ghost use Rattle.tape_tool.specs.Words.{AreTooMany, NamesImages, RefusedFor};
 
 use crate::help;
-use crate::names::Named;
+use crate::images::Named;
 use crate::outline::{Kind, Outline, Word};
-use crate::words::parts::named;
+use crate::words::named;
 use clap::{ArgMatches, Error};
 use std::alloc::Global;
 

@@ -1,15 +1,13 @@
 //! The program around the engines of `extract`: images, memory, the file.
-use super::draft::Draft;
-use super::guard::{Way, way_of};
-use super::out_file::OutFile;
-use super::stage_file::session_in;
-use crate::end::{End, end_of, extract_end};
+
 use crate::explain::Site;
+use crate::extract::out::{Draft, Way, way_of};
+use crate::extract::out_file::OutFile;
 use crate::fault::{FileFault, OUT_OF_MEMORY, ToolFault};
 use crate::host::Host;
-use crate::images::Images;
-use crate::names::names_of;
-use crate::program::refuse_unfit;
+use crate::images::{Images, names_of};
+use crate::program::{End, end_of, extract_end, refuse_unfit};
+use crate::staging::session_in;
 use crate::words::{EXTRACT, Extract, Task};
 use std::alloc::Global;
 use std::io;

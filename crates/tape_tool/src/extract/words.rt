@@ -1,13 +1,14 @@
 //! What the words behind `extract` ask for.
+
 ghost use Rattle.std.specs.Prelude.{◌≡◌, IfOk, IfErr, IfSome, IfNone, IsSome};
 ghost use Rattle.clap.specs.Words.{found_of, rows_of};
 ghost use Rattle.tape_tool.specs.Words.{AsksForFile, AsksToExtract, IsNoExtract, IsNoSet, IsNoTask};
 ghost use Rattle.tape_tool.specs.Words.{RefusedFor, padded_set};
 
 use crate::help;
-use crate::names::Named;
+use crate::images::Named;
 use crate::outline::{Kind, Outline, Word, mistake};
-use crate::words::parts::{FORMS, flag_of, form_of, is_dash, named, number_of, option_of, text_of};
+use crate::words::{FORMS, flag_of, form_of, is_dash, named, number_of, option_of, text_of};
 use clap::{ArgMatches, Error};
 use std::alloc::Global;
 use tape_blocks::Form;

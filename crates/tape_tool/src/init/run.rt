@@ -1,8 +1,8 @@
 //! `init` as the program runs it: images of volumes, as files of a folder.
 use super::words::Init;
-use crate::end::{End, end_of};
 use crate::explain::Site;
 use crate::fault::{OUT_OF_MEMORY, ToolFault};
+use crate::program::{End, end_of};
 use std::io;
 use std::io::Write;
 use std::rt::Runtime;

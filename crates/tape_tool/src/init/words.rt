@@ -5,7 +5,7 @@ ghost use Rattle.tape_tool.specs.Words.{AsksToInit, IsNoInit, RefusedFor};
 
 use crate::help;
 use crate::outline::{Kind, Outline, Word, mistake};
-use crate::words::parts::{number_of, text_of};
+use crate::words::{number_of, text_of};
 use clap::{ArgMatches, Error};
 use std::alloc::Global;
 use tape_writer::Prefix;

@@ -1,9 +1,9 @@
 //! `list` as the program runs it: over a file or standard input, to standard output.
 use super::words::Listing;
-use crate::end::{End, end_of};
 use crate::explain::Site;
 use crate::fault::{FileFault, ToolFault};
 use crate::images::READ_AHEAD;
+use crate::program::{End, end_of};
 use std::fs::File;
 use std::io;
 use std::io::{BufReader, BufWriter, Read};

@@ -5,7 +5,7 @@ ghost use Rattle.tape_tool.specs.Words.{AsksToList, IsDashOrMore, RefusedFor, te
 
 use crate::help;
 use crate::outline::{Kind, Outline, Word, mistake};
-use crate::words::parts::{at_most_one, flag_of};
+use crate::words::{at_most_one, flag_of};
 use clap::{ArgMatches, Error};
 use std::alloc::Global;
 

@@ -1,13 +1,13 @@
 //! `stage` as the program runs it: over the file of the stage, to the output.
+
 use super::read_only::ReadOnly;
 use super::show::{show_damaged, show_stage};
 use super::words::{STAGE, StageOrder};
-use crate::end::{End, damaged_end, end_of, stage_end};
 use crate::explain::Site;
 use crate::extract::{Draft, HELD, NOT_MADE, OutFile, Way, draft_of, way_to_out};
 use crate::fault::{FileFault, OUT_OF_MEMORY, ToolFault};
 use crate::host::Host;
-use crate::program::refuse_unfit;
+use crate::program::{End, damaged_end, end_of, refuse_unfit, stage_end};
 use crate::unfit::Unfit;
 use std::fs::{File, TryLockError};
 use std::io;

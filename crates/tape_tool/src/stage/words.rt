@@ -5,7 +5,7 @@ ghost use Rattle.tape_tool.specs.Words.{AsksForStage, IsDashOrMore, RefusedFor, 
 
 use crate::help;
 use crate::outline::{Kind, Outline, Word, mistake};
-use crate::words::parts::{FORMS, at_most_one, flag_of, form_of, text_of};
+use crate::words::{FORMS, at_most_one, flag_of, form_of, text_of};
 use clap::{ArgMatches, Error};
 use std::alloc::Global;
 use tape_blocks::Form;

@@ -1,10 +1,9 @@
 //! `survey` as the program runs it: over files, to standard output.
+
 use super::words::{SURVEY, Survey};
-use crate::end::{End, check_end};
 use crate::explain::Site;
-use crate::images::Images;
-use crate::names::names_of;
-use crate::program::refuse_unfit;
+use crate::images::{Images, names_of};
+use crate::program::{End, check_end, refuse_unfit};
 use std::io;
 use std::io::BufWriter;
 use std::rt::Runtime;

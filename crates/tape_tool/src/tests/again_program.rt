@@ -1,6 +1,6 @@
 //! `extract --again` as it is called.
 use super::calls::{Step, take_all};
-use crate::end::End;
+use crate::program::End;
 use std::test::Fail;
 
 /// Two copies that mend each other, each named once, and one that counts wrong before a good one.

@@ -1,12 +1,12 @@
 //! The program as it is called: how a line ends, and the files around it. The tests share a folder:
 //! each file has a name of its own.
+
 use super::image::payroll;
 use super::volumes::{damaged, lost, worked};
 use super::words::words_of;
-use crate::end::End;
 use crate::fault::ToolFault;
 use crate::host::Host;
-use crate::program::perform;
+use crate::program::{End, perform};
 use std::alloc::{AllocError, Global};
 use std::fs;
 use std::fs::File;

@@ -2,8 +2,8 @@
 use super::calls::{Step, each_ends, ends, put, take_all, with_images};
 use super::volumes::{first_of_two, second_of_two};
 use super::words::words_of;
-use crate::end::End;
 use crate::fault::{FileFault, ToolFault};
+use crate::program::End;
 use crate::words::{Order, call_of};
 use std::test::Fail;
 

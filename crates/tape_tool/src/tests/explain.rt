@@ -1,11 +1,11 @@
 //! What `--explain` tells behind the line of a fault.
+
 use super::calls::{Step, take_all};
 use super::words::words_of;
-use crate::end::End;
 use crate::explain::{Explanation, Site, TEXTS};
 use crate::fault::{FileFault, ToolFault};
 use crate::host::Host;
-use crate::program::perform;
+use crate::program::{End, perform};
 use std::process::Abort;
 use std::test::Fail;
 use tape_image::{ImageCause, ImageFault};

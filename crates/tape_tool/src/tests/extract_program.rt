@@ -1,9 +1,9 @@
 //! `extract` as it is called: words, files, ends.
 use super::calls::{Step, each_is_wrong, ends, take_all, with_images};
 use super::words::words_of;
-use crate::end::{End, extract_end};
 use crate::extract::words::Extract;
 use crate::fault::{FileFault, ToolFault};
+use crate::program::{End, extract_end};
 use crate::words::{Order, call_of};
 use std::test::Fail;
 use tape_blocks::Form;

@@ -1,6 +1,6 @@
 //! How a fault is told.
-use crate::end::{End, end_of};
 use crate::fault::{FileFault, ToolFault};
+use crate::program::{End, end_of};
 use crate::telling::fault_line;
 use std::process::Abort;
 use tape_core::SinkFault;

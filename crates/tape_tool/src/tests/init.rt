@@ -1,7 +1,7 @@
 //! Blank volumes. Each test has a prefix of its own.
 use super::calls::{Step, each_ends, follow_all};
-use crate::end::End;
 use crate::fault::{FileFault, ToolFault};
+use crate::program::End;
 use std::test::Fail;
 
 /// The first volume without files: its label, two tape marks and the end of medium.

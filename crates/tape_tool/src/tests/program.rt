@@ -1,9 +1,9 @@
 //! The program's exits, and what it tells on standard error. A test runs in an empty folder.
+
 use super::calls::{Step, each_ends, take_all};
 use super::words::words_of;
-use crate::end::{End, finish};
 use crate::fault::{FileFault, OUT_OF_MEMORY, ToolFault};
-use crate::program::{refuse, without_words};
+use crate::program::{End, finish, refuse, without_words};
 use crate::words::call_of;
 use std::alloc::{AllocError, Global};
 use std::cell::RefCell;

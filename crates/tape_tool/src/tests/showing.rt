@@ -1,8 +1,8 @@
 //! `stage`: what a stage holds.
 use super::calls::{Step, take_all};
 use super::volumes::damaged;
-use crate::end::{End, damaged_end};
 use crate::fault::{FileFault, ToolFault};
+use crate::program::{End, damaged_end};
 use crate::stage::show::{show_damaged, show_stage};
 use crate::staging::open_session;
 use std::alloc::{AllocError, Global};

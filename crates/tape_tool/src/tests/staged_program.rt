@@ -1,7 +1,7 @@
 //! `extract --stage` as it is called.
 use super::calls::{Step, each_fails, follow_all, take_all};
-use crate::end::End;
 use crate::fault::{FileFault, ToolFault};
+use crate::program::End;
 use std::fs::File;
 use std::test::Fail;
 use tape_run::RunFault;

@@ -1,7 +1,7 @@
 //! `unpack` as it is called.
 use super::calls::{Step, follow_all};
-use crate::end::End;
 use crate::fault::{FileFault, ToolFault};
+use crate::program::End;
 use std::test::Fail;
 use tape_stage::StageFault;
 

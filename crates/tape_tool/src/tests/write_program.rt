@@ -1,7 +1,7 @@
 //! `write` with files. Each test has a prefix of its own.
 use super::calls::{Step, each_fails, each_is_wrong, ends, follow_all, put};
-use crate::end::End;
 use crate::fault::{FileFault, ToolFault};
+use crate::program::End;
 use std::test::Fail;
 use tape_label::LabelFault;
 use tape_writer::WriteFault;

@@ -1,17 +1,16 @@
 //! `unpack` as the program runs it: from files into a folder.
+
 use super::last_line::LastLine;
 use super::paths::{Paths, is_there, paths_of};
 use super::words::{UNPACK, Unpack};
-use crate::end::{End, check_end, end_of};
 use crate::explain::Site;
 use crate::extract::words::Task;
 use crate::extract::{Way, extract_file};
 use crate::fault::{FileFault, OUT_OF_MEMORY, ToolFault};
 use crate::help;
 use crate::host::Host;
-use crate::images::Images;
-use crate::names::names_of;
-use crate::program::refuse_unfit;
+use crate::images::{Images, names_of};
+use crate::program::{End, check_end, end_of, refuse_unfit};
 use crate::unfit::{Unfit, refused};
 use std::alloc::{AllocError, Global};
 use std::io::Write;

@@ -4,9 +4,9 @@ ghost use Rattle.clap.specs.Words.{found_of, rows_of};
 ghost use Rattle.tape_tool.specs.Words.{AsksToUnpack, IsNoUnpack, RefusedFor};
 
 use crate::help;
-use crate::names::Named;
+use crate::images::Named;
 use crate::outline::{Kind, Outline, Word, mistake};
-use crate::words::parts::{FORMS, form_of, named, text_of};
+use crate::words::{FORMS, form_of, named, text_of};
 use clap::{ArgMatches, Error};
 use std::alloc::Global;
 use tape_blocks::Form;

@@ -1,4 +1,5 @@
 //! `write` as the program runs it: files of the words, on volumes of a folder.
+
 ghost use Rattle.std.specs.Prelude.{◌≡◌, ◌==◌, IfOk, IfErr};
 ghost use Rattle.std.specs.List.{before_first, after_first};
 ghost use Rattle.tape_tool.specs.Writing.{record_length, IsNoShape, plain_head};
@@ -6,10 +7,9 @@ ghost use Rattle.tape_tool.specs.Writing.{record_length, IsNoShape, plain_head};
 use super::guard::{look_ahead, wrong_file};
 use super::report::say;
 use super::words::{WRITE, WriteOrder};
-use crate::end::{End, end_of};
 use crate::explain::Site;
 use crate::fault::ToolFault;
-use crate::program::refuse_unfit;
+use crate::program::{End, end_of, refuse_unfit};
 use std::io;
 use std::rt::Runtime;
 use tape_blocks::Shape;

@@ -1,4 +1,5 @@
 //! What the words behind `write` ask for.
+
 ghost use Rattle.std.specs.Prelude.{◌≡◌, ◌↔◌, ◌⊎◌, [], codes, map, IfOk, IfErr, IfSome, IfNone};
 ghost use Rattle.std.specs.Prelude.{IsTrue};
 ghost use Rattle.std.specs.List.{Contains};
@@ -8,7 +9,7 @@ ghost use Rattle.tape_tool.specs.Words.{RefusedFor, text_in, texts_in};
 
 use crate::help;
 use crate::outline::{Kind, Outline, Word, mistake};
-use crate::words::parts::{FORMS, flag_of, form_of, text_of};
+use crate::words::{FORMS, flag_of, form_of, text_of};
 use clap::{ArgMatches, Error};
 use std::alloc::Global;
 use tape_blocks::Form;

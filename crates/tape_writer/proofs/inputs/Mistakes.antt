@@ -5,13 +5,13 @@ use Rattle.std.specs.Prelude.{Option, Some, None, Ok, Err, IfSome, map, take, ge
 use Rattle.tape_image.specs.Reader.{IfKnown}
 use Rattle.tape_label.specs.declared.values.Head1.{Head1}
 use Rattle.tape_label.specs.declared.values.Format.TheVariants.{Counted}
-use Rattle.tape_blocks.specs.declared.shape.Shape.{Shape}
+use Rattle.tape_blocks.specs.declared.parts.Shape.{Shape}
 use Rattle.tape_blocks.specs.Packing.{HasRecordLength}
 use Rattle.tape_writer.specs.declared.fault.WriteFault.TheVariants as write_faults
 use Rattle.tape_writer.specs.declared.phase.Phase.TheVariants.{Between}
 use Rattle.tape_writer.specs.State.{IsWriting}
 use Rattle.tape_writer.specs.declared.fault.SetFault.TheVariants as sets
-use Rattle.tape_blocks.specs.declared.form.Form.TheVariants as forms
+use Rattle.tape_blocks.specs.declared.parts.Form.TheVariants as forms
 use Rattle.tape_writer.specs.declared.inputs.cut.Cut.{Cut}
 use Rattle.tape_writer.specs.declared.inputs.cut.Cut.TheVariants.{Lines, Length, Whole}
 use Rattle.tape_writer.specs.declared.inputs.records.InputFault.TheVariants.{TooLong, ReadFailed}

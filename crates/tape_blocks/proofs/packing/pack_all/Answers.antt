@@ -3,7 +3,7 @@ use Rattle.std.specs.declared.alloc.Global.{Global}
 use Rattle.std.specs.declared.vec.Vec.{Vec}
 use Rattle.std.proofs.lemmas.List.{take_all, map-append}
 use Rattle.std.proofs.lemmas.Result.{err_from_is_err_and}
-use Rattle.tape_blocks.specs.declared.shape.Shape.{Shape}
+use Rattle.tape_blocks.specs.declared.parts.Shape.{Shape}
 use Rattle.tape_blocks.specs.Packing.{HasRecordLength}
 use Rattle.tape_blocks.specs.Records.{contents, AreRecordsOf, IsRefusedOne}
 use Rattle.tape_blocks.specs.Run.{Run}

@@ -1,8 +1,8 @@
 use Rattle.std.proofs.Common.{◌++◌, length, refl, ap, subst, ◌∙◌}
 use Rattle.std.proofs.lemmas.List.{take_rest}
 use Rattle.std.proofs.lemmas.Result.{err_from_is_err_and}
-use Rattle.tape_blocks.specs.declared.fault.PackFault.TheVariants.{RecordLength}
-use Rattle.tape_blocks.specs.declared.shape.Shape.{Shape}
+use Rattle.tape_blocks.specs.declared.offer.PackFault.TheVariants.{RecordLength}
+use Rattle.tape_blocks.specs.declared.parts.Shape.{Shape}
 use Rattle.tape_blocks.specs.declared.offer.Offer.TheVariants.{Taken, BlockReady}
 use Rattle.tape_blocks.specs.Packing.{Packing, Offers, HasRecordLength}
 use Rattle.tape_blocks.specs.Records.{contents, RefusesRecord}

@@ -7,9 +7,9 @@ use Rattle.std.specs.Fmt.{digits}
 use Rattle.std.specs.Io.KnownBytes.{Appends}
 use Rattle.tape_set.specs.declared.position.Position.{Position}
 use Rattle.tape_set.specs.declared.position.Position.TheVariants.{Awaits, Finished}
-use Rattle.tape_core.specs.declared.answer.Answer.TheVariants.{SectionDone, Useless}
-use Rattle.tape_core.specs.declared.answer.Reason.TheVariants.{BlockCount}
-use Rattle.tape_core.specs.declared.phase.Phase.TheVariants.{Broken, Over}
+use Rattle.tape_core.specs.declared.event.Answer.TheVariants.{SectionDone, Useless}
+use Rattle.tape_core.specs.declared.event.Reason.TheVariants.{BlockCount}
+use Rattle.tape_core.specs.declared.event.Phase.TheVariants.{Broken, Over}
 use Rattle.tape_core.specs.Place.{resting}
 use Rattle.tape_core.specs.Point.{Point}
 use Rattle.tape_core.specs.Stands.{weight_of}

@@ -1,7 +1,7 @@
 -- Answers that the contract of what is whole excludes: wrong bodies would give them.
 use Rattle.std.proofs.Common.{◌≡◌, ◌∙◌, ℕ, Bool, true, false, Option, Some, None, sym, ap}
 use Rattle.std.specs.Prelude.{◌&&◌}
-use Rattle.tape_image.specs.declared.fault.ImageFault.{ImageFault}
+use Rattle.tape_image.specs.declared.item.ImageFault.{ImageFault}
 use Rattle.tape_run.specs.declared.section.ImageStop.{ImageStop}
 use Rattle.tape_run.specs.declared.section.ImageStop.TheVariants.{Fault}
 use Rattle.tape_run.specs.declared.survey.course.Course.{Course}

@@ -1,4 +1,4 @@
-use Rattle.tape_stage.specs.declared.point.fields.Version.TheVariants.{Two}
+use Rattle.tape_stage.specs.declared.point.Version.TheVariants.{Two}
 use Rattle.tape_stage.proofs.laws.point_again.Goals as goal
 
 pub returns : goal.returns

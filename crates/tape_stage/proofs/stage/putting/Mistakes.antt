@@ -1,6 +1,6 @@
 -- A header that the contract of `header` excludes: a wrong body would write it.
 use Rattle.std.proofs.Common.{◌≡◌, [], ◌∷◌, get_or, ap, arith}
-use Rattle.tape_blocks.specs.declared.part.Span.TheVariants.{Whole}
+use Rattle.tape_blocks.specs.declared.parts.Span.TheVariants.{Whole}
 use Rattle.tape_stage.proofs.stage.putting.header.Reads as header
 
 -- length_least_byte_first: the length of a part of two bytes has its least byte first

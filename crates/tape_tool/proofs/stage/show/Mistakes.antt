@@ -3,9 +3,9 @@ use Rattle.std.proofs.Common.{◌≡◌, ℕ, List, [], ◌∷◌, ◌++◌, len
 use Rattle.std.proofs.Common.{arith}
 use Rattle.std.specs.Prelude.{Some, None, Ok, slice_index}
 use Rattle.std.specs.Io.KnownBytes.{Appends}
-use Rattle.tape_blocks.specs.declared.part.Span.TheVariants as spans
+use Rattle.tape_blocks.specs.declared.parts.Span.TheVariants as spans
 use Rattle.tape_blocks.specs.Block.{Portion}
-use Rattle.tape_blocks.specs.declared.form.Form.TheVariants.{Lines}
+use Rattle.tape_blocks.specs.declared.parts.Form.TheVariants.{Lines}
 use Rattle.tape_set.specs.Position.{want_at}
 use Rattle.tape_run.specs.RecordText.{output_of}
 use Rattle.tape_tool.specs.Showing.{ending_of, stage_line}

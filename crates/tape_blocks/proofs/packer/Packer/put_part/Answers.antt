@@ -3,7 +3,7 @@ use Rattle.std.proofs.Common.{◌∙◌, arith}
 use Rattle.std.specs.Vec.{with_items}
 use Rattle.tape_label.specs.declared.values.Format.TheVariants.{Spanned}
 use Rattle.tape_blocks.specs.Block.{Portion, IsUnit, spelling, head_len}
-use Rattle.tape_blocks.specs.declared.part.Span.{Span}
+use Rattle.tape_blocks.specs.declared.parts.Span.{Span}
 use Rattle.tape_blocks.specs.Packed.{Keeps, parts_in}
 use Rattle.tape_blocks.specs.Packing.{Packing, size_of, with_part}
 use Rattle.tape_blocks.specs.Spans.{span_of}

@@ -4,7 +4,7 @@ use Rattle.std.specs.Prelude.{slice_get, slice_range}
 use Rattle.std.proofs.lemmas.Option.{slice_get_read}
 use Rattle.tape_core.proofs.Laid.{parts_length, parts_get, laid_get, LiesBetween, range_length}
 use Rattle.tape_core.specs.declared.memory.MemorySink.{MemorySink}
-use Rattle.tape_core.specs.declared.entry.Entry.{Entry}
+use Rattle.tape_core.specs.declared.event.Entry.{Entry}
 use Rattle.tape_core.specs.Entries.{end_from}
 use Rattle.tape_core.specs.Memory.{portions}
 use Rattle.tape_core.proofs.memory.MemorySink.lent.Goals as goal

@@ -1,6 +1,6 @@
 use Rattle.std.proofs.Common.{◌≡◌, ◌≤◌, ℕ, List, take, sym, ap, ◌∙◌, subst, arith}
 use Rattle.tape_core.specs.Stands.{weight_of}
-use Rattle.tape_core.specs.declared.entry.Entry.{Entry}
+use Rattle.tape_core.specs.declared.event.Entry.{Entry}
 use Rattle.tape_core.specs.declared.memory.MemorySink.{MemorySink}
 use Rattle.tape_core.specs.Entries.{parts_from, end_from, IsLaid}
 use Rattle.tape_core.specs.Memory.{portions}

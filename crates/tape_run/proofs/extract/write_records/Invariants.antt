@@ -1,0 +1,16 @@
+use Rattle.std.proofs.Common.{◌≡◌, List, length}
+use Rattle.tape_blocks.specs.Block.{Portion}
+use Rattle.tape_blocks.specs.Spans.{join}
+use Rattle.tape_run.proofs.Streams.{Streams}
+use Rattle.tape_run.proofs.Walked.{Walked}
+use Rattle.tape_run.proofs.extract.write_records.Given as goal
+
+abbrev pub invariant-parts : goal.invariant-parts
+invariant-parts g l = ((parts : List Portion) → g.S.PartWalk.ahead l.fn.sink parts
+    → l.records ≡ length (join parts).records
+    → Streams l.form (g.S.PartWalk.ahead l.sink) l.left (g.W.Write.contents l.fn.out)
+    (g.W.Write.contents l.out) parts)
+    × Walked g.S.PartSink.holds g.S.PartSink.refusals g.S.PartSink.crashes l.fn.sink l.sink
+
+abbrev pub decreases-parts : goal.decreases-parts
+decreases-parts g l = g.S.PartWalk.left l.sink

@@ -1,0 +1,48 @@
+use Rattle.std.proofs.Common.{◌≡◌, ℕ, List, ◌++◌, refl}
+use Rattle.tape_blocks.specs.Block.{Portion}
+use Rattle.tape_core.specs.Crash.{IsThis}
+use Rattle.tape_core.specs.Stands.{weight_of}
+use Rattle.tape_stage.specs.Parts.{IsFront}
+use Rattle.tape_stage.proofs.Held.{stage_holds}
+use Rattle.tape_stage.proofs.Backs.{adds_this, adds_refused}
+use Rattle.tape_stage.proofs.stage.putting.StagePartSink.cut_to.Goals as goal
+
+-- parts that stand in front of others are the first of them, of what they weigh
+front_of : (staged : ℕ) (front rest : List Portion) → weight_of front ≡ staged
+    → IsFront staged front (front ++ rest)
+front_of staged front rest weighs = record { rest = rest; whole = refl; weighs = weighs }
+
+pub returns-in-Ok-clause-ok : goal.returns-in-Ok-clause-ok
+returns-in-Ok-clause-ok g c front rest holds weighs =
+    let parts = front ++ rest in
+    let of = front_of c.args.point.now.staged front rest weighs in
+    let e = c.in-Ok.ensures in
+    let honest = holds.honest (c.args.self.now.settled e.was_alive) in
+    let was = holds.ready e.was_alive in
+    let now = e.ok honest was.0 parts front was.1 of in
+    stage_holds c.cut_back.new.self now.0 front (e.honest honest) now.1
+
+pub returns-in-Ok-clause-crash : goal.returns-in-Ok-clause-crash
+returns-in-Ok-clause-crash g c front rest holds weighs =
+    let parts = front ++ rest in
+    let of = front_of c.args.point.now.staged front rest weighs in
+    let s = c.args.self.now in
+    let e = c.in-Ok.ensures in
+    let honest = holds.honest (s.settled e.was_alive) in
+    let was = holds.ready e.was_alive in
+    adds_this s c.cut_back.new.self was.0 parts front c.args.point.now
+    (g.met.D.Disk.seen_now s.disk honest) was.1 (e.any_moment honest was.0 parts front was.1 of)
+
+pub returns-in-Err-clause-crash : goal.returns-in-Err-clause-crash
+returns-in-Err-clause-crash g c front rest holds weighs =
+    let parts = front ++ rest in
+    let of = front_of c.args.point.now.staged front rest weighs in
+    let s = c.args.self.now in
+    let e = c.in-Err.ensures in
+    adds_refused s c.cut_back.new.self (IsThis c.args.point.now front) c.in-Err.fault
+    e.refused (λ alive.
+    let honest = holds.honest (s.settled alive) in
+    let was = holds.ready alive in
+    adds_this s c.cut_back.new.self was.0 parts front c.args.point.now
+    (g.met.D.Disk.seen_now s.disk honest) was.1
+    (e.any_moment honest was.0 parts front was.1 of))

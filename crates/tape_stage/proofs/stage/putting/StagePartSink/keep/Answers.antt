@@ -1,0 +1,58 @@
+use Rattle.std.proofs.Common.{◌≡◌, List, ap}
+use Rattle.std.specs.Prelude.{Option, Some, None, Err}
+use Rattle.tape_blocks.specs.Block.{Portion}
+use Rattle.tape_core.specs.Crash.{IsThis}
+use Rattle.tape_core.specs.Point.{Point}
+use Rattle.tape_stage.proofs.Held.{refused_holds}
+use Rattle.tape_stage.proofs.Keeps.{frames_holding}
+use Rattle.tape_stage.specs.Stages.{Returns}
+use Rattle.tape_stage.proofs.Backs.{returned_kept, returned_now, adds_this, adds_refused}
+use Rattle.tape_stage.proofs.stage.putting.StagePartSink.keep.Goals as goal
+
+-- what is being saved is a checkpoint
+saved_none : {pending : Option Point} {point : Point} → pending ≡ Some point → pending ≡ None → ⊥
+saved_none some none = cc
+
+pub returns-in-Err-clause-same : goal.returns-in-Err-clause-same
+returns-in-Err-clause-same g c parts holds =
+    let s = c.args.self.now in
+    let e = c.in-Err.ensures in
+    refused_holds s c.save.new.self parts c.in-Err.fault e.refused
+    (λ device none honest. absurd (saved_none (e.pending (ap Err device)) none))
+    (λ honest framed. frames_holding s.weight parts (g.D.Disk.seen s.disk)
+    (g.D.Disk.seen c.save.new.self.disk) (e.frames honest) framed) holds
+
+pub returns-in-Ok-clause-kept : goal.returns-in-Ok-clause-kept
+returns-in-Ok-clause-kept g c parts holds =
+    let new = c.save.new.self in
+    let e = c.in-Ok.ensures in
+    let honest = holds.honest (c.args.self.now.settled e.was_alive) in
+    let was = holds.ready e.was_alive in
+    let only : (back : Point) (there : List Portion) → Returns new back there
+    → (back ≡ c.args.point.now) × (there ≡ parts) =
+    λ back there r. returned_kept new parts c.args.point.now back there
+    (e.ok honest was.0 parts was.1) e.acknowledged r in (
+      only,
+      λ back there r. only back there
+          (returned_now new (e.honest honest) (g.met.D.Disk.only_now new.disk) back there r),
+    )
+
+pub returns-in-Ok-clause-crash : goal.returns-in-Ok-clause-crash
+returns-in-Ok-clause-crash g c parts holds =
+    let s = c.args.self.now in
+    let e = c.in-Ok.ensures in
+    let honest = holds.honest (s.settled e.was_alive) in
+    let was = holds.ready e.was_alive in
+    adds_this s c.save.new.self was.0 parts parts c.args.point.now
+    (g.met.D.Disk.seen_now s.disk honest) was.1 (e.any_moment honest was.0 parts was.1)
+
+pub returns-in-Err-clause-crash : goal.returns-in-Err-clause-crash
+returns-in-Err-clause-crash g c parts holds =
+    let s = c.args.self.now in
+    let e = c.in-Err.ensures in
+    adds_refused s c.save.new.self (IsThis c.args.point.now parts) c.in-Err.fault
+    e.refused (λ alive.
+    let honest = holds.honest (s.settled alive) in
+    let was = holds.ready alive in
+    adds_this s c.save.new.self was.0 parts parts c.args.point.now
+    (g.met.D.Disk.seen_now s.disk honest) was.1 (e.any_moment honest was.0 parts was.1))

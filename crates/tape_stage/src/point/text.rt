@@ -1,0 +1,330 @@
+//! The text of a checkpoint: its fields, read and written character by character.
+
+ghost use Rattle.std.specs.Prelude.{◌≡◌, ◌≤◌, length, ◌<◌, ◌+◌, ◌-◌, ◌^◌, ◌++◌};
+ghost use Rattle.arrayvec.specs.ArrayVec.{array_vec_len};
+ghost use Rattle.tape_label.specs.Digits.{digits};
+ghost use Rattle.tape_label.specs.Written.{text_of, HaveWidths};
+ghost use Rattle.tape_stage.specs.Reading.{version_by, state_position, fields_at, text_at};
+ghost use Rattle.tape_stage.specs.Reading.{place_at, flags_at, form_at, staged_at, chars_at};
+ghost use Rattle.tape_stage.specs.Reading.{number_at, flag_at, format_at, tail_at};
+ghost use Rattle.tape_stage.specs.PointFaults.{number};
+ghost use Rattle.tape_stage.specs.Text.{state_letter, flag_digit, format_letter, Fit, pieces};
+ghost use Rattle.tape_stage.specs.declared.point.Version.TheVariants.{Two};
+
+use crate::point::{Fields, Flags, Form, Place, Version};
+use arrayvec::ArrayVec;
+use tape_label::{Field, Format, digits_of, digits_value};
+use thiserror::Error;
+
+/// Why a text is no checkpoint. Positions are counted from 1.
+#[derive(Clone, Copy, Debug, PartialEq, Eq, Error)]
+pub enum PointFault {
+    /// The text does not have 80 characters.
+    #[error("a checkpoint has 80 characters")]
+    Length,
+    /// It does not begin `TPCK`.
+    #[error("the text is no checkpoint")]
+    Mark,
+    /// Its version is neither `1` nor `2`.
+    #[error("the version is not known")]
+    Version,
+    /// A character of the field that begins at this position is none that the field may hold.
+    #[error("the field at position {0} has a wrong character")]
+    Field(u8),
+    /// Each field is one by itself, but together they are those of no checkpoint.
+    #[error("the fields are those of no checkpoint")]
+    Range,
+}
+
+impl PointFault {
+    /// The fixed number of the fault, from 1 to 5 in the order of the list above.
+    pub fn number(&self) -> u8
+        ensures { result ≡ number self.now }
+    {
+        match self {
+            PointFault::Length => 1,
+            PointFault::Mark => 2,
+            PointFault::Version => 3,
+            PointFault::Field(_) => 4,
+            PointFault::Range => 5,
+        }
+    }
+}
+
+const SPACES: [u8; 12] = [b' '; 12];
+
+/// The number in digits at these positions.
+pub(crate) fn number_at(text: &[u8], first: u8, last: u8) -> Result<u64, PointFault>
+    requires first { 1 ≤ first }
+    requires order { first ≤ last }
+    requires last { last ≤ length text.now }
+    requires width { last < first + 19 }
+    ensures { result ≡ number_at text.now first last }
+{
+    match digits_value(&text[first as usize - 1..last as usize]) {
+        None => Err(PointFault::Field(first)),
+        Some(number) => Ok(number),
+    }
+}
+
+/// Which of two characters stands at the position.
+pub(crate) fn flag_at(text: &[u8], position: u8, yes: u8, no: u8) -> Result<bool, PointFault>
+    requires first { 1 ≤ position }
+    requires last { position ≤ length text.now }
+    ensures { result ≡ flag_at text.now position yes no }
+{
+    let c = text[position as usize - 1];
+    if c == yes {
+        return Ok(true);
+    }
+    if c == no {
+        return Ok(false);
+    }
+    Err(PointFault::Field(position))
+}
+
+/// The record format, or a space.
+pub(crate) fn format_at(text: &[u8], position: u8) -> Result<Option<Format>, PointFault>
+    requires first { 1 ≤ position }
+    requires last { position ≤ length text.now }
+    ensures { result ≡ format_at text.now position }
+{
+    match text[position as usize - 1] {
+        b'F' => Ok(Some(Format::Fixed)),
+        b'D' => Ok(Some(Format::Counted)),
+        b'S' => Ok(Some(Format::Spanned)),
+        b' ' => Ok(None),
+        _ => Err(PointFault::Field(position)),
+    }
+}
+
+/// Spaces from the position to the end.
+pub(crate) fn tail_at(text: &[u8], first: u8) -> Result<(), PointFault>
+    requires size { length text.now ≡ 80 }
+    requires first { (69 ≤ first) × (first ≤ 81) }
+    ensures { result ≡ tail_at text.now first }
+{
+    if &text[first as usize - 1..] == &SPACES[..81 - first as usize] {
+        return Ok(());
+    }
+    Err(PointFault::Field(first))
+}
+
+/// The characters from a position on, as a field.
+pub(crate) fn field_at<const N: usize>(text: &[u8], first: u8) -> Field<N>
+    requires first { 1 ≤ first }
+    requires last { first + N ≤ length text.now + 1 }
+    ensures { result ≡ chars_at text.now first (first - 1 + N) }
+{
+    let start = first as usize - 1;
+    let mut characters = [0; N];
+    characters.copy_from_slice(&text[start..start + N]);
+    Field::of_bytes(characters)
+}
+
+/// The version that a digit names.
+fn version_by(digit: u8) -> Result<Version, PointFault>
+    ensures { result ≡ version_by digit }
+{
+    match digit {
+        b'1' => Ok(Version::One),
+        b'2' => Ok(Version::Two),
+        _ => Err(PointFault::Version),
+    }
+}
+
+/// Where the state stands.
+fn state_position(version: Version) -> u8
+    ensures value { result ≡ state_position version }
+    ensures low { 26 ≤ result }
+    ensures high { result ≤ 35 }
+{
+    match version {
+        Version::One => 26,
+        Version::Two => 35,
+    }
+}
+
+/// All fields behind the version.
+#[tactic(auto, unfolding(crate::specs::Reading::fields_at))]
+fn fields_at(version: Version, text: &[u8]) -> Result<Fields, PointFault>
+    requires { length text.now ≡ 80 }
+    ensures { result ≡ fields_at version text.now }
+{
+    let file = number_at(text, 12, 15)?;
+    let sect = number_at(text, 16, 19)?;
+    let place = place_at(version, text)?;
+    let state = state_position(version);
+    let flags = flags_at(text, state)?;
+    let form = form_at(text, state + 3)?;
+    let staged = staged_at(text, state + 28)?;
+    Ok(Fields {
+        set_id: field_at(text, 6),
+        file,
+        sect,
+        place,
+        flags,
+        form,
+        staged,
+    })
+}
+
+/// The version and the fields.
+#[tactic(auto, unfolding(crate::specs::Reading::text_at))]
+pub(crate) fn text_at(text: &[u8]) -> Result<(Version, Fields), PointFault>
+    ensures { result ≡ text_at text.now }
+{
+    if text.len() != 80 {
+        return Err(PointFault::Length);
+    }
+    if &text[..4] != b"TPCK".as_slice() {
+        return Err(PointFault::Mark);
+    }
+    let version = version_by(text[4])?;
+    let fields = fields_at(version, text)?;
+    Ok((version, fields))
+}
+
+/// The block and the part.
+#[tactic(auto, unfolding(crate::specs::Reading::place_at))]
+pub(crate) fn place_at(version: Version, text: &[u8]) -> Result<Place, PointFault>
+    requires { length text.now ≡ 80 }
+    ensures { result ≡ place_at version text.now }
+{
+    match version {
+        Version::One => {
+            let block = number_at(text, 20, 25)?;
+            Ok(Place { block, part: 0 })
+        }
+        Version::Two => {
+            let block = number_at(text, 20, 29)?;
+            let part = number_at(text, 30, 34)?;
+            Ok(Place { block, part })
+        }
+    }
+}
+
+/// The state and the two digits behind it.
+#[tactic(auto, unfolding(crate::specs::Reading::flags_at))]
+pub(crate) fn flags_at(text: &[u8], first: u8) -> Result<Flags, PointFault>
+    requires size { length text.now ≡ 80 }
+    requires first { (26 ≤ first) × (first ≤ 35) }
+    ensures { result ≡ flags_at text.now first }
+{
+    let done = flag_at(text, first, b'D', b'R')?;
+    let begun = flag_at(text, first + 1, b'1', b'0')?;
+    let known = flag_at(text, first + 2, b'1', b'0')?;
+    Ok(Flags { done, begun, known })
+}
+
+/// What is said of the file.
+#[tactic(auto, unfolding(crate::specs::Reading::form_at))]
+pub(crate) fn form_at(text: &[u8], first: u8) -> Result<Form, PointFault>
+    requires size { length text.now ≡ 80 }
+    requires first { (29 ≤ first) × (first ≤ 38) }
+    ensures { result ≡ form_at text.now first }
+{
+    let format = format_at(text, first)?;
+    let rec_len = number_at(text, first + 1, first + 5)?;
+    let offset = number_at(text, first + 6, first + 7)?;
+    Ok(Form {
+        format,
+        rec_len,
+        offset,
+        file_id: field_at(text, first + 8),
+    })
+}
+
+/// The staged weight, and spaces to the end.
+#[tactic(auto, unfolding(crate::specs::Reading::staged_at))]
+pub(crate) fn staged_at(text: &[u8], first: u8) -> Result<u64, PointFault>
+    requires size { length text.now ≡ 80 }
+    requires first { (54 ≤ first) × (first ≤ 63) }
+    ensures { result ≡ staged_at text.now first }
+{
+    let staged = number_at(text, first, first + 14)?;
+    tail_at(text, first + 15)?;
+    Ok(staged)
+}
+
+/// Adds a piece that fits.
+pub(crate) fn put<const N: usize>(text: &mut ArrayVec<u8, N>, piece: &[u8])
+    requires { array_vec_len text.old + length piece.now ≤ N }
+    ensures items { text.new.items ≡ text.old.items ++ piece.now }
+    ensures len { array_vec_len text.new ≡ array_vec_len text.old + length piece.now }
+{
+    match text.try_extend_from_slice(piece) {
+        Ok(()) => {}
+        Err(_) => unreachable!(),
+    }
+}
+
+/// Adds a number in so many digits.
+fn put_number<const W: usize>(text: &mut ArrayVec<u8, 80>, number: u64)
+    requires fits { number < 10 ^ W }
+    requires room { array_vec_len text.old + W ≤ 80 }
+    ensures items { text.new.items ≡ text.old.items ++ digits W number }
+    ensures len { array_vec_len text.new ≡ array_vec_len text.old + W }
+{
+    put(text, &digits_of::<W>(number));
+}
+
+/// What was put together.
+pub(crate) fn whole<const N: usize>(text: ArrayVec<u8, N>) -> [u8; N]
+    requires { array_vec_len text ≡ N }
+    ensures { result ≡ text.entry.items }
+{
+    match text.into_inner() {
+        Ok(characters) => characters,
+        Err(_) => unreachable!(),
+    }
+}
+
+/// `D` where the whole file was delivered, else `R`.
+fn state_letter(done: bool) -> u8
+    ensures { result ≡ state_letter done }
+{
+    if done { b'D' } else { b'R' }
+}
+
+/// `1` or `0`.
+fn flag_digit(flag: bool) -> u8
+    ensures { result ≡ flag_digit flag }
+{
+    if flag { b'1' } else { b'0' }
+}
+
+/// `F`, `D` or `S`, or a space.
+fn format_letter(format: Option<Format>) -> u8
+    ensures { result ≡ format_letter format }
+{
+    match format {
+        Some(format) => format.letter(),
+        None => b' ',
+    }
+}
+
+/// The text of these fields in version 2.
+pub(crate) fn fields_text(fields: &Fields) -> [u8; 80]
+    requires { Fit Two fields.now }
+    ensures text { result ≡ text_of (pieces Two fields.now) }
+    ensures widths { HaveWidths (pieces Two fields.now) }
+{
+    let mut text = ArrayVec::new();
+    put(&mut text, b"TPCK2");
+    put(&mut text, fields.set_id.bytes());
+    put_number::<4>(&mut text, fields.file);
+    put_number::<4>(&mut text, fields.sect);
+    put_number::<10>(&mut text, fields.place.block);
+    put_number::<5>(&mut text, fields.place.part);
+    text.push(state_letter(fields.flags.done));
+    text.push(flag_digit(fields.flags.begun));
+    text.push(flag_digit(fields.flags.known));
+    text.push(format_letter(fields.form.format));
+    put_number::<5>(&mut text, fields.form.rec_len);
+    put_number::<2>(&mut text, fields.form.offset);
+    put(&mut text, fields.form.file_id.bytes());
+    put_number::<15>(&mut text, fields.staged);
+    put(&mut text, b"   ");
+    whole(text)
+}

@@ -1,0 +1,229 @@
+//! Frames: a part's header and content, walked, read and cut.
+
+ghost use Rattle.std.specs.Prelude.{◌≡◌, ◌+◌, ◌-◌, ◌≤◌, ◌<◌, ◌^◌, ◌∷◌, List, length, min, OnOk};
+ghost use Rattle.std.specs.Prelude.{OnErr, IfOk, MatchOption, ℕ, take, IsErrOf, true, false, IfErr};
+ghost use Rattle.std.specs.Int.{to_be_bytes};
+ghost use Rattle.std.proofs.Common.{w32};
+ghost use Rattle.tape_blocks.specs.Block.{Portion, indicator};
+ghost use Rattle.tape_blocks.specs.declared.parts.Span.{Span};
+ghost use Rattle.tape_core.specs.Weight.{Rose};
+ghost use Rattle.tape_core.specs.Known.{most_staged};
+ghost use Rattle.tape_stage.specs.Staged.{IsNoHeader, StagedIn, IsEither};
+ghost use Rattle.tape_stage.specs.Salvaged.{FramedTo, WalkedIn};
+ghost use Rattle.tape_stage.specs.OnlyReading.{OnlyReads};
+ghost use Rattle.tape_stage.specs.Parts.{longest_part, IsFront};
+ghost use Rattle.tape_stage.specs.Moments.{Passes};
+ghost use Rattle.tape_stage.specs.Frames.{IsFrameAt, NoFrameAt};
+ghost use Rattle.tape_stage.specs.Stages.{IsStage, HasRefused};
+ghost use Rattle.tape_stage.specs.Disk.{SameFact};
+
+use crate::disk::{Disk, DiskFault};
+use crate::stage::{Stage, StageFault};
+use tape_blocks::Span;
+use tape_core::{Checkpoint, SinkFault};
+
+/// The most bytes of a part.
+const LONGEST_PART: u32 = 99_999;
+
+/// The span that a digit names.
+fn span_by(digit: u8) -> Option<Span>
+    ensures { MatchOption result ((span : Span) → digit ≡ indicator span → ⊥)
+        (λ span. digit ≡ indicator span) }
+{
+    match digit {
+        b'0' => Some(Span::Whole),
+        b'1' => Some(Span::First),
+        b'2' => Some(Span::Middle),
+        b'3' => Some(Span::Last),
+        _ => None,
+    }
+}
+
+/// What a header tells.
+pub(crate) fn header_of(header: &[u8; 5]) -> Option<(Span, u64)>
+    ensures { MatchOption result (IsNoHeader header.now)
+        (λ found. (found.1 ≤ longest_part)
+        × (header.now ≡ indicator found.0 ∷ to_be_bytes w32 found.1)) }
+{
+    let span = span_by(header[0])?;
+    let size = u32::from_be_bytes([header[1], header[2], header[3], header[4]]);
+    if size > LONGEST_PART {
+        return None;
+    }
+    Some((span, u64::from(size)))
+}
+
+/// The size of the part that a header tells of.
+fn part_size(header: &[u8; 5]) -> Option<u64>
+    ensures { MatchOption result (IsNoHeader header.now)
+        (λ size. (size ≤ longest_part) × ((span : Span)
+        × (header.now ≡ indicator span ∷ to_be_bytes w32 size))) }
+{
+    match header_of(header) {
+        Some((_, size)) => Some(size),
+        None => None,
+    }
+}
+
+/// Walks frames that should weigh so much, as far as the file goes: the first place where no frame
+/// stands that ends where they should or before; `None` where all of them stand.
+pub(crate) fn walk<D: Disk>(disk: &mut D, staged: u64, limit: u64) -> Result<Option<u64>, DiskFault>
+    requires low { 256 ≤ limit }
+    requires there { limit ≡ min (256 + staged) (D.length_of disk.old) }
+    requires fits { staged ≤ most_staged }
+    ensures within { IfOk result (λ broken. WalkedIn staged limit broken) }
+    ensures framed { D.is_honest disk.old → IfOk result
+        (λ broken. (parts : List Portion) × FramedTo staged broken parts (D.seen disk.old)) }
+    ensures cause { OnErr result (Rose (D.faults disk.old) (D.faults disk.new)) }
+    ensures calm { OnOk result (D.faults disk.new ≡ D.faults disk.old) }
+    ensures reads { OnlyReads D.Disk disk.old disk.new }
+    ensures honest { D.is_honest disk.old → D.is_honest disk.new }
+{
+    let end = 256 + staged;
+    let mut place: u64 = 256;
+    while place < end {
+        if limit - place < 5 {
+            return Ok(Some(place));
+        }
+        let mut header = [0; 5];
+        disk.read(place, &mut header)?;
+        let Some(size) = part_size(&header) else {
+            return Ok(Some(place));
+        };
+        if size > limit - place - 5 {
+            return Ok(Some(place));
+        }
+        place += 5 + size;
+    }
+    Ok(None)
+}
+
+/// Where the frames break off that should weigh so much, if they do.
+pub(crate) fn break_of<D: Disk>(disk: &mut D, staged: u64) -> Result<Option<u64>, DiskFault>
+    requires long { 256 ≤ D.length_of disk.old }
+    requires fits { staged ≤ most_staged }
+    ensures within { IfOk result (λ broken. WalkedIn staged (D.length_of disk.new) broken) }
+    ensures framed { D.is_honest disk.old → IfOk result
+        (λ broken. (parts : List Portion) × FramedTo staged broken parts (D.seen disk.old)) }
+    ensures cause { OnErr result (Rose (D.faults disk.old) (D.faults disk.new)) }
+    ensures calm { OnOk result (D.faults disk.new ≡ D.faults disk.old) }
+    ensures reads { OnlyReads D.Disk disk.old disk.new }
+    ensures honest { D.is_honest disk.old → D.is_honest disk.new }
+{
+    let len = disk.len()?;
+    walk(disk, staged, (256 + staged).min(len))
+}
+
+/// Reads the frame at a place into the buffer: its span, and how many bytes its part has. `Failed`
+/// where no frame stands there.
+pub(crate) fn read_frame<D: Disk>(
+    disk: &mut D,
+    buffer: &mut [u8],
+    place: u64,
+    end: u64,
+) -> Result<(Span, usize), SinkFault>
+    requires inside { place < end }
+    requires there { end ≤ D.length_of disk.old }
+    requires room { longest_part ≤ length buffer.old }
+    ensures short { IfOk result (λ found. found.1 ≤ longest_part) }
+    ensures sized { IfOk result (λ found. found.1 ≤ length buffer.new) }
+    ensures long { length buffer.new ≡ length buffer.old }
+    ensures ends { IfOk result (λ found. place + (5 + found.1) ≤ end) }
+    ensures found { D.is_honest disk.old → IfOk result
+        (λ found. IsFrameAt place end (D.seen disk.old) found.0 (take found.1 buffer.new)) }
+    ensures none { D.is_honest disk.old → IsErrOf result SinkFault.Failed
+        → NoFrameAt place end (D.seen disk.old) }
+    ensures kinds { IsErrOf result SinkFault.Device → Rose (D.faults disk.old) (D.faults disk.new) }
+    ensures calm { OnOk result (D.faults disk.new ≡ D.faults disk.old) }
+    ensures reads { OnlyReads D.Disk disk.old disk.new }
+    ensures honest { D.is_honest disk.old → D.is_honest disk.new }
+{
+    if end - place < 5 {
+        return Err(SinkFault::Failed);
+    }
+    let mut header = [0; 5];
+    let Ok(()) = disk.read(place, &mut header) else {
+        return Err(SinkFault::Device);
+    };
+    let Some((span, size)) = header_of(&header) else {
+        return Err(SinkFault::Failed);
+    };
+    if size > end - place - 5 {
+        return Err(SinkFault::Failed);
+    }
+    let size = size as usize;
+    let Ok(()) = disk.read(place + 5, &mut buffer[..size]) else {
+        return Err(SinkFault::Device);
+    };
+    Ok((span, size))
+}
+
+impl<D: Disk> Stage<D> {
+    /// Cuts what lies behind the first parts of this weight; nothing of it is acknowledged.
+    pub(crate) fn cut_parts(&mut self, staged: u64) -> Result<(), StageFault>
+        requires alive { self.old.failed ≡ false }
+        requires behind { self.old.acknowledged.staged ≤ staged }
+        requires there { staged ≤ self.old.weight }
+        ensures ok { D.is_honest self.old.disk → OnOk result ((acked parts front : List Portion)
+            → IsStage self.old acked parts → IsFront staged front parts
+            → IsStage self.new acked front) }
+        ensures any_moment { D.is_honest self.old.disk → (acked parts : List Portion)
+            → IsStage self.old acked parts
+            → Passes D.may_leave D.moment D.left_since self.old.disk self.new.disk
+            (StagedIn self.old.in_second self.old.generation self.old.acknowledged acked) }
+        ensures was_alive { self.old.failed ≡ false }
+        ensures weight { OnOk result (self.new.weight ≡ staged) }
+        ensures refused { IfErr result (λ fault. (fault ≡ StageFault.Device)
+            × (self.new.failed ≡ true) × (self.new.weight ≡ self.old.weight)) }
+        ensures refusals { self.new.refused ≡ self.old.refused }
+        ensures acknowledged { self.new.acknowledged ≡ self.old.acknowledged }
+        ensures pending { self.new.pending ≡ self.old.pending }
+        ensures cause { IsErrOf result StageFault.Device
+            → Rose (D.faults self.old.disk) (D.faults self.new.disk) }
+        ensures honest { SameFact (D.is_honest self.old.disk) (D.is_honest self.new.disk) }
+    {
+        // No sync: what stands behind the told weight is nothing, whether a crash leaves it or not.
+        match self.disk.cut(256 + staged) {
+            Ok(()) => {
+                self.walked = 0;
+                self.weight = staged;
+                Ok(())
+            }
+            Err(_) => {
+                self.failed = true;
+                Err(StageFault::Device)
+            }
+        }
+    }
+
+    /// Keeps the first parts, of the weight that the checkpoint tells: at once where no
+    /// acknowledged part goes, and under the checkpoint as a new generation otherwise.
+    pub(crate) fn cut_back(&mut self, point: &Checkpoint) -> Result<(), StageFault>
+        requires { point.now.staged ≤ self.old.weight }
+        ensures ok { D.is_honest self.old.disk → OnOk result ((acked parts front : List Portion)
+            → IsStage self.old acked parts → IsFront point.now.staged front parts
+            → (now : List Portion) × IsStage self.new now front) }
+        ensures any_moment { D.is_honest self.old.disk → (acked parts front : List Portion)
+            → IsStage self.old acked parts → IsFront point.now.staged front parts
+            → Passes D.may_leave D.moment D.left_since self.old.disk self.new.disk
+            (IsEither self.old.in_second self.old.generation
+            self.old.acknowledged point.now acked front) }
+        ensures weight { OnOk result (self.new.weight ≡ point.now.staged) }
+        ensures was_alive { OnOk result (self.old.failed ≡ false) }
+        ensures refused { IfErr result (HasRefused self.old self.new) }
+        ensures refusals { self.new.refused ≡ self.old.refused }
+        ensures cause { IsErrOf result StageFault.Device
+            → Rose (D.faults self.old.disk) (D.faults self.new.disk) }
+        ensures honest { OnOk result (D.is_honest self.old.disk → D.is_honest self.new.disk) }
+        ensures back { D.is_honest self.new.disk → D.is_honest self.old.disk }
+    {
+        if self.failed {
+            return Err(StageFault::Failed);
+        }
+        let staged = point.staged;
+        if self.acknowledged.staged <= staged {
+            return self.cut_parts(staged);
+        }
+        self.restart(point)
+    }
+}
