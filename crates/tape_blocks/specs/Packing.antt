@@ -12,6 +12,10 @@ use Rattle.tape_blocks.specs.Spans.{span_of}
 
 -- ---- shapes and records that are written
 
+-- the greatest block length that HDR2 can tell, in five digits
+abbrev pub longest_block : ℕ
+longest_block = 99999
+
 -- format, record length, block length, offset, and whether each block is padded in full
 abbrev pub HasWritableRecords : Format → ℕ → ℕ → ℕ → Bool → Type 0
 HasWritableRecords Fixed rec_len block_len offset pad_full =
@@ -24,7 +28,7 @@ HasWritableRecords Spanned rec_len block_len offset pad_full =
 -- the shapes that are written
 pub record IsWritable (shape : Shape) : Type 0 where
   pub least : 18 ≤ shape.block_len
-  pub most : shape.block_len ≤ 99999
+  pub most : shape.block_len ≤ longest_block
   pub front : shape.offset ≤ 99
   pub units : HasWritableRecords shape.format shape.rec_len shape.block_len shape.offset
       shape.pad_full

@@ -18,6 +18,7 @@ use Rattle.tape_set.specs.Lawful.{FileForm, TellsForm}
 use Rattle.tape_set.specs.Before.{before, IsIn}
 use Rattle.tape_set.specs.Reach.{far}
 use Rattle.tape_blocks.specs.Judged.{begun_behind}
+use Rattle.tape_blocks.specs.Packing.{longest_block}
 use Rattle.tape_core.specs.declared.event.Answer.TheVariants.{Passed, Deliver, Complete}
 use Rattle.tape_core.specs.declared.event.Phase.TheVariants.{Over, Broken, Volume, VolumeLabels}
 use Rattle.tape_core.specs.declared.event.Phase.TheVariants.{NextFile}
@@ -275,7 +276,7 @@ pub record CasesOfSinks : Type 0 where
   pub calm : (given : Option Part) (old new : ℕ) → Counts (Ok given) old new → new ≡ old
   pub counted : (fault : SinkFault) → Counts (Err fault) 3 3 → ⊥
   pub lent : (part : Part) (old new : ℕ) → Lends (Ok (Some part)) old new
-      → (length part.bytes.now ≤ 99999) × (new < old)
+      → (length part.bytes.now ≤ longest_block) × (new < old)
   -- a walk keeps the parts and their weight, and brings nothing new back after a crash
   pub walk_keeps : (old new : Walk) (result : Result (Option Part) SinkFault)
       → Walks old result new → (new.kept ≡ old.kept) × (new.weight ≡ old.weight)

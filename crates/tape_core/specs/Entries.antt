@@ -5,6 +5,7 @@ use Rattle.std.proofs.Props.{props}
 use Rattle.tape_blocks.specs.declared.parts.Part.{Part}
 use Rattle.tape_blocks.specs.Parts.{view}
 use Rattle.tape_blocks.specs.Block.{Portion}
+use Rattle.tape_blocks.specs.Packing.{longest_block}
 use Rattle.tape_core.specs.declared.event.Entry.{Entry}
 
 -- the part that an entry tells, which begins at `start` of the bytes
@@ -25,7 +26,7 @@ end_from start (e ∷ es) = end_from e.end es
 -- at `finish`
 abbrev pub AreLaid : ℕ → List Entry → ℕ → Type 0
 AreLaid start [] finish = start ≡ finish
-AreLaid start (e ∷ es) finish = (start ≤ e.end) × (e.end ≤ start + 99999)
+AreLaid start (e ∷ es) finish = (start ≤ e.end) × (e.end ≤ start + longest_block)
     × AreLaid e.end es finish
 
 -- the parts have these bytes, from the first to the last, and no others

@@ -3,6 +3,7 @@ use Rattle.std.specs.Prelude.{◌≡◌, ℕ, ◌≤◌, Bool, true, false, not,
 use Rattle.tape_label.specs.declared.values.Format.{Format}
 use Rattle.tape_label.specs.declared.values.Format.TheVariants.{Fixed, Counted, Spanned}
 use Rattle.tape_label.specs.Formats.{least_record}
+use Rattle.tape_blocks.specs.Packing.{longest_block}
 use Rattle.tape_set.specs.declared.position.Position.{Position}
 use Rattle.tape_set.specs.declared.position.Position.TheVariants.{Awaits, Finished}
 use Rattle.tape_set.specs.Position.{is_start}
@@ -13,7 +14,7 @@ use Rattle.tape_set.specs.Lawful.{FileForm, binding_len, most_blocks}
 pub record IsForm (format : Format) (rec_len offset : ℕ) : Type 0 where
   pub least : least_record format ≤ rec_len
   pub binding : binding_len format rec_len ≡ rec_len
-  pub len_fits : rec_len ≤ 99999
+  pub len_fits : rec_len ≤ longest_block
   pub offset_fits : offset ≤ 99
 
 -- whether records may run on from block to block
@@ -31,7 +32,7 @@ may_span (Some form) = is_spanned form.format
 -- 4,294,967,295, and a block has at most 99,999 parts
 abbrev pub PositionFits : Position → Type 0
 PositionFits (Awaits sect block part) = (1 ≤ sect) × (sect ≤ 9999) × (block ≤ most_blocks)
-    × (part ≤ 99999)
+    × (part ≤ longest_block)
 PositionFits Finished = Unit {0}
 
 -- whether the file is complete

@@ -2,6 +2,7 @@
 use Rattle.std.specs.Prelude.{ℕ, nat_le, ◌==◌, ◌&&◌, ◌||◌, not, Bool, true, Option, Some, None}
 use Rattle.tape_label.specs.declared.values.Format.{Format}
 use Rattle.tape_label.specs.declared.values.Format.TheVariants.{Fixed, Counted, Spanned}
+use Rattle.tape_blocks.specs.Packing.{longest_block}
 use Rattle.tape_set.specs.declared.position.Position.{Position}
 use Rattle.tape_set.specs.declared.position.Position.TheVariants.{Awaits, Finished}
 use Rattle.tape_set.specs.Position.{is_start}
@@ -11,7 +12,7 @@ use Rattle.tape_core.specs.Point.{Point}
 
 -- records of format F have a length, from 1 to 99,999; in the other formats none is told
 abbrev pub length_in_range : Format → ℕ → Bool
-length_in_range Fixed rec_len = nat_le 1 rec_len && nat_le rec_len 99999
+length_in_range Fixed rec_len = nat_le 1 rec_len && nat_le rec_len longest_block
 length_in_range Counted rec_len = rec_len == 0
 length_in_range Spanned rec_len = rec_len == 0
 
@@ -22,7 +23,7 @@ form_in_range form = length_in_range form.format form.rec_len && nat_le form.off
 -- sections are numbered from 1 to 9,999; blocks and parts have a greatest number
 abbrev pub position_in_range : Position → Bool
 position_in_range (Awaits sect block part) = nat_le 1 sect && nat_le sect 9999
-    && nat_le block most_blocks && nat_le part 99999
+    && nat_le block most_blocks && nat_le part longest_block
 position_in_range Finished = true
 
 -- something is known of the file exactly where it is not at its start

@@ -4,6 +4,7 @@ use Rattle.std.specs.Prelude.{Ok, Err}
 use Rattle.tape_blocks.specs.declared.parts.Part.{Part}
 use Rattle.tape_blocks.specs.Block.{Portion}
 use Rattle.tape_blocks.specs.Parts.{view}
+use Rattle.tape_blocks.specs.Packing.{longest_block}
 use Rattle.tape_core.specs.Crash.{AddsNothing, Crashes}
 use Rattle.tape_core.specs.Weight.{Rose}
 use Rattle.tape_core.specs.declared.sink.SinkFault.{SinkFault}
@@ -23,7 +24,7 @@ Counts (Err fault) old new = Rose old new
 
 -- a part that was lent is short enough to be put, and less is left
 abbrev pub Lends : Result (Option Part) SinkFault → ℕ → ℕ → Type 0
-Lends (Ok (Some part)) old new = (length part.bytes.now ≤ 99999) × (new < old)
+Lends (Ok (Some part)) old new = (length part.bytes.now ≤ longest_block) × (new < old)
 Lends _ old new = Unit {0}
 
 -- The sink holds what it held, and gave the next of the parts that were to come, or was refused.

@@ -4,6 +4,7 @@ ghost use Rattle.std.specs.Prelude.{◌≡◌, ◌↔◌, ◌<◌, ◌≤◌, �
 ghost use Rattle.std.specs.Prelude.{take, drop, is_some, IfSome, IsSome};
 ghost use Rattle.tape_image.specs.Tape.{TapeItem};
 ghost use Rattle.tape_blocks.specs.Judged.{begun_behind};
+ghost use Rattle.tape_blocks.specs.Packing.{longest_block};
 ghost use Rattle.tape_set.specs.Layout.{FileSet};
 ghost use Rattle.tape_set.specs.Before.{before};
 ghost use Rattle.tape_core.specs.Known.{PositionFits, StandFits, IsFileNumber, is_finished};
@@ -164,7 +165,7 @@ impl Checkpoint {
     pub fn inside_block(&self, p: Position, part: u32, begun: bool, staged: u64) -> Checkpoint
         requires numbers { PositionFits p }
         requires waits { is_finished p ≡ false }
-        requires some { (1 ≤ part) × (part ≤ 99999) }
+        requires some { (1 ≤ part) × (part ≤ longest_block) }
         requires known { is_some self.now.known ≡ true }
         requires light { staged ≤ most_staged }
         ensures value { result ≡ inside_block self.now p part begun staged }
@@ -187,7 +188,7 @@ impl Checkpoint {
     fn in_block(&self, p: Position, part: u32, begun: bool, staged: u64) -> Checkpoint
         requires numbers { PositionFits p }
         requires waits { is_finished p ≡ false }
-        requires some { (1 ≤ part) × (part ≤ 99999) }
+        requires some { (1 ≤ part) × (part ≤ longest_block) }
         requires known { is_some self.now.known ≡ true }
         requires light { staged ≤ most_staged }
         ensures value { result ≡ inside_block self.now p part begun staged }

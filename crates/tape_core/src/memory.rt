@@ -4,6 +4,7 @@ ghost use Rattle.std.specs.Prelude.{◌≡◌, ◌≤◌, ◌<◌, ◌-◌, ◌+
 ghost use Rattle.std.specs.Prelude.{take, length, slice_get, OnOk, OnErr};
 ghost use Rattle.tape_blocks.specs.Block.{Portion};
 ghost use Rattle.tape_blocks.specs.Parts.{view};
+ghost use Rattle.tape_blocks.specs.Packing.{longest_block};
 ghost use Rattle.tape_core.specs.Weight.{Rose, IsFront};
 ghost use Rattle.tape_core.specs.Known.{most_staged};
 ghost use Rattle.tape_core.specs.Stands.{weight_of};
@@ -72,7 +73,7 @@ impl MemorySink {
     fn lent(&self, number: usize) -> Part<'_>
         requires { number < length (portions self.now) }
         ensures value { slice_get (portions self.now) number ≡ Some (view result) }
-        ensures short { length result.bytes.now ≤ 99999 }
+        ensures short { length result.bytes.now ≤ longest_block }
     {
         let start = self.end_of(number);
         let entry = self.entries[number];
@@ -121,7 +122,7 @@ impl MemorySink {
     /// Adds a part behind the others, or nothing where there is no memory for it.
     #[inline(always)]
     fn add(&mut self, part: Part<'_>) -> Result<(), AllocError>
-        requires short { length part.bytes.now ≤ 99999 }
+        requires short { length part.bytes.now ≤ longest_block }
         requires light { weight_of (portions self.old) + (5 + length part.bytes.now)
             ≤ most_staged }
         ensures ok { OnOk result (portions self.new ≡ portions self.old ++ view part.entry ∷ []) }

@@ -6,6 +6,7 @@ ghost use Rattle.std.specs.Borrow.{sem};
 ghost use Rattle.std.specs.Io.BufRead.{Rests};
 ghost use Rattle.tape_blocks.specs.Block.{Portion};
 ghost use Rattle.tape_blocks.specs.Parts.{view};
+ghost use Rattle.tape_blocks.specs.Packing.{longest_block};
 ghost use Rattle.tape_core.specs.Weight.{Rose};
 ghost use Rattle.tape_core.specs.Crash.{AddsNothing, AddsOnly, Crashes, IsThis, ThisAlone};
 ghost use Rattle.tape_core.specs.Walks.{HasGiven};
@@ -73,7 +74,7 @@ pub trait PartSink {
     /// `Full` where all parts would weigh more than 999,999,999,999,999; then what the sink's
     /// memory or device refused. At every fault the sink holds what it held.
     fn put(&mut self, part: Part<'_>) -> Result<(), SinkFault>
-        requires { length part.bytes.now ≤ 99999 }
+        requires { length part.bytes.now ≤ longest_block }
         ensures ok { OnOk result ((parts : List Portion) → holds self.old parts
             → holds self.new (parts ++ view part.entry ∷ [])) }
         ensures err { OnErr result ((parts : List Portion) → holds self.old parts

@@ -4,7 +4,7 @@ use Rattle.std.specs.Prelude.{replicate, Option}
 use Rattle.std.specs.Io.KnownBytes.{Appends}
 use Rattle.byteorder.specs.Endian.{little_bytes}
 use Rattle.tape_image.specs.Tape.{TapeItem, block, bad, mark}
-use Rattle.tape_image.specs.Word.{mark_word}
+use Rattle.tape_image.specs.Word.{mark_word, longest_block}
 
 -- the word of the block's length, its bytes, a pad byte 0 where they are odd, and the word again
 abbrev pub written_block : List ℕ → List ℕ
@@ -20,7 +20,7 @@ written mark = little_bytes 4 mark_word
 
 -- no block has this length: 0, or above 99,999
 abbrev pub is_no_block : List ℕ → Bool
-is_no_block content = (length content == 0) || nat_lt 99999 (length content)
+is_no_block content = (length content == 0) || nat_lt longest_block (length content)
 
 -- a front of these bytes was appended to those that the device held, where these are known
 abbrev pub AppendsFront : Option (List ℕ) → Option (List ℕ) → List ℕ → Type 0

@@ -8,6 +8,7 @@ ghost use Rattle.std.specs.Prelude.{◌≡◌, ◌≤◌, length, take, replicat
 ghost use Rattle.std.specs.Io.KnownBytes.{Appends};
 ghost use Rattle.byteorder.specs.Endian.{little_bytes};
 ghost use Rattle.tape_image.specs.Written.{AppendsFront, written_block};
+ghost use Rattle.tape_image.specs.Word.{longest_block};
 
 use crate::item::ImageWriteFault;
 use byteorder::{ByteOrder, LittleEndian};
@@ -68,7 +69,7 @@ pub(crate) fn put_last<W: Write>(device: &mut W, word: u32) -> Result<(), ImageW
 
 /// Writes a block: its word, its bytes, a pad byte if they are odd, and its word again.
 pub(crate) fn put_block<W: Write>(device: &mut W, content: &[u8]) -> Result<(), ImageWriteFault>
-    requires { length content.now ≤ 99999 }
+    requires { length content.now ≤ longest_block }
     ensures ok { OnOk result
         (Appends (W.contents device.old) (W.contents device.new) (written_block content.now)) }
     ensures err { OnErr result
@@ -113,7 +114,7 @@ fn spell(spelled: &mut [u8; SPELLED], content: &[u8]) -> usize
 
 /// Writes a block piece by piece.
 fn put_long<W: Write>(device: &mut W, content: &[u8]) -> Result<(), ImageWriteFault>
-    requires { length content.now ≤ 99999 }
+    requires { length content.now ≤ longest_block }
     ensures ok { OnOk result
         (Appends (W.contents device.old) (W.contents device.new) (written_block content.now)) }
     ensures err { OnErr result

@@ -7,6 +7,7 @@ ghost use Rattle.tape_image.specs.Reader.{going, seen, IfKnown};
 ghost use Rattle.tape_image.specs.Tape.{block, TapeItem};
 ghost use Rattle.tape_blocks.specs.Block.{Portion, Holds};
 ghost use Rattle.tape_blocks.specs.Spans.{InOrder};
+ghost use Rattle.tape_blocks.specs.Packing.{longest_block};
 ghost use Rattle.tape_set.specs.Position.{part_of};
 ghost use Rattle.tape_core.specs.Follows.{IsFinal};
 ghost use Rattle.tape_core.specs.Known.{is_finished};
@@ -85,7 +86,7 @@ pub fn put_parts<S: PartSink>(
     first: u32,
     begun: bool,
 ) -> Result<(), Refused>
-    requires short { length block.now ≤ 99999 }
+    requires short { length block.now ≤ longest_block }
     requires checked { (begun : Bool) × (end : Bool) × (parts : List Portion)
         × Holds shape.now.format shape.now.rec_len shape.now.offset block.now parts
         × InOrder begun parts end }
@@ -95,7 +96,8 @@ pub fn put_parts<S: PartSink>(
     ensures err { IfErr result (λ refused. (held parts : List Portion)
         → Holds shape.now.format shape.now.rec_len shape.now.offset block.now parts
         → S.holds sink.old held → PutsFew (S.holds sink.new) held parts first begun refused) }
-    ensures within { IfErr result (λ refused. (first ≤ refused.part) × (refused.part ≤ 99999)) }
+    ensures within { IfErr result (λ refused. (first ≤ refused.part)
+        × (refused.part ≤ longest_block)) }
     ensures cause { OnErr result (Rose (S.refusals sink.old) (S.refusals sink.new)) }
     ensures calm { OnOk result (S.refusals sink.new ≡ S.refusals sink.old) }
     ensures crash { (held : List Portion) → S.holds sink.old held
@@ -170,7 +172,7 @@ fn part_of(position: Position) -> u32
 fn refused_point(before: &Checkpoint, after: &Checkpoint, part: u32, begun: bool) -> Checkpoint
     requires waits { is_finished before.now.position ≡ false }
     requires from { part_of before.now.position ≤ part }
-    requires few { part ≤ 99999 }
+    requires few { part ≤ longest_block }
     requires known { is_some after.now.known ≡ true }
     ensures { result ≡ refused_point before.now after.now part begun }
 {
@@ -223,7 +225,7 @@ impl<S: PartSink> Intake<S> {
 
     /// Puts the parts of the block that the core has just delivered, from the awaited one on.
     fn put_block(&mut self, before: &Checkpoint, content: &[u8]) -> Result<(), SinkFault>
-        requires short { length content.now ≤ 99999 }
+        requires short { length content.now ≤ longest_block }
         requires checked { IsChecked (Some (block content.now)) (rest_of self.old.core) }
         requires same_set { before.now.set_id ≡ self.old.core.set_id }
         requires same_file { before.now.file ≡ self.old.core.file }

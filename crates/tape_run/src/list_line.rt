@@ -1,18 +1,19 @@
 //! The line of one item, built without taking memory.
+
 ghost use Rattle.std.specs.Prelude.{◌≡◌, ◌<◌, ◌≤◌, ◌+◌, ◌-◌, ◌^◌, ◌++◌, [], ◌∷◌, ℕ, List, length};
 ghost use Rattle.std.specs.Prelude.{codes, map};
 ghost use Rattle.arrayvec.specs.ArrayVec.{array_vec_len};
 ghost use Rattle.tape_image.specs.Reader.{tape_item};
-ghost use Rattle.tape_label.specs.Digits.{digits};
 ghost use Rattle.tape_image.specs.Tape.{IsTapeItem};
+ghost use Rattle.tape_label.specs.Digits.{digits};
 ghost use Rattle.tape_label.specs.Head1.{HeadFits};
 ghost use Rattle.tape_label.specs.Head2.{Head2Fits};
 ghost use Rattle.tape_label.specs.Trail1.{TrailFits};
 ghost use Rattle.tape_label.specs.Kinds.{identifier};
 ghost use Rattle.tape_label.specs.Labels.{IsLabel};
-ghost use Rattle.tape_run.specs.ListLine.{item_number, vol1_text, head_text};
-ghost use Rattle.tape_run.specs.ListLine.{head1_text, trail1_text, head2_text};
-ghost use Rattle.tape_run.specs.ListLine.{label_text, plain_text};
+ghost use Rattle.tape_blocks.specs.Packing.{longest_block};
+ghost use Rattle.tape_run.specs.ListLine.{item_number, vol1_text, head_text, head1_text};
+ghost use Rattle.tape_run.specs.ListLine.{trail1_text, head2_text, label_text, plain_text};
 ghost use Rattle.tape_run.specs.ListLine.{block_text, item_text, line_of};
 
 use crate::text::{put, put_identifier};
@@ -70,7 +71,7 @@ fn put_item(line: &mut Line, item: Item<'_>)
 /// A block, as the label that it reads as, or else by its length.
 fn put_block(line: &mut Line, bytes: &[u8])
     requires room { array_vec_len line.old ≤ 11 }
-    requires fits { length bytes.now ≤ 99999 }
+    requires fits { length bytes.now ≤ longest_block }
     ensures items { line.new.items ≡ line.old.items ++ block_text bytes.now }
     ensures len { array_vec_len line.new ≤ 63 }
 {
@@ -98,7 +99,7 @@ fn put_label(line: &mut Line, label: &Label)
 /// A block that reads as no label.
 fn put_plain(line: &mut Line, bytes: &[u8])
     requires room { array_vec_len line.old ≤ 11 }
-    requires fits { length bytes.now ≤ 99999 }
+    requires fits { length bytes.now ≤ longest_block }
     ensures items { line.new.items ≡ line.old.items ++ plain_text bytes.now }
     ensures len { array_vec_len line.new ≤ 63 }
 {

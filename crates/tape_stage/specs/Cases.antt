@@ -9,6 +9,7 @@ use Rattle.tape_blocks.specs.declared.parts.Part.{Part}
 use Rattle.tape_blocks.specs.Block.{Portion}
 use Rattle.tape_blocks.specs.Parts.{view}
 use Rattle.tape_label.specs.declared.values.Format.TheVariants.{Spanned}
+use Rattle.tape_blocks.specs.Packing.{longest_block}
 use Rattle.tape_set.specs.declared.position.Position.TheVariants.{Awaits}
 use Rattle.tape_core.specs.Point.{Point}
 use Rattle.tape_core.specs.Stands.{weight_of}
@@ -207,8 +208,8 @@ pub record CasesOfFiles : Type 0 where
   pub frame_of : frames (record { span = Whole; bytes = 65 ∷ [] } ∷ [])
       ≡ 48 ∷ 0 ∷ 0 ∷ 0 ∷ 1 ∷ 65 ∷ []
   -- each part of a frame is short enough
-  pub all_short : (a b : Portion) → AllShort (a ∷ b ∷ []) → (length a.bytes ≤ 99999)
-      × (length b.bytes ≤ 99999)
+  pub all_short : (a b : Portion) → AllShort (a ∷ b ∷ []) → (length a.bytes ≤ longest_block)
+      × (length b.bytes ≤ longest_block)
   pub front_of_two : (a b : Portion) → length a.bytes ≡ 1 → IsFront 6 (a ∷ []) (a ∷ b ∷ [])
 
 -- what calls leave of any disk, and what comes back of a stage on it

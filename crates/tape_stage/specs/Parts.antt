@@ -4,6 +4,7 @@ use Rattle.std.specs.List.{flat_map}
 use Rattle.std.specs.Int.{to_be_bytes}
 use Rattle.std.proofs.Common.{w32}
 use Rattle.tape_blocks.specs.Block.{Portion, indicator}
+use Rattle.tape_blocks.specs.Packing.{longest_block}
 use Rattle.tape_core.specs.Stands.{weight_of}
 
 -- a frame: the span's indicator, the length in four bytes, greatest first, and the content
@@ -16,7 +17,7 @@ frames parts = flat_map frame parts
 
 -- the most bytes of a part
 abbrev pub longest_part : ℕ
-longest_part = 99999
+longest_part = longest_block
 
 -- each part is short enough
 abbrev pub AllShort : List Portion → Type 0

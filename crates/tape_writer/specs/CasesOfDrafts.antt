@@ -6,7 +6,7 @@ use Rattle.std.specs.List.{AllByRecursion}
 use Rattle.tape_image.specs.Tape.{TapeItem, block, mark}
 use Rattle.tape_label.specs.declared.values.Vol1.{Vol1}
 use Rattle.tape_blocks.specs.declared.parts.Shape.{Shape}
-use Rattle.tape_blocks.specs.Packing.{Packing, HasRecordLength, the_packing}
+use Rattle.tape_blocks.specs.Packing.{Packing, HasRecordLength, the_packing, longest_block}
 use Rattle.tape_blocks.specs.Run.{RunOf, Going}
 use Rattle.tape_blocks.specs.Spans.{InOrder}
 use Rattle.tape_blocks.specs.Tight as packing
@@ -142,7 +142,7 @@ pub record CasesOfDrafts : Type 0 where
       → (file.head.sequence ≡ 3) × (course.volume ≡ 4) × (course.sect ≡ 2) × (course.count ≡ 1)
       × (file.head.set_id ≡ id) × IsReady file × (course.volume ≤ length volumes)
       × (course.sect ≤ course.volume) × (course.count ≤ course.used)
-      × ((0 < length b.bytes) × (length b.bytes ≤ 99999))
+      × ((0 < length b.bytes) × (length b.bytes ≤ longest_block))
   -- the sections before it are its own and go on, and the one under way is a change that is tight
   pub behind_sections : (volumes : List Volume) (capacity : ℕ) (id : List ℕ) (file : Opened)
       (course : Course) (next : List Filled) (u v s : Section) (b : Filled)

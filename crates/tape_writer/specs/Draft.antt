@@ -6,6 +6,7 @@ use Rattle.tape_image.specs.Tape.{TapeItem, block}
 use Rattle.tape_label.specs.declared.values.Vol1.{Vol1}
 use Rattle.tape_label.specs.declared.values.Kind.TheVariants as kinds
 use Rattle.tape_blocks.specs.Tight.{Filled, Chain}
+use Rattle.tape_blocks.specs.Packing.{longest_block}
 use Rattle.tape_set.specs.Layout.{Section, Placed, Volume, Entry, a_mark, numbered, all_numbered}
 use Rattle.tape_set.specs.Layout.{on, all_entries, group_of, item_of, ends_file}
 use Rattle.tape_set.specs.Before.{blocks_of_all}
@@ -126,7 +127,7 @@ pub record Within (volumes : List Volume) (capacity : ℕ) (set_id : List ℕ) (
   pub sect_most : course.sect ≤ course.volume
   pub count : course.count ≡ length d.blocks
   pub count_most : course.count ≤ course.used
-  pub sized : AllByRecursion (λ b. (0 < length b.bytes) × (length b.bytes ≤ 99999))
+  pub sized : AllByRecursion (λ b. (0 < length b.bytes) × (length b.bytes ≤ longest_block))
       d.blocks
   pub done : IsDone volumes capacity set_id (d.past + 1) (placed d)
   pub goes : OfLast (placed d) (λ ys x. GoesOn x (here file course [] true))

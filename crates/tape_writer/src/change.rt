@@ -4,14 +4,15 @@ ghost use Rattle.std.specs.Prelude.{◌≡◌, ◌≢◌, ◌<◌, ◌≤◌, �
 ghost use Rattle.std.specs.Prelude.{true, false};
 ghost use Rattle.std.specs.List.{AllByRecursion};
 ghost use Rattle.tape_image.specs.Tape.{IsTapeItem, block as block_item};
+ghost use Rattle.tape_label.specs.Widths.{IsWideVolume};
 ghost use Rattle.tape_blocks.specs.Tight.{Filled};
+ghost use Rattle.tape_blocks.specs.Packing.{longest_block};
 ghost use Rattle.tape_set.specs.Sizes.{item_size};
 ghost use Rattle.tape_writer.specs.declared.course.Course.{Course};
 ghost use Rattle.tape_writer.specs.Tapes.{WasAsked};
 ghost use Rattle.tape_writer.specs.Front.{HoldsFront};
 ghost use Rattle.tape_writer.specs.Lasting.{Lasting};
 ghost use Rattle.tape_writer.specs.Faults.{FailsWith, IsOfTape};
-ghost use Rattle.tape_label.specs.Widths.{IsWideVolume};
 ghost use Rattle.tape_writer.specs.Labels.{IsReady};
 ghost use Rattle.tape_writer.specs.Draft.{Draft, IsOpen, IsRoomy, Grew, Closed};
 ghost use Rattle.tape_writer.specs.Room.{Passed};
@@ -42,7 +43,7 @@ impl<T: TapeOut> Tape<T> {
 
     /// Whether the volume has room for a block of these bytes and a volume end.
     fn takes_block(&self, capacity: u32, bytes: &[u8]) -> bool
-        requires { length bytes.now ≤ 99999 }
+        requires { length bytes.now ≤ longest_block }
         ensures yes { result ≡ true
             → self.now.course.used + item_size (block_item bytes.now) + 192 ≤ capacity }
         ensures no { result ≡ false
