@@ -30,6 +30,9 @@ cases_of_tapes = record {
   no_count_falls = λ old new h. h;
   ended_stay = λ H used volumes l. (l.held, l.size);
   lasting = λ after f f' used' l. (l.lasts [] [] refl refl, l.count);
+  writer_lasts = λ old new l. l;
+  has_asked = λ w h. h;
+  stays_asked = λ volumes old new h. h;
 }
 
 takes_more : (w : Writer) → w.standing ≡ writing → w.size ≡ 4294867287 → TakesNoMore (Some w) → ⊥
@@ -92,6 +95,7 @@ is_small (inr h) = absurd (omega (arith, h.1))
 
 pub cases_of_refusals : CasesOfRefusals
 cases_of_refusals = record {
+  same_set = λ old new h. h;
   new_field = λ id volumes h text texts. h (text, texts);
   enough_volumes = λ id v h. absurd (omega (arith, h));
   few_volumes = λ id v h. absurd (omega (arith, h));

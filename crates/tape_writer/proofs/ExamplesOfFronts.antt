@@ -10,10 +10,10 @@ use Rattle.tape_writer.specs.declared.fault.SetFault.TheVariants.{Write, ReadFai
 use Rattle.tape_writer.specs.declared.fault.WriteFault.TheVariants.{OutOfMemory}
 use Rattle.tape_writer.specs.declared.inputs.cut.Cut.{Cut}
 use Rattle.tape_writer.specs.Records.{records_of, IsFirstLong}
-use Rattle.tape_writer.specs.Told.{Told}
+use Rattle.tape_writer.specs.Told.{Told, with_file}
 use Rattle.tape_writer.specs.State.{SetState}
 use Rattle.tape_writer.specs.Tapes.{Tapes, UnderWay}
-use Rattle.tape_writer.specs.ToldFiles.{told_files, with_file, IfAllKnown}
+use Rattle.tape_writer.specs.ToldFiles.{told_files, IfAllKnown}
 use Rattle.tape_writer.specs.Front.{behind_steps, HoldsFront, IsLeftBehind, IsLeftWhole}
 use Rattle.tape_writer.specs.LeftOf.{IsLeftOf, IsLeftOfAll, IsLeftUnbegun}
 use Rattle.tape_writer.specs.WriteFaults.{IsOfInput}

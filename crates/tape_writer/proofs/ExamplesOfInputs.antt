@@ -14,7 +14,8 @@ use Rattle.tape_writer.specs.Records.{records_of}
 use Rattle.tape_writer.proofs.Fitting.{within_longest, has_longest}
 use Rattle.tape_writer.specs.State.{SetState}
 use Rattle.tape_writer.specs.Tapes.{Tapes}
-use Rattle.tape_writer.specs.ToldFiles.{told_files, with_file, IfAllKnown}
+use Rattle.tape_writer.specs.Told.{with_file}
+use Rattle.tape_writer.specs.ToldFiles.{told_files, IfAllKnown}
 use Rattle.tape_writer.specs.WriteFaults.{OneIsOther, IsFileFault, IsFilesFault, IsWholeFault}
 use Rattle.tape_writer.specs.CasesOfInputs.{CasesOfInputs, CasesOfSetFaults}
 

@@ -28,8 +28,10 @@ use Rattle.tape_writer.specs.declared.course.Opened.{Opened}
 use Rattle.tape_writer.specs.declared.fault.OutFault.TheVariants as out
 use Rattle.tape_writer.specs.declared.fault.WriteFault.{WriteFault}
 use Rattle.tape_writer.specs.declared.fault.WriteFault.TheVariants as faults
+use Rattle.tape_writer.specs.declared.out.TapeOut.{Ghosts}
 use Rattle.tape_writer.specs.declared.phase.OpenFile.{OpenFile}
 use Rattle.tape_writer.specs.declared.phase.Phase.TheVariants as phases
+use Rattle.tape_writer.specs.declared.tape.Tape.{Tape}
 use Rattle.tape_writer.specs.Blank.{IsPrefix}
 use Rattle.tape_writer.specs.Draft.{open_blocks}
 use Rattle.tape_writer.specs.Faults.{FailsByDevice, FailsWith, IsEnding}
@@ -39,16 +41,23 @@ use Rattle.tape_writer.specs.Images.{TakesNoMore, HasStopped, Images, Holds}
 use Rattle.tape_writer.specs.Kept.{HoldsImages}
 use Rattle.tape_writer.specs.Inside.{Continues, IsStuck}
 use Rattle.tape_writer.specs.Labels.{first_label, second_label, trailer_label, second_kind}
-use Rattle.tape_writer.specs.Lasting.{Lasts, Lasting}
+use Rattle.tape_writer.specs.Lasting.{Lasts, Lasting, TapeLasts, StaysAsked}
 use Rattle.tape_writer.specs.Refusals.{IsNewFault, IsBeginFault, IsPutFault, IsFinishFault}
 use Rattle.tape_writer.specs.Refusals.{IsInFile}
 use Rattle.tape_writer.specs.State.{SetState, IsWriting, IsOutOfVolumes, Leaves, HasLength}
-use Rattle.tape_writer.specs.State.{Refuses, IfFiling}
+use Rattle.tape_writer.specs.State.{Refuses, IfFiling, tape_of, HasAsked, SameSet}
 use Rattle.tape_writer.specs.Tapes.{Tapes, Ended, UnderWay, all_volumes, volume_at}
 use Rattle.tape_writer.specs.Tapes.{Takes, Changes, Closes, Keeps, Rose}
 use Rattle.tape_writer.specs.Tapes.{Failures, Grows, HasCause, WasAsked}
 use Rattle.tape_writer.specs.Told.{Told, opened_by, with_record, labelled, IsWithin, IsOfFile}
 use Rattle.tape_writer.specs.Told.{IsFiled, AreFiled, IsWrittenSet}
+
+-- all that is seen of tapes: what they hold, their failures, and the label asked for last
+abbrev pub Bare : Type 0
+Bare = Tapes × Failures × Vol1
+
+abbrev pub bare : Ghosts Bare
+bare = record { holds = λ s t. t ≡ s.0; failures = λ s. s.1; asked = λ s v. v ≡ s.2 }
 
 -- of tapes, and of the counts of their failures
 pub record CasesOfTapes : Type 0 where
@@ -92,6 +101,16 @@ pub record CasesOfTapes : Type 0 where
   pub lasting : (after : Tapes) (f f' : Failures) (used' : ℕ)
       → Lasting (λ t. t ≡ UnderWay [] []) f 0 (λ t. t ≡ after) f' used'
       → Lasts (λ t. t ≡ after) used' [] × Grows f f'
+  pub writer_lasts : (old new : SetState Bare) → TapeLasts bare (tape_of old) (tape_of new)
+      → Lasting (λ t. t ≡ old.out.0) old.out.1 old.course.used
+      (λ t. t ≡ new.out.0) new.out.1 new.course.used
+  -- the volume under way was asked for by its own label, and behind a success it still was
+  pub has_asked : (w : SetState Bare) → HasAsked bare w
+      → WasAsked (λ v. v ≡ w.out.2) w.volumes w.course.volume
+  pub stays_asked : (volumes : List Vol1) (old new : Tape Bare)
+      → StaysAsked bare volumes old (Ok tt) new
+      → WasAsked (λ v. v ≡ old.out.2) volumes old.course.volume
+      → WasAsked (λ v. v ≡ new.out.2) volumes new.course.volume
 
 -- of volumes as images
 pub record CasesOfImages : Type 0 where
@@ -185,6 +204,9 @@ pub record CasesOfSets : Type 0 where
 
 -- of a writer, its refusals and what they leave
 pub record CasesOfRefusals : Type 0 where
+  -- a call writes the same set
+  pub same_set : (old new : SetState ℕ) → SameSet old new → (new.volumes ≡ old.volumes)
+      × (new.capacity ≡ old.capacity) × (new.set_id ≡ old.set_id)
   -- no set is made: each fault for its cause, and no other fault
   pub new_field : (id : List ℕ) (volumes : List Vol1) → IsNewFault id volumes faults.BadField
       → IsText id → AllByRecursion IsTextVolume volumes → ⊥

@@ -18,8 +18,8 @@ use Rattle.tape_writer.specs.Inside.{IsInside, IsPacking, IsFlat, IsWaiting}
 use Rattle.tape_writer.specs.Records.{records_of}
 use Rattle.tape_writer.specs.State.{SetState}
 use Rattle.tape_writer.specs.Tapes.{Tapes, Ended, UnderWay}
-use Rattle.tape_writer.specs.Told.{Told, AreFiled, IsWrittenSet}
-use Rattle.tape_writer.specs.ToldFiles.{with_records, with_file}
+use Rattle.tape_writer.specs.Told.{Told, AreFiled, IsWrittenSet, with_file}
+use Rattle.tape_writer.specs.ToldFiles.{with_records}
 use Rattle.tape_writer.specs.Front.{Item, Change, Close, behind_steps, HoldsFront, IsMidRecord}
 use Rattle.tape_writer.specs.Front.{IsPartly, IsInLast, IsEndingLast, IsLeftInside, IsLeftBehind}
 use Rattle.tape_writer.specs.Front.{IsLeftWhole}

@@ -21,9 +21,9 @@ use Rattle.tape_writer.specs.Records.{IsFirstLong, GrowsLong, Adds, given, to_co
 use Rattle.tape_writer.specs.Refusals.{IsNewFault}
 use Rattle.tape_writer.specs.State.{SetState, IsOutOfVolumes}
 use Rattle.tape_writer.specs.Tapes.{Tapes, Ended}
-use Rattle.tape_writer.specs.Told.{Told, opened_by}
+use Rattle.tape_writer.specs.Told.{Told, opened_by, with_file}
 use Rattle.tape_writer.specs.NoVolume.{GaveUp, GaveUpIn, GaveUpSet}
-use Rattle.tape_writer.specs.ToldFiles.{told_files, with_records, with_file, IfAllKnown}
+use Rattle.tape_writer.specs.ToldFiles.{told_files, with_records, IfAllKnown}
 use Rattle.tape_writer.specs.WriteFaults.{OneIsOther, IsOfWriter, IsPuttingFault}
 use Rattle.tape_writer.specs.WriteFaults.{IsInputFault, IsFileFault, IsFilesFault, IsWholeFault}
 use Rattle.tape_writer.specs.WriteFaults.{IsFaultOfCut, told_as}

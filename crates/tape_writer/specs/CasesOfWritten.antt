@@ -21,8 +21,7 @@ use Rattle.tape_writer.specs.NoVolume.{HasNoVolume, GaveUpSet}
 use Rattle.tape_writer.specs.RecordLaws.{IsLine, ended_line, LinesAreCut, PiecesAreCut, WholeIsOne}
 use Rattle.tape_writer.specs.Records.{records_of, last_record}
 use Rattle.tape_writer.specs.Tapes.{Ended, Failures, Rose}
-use Rattle.tape_writer.specs.Told.{Told, IsFiled, IsOfFile, opened_by}
-use Rattle.tape_writer.specs.ToldFiles.{with_file}
+use Rattle.tape_writer.specs.Told.{Told, IsFiled, IsOfFile, opened_by, with_file}
 use Rattle.tape_writer.specs.WriteFaults.{StopsByDevice, IsSetFault, IsFaultOfCut}
 use Rattle.tape_writer.specs.WriteSet.{IsSetOfImages, cut_of}
 

@@ -1,5 +1,5 @@
 -- The writer inside a file and between two: what the tapes hold, with what was told.
-use Rattle.std.specs.Prelude.{◌≡◌, ◌⊎◌, ◌≢◌, ◌≤◌, ℕ, List, [], ◌∷◌, ◌++◌, false, None, length}
+use Rattle.std.specs.Prelude.{◌≡◌, ◌⊎◌, ◌≢◌, ◌≤◌, ℕ, ◌+◌, List, [], ◌∷◌, ◌++◌, false, None, length}
 use Rattle.std.specs.List.{AllByRecursion}
 use Rattle.tape_label.specs.declared.values.Vol1.{Vol1}
 use Rattle.tape_blocks.specs.declared.parts.Shape.{Shape}
@@ -13,6 +13,8 @@ use Rattle.tape_set.specs.Layout.{Section}
 use Rattle.tape_set.specs.Tight.{takes_next}
 use Rattle.tape_writer.specs.declared.course.Opened.{Opened}
 use Rattle.tape_writer.specs.declared.course.Course.{Course}
+use Rattle.tape_writer.specs.declared.out.TapeOut.{Ghosts}
+use Rattle.tape_writer.specs.declared.tape.Tape.{Tape}
 use Rattle.tape_writer.specs.Tapes.{Tapes, Ended}
 use Rattle.tape_writer.specs.Draft.{Draft, IsOpen, IsResting, open_blocks}
 use Rattle.tape_writer.specs.Told.{Told, AreFiled}
@@ -122,3 +124,28 @@ pub record IsLeftOut (volumes capacity : ℕ) (course : Course) (p : Packing) : 
   pub given : Given p text
   pub none_left : volumes ≤ course.volume
   pub due : takes_next capacity course.used (record { bytes = text; parts = p.parts } ∷ []) ≡ false
+
+-- ---- where a call finds the tapes
+
+-- where the tapes hold a draft inside this file, this is true of the set's identifier and of it
+abbrev pub IfOpen : {T : Type 0} → Ghosts T → List Vol1 → ℕ → Opened → Tape T
+    → (List ℕ → Draft → Type 0) → Type 0
+IfOpen g volumes capacity file tape P = (set_id : List ℕ) (d : Draft)
+    → IsOpen (g.holds tape.out) volumes capacity set_id file tape.course d → P set_id d
+
+-- where they are inside this file, with this packer, this is true of the set's identifier, the
+-- finished files and the records given
+abbrev pub IfInside : {T : Type 0} → Ghosts T → List Vol1 → ℕ → Opened → Tape T → Packing
+    → (List ℕ → List (List Section) → List (List ℕ) → Type 0) → Type 0
+IfInside g volumes capacity file tape p P =
+    (set_id : List ℕ) (fs : List (List Section)) (records : List (List ℕ))
+    → IsInside (g.holds tape.out) volumes capacity set_id file tape.course p fs records
+    → P set_id fs records
+
+-- where this file is the next one, this is true of the set's identifier, the files told before it
+-- and a packer that holds nothing of it
+abbrev pub IfNext : Opened → (List ℕ → List Told → Packing → Type 0) → Type 0
+IfNext file P = (set_id : List ℕ) (told : List Told) (p : Packing)
+    → file.head.set_id ≡ set_id → file.head.sequence ≡ length told + 1
+    → p ≡ record { shape = file.shape; parts = []; begun = false; closed = false }
+    → P set_id told p

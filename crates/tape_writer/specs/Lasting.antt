@@ -1,8 +1,12 @@
 -- What every call keeps, whatever it answers.
-use Rattle.std.specs.Prelude.{◌≡◌, ℕ, List, ◌++◌}
+use Rattle.std.specs.Prelude.{◌≡◌, ℕ, List, ◌++◌, Result, OnOk}
 use Rattle.tape_image.specs.Tape.{TapeItem}
+use Rattle.tape_label.specs.declared.values.Vol1.{Vol1}
 use Rattle.tape_set.specs.Sizes.{items_size}
-use Rattle.tape_writer.specs.Tapes.{Tapes, UnderWay, Failures, Grows}
+use Rattle.tape_writer.specs.declared.fault.WriteFault.{WriteFault}
+use Rattle.tape_writer.specs.declared.out.TapeOut.{Ghosts}
+use Rattle.tape_writer.specs.declared.tape.Tape.{Tape}
+use Rattle.tape_writer.specs.Tapes.{Tapes, UnderWay, Failures, Grows, WasAsked}
 
 -- A volume is under way, whose size is the one that is counted, and these volumes ended before all
 -- others.
@@ -19,3 +23,15 @@ pub record Lasting (H : Tapes → Type 0) (failures : Failures) (used : ℕ)
   pub lasts : (volumes : List (List TapeItem)) (items : List TapeItem)
       → H (UnderWay volumes items) → used ≡ items_size items → Lasts H' used' volumes
   pub count : Grows failures failures'
+
+-- the same of what a tape writes to, and the size that it counts, before a call and behind it
+abbrev pub TapeLasts : {T : Type 0} → Ghosts T → Tape T → Tape T → Type 0
+TapeLasts g old new = Lasting (g.holds old.out) (g.failures old.out) old.course.used
+    (g.holds new.out) (g.failures new.out) new.course.used
+
+-- behind a success what is written to was asked for the volume under way by its own label, where it
+-- was before
+abbrev pub StaysAsked : {T : Type 0} → Ghosts T → List Vol1 → Tape T
+    → Result (Unit {0}) WriteFault → Tape T → Type 0
+StaysAsked g volumes old result new = WasAsked (g.asked old.out) volumes old.course.volume
+    → OnOk result (WasAsked (g.asked new.out) volumes new.course.volume)

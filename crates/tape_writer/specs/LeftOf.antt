@@ -4,7 +4,7 @@ use Rattle.std.specs.List.{AllByRecursion}
 use Rattle.tape_label.specs.declared.values.Head1.{Head1}
 use Rattle.tape_blocks.specs.declared.parts.Shape.{Shape}
 use Rattle.tape_writer.specs.Tapes.{Tapes}
-use Rattle.tape_writer.specs.Told.{Told}
+use Rattle.tape_writer.specs.Told.{Told, with_file}
 use Rattle.tape_writer.specs.State.{SetState}
 use Rattle.tape_writer.specs.Front.{IsInLast, IsLeftInside, IsLeftBehind, IsLeftWhole}
 use Rattle.tape_writer.specs.declared.inputs.cut.Cut.{Cut}
@@ -14,7 +14,7 @@ use Rattle.tape_writer.specs.declared.fault.SetFault.TheVariants.{Write}
 use Rattle.tape_writer.specs.declared.fault.WriteFault.TheVariants.{OutOfMemory}
 use Rattle.tape_writer.specs.Records.{records_of, IsFirstLong}
 use Rattle.tape_writer.specs.WriteFaults.{IsOfInput}
-use Rattle.tape_writer.specs.ToldFiles.{with_records, with_file, told_files, IfAllKnown}
+use Rattle.tape_writer.specs.ToldFiles.{with_records, told_files, IfAllKnown}
 
 -- A front of these records was told behind those, and the tapes hold a front of what is written of
 -- that: inside the file, or at its end where no record is left. For want of memory it ends only

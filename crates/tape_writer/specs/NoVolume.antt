@@ -3,12 +3,12 @@ use Rattle.std.specs.Prelude.{◌≡◌, ◌⊎◌, ℕ, ◌+◌, List, [], ◌�
 use Rattle.tape_label.specs.declared.values.Head1.{Head1}
 use Rattle.tape_blocks.specs.declared.parts.Shape.{Shape}
 use Rattle.tape_writer.specs.Tapes.{Tapes}
-use Rattle.tape_writer.specs.Told.{Told}
+use Rattle.tape_writer.specs.Told.{Told, with_file}
 use Rattle.tape_writer.specs.State.{SetState, IsOutOfVolumes}
 use Rattle.tape_writer.specs.declared.inputs.cut.Cut.{Cut}
 use Rattle.tape_writer.specs.declared.inputs.set.SetPlan.{SetPlan}
 use Rattle.tape_writer.specs.Records.{records_of}
-use Rattle.tape_writer.specs.ToldFiles.{with_records, with_file, told_files, IfAllKnown}
+use Rattle.tape_writer.specs.ToldFiles.{with_records, told_files, IfAllKnown}
 use Rattle.tape_writer.specs.WriteSet.{cut_of}
 
 -- The writer has no volume left, where a front of these records was told behind those: its last one

@@ -8,13 +8,15 @@ use Rattle.tape_set.specs.Layout.{Section}
 use Rattle.tape_set.specs.Tight.{least_capacity}
 use Rattle.tape_writer.specs.declared.course.Opened.{Opened}
 use Rattle.tape_writer.specs.declared.course.Course.{Course}
+use Rattle.tape_writer.specs.declared.out.TapeOut.{Ghosts}
+use Rattle.tape_writer.specs.declared.tape.Tape.{Tape}
 use Rattle.tape_writer.specs.declared.phase.Phase.{Phase}
 use Rattle.tape_writer.specs.declared.phase.Phase.TheVariants.{Between, Filing, Failed, Finished}
 use Rattle.tape_writer.specs.declared.phase.OpenFile.{OpenFile}
 use Rattle.tape_writer.specs.declared.fault.WriteFault.{WriteFault}
 use Rattle.tape_writer.specs.declared.fault.WriteFault.TheVariants.{OutOfVolumes, Device}
 use Rattle.tape_writer.specs.declared.fault.WriteFault.TheVariants.{OutOfMemory}
-use Rattle.tape_writer.specs.Tapes.{Tapes}
+use Rattle.tape_writer.specs.Tapes.{Tapes, WasAsked}
 use Rattle.tape_label.specs.Widths.{IsWideVolume}
 use Rattle.tape_writer.specs.Labels.{IsReady}
 use Rattle.tape_writer.specs.Draft.{IsRoomy}
@@ -31,6 +33,19 @@ pub record SetState (T : Type 0) : Type 0 where
   pub files : List Opened
   pub course : Course
   pub phase : Phase
+
+-- what it writes to, and where it stands
+abbrev pub tape_of : {T : Type 0} → SetState T → Tape T
+tape_of w = record { out = w.out; course = w.course }
+
+-- what it writes to was asked for the volume under way by its own label
+abbrev pub HasAsked : {T : Type 0} → Ghosts T → SetState T → Type 0
+HasAsked g w = WasAsked (g.asked w.out) w.volumes w.course.volume
+
+-- these volumes, their capacity and the set's identifier are the same
+abbrev pub SameSet : {T : Type 0} → SetState T → SetState T → Type 0
+SameSet old new = (new.volumes ≡ old.volumes) × (new.capacity ≡ old.capacity)
+    × (new.set_id ≡ old.set_id)
 
 -- ---- what was told is what is held
 

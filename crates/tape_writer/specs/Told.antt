@@ -31,6 +31,11 @@ opened_by set_id number head shape = record {
   shape = shape;
 }
 
+-- a file more was begun behind these
+abbrev pub with_file : List ℕ → List Told → Head1 → Shape → List Told
+with_file set_id told head shape =
+    told ++ record { file = opened_by set_id (length told + 1) head shape; records = [] } ∷ []
+
 -- one more record of the last file
 abbrev pub with_record : List Told → List ℕ → List Told
 with_record [] r = []

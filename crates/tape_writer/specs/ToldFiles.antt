@@ -1,5 +1,5 @@
 -- Files told with the records of inputs.
-use Rattle.std.specs.Prelude.{ℕ, ◌+◌, List, [], ◌∷◌, ◌++◌, length, Option, IfSome}
+use Rattle.std.specs.Prelude.{ℕ, ◌+◌, List, [], ◌∷◌, Option, IfSome}
 use Rattle.tape_label.specs.declared.values.Head1.{Head1}
 use Rattle.tape_blocks.specs.declared.parts.Shape.{Shape}
 use Rattle.tape_writer.specs.Told.{Told, with_record, opened_by}
@@ -23,8 +23,3 @@ told_files set_id shape cut n (f ∷ fs) = record {
 abbrev pub IfAllKnown : List (Head1 × Option (List ℕ)) → (List (Head1 × List ℕ) → Type 0) → Type 0
 IfAllKnown [] P = P []
 IfAllKnown (x ∷ xs) P = IfSome x.1 (λ bytes. IfAllKnown xs (λ fs. P ((x.0, bytes) ∷ fs)))
-
--- a file more was begun behind these
-abbrev pub with_file : List ℕ → List Told → Head1 → Shape → List Told
-with_file set_id told head shape =
-    told ++ record { file = opened_by set_id (length told + 1) head shape; records = [] } ∷ []

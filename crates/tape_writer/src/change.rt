@@ -9,13 +9,13 @@ ghost use Rattle.tape_blocks.specs.Tight.{Filled};
 ghost use Rattle.tape_blocks.specs.Packing.{longest_block};
 ghost use Rattle.tape_set.specs.Sizes.{item_size};
 ghost use Rattle.tape_writer.specs.declared.course.Course.{Course};
-ghost use Rattle.tape_writer.specs.Tapes.{WasAsked};
 ghost use Rattle.tape_writer.specs.Front.{HoldsFront};
-ghost use Rattle.tape_writer.specs.Lasting.{Lasting};
+ghost use Rattle.tape_writer.specs.Lasting.{TapeLasts, StaysAsked};
 ghost use Rattle.tape_writer.specs.Faults.{FailsWith, IsOfTape};
 ghost use Rattle.tape_writer.specs.Labels.{IsReady};
 ghost use Rattle.tape_writer.specs.Draft.{Draft, IsOpen, IsRoomy, Grew, Closed};
 ghost use Rattle.tape_writer.specs.Room.{Passed};
+ghost use Rattle.tape_writer.specs.Inside.{IfOpen};
 
 use crate::course::Opened;
 use crate::fault::WriteFault;
@@ -97,12 +97,9 @@ impl<T: TapeOut> Tape<T> {
             → result ≡ Err WriteFault.OutOfVolumes }
         ensures passed { OnOk result
             (Passed self.old.course (item_size (block_item bytes.now)) self.new.course) }
-        ensures asked { WasAsked (T.asked self.old.out) volumes.now self.old.course.volume
-            → OnOk result (WasAsked (T.asked self.new.out) volumes.now self.new.course.volume) }
+        ensures asked { StaysAsked T.TapeOut volumes.now self.old result self.new }
         ensures of_tape { IfErr result IsOfTape }
-        ensures lasting { Lasting
-            (T.holds self.old.out) (T.failures self.old.out) self.old.course.used
-            (T.holds self.new.out) (T.failures self.new.out) self.new.course.used }
+        ensures lasting { TapeLasts T.TapeOut self.old self.new }
         ensures cause { FailsWith (T.failures self.old.out) result (T.failures self.new.out) }
     {
         if self.takes_block(capacity, bytes) {
@@ -130,29 +127,22 @@ impl<T: TapeOut> Tape<T> {
         requires capacity { 1024 ≤ capacity }
         ensures roomy { OnOk result ((self.new.course.used + 372 ≤ capacity)
             × (self.new.course.volume ≤ length volumes.now) × (1 ≤ self.new.course.volume)) }
-        ensures closed { (set_id : List ℕ) (d : Draft)
-            → IsOpen (T.holds self.old.out) volumes.now capacity set_id file.now
-            self.old.course d
-            → OnOk result (Closed (T.holds self.new.out) volumes.now capacity set_id file.now
-            self.new.course d) }
-        ensures front { (set_id : List ℕ) (d : Draft)
-            → IsOpen (T.holds self.old.out) volumes.now capacity set_id file.now
-            self.old.course d
-            → IfErr result (λ fault. fault ≢ WriteFault.OutOfVolumes
-            → (course : Course) × Closed (HoldsFront (T.holds self.new.out)) volumes.now capacity
-            set_id file.now course d) }
+        ensures closed { IfOpen T.TapeOut volumes.now capacity file.now self.old (λ set_id d.
+            OnOk result (Closed (T.holds self.new.out) volumes.now capacity set_id file.now
+            self.new.course d)) }
+        ensures front { IfOpen T.TapeOut volumes.now capacity file.now self.old (λ set_id d.
+            IfErr result (λ fault. fault ≢ WriteFault.OutOfVolumes → (course : Course)
+            × Closed (HoldsFront (T.holds self.new.out)) volumes.now capacity set_id file.now
+            course d)) }
         ensures none { IfErr result (λ fault. fault ≡ WriteFault.OutOfVolumes
             → (self.new ≡ self.old) × (length volumes.now ≤ self.old.course.volume)
             × (capacity < self.old.course.used + 184 + 372)) }
         ensures always { length volumes.now ≤ self.old.course.volume
             → capacity < self.old.course.used + 184 + 372
             → result ≡ Err WriteFault.OutOfVolumes }
-        ensures asked { WasAsked (T.asked self.old.out) volumes.now self.old.course.volume
-            → OnOk result (WasAsked (T.asked self.new.out) volumes.now self.new.course.volume) }
+        ensures asked { StaysAsked T.TapeOut volumes.now self.old result self.new }
         ensures of_tape { IfErr result IsOfTape }
-        ensures lasting { Lasting
-            (T.holds self.old.out) (T.failures self.old.out) self.old.course.used
-            (T.holds self.new.out) (T.failures self.new.out) self.new.course.used }
+        ensures lasting { TapeLasts T.TapeOut self.old self.new }
         ensures cause { FailsWith (T.failures self.old.out) result (T.failures self.new.out) }
     {
         if self.takes_end(capacity) {

@@ -1,23 +1,22 @@
 //! Files and the set, begun and ended.
 
 ghost use Rattle.std.specs.Prelude.{◌≡◌, ◌≢◌, ◌≤◌, ◌+◌, ◌++◌, ◌∷◌, [], ℕ, List, length, OnOk};
-ghost use Rattle.std.specs.Prelude.{IfErr, false};
+ghost use Rattle.std.specs.Prelude.{IfErr};
 ghost use Rattle.std.specs.List.{AllByRecursion};
 ghost use Rattle.tape_image.specs.Tape.{TapeItem, mark as mark_item};
-ghost use Rattle.tape_blocks.specs.Packing.{Packing};
-ghost use Rattle.tape_set.specs.Layout.{Section};
 ghost use Rattle.tape_set.specs.Tight.{least_capacity};
 ghost use Rattle.tape_writer.specs.declared.course.Course.{Course};
-ghost use Rattle.tape_writer.specs.Tapes.{Ended, UnderWay, Grows, WasAsked};
+ghost use Rattle.tape_writer.specs.Tapes.{Ended, UnderWay, Grows};
 ghost use Rattle.tape_writer.specs.Front.{HoldsFront, IsEndingLast};
-ghost use Rattle.tape_writer.specs.Lasting.{Lasting};
+ghost use Rattle.tape_writer.specs.Lasting.{TapeLasts, StaysAsked};
 ghost use Rattle.tape_writer.specs.Faults.{FailsWith, IsOfTape, IsOfOut};
 ghost use Rattle.tape_label.specs.Widths.{IsWideVolume};
 ghost use Rattle.tape_writer.specs.Labels.{IsReady};
 ghost use Rattle.tape_writer.specs.Draft.{IsRoomy};
 ghost use Rattle.tape_writer.specs.State.{IsSoundRest};
 ghost use Rattle.tape_writer.specs.Told.{Told, IsWrittenSet};
-ghost use Rattle.tape_writer.specs.Inside.{IsInside, IsBetween, IsFiling, IsWaiting, IsStuck};
+ghost use Rattle.tape_writer.specs.Inside.{IsBetween, IsFiling, IsWaiting, IsStuck, IfInside};
+ghost use Rattle.tape_writer.specs.Inside.{IfNext};
 
 use crate::course::Opened;
 use crate::fault::WriteFault;
@@ -54,18 +53,13 @@ pub(crate) fn close_file<T: TapeOut>(
         tape.old.course packer.old past records
         → IfErr result (λ _. IsEndingLast (HoldsFront (T.holds tape.new.out)) volumes.now capacity
         set_id (past ++ record { file = file.now; records = records } ∷ [])) }
-    ensures asked { WasAsked (T.asked tape.old.out) volumes.now tape.old.course.volume
-        → OnOk result (WasAsked (T.asked tape.new.out) volumes.now tape.new.course.volume) }
+    ensures asked { StaysAsked T.TapeOut volumes.now tape.old result tape.new }
     ensures of_tape { IfErr result IsOfTape }
     ensures stuck { IfErr result (λ fault. fault ≡ WriteFault.OutOfVolumes
-        → (set_id : List ℕ) (fs : List (List Section)) (records : List (List ℕ))
-        → IsInside (T.holds tape.old.out) volumes.now capacity set_id file.now
-        tape.old.course packer.old fs records
-        → IsStuck (T.holds tape.new.out) volumes.now capacity set_id file.now
-        tape.new.course fs records) }
-    ensures lasting { Lasting
-        (T.holds tape.old.out) (T.failures tape.old.out) tape.old.course.used
-        (T.holds tape.new.out) (T.failures tape.new.out) tape.new.course.used }
+        → IfInside T.TapeOut volumes.now capacity file.now tape.old packer.old
+        (λ set_id fs records. IsStuck (T.holds tape.new.out) volumes.now capacity set_id
+        file.now tape.new.course fs records)) }
+    ensures lasting { TapeLasts T.TapeOut tape.old tape.new }
     ensures cause { FailsWith (T.failures tape.old.out) result (T.failures tape.new.out) }
 {
     flush_last(tape, packer, file, volumes, capacity)?;
@@ -91,12 +85,9 @@ fn begin_first<T: TapeOut>(
     ensures front { (set_id : List ℕ) → T.holds tape.old.out (Ended [])
         → (course : Course) × IsBetween (HoldsFront (T.holds tape.new.out)) volumes.now capacity
         set_id course [] }
-    ensures asked { WasAsked (T.asked tape.old.out) volumes.now tape.old.course.volume
-        → OnOk result (WasAsked (T.asked tape.new.out) volumes.now tape.new.course.volume) }
+    ensures asked { StaysAsked T.TapeOut volumes.now tape.old result tape.new }
     ensures out { IfErr result IsOfOut }
-    ensures lasting { Lasting
-        (T.holds tape.old.out) (T.failures tape.old.out) tape.old.course.used
-        (T.holds tape.new.out) (T.failures tape.new.out) tape.new.course.used }
+    ensures lasting { TapeLasts T.TapeOut tape.old tape.new }
     ensures cause { FailsWith (T.failures tape.old.out) result (T.failures tape.new.out) }
 {
     tape.begin_volume(&volumes[0])
@@ -115,24 +106,17 @@ fn open_file<T: TapeOut>(
     requires some { 1 ≤ tape.old.course.volume }
     requires volume { tape.old.course.volume ≤ length volumes.now }
     ensures roomy { OnOk result (IsRoomy capacity (length volumes.now) tape.new.course) }
-    ensures inside { (set_id : List ℕ) (told : List Told) (p : Packing)
-        → file.now.head.set_id ≡ set_id → file.now.head.sequence ≡ length told + 1
-        → p ≡ record { shape = file.now.shape; parts = []; begun = false; closed = false }
-        → IsBetween (T.holds tape.old.out) volumes.now capacity set_id tape.old.course told
+    ensures inside { IfNext file.now (λ set_id told p.
+        IsBetween (T.holds tape.old.out) volumes.now capacity set_id tape.old.course told
         → OnOk result (IsFiling (T.holds tape.new.out) volumes.now capacity set_id file.now
-        tape.new.course p told []) }
-    ensures front { (set_id : List ℕ) (told : List Told) (p : Packing)
-        → file.now.head.set_id ≡ set_id → file.now.head.sequence ≡ length told + 1
-        → p ≡ record { shape = file.now.shape; parts = []; begun = false; closed = false }
-        → IsBetween (T.holds tape.old.out) volumes.now capacity set_id tape.old.course told
+        tape.new.course p told [])) }
+    ensures front { IfNext file.now (λ set_id told p.
+        IsBetween (T.holds tape.old.out) volumes.now capacity set_id tape.old.course told
         → (course : Course) × IsFiling (HoldsFront (T.holds tape.new.out)) volumes.now capacity
-        set_id file.now course p told [] }
-    ensures asked { WasAsked (T.asked tape.old.out) volumes.now tape.old.course.volume
-        → OnOk result (WasAsked (T.asked tape.new.out) volumes.now tape.new.course.volume) }
+        set_id file.now course p told []) }
+    ensures asked { StaysAsked T.TapeOut volumes.now tape.old result tape.new }
     ensures out { IfErr result IsOfOut }
-    ensures lasting { Lasting
-        (T.holds tape.old.out) (T.failures tape.old.out) tape.old.course.used
-        (T.holds tape.new.out) (T.failures tape.new.out) tape.new.course.used }
+    ensures lasting { TapeLasts T.TapeOut tape.old tape.new }
     ensures cause { FailsWith (T.failures tape.old.out) result (T.failures tape.new.out) }
 {
     tape.begin_section(file, 1)
@@ -155,12 +139,9 @@ fn start<T: TapeOut>(tape: &mut Tape<T>, volumes: &[Vol1], capacity: u32) -> Res
         → IsWaiting (T.holds tape.old.out) volumes.now capacity set_id tape.old.course told
         → IfErr result (λ _. (course : Course) × IsBetween (HoldsFront (T.holds tape.new.out))
         volumes.now capacity set_id course told) }
-    ensures asked { WasAsked (T.asked tape.old.out) volumes.now tape.old.course.volume
-        → OnOk result (WasAsked (T.asked tape.new.out) volumes.now tape.new.course.volume) }
+    ensures asked { StaysAsked T.TapeOut volumes.now tape.old result tape.new }
     ensures out { IfErr result IsOfOut }
-    ensures lasting { Lasting
-        (T.holds tape.old.out) (T.failures tape.old.out) tape.old.course.used
-        (T.holds tape.new.out) (T.failures tape.new.out) tape.new.course.used }
+    ensures lasting { TapeLasts T.TapeOut tape.old tape.new }
     ensures cause { FailsWith (T.failures tape.old.out) result (T.failures tape.new.out) }
 {
     if tape.course.volume == 0 {
@@ -183,24 +164,17 @@ pub(crate) fn begin<T: TapeOut>(
     requires rest { IsSoundRest volumes.now capacity tape.old.course }
     requires capacity { 1024 ≤ capacity }
     ensures roomy { OnOk result (IsRoomy capacity (length volumes.now) tape.new.course) }
-    ensures filing { (set_id : List ℕ) (told : List Told) (p : Packing)
-        → file.now.head.set_id ≡ set_id → file.now.head.sequence ≡ length told + 1
-        → p ≡ record { shape = file.now.shape; parts = []; begun = false; closed = false }
-        → IsWaiting (T.holds tape.old.out) volumes.now capacity set_id tape.old.course told
+    ensures filing { IfNext file.now (λ set_id told p.
+        IsWaiting (T.holds tape.old.out) volumes.now capacity set_id tape.old.course told
         → OnOk result (IsFiling (T.holds tape.new.out) volumes.now capacity set_id file.now
-        tape.new.course p told []) }
-    ensures front { (set_id : List ℕ) (told : List Told) (p : Packing)
-        → file.now.head.set_id ≡ set_id → file.now.head.sequence ≡ length told + 1
-        → p ≡ record { shape = file.now.shape; parts = []; begun = false; closed = false }
-        → IsWaiting (T.holds tape.old.out) volumes.now capacity set_id tape.old.course told
+        tape.new.course p told [])) }
+    ensures front { IfNext file.now (λ set_id told p.
+        IsWaiting (T.holds tape.old.out) volumes.now capacity set_id tape.old.course told
         → IfErr result (λ _. (course : Course) × IsFiling (HoldsFront (T.holds tape.new.out))
-        volumes.now capacity set_id file.now course p told []) }
-    ensures asked { WasAsked (T.asked tape.old.out) volumes.now tape.old.course.volume
-        → OnOk result (WasAsked (T.asked tape.new.out) volumes.now tape.new.course.volume) }
+        volumes.now capacity set_id file.now course p told [])) }
+    ensures asked { StaysAsked T.TapeOut volumes.now tape.old result tape.new }
     ensures out { IfErr result IsOfOut }
-    ensures lasting { Lasting
-        (T.holds tape.old.out) (T.failures tape.old.out) tape.old.course.used
-        (T.holds tape.new.out) (T.failures tape.new.out) tape.new.course.used }
+    ensures lasting { TapeLasts T.TapeOut tape.old tape.new }
     ensures cause { FailsWith (T.failures tape.old.out) result (T.failures tape.new.out) }
 {
     start(tape, volumes, capacity)?;
@@ -230,12 +204,9 @@ pub(crate) fn end_set<T: TapeOut>(
       used = tape.old.course.used + 8;
     }) }
     ensures count { Grows (T.failures tape.old.out) (T.failures tape.new.out) }
-    ensures asked { WasAsked (T.asked tape.old.out) volumes.now tape.old.course.volume
-        → OnOk result (WasAsked (T.asked tape.new.out) volumes.now tape.new.course.volume) }
+    ensures asked { StaysAsked T.TapeOut volumes.now tape.old result tape.new }
     ensures out { IfErr result IsOfOut }
-    ensures lasting { IfErr result (λ _. Lasting
-        (T.holds tape.old.out) (T.failures tape.old.out) tape.old.course.used
-        (T.holds tape.new.out) (T.failures tape.new.out) tape.new.course.used) }
+    ensures lasting { IfErr result (λ _. TapeLasts T.TapeOut tape.old tape.new) }
     ensures cause { FailsWith (T.failures tape.old.out) result (T.failures tape.new.out) }
 {
     tape.mark()?;

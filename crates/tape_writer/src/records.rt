@@ -1,21 +1,20 @@
 //! Records put in the blocks of a file.
 
-ghost use Rattle.std.specs.Prelude.{◌≡◌, ◌≢◌, ◌<◌, ◌≤◌, ◌++◌, ◌∷◌, [], ℕ, List, length, OnOk};
+ghost use Rattle.std.specs.Prelude.{◌≡◌, ◌≢◌, ◌<◌, ◌≤◌, ◌++◌, ◌∷◌, [], length, OnOk};
 ghost use Rattle.std.specs.Prelude.{IfErr, Ok};
 ghost use Rattle.std.specs.Prelude.{Err, false};
 ghost use Rattle.std.specs.List.{AllByRecursion};
 ghost use Rattle.tape_blocks.specs.Packing.{emptied, HasRecordLength};
-ghost use Rattle.tape_set.specs.Layout.{Section};
 ghost use Rattle.tape_set.specs.Tight.{least_capacity};
 ghost use Rattle.tape_writer.specs.declared.course.Course.{Course};
-ghost use Rattle.tape_writer.specs.Tapes.{WasAsked};
 ghost use Rattle.tape_writer.specs.Front.{HoldsFront, IsMidRecord, IsPartly};
-ghost use Rattle.tape_writer.specs.Lasting.{Lasting};
+ghost use Rattle.tape_writer.specs.Lasting.{TapeLasts, StaysAsked};
 ghost use Rattle.tape_writer.specs.Faults.{FailsWith, IsOfTape, IsEnding};
 ghost use Rattle.tape_label.specs.Widths.{IsWideVolume};
 ghost use Rattle.tape_writer.specs.Labels.{IsReady};
-ghost use Rattle.tape_writer.specs.Draft.{Draft, IsOpen, IsRoomy};
-ghost use Rattle.tape_writer.specs.Inside.{IsInside, Flushed, IsFlat, IsStuck, IsLeftOut};
+ghost use Rattle.tape_writer.specs.Draft.{IsRoomy};
+ghost use Rattle.tape_writer.specs.Inside.{IsInside, Flushed, IsFlat, IsStuck, IsLeftOut, IfInside};
+ghost use Rattle.tape_writer.specs.Inside.{IfOpen};
 ghost use Rattle.tape_writer.specs.Room.{room_of};
 
 use crate::course::Opened;
@@ -48,21 +47,16 @@ fn flush<T: TapeOut>(
     ensures stuck { IfErr result (λ fault. fault ≡ WriteFault.OutOfVolumes
         → (tape.new ≡ tape.old)
         × IsLeftOut (length volumes.now) capacity tape.old.course packer.old) }
-    ensures flushed { packer.old.parts ≢ [] → (set_id : List ℕ) (d : Draft)
-        → IsOpen (T.holds tape.old.out) volumes.now capacity set_id file.now tape.old.course d
-        → OnOk result (Flushed (T.holds tape.new.out) volumes.now capacity set_id file.now
-        tape.new.course d packer.old) }
-    ensures front { packer.old.parts ≢ [] → (set_id : List ℕ) (d : Draft)
-        → IsOpen (T.holds tape.old.out) volumes.now capacity set_id file.now tape.old.course d
-        → IfErr result (λ fault. fault ≢ WriteFault.OutOfVolumes
-        → (course : Course) × Flushed (HoldsFront (T.holds tape.new.out)) volumes.now capacity
-        set_id file.now course d packer.old) }
-    ensures asked { WasAsked (T.asked tape.old.out) volumes.now tape.old.course.volume
-        → OnOk result (WasAsked (T.asked tape.new.out) volumes.now tape.new.course.volume) }
+    ensures flushed { packer.old.parts ≢ [] → IfOpen T.TapeOut volumes.now capacity file.now
+        tape.old (λ set_id d. OnOk result (Flushed (T.holds tape.new.out) volumes.now capacity
+        set_id file.now tape.new.course d packer.old)) }
+    ensures front { packer.old.parts ≢ [] → IfOpen T.TapeOut volumes.now capacity file.now tape.old
+        (λ set_id d. IfErr result (λ fault. fault ≢ WriteFault.OutOfVolumes → (course : Course)
+        × Flushed (HoldsFront (T.holds tape.new.out)) volumes.now capacity set_id file.now course
+        d packer.old)) }
+    ensures asked { StaysAsked T.TapeOut volumes.now tape.old result tape.new }
     ensures of_tape { IfErr result IsOfTape }
-    ensures lasting { Lasting
-        (T.holds tape.old.out) (T.failures tape.old.out) tape.old.course.used
-        (T.holds tape.new.out) (T.failures tape.new.out) tape.new.course.used }
+    ensures lasting { TapeLasts T.TapeOut tape.old tape.new }
     ensures cause { FailsWith (T.failures tape.old.out) result (T.failures tape.new.out) }
 {
     match packer.take_block() {
@@ -100,33 +94,24 @@ pub(crate) fn put_record<T: TapeOut>(
     ensures always { (HasRecordLength file.now.shape.format file.now.shape.rec_len
         (length whole.now) → ⊥)
         → result ≡ Err WriteFault.RecordLength }
-    ensures packed { (set_id : List ℕ) (fs : List (List Section)) (records : List (List ℕ))
-        → IsInside (T.holds tape.old.out) volumes.now capacity set_id file.now
-        tape.old.course packer.old fs records
-        → OnOk result (IsInside (T.holds tape.new.out) volumes.now capacity set_id file.now
-        tape.new.course packer.new fs (records ++ whole.now ∷ [])) }
+    ensures packed { IfInside T.TapeOut volumes.now capacity file.now tape.old packer.old
+        (λ set_id fs records. OnOk result (IsInside (T.holds tape.new.out) volumes.now capacity
+        set_id file.now tape.new.course packer.new fs (records ++ whole.now ∷ []))) }
     ensures stuck { IfErr result (λ fault. fault ≡ WriteFault.OutOfVolumes
-        → (set_id : List ℕ) (fs : List (List Section)) (records : List (List ℕ))
-        → IsInside (T.holds tape.old.out) volumes.now capacity set_id file.now
-        tape.old.course packer.old fs records
-        → IsStuck (T.holds tape.new.out) volumes.now capacity set_id file.now
-        tape.new.course fs (records ++ whole.now ∷ [])) }
+        → IfInside T.TapeOut volumes.now capacity file.now tape.old packer.old
+        (λ set_id fs records. IsStuck (T.holds tape.new.out) volumes.now capacity set_id
+        file.now tape.new.course fs (records ++ whole.now ∷ []))) }
     // Whatever the fault: what is held is a front of the record's writing.
-    ensures front { (set_id : List ℕ) (fs : List (List Section)) (records : List (List ℕ))
-        → IsInside (T.holds tape.old.out) volumes.now capacity set_id file.now
-        tape.old.course packer.old fs records
-        → IfErr result (λ fault. IsEnding fault
-        → (course : Course) × IsMidRecord (HoldsFront (T.holds tape.new.out)) volumes.now capacity
-        set_id file.now course fs (records ++ whole.now ∷ [])) }
+    ensures front { IfInside T.TapeOut volumes.now capacity file.now tape.old packer.old
+        (λ set_id fs records. IfErr result (λ fault. IsEnding fault → (course : Course)
+        × IsMidRecord (HoldsFront (T.holds tape.new.out)) volumes.now capacity set_id file.now
+        course fs (records ++ whole.now ∷ []))) }
     // So no input keeps a writer for ever.
     ensures room { OnOk result (room_of (length volumes.now) capacity tape.new.course packer.new
         < room_of (length volumes.now) capacity tape.old.course packer.old) }
-    ensures asked { WasAsked (T.asked tape.old.out) volumes.now tape.old.course.volume
-        → OnOk result (WasAsked (T.asked tape.new.out) volumes.now tape.new.course.volume) }
+    ensures asked { StaysAsked T.TapeOut volumes.now tape.old result tape.new }
     ensures ending { IfErr result (λ fault. fault ≢ WriteFault.RecordLength → IsEnding fault) }
-    ensures lasting { Lasting
-        (T.holds tape.old.out) (T.failures tape.old.out) tape.old.course.used
-        (T.holds tape.new.out) (T.failures tape.new.out) tape.new.course.used }
+    ensures lasting { TapeLasts T.TapeOut tape.old tape.new }
     ensures cause { FailsWith (T.failures tape.old.out) result (T.failures tape.new.out) }
 {
     let mut rest = whole;
@@ -158,28 +143,20 @@ pub(crate) fn flush_last<T: TapeOut>(
     requires capacity { least_capacity file.now.shape ≤ capacity }
     requires shape { packer.old.shape ≡ file.now.shape }
     ensures roomy { OnOk result (IsRoomy capacity (length volumes.now) tape.new.course) }
-    ensures flat { (set_id : List ℕ) (fs : List (List Section)) (records : List (List ℕ))
-        → IsInside (T.holds tape.old.out) volumes.now capacity set_id file.now
-        tape.old.course packer.old fs records
-        → OnOk result (IsFlat (T.holds tape.new.out) volumes.now capacity set_id file.now
-        tape.new.course fs records) }
-    ensures front { (set_id : List ℕ) (fs : List (List Section)) (records : List (List ℕ))
-        → IsInside (T.holds tape.old.out) volumes.now capacity set_id file.now
-        tape.old.course packer.old fs records
-        → IfErr result (λ _. (course : Course) × IsPartly (HoldsFront (T.holds tape.new.out))
-        volumes.now capacity set_id file.now course fs records) }
-    ensures asked { WasAsked (T.asked tape.old.out) volumes.now tape.old.course.volume
-        → OnOk result (WasAsked (T.asked tape.new.out) volumes.now tape.new.course.volume) }
+    ensures flat { IfInside T.TapeOut volumes.now capacity file.now tape.old packer.old
+        (λ set_id fs records. OnOk result (IsFlat (T.holds tape.new.out) volumes.now capacity
+        set_id file.now tape.new.course fs records)) }
+    ensures front { IfInside T.TapeOut volumes.now capacity file.now tape.old packer.old
+        (λ set_id fs records. IfErr result (λ _. (course : Course)
+        × IsPartly (HoldsFront (T.holds tape.new.out)) volumes.now capacity set_id file.now course
+        fs records)) }
+    ensures asked { StaysAsked T.TapeOut volumes.now tape.old result tape.new }
     ensures of_tape { IfErr result IsOfTape }
     ensures stuck { IfErr result (λ fault. fault ≡ WriteFault.OutOfVolumes
-        → (set_id : List ℕ) (fs : List (List Section)) (records : List (List ℕ))
-        → IsInside (T.holds tape.old.out) volumes.now capacity set_id file.now
-        tape.old.course packer.old fs records
-        → IsStuck (T.holds tape.new.out) volumes.now capacity set_id file.now
-        tape.new.course fs records) }
-    ensures lasting { Lasting
-        (T.holds tape.old.out) (T.failures tape.old.out) tape.old.course.used
-        (T.holds tape.new.out) (T.failures tape.new.out) tape.new.course.used }
+        → IfInside T.TapeOut volumes.now capacity file.now tape.old packer.old
+        (λ set_id fs records. IsStuck (T.holds tape.new.out) volumes.now capacity set_id
+        file.now tape.new.course fs records)) }
+    ensures lasting { TapeLasts T.TapeOut tape.old tape.new }
     ensures cause { FailsWith (T.failures tape.old.out) result (T.failures tape.new.out) }
 {
     flush(tape, packer, file, volumes, capacity)

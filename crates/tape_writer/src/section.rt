@@ -6,7 +6,7 @@ ghost use Rattle.tape_image.specs.Tape.{TapeItem};
 ghost use Rattle.tape_writer.specs.Tapes.{Takes, UnderWay};
 ghost use Rattle.tape_label.specs.declared.values.Vol1.{Vol1};
 ghost use Rattle.tape_writer.specs.Front.{HoldsFront};
-ghost use Rattle.tape_writer.specs.Lasting.{Lasting};
+ghost use Rattle.tape_writer.specs.Lasting.{TapeLasts};
 ghost use Rattle.tape_writer.specs.Faults.{FailsWith, IsOfOut};
 ghost use Rattle.tape_writer.specs.Labels.{IsReady, header_items, trailer_items};
 
@@ -37,9 +37,7 @@ impl<T: TapeOut> Tape<T> {
           count = 0;
           used = self.old.course.used + 180;
         }) }
-        ensures lasting { Lasting
-            (T.holds self.old.out) (T.failures self.old.out) self.old.course.used
-            (T.holds self.new.out) (T.failures self.new.out) self.new.course.used }
+        ensures lasting { TapeLasts T.TapeOut self.old self.new }
         ensures cause { FailsWith (T.failures self.old.out) result (T.failures self.new.out) }
         ensures asked { (v : Vol1) → T.asked self.old.out v → T.asked self.new.out v }
         ensures out { IfErr result IsOfOut }
@@ -68,9 +66,7 @@ impl<T: TapeOut> Tape<T> {
             ++ trailer_items file.now self.old.course.sect self.old.course.count eof)) }
         ensures course { OnOk result (self.new.course
             ≡ record self.old.course { used = self.old.course.used + 184 }) }
-        ensures lasting { Lasting
-            (T.holds self.old.out) (T.failures self.old.out) self.old.course.used
-            (T.holds self.new.out) (T.failures self.new.out) self.new.course.used }
+        ensures lasting { TapeLasts T.TapeOut self.old self.new }
         ensures cause { FailsWith (T.failures self.old.out) result (T.failures self.new.out) }
         ensures asked { (v : Vol1) → T.asked self.old.out v → T.asked self.new.out v }
         ensures out { IfErr result IsOfOut }

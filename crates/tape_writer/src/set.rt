@@ -2,9 +2,9 @@
 
 ghost use Rattle.std.specs.Prelude.{◌≡◌, ◌<◌, ◌≤◌, [], length, IfOk, IfErr, IsOk, OnOk, Err};
 ghost use Rattle.std.specs.List.{AllByRecursion};
-ghost use Rattle.tape_writer.specs.Tapes.{Ended, WasAsked};
+ghost use Rattle.tape_writer.specs.Tapes.{Ended};
 ghost use Rattle.tape_writer.specs.Fields.{IsText, IsTextVolume};
-ghost use Rattle.tape_writer.specs.State.{IsWriting};
+ghost use Rattle.tape_writer.specs.State.{IsWriting, HasAsked};
 ghost use Rattle.tape_writer.specs.Refusals.{IsNewFault};
 
 mod begin;
@@ -112,7 +112,7 @@ impl<T: TapeOut + Drop> SetWriter<T> {
         }) }
         // Nothing was told so far.
         ensures told { T.holds out (Ended []) → IfOk result (λ w. IsWriting (T.holds w.out) w []) }
-        ensures asked { IfOk result (λ w. WasAsked (T.asked w.out) w.volumes w.course.volume) }
+        ensures asked { IfOk result (λ w. HasAsked T.TapeOut w) }
     {
         if let Err(fault) = judge_set(&set_id, &volumes) {
             return Err(RefusedWriter { fault, out });
@@ -140,7 +140,7 @@ impl<T: TapeOut + Drop> SetWriter<T> {
           phase = Between;
         } }
         ensures told { T.holds out (Ended []) → IsWriting (T.holds result.out) result [] }
-        ensures asked { WasAsked (T.asked result.out) result.volumes result.course.volume }
+        ensures asked { HasAsked T.TapeOut result }
     {
         tell_all_widths(&volumes);
         SetWriter {

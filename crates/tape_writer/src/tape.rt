@@ -6,7 +6,7 @@ ghost use Rattle.tape_image.specs.Tape.{IsTapeItem, block as block_item, mark as
 ghost use Rattle.tape_set.specs.Sizes.{item_size};
 ghost use Rattle.tape_writer.specs.Tapes.{Takes, Closes, Keeps, Grows};
 ghost use Rattle.tape_label.specs.declared.values.Vol1.{Vol1};
-ghost use Rattle.tape_writer.specs.Lasting.{Lasting};
+ghost use Rattle.tape_writer.specs.Lasting.{TapeLasts};
 ghost use Rattle.tape_writer.specs.Draft.{added_course};
 ghost use Rattle.tape_writer.specs.Faults.{FailsWith, IsOfOut};
 
@@ -32,9 +32,7 @@ impl<T: TapeOut> Tape<T> {
         ensures course { OnOk result (self.new.course ≡ record self.old.course {
           used = self.old.course.used + item_size (block_item bytes.now);
         }) }
-        ensures lasting { Lasting
-            (T.holds self.old.out) (T.failures self.old.out) self.old.course.used
-            (T.holds self.new.out) (T.failures self.new.out) self.new.course.used }
+        ensures lasting { TapeLasts T.TapeOut self.old self.new }
         ensures cause { FailsWith (T.failures self.old.out) result (T.failures self.new.out) }
         ensures asked { (v : Vol1) → T.asked self.old.out v → T.asked self.new.out v }
         ensures out { IfErr result IsOfOut }
@@ -55,9 +53,7 @@ impl<T: TapeOut> Tape<T> {
         ensures err { Keeps (T.holds self.old.out) result (T.holds self.new.out) }
         ensures course { OnOk result (self.new.course
             ≡ record self.old.course { used = self.old.course.used + 4 }) }
-        ensures lasting { Lasting
-            (T.holds self.old.out) (T.failures self.old.out) self.old.course.used
-            (T.holds self.new.out) (T.failures self.new.out) self.new.course.used }
+        ensures lasting { TapeLasts T.TapeOut self.old self.new }
         ensures cause { FailsWith (T.failures self.old.out) result (T.failures self.new.out) }
         ensures asked { (v : Vol1) → T.asked self.old.out v → T.asked self.new.out v }
         ensures out { IfErr result IsOfOut }
@@ -80,9 +76,7 @@ impl<T: TapeOut> Tape<T> {
         ensures err { Keeps (T.holds self.old.out) result (T.holds self.new.out) }
         ensures course { OnOk result (self.new.course
             ≡ record self.old.course { used = self.old.course.used + 88 }) }
-        ensures lasting { Lasting
-            (T.holds self.old.out) (T.failures self.old.out) self.old.course.used
-            (T.holds self.new.out) (T.failures self.new.out) self.new.course.used }
+        ensures lasting { TapeLasts T.TapeOut self.old self.new }
         ensures cause { FailsWith (T.failures self.old.out) result (T.failures self.new.out) }
         ensures asked { (v : Vol1) → T.asked self.old.out v → T.asked self.new.out v }
         ensures out { IfErr result IsOfOut }
@@ -102,9 +96,7 @@ impl<T: TapeOut> Tape<T> {
         ensures err { Keeps (T.holds self.old.out) result (T.holds self.new.out) }
         ensures course { OnOk result (self.new.course
             ≡ added_course self.old.course (item_size (block_item bytes.now))) }
-        ensures lasting { Lasting
-            (T.holds self.old.out) (T.failures self.old.out) self.old.course.used
-            (T.holds self.new.out) (T.failures self.new.out) self.new.course.used }
+        ensures lasting { TapeLasts T.TapeOut self.old self.new }
         ensures cause { FailsWith (T.failures self.old.out) result (T.failures self.new.out) }
         ensures asked { (v : Vol1) → T.asked self.old.out v → T.asked self.new.out v }
         ensures out { IfErr result IsOfOut }
@@ -121,9 +113,7 @@ impl<T: TapeOut> Tape<T> {
         ensures err { Keeps (T.holds self.old.out) result (T.holds self.new.out) }
         ensures course { OnOk result (self.new.course
             ≡ record self.old.course { used = self.old.course.used + 4 }) }
-        ensures lasting { IfErr result (λ _. Lasting
-            (T.holds self.old.out) (T.failures self.old.out) self.old.course.used
-            (T.holds self.new.out) (T.failures self.new.out) self.new.course.used) }
+        ensures lasting { IfErr result (λ _. TapeLasts T.TapeOut self.old self.new) }
         ensures count { Grows (T.failures self.old.out) (T.failures self.new.out) }
         ensures cause { FailsWith (T.failures self.old.out) result (T.failures self.new.out) }
         ensures asked { (v : Vol1) → T.asked self.old.out v → T.asked self.new.out v }

@@ -5,7 +5,7 @@ ghost use Rattle.tape_image.specs.Begins.{image_limit};
 ghost use Rattle.tape_image.specs.Tape.{TapeItem, block as block_item, mark as mark_item};
 ghost use Rattle.tape_writer.specs.Tapes.{Tapes, UnderWay, Changes, Keeps, all_volumes};
 ghost use Rattle.tape_writer.specs.Front.{HoldsFront};
-ghost use Rattle.tape_writer.specs.Lasting.{Lasting};
+ghost use Rattle.tape_writer.specs.Lasting.{TapeLasts};
 ghost use Rattle.tape_writer.specs.Faults.{FailsWith, IsOfOut};
 ghost use Rattle.tape_writer.specs.Labels.{IsReady, header_items, trailer_items};
 ghost use Rattle.tape_writer.specs.Labels.{volume_label as volume_text};
@@ -26,9 +26,7 @@ impl<T: TapeOut> Tape<T> {
         ensures err { Keeps (T.holds self.old.out) result (T.holds self.new.out) }
         ensures course { OnOk result (self.new.course
             ≡ record self.old.course { volume = self.old.course.volume + 1; used = 0 }) }
-        ensures lasting { Lasting
-            (T.holds self.old.out) (T.failures self.old.out) self.old.course.used
-            (T.holds self.new.out) (T.failures self.new.out) self.new.course.used }
+        ensures lasting { TapeLasts T.TapeOut self.old self.new }
         ensures cause { FailsWith (T.failures self.old.out) result (T.failures self.new.out) }
         ensures asked { OnOk result (T.asked self.new.out volume.now) }
         ensures out { IfErr result IsOfOut }
@@ -54,9 +52,7 @@ impl<T: TapeOut> Tape<T> {
             (UnderWay (all_volumes tapes) (block_item (volume_text volume.now) ∷ [])) }
         ensures course { OnOk result (self.new.course
             ≡ record self.old.course { volume = self.old.course.volume + 1; used = 88 }) }
-        ensures lasting { Lasting
-            (T.holds self.old.out) (T.failures self.old.out) self.old.course.used
-            (T.holds self.new.out) (T.failures self.new.out) self.new.course.used }
+        ensures lasting { TapeLasts T.TapeOut self.old self.new }
         ensures cause { FailsWith (T.failures self.old.out) result (T.failures self.new.out) }
         ensures asked { OnOk result (T.asked self.new.out volume.now) }
         ensures out { IfErr result IsOfOut }
@@ -90,9 +86,7 @@ impl<T: TapeOut> Tape<T> {
             (block_item (volume_text volume.now)
             ∷ header_items file.now (self.old.course.sect + 1))) }
         ensures course { OnOk result (self.new.course ≡ changed_course self.old.course) }
-        ensures lasting { Lasting
-            (T.holds self.old.out) (T.failures self.old.out) self.old.course.used
-            (T.holds self.new.out) (T.failures self.new.out) self.new.course.used }
+        ensures lasting { TapeLasts T.TapeOut self.old self.new }
         ensures cause { FailsWith (T.failures self.old.out) result (T.failures self.new.out) }
         ensures asked { OnOk result (T.asked self.new.out volume.now) }
         ensures out { IfErr result IsOfOut }

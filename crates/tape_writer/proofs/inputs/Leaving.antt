@@ -22,13 +22,13 @@ use Rattle.tape_writer.proofs.Lists.{all_weaken}
 use Rattle.tape_writer.proofs.inputs.Refusing.{less_long}
 use Rattle.tape_writer.specs.Tapes.{Tapes}
 use Rattle.tape_writer.specs.Faults.{IsEnding}
-use Rattle.tape_writer.specs.Told.{Told, with_record}
+use Rattle.tape_writer.specs.Told.{Told, with_record, with_file}
 use Rattle.tape_writer.specs.State.{SetState, IsWriting, IfFiling, Leaves}
 use Rattle.tape_writer.specs.Refusals.{IsInFile, IsBeginFault, IsFinishFault}
 use Rattle.tape_writer.specs.Front.{IsInLast, IsLeftInside, IsLeftBehind}
 use Rattle.tape_writer.specs.declared.inputs.cut.Cut.{Cut}
 use Rattle.tape_writer.specs.Records.{to_come, records_of, given, IsFirstLong}
-use Rattle.tape_writer.specs.ToldFiles.{with_records, with_file, told_files}
+use Rattle.tape_writer.specs.ToldFiles.{with_records, told_files}
 use Rattle.tape_writer.specs.LeftOf.{IsLeftOf, IsLeftIn, IsLeftOfAll, IsLeftUnbegun}
 use Rattle.tape_writer.proofs.Standing.{inside_writing, all_writing, behind_writing}
 use Rattle.tape_writer.proofs.inputs.Putting.{Put, PutWithin, known_one, known_then}

@@ -13,11 +13,11 @@ use Rattle.tape_writer.specs.declared.fault.WriteFault.TheVariants.{Device}
 use Rattle.tape_writer.specs.declared.fault.SetFault.{SetFault}
 use Rattle.tape_writer.specs.declared.fault.SetFault.TheVariants.{Write}
 use Rattle.tape_writer.specs.Tapes.{Tapes, Failures, Grows, Rose}
-use Rattle.tape_writer.specs.Told.{Told, with_record}
+use Rattle.tape_writer.specs.Told.{Told, with_record, with_file}
 use Rattle.tape_writer.specs.State.{SetState, IsOutOfVolumes}
 use Rattle.tape_writer.specs.declared.inputs.cut.Cut.{Cut}
 use Rattle.tape_writer.specs.Records.{to_come, records_of, given}
-use Rattle.tape_writer.specs.ToldFiles.{with_records, with_file, told_files}
+use Rattle.tape_writer.specs.ToldFiles.{with_records, told_files}
 use Rattle.tape_writer.specs.NoVolume.{GaveUp, GaveUpIn}
 use Rattle.tape_writer.proofs.Last.{rose_from}
 use Rattle.tape_writer.proofs.inputs.Putting.{Put, known_one, known_then, with_records-one}

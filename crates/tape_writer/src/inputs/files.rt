@@ -5,13 +5,13 @@ ghost use Rattle.tape_image.specs.Reader.{IfKnown};
 ghost use Rattle.tape_blocks.specs.Packing.{IsWritable};
 ghost use Rattle.tape_set.specs.Tight.{least_capacity};
 ghost use Rattle.tape_writer.specs.Tapes.{Grows, Rose};
-ghost use Rattle.tape_writer.specs.Told.{Told, opened_by};
-ghost use Rattle.tape_writer.specs.State.{IsWriting};
+ghost use Rattle.tape_writer.specs.Told.{Told, opened_by, with_file};
+ghost use Rattle.tape_writer.specs.State.{IsWriting, SameSet};
 ghost use Rattle.tape_writer.specs.Refusals.{IsInFile};
 ghost use Rattle.tape_writer.specs.declared.course.Opened.{Opened};
 ghost use Rattle.tape_writer.specs.declared.phase.Phase.TheVariants.{Between};
 ghost use Rattle.tape_writer.specs.Records.{records_of, to_come, left_of, longest as longest_of};
-ghost use Rattle.tape_writer.specs.ToldFiles.{with_records, with_file, told_files, IfAllKnown};
+ghost use Rattle.tape_writer.specs.ToldFiles.{with_records, told_files, IfAllKnown};
 ghost use Rattle.tape_writer.specs.NoVolume.{GaveUp, GaveUpIn};
 ghost use Rattle.tape_writer.specs.LeftOf.{IsLeftOf, IsLeftIn, IsLeftUnbegun};
 ghost use Rattle.tape_writer.specs.WriteFaults.{OneIsOther, IsInputFault, IsFileFault};
@@ -50,8 +50,7 @@ pub fn write_files<T: TapeOut + Drop, R: Read>(
     shape: Shape,
     cut: Cut,
 ) -> Result<(), SetFault>
-    ensures same { (writer.new.volumes ≡ writer.old.volumes)
-        × (writer.new.capacity ≡ writer.old.capacity) × (writer.new.set_id ≡ writer.old.set_id) }
+    ensures same { SameSet writer.old writer.new }
     ensures told { (told : List Told) → IsWriting (T.holds writer.old.out) writer.old told
         → OnOk result (IfAllKnown (map (λ f. (f.head, R.remaining f.reader)) files.old) (λ fs.
         IsWriting (T.holds writer.new.out) writer.new
@@ -100,8 +99,7 @@ fn write_file<T: TapeOut + Drop, R: Read>(
     input: &mut R,
     cut: Cut,
 ) -> Result<(), SetFault>
-    ensures same { (writer.new.volumes ≡ writer.old.volumes)
-        × (writer.new.capacity ≡ writer.old.capacity) × (writer.new.set_id ≡ writer.old.set_id) }
+    ensures same { SameSet writer.old writer.new }
     ensures told { (told : List Told) → IsWriting (T.holds writer.old.out) writer.old told
         → OnOk result (IfSome (R.remaining input.old) (λ bytes.
         IsWriting (T.holds writer.new.out) writer.new (told ++ record {
@@ -148,8 +146,7 @@ fn put_records<T: TapeOut + Drop, R: Read + Drop>(
     writer: &mut SetWriter<T>,
     records: &mut Records<R>,
 ) -> Result<(), SetFault>
-    ensures same { (writer.new.volumes ≡ writer.old.volumes)
-        × (writer.new.capacity ≡ writer.old.capacity) × (writer.new.set_id ≡ writer.old.set_id) }
+    ensures same { SameSet writer.old writer.new }
     ensures told { (told : List Told) → IsWriting (T.holds writer.old.out) writer.old told
         → OnOk result (IfKnown (left_of R.remaining records.old) (left_of R.remaining records.new)
         (λ xs ys. IsWriting (T.holds writer.new.out) writer.new

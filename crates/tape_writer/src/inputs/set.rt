@@ -8,7 +8,7 @@ ghost use Rattle.tape_writer.specs.Fields.{IsText, IsTextVolume, IsTextHead};
 ghost use Rattle.tape_writer.specs.Images.{Holds, HasStopped};
 ghost use Rattle.tape_writer.specs.Tapes.{Rose};
 ghost use Rattle.tape_writer.specs.Told.{Told};
-ghost use Rattle.tape_writer.specs.State.{IsWriting};
+ghost use Rattle.tape_writer.specs.State.{IsWriting, SameSet};
 ghost use Rattle.tape_writer.specs.declared.phase.Phase.TheVariants.{Between, Finished};
 ghost use Rattle.tape_writer.specs.ToldFiles.{IfAllKnown, told_files};
 ghost use Rattle.tape_writer.specs.NoVolume.{GaveUpIn, HasNoVolume};
@@ -208,8 +208,7 @@ fn write_whole<T: TapeOut + Drop, R: Read>(
     shape: Shape,
     cut: Cut,
 ) -> Result<(), SetFault>
-    ensures same { (writer.new.volumes ≡ writer.old.volumes)
-        × (writer.new.capacity ≡ writer.old.capacity) × (writer.new.set_id ≡ writer.old.set_id) }
+    ensures same { SameSet writer.old writer.new }
     ensures told { (told : List Told) → IsWriting (T.holds writer.old.out) writer.old told
         → OnOk result (IfAllKnown (map (λ f. (f.head, R.remaining f.reader)) files.old) (λ fs.
         IsWriting (T.holds writer.new.out) writer.new

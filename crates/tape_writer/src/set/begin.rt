@@ -1,16 +1,17 @@
 //! Files begun.
 
-ghost use Rattle.std.specs.Prelude.{◌≡◌, ◌≢◌, ◌<◌, ◌≤◌, ◌+◌, ◌++◌, ◌∷◌, [], List, length, OnOk};
+ghost use Rattle.std.specs.Prelude.{◌≡◌, ◌≢◌, ◌<◌, ◌≤◌, ◌+◌, [], List, length, OnOk};
 ghost use Rattle.std.specs.Prelude.{◌⊎◌, IfErr, Err, false};
 ghost use Rattle.tape_blocks.specs.Packing.{IsWritable};
 ghost use Rattle.tape_set.specs.Tight.{least_capacity};
 ghost use Rattle.tape_writer.specs.Fields.{IsTextHead};
-ghost use Rattle.tape_writer.specs.Tapes.{Rose, WasAsked};
-ghost use Rattle.tape_writer.specs.Lasting.{Lasting};
+ghost use Rattle.tape_writer.specs.Tapes.{Rose};
+ghost use Rattle.tape_writer.specs.Lasting.{TapeLasts};
 ghost use Rattle.tape_writer.specs.Faults.{FailsByDevice, IsEnding, IsOfOut};
 ghost use Rattle.tape_writer.specs.Front.{IsLeftBehind, IsLeftInside};
-ghost use Rattle.tape_writer.specs.Told.{Told, opened_by};
-ghost use Rattle.tape_writer.specs.State.{IsWriting, Leaves, Refuses, IfFiling};
+ghost use Rattle.tape_writer.specs.Told.{Told, opened_by, with_file};
+ghost use Rattle.tape_writer.specs.State.{IsWriting, Leaves, Refuses, IfFiling, tape_of, HasAsked};
+ghost use Rattle.tape_writer.specs.State.{SameSet};
 ghost use Rattle.tape_writer.specs.Refusals.{IsBeginFault, IsInFile};
 ghost use Rattle.tape_writer.specs.declared.phase.Phase.TheVariants.{Between, Failed, Finished};
 
@@ -44,8 +45,7 @@ impl<T: TapeOut + Drop> SetWriter<T> {
     /// come, `OutOfMemory` and `Device`.
     #[tactic(auto, using(crate::proofs::Last::lasting_self, crate::proofs::Calls::leaves_failed))]
     pub fn begin_file(&mut self, head: Head1, shape: Shape) -> Result<(), WriteFault>
-        ensures same { (self.new.volumes ≡ self.old.volumes)
-            × (self.new.capacity ≡ self.old.capacity) × (self.new.set_id ≡ self.old.set_id) }
+        ensures same { SameSet self.old self.new }
         ensures failed { self.old.phase ≡ Failed
             → Refuses self.old result self.new WriteFault.Failed }
         ensures finished { self.old.phase ≡ Finished
@@ -75,25 +75,17 @@ impl<T: TapeOut + Drop> SetWriter<T> {
         ensures files { OnOk result (length self.new.files ≡ length self.old.files + 1) }
         // One file more was told, without a record.
         ensures told { (told : List Told) → IsWriting (T.holds self.old.out) self.old told
-            → OnOk result (IsWriting (T.holds self.new.out) self.new (told ++ record {
-              file = opened_by self.old.set_id (length told + 1) head shape;
-              records = [];
-            } ∷ [])) }
+            → OnOk result (IsWriting (T.holds self.new.out) self.new
+            (with_file self.old.set_id told head shape)) }
         // Whatever fault ends the writer: the tapes hold a front of what is written up to the end
         // of the files told, or of this file's beginning.
         ensures front { (told : List Told) → IsWriting (T.holds self.old.out) self.old told
             → IfErr result (λ fault. IsEnding fault
             → IsLeftBehind (T.holds self.new.out) self.new told
-            ⊎ IsLeftInside (T.holds self.new.out) self.new (told ++ record {
-              file = opened_by self.old.set_id (length told + 1) head shape;
-              records = [];
-            } ∷ [])) }
-        ensures lasting { Lasting
-            (T.holds self.old.out) (T.failures self.old.out) self.old.course.used
-            (T.holds self.new.out) (T.failures self.new.out) self.new.course.used }
-        ensures asked { WasAsked (T.asked self.old.out) self.old.volumes self.old.course.volume
-            → OnOk result (WasAsked (T.asked self.new.out) self.new.volumes
-            self.new.course.volume) }
+            ⊎ IsLeftInside (T.holds self.new.out) self.new
+            (with_file self.old.set_id told head shape)) }
+        ensures lasting { TapeLasts T.TapeOut (tape_of self.old) (tape_of self.new) }
+        ensures asked { HasAsked T.TapeOut self.old → OnOk result (HasAsked T.TapeOut self.new) }
         ensures leaves { IfErr result (Leaves self.old self.new) }
         ensures cause { FailsByDevice (T.failures self.old.out) result (T.failures self.new.out) }
         // Memory of its own is taken before anything is written.
@@ -181,30 +173,21 @@ impl<T: TapeOut + Drop> SetWriter<T> {
         requires few { length self.old.files < 9999 }
         requires packer { packer
             ≡ record { shape = shape; parts = []; begun = false; closed = false } }
-        ensures same { (self.new.volumes ≡ self.old.volumes)
-            × (self.new.capacity ≡ self.old.capacity) × (self.new.set_id ≡ self.old.set_id) }
+        ensures same { SameSet self.old self.new }
         ensures out { IfErr result IsOfOut }
         ensures opened { OnOk result (IsInFile
             (opened_by self.old.set_id (length self.old.files + 1) head shape) self.new.phase) }
         ensures files { OnOk result (length self.new.files ≡ length self.old.files + 1) }
         ensures told { (told : List Told) → IsWriting (T.holds self.old.out) self.old told
-            → OnOk result (IsWriting (T.holds self.new.out) self.new (told ++ record {
-              file = opened_by self.old.set_id (length told + 1) head shape;
-              records = [];
-            } ∷ [])) }
+            → OnOk result (IsWriting (T.holds self.new.out) self.new
+            (with_file self.old.set_id told head shape)) }
         ensures front { (told : List Told) → IsWriting (T.holds self.old.out) self.old told
             → IfErr result (λ fault. IsEnding fault
             → IsLeftBehind (T.holds self.new.out) self.new told
-            ⊎ IsLeftInside (T.holds self.new.out) self.new (told ++ record {
-              file = opened_by self.old.set_id (length told + 1) head shape;
-              records = [];
-            } ∷ [])) }
-        ensures lasting { Lasting
-            (T.holds self.old.out) (T.failures self.old.out) self.old.course.used
-            (T.holds self.new.out) (T.failures self.new.out) self.new.course.used }
-        ensures asked { WasAsked (T.asked self.old.out) self.old.volumes self.old.course.volume
-            → OnOk result (WasAsked (T.asked self.new.out) self.new.volumes
-            self.new.course.volume) }
+            ⊎ IsLeftInside (T.holds self.new.out) self.new
+            (with_file self.old.set_id told head shape)) }
+        ensures lasting { TapeLasts T.TapeOut (tape_of self.old) (tape_of self.new) }
+        ensures asked { HasAsked T.TapeOut self.old → OnOk result (HasAsked T.TapeOut self.new) }
         ensures leaves { IfErr result (Leaves self.old self.new) }
         ensures cause { FailsByDevice (T.failures self.old.out) result (T.failures self.new.out) }
         // Memory of its own is taken before anything is written.

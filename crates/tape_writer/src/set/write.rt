@@ -2,13 +2,13 @@
 
 ghost use Rattle.std.specs.Prelude.{◌≡◌, ◌⊎◌, ◌<◌, ◌+◌, ◌++◌, ◌∷◌, [], List, OnOk, IfErr};
 ghost use Rattle.tape_image.specs.Tape.{TapeItem, mark as mark_item};
-ghost use Rattle.tape_writer.specs.Tapes.{Ended, UnderWay, WasAsked};
+ghost use Rattle.tape_writer.specs.Tapes.{Ended, UnderWay};
 ghost use Rattle.tape_writer.specs.Front.{IsLeftInside, IsLeftBehind, IsLeftWhole};
-ghost use Rattle.tape_writer.specs.Lasting.{Lasting};
+ghost use Rattle.tape_writer.specs.Lasting.{TapeLasts};
 ghost use Rattle.tape_writer.specs.Faults.{FailsWith, IsEnding};
 ghost use Rattle.tape_writer.specs.Told.{Told, with_record};
-ghost use Rattle.tape_writer.specs.State.{IsWriting, Leaves, Refuses, IfFiling, HasLength};
-ghost use Rattle.tape_writer.specs.State.{IsOutOfVolumes};
+ghost use Rattle.tape_writer.specs.State.{IsWriting, Leaves, Refuses, IfFiling, HasLength, tape_of};
+ghost use Rattle.tape_writer.specs.State.{IsOutOfVolumes, HasAsked, SameSet};
 ghost use Rattle.tape_writer.specs.Room.{room_left};
 ghost use Rattle.tape_writer.specs.Refusals.{IsPutFault, IsFinishFault, IsInFile};
 ghost use Rattle.tape_writer.specs.declared.course.Opened.{Opened};
@@ -32,8 +32,7 @@ impl<T: TapeOut + Drop> SetWriter<T> {
     /// `OutOfVolumes`, where a change is due and no volume is left, `Device` and `OutOfMemory`.
     #[tactic(auto, using(crate::proofs::Last::lasting_self, crate::proofs::Calls::leaves_failed))]
     pub fn put(&mut self, bytes: &[u8]) -> Result<(), WriteFault>
-        ensures same { (self.new.volumes ≡ self.old.volumes)
-            × (self.new.capacity ≡ self.old.capacity) × (self.new.set_id ≡ self.old.set_id) }
+        ensures same { SameSet self.old self.new }
         ensures failed { self.old.phase ≡ Failed
             → Refuses self.old result self.new WriteFault.Failed }
         ensures finished { self.old.phase ≡ Finished
@@ -62,12 +61,8 @@ impl<T: TapeOut + Drop> SetWriter<T> {
             → IfErr result (λ fault. IsEnding fault
             → IsLeftInside (T.holds self.new.out) self.new (with_record told bytes.now)) }
         // Whatever the call answers.
-        ensures lasting { Lasting
-            (T.holds self.old.out) (T.failures self.old.out) self.old.course.used
-            (T.holds self.new.out) (T.failures self.new.out) self.new.course.used }
-        ensures asked { WasAsked (T.asked self.old.out) self.old.volumes self.old.course.volume
-            → OnOk result (WasAsked (T.asked self.new.out) self.new.volumes
-            self.new.course.volume) }
+        ensures lasting { TapeLasts T.TapeOut (tape_of self.old) (tape_of self.new) }
+        ensures asked { HasAsked T.TapeOut self.old → OnOk result (HasAsked T.TapeOut self.new) }
         ensures leaves { IfErr result (Leaves self.old self.new) }
         ensures cause { FailsWith (T.failures self.old.out) result (T.failures self.new.out) }
     {
@@ -105,8 +100,7 @@ impl<T: TapeOut + Drop> SetWriter<T> {
     /// `OutOfMemory`.
     #[tactic(auto, using(crate::proofs::Last::lasting_self, crate::proofs::Calls::leaves_failed))]
     pub fn end_file(&mut self) -> Result<(), WriteFault>
-        ensures same { (self.new.volumes ≡ self.old.volumes)
-            × (self.new.capacity ≡ self.old.capacity) × (self.new.set_id ≡ self.old.set_id) }
+        ensures same { SameSet self.old self.new }
         ensures failed { self.old.phase ≡ Failed
             → Refuses self.old result self.new WriteFault.Failed }
         ensures finished { self.old.phase ≡ Finished
@@ -126,12 +120,8 @@ impl<T: TapeOut + Drop> SetWriter<T> {
             → IfErr result (λ fault. IsEnding fault
             → IsLeftInside (T.holds self.new.out) self.new told
             ⊎ IsLeftBehind (T.holds self.new.out) self.new told) }
-        ensures lasting { Lasting
-            (T.holds self.old.out) (T.failures self.old.out) self.old.course.used
-            (T.holds self.new.out) (T.failures self.new.out) self.new.course.used }
-        ensures asked { WasAsked (T.asked self.old.out) self.old.volumes self.old.course.volume
-            → OnOk result (WasAsked (T.asked self.new.out) self.new.volumes
-            self.new.course.volume) }
+        ensures lasting { TapeLasts T.TapeOut (tape_of self.old) (tape_of self.new) }
+        ensures asked { HasAsked T.TapeOut self.old → OnOk result (HasAsked T.TapeOut self.new) }
         ensures leaves { IfErr result (Leaves self.old self.new) }
         ensures cause { FailsWith (T.failures self.old.out) result (T.failures self.new.out) }
     {
@@ -167,8 +157,7 @@ impl<T: TapeOut + Drop> SetWriter<T> {
     /// is as it was; then `Device` and `OutOfMemory`, as they come.
     #[tactic(auto, using(crate::proofs::Last::lasting_self, crate::proofs::Calls::leaves_failed))]
     pub fn finish(&mut self) -> Result<(), WriteFault>
-        ensures same { (self.new.volumes ≡ self.old.volumes)
-            × (self.new.capacity ≡ self.old.capacity) × (self.new.set_id ≡ self.old.set_id) }
+        ensures same { SameSet self.old self.new }
         ensures failed { self.old.phase ≡ Failed
             → Refuses self.old result self.new WriteFault.Failed }
         ensures finished { self.old.phase ≡ Finished
@@ -193,12 +182,9 @@ impl<T: TapeOut + Drop> SetWriter<T> {
         ensures front { (told : List Told) → IsWriting (T.holds self.old.out) self.old told
             → IfErr result (λ fault. IsEnding fault
             → IsLeftWhole (T.holds self.new.out) self.new told) }
-        ensures lasting { IfErr result (λ _. Lasting
-            (T.holds self.old.out) (T.failures self.old.out) self.old.course.used
-            (T.holds self.new.out) (T.failures self.new.out) self.new.course.used) }
-        ensures asked { WasAsked (T.asked self.old.out) self.old.volumes self.old.course.volume
-            → OnOk result (WasAsked (T.asked self.new.out) self.new.volumes
-            self.new.course.volume) }
+        ensures lasting { IfErr result (λ _. TapeLasts T.TapeOut (tape_of self.old)
+            (tape_of self.new)) }
+        ensures asked { HasAsked T.TapeOut self.old → OnOk result (HasAsked T.TapeOut self.new) }
         ensures leaves { IfErr result (Leaves self.old self.new) }
         ensures cause { FailsWith (T.failures self.old.out) result (T.failures self.new.out) }
     {
