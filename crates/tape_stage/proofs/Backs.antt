@@ -9,7 +9,7 @@ use Rattle.tape_core.proofs.Crashes.{only_same}
 use Rattle.tape_stage.specs.Moments.{Passes}
 use Rattle.tape_stage.specs.Staged.{Staged, StagedIn, IsEither, Ready}
 use Rattle.tape_stage.specs.Stages.{IsStage, Returns, Survives, Returned, Survived}
-use Rattle.tape_stage.specs.Stages.{HasRefused, crashes_of}
+use Rattle.tape_stage.specs.Stages.{HasRefused, PassesOver, PassesTo, crashes_of}
 use Rattle.tape_core.specs.Point.{Point}
 use Rattle.tape_stage.specs.declared.stage.Stage.{Stage}
 use Rattle.tape_stage.specs.declared.stage.StageFault.{StageFault}
@@ -155,7 +155,7 @@ module _ {D : Type 0} {disk : Ghosts D} where
 
   -- of each file that was left on the way it is known what it stands for
   pub adds_passed : (old : Stage D disk) (new : D) (these : crash.Returns) (P : List ℕ → Type 0)
-      → Passes disk.may_leave disk.moment disk.left_since old.disk new P
+      → Passes disk old.disk new P
       → ((bytes : List ℕ) (g : ℕ) (back : Point) (there : List Portion) → P bytes
       → Staged bytes g back there → Returns old back there ⊎ these back there)
       → (Survives old → (bytes : List ℕ) → P bytes → (g : ℕ) × (point : Point)
@@ -199,9 +199,7 @@ module _ {D : Type 0} {disk : Ghosts D} where
   -- a call that leaves what is acknowledged
   pub adds_nothing : (old new : Stage D disk) (acked parts : List Portion)
       → disk.may_leave old.disk (disk.seen old.disk) → IsStage old acked parts
-      → Passes disk.may_leave disk.moment disk.left_since old.disk new.disk
-      (StagedIn old.in_second old.generation old.acknowledged acked)
-      → AddsNothing (crashes_of old) (crashes_of new)
+      → PassesOver old acked new → AddsNothing (crashes_of old) (crashes_of new)
   adds_nothing old new acked parts now is passes =
       adds_passed old new.disk (λ back there. ⊥) _ passes
       (λ bytes g back there was staged.
@@ -212,8 +210,7 @@ module _ {D : Type 0} {disk : Ghosts D} where
   -- or makes these acknowledged
   pub adds_this : (old new : Stage D disk) (acked parts front : List Portion) (next : Point)
       → disk.may_leave old.disk (disk.seen old.disk) → IsStage old acked parts
-      → Passes disk.may_leave disk.moment disk.left_since old.disk new.disk
-      (IsEither old.in_second old.generation old.acknowledged next acked front)
+      → PassesTo old acked next front new
       → AddsOnly (IsThis next front) (crashes_of old) (crashes_of new)
   adds_this old new acked parts front next now is passes =
       adds_passed old new.disk (IsThis next front) _ passes
@@ -224,7 +221,7 @@ module _ {D : Type 0} {disk : Ghosts D} where
 
   -- or only reads
   pub adds_read : (old : Stage D disk) (new : D)
-      → Passes disk.may_leave disk.moment disk.left_since old.disk new (disk.may_leave old.disk)
+      → Passes disk old.disk new (disk.may_leave old.disk)
       → AddsNothing (crashes_of old) (crashes_on disk new)
   adds_read old new passes = adds_passed old new (λ back there. ⊥) _ passes
       (λ bytes g back there left staged. inl (bytes, left, (g, staged)))

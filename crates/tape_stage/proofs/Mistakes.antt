@@ -36,14 +36,14 @@ use Rattle.tape_stage.proofs.stage.Stage.save.Reads as save
 save_forgets_that_it_failed : (D : _) (L : _) (g : _) (d : _) (κs : _) (a : _) (s : _)
     → save.Learnt-named D L g d κs a (Err Device) s → s.0.now.failed ≡ false → ⊥
 save_forgets_that_it_failed D L g d κs a s l w =
-    let e : false ≡ true = sym w ∙ l.refused.1 in
+    let e : false ≡ true = sym w ∙ l.ends.refused.1 in
     absurd (cc)
 
 -- put_forgets_that_it_failed: the disk failed in a put, and the stage goes on
 put_forgets_that_it_failed : (D : _) (L : _) (g : _) (d : _) (κs : _) (a : _) (s : _)
     → put_part.Learnt-named D L g d κs a (Err Device) s → s.0.now.failed ≡ false → ⊥
 put_forgets_that_it_failed D L g d κs a s l w =
-    let e : false ≡ true = sym w ∙ l.refused.1 in
+    let e : false ≡ true = sym w ∙ l.ends.refused.1 in
     absurd (cc)
 
 -- full_after_the_write: a stage that is full wrote a frame of 85 bytes before it said so
@@ -52,7 +52,7 @@ full_after_the_write : (D : _) (L : _) (g : _) (d : _) (κs : _) (a : _) (s : _)
     → g.length_of s.0.now.disk ≡ g.length_of a.0.now.disk + 85 → ⊥
 full_after_the_write D L g d κs a s l w =
     let e : g.length_of s.0.now.disk ≡ g.length_of a.0.now.disk
-    = ap (λ t. g.length_of t.disk) l.refused in
+    = ap (λ t. g.length_of t.disk) l.ends.refused in
     absurd (omega arith)
 
 -- cut_at_once_below_the_saved_weight: 170 are acknowledged, and the stage is cut to 85 at once, so
@@ -154,15 +154,17 @@ cut_at_opening_before_a_sync D L g d κs a found s c slot l honest left read los
 filled_before_the_frames_are_synced : (D : _) (L : _) (g : _) (d : _) (κs : _) (a : _) (s : _)
     (c : List ℕ) → close_gate.Learnt-named D L g d κs a (Ok tt) s → g.is_honest a.0.now
     → g.may_leave s.0.now c → length (g.seen s.0.now) ≡ 341 → length c ≡ 256 → ⊥
-filled_before_the_frames_are_synced D L g d κs a s c l honest left read lost = absurd
-    (let n : 256 ≡ 341 = sym lost ∙ ap length (l.durable honest c left) ∙ read in omega arith)
+filled_before_the_frames_are_synced D L g d κs a s c l honest left read lost =
+    let e : c ≡ g.seen s.0.now = l.synced.durable honest c left in
+    absurd (let n : 256 ≡ 341 = sym lost ∙ ap length e ∙ read in omega arith)
 
 -- acknowledged_before_the_last_sync: the gate is open, and a crash leaves it closed
 acknowledged_before_the_last_sync : (D : _) (L : _) (g : _) (d : _) (κs : _) (a : _) (s : _)
     (c : List ℕ) → open_gate.Learnt-named D L g d κs a (Ok tt) s → g.is_honest a.0.now
     → g.may_leave s.0.now c → gate_at true (g.seen s.0.now) ≡ 79 → gate_at true c ≡ 67 → ⊥
-acknowledged_before_the_last_sync D L g d κs a s c l honest left read lost = absurd
-    (let n : 67 ≡ 79 = sym lost ∙ ap (gate_at true) (l.durable honest c left) ∙ read in omega arith)
+acknowledged_before_the_last_sync D L g d κs a s c l honest left read lost =
+    let e : c ≡ g.seen s.0.now = l.synced.durable honest c left in
+    absurd (let n : 67 ≡ 79 = sym lost ∙ ap (gate_at true) e ∙ read in omega arith)
 
 -- gate_before_sync: the second slot was filled with generation 2, and a crash leaves it as if it
 -- was never written
@@ -176,5 +178,5 @@ gate_before_sync D L g d κs a s c l honest left first two lost =
     = subst (λ b. body_at (not b) (g.seen s.0.now) ≡ body_text 2 next) first
     (subst (λ n. body_at (not a.1.0) (g.seen s.0.now) ≡ body_text n next) two (l.body honest)) in
     let e : blank ≡ body_text 2 next
-    = sym lost ∙ ap (body_at true) (l.durable honest c left) ∙ filled in
+    = sym lost ∙ ap (body_at true) (l.synced.durable honest c left) ∙ filled in
     absurd (let n : 48 ≡ 50 = ap (λ t. get_or t 14 0) e in omega arith)

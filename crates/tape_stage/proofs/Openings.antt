@@ -16,15 +16,15 @@ use Rattle.tape_stage.proofs.Refusals.{same_keeps, cut_keeps}
 -- it was looked at alone
 module _ {D : Type 0} (g : Ghosts D) (a b : D) (reads : OnlyReads g a b)
     (honest : g.is_honest a) where
-  pub look_untouched : Untouched g.seen g.may_leave g.moment g.left_since a b
+  pub look_untouched : Untouched g a b
   look_untouched = record { read = reads.same honest; crash = reads.any_moment honest }
 
   pub look_keeps : KeepsStaged (g.seen a) (g.seen b)
   look_keeps = same_keeps (g.seen a) (g.seen b) (reads.same honest)
 
   pub look_passes : (P : List ℕ → Type 0)
-      → Passes g.may_leave g.moment g.left_since a b (λ x. g.may_leave a x ⊎ P x)
-  look_passes P = weaken g.may_leave g.moment g.left_since a b (g.may_leave a)
+      → Passes g a b (λ x. g.may_leave a x ⊎ P x)
+  look_passes P = weaken g a b (g.may_leave a)
       (λ x. g.may_leave a x ⊎ P x) (λ x left. inl left) (reads.any_moment honest)
 
 -- and then cut behind the weight that was found
@@ -42,15 +42,15 @@ module _ {D : Type 0} (g : Ghosts D) (a b c : D) (reads : OnlyReads g a b)
       ∙ ap (λ (k : ℕ). take (256 + k) (g.seen a)) told
 
   module _ (parts : List Portion) (holding : Holding found.point.staged parts (g.seen a)) where
-    pub cut_passes : Passes g.may_leave g.moment g.left_since b c
+    pub cut_passes : Passes g b c
         (λ x. take (256 + n) x ≡ take (256 + n) (g.seen b))
-        → Passes g.may_leave g.moment g.left_since a c
+        → Passes g a c
         (λ x. g.may_leave a x ⊎ StandsLike (g.seen a) x)
     cut_passes cut =
         let P : List ℕ → Type 0 = λ x. g.may_leave a x ⊎ StandsLike (g.seen a) x in
-        follow g.may_leave g.moment g.left_since a b c P
+        follow g a b c P
         (look_passes g a b reads honest (StandsLike (g.seen a)))
-        (weaken g.may_leave g.moment g.left_since b c
+        (weaken g b c
         (λ x. take (256 + n) x ≡ take (256 + n) (g.seen b)) P
         (λ x alike. inr (stands_like found (g.seen a) x (256 + n) is
         (ap (λ (k : ℕ). 256 + k) told) (omega (arith, holding.long, told))
@@ -58,7 +58,7 @@ module _ {D : Type 0} (g : Ghosts D) (a b c : D) (reads : OnlyReads g a b)
 
     pub cut_opened : g.seen c ≡ take (256 + n) (g.seen b)
         → ((x : List ℕ) → g.may_leave c x → x ≡ g.seen c)
-        → IsOpened g.seen g.may_leave found a c
+        → IsOpened g found a c
     cut_opened cut only = record {
       parts = parts;
       read = found_read found parts (g.seen a) is holding;

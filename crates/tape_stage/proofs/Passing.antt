@@ -1,12 +1,12 @@
 -- One call after another.
 use Rattle.std.proofs.Common.{inl, inr, ⊎_elim, ℕ, List, arith}
-use Rattle.tape_stage.specs.Disk.{Elapses}
+use Rattle.tape_stage.specs.declared.disk.Disk.{Ghosts}
+use Rattle.tape_stage.specs.Disk.{IsLater}
 use Rattle.tape_stage.specs.Moments.{Passes}
 
-module _ {D : Type 0} (may_leave : D → List ℕ → Type 0) (moment : D → ℕ) (left_since : D → ℕ
-    → List ℕ → Type 0) where
+module _ {D : Type 0} (g : Ghosts D) where
   pub weaken : (old new : D) (P Q : List ℕ → Type 0) → ((c : List ℕ) → P c → Q c)
-      → Passes may_leave moment left_since old new P → Passes may_leave moment left_since old new Q
+      → Passes g old new P → Passes g old new Q
   weaken old new P Q also passes = record {
     later = passes.later;
     before = λ t c le was. ⊎_elim (λ here. inl here) (λ p. inr (also c p))
@@ -14,8 +14,7 @@ module _ {D : Type 0} (may_leave : D → List ℕ → Type 0) (moment : D → �
     now = λ c left. also c (passes.now c left);
   }
 
-  pub follow : (a b c : D) (P : List ℕ → Type 0) → Passes may_leave moment left_since a b P
-      → Passes may_leave moment left_since b c P → Passes may_leave moment left_since a c P
+  pub follow : (a b c : D) (P : List ℕ → Type 0) → Passes g a b P → Passes g b c P → Passes g a c P
   follow a b c P first second = record {
     later = omega (arith, first.later, second.later);
     before = λ t x le was. ⊎_elim (λ here. first.before t x le here) (λ p. inr p)
@@ -23,9 +22,8 @@ module _ {D : Type 0} (may_leave : D → List ℕ → Type 0) (moment : D → �
     now = second.now;
   }
 
-  pub stands : (a b : D) (P : List ℕ → Type 0) → Elapses (moment a) (moment b) (left_since a)
-      (left_since b) (may_leave b) → ((c : List ℕ) → may_leave b c → P c)
-      → Passes may_leave moment left_since a b P
+  pub stands : (a b : D) (P : List ℕ → Type 0) → IsLater g.moment g.left_since g.may_leave a b
+      → ((c : List ℕ) → g.may_leave b c → P c) → Passes g a b P
   stands a b P time now = record {
     later = time.later;
     before = λ t x le was. ⊎_elim (λ here. inl here) (λ left. inr (now x left))
@@ -33,6 +31,6 @@ module _ {D : Type 0} (may_leave : D → List ℕ → Type 0) (moment : D → �
     now = now;
   }
 
-  pub nothing : (a : D) (P : List ℕ → Type 0) → ((c : List ℕ) → may_leave a c → P c)
-      → Passes may_leave moment left_since a a P
+  pub nothing : (a : D) (P : List ℕ → Type 0) → ((c : List ℕ) → g.may_leave a c → P c)
+      → Passes g a a P
   nothing a P now = record { later = omega arith; before = λ t x le was. inl was; now = now }

@@ -6,10 +6,11 @@ use Rattle.std.proofs.lemmas.List.{take-take, length-take-le}
 use Rattle.tape_blocks.specs.Block.{Portion}
 use Rattle.tape_core.specs.Point.{Point}
 use Rattle.tape_stage.specs.Body.{Slot}
-use Rattle.tape_stage.specs.Disk.{CutShort, Elapses, NoMore}
+use Rattle.tape_stage.specs.Disk.{CutShort, IsLater, NoMore}
 use Rattle.tape_stage.specs.Found.{IsFound}
 use Rattle.tape_stage.specs.Moments.{Untouched}
 use Rattle.tape_stage.specs.Staged.{Staged, KeepsStaged}
+use Rattle.tape_stage.specs.declared.disk.Disk.{Ghosts}
 use Rattle.tape_stage.specs.declared.stage.Found.{Found}
 use Rattle.tape_stage.proofs.Finds.{best_of}
 use Rattle.tape_stage.proofs.Passing.{stands, weaken, follow}
@@ -22,26 +23,21 @@ pub on_each_err : {A B : Type 0} (r : Result A B) {P : Type 0} → P → OnErr r
 on_each_err (Ok x) p = tt
 on_each_err (Err e) p = p
 
-module _ {D : Type 0} (seen : D → List ℕ) (may_leave : D → List ℕ → Type 0) (moment : D → ℕ)
-    (left_since : D → ℕ → List ℕ → Type 0) where
+module _ {D : Type 0} (g : Ghosts D) where
   -- a call that only reads
-  pub untouched_by : (a b : D) → seen b ≡ seen a → NoMore (may_leave a) (may_leave b)
-      → Elapses (moment a) (moment b) (left_since a) (left_since b) (may_leave b)
-      → Untouched seen may_leave moment left_since a b
+  pub untouched_by : (a b : D) → g.seen b ≡ g.seen a → NoMore (g.may_leave a) (g.may_leave b)
+      → IsLater g.moment g.left_since g.may_leave a b → Untouched g a b
   untouched_by a b same no_more time = record {
     read = same;
-    crash = stands may_leave moment left_since a b (may_leave a) time no_more;
+    crash = stands g a b (g.may_leave a) time no_more;
   }
 
   -- and another one
-  pub untouched_then : (a b c : D) → Untouched seen may_leave moment left_since a b
-      → Untouched seen may_leave moment left_since b c
-      → Untouched seen may_leave moment left_since a c
+  pub untouched_then : (a b c : D) → Untouched g a b → Untouched g b c → Untouched g a c
   untouched_then a b c first second = record {
     read = second.read ∙ first.read;
-    crash = follow may_leave moment left_since a b c (may_leave a) first.crash
-        (weaken may_leave moment left_since b c (may_leave b) (may_leave a) first.crash.now
-        second.crash);
+    crash = follow g a b c (g.may_leave a) first.crash
+        (weaken g b c (g.may_leave b) (g.may_leave a) first.crash.now second.crash);
   }
 
 -- a cut that was done in full

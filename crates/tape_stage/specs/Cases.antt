@@ -2,7 +2,7 @@
 -- should, and none that is asked for asks more. The call `laws::cases` has them as its contract.
 use Rattle.std.specs.Prelude.{◌≡◌, ◌⊎◌, ◌≤◌, ◌+◌, ◌-◌, ◌==◌, ℕ, List, [], ◌∷◌, ◌++◌, take, drop}
 use Rattle.std.specs.Prelude.{length, min, replicate, codes, Some, None, Bool, true, false, not}
-use Rattle.std.specs.Prelude.{Option, Result, Ok}
+use Rattle.std.specs.Prelude.{Option, Result, Ok, Err}
 use Rattle.tape_blocks.specs.declared.parts.Span.{Span}
 use Rattle.tape_blocks.specs.declared.parts.Span.TheVariants.{Whole}
 use Rattle.tape_blocks.specs.declared.parts.Part.{Part}
@@ -13,6 +13,7 @@ use Rattle.tape_blocks.specs.Packing.{longest_block}
 use Rattle.tape_set.specs.declared.position.Position.TheVariants.{Awaits}
 use Rattle.tape_core.specs.Point.{Point}
 use Rattle.tape_core.specs.Stands.{weight_of}
+use Rattle.tape_core.specs.Weight.{Rose}
 use Rattle.tape_core.specs.declared.sink.SinkFault.{SinkFault}
 use Rattle.tape_core.specs.declared.sink.SinkFault.TheVariants as sink
 use Rattle.tape_stage.specs.declared.disk.content.Call.TheVariants.{Cut, Sync}
@@ -40,7 +41,7 @@ use Rattle.tape_stage.specs.Staged.{Staged, Holding, HoldsNone, StandsLike}
 use Rattle.tape_stage.specs.Staged.{KeepsStaged, KeepsFrames, Loses}
 use Rattle.tape_stage.specs.Staged.{WalkedTo, Ready, StagedIn, slot_at, best, gate_at, read_slot}
 use Rattle.tape_stage.specs.Stages.{Holds, IsAhead, IsStage, Returns, Survives, HasRefused}
-use Rattle.tape_stage.specs.Stages.{Returned, Survived, crashes_of}
+use Rattle.tape_stage.specs.Stages.{Ends, OpensOver, PassesTo, Returned, Survived, crashes_of}
 
 -- what a crash may leave of a write and of a cut
 pub record CasesOfCrashes : Type 0 where
@@ -102,19 +103,32 @@ pub record CasesOfCrashes : Type 0 where
   pub began_with : (d : MemoryDisk) → d.content.changed ≡ false
       → first_of d.content ≡ memory_bytes d
 
+-- a disk that is no more than its moment: what a crash may leave of it then, and what one may have
+-- left since an earlier moment
+abbrev pub disk_of : (ℕ → List ℕ → Type 0) → (ℕ → ℕ → List ℕ → Type 0) → Ghosts ℕ
+disk_of may_leave left_since = record {
+  is_honest = λ d. Unit {0};
+  length_of = λ d. 0;
+  seen = λ d. [];
+  may_leave = may_leave;
+  moment = λ d. d;
+  left_since = left_since;
+  faults = λ d. 0;
+}
+
 -- what a crash may have left at some moment
 pub record CasesOfMoments : Type 0 where
   -- a call during which a crash might have left the byte 7 does not pass as one behind which no
   -- byte is left,
-  pub not_in_between : Passes {D = ℕ} (λ d c. ⊥) (λ d. d) (λ d t c. (d ≡ 1) × (c ≡ 7 ∷ [])) 0 1
+  pub not_in_between : Passes (disk_of (λ d c. ⊥) (λ d t c. (d ≡ 1) × (c ≡ 7 ∷ []))) 0 1
       (λ c. c ≡ []) → ⊥
   -- nor one behind which a crash may leave it,
-  pub not_behind : Passes {D = ℕ} (λ d c. (d ≡ 1) × (c ≡ 7 ∷ [])) (λ d. d) (λ d t c. ⊥) 0 1
+  pub not_behind : Passes (disk_of (λ d c. (d ≡ 1) × (c ≡ 7 ∷ [])) (λ d t c. ⊥)) 0 1
       (λ c. c ≡ []) → ⊥
   -- nor one that goes back in time
-  pub not_backwards : Passes {D = ℕ} (λ d c. ⊥) (λ d. d) (λ d t c. ⊥) 1 0 (λ c. ⊥) → ⊥
+  pub not_backwards : Passes (disk_of (λ d c. ⊥) (λ d t c. ⊥)) 1 0 (λ c. ⊥) → ⊥
   -- but what might have been left before the call, it may have left
-  pub left_before : Passes {D = ℕ} (λ d c. ⊥) (λ d. d) (λ d t c. c ≡ 7 ∷ []) 0 1 (λ c. ⊥)
+  pub left_before : Passes (disk_of (λ d c. ⊥) (λ d t c. c ≡ 7 ∷ [])) 0 1 (λ c. ⊥)
   -- so it is where bytes are held: earlier what the disk behind left, now that with these torn in
   pub held_before : LeftSince (λ t c. c ≡ 5 ∷ []) (λ c. ⊥) 0 (7 ∷ []) 0 (5 ∷ [])
   pub held_now : LeftSince (λ t c. ⊥) (λ c. c ≡ []) 0 (7 ∷ []) 0 (7 ∷ [])
@@ -215,7 +229,7 @@ pub record CasesOfFiles : Type 0 where
 -- what calls leave of any disk, and what comes back of a stage on it
 pub record CasesOfStages {D : Type 0} (g : Ghosts D) : Type 0 where
   -- of what was left untouched reads give what they gave, and a crash leaves what it might have
-  pub untouched_stays : (old new : D) → Untouched g.seen g.may_leave g.moment g.left_since old new
+  pub untouched_stays : (old new : D) → Untouched g old new
       → (g.seen new ≡ g.seen old) × ((c : List ℕ) → g.may_leave new c → g.may_leave old c)
       × ((c : List ℕ) → g.left_since new (g.moment old) c
       → g.left_since old (g.moment old) c ⊎ g.may_leave old c)
@@ -295,6 +309,23 @@ pub record CasesOfStages {D : Type 0} (g : Ghosts D) : Type 0 where
   -- one whose disk fails had not failed, and has as many parts
   pub device_ends : (old new : Stage D g) → HasRefused old new Device
       → (old.failed ≡ false) × (new.failed ≡ true) × (new.weight ≡ old.weight)
+  -- a call is Ok of a stage alone that had not failed, and its disk is as honest as it was,
+  pub end_ok : (old new : Stage D g) → Ends {A = Unit {0}} old (Ok tt) new
+      → (old.failed ≡ false) × (new.refused ≡ old.refused)
+      × (g.is_honest old.disk → g.is_honest new.disk)
+  -- and one is refused with Device where the disk failed, which became no honest one
+  pub end_refused : (old new : Stage D g) → Ends {A = Unit {0}} old (Err Device) new
+      → HasRefused old new Device × Rose (g.faults old.disk) (g.faults new.disk)
+      × (g.is_honest new.disk → g.is_honest old.disk)
+  -- a crash inside a save left what it might have before, or what was acknowledged, or the next
+  pub saved_over : (old new : Stage D g) (acked front : List Portion) (next : Point) (c : List ℕ)
+      → PassesTo old acked next front new → g.may_leave new.disk c
+      → StagedIn old.in_second old.generation old.acknowledged acked c
+      ⊎ StagedIn (not old.in_second) (old.generation + 1) next front c
+  -- and one while a stage is opened left what it might have before, or what stands like it
+  pub opened_over : (old new : D) (c : List ℕ) → OpensOver g old new
+      → g.left_since new (g.moment old) c
+      → g.left_since old (g.moment old) c ⊎ (g.may_leave old c ⊎ StandsLike (g.seen old) c)
   -- and no other fault is answered
   pub no_other : (old new : Stage D g) → (HasRefused old new NoPoint → ⊥)
       × (HasRefused old new OutOfMemory → ⊥) × (HasRefused old new (BadFrame 300) → ⊥)

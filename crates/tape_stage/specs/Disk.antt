@@ -44,6 +44,12 @@ pub record Elapses (before now : ℕ) (past since : ℕ → List ℕ → Type 0)
   pub nothing_else : (t : ℕ) (c : List ℕ) → t ≤ before → since t c → past t c ⊎ may_leave c
   pub keeps : (t : ℕ) (c : List ℕ) → t ≤ before → past t c → since t c
 
+-- so it goes on from one disk to the next
+abbrev pub IsLater : {D : Type 0} → (D → ℕ) → (D → ℕ → List ℕ → Type 0) → (D → List ℕ → Type 0) → D
+    → D → Type 0
+IsLater moment left_since may_leave old new = Elapses (moment old) (moment new) (left_since old)
+    (left_since new) (may_leave new)
+
 -- each follows from the other
 pub record SameFact (old new : Type 0) : Type 0 where
   pub onward : old → new

@@ -1,21 +1,38 @@
 -- What a crash may have left while calls were made.
-use Rattle.std.specs.Prelude.{◌≡◌, ◌⊎◌, ℕ, ◌≤◌, List}
+use Rattle.std.specs.Prelude.{◌≡◌, ◌⊎◌, ℕ, ◌≤◌, List, Result, OnOk, OnErr}
+use Rattle.tape_core.specs.Weight.{Rose}
+use Rattle.tape_stage.specs.declared.disk.Disk.{Ghosts}
+use Rattle.tape_stage.specs.declared.disk.DiskFault.{DiskFault}
+use Rattle.tape_stage.specs.Disk.{Only}
 
 -- what may be left now, or that after a step
 abbrev pub After : (List ℕ → List ℕ → Type 0) → (List ℕ → Type 0) → List ℕ → Type 0
 After step may_leave c = may_leave c ⊎ ((d : List ℕ) × may_leave d × step d c)
 
+-- all is durable: a crash now leaves what reads give, and nothing else
+abbrev pub IsDurable : {D : Type 0} → Ghosts D → D → Type 0
+IsDurable g disk = Only (g.seen disk) (g.may_leave disk)
+
 -- A crash at any moment since old left what it might have left before, or what has P; and so does a
 -- crash now.
-pub record Passes {D : Type 0} (may_leave : D → List ℕ → Type 0) (moment : D → ℕ)
-    (left_since : D → ℕ → List ℕ → Type 0) (old new : D) (P : List ℕ → Type 0) : Type 0 where
-  pub later : moment old ≤ moment new
-  pub before : (t : ℕ) (c : List ℕ) → t ≤ moment old → left_since new t c → left_since old t c ⊎ P c
-  pub now : (c : List ℕ) → may_leave new c → P c
+pub record Passes {D : Type 0} (g : Ghosts D) (old new : D) (P : List ℕ → Type 0) : Type 0 where
+  pub later : g.moment old ≤ g.moment new
+  pub before : (t : ℕ) (c : List ℕ) → t ≤ g.moment old → g.left_since new t c
+      → g.left_since old t c ⊎ P c
+  pub now : (c : List ℕ) → g.may_leave new c → P c
 
 -- Nothing was written since old: reads give what they gave, and a crash at any moment since left
 -- only what one might have left then.
-pub record Untouched {D : Type 0} (seen : D → List ℕ) (may_leave : D → List ℕ → Type 0)
-    (moment : D → ℕ) (left_since : D → ℕ → List ℕ → Type 0) (old new : D) : Type 0 where
-  pub read : seen new ≡ seen old
-  pub crash : Passes may_leave moment left_since old new (may_leave old)
+pub record Untouched {D : Type 0} (g : Ghosts D) (old new : D) : Type 0 where
+  pub read : g.seen new ≡ g.seen old
+  pub crash : Passes g old new (g.may_leave old)
+
+-- A call that ends with a sync: behind an Ok all is durable, and the disk is as honest as it was;
+-- behind an Err it failed. No disk became an honest one.
+pub record EndsSynced {A D : Type 0} (g : Ghosts D) (old : D) (result : Result A DiskFault)
+    (new : D) : Type 0 where
+  pub durable : g.is_honest old → OnOk result (IsDurable g new)
+  pub cause : OnErr result (Rose (g.faults old) (g.faults new))
+  pub calm : OnOk result (g.faults new ≡ g.faults old)
+  pub honest : OnOk result (g.is_honest old → g.is_honest new)
+  pub back : g.is_honest new → g.is_honest old

@@ -1,11 +1,14 @@
 -- What a stage stands for.
 use Rattle.std.specs.Prelude.{◌≡◌, ◌⊎◌, ℕ, ◌+◌, ◌≤◌, Bool, true, false, List, Option, None}
+use Rattle.std.specs.Prelude.{Result, OnOk, IfErr, IsErrOf}
 use Rattle.tape_stage.specs.declared.disk.Disk.{Ghosts}
 use Rattle.tape_blocks.specs.Block.{Portion}
 use Rattle.tape_core.specs.Crash.{Crashes}
 use Rattle.tape_core.specs.Stands.{weight_of}
+use Rattle.tape_core.specs.Weight.{Rose}
 use Rattle.tape_stage.specs.Frames.{AheadIn}
-use Rattle.tape_stage.specs.Staged.{Staged, Holding, Ready}
+use Rattle.tape_stage.specs.Moments.{Passes}
+use Rattle.tape_stage.specs.Staged.{Staged, StagedIn, IsEither, StandsLike, Holding, Ready}
 use Rattle.tape_core.specs.Point.{Point}
 use Rattle.tape_stage.specs.declared.stage.Found.{Found}
 use Rattle.tape_stage.specs.declared.stage.Stage.{Stage}
@@ -57,6 +60,41 @@ HasRefused old new Full = new ≡ old
 HasRefused old new Failed = (new ≡ old) × (old.failed ≡ true)
 HasRefused old new _ = ⊥
 
+-- How a call ends: Ok only of a stage that had not failed, whose disk is as honest as it was, and
+-- refused as above, with Device only where the disk failed. No disk becomes an honest one, and what
+-- was refused to the sink is counted by it alone.
+pub record Ends {A D : Type 0} {disk : Ghosts D} (old : Stage D disk) (result : Result A StageFault)
+    (new : Stage D disk) : Type 0 where
+  pub was_alive : OnOk result (old.failed ≡ false)
+  pub refused : IfErr result (HasRefused old new)
+  pub refusals : new.refused ≡ old.refused
+  pub cause : IsErrOf result Device → Rose (disk.faults old.disk) (disk.faults new.disk)
+  pub honest : OnOk result (disk.is_honest old.disk → disk.is_honest new.disk)
+  pub back : disk.is_honest new.disk → disk.is_honest old.disk
+
+-- How looking for a stage ends, or making one: never with Full or Failed, with Device only where the
+-- disk failed, and with Ok on a disk as honest as it was. No disk becomes an honest one.
+pub record EndsFinding {A D : Type 0} (disk : Ghosts D) (old : D) (result : Result A StageFault)
+    (new : D) : Type 0 where
+  pub not_full : IsErrOf result Full → ⊥
+  pub not_failed : IsErrOf result Failed → ⊥
+  pub cause : IsErrOf result Device → Rose (disk.faults old) (disk.faults new)
+  pub honest : OnOk result (disk.is_honest old → disk.is_honest new)
+  pub back : disk.is_honest new → disk.is_honest old
+
+-- A crash at any moment from one stage to the next left what it might have left before, or what
+-- stands for what the first has acknowledged.
+abbrev pub PassesOver : {D : Type 0} {disk : Ghosts D} → Stage D disk → List Portion → Stage D disk
+    → Type 0
+PassesOver {D} {disk} old acked new = Passes disk old.disk new.disk
+    (StagedIn old.in_second old.generation old.acknowledged acked)
+
+-- the same, or what stands for the next checkpoint, with these parts
+abbrev pub PassesTo : {D : Type 0} {disk : Ghosts D} → Stage D disk → List Portion → Point
+    → List Portion → Stage D disk → Type 0
+PassesTo {D} {disk} old acked next front new = Passes disk old.disk new.disk
+    (IsEither old.in_second old.generation old.acknowledged next acked front)
+
 -- a crash now may leave a file that stands for this checkpoint and these parts
 abbrev pub Returns : {D : Type 0} {disk : Ghosts D} → Stage D disk → Point → List Portion → Type 0
 Returns {D} {disk} stage back there = (bytes : List ℕ) × disk.may_leave stage.disk bytes
@@ -94,9 +132,14 @@ crashes_of {D} {disk} stage = record {
 }
 
 -- what was found is what is read, with its parts, and is ready
-pub record IsOpened {D : Type 0} (seen : D → List ℕ) (may_leave : D → List ℕ → Type 0)
-    (found : Found) (old new : D) : Type 0 where
+pub record IsOpened {D : Type 0} (disk : Ghosts D) (found : Found) (old new : D) : Type 0 where
   pub parts : List Portion
-  pub read : Staged (seen old) found.generation found.point parts
-  pub ready : Ready found.in_second found.generation found.point parts found.other_open (seen new)
-      (may_leave new)
+  pub read : Staged (disk.seen old) found.generation found.point parts
+  pub ready : Ready found.in_second found.generation found.point parts found.other_open
+      (disk.seen new) (disk.may_leave new)
+
+-- A crash at any moment from the one disk to the other left what it might have left before, or what
+-- still stands for what was read.
+abbrev pub OpensOver : {D : Type 0} → Ghosts D → D → D → Type 0
+OpensOver disk old new = Passes disk old new
+    (λ c. disk.may_leave old c ⊎ StandsLike (disk.seen old) c)

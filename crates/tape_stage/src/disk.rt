@@ -3,6 +3,7 @@
 pub mod changes;
 pub mod content;
 pub mod file;
+pub mod kept;
 pub mod memory;
 pub mod memory_disk;
 pub mod read_ahead;
@@ -12,8 +13,7 @@ ghost use Rattle.std.specs.Prelude.{◌≡◌, ◌+◌, ◌≤◌, ℕ, List, le
 ghost use Rattle.std.specs.Prelude.{OnOk, OnErr};
 ghost use Rattle.tape_core.specs.Weight.{Rose};
 ghost use Rattle.tape_stage.specs.Disk.{Holds, Torn, CutShort, Follows, Allows, NoMore, Only};
-ghost use Rattle.tape_stage.specs.Disk.{Elapses, SameFact};
-ghost use Rattle.tape_stage.specs.Moments.{After, Passes};
+ghost use Rattle.tape_stage.specs.Disk.{IsLater, SameFact};
 
 /// The disk failed.
 #[derive(Clone, Copy, Debug, PartialEq, Eq)]
@@ -50,9 +50,7 @@ pub trait Disk {
         ensures same_length { length_of self.new ≡ length_of self.old }
         ensures same { is_honest self.old → seen self.new ≡ seen self.old }
         ensures crash { is_honest self.old → NoMore (may_leave self.old) (may_leave self.new) }
-        ensures time { is_honest self.old
-            → Elapses (moment self.old) (moment self.new) (left_since self.old)
-            (left_since self.new) (may_leave self.new) }
+        ensures time { is_honest self.old → IsLater moment left_since may_leave self.old self.new }
         ensures cause { OnErr result (Rose (faults self.old) (faults self.new)) }
         ensures calm { OnOk result (faults self.new ≡ faults self.old) }
         ensures honest { SameFact (is_honest self.old) (is_honest self.new) }
@@ -66,9 +64,7 @@ pub trait Disk {
         ensures same_length { length_of self.new ≡ length_of self.old }
         ensures same { is_honest self.old → seen self.new ≡ seen self.old }
         ensures crash { is_honest self.old → NoMore (may_leave self.old) (may_leave self.new) }
-        ensures time { is_honest self.old
-            → Elapses (moment self.old) (moment self.new) (left_since self.old)
-            (left_since self.new) (may_leave self.new) }
+        ensures time { is_honest self.old → IsLater moment left_since may_leave self.old self.new }
         ensures cause { OnErr result (Rose (faults self.old) (faults self.new)) }
         ensures calm { OnOk result (faults self.new ≡ faults self.old) }
         ensures honest { SameFact (is_honest self.old) (is_honest self.new) };
@@ -88,9 +84,7 @@ pub trait Disk {
             → OnErr result (Torn place (length bytes.now) (seen self.old) (seen self.new)) }
         ensures crash { is_honest self.old
             → Follows (Torn place (length bytes.now)) (may_leave self.old) (may_leave self.new) }
-        ensures time { is_honest self.old
-            → Elapses (moment self.old) (moment self.new) (left_since self.old)
-            (left_since self.new) (may_leave self.new) }
+        ensures time { is_honest self.old → IsLater moment left_since may_leave self.old self.new }
         ensures cause { OnErr result (Rose (faults self.old) (faults self.new)) }
         ensures calm { OnOk result (faults self.new ≡ faults self.old) }
         ensures honest { SameFact (is_honest self.old) (is_honest self.new) }
@@ -108,9 +102,7 @@ pub trait Disk {
             → OnErr result (CutShort len (seen self.old) (seen self.new)) }
         ensures crash { is_honest self.old
             → Follows (CutShort len) (may_leave self.old) (may_leave self.new) }
-        ensures time { is_honest self.old
-            → Elapses (moment self.old) (moment self.new) (left_since self.old)
-            (left_since self.new) (may_leave self.new) }
+        ensures time { is_honest self.old → IsLater moment left_since may_leave self.old self.new }
         ensures cause { OnErr result (Rose (faults self.old) (faults self.new)) }
         ensures calm { OnOk result (faults self.new ≡ faults self.old) }
         ensures honest { SameFact (is_honest self.old) (is_honest self.new) };
@@ -127,9 +119,7 @@ pub trait Disk {
         ensures same_length { length_of self.new ≡ length_of self.old }
         ensures same { is_honest self.old → seen self.new ≡ seen self.old }
         ensures crash { is_honest self.old → NoMore (may_leave self.old) (may_leave self.new) }
-        ensures time { is_honest self.old
-            → Elapses (moment self.old) (moment self.new) (left_since self.old)
-            (left_since self.new) (may_leave self.new) }
+        ensures time { is_honest self.old → IsLater moment left_since may_leave self.old self.new }
         ensures cause { OnErr result (Rose (faults self.old) (faults self.new)) }
         ensures calm { OnOk result (faults self.new ≡ faults self.old) }
         ensures honest { OnOk result (is_honest self.old → is_honest self.new) }
@@ -148,27 +138,4 @@ pub trait Disk {
     /// Since this moment there is no other.
     ghost only_now: { (disk : Self) (c : List ℕ) → is_honest disk → left_since disk (moment disk) c
         → may_leave disk c };
-}
-
-/// Writes and syncs. At a crash the range may hold anything until that is done.
-pub(crate) fn write_kept<D: Disk>(disk: &mut D, place: u64, bytes: &[u8]) -> Result<(), DiskFault>
-    requires { place ≤ D.length_of disk.old }
-    ensures written { D.is_honest disk.old
-        → OnOk result (Holds (D.seen disk.old) place bytes.now (D.seen disk.new)) }
-    ensures durable { D.is_honest disk.old
-        → OnOk result (Only (D.seen disk.new) (D.may_leave disk.new)) }
-    ensures long { OnOk result (D.length_of disk.new ≡ max (D.length_of disk.old)
-        (place + length bytes.now)) }
-    ensures any_moment { D.is_honest disk.old
-        → Passes D.may_leave D.moment D.left_since disk.old disk.new
-        (After (Torn place (length bytes.now)) (D.may_leave disk.old)) }
-    ensures torn { D.is_honest disk.old → Torn place (length bytes.now) (D.seen disk.old)
-        (D.seen disk.new) }
-    ensures cause { OnErr result (Rose (D.faults disk.old) (D.faults disk.new)) }
-    ensures calm { OnOk result (D.faults disk.new ≡ D.faults disk.old) }
-    ensures honest { OnOk result (D.is_honest disk.old → D.is_honest disk.new) }
-    ensures back { D.is_honest disk.new → D.is_honest disk.old }
-{
-    disk.write_at(place, bytes)?;
-    disk.sync()
 }

@@ -5,14 +5,14 @@ use Rattle.tape_core.specs.Point.{Point}
 use Rattle.tape_run.specs.Lives.{IsResumed}
 use Rattle.tape_run.specs.Seen.{seen}
 use Rattle.tape_run.specs.Story.{Story}
-use Rattle.tape_stage.specs.Stages.{Holds, Returns, Survives, Returned, Survived}
+use Rattle.tape_stage.specs.Stages.{Holds, OpensOver, Returns, Survives, Returned, Survived}
 use Rattle.tape_stage.specs.declared.disk.Disk.{Ghosts}
 use Rattle.tape_stage.specs.declared.stage.Stage.{Stage}
 use Rattle.tape_stage.proofs.Backs.{returned_now, survived_now}
 use Rattle.tape_stage.proofs.Passing.{follow, stands, weaken}
-use Rattle.tape_stage.specs.Disk.{Elapses}
+use Rattle.tape_stage.specs.Disk.{IsLater}
 use Rattle.tape_stage.specs.Staged.{StandsLike}
-use Rattle.tape_tool.specs.Staging.{OpensOver, StandsAt}
+use Rattle.tape_tool.specs.Staging.{StandsAt}
 
 module _ {D : Type 0} {disk : Ghosts D} where
   -- a session over a stage stands where the stage does
@@ -48,18 +48,17 @@ module _ {D : Type 0} {disk : Ghosts D} where
 -- a look at the disk's length, and then what opens it
 pub looked : {D : Type 0} (disk : Ghosts D) (a b : D) → disk.seen b ≡ disk.seen a
     → ((c : List ℕ) → disk.may_leave b c → disk.may_leave a c)
-    → Elapses (disk.moment a) (disk.moment b) (disk.left_since a) (disk.left_since b)
-    (disk.may_leave b) → OpensOver disk a b
-looked disk a b same no_more time = stands disk.may_leave disk.moment disk.left_since a b _ time
+    → IsLater disk.moment disk.left_since disk.may_leave a b → OpensOver disk a b
+looked disk a b same no_more time = stands disk a b _ time
     (λ c left. inl (no_more c left))
 
 pub looked_then : {D : Type 0} (disk : Ghosts D) (a b d : D) → disk.seen b ≡ disk.seen a
     → ((c : List ℕ) → disk.may_leave b c → disk.may_leave a c)
-    → Elapses (disk.moment a) (disk.moment b) (disk.left_since a) (disk.left_since b)
-    (disk.may_leave b) → OpensOver disk b d → OpensOver disk a d
+    → IsLater disk.moment disk.left_since disk.may_leave a b → OpensOver disk b d
+    → OpensOver disk a d
 looked_then disk a b d same no_more time opens =
-    follow disk.may_leave disk.moment disk.left_since a b d _ (looked disk a b same no_more time)
-    (weaken disk.may_leave disk.moment disk.left_since b d _ _ also opens)
+    follow disk a b d _ (looked disk a b same no_more time)
+    (weaken disk b d _ _ also opens)
   where
     also : (c : List ℕ) → disk.may_leave b c ⊎ StandsLike (disk.seen b) c
         → disk.may_leave a c ⊎ StandsLike (disk.seen a) c

@@ -1,5 +1,5 @@
 -- What a session over a stage is.
-use Rattle.std.specs.Prelude.{◌≡◌, ◌⊎◌, ℕ, List}
+use Rattle.std.specs.Prelude.{◌≡◌, ℕ, List}
 use Rattle.tape_blocks.specs.Block.{Portion}
 use Rattle.tape_core.specs.Crash.{OnlyThis}
 use Rattle.tape_core.specs.Point.{Point}
@@ -8,8 +8,7 @@ use Rattle.tape_run.specs.Lives.{IsResumed}
 use Rattle.tape_run.specs.Seen.{seen}
 use Rattle.tape_run.specs.Story.{Story}
 use Rattle.tape_stage.specs.Faults.{SaysNone, IsNotDevice}
-use Rattle.tape_stage.specs.Moments.{Passes}
-use Rattle.tape_stage.specs.Staged.{Staged, StandsLike, HoldsNone}
+use Rattle.tape_stage.specs.Staged.{Staged, HoldsNone}
 use Rattle.tape_stage.specs.Stages.{Holds, Returns, Survives, Returned, Survived}
 use Rattle.tape_stage.specs.declared.disk.Disk.{Ghosts}
 use Rattle.tape_stage.specs.declared.stage.Stage.{Stage}
@@ -45,12 +44,6 @@ pub record GoesOn {D : Type 0} {disk : Ghosts D} (set_id : List ℕ) (file : ℕ
   pub staged : Staged read generation point parts
   pub of_file : IsOfFile set_id file point
   pub stands : StandsAt point parts session
-
--- A crash at any moment from the one disk to the other left what it might have left before, or what
--- still stands for what was read.
-abbrev pub OpensOver : {D : Type 0} → Ghosts D → D → D → Type 0
-OpensOver disk old new = Passes disk.may_leave disk.moment disk.left_since old new
-    (λ c. disk.may_leave old c ⊎ StandsLike (disk.seen old) c)
 
 -- What the fault says of the bytes that were read.
 abbrev pub Says : List ℕ → ℕ → List ℕ → StagingFault → Type 0

@@ -5,9 +5,10 @@ ghost use Rattle.tape_core.specs.Known.{IsFileNumber};
 ghost use Rattle.tape_core.specs.Weight.{Rose};
 ghost use Rattle.tape_stage.specs.Moments.{Untouched};
 ghost use Rattle.tape_stage.specs.Staged.{HoldsNone, KeepsStaged};
+ghost use Rattle.tape_stage.specs.Stages.{OpensOver};
 ghost use Rattle.tape_run.specs.Headline.{IsStart};
 ghost use Rattle.tape_run.specs.Seen.{seen};
-ghost use Rattle.tape_tool.specs.Staging.{IsOfFile, StandsAt, GoesOn, Says, IsUnopened, OpensOver};
+ghost use Rattle.tape_tool.specs.Staging.{IsOfFile, StandsAt, GoesOn, Says, IsUnopened};
 ghost use Rattle.tape_tool.specs.Staging.{SaysNoStage, first_point};
 
 use crate::fault::{FileFault, ToolFault};
@@ -71,8 +72,7 @@ pub fn open_session<D: Disk + Drop>(
         → IfErr result (λ refused. OpensOver D.Disk disk refused.disk) }
     // A disk that has bytes and holds no stage is left as it was, even where it failed.
     ensures foreign { D.is_honest disk → (D.length_of disk ≡ 0 → ⊥) → HoldsNone (D.seen disk)
-        → IfErr result (λ refused.
-        Untouched D.seen D.may_leave D.moment D.left_since disk refused.disk) }
+        → IfErr result (λ refused. Untouched D.Disk disk refused.disk) }
     // What is staged stands where it stood, and at most what follows it was cut.
     ensures kept { D.is_honest disk → (D.length_of disk ≡ 0 → ⊥)
         → IfErr result (λ refused. KeepsStaged (D.seen disk) (D.seen refused.disk)) }
@@ -156,8 +156,8 @@ fn resume<D: Disk>(
         → IfOk result (λ session. OpensOver D.Disk disk session.sink.disk) }
     ensures any_moment_err { D.is_honest disk
         → IfErr result (λ refused. OpensOver D.Disk disk refused.disk) }
-    ensures foreign { D.is_honest disk → HoldsNone (D.seen disk) → IfErr result (λ refused.
-        Untouched D.seen D.may_leave D.moment D.left_since disk refused.disk) }
+    ensures foreign { D.is_honest disk → HoldsNone (D.seen disk)
+        → IfErr result (λ refused. Untouched D.Disk disk refused.disk) }
     ensures kept { D.is_honest disk
         → IfErr result (λ refused. KeepsStaged (D.seen disk) (D.seen refused.disk)) }
     ensures same_length { IfErr result (λ refused.

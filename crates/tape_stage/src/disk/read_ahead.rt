@@ -3,7 +3,7 @@ ghost use Rattle.std.specs.Prelude.{◌≡◌, ◌+◌, ◌≤◌, length, take,
 ghost use Rattle.std.specs.Prelude.{List, ℕ};
 ghost use Rattle.std.specs.Bool.{OnTrue};
 ghost use Rattle.tape_core.specs.Weight.{Rose};
-ghost use Rattle.tape_stage.specs.Disk.{Elapses, NoMore, SameFact};
+ghost use Rattle.tape_stage.specs.OnlyReading.{Looks};
 
 use crate::disk::{Disk, DiskFault};
 
@@ -34,13 +34,7 @@ fn read_front<D: Disk>(
     requires fits { count ≤ length room.old }
     ensures bytes { D.is_honest disk.old → OnOk result
         (slice_range (D.seen disk.old) place (place + count) ≡ take count room.new) }
-    ensures same_length { D.length_of disk.new ≡ D.length_of disk.old }
-    ensures same { D.is_honest disk.old → D.seen disk.new ≡ D.seen disk.old }
-    ensures crash { D.is_honest disk.old → NoMore (D.may_leave disk.old) (D.may_leave disk.new) }
-    ensures time { D.is_honest disk.old
-        → Elapses (D.moment disk.old) (D.moment disk.new) (D.left_since disk.old)
-        (D.left_since disk.new) (D.may_leave disk.new) }
-    ensures honest { SameFact (D.is_honest disk.old) (D.is_honest disk.new) }
+    ensures looks { Looks D.Disk disk.old disk.new }
 {
     disk.read(place, &mut room[..count])
 }
@@ -102,16 +96,8 @@ impl<D: Disk> ReadAhead<D> {
     /// unseen: nobody asked for all of these bytes.
     fn look_ahead(&mut self, place: u64)
         requires there { place ≤ D.length_of self.old.disk }
-        ensures same_length { D.length_of self.new.disk ≡ D.length_of self.old.disk }
-        ensures same { D.is_honest self.old.disk
-            → D.seen self.new.disk ≡ D.seen self.old.disk }
-        ensures crash { D.is_honest self.old.disk
-            → NoMore (D.may_leave self.old.disk) (D.may_leave self.new.disk) }
-        ensures time { D.is_honest self.old.disk
-            → Elapses (D.moment self.old.disk) (D.moment self.new.disk) (D.left_since self.old.disk)
-            (D.left_since self.new.disk) (D.may_leave self.new.disk) }
+        ensures looks { Looks D.Disk self.old.disk self.new.disk }
         ensures calm { self.new.failed ≡ self.old.failed }
-        ensures honest { SameFact (D.is_honest self.old.disk) (D.is_honest self.new.disk) }
     {
         let Ok(len) = self.disk.len() else {
             return;
@@ -131,16 +117,8 @@ impl<D: Disk> ReadAhead<D> {
         requires there { place + length buf.old ≤ D.length_of self.old.disk }
         ensures bytes { D.is_honest self.old.disk → OnOk result (buf.new
             ≡ slice_range (D.seen self.old.disk) place (place + length buf.old)) }
-        ensures same_length { D.length_of self.new.disk ≡ D.length_of self.old.disk }
-        ensures same { D.is_honest self.old.disk
-            → D.seen self.new.disk ≡ D.seen self.old.disk }
-        ensures crash { D.is_honest self.old.disk
-            → NoMore (D.may_leave self.old.disk) (D.may_leave self.new.disk) }
-        ensures time { D.is_honest self.old.disk
-            → Elapses (D.moment self.old.disk) (D.moment self.new.disk) (D.left_since self.old.disk)
-            (D.left_since self.new.disk) (D.may_leave self.new.disk) }
+        ensures looks { Looks D.Disk self.old.disk self.new.disk }
         ensures calm { self.new.failed ≡ self.old.failed }
-        ensures honest { SameFact (D.is_honest self.old.disk) (D.is_honest self.new.disk) }
     {
         if self.give(place, buf) {
             return Ok(());

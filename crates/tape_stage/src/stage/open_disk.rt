@@ -6,19 +6,20 @@ ghost use Rattle.tape_blocks.specs.Block.{Portion};
 ghost use Rattle.tape_core.specs.Weight.{Rose};
 ghost use Rattle.tape_core.specs.Point.{Point};
 ghost use Rattle.tape_core.specs.Known.{most_staged};
-ghost use Rattle.tape_stage.specs.Moments.{Passes, Untouched};
-ghost use Rattle.tape_stage.specs.Staged.{Staged, StandsLike, HoldsNone, KeepsStaged, Ready, blank};
+ghost use Rattle.tape_stage.specs.Moments.{Untouched};
+ghost use Rattle.tape_stage.specs.Staged.{Staged, HoldsNone, KeepsStaged, Ready, blank};
 ghost use Rattle.tape_stage.specs.Faults.{SaysNone, IsNotDevice, OnBadFrame};
 ghost use Rattle.tape_stage.specs.Found.{IsBadPlace};
-ghost use Rattle.tape_stage.specs.Stages.{IsStage, IsOpened, Holds, Survives, Returns};
+ghost use Rattle.tape_stage.specs.Stages.{IsStage, IsOpened, OpensOver, Holds, Survives, Returns};
+ghost use Rattle.tape_stage.specs.Stages.{EndsFinding};
 ghost use Rattle.tape_stage.specs.Body.{body_text, FitBody, most_generation, body_of};
-ghost use Rattle.tape_stage.specs.Disk.{Only};
 ghost use Rattle.tape_stage.specs.Parts.{longest_part};
 
-use crate::disk::{Disk, write_kept};
+use crate::disk::Disk;
+use crate::disk::kept::{cut_kept, write_kept};
 use crate::point::text::{put, whole};
 use crate::point::{read_point, write_point};
-use crate::stage::opening::{cut_kept, look};
+use crate::stage::opening::look;
 use crate::stage::{CLOSED, Found, OPEN, Stage, StageFault};
 use arrayvec::ArrayVec;
 use std::alloc::{AllocError, Global};
@@ -63,10 +64,8 @@ pub(crate) fn buffer_of(alloc: Global) -> Result<Vec<u8>, AllocError>
 
 /// Finds what is staged, reserves the buffer, and cuts what follows.
 fn recover<D: Disk>(alloc: Global, disk: &mut D) -> Result<(Found, Vec<u8>), StageFault>
-    ensures not_full { IsErrOf result StageFault.Full → ⊥ }
-    ensures not_failed { IsErrOf result StageFault.Failed → ⊥ }
     ensures found { D.is_honest disk.old → IfOk result
-        (λ opened. IsOpened D.seen D.may_leave opened.0 disk.old disk.new) }
+        (λ opened. IsOpened D.Disk opened.0 disk.old disk.new) }
     ensures room { IfOk result (λ opened. longest_part ≤ length opened.1.items) }
     ensures long { IfOk result (λ opened. 256 + opened.0.point.staged ≤ D.length_of disk.new) }
     ensures generation { IfOk result (λ opened. opened.0.generation ≤ most_generation) }
@@ -75,23 +74,18 @@ fn recover<D: Disk>(alloc: Global, disk: &mut D) -> Result<(Found, Vec<u8>), Sta
         (λ fault. SaysNone fault → HoldsNone (D.seen disk.old)) }
     ensures at { D.is_honest disk.old → IfErr result
         (λ fault. OnBadFrame fault (IsBadPlace (D.seen disk.old))) }
-    ensures any_moment { D.is_honest disk.old
-        → Passes D.may_leave D.moment D.left_since disk.old disk.new
-        (λ c. D.may_leave disk.old c ⊎ StandsLike (D.seen disk.old) c) }
+    ensures any_moment { D.is_honest disk.old → OpensOver D.Disk disk.old disk.new }
     ensures cut { D.is_honest disk.old → IfOk result (λ opened.
         D.seen disk.new ≡ take (256 + opened.0.point.staged) (D.seen disk.old)) }
     ensures untouched { D.is_honest disk.old → IfErr result (λ fault. IsNotDevice fault
-        → Untouched D.seen D.may_leave D.moment D.left_since disk.old disk.new) }
+        → Untouched D.Disk disk.old disk.new) }
     ensures foreign { D.is_honest disk.old → HoldsNone (D.seen disk.old)
-        → OnErr result (Untouched D.seen D.may_leave D.moment D.left_since disk.old disk.new) }
+        → OnErr result (Untouched D.Disk disk.old disk.new) }
     ensures kept { D.is_honest disk.old
         → OnErr result (KeepsStaged (D.seen disk.old) (D.seen disk.new)) }
     ensures same_length { IfErr result (λ fault. IsNotDevice fault
         → D.length_of disk.new ≡ D.length_of disk.old) }
-    ensures cause { IsErrOf result StageFault.Device
-        → Rose (D.faults disk.old) (D.faults disk.new) }
-    ensures honest { OnOk result (D.is_honest disk.old → D.is_honest disk.new) }
-    ensures back { D.is_honest disk.new → D.is_honest disk.old }
+    ensures ends { EndsFinding D.Disk disk.old result disk.new }
 {
     // The buffer before the cut: a refusal leaves the disk as it was.
     let found = look(disk)?;
@@ -122,12 +116,7 @@ fn make<D: Disk>(alloc: Global, disk: &mut D, point: Checkpoint) -> Result<(), S
     ensures made { D.is_honest disk.old → OnOk result
         (Ready false 1 point [] false (D.seen disk.new) (D.may_leave disk.new)) }
     ensures long { OnOk result (D.length_of disk.new ≡ 256) }
-    ensures cause { IsErrOf result StageFault.Device
-        → Rose (D.faults disk.old) (D.faults disk.new) }
-    ensures honest { OnOk result (D.is_honest disk.old → D.is_honest disk.new) }
-    ensures back { D.is_honest disk.new → D.is_honest disk.old }
-    ensures not_full { IsErrOf result StageFault.Full → ⊥ }
-    ensures not_failed { IsErrOf result StageFault.Failed → ⊥ }
+    ensures ends { EndsFinding D.Disk disk.old result disk.new }
     ensures not_none { IfErr result (λ fault. SaysNone fault → ⊥) }
 {
     // The gate is opened when both slots are kept.
@@ -162,8 +151,7 @@ impl<D: Disk> Stage<D> {
         ensures survives { D.is_honest disk → IfOk result (λ opened. Survives opened.0) }
         ensures weight { IfOk result (λ opened. opened.0.weight ≡ opened.1.staged) }
         ensures any_moment { D.is_honest disk
-            → IfOk result (λ opened. Passes D.may_leave D.moment D.left_since disk opened.0.disk
-            (λ c. D.may_leave disk c ⊎ StandsLike (D.seen disk) c)) }
+            → IfOk result (λ opened. OpensOver D.Disk disk opened.0.disk) }
         ensures cause { IfErr result (λ refused. refused.fault ≡ StageFault.Device
             → Rose (D.faults disk) (D.faults refused.disk)) }
         ensures none { D.is_honest disk → IfErr result
@@ -171,17 +159,16 @@ impl<D: Disk> Stage<D> {
         ensures at { D.is_honest disk → IfErr result
             (λ refused. OnBadFrame refused.fault (IsBadPlace (D.seen disk))) }
         ensures any_moment_err { D.is_honest disk
-            → IfErr result (λ refused. Passes D.may_leave D.moment D.left_since disk refused.disk
-            (λ c. D.may_leave disk c ⊎ StandsLike (D.seen disk) c)) }
+            → IfErr result (λ refused. OpensOver D.Disk disk refused.disk) }
         // What was opened lost at most what follows its staged end.
         ensures cut { D.is_honest disk → IfOk result (λ opened.
             D.seen opened.0.disk ≡ take (256 + opened.1.staged) (D.seen disk)) }
         // Where the disk didn't fail a refusal wrote nothing.
         ensures untouched { D.is_honest disk → IfErr result (λ refused. IsNotDevice refused.fault
-            → Untouched D.seen D.may_leave D.moment D.left_since disk refused.disk) }
+            → Untouched D.Disk disk refused.disk) }
         // To what is no stage nothing is written, even where the disk failed.
-        ensures foreign { D.is_honest disk → HoldsNone (D.seen disk) → IfErr result (λ refused.
-            Untouched D.seen D.may_leave D.moment D.left_since disk refused.disk) }
+        ensures foreign { D.is_honest disk → HoldsNone (D.seen disk)
+            → IfErr result (λ refused. Untouched D.Disk disk refused.disk) }
         // Where it failed what is staged stands where it stood.
         ensures kept { D.is_honest disk
             → IfErr result (λ refused. KeepsStaged (D.seen disk) (D.seen refused.disk)) }

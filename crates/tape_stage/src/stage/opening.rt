@@ -1,21 +1,20 @@
 //! How a stage is found again on a disk.
 
-ghost use Rattle.std.specs.Prelude.{◌≡◌, ◌+◌, ◌≤◌, ◌==◌, ◌⊎◌, ℕ, List, length, take, OnOk, OnErr};
+ghost use Rattle.std.specs.Prelude.{◌≡◌, ◌+◌, ◌≤◌, ◌==◌, ◌⊎◌, ℕ, List, length, OnOk};
 ghost use Rattle.std.specs.Prelude.{IfOk, IfErr, IsErrOf, IfSome, MatchOption, None, Some, false};
 ghost use Rattle.std.specs.Prelude.{true, not};
 ghost use Rattle.tape_blocks.specs.Block.{Portion};
-ghost use Rattle.tape_core.specs.Weight.{Rose};
 ghost use Rattle.tape_core.specs.Known.{most_staged};
-ghost use Rattle.tape_stage.specs.Moments.{Passes};
+ghost use Rattle.tape_stage.specs.Moments.{IsDurable};
 ghost use Rattle.tape_stage.specs.Staged.{read_slot, slot_at, HoldsNone, Holding, Loses};
 ghost use Rattle.tape_stage.specs.Found.{IsFound, IsBadPlace};
 ghost use Rattle.tape_stage.specs.Salvaged.{RemainsNone};
+ghost use Rattle.tape_stage.specs.Stages.{EndsFinding};
 ghost use Rattle.tape_stage.specs.Faults.{SaysNone, OnBadFrame};
-ghost use Rattle.tape_stage.specs.Disk.{CutShort, Only};
 ghost use Rattle.tape_stage.specs.OnlyReading.{OnlyReads};
 ghost use Rattle.tape_stage.specs.Body.{most_generation};
 
-use crate::disk::{Disk, DiskFault};
+use crate::disk::Disk;
 use crate::stage::frames::break_of;
 use crate::stage::open_disk::read_body;
 use crate::stage::{Found, OPEN, StageFault};
@@ -93,32 +92,8 @@ fn find(bytes: &[u8]) -> Option<Found>
     }
 }
 
-/// Cuts what follows the staged end, and keeps that.
-pub(crate) fn cut_kept<D: Disk>(disk: &mut D, end: u64) -> Result<(), DiskFault>
-    requires { end ≤ D.length_of disk.old }
-    ensures cut { D.is_honest disk.old → OnOk result
-        (D.seen disk.new ≡ take end (D.seen disk.old)) }
-    ensures partly { D.is_honest disk.old
-        → OnErr result (CutShort end (D.seen disk.old) (D.seen disk.new)) }
-    ensures durable { D.is_honest disk.old
-        → OnOk result (Only (D.seen disk.new) (D.may_leave disk.new)) }
-    ensures any_moment { D.is_honest disk.old → Only (D.seen disk.old) (D.may_leave disk.old)
-        → Passes D.may_leave D.moment D.left_since disk.old disk.new
-        (λ c. take end c ≡ take end (D.seen disk.old)) }
-    ensures short { OnOk result (D.length_of disk.new ≡ end) }
-    ensures cause { OnErr result (Rose (D.faults disk.old) (D.faults disk.new)) }
-    ensures honest { OnOk result (D.is_honest disk.old → D.is_honest disk.new) }
-    ensures back { D.is_honest disk.new → D.is_honest disk.old }
-{
-    // Synced, so that what is put behind the end is not taken for what stood there before.
-    disk.cut(end)?;
-    disk.sync()
-}
-
 /// Syncs, then reads both slots.
 pub(crate) fn find_on<D: Disk>(disk: &mut D) -> Result<Found, StageFault>
-    ensures not_full { IsErrOf result StageFault.Full → ⊥ }
-    ensures not_failed { IsErrOf result StageFault.Failed → ⊥ }
     ensures found { D.is_honest disk.old → IfOk result (λ found. IsFound found (D.seen disk.old)) }
     ensures long { IfOk result (λ found. 256 ≤ D.length_of disk.new) }
     ensures generation { IfOk result (λ found. found.generation ≤ most_generation) }
@@ -126,13 +101,10 @@ pub(crate) fn find_on<D: Disk>(disk: &mut D) -> Result<Found, StageFault>
     ensures none { D.is_honest disk.old → IfErr result
         (λ fault. SaysNone fault → RemainsNone (D.seen disk.old)) }
     ensures no_frame { IfErr result (λ fault. OnBadFrame fault (λ place. ⊥)) }
-    ensures durable { D.is_honest disk.old
-        → OnOk result (Only (D.seen disk.new) (D.may_leave disk.new)) }
-    ensures cause { IsErrOf result StageFault.Device
-        → Rose (D.faults disk.old) (D.faults disk.new) }
+    ensures durable { D.is_honest disk.old → OnOk result (IsDurable D.Disk disk.new) }
     ensures calm { OnOk result (D.faults disk.new ≡ D.faults disk.old) }
     ensures reads { OnlyReads D.Disk disk.old disk.new }
-    ensures honest { OnOk result (D.is_honest disk.old → D.is_honest disk.new) }
+    ensures ends { EndsFinding D.Disk disk.old result disk.new }
 {
     // Before anything is read: what reads give is then what a crash leaves, and the cut that
     // follows rests on slots that stay.
@@ -151,8 +123,6 @@ pub(crate) fn find_on<D: Disk>(disk: &mut D) -> Result<Found, StageFault>
 
 /// Finds what is staged. It only reads.
 pub(crate) fn look<D: Disk>(disk: &mut D) -> Result<Found, StageFault>
-    ensures not_full { IsErrOf result StageFault.Full → ⊥ }
-    ensures not_failed { IsErrOf result StageFault.Failed → ⊥ }
     ensures found { D.is_honest disk.old → IfOk result (λ found. IsFound found (D.seen disk.old)) }
     ensures parts { D.is_honest disk.old → IfOk result
         (λ found. (parts : List Portion) × Holding found.point.staged parts (D.seen disk.old)) }
@@ -163,13 +133,10 @@ pub(crate) fn look<D: Disk>(disk: &mut D) -> Result<Found, StageFault>
         (λ fault. SaysNone fault → HoldsNone (D.seen disk.old)) }
     ensures at { D.is_honest disk.old → IfErr result
         (λ fault. OnBadFrame fault (IsBadPlace (D.seen disk.old))) }
-    ensures durable { D.is_honest disk.old
-        → OnOk result (Only (D.seen disk.new) (D.may_leave disk.new)) }
-    ensures cause { IsErrOf result StageFault.Device
-        → Rose (D.faults disk.old) (D.faults disk.new) }
+    ensures durable { D.is_honest disk.old → OnOk result (IsDurable D.Disk disk.new) }
     ensures calm { OnOk result (D.faults disk.new ≡ D.faults disk.old) }
     ensures reads { OnlyReads D.Disk disk.old disk.new }
-    ensures honest { OnOk result (D.is_honest disk.old → D.is_honest disk.new) }
+    ensures ends { EndsFinding D.Disk disk.old result disk.new }
 {
     let found = find_on(disk)?;
     match break_of(disk, found.staged())? {

@@ -9,8 +9,8 @@ ghost use Rattle.tape_blocks.specs.Parts.{view};
 ghost use Rattle.tape_core.specs.Weight.{Rose};
 ghost use Rattle.tape_core.specs.Known.{most_staged};
 ghost use Rattle.tape_stage.specs.Moments.{Passes};
-ghost use Rattle.tape_stage.specs.Staged.{StagedIn, IsPut, FrontOf, KeepsFront};
-ghost use Rattle.tape_stage.specs.Stages.{IsStage, HasRefused, Holds, IsAhead, crashes_of};
+ghost use Rattle.tape_stage.specs.Staged.{IsPut, FrontOf, KeepsFront};
+ghost use Rattle.tape_stage.specs.Stages.{IsStage, Ends, PassesOver, Holds, IsAhead, crashes_of};
 ghost use Rattle.tape_stage.specs.Disk.{SameFact};
 ghost use Rattle.tape_stage.specs.Parts.{longest_part};
 ghost use Rattle.tape_stage.specs.Faults.{sink_fault_of};
@@ -51,8 +51,7 @@ fn write_frame<D: Disk>(disk: &mut D, place: u64, part: Part<'_>) -> Result<(), 
     ensures long { OnOk result (place + (5 + length part.entry.bytes.now) ≤ D.length_of disk.new) }
     ensures kept { D.is_honest disk.old → KeepsFront place (D.seen disk.old) (D.seen disk.new) }
     ensures any_moment { D.is_honest disk.old
-        → Passes D.may_leave D.moment D.left_since disk.old disk.new
-        (FrontOf place (D.may_leave disk.old)) }
+        → Passes D.Disk disk.old disk.new (FrontOf place (D.may_leave disk.old)) }
     ensures cause { OnErr result (Rose (D.faults disk.old) (D.faults disk.new)) }
     ensures honest { SameFact (D.is_honest disk.old) (D.is_honest disk.new) }
 {
@@ -71,20 +70,14 @@ impl<D: Disk> Stage<D> {
             → IsStage self.old acked parts
             → IsStage self.new acked (parts ++ view part.entry ∷ [])) }
         ensures any_moment { D.is_honest self.old.disk → (acked parts : List Portion)
-            → IsStage self.old acked parts
-            → Passes D.may_leave D.moment D.left_since self.old.disk self.new.disk
-            (StagedIn self.old.in_second self.old.generation self.old.acknowledged acked) }
+            → IsStage self.old acked parts → PassesOver self.old acked self.new }
         ensures kept { D.is_honest self.old.disk
             → KeepsFront (256 + self.old.weight) (D.seen self.old.disk) (D.seen self.new.disk) }
         ensures weight { OnOk result (self.new.weight ≡ self.old.weight +
             (5 + length part.entry.bytes.now)) }
-        ensures alive { OnOk result (self.old.failed ≡ false) }
-        ensures refused { IfErr result (HasRefused self.old self.new) }
-        ensures refusals { self.new.refused ≡ self.old.refused }
         ensures acknowledged { self.new.acknowledged ≡ self.old.acknowledged }
         ensures pending { self.new.pending ≡ self.old.pending }
-        ensures cause { IsErrOf result StageFault.Device
-            → Rose (D.faults self.old.disk) (D.faults self.new.disk) }
+        ensures ends { Ends self.old result self.new }
         ensures full { IsErrOf result StageFault.Full → (self.new ≡ self.old)
             × (most_staged < self.old.weight + (5 + length part.entry.bytes.now)) }
         ensures honest { SameFact (D.is_honest self.old.disk) (D.is_honest self.new.disk) }

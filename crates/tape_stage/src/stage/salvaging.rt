@@ -13,6 +13,7 @@ ghost use Rattle.tape_stage.specs.Moments.{Untouched};
 ghost use Rattle.tape_stage.specs.OnlyReading.{OnlyReads};
 ghost use Rattle.tape_stage.specs.Salvaged.{Remains, RemainsNone, HoldsRest, RestAhead, FramedTo};
 ghost use Rattle.tape_stage.specs.Salvaged.{WalkedIn, standing};
+ghost use Rattle.tape_stage.specs.Stages.{EndsFinding};
 
 use crate::disk::Disk;
 use crate::stage::frames::{break_of, read_frame};
@@ -44,12 +45,8 @@ fn remains<D: Disk>(disk: &mut D) -> Result<(Checkpoint, Option<u64>), StageFaul
     ensures none { D.is_honest disk.old → IfErr result
         (λ fault. SaysNone fault → RemainsNone (D.seen disk.old)) }
     ensures no_frame { IfErr result (λ fault. OnBadFrame fault (λ place. ⊥)) }
-    ensures not_full { IsErrOf result StageFault.Full → ⊥ }
-    ensures not_failed { IsErrOf result StageFault.Failed → ⊥ }
-    ensures cause { IsErrOf result StageFault.Device
-        → Rose (D.faults disk.old) (D.faults disk.new) }
     ensures reads { OnlyReads D.Disk disk.old disk.new }
-    ensures honest { OnOk result (D.is_honest disk.old → D.is_honest disk.new) }
+    ensures ends { EndsFinding D.Disk disk.old result disk.new }
 {
     let found = find_on(disk)?;
     let broken = break_of(disk, found.staged())?;

@@ -5,16 +5,16 @@ ghost use Rattle.std.specs.Prelude.{IsErrOf, Some, None, ◌⊎◌, ◌^◌, Boo
 ghost use Rattle.tape_blocks.specs.Block.{Portion};
 ghost use Rattle.tape_core.specs.Weight.{Rose};
 ghost use Rattle.tape_core.specs.Point.{Point};
-ghost use Rattle.tape_stage.specs.Moments.{Passes, After};
+ghost use Rattle.tape_stage.specs.Moments.{EndsSynced, IsDurable, Passes};
 ghost use Rattle.tape_stage.specs.Parts.{IsFront};
 ghost use Rattle.tape_stage.specs.Staged.{Holding, IsEither, KeepsFrames, Staged, slot_place};
 ghost use Rattle.tape_stage.specs.Staged.{body_at, gate_at, StagedIn, IsClosed, IsFilled, IsNext};
 ghost use Rattle.tape_stage.specs.Staged.{Ready};
-ghost use Rattle.tape_stage.specs.Stages.{IsStage, HasRefused};
+ghost use Rattle.tape_stage.specs.Stages.{IsStage, HasRefused, Ends, PassesTo};
 ghost use Rattle.tape_stage.specs.Body.{most_generation, body_text, FitBody};
-ghost use Rattle.tape_stage.specs.Disk.{Holds, Torn, Only};
 
-use crate::disk::{Disk, DiskFault, write_kept};
+use crate::disk::kept::write_kept;
+use crate::disk::{Disk, DiskFault};
 use crate::stage::open_disk::body_bytes;
 use crate::stage::{CLOSED, MOST_GENERATION, OPEN, Stage, StageFault};
 use tape_core::Checkpoint;
@@ -50,24 +50,16 @@ impl<D: Disk> Stage<D> {
             → IsStage self.new front parts) }
         ensures any_moment { D.is_honest self.old.disk → (acked parts front : List Portion)
             → IsStage self.old acked parts → Holding point.now.staged front (D.seen self.old.disk)
-            → Passes D.may_leave D.moment D.left_since self.old.disk self.new.disk
-            (IsEither self.old.in_second self.old.generation
-            self.old.acknowledged point.now acked front) }
+            → PassesTo self.old acked point.now front self.new }
         ensures acknowledged { OnOk result (self.new.acknowledged ≡ point.now) }
         ensures weight { self.new.weight ≡ self.old.weight }
         ensures calm { OnOk result (D.faults self.new.disk ≡ D.faults self.old.disk) }
         ensures frames { D.is_honest self.old.disk
             → KeepsFrames (D.seen self.old.disk) (D.seen self.new.disk) }
         ensures alive { OnOk result (self.new.failed ≡ false) }
-        ensures was_alive { OnOk result (self.old.failed ≡ false) }
-        ensures refused { IfErr result (HasRefused self.old self.new) }
-        ensures refusals { self.new.refused ≡ self.old.refused }
         ensures slot { OnOk result (self.new.in_second ≡ not self.old.in_second) }
         ensures generation { OnOk result (self.new.generation ≡ self.old.generation + 1) }
-        ensures cause { IsErrOf result StageFault.Device
-            → Rose (D.faults self.old.disk) (D.faults self.new.disk) }
-        ensures honest { OnOk result (D.is_honest self.old.disk → D.is_honest self.new.disk) }
-        ensures back { D.is_honest self.new.disk → D.is_honest self.old.disk }
+        ensures ends { Ends self.old result self.new }
     {
         let generation = self.next_generation()?;
         let next = *point;
@@ -125,20 +117,12 @@ impl<D: Disk> Stage<D> {
             → IsStage self.old acked parts → IsStage self.new parts parts) }
         ensures any_moment { D.is_honest self.old.disk → (acked parts : List Portion)
             → IsStage self.old acked parts
-            → Passes D.may_leave D.moment D.left_since self.old.disk self.new.disk
-            (IsEither self.old.in_second self.old.generation
-            self.old.acknowledged point.now acked parts) }
+            → PassesTo self.old acked point.now parts self.new }
         ensures frames { D.is_honest self.old.disk
             → KeepsFrames (D.seen self.old.disk) (D.seen self.new.disk) }
         ensures weight { self.new.weight ≡ self.old.weight }
-        ensures was_alive { OnOk result (self.old.failed ≡ false) }
-        ensures refused { IfErr result (HasRefused self.old self.new) }
-        ensures refusals { self.new.refused ≡ self.old.refused }
         ensures acknowledged { OnOk result (self.new.acknowledged ≡ point.now) }
-        ensures cause { IsErrOf result StageFault.Device
-            → Rose (D.faults self.old.disk) (D.faults self.new.disk) }
-        ensures honest { OnOk result (D.is_honest self.old.disk → D.is_honest self.new.disk) }
-        ensures back { D.is_honest self.new.disk → D.is_honest self.old.disk }
+        ensures ends { Ends self.old result self.new }
     {
         self.acknowledge(point)
     }
@@ -153,18 +137,10 @@ impl<D: Disk> Stage<D> {
             → IsStage self.new front front) }
         ensures any_moment { D.is_honest self.old.disk → (acked parts front : List Portion)
             → IsStage self.old acked parts → IsFront point.now.staged front parts
-            → Passes D.may_leave D.moment D.left_since self.old.disk self.new.disk
-            (IsEither self.old.in_second self.old.generation
-            self.old.acknowledged point.now acked front) }
+            → PassesTo self.old acked point.now front self.new }
         ensures weight { OnOk result (self.new.weight ≡ point.now.staged) }
-        ensures was_alive { OnOk result (self.old.failed ≡ false) }
-        ensures refused { IfErr result (HasRefused self.old self.new) }
-        ensures refusals { self.new.refused ≡ self.old.refused }
         ensures acknowledged { OnOk result (self.new.acknowledged ≡ point.now) }
-        ensures cause { IsErrOf result StageFault.Device
-            → Rose (D.faults self.old.disk) (D.faults self.new.disk) }
-        ensures honest { OnOk result (D.is_honest self.old.disk → D.is_honest self.new.disk) }
-        ensures back { D.is_honest self.new.disk → D.is_honest self.old.disk }
+        ensures ends { Ends self.old result self.new }
     {
         let staged = point.staged;
         // Saved first and then cut: a cut before could take parts that the older checkpoint tells.
@@ -193,18 +169,12 @@ pub(crate) fn close_gate<D: Disk>(
         → OnOk result ((g : ℕ) (point : Point) (parts : List Portion)
         → Ready in_second g point parts is_open (D.seen disk.old) (D.may_leave disk.old)
         → IsClosed in_second g point parts (D.seen disk.new)) }
-    ensures durable { D.is_honest disk.old
-        → OnOk result (Only (D.seen disk.new) (D.may_leave disk.new)) }
     ensures frames { D.is_honest disk.old → KeepsFrames (D.seen disk.old) (D.seen disk.new) }
     ensures any_moment { D.is_honest disk.old → (g : ℕ) (point : Point) (parts : List Portion)
         → Ready in_second g point parts is_open (D.seen disk.old) (D.may_leave disk.old)
-        → Passes D.may_leave D.moment D.left_since disk.old disk.new
-        (StagedIn in_second g point parts) }
+        → Passes D.Disk disk.old disk.new (StagedIn in_second g point parts) }
     ensures long { OnOk result (D.length_of disk.new ≡ D.length_of disk.old) }
-    ensures cause { OnErr result (Rose (D.faults disk.old) (D.faults disk.new)) }
-    ensures calm { OnOk result (D.faults disk.new ≡ D.faults disk.old) }
-    ensures honest { OnOk result (D.is_honest disk.old → D.is_honest disk.new) }
-    ensures back { D.is_honest disk.new → D.is_honest disk.old }
+    ensures synced { EndsSynced D.Disk disk.old result disk.new }
 {
     // A gate that is closed is left alone: a write of it that a crash tears could leave it open
     // over a body that was never acknowledged. The sync is due in either case, since it keeps the
@@ -231,19 +201,13 @@ pub(crate) fn fill_slot<D: Disk>(
     ensures fit { FitBody generation next }
     ensures body { D.is_honest disk.old → OnOk result
         (body_at (not in_second) (D.seen disk.new) ≡ body_text generation next) }
-    ensures durable { D.is_honest disk.old
-        → OnOk result (Only (D.seen disk.new) (D.may_leave disk.new)) }
     ensures frames { D.is_honest disk.old → KeepsFrames (D.seen disk.old) (D.seen disk.new) }
     ensures any_moment { D.is_honest disk.old → (g : ℕ) (point : Point) (parts : List Portion)
         → IsClosed in_second g point parts (D.seen disk.old)
-        → Only (D.seen disk.old) (D.may_leave disk.old)
-        → Passes D.may_leave D.moment D.left_since disk.old disk.new
-        (StagedIn in_second g point parts) }
+        → IsDurable D.Disk disk.old
+        → Passes D.Disk disk.old disk.new (StagedIn in_second g point parts) }
     ensures long { OnOk result (D.length_of disk.new ≡ D.length_of disk.old) }
-    ensures cause { OnErr result (Rose (D.faults disk.old) (D.faults disk.new)) }
-    ensures calm { OnOk result (D.faults disk.new ≡ D.faults disk.old) }
-    ensures honest { OnOk result (D.is_honest disk.old → D.is_honest disk.new) }
-    ensures back { D.is_honest disk.new → D.is_honest disk.old }
+    ensures synced { EndsSynced D.Disk disk.old result disk.new }
 {
     // Whatever a crash leaves of these bytes does not count, for their gate is closed on the disk.
     let body = body_bytes(generation, next);
@@ -257,20 +221,14 @@ pub(crate) fn open_gate<D: Disk>(disk: &mut D, in_second: bool) -> Result<(), Di
         → OnOk result ((g : ℕ) (point next : Point) (parts more : List Portion)
         → FitBody (g + 1) next → IsFilled in_second g point next parts more (D.seen disk.old)
         → IsNext in_second (g + 1) next more (D.seen disk.new)) }
-    ensures durable { D.is_honest disk.old
-        → OnOk result (Only (D.seen disk.new) (D.may_leave disk.new)) }
     ensures frames { D.is_honest disk.old → KeepsFrames (D.seen disk.old) (D.seen disk.new) }
     ensures any_moment { D.is_honest disk.old
         → (g : ℕ) (point next : Point) (parts more : List Portion)
         → FitBody (g + 1) next → IsFilled in_second g point next parts more (D.seen disk.old)
-        → Only (D.seen disk.old) (D.may_leave disk.old)
-        → Passes D.may_leave D.moment D.left_since disk.old disk.new
-        (IsEither in_second g point next parts more) }
+        → IsDurable D.Disk disk.old
+        → Passes D.Disk disk.old disk.new (IsEither in_second g point next parts more) }
     ensures long { OnOk result (D.length_of disk.new ≡ D.length_of disk.old) }
-    ensures cause { OnErr result (Rose (D.faults disk.old) (D.faults disk.new)) }
-    ensures calm { OnOk result (D.faults disk.new ≡ D.faults disk.old) }
-    ensures honest { OnOk result (D.is_honest disk.old → D.is_honest disk.new) }
-    ensures back { D.is_honest disk.new → D.is_honest disk.old }
+    ensures synced { EndsSynced D.Disk disk.old result disk.new }
 {
     // One byte, behind the sync of all that it makes count: a crash leaves it open or not.
     write_kept(disk, gate_place(!in_second), &[OPEN])
@@ -292,20 +250,14 @@ pub(crate) fn replace_slot<D: Disk>(
         → Ready in_second g point parts is_open (D.seen disk.old) (D.may_leave disk.old)
         → Holding next.staged more (D.seen disk.old)
         → IsNext in_second generation next more (D.seen disk.new)) }
-    ensures durable { D.is_honest disk.old
-        → OnOk result (Only (D.seen disk.new) (D.may_leave disk.new)) }
     ensures frames { D.is_honest disk.old → KeepsFrames (D.seen disk.old) (D.seen disk.new) }
     ensures any_moment { D.is_honest disk.old → (g : ℕ) (point : Point) (parts more : List Portion)
         → g + 1 ≡ generation
         → Ready in_second g point parts is_open (D.seen disk.old) (D.may_leave disk.old)
         → Holding next.staged more (D.seen disk.old)
-        → Passes D.may_leave D.moment D.left_since disk.old disk.new
-        (IsEither in_second g point next parts more) }
+        → Passes D.Disk disk.old disk.new (IsEither in_second g point next parts more) }
     ensures long { OnOk result (D.length_of disk.new ≡ D.length_of disk.old) }
-    ensures cause { OnErr result (Rose (D.faults disk.old) (D.faults disk.new)) }
-    ensures calm { OnOk result (D.faults disk.new ≡ D.faults disk.old) }
-    ensures honest { OnOk result (D.is_honest disk.old → D.is_honest disk.new) }
-    ensures back { D.is_honest disk.new → D.is_honest disk.old }
+    ensures synced { EndsSynced D.Disk disk.old result disk.new }
 {
     // Each step is synced before the next begins: the gate is closed before its body changes, and
     // opened when that is kept.

@@ -7,16 +7,12 @@ use Rattle.tape_tool.proofs.staging.open_session.Goals as goal
 
 pub returns-in-Ok-clause-foreign : goal.returns-in-Ok-clause-foreign
 returns-in-Ok-clause-foreign g c honest filled none =
-    let s = g.D.Disk.seen in
-    let m = g.D.Disk.may_leave in
-    let t = g.D.Disk.moment in
-    let l = g.D.Disk.left_since in
     let d0 = c.args.disk in
     let d1 = c.len.new.self in
     let same = c.len.ensures.same honest in
-    let asked = untouched_by s m t l d0 d1 same (c.len.ensures.crash honest)
+    let asked = untouched_by g.D.Disk d0 d1 same (c.len.ensures.crash honest)
     (c.len.ensures.time honest) in
-    if_err c.resume.result (λ refused then. untouched_then s m t l d0 d1 refused.disk asked then)
+    if_err c.resume.result (λ refused then. untouched_then g.D.Disk d0 d1 refused.disk asked then)
     (c.resume.ensures.foreign (c.len.ensures.honest.onward honest)
     (subst HoldsNone (sym same) none))
 

@@ -1,6 +1,7 @@
 use Rattle.std.proofs.Common.{[], refl, sym, ap, subst, ◌∙◌}
 use Rattle.tape_core.specs.State.{State}
-use Rattle.tape_tool.specs.Staging.{IsOfFile, OpensOver}
+use Rattle.tape_stage.specs.Stages.{OpensOver}
+use Rattle.tape_tool.specs.Staging.{IsOfFile}
 use Rattle.tape_stage.specs.declared.stage.Stage.{Stage}
 use Rattle.tape_stage.proofs.Refusals.{opened_keeps}
 use Rattle.tape_tool.proofs.Sessions.{stands_at}

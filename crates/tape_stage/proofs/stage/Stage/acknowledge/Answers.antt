@@ -10,7 +10,7 @@ use Rattle.tape_stage.proofs.stage.Stage.acknowledge.Goals as goal
 pub returns-in_err-generation-clause-any_moment : goal.returns-in_err-generation-clause-any_moment
 returns-in_err-generation-clause-any_moment g c honest acked parts front is holding =
     let s = c.args.self.now in
-    nothing g.D.Disk.may_leave g.D.Disk.moment g.D.Disk.left_since s.disk
+    nothing g.D.Disk s.disk
     (IsEither s.in_second s.generation s.acknowledged c.args.point.now acked front)
     (λ x left. inl (ready_each s.in_second s.generation s.acknowledged acked s.other_open
     (g.D.Disk.seen s.disk) (g.D.Disk.may_leave s.disk) x is.ready left).0)
@@ -29,7 +29,7 @@ returns-in-Ok-clause-ok g c honest acked parts front is holding =
         staged = next.staged;
         gate = gate_test s.in_second new next.gate;
         alike = λ x left. ap (take (256 + c.args.point.now.staged))
-            (c.in-Ok.ensures.durable honest x left);
+            (c.in-Ok.ensures.synced.durable honest x left);
       };
       holds = frames_holding s.weight parts old new (c.replace_slot.ensures.frames honest) is.holds;
       behind = c.requires;

@@ -1,4 +1,4 @@
-use Rattle.std.proofs.Common.{◌≡◌, true, false, subst, sym}
+use Rattle.std.proofs.Common.{◌≡◌, true, false, rules, subst, sym}
 use Rattle.tape_core.specs.Point.{Point}
 use Rattle.tape_stage.specs.Parts.{IsFront}
 use Rattle.tape_stage.proofs.Results.{on_ok, if_err}
@@ -28,7 +28,13 @@ cut_refused : {D : Type 0} {disk : Ghosts D} (old new : Stage D disk) (fault : S
     → HasRefused old new fault
 cut_refused old new fault alive is = rw is.0 (alive, is.1, is.2)
 
-pub returns-then-self-staged-clause-refused : goal.returns-then-self-staged-clause-refused
-returns-then-self-staged-clause-refused g c =
-    if_err c.cut_parts.result (λ fault is. cut_refused c.args.self.now c.cut_parts.new.self fault
-    c.cut_parts.ensures.was_alive is) c.cut_parts.ensures.refused
+pub returns-then-self-staged-clause-ends : goal.returns-then-self-staged-clause-ends
+returns-then-self-staged-clause-ends g c = record {
+  was_alive = search rules;
+  refused = if_err c.cut_parts.result (λ fault is. cut_refused c.args.self.now c.cut_parts.new.self
+      fault c.cut_parts.ensures.was_alive is) c.cut_parts.ensures.refused;
+  refusals = search rules;
+  cause = search rules;
+  honest = search rules;
+  back = search rules;
+}

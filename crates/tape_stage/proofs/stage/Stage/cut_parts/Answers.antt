@@ -36,7 +36,7 @@ returns-in-Ok-clause-ok g c honest acked parts front is of =
 pub returns-in-Ok-clause-any_moment : goal.returns-in-Ok-clause-any_moment
 returns-in-Ok-clause-any_moment g c honest acked parts is =
     let s = c.args.self.now in
-    stands g.D.Disk.may_leave g.D.Disk.moment g.D.Disk.left_since s.disk c.cut.new.self
+    stands g.D.Disk s.disk c.cut.new.self
     (StagedIn s.in_second s.generation s.acknowledged acked) (c.cut.ensures.time honest)
     (λ x left.
     let from = c.cut.ensures.crash honest x left in
@@ -47,7 +47,7 @@ returns-in-Ok-clause-any_moment g c honest acked parts is =
 pub returns-in-Err-clause-any_moment : goal.returns-in-Err-clause-any_moment
 returns-in-Err-clause-any_moment g c honest acked parts is =
     let s = c.args.self.now in
-    stands g.D.Disk.may_leave g.D.Disk.moment g.D.Disk.left_since s.disk c.cut.new.self
+    stands g.D.Disk s.disk c.cut.new.self
     (StagedIn s.in_second s.generation s.acknowledged acked) (c.cut.ensures.time honest)
     (λ x left.
     let from = c.cut.ensures.crash honest x left in

@@ -11,7 +11,7 @@ returns-in-Ok-clause-resumes g c honest =
       opened.read,
       opened_holds c.recover.new.disk found.in_second found.generation found.point found.other_open
           c.staged.result opened.parts c.staged.ensures.value
-          (c.in-Ok.ensures.honest honest) opened.ready,
+          (c.in-Ok.ensures.ends.honest honest) opened.ready,
       ready_returns (g.D.Disk.seen c.recover.new.disk) (g.D.Disk.may_leave c.recover.new.disk)
           found.in_second found.generation found.point found.other_open opened.parts opened.ready,
     )

@@ -12,7 +12,7 @@ use Rattle.tape_stage.proofs.stage.Stage.put_part.Goals as goal
 pub returns-then-size-self-clause-any_moment : goal.returns-then-size-self-clause-any_moment
 returns-then-size-self-clause-any_moment g c honest acked parts is =
     let s = c.args.self.now in
-    nothing g.D.Disk.may_leave g.D.Disk.moment g.D.Disk.left_since s.disk
+    nothing g.D.Disk s.disk
     (StagedIn s.in_second s.generation s.acknowledged acked)
     (λ x left. (ready_each s.in_second s.generation s.acknowledged acked s.other_open
     (g.D.Disk.seen s.disk) (g.D.Disk.may_leave s.disk) x is.ready left).0)
@@ -39,7 +39,7 @@ returns-in-Ok-clause-ok g c honest acked parts is =
 pub returns-in-Ok-clause-any_moment : goal.returns-in-Ok-clause-any_moment
 returns-in-Ok-clause-any_moment g c honest acked parts is =
     let s = c.args.self.now in
-    weaken g.D.Disk.may_leave g.D.Disk.moment g.D.Disk.left_since s.disk c.write_frame.new.disk
+    weaken g.D.Disk s.disk c.write_frame.new.disk
     (FrontOf (256 + s.weight) (g.D.Disk.may_leave s.disk))
     (StagedIn s.in_second s.generation s.acknowledged acked)
     (λ x of. front_staged s.in_second s.generation s.acknowledged acked s.other_open
@@ -50,7 +50,7 @@ returns-in-Ok-clause-any_moment g c honest acked parts is =
 pub returns-in-Err-clause-any_moment : goal.returns-in-Err-clause-any_moment
 returns-in-Err-clause-any_moment g c honest acked parts is =
     let s = c.args.self.now in
-    weaken g.D.Disk.may_leave g.D.Disk.moment g.D.Disk.left_since s.disk c.write_frame.new.disk
+    weaken g.D.Disk s.disk c.write_frame.new.disk
     (FrontOf (256 + s.weight) (g.D.Disk.may_leave s.disk))
     (StagedIn s.in_second s.generation s.acknowledged acked)
     (λ x of. front_staged s.in_second s.generation s.acknowledged acked s.other_open

@@ -1,5 +1,5 @@
 use Rattle.std.proofs.Common.{◌≡◌, inr, ℕ, ◌+◌, Bool, true, false}
-use Rattle.std.proofs.Common.{subst, sym, ◌∙◌}
+use Rattle.std.proofs.Common.{rules, subst, sym, ◌∙◌}
 use Rattle.tape_core.specs.Weight.{Rose}
 use Rattle.tape_stage.specs.Parts.{IsFront}
 use Rattle.tape_stage.specs.Staged.{StagedIn, IsEither}
@@ -30,7 +30,7 @@ returns-in-Ok-clause-ok g c honest =
     c.requires of is.holds in
     cut front parts front (c.in-Ok.ensures.ok honest acked parts front is holding)
     (subst (λ (p : Point). IsFront p.staged front parts) (sym c.point.view_is) of))
-    (c.cut_parts.ensures.ok (c.in-Ok.ensures.honest honest))
+    (c.cut_parts.ensures.ok (c.in-Ok.ensures.ends.honest honest))
 
 pub returns-in-Ok-clause-any_moment : goal.returns-in-Ok-clause-any_moment
 returns-in-Ok-clause-any_moment g c honest acked parts front is of =
@@ -39,13 +39,13 @@ returns-in-Ok-clause-any_moment g c honest acked parts front is of =
     c.requires of is.holds in
     let k = c.acknowledge.new.self in
     let mid = c.in-Ok.ensures.ok honest acked parts front is holding in
-    let honest1 = c.in-Ok.ensures.honest honest in
+    let honest1 = c.in-Ok.ensures.ends.honest honest in
     let point : k.acknowledged ≡ c.args.point.now = c.in-Ok.ensures.acknowledged in
     let P = IsEither s.in_second s.generation s.acknowledged c.args.point.now acked front in
-    follow g.D.Disk.may_leave g.D.Disk.moment g.D.Disk.left_since s.disk k.disk
+    follow g.D.Disk s.disk k.disk
     c.cut_parts.new.self.disk P (c.acknowledge.ensures.any_moment honest acked parts front is
     holding)
-    (weaken g.D.Disk.may_leave g.D.Disk.moment g.D.Disk.left_since k.disk c.cut_parts.new.self.disk
+    (weaken g.D.Disk k.disk c.cut_parts.new.self.disk
     (StagedIn k.in_second k.generation k.acknowledged front) P
     (λ x now.
     inr (subst (λ (b : Bool). StagedIn b (s.generation + 1) c.args.point.now front x)
@@ -60,13 +60,15 @@ cut_refused : {D : Type 0} {disk : Ghosts D} (old mid new : Stage D disk) (fault
     × (new.weight ≡ mid.weight) → HasRefused old new fault
 cut_refused old mid new fault alive same is = rw is.0 (alive, is.1, is.2 ∙ same)
 
-pub returns-in-Ok-clause-refused : goal.returns-in-Ok-clause-refused
-returns-in-Ok-clause-refused g c =
-    if_err c.cut_parts.result (λ fault is. cut_refused c.args.self.now c.acknowledge.new.self
-    c.cut_parts.new.self fault c.in-Ok.ensures.was_alive c.acknowledge.ensures.weight is)
-    c.cut_parts.ensures.refused
-
-pub returns-in-Ok-clause-cause : goal.returns-in-Ok-clause-cause
-returns-in-Ok-clause-cause g c is =
-    subst (λ (n : ℕ). Rose n (g.D.Disk.faults c.cut_parts.new.self.disk)) c.in-Ok.ensures.calm
-    (c.cut_parts.ensures.cause is)
+pub returns-in-Ok-clause-ends : goal.returns-in-Ok-clause-ends
+returns-in-Ok-clause-ends g c = record {
+  was_alive = search rules;
+  refused = if_err c.cut_parts.result (λ fault is. cut_refused c.args.self.now
+      c.acknowledge.new.self c.cut_parts.new.self fault c.in-Ok.ensures.ends.was_alive
+      c.acknowledge.ensures.weight is) c.cut_parts.ensures.refused;
+  refusals = search rules;
+  cause = λ is. subst (λ (n : ℕ). Rose n (g.D.Disk.faults c.cut_parts.new.self.disk))
+      c.in-Ok.ensures.calm (c.cut_parts.ensures.cause is);
+  honest = search rules;
+  back = search rules;
+}

@@ -23,9 +23,9 @@ loop-place-preserved g c =
             λ h. i.honest.back (r.honest.back h);
       };
       seen = λ h. r.same (i.honest.onward h) ∙ i.seen h;
-      moments = λ h. follow g.D.Disk.may_leave g.D.Disk.moment g.D.Disk.left_since c.args.disk.now
+      moments = λ h. follow g.D.Disk c.args.disk.now
           c.loop-place.disk c.read.new.self (g.D.Disk.may_leave c.args.disk.now) (i.moments h)
-          (stands g.D.Disk.may_leave g.D.Disk.moment g.D.Disk.left_since c.loop-place.disk
+          (stands g.D.Disk c.loop-place.disk
           c.read.new.self (g.D.Disk.may_leave c.args.disk.now) (r.time (i.honest.onward h))
           (λ x left. (i.moments h).now x (r.crash (i.honest.onward h) x left)));
       walked = λ h.

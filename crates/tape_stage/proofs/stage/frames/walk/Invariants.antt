@@ -12,8 +12,8 @@ invariant-loop-place g l = record {
   faults : g.D.Disk.faults l.disk ≡ g.D.Disk.faults l.fn.disk;
   honest : SameFact (g.D.Disk.is_honest l.fn.disk) (g.D.Disk.is_honest l.disk);
   seen : g.D.Disk.is_honest l.fn.disk → g.D.Disk.seen l.disk ≡ g.D.Disk.seen l.fn.disk;
-  moments : g.D.Disk.is_honest l.fn.disk → Passes g.D.Disk.may_leave g.D.Disk.moment
-      g.D.Disk.left_since l.fn.disk l.disk (g.D.Disk.may_leave l.fn.disk);
+  moments : g.D.Disk.is_honest l.fn.disk → Passes g.D.Disk l.fn.disk l.disk
+      (g.D.Disk.may_leave l.fn.disk);
   walked : g.D.Disk.is_honest l.fn.disk → WalkedTo l.place (g.D.Disk.seen l.fn.disk);
 }
 

@@ -27,7 +27,7 @@ returns-clause-made g c honest =
     let s0 = g.D.Disk.seen c.args.disk.now in
     let s1 = g.D.Disk.seen c.write_kept.new.disk in
     let s2 = g.D.Disk.seen c.write_kept-2.new.disk in
-    let h1 = c.in_ok-write_kept.ensures.honest honest in
+    let h1 = c.in_ok-write_kept.ensures.synced.honest honest in
     let empty : length s0 ≡ 0 =
     omega (arith, g.met.D.Disk.long_as_seen c.args.disk.now honest, c.requires.empty) in
     let text = first_text c.deref.result.now c.in_ok-header.header.items
@@ -37,7 +37,7 @@ returns-clause-made g c honest =
     subst (λ (b : List ℕ). Holds s0 0 b s1) text (c.in_ok-write_kept.ensures.written honest) in
     made_ready c.args.point s0 s1 s2 (g.D.Disk.may_leave c.write_kept-2.new.disk) c.requires.none
     c.header.ensures.fit empty first
-    (c.in_ok-write_kept-2.ensures.written h1) (c.in_ok-write_kept-2.ensures.durable h1)
+    (c.in_ok-write_kept-2.ensures.written h1) (c.in_ok-write_kept-2.ensures.synced.durable h1)
 
 pub returns-clause-long : goal.returns-clause-long
 returns-clause-long g c =

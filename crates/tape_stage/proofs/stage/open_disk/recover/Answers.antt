@@ -61,7 +61,7 @@ returns-in_err-cut_kept-clause-any_moment g c honest =
     let parts = found.parts honest in
     cut_passes g.D.Disk _ _ _ c.look.ensures.reads honest c.in_ok-found.found (found.found honest) _
     c.staged.ensures.value parts.0 parts.1
-    (c.cut_kept.ensures.any_moment (found.honest honest) (found.durable honest))
+    (c.cut_kept.ensures.any_moment (found.ends.honest honest) (found.durable honest))
 
 pub returns-in_err-cut_kept-clause-foreign : goal.returns-in_err-cut_kept-clause-foreign
 returns-in_err-cut_kept-clause-foreign g c honest none =
@@ -77,7 +77,7 @@ returns-in_err-cut_kept-clause-kept g c honest =
     on_each_err c.from_residual-in_err-cut_kept.result
     (cut_stopped g.D.Disk _ _ _ c.look.ensures.reads honest c.in_ok-found.found
     (found.found honest) _ c.staged.ensures.value
-    (c.in_err-cut_kept.ensures.partly (found.honest honest)))
+    (c.in_err-cut_kept.ensures.partly (found.ends.honest honest)))
 
 -- ---- all was done
 
@@ -87,19 +87,19 @@ returns-clause-any_moment g c honest =
     let parts = found.parts honest in
     cut_passes g.D.Disk _ _ _ c.look.ensures.reads honest c.in_ok-found.found (found.found honest) _
     c.staged.ensures.value parts.0 parts.1
-    (c.cut_kept.ensures.any_moment (found.honest honest) (found.durable honest))
+    (c.cut_kept.ensures.any_moment (found.ends.honest honest) (found.durable honest))
 
 pub returns-clause-found : goal.returns-clause-found
 returns-clause-found g c honest =
     let found = c.in_ok-found.ensures in
     let parts = found.parts honest in
     let cut = c.in_ok-cut_kept.ensures in
-    let there = found.honest honest in
+    let there = found.ends.honest honest in
     cut_opened g.D.Disk _ _ _ c.look.ensures.reads honest c.in_ok-found.found (found.found honest) _
-    c.staged.ensures.value parts.0 parts.1 (cut.cut there) (cut.durable there)
+    c.staged.ensures.value parts.0 parts.1 (cut.cut there) (cut.synced.durable there)
 
 pub returns-clause-cut : goal.returns-clause-cut
 returns-clause-cut g c honest =
     let found = c.in_ok-found.ensures in
     cut_is g.D.Disk _ _ _ c.look.ensures.reads honest c.in_ok-found.found (found.found honest) _
-    c.staged.ensures.value (c.in_ok-cut_kept.ensures.cut (found.honest honest))
+    c.staged.ensures.value (c.in_ok-cut_kept.ensures.cut (found.ends.honest honest))

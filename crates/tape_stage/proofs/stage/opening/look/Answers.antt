@@ -19,7 +19,7 @@ returns-in_err-found-clause-at g c h =
 
 pub returns-in-None-clause-parts : goal.returns-in-None-clause-parts
 returns-in-None-clause-parts g c h =
-    let framed = c.in_ok-break_of.ensures.framed (c.in_ok-found.ensures.honest h) in (
+    let framed = c.in_ok-break_of.ensures.framed (c.in_ok-found.ensures.ends.honest h) in (
       framed.0,
       (framed_as c.staged.result c.in_ok-found.found.point.staged c.in_ok-break_of.field-0 None
           framed.0 (g.D.Disk.seen c.find_on.new.disk) (g.D.Disk.seen c.args.disk.now)
@@ -29,7 +29,7 @@ returns-in-None-clause-parts g c h =
 pub returns-in-Some-clause-none : goal.returns-in-Some-clause-none
 returns-in-Some-clause-none g c h says =
     let found = c.in_ok-found.found in
-    let framed = c.in_ok-break_of.ensures.framed (c.in_ok-found.ensures.honest h) in
+    let framed = c.in_ok-break_of.ensures.framed (c.in_ok-found.ensures.ends.honest h) in
     broken_none found c.in-Some.place framed.0 (g.D.Disk.seen c.args.disk.now)
     (c.in_ok-found.ensures.found h)
     (framed_as c.staged.result found.point.staged c.in_ok-break_of.field-0 (Some c.in-Some.place)
@@ -39,7 +39,7 @@ returns-in-Some-clause-none g c h says =
 pub returns-in-Some-clause-at : goal.returns-in-Some-clause-at
 returns-in-Some-clause-at g c h =
     let found = c.in_ok-found.found in
-    let framed = c.in_ok-break_of.ensures.framed (c.in_ok-found.ensures.honest h) in
+    let framed = c.in_ok-break_of.ensures.framed (c.in_ok-found.ensures.ends.honest h) in
     broken_bad found c.in-Some.place framed.0 (g.D.Disk.seen c.args.disk.now)
     (c.in_ok-found.ensures.found h)
     (framed_as c.staged.result found.point.staged c.in_ok-break_of.field-0 (Some c.in-Some.place)

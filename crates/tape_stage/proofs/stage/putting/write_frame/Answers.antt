@@ -35,11 +35,11 @@ returns-clause-any_moment g c honest =
     let here : (x : List ℕ) → m c.write_at.new.self x → FrontOf c.args.place (m c.args.disk.now) x =
     λ x left.
     let from = c.write_at.ensures.crash honest x left in (from.0, from.1, from.2.before) in
-    follow m g.D.Disk.moment g.D.Disk.left_since c.args.disk.now c.write_at.new.self
+    follow g.D.Disk c.args.disk.now c.write_at.new.self
     c.write_at-2.new.self P
-    (stands m g.D.Disk.moment g.D.Disk.left_since c.args.disk.now c.write_at.new.self P
+    (stands g.D.Disk c.args.disk.now c.write_at.new.self P
     (c.write_at.ensures.time honest) here)
-    (stands m g.D.Disk.moment g.D.Disk.left_since c.write_at.new.self c.write_at-2.new.self P
+    (stands g.D.Disk c.write_at.new.self c.write_at-2.new.self P
     (c.write_at-2.ensures.time honest1)
     (λ x left.
     let from = c.write_at-2.ensures.crash honest1 x left in
@@ -53,7 +53,7 @@ returns-clause-any_moment g c honest =
 pub returns-in_err-write_at-clause-any_moment : goal.returns-in_err-write_at-clause-any_moment
 returns-in_err-write_at-clause-any_moment g c honest =
     let m = g.D.Disk.may_leave in
-    stands m g.D.Disk.moment g.D.Disk.left_since c.args.disk.now c.write_at.new.self
+    stands g.D.Disk c.args.disk.now c.write_at.new.self
     (FrontOf c.args.place (m c.args.disk.now)) (c.write_at.ensures.time honest)
     (λ x left.
     let from = c.write_at.ensures.crash honest x left in (from.0, from.1, from.2.before))

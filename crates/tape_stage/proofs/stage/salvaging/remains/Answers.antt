@@ -12,7 +12,7 @@ pub returns-clause-found : goal.returns-clause-found
 returns-clause-found g c h =
     let found = c.in_ok-found.found in
     let broken = c.in_ok-broken.broken in
-    let framed = c.in_ok-broken.ensures.framed (c.in_ok-found.ensures.honest h) in (
+    let framed = c.in_ok-broken.ensures.framed (c.in_ok-found.ensures.ends.honest h) in (
       found.generation,
       framed.0,
       found_remains found broken framed.0 (g.D.Disk.seen c.args.disk.now)

@@ -37,7 +37,7 @@ pub returns-then-is_open-clause-any_moment : goal.returns-then-is_open-clause-an
 returns-then-is_open-clause-any_moment g c honest g' point parts ready =
     let old = g.D.Disk.seen c.args.disk.now in
     let left = g.D.Disk.may_leave c.args.disk.now in
-    weaken g.D.Disk.may_leave g.D.Disk.moment g.D.Disk.left_since c.args.disk.now
+    weaken g.D.Disk c.args.disk.now
     c.write_kept.new.disk (After (Torn c.gate_place.result 1) left)
     (StagedIn c.args.in_second g' point parts)
     (λ x after. ready_after c.args.in_second g' point parts old left x
@@ -47,7 +47,7 @@ returns-then-is_open-clause-any_moment g c honest g' point parts ready =
 
 pub returns-clause-any_moment : goal.returns-clause-any_moment
 returns-clause-any_moment g c honest g' point parts ready =
-    stands g.D.Disk.may_leave g.D.Disk.moment g.D.Disk.left_since c.args.disk.now c.sync.new.self
+    stands g.D.Disk c.args.disk.now c.sync.new.self
     (StagedIn c.args.in_second g' point parts) (c.sync.ensures.time honest)
     (λ x left. (ready_each c.args.in_second g' point parts c.args.is_open
     (g.D.Disk.seen c.args.disk.now) (g.D.Disk.may_leave c.args.disk.now) x ready

@@ -60,7 +60,7 @@ returns-clause-any_moment g c honest g' point parts is only =
     let body = c.body_bytes-body.result in
     let size = size_of c.args.generation c.args.next c.body_bytes-body.ensures.fit
     c.body_bytes-body.ensures.text in
-    weaken g.D.Disk.may_leave g.D.Disk.moment g.D.Disk.left_since c.args.disk.now
+    weaken g.D.Disk c.args.disk.now
     c.write_kept.new.disk (After (Torn (c.gate_place.result + 1) (length body)) left)
     (StagedIn c.args.in_second g' point parts)
     (λ x after. filled_after c.args.in_second g' point parts body old left x size is only

@@ -30,7 +30,7 @@ pub returns-clause-any_moment : goal.returns-clause-any_moment
 returns-clause-any_moment g c honest g' point next parts more fit is only =
     let old = g.D.Disk.seen c.args.disk.now in
     let left = g.D.Disk.may_leave c.args.disk.now in
-    weaken g.D.Disk.may_leave g.D.Disk.moment g.D.Disk.left_since c.args.disk.now
+    weaken g.D.Disk c.args.disk.now
     c.write_kept.new.disk (After (Torn c.gate_place.result 1) left)
     (IsEither c.args.in_second g' point next parts more)
     (λ x after. opened_after c.args.in_second g' point next parts more old left x fit is only

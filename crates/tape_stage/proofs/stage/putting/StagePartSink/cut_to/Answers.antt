@@ -17,10 +17,10 @@ returns-in-Ok-clause-ok g c front rest holds weighs =
     let parts = front ++ rest in
     let of = front_of c.args.point.now.staged front rest weighs in
     let e = c.in-Ok.ensures in
-    let honest = holds.honest (c.args.self.now.settled e.was_alive) in
-    let was = holds.ready e.was_alive in
+    let honest = holds.honest (c.args.self.now.settled e.ends.was_alive) in
+    let was = holds.ready e.ends.was_alive in
     let now = e.ok honest was.0 parts front was.1 of in
-    stage_holds c.cut_back.new.self now.0 front (e.honest honest) now.1
+    stage_holds c.cut_back.new.self now.0 front (e.ends.honest honest) now.1
 
 pub returns-in-Ok-clause-crash : goal.returns-in-Ok-clause-crash
 returns-in-Ok-clause-crash g c front rest holds weighs =
@@ -28,8 +28,8 @@ returns-in-Ok-clause-crash g c front rest holds weighs =
     let of = front_of c.args.point.now.staged front rest weighs in
     let s = c.args.self.now in
     let e = c.in-Ok.ensures in
-    let honest = holds.honest (s.settled e.was_alive) in
-    let was = holds.ready e.was_alive in
+    let honest = holds.honest (s.settled e.ends.was_alive) in
+    let was = holds.ready e.ends.was_alive in
     adds_this s c.cut_back.new.self was.0 parts front c.args.point.now
     (g.met.D.Disk.seen_now s.disk honest) was.1 (e.any_moment honest was.0 parts front was.1 of)
 
@@ -40,7 +40,7 @@ returns-in-Err-clause-crash g c front rest holds weighs =
     let s = c.args.self.now in
     let e = c.in-Err.ensures in
     adds_refused s c.cut_back.new.self (IsThis c.args.point.now front) c.in-Err.fault
-    e.refused (λ alive.
+    e.ends.refused (λ alive.
     let honest = holds.honest (s.settled alive) in
     let was = holds.ready alive in
     adds_this s c.cut_back.new.self was.0 parts front c.args.point.now

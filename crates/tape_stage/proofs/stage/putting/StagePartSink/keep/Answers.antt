@@ -17,7 +17,7 @@ pub returns-in-Err-clause-same : goal.returns-in-Err-clause-same
 returns-in-Err-clause-same g c parts holds =
     let s = c.args.self.now in
     let e = c.in-Err.ensures in
-    refused_holds s c.save.new.self parts c.in-Err.fault e.refused
+    refused_holds s c.save.new.self parts c.in-Err.fault e.ends.refused
     (λ device none honest. absurd (saved_none (e.pending (ap Err device)) none))
     (λ honest framed. frames_holding s.weight parts (g.D.Disk.seen s.disk)
     (g.D.Disk.seen c.save.new.self.disk) (e.frames honest) framed) holds
@@ -26,23 +26,23 @@ pub returns-in-Ok-clause-kept : goal.returns-in-Ok-clause-kept
 returns-in-Ok-clause-kept g c parts holds =
     let new = c.save.new.self in
     let e = c.in-Ok.ensures in
-    let honest = holds.honest (c.args.self.now.settled e.was_alive) in
-    let was = holds.ready e.was_alive in
+    let honest = holds.honest (c.args.self.now.settled e.ends.was_alive) in
+    let was = holds.ready e.ends.was_alive in
     let only : (back : Point) (there : List Portion) → Returns new back there
     → (back ≡ c.args.point.now) × (there ≡ parts) =
     λ back there r. returned_kept new parts c.args.point.now back there
     (e.ok honest was.0 parts was.1) e.acknowledged r in (
       only,
       λ back there r. only back there
-          (returned_now new (e.honest honest) (g.met.D.Disk.only_now new.disk) back there r),
+          (returned_now new (e.ends.honest honest) (g.met.D.Disk.only_now new.disk) back there r),
     )
 
 pub returns-in-Ok-clause-crash : goal.returns-in-Ok-clause-crash
 returns-in-Ok-clause-crash g c parts holds =
     let s = c.args.self.now in
     let e = c.in-Ok.ensures in
-    let honest = holds.honest (s.settled e.was_alive) in
-    let was = holds.ready e.was_alive in
+    let honest = holds.honest (s.settled e.ends.was_alive) in
+    let was = holds.ready e.ends.was_alive in
     adds_this s c.save.new.self was.0 parts parts c.args.point.now
     (g.met.D.Disk.seen_now s.disk honest) was.1 (e.any_moment honest was.0 parts was.1)
 
@@ -51,7 +51,7 @@ returns-in-Err-clause-crash g c parts holds =
     let s = c.args.self.now in
     let e = c.in-Err.ensures in
     adds_refused s c.save.new.self (IsThis c.args.point.now parts) c.in-Err.fault
-    e.refused (λ alive.
+    e.ends.refused (λ alive.
     let honest = holds.honest (s.settled alive) in
     let was = holds.ready alive in
     adds_this s c.save.new.self was.0 parts parts c.args.point.now

@@ -8,8 +8,8 @@ use Rattle.tape_stage.proofs.stage.putting.StagePartSink.put.Goals as goal
 pub returns-in-Ok-clause-ok : goal.returns-in-Ok-clause-ok
 returns-in-Ok-clause-ok g c parts holds =
     let e = c.in-Ok.ensures in
-    let honest = holds.honest (c.args.self.now.settled e.alive) in
-    let was = holds.ready e.alive in
+    let honest = holds.honest (c.args.self.now.settled e.ends.was_alive) in
+    let was = holds.ready e.ends.was_alive in
     stage_holds c.put_part.new.self was.0 (parts ++ view c.args.part ∷ [])
     (e.honest.onward honest) (e.ok honest was.0 parts was.1)
 
@@ -17,7 +17,7 @@ pub returns-in-Err-clause-err : goal.returns-in-Err-clause-err
 returns-in-Err-clause-err g c parts holds =
     let s = c.args.self.now in
     let e = c.in-Err.ensures in
-    refused_holds s c.put_part.new.self parts c.in-Err.fault e.refused (λ _ _. e.honest.onward)
+    refused_holds s c.put_part.new.self parts c.in-Err.fault e.ends.refused (λ _ _. e.honest.onward)
     (λ honest framed. kept_front_holding s.weight parts (g.D.Disk.seen s.disk)
     (g.D.Disk.seen c.put_part.new.self.disk) (e.kept honest) framed) holds
 
@@ -25,8 +25,8 @@ pub returns-in-Ok-clause-crash : goal.returns-in-Ok-clause-crash
 returns-in-Ok-clause-crash g c parts holds =
     let s = c.args.self.now in
     let e = c.in-Ok.ensures in
-    let honest = holds.honest (s.settled e.alive) in
-    let was = holds.ready e.alive in
+    let honest = holds.honest (s.settled e.ends.was_alive) in
+    let was = holds.ready e.ends.was_alive in
     adds_nothing s c.put_part.new.self was.0 parts (g.met.D.Disk.seen_now s.disk honest) was.1
     (e.any_moment honest was.0 parts was.1)
 
@@ -34,7 +34,7 @@ pub returns-in-Err-clause-crash : goal.returns-in-Err-clause-crash
 returns-in-Err-clause-crash g c parts holds =
     let s = c.args.self.now in
     let e = c.in-Err.ensures in
-    adds_refused s c.put_part.new.self (λ back there. ⊥) c.in-Err.fault e.refused
+    adds_refused s c.put_part.new.self (λ back there. ⊥) c.in-Err.fault e.ends.refused
     (λ alive.
     let honest = holds.honest (s.settled alive) in
     let was = holds.ready alive in

@@ -1,7 +1,7 @@
-use Rattle.std.proofs.Common.{ℕ, List, OnOk, length, sym, subst, arith}
+use Rattle.std.proofs.Common.{ℕ, List, OnOk, length, rules, sym, subst, arith}
 use Rattle.tape_stage.specs.Disk.{Only, Torn}
 use Rattle.tape_stage.proofs.Torn.{holds_torn}
-use Rattle.tape_stage.proofs.disk.write_kept.Goals as goal
+use Rattle.tape_stage.proofs.disk.kept.write_kept.Goals as goal
 
 pub returns-clause-torn : goal.returns-clause-torn
 returns-clause-torn g c honest =
@@ -14,8 +14,14 @@ returns-clause-torn g c honest =
     (omega (arith, g.met.D.Disk.long_as_seen c.args.disk.now honest, c.requires))
     (c.in_ok-write_at.ensures.written honest))
 
-pub returns-clause-durable : goal.returns-clause-durable
-returns-clause-durable g c honest =
-    let honest1 = c.write_at.ensures.honest.onward honest in
-    subst (λ (l : List ℕ). OnOk c.sync.result (Only l (g.D.Disk.may_leave c.sync.new.self)))
-    (sym (c.sync.ensures.same honest1)) (c.sync.ensures.durable honest1)
+pub returns-clause-synced : goal.returns-clause-synced
+returns-clause-synced g c = record {
+  durable = λ honest.
+      let honest1 = c.write_at.ensures.honest.onward honest in
+      subst (λ (l : List ℕ). OnOk c.sync.result (Only l (g.D.Disk.may_leave c.sync.new.self)))
+      (sym (c.sync.ensures.same honest1)) (c.sync.ensures.durable honest1);
+  cause = search rules;
+  calm = search rules;
+  honest = search rules;
+  back = search rules;
+}
