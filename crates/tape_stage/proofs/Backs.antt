@@ -9,7 +9,7 @@ use Rattle.tape_core.proofs.Crashes.{only_same}
 use Rattle.tape_stage.specs.Moments.{Passes}
 use Rattle.tape_stage.specs.Staged.{Staged, StagedIn, IsEither, Ready}
 use Rattle.tape_stage.specs.Stages.{IsStage, Returns, Survives, Returned, Survived}
-use Rattle.tape_stage.specs.Stages.{HasRefused, PassesOver, PassesTo, crashes_of}
+use Rattle.tape_stage.specs.Stages.{HasRefused, crashes_of}
 use Rattle.tape_core.specs.Point.{Point}
 use Rattle.tape_stage.specs.declared.stage.Stage.{Stage}
 use Rattle.tape_stage.specs.declared.stage.StageFault.{StageFault}
@@ -199,7 +199,9 @@ module _ {D : Type 0} {disk : Ghosts D} where
   -- a call that leaves what is acknowledged
   pub adds_nothing : (old new : Stage D disk) (acked parts : List Portion)
       → disk.may_leave old.disk (disk.seen old.disk) → IsStage old acked parts
-      → PassesOver old acked new → AddsNothing (crashes_of old) (crashes_of new)
+      → Passes disk old.disk new.disk
+      (StagedIn old.in_second old.generation old.acknowledged acked)
+      → AddsNothing (crashes_of old) (crashes_of new)
   adds_nothing old new acked parts now is passes =
       adds_passed old new.disk (λ back there. ⊥) _ passes
       (λ bytes g back there was staged.
@@ -210,7 +212,8 @@ module _ {D : Type 0} {disk : Ghosts D} where
   -- or makes these acknowledged
   pub adds_this : (old new : Stage D disk) (acked parts front : List Portion) (next : Point)
       → disk.may_leave old.disk (disk.seen old.disk) → IsStage old acked parts
-      → PassesTo old acked next front new
+      → Passes disk old.disk new.disk
+      (IsEither old.in_second old.generation old.acknowledged next acked front)
       → AddsOnly (IsThis next front) (crashes_of old) (crashes_of new)
   adds_this old new acked parts front next now is passes =
       adds_passed old new.disk (IsThis next front) _ passes

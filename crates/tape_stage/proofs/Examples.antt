@@ -200,7 +200,6 @@ cases_of_stages g = record {
   device_ends = λ old new h. h;
   end_ok = λ old new e. (e.was_alive, e.refusals, e.honest);
   end_refused = λ old new e. (e.refused, e.cause refl, e.back);
-  saved_over = λ old new acked front next c p. p.now c;
   opened_over = λ old new c p. p.before (g.moment old) c (omega arith);
   no_other = λ old new. (λ h. h, λ h. h, λ h. h);
 }

@@ -49,7 +49,7 @@ lost_where_it_fails : (D : _) (L : _) (g : _) (d : _) (κs : _) (a : _) (s : _)
     → with_held a.0.now.start a.0.now.bytes.items (g.seen a.0.now.disk) ≡ 1 ∷ []
     → with_held s.0.now.start s.0.now.bytes.items (g.seen s.0.now.disk) ≡ [] → ⊥
 lost_where_it_fails D L g d κs a s l honest was is =
-    let e : [] ≡ 1 ∷ [] = sym is ∙ l.same honest ∙ was in
+    let e : [] ≡ 1 ∷ [] = sym is ∙ l.looks.same honest ∙ was in
     absurd (let n : 0 ≡ 1 = ap length e in omega arith)
 
 -- written_one_byte_off: 2 1 was read, with the 1 held, and once it is written 1 1 is
@@ -58,7 +58,7 @@ written_one_byte_off : (D : _) (L : _) (g : _) (d : _) (κs : _) (a : _) (s : _)
     → with_held a.0.now.start a.0.now.bytes.items (g.seen a.0.now.disk) ≡ 2 ∷ 1 ∷ []
     → with_held s.0.now.start s.0.now.bytes.items (g.seen s.0.now.disk) ≡ 1 ∷ 1 ∷ [] → ⊥
 written_one_byte_off D L g d κs a s l honest was is =
-    let e : 1 ∷ 1 ∷ [] ≡ 2 ∷ 1 ∷ [] = sym is ∙ l.same honest ∙ was in
+    let e : 1 ∷ 1 ∷ [] ≡ 2 ∷ 1 ∷ [] = sym is ∙ l.looks.same honest ∙ was in
     absurd (let n : 1 ≡ 2 = ap (λ t. get_or t 0 0) e in omega arith)
 
 -- held_one_byte_off: over 1 2 the byte 7 is written at place 1, and 7 2 is read

@@ -41,7 +41,7 @@ use Rattle.tape_stage.specs.Staged.{Staged, Holding, HoldsNone, StandsLike}
 use Rattle.tape_stage.specs.Staged.{KeepsStaged, KeepsFrames, Loses}
 use Rattle.tape_stage.specs.Staged.{WalkedTo, Ready, StagedIn, slot_at, best, gate_at, read_slot}
 use Rattle.tape_stage.specs.Stages.{Holds, IsAhead, IsStage, Returns, Survives, HasRefused}
-use Rattle.tape_stage.specs.Stages.{Ends, OpensOver, PassesTo, Returned, Survived, crashes_of}
+use Rattle.tape_stage.specs.Stages.{Ends, OpensOver, Returned, Survived, crashes_of}
 
 -- what a crash may leave of a write and of a cut
 pub record CasesOfCrashes : Type 0 where
@@ -317,12 +317,7 @@ pub record CasesOfStages {D : Type 0} (g : Ghosts D) : Type 0 where
   pub end_refused : (old new : Stage D g) → Ends {A = Unit {0}} old (Err Device) new
       → HasRefused old new Device × Rose (g.faults old.disk) (g.faults new.disk)
       × (g.is_honest new.disk → g.is_honest old.disk)
-  -- a crash inside a save left what it might have before, or what was acknowledged, or the next
-  pub saved_over : (old new : Stage D g) (acked front : List Portion) (next : Point) (c : List ℕ)
-      → PassesTo old acked next front new → g.may_leave new.disk c
-      → StagedIn old.in_second old.generation old.acknowledged acked c
-      ⊎ StagedIn (not old.in_second) (old.generation + 1) next front c
-  -- and one while a stage is opened left what it might have before, or what stands like it
+  -- a crash while a stage is opened left what it might have before, or what stands for the same
   pub opened_over : (old new : D) (c : List ℕ) → OpensOver g old new
       → g.left_since new (g.moment old) c
       → g.left_since old (g.moment old) c ⊎ (g.may_leave old c ⊎ StandsLike (g.seen old) c)

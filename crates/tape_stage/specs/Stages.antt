@@ -8,7 +8,7 @@ use Rattle.tape_core.specs.Stands.{weight_of}
 use Rattle.tape_core.specs.Weight.{Rose}
 use Rattle.tape_stage.specs.Frames.{AheadIn}
 use Rattle.tape_stage.specs.Moments.{Passes}
-use Rattle.tape_stage.specs.Staged.{Staged, StagedIn, IsEither, StandsLike, Holding, Ready}
+use Rattle.tape_stage.specs.Staged.{Staged, StandsLike, Holding, Ready}
 use Rattle.tape_core.specs.Point.{Point}
 use Rattle.tape_stage.specs.declared.stage.Found.{Found}
 use Rattle.tape_stage.specs.declared.stage.Stage.{Stage}
@@ -72,8 +72,8 @@ pub record Ends {A D : Type 0} {disk : Ghosts D} (old : Stage D disk) (result : 
   pub honest : OnOk result (disk.is_honest old.disk → disk.is_honest new.disk)
   pub back : disk.is_honest new.disk → disk.is_honest old.disk
 
--- How looking for a stage ends, or making one: never with Full or Failed, with Device only where the
--- disk failed, and with Ok on a disk as honest as it was. No disk becomes an honest one.
+-- How opening or making one ends: never with Full or Failed, with Device only where the disk failed,
+-- and with Ok on a disk as honest as it was. No disk becomes an honest one.
 pub record EndsFinding {A D : Type 0} (disk : Ghosts D) (old : D) (result : Result A StageFault)
     (new : D) : Type 0 where
   pub not_full : IsErrOf result Full → ⊥
@@ -81,19 +81,6 @@ pub record EndsFinding {A D : Type 0} (disk : Ghosts D) (old : D) (result : Resu
   pub cause : IsErrOf result Device → Rose (disk.faults old) (disk.faults new)
   pub honest : OnOk result (disk.is_honest old → disk.is_honest new)
   pub back : disk.is_honest new → disk.is_honest old
-
--- A crash at any moment from one stage to the next left what it might have left before, or what
--- stands for what the first has acknowledged.
-abbrev pub PassesOver : {D : Type 0} {disk : Ghosts D} → Stage D disk → List Portion → Stage D disk
-    → Type 0
-PassesOver {D} {disk} old acked new = Passes disk old.disk new.disk
-    (StagedIn old.in_second old.generation old.acknowledged acked)
-
--- the same, or what stands for the next checkpoint, with these parts
-abbrev pub PassesTo : {D : Type 0} {disk : Ghosts D} → Stage D disk → List Portion → Point
-    → List Portion → Stage D disk → Type 0
-PassesTo {D} {disk} old acked next front new = Passes disk old.disk new.disk
-    (IsEither old.in_second old.generation old.acknowledged next acked front)
 
 -- a crash now may leave a file that stands for this checkpoint and these parts
 abbrev pub Returns : {D : Type 0} {disk : Ghosts D} → Stage D disk → Point → List Portion → Type 0

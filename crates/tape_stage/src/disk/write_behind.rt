@@ -2,8 +2,8 @@
 ghost use Rattle.std.specs.Prelude.{◌≡◌, ◌+◌, ◌<◌, ◌≤◌, ◌^◌, [], ◌++◌, length, max, ℕ, List};
 ghost use Rattle.std.specs.Prelude.{OnOk, OnErr, vec_capacity};
 ghost use Rattle.std.specs.Bool.{OnTrue};
-ghost use Rattle.tape_stage.specs.Disk.{Holds, Torn, Follows, Allows, NoMore, Only, Elapses};
-ghost use Rattle.tape_stage.specs.Disk.{SameFact};
+ghost use Rattle.tape_stage.specs.Disk.{Holds, Torn, Follows, Allows, NoMore, IsLater, SameFact};
+ghost use Rattle.tape_stage.specs.OnlyReading.{Looks};
 ghost use Rattle.tape_stage.specs.Holding.{with_held, LeftTorn, LeftSince};
 ghost use Rattle.tape_core.specs.Weight.{Rose};
 ghost use Rattle.tape_stage.specs.Holding.{held_long, held_over, held_counts, held_only};
@@ -57,27 +57,10 @@ impl<D: Disk> WriteBehind<D> {
     fn pass_on(&mut self) -> Result<(), DiskFault>
         ensures empty { OnOk result (self.new.bytes.items ≡ []) }
         ensures start { OnOk result (self.new.start ≡ 0) }
-        ensures same_length { max (D.length_of self.new.disk)
-            (self.new.start + length self.new.bytes.items)
-            ≡ max (D.length_of self.old.disk) (self.old.start + length self.old.bytes.items) }
-        ensures same { D.is_honest self.old.disk
-            → with_held self.new.start self.new.bytes.items (D.seen self.new.disk)
-            ≡ with_held self.old.start self.old.bytes.items (D.seen self.old.disk) }
-        ensures crash { D.is_honest self.old.disk
-            → NoMore (LeftTorn (D.may_leave self.old.disk) self.old.start self.old.bytes.items)
-            (LeftTorn (D.may_leave self.new.disk) self.new.start self.new.bytes.items) }
-        ensures stays { D.is_honest self.old.disk
-            → NoMore (LeftTorn (D.may_leave self.new.disk) self.new.start self.new.bytes.items)
-            (LeftTorn (D.may_leave self.old.disk) self.old.start self.old.bytes.items) }
-        ensures time { D.is_honest self.old.disk
-            → Elapses (D.moment self.old.disk) (D.moment self.new.disk)
-            (LeftSince (D.left_since self.old.disk) (D.may_leave self.old.disk) self.old.start
-            self.old.bytes.items)
-            (LeftSince (D.left_since self.new.disk) (D.may_leave self.new.disk) self.new.start
-            self.new.bytes.items)
-            (LeftTorn (D.may_leave self.new.disk) self.new.start self.new.bytes.items) }
+        ensures looks { Looks ⟦<Self as Disk>⟧ self.old self.new }
+        ensures stays { D.is_honest self.old.disk → let w = ⟦<Self as Disk>⟧ in
+            NoMore (w.may_leave self.new) (w.may_leave self.old) }
         ensures calm { self.new.failed ≡ self.old.failed }
-        ensures honest { SameFact (D.is_honest self.old.disk) (D.is_honest self.new.disk) }
     {
         if self.bytes.is_empty() {
             self.start = 0;
@@ -133,44 +116,27 @@ impl<D: Disk> WriteBehind<D> {
 
     /// Holds bytes to be written from a place on, or writes them where there are too many.
     fn hold(&mut self, place: u64, bytes: &[u8]) -> Result<(), DiskFault>
-        requires there { place ≤ max (D.length_of self.old.disk)
-            (self.old.start + length self.old.bytes.items) }
+        requires there { place ≤ ⟦<Self as Disk>⟧.length_of self.old }
         requires low { place + length bytes.now < 2 ^ 64 }
-        ensures written { D.is_honest self.old.disk → OnOk result (Holds
-            (with_held self.old.start self.old.bytes.items (D.seen self.old.disk))
-            place bytes.now
-            (with_held self.new.start self.new.bytes.items (D.seen self.new.disk))) }
-        ensures long { OnOk result
-            (max (D.length_of self.new.disk) (self.new.start + length self.new.bytes.items)
-            ≡ max (max (D.length_of self.old.disk) (self.old.start + length self.old.bytes.items))
-            (place + length bytes.now)) }
-        ensures no_shorter { max (D.length_of self.old.disk)
-            (self.old.start + length self.old.bytes.items)
-            ≤ max (D.length_of self.new.disk) (self.new.start + length self.new.bytes.items) }
-        ensures no_longer { max (D.length_of self.new.disk)
-            (self.new.start + length self.new.bytes.items)
-            ≤ max (max (D.length_of self.old.disk) (self.old.start + length self.old.bytes.items))
-            (place + length bytes.now) }
-        ensures partly { D.is_honest self.old.disk → OnErr result (Torn place (length bytes.now)
-            (with_held self.old.start self.old.bytes.items (D.seen self.old.disk))
-            (with_held self.new.start self.new.bytes.items (D.seen self.new.disk))) }
-        ensures crash { D.is_honest self.old.disk → Follows (Torn place (length bytes.now))
-            (LeftTorn (D.may_leave self.old.disk) self.old.start self.old.bytes.items)
-            (LeftTorn (D.may_leave self.new.disk) self.new.start self.new.bytes.items) }
-        ensures stays { D.is_honest self.old.disk
-            → NoMore (LeftTorn (D.may_leave self.new.disk) self.new.start self.new.bytes.items)
-            (LeftTorn (D.may_leave self.old.disk) self.old.start self.old.bytes.items) }
-        ensures any { D.is_honest self.old.disk → OnOk result (Allows
-            (Torn place (length bytes.now))
-            (LeftTorn (D.may_leave self.old.disk) self.old.start self.old.bytes.items)
-            (LeftTorn (D.may_leave self.new.disk) self.new.start self.new.bytes.items)) }
-        ensures time { D.is_honest self.old.disk
-            → Elapses (D.moment self.old.disk) (D.moment self.new.disk)
-            (LeftSince (D.left_since self.old.disk) (D.may_leave self.old.disk) self.old.start
-            self.old.bytes.items)
-            (LeftSince (D.left_since self.new.disk) (D.may_leave self.new.disk) self.new.start
-            self.new.bytes.items)
-            (LeftTorn (D.may_leave self.new.disk) self.new.start self.new.bytes.items) }
+        ensures written { D.is_honest self.old.disk → let w = ⟦<Self as Disk>⟧ in
+            OnOk result (Holds (w.seen self.old) place bytes.now (w.seen self.new)) }
+        ensures long { let w = ⟦<Self as Disk>⟧ in OnOk result
+            (w.length_of self.new ≡ max (w.length_of self.old) (place + length bytes.now)) }
+        ensures no_shorter { let w = ⟦<Self as Disk>⟧ in
+            w.length_of self.old ≤ w.length_of self.new }
+        ensures no_longer { let w = ⟦<Self as Disk>⟧ in
+            w.length_of self.new ≤ max (w.length_of self.old) (place + length bytes.now) }
+        ensures partly { D.is_honest self.old.disk → let w = ⟦<Self as Disk>⟧ in
+            OnErr result (Torn place (length bytes.now) (w.seen self.old) (w.seen self.new)) }
+        ensures crash { D.is_honest self.old.disk → let w = ⟦<Self as Disk>⟧ in
+            Follows (Torn place (length bytes.now)) (w.may_leave self.old) (w.may_leave self.new) }
+        ensures stays { D.is_honest self.old.disk → let w = ⟦<Self as Disk>⟧ in
+            NoMore (w.may_leave self.new) (w.may_leave self.old) }
+        ensures any { D.is_honest self.old.disk → let w = ⟦<Self as Disk>⟧ in OnOk result
+            (Allows (Torn place (length bytes.now)) (w.may_leave self.old)
+            (w.may_leave self.new)) }
+        ensures time { D.is_honest self.old.disk → let w = ⟦<Self as Disk>⟧ in
+            IsLater w.moment w.left_since w.may_leave self.old self.new }
         ensures calm { self.new.failed ≡ self.old.failed }
         ensures honest { SameFact (D.is_honest self.old.disk) (D.is_honest self.new.disk) }
     {

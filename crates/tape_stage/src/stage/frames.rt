@@ -8,12 +8,13 @@ ghost use Rattle.tape_blocks.specs.Block.{Portion, indicator};
 ghost use Rattle.tape_blocks.specs.declared.parts.Span.{Span};
 ghost use Rattle.tape_core.specs.Weight.{Rose};
 ghost use Rattle.tape_core.specs.Known.{most_staged};
-ghost use Rattle.tape_stage.specs.Staged.{IsNoHeader};
+ghost use Rattle.tape_stage.specs.Staged.{IsNoHeader, StagedIn, IsEither};
 ghost use Rattle.tape_stage.specs.Salvaged.{FramedTo, WalkedIn};
 ghost use Rattle.tape_stage.specs.OnlyReading.{OnlyReads};
 ghost use Rattle.tape_stage.specs.Parts.{longest_part, IsFront};
+ghost use Rattle.tape_stage.specs.Moments.{Passes};
 ghost use Rattle.tape_stage.specs.Frames.{IsFrameAt, NoFrameAt};
-ghost use Rattle.tape_stage.specs.Stages.{IsStage, Ends, PassesOver, PassesTo};
+ghost use Rattle.tape_stage.specs.Stages.{IsStage, Ends};
 ghost use Rattle.tape_stage.specs.Disk.{SameFact};
 
 use crate::disk::{Disk, DiskFault};
@@ -167,7 +168,8 @@ impl<D: Disk> Stage<D> {
             → IsStage self.old acked parts → IsFront staged front parts
             → IsStage self.new acked front) }
         ensures any_moment { D.is_honest self.old.disk → (acked parts : List Portion)
-            → IsStage self.old acked parts → PassesOver self.old acked self.new }
+            → IsStage self.old acked parts → Passes D.Disk self.old.disk self.new.disk
+            (StagedIn self.old.in_second self.old.generation self.old.acknowledged acked) }
         ensures was_alive { self.old.failed ≡ false }
         ensures weight { OnOk result (self.new.weight ≡ staged) }
         ensures refused { IfErr result (λ fault. (fault ≡ StageFault.Device)
@@ -202,7 +204,8 @@ impl<D: Disk> Stage<D> {
             → (now : List Portion) × IsStage self.new now front) }
         ensures any_moment { D.is_honest self.old.disk → (acked parts front : List Portion)
             → IsStage self.old acked parts → IsFront point.now.staged front parts
-            → PassesTo self.old acked point.now front self.new }
+            → Passes D.Disk self.old.disk self.new.disk (IsEither self.old.in_second
+            self.old.generation self.old.acknowledged point.now acked front) }
         ensures weight { OnOk result (self.new.weight ≡ point.now.staged) }
         ensures ends { Ends self.old result self.new }
     {

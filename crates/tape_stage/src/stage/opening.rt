@@ -1,7 +1,7 @@
 //! How a stage is found again on a disk.
 
 ghost use Rattle.std.specs.Prelude.{◌≡◌, ◌+◌, ◌≤◌, ◌==◌, ◌⊎◌, ℕ, List, length, OnOk};
-ghost use Rattle.std.specs.Prelude.{IfOk, IfErr, IsErrOf, IfSome, MatchOption, None, Some, false};
+ghost use Rattle.std.specs.Prelude.{IfOk, IfErr, IfSome, MatchOption, None, Some, false};
 ghost use Rattle.std.specs.Prelude.{true, not};
 ghost use Rattle.tape_blocks.specs.Block.{Portion};
 ghost use Rattle.tape_core.specs.Known.{most_staged};

@@ -1,7 +1,7 @@
 //! A stage as a sink: how parts are put, kept and walked.
 
-ghost use Rattle.std.specs.Prelude.{◌≡◌, ◌+◌, ◌≤◌, ◌<◌, ◌^◌, ◌∷◌, ◌++◌, [], List, length, false};
-ghost use Rattle.std.specs.Prelude.{OnOk, OnErr, IfErr, IsErrOf, ◌-◌};
+ghost use Rattle.std.specs.Prelude.{◌≡◌, ◌+◌, ◌≤◌, ◌<◌, ◌^◌, ◌∷◌, ◌++◌, [], List, length};
+ghost use Rattle.std.specs.Prelude.{OnOk, OnErr, IsErrOf, ◌-◌};
 ghost use Rattle.std.specs.Int.{to_be_bytes};
 ghost use Rattle.std.proofs.Common.{w32, inr};
 ghost use Rattle.tape_blocks.specs.Block.{Portion, indicator};
@@ -9,8 +9,8 @@ ghost use Rattle.tape_blocks.specs.Parts.{view};
 ghost use Rattle.tape_core.specs.Weight.{Rose};
 ghost use Rattle.tape_core.specs.Known.{most_staged};
 ghost use Rattle.tape_stage.specs.Moments.{Passes};
-ghost use Rattle.tape_stage.specs.Staged.{IsPut, FrontOf, KeepsFront};
-ghost use Rattle.tape_stage.specs.Stages.{IsStage, Ends, PassesOver, Holds, IsAhead, crashes_of};
+ghost use Rattle.tape_stage.specs.Staged.{StagedIn, IsPut, FrontOf, KeepsFront};
+ghost use Rattle.tape_stage.specs.Stages.{IsStage, Ends, Holds, IsAhead, crashes_of};
 ghost use Rattle.tape_stage.specs.Disk.{SameFact};
 ghost use Rattle.tape_stage.specs.Parts.{longest_part};
 ghost use Rattle.tape_stage.specs.Faults.{sink_fault_of};
@@ -70,7 +70,8 @@ impl<D: Disk> Stage<D> {
             → IsStage self.old acked parts
             → IsStage self.new acked (parts ++ view part.entry ∷ [])) }
         ensures any_moment { D.is_honest self.old.disk → (acked parts : List Portion)
-            → IsStage self.old acked parts → PassesOver self.old acked self.new }
+            → IsStage self.old acked parts → Passes D.Disk self.old.disk self.new.disk
+            (StagedIn self.old.in_second self.old.generation self.old.acknowledged acked) }
         ensures kept { D.is_honest self.old.disk
             → KeepsFront (256 + self.old.weight) (D.seen self.old.disk) (D.seen self.new.disk) }
         ensures weight { OnOk result (self.new.weight ≡ self.old.weight +

@@ -1,16 +1,15 @@
 //! How a stage acknowledges: slots, their gates, and the order of writes and syncs.
 
 ghost use Rattle.std.specs.Prelude.{◌≡◌, ◌≤◌, ◌<◌, ◌+◌, ℕ, List, false, not, OnOk, IfOk, IfErr};
-ghost use Rattle.std.specs.Prelude.{IsErrOf, Some, None, ◌⊎◌, ◌^◌, Bool, length, OnErr};
+ghost use Rattle.std.specs.Prelude.{IsErrOf, Some, None, ◌⊎◌, ◌^◌, Bool, length};
 ghost use Rattle.tape_blocks.specs.Block.{Portion};
-ghost use Rattle.tape_core.specs.Weight.{Rose};
 ghost use Rattle.tape_core.specs.Point.{Point};
 ghost use Rattle.tape_stage.specs.Moments.{EndsSynced, IsDurable, Passes};
 ghost use Rattle.tape_stage.specs.Parts.{IsFront};
 ghost use Rattle.tape_stage.specs.Staged.{Holding, IsEither, KeepsFrames, Staged, slot_place};
 ghost use Rattle.tape_stage.specs.Staged.{body_at, gate_at, StagedIn, IsClosed, IsFilled, IsNext};
 ghost use Rattle.tape_stage.specs.Staged.{Ready};
-ghost use Rattle.tape_stage.specs.Stages.{IsStage, HasRefused, Ends, PassesTo};
+ghost use Rattle.tape_stage.specs.Stages.{IsStage, HasRefused, Ends};
 ghost use Rattle.tape_stage.specs.Body.{most_generation, body_text, FitBody};
 
 use crate::disk::kept::write_kept;
@@ -50,7 +49,8 @@ impl<D: Disk> Stage<D> {
             → IsStage self.new front parts) }
         ensures any_moment { D.is_honest self.old.disk → (acked parts front : List Portion)
             → IsStage self.old acked parts → Holding point.now.staged front (D.seen self.old.disk)
-            → PassesTo self.old acked point.now front self.new }
+            → Passes D.Disk self.old.disk self.new.disk (IsEither self.old.in_second
+            self.old.generation self.old.acknowledged point.now acked front) }
         ensures acknowledged { OnOk result (self.new.acknowledged ≡ point.now) }
         ensures weight { self.new.weight ≡ self.old.weight }
         ensures calm { OnOk result (D.faults self.new.disk ≡ D.faults self.old.disk) }
@@ -116,8 +116,8 @@ impl<D: Disk> Stage<D> {
         ensures ok { D.is_honest self.old.disk → OnOk result ((acked parts : List Portion)
             → IsStage self.old acked parts → IsStage self.new parts parts) }
         ensures any_moment { D.is_honest self.old.disk → (acked parts : List Portion)
-            → IsStage self.old acked parts
-            → PassesTo self.old acked point.now parts self.new }
+            → IsStage self.old acked parts → Passes D.Disk self.old.disk self.new.disk (IsEither
+            self.old.in_second self.old.generation self.old.acknowledged point.now acked parts) }
         ensures frames { D.is_honest self.old.disk
             → KeepsFrames (D.seen self.old.disk) (D.seen self.new.disk) }
         ensures weight { self.new.weight ≡ self.old.weight }
@@ -137,7 +137,8 @@ impl<D: Disk> Stage<D> {
             → IsStage self.new front front) }
         ensures any_moment { D.is_honest self.old.disk → (acked parts front : List Portion)
             → IsStage self.old acked parts → IsFront point.now.staged front parts
-            → PassesTo self.old acked point.now front self.new }
+            → Passes D.Disk self.old.disk self.new.disk (IsEither self.old.in_second
+            self.old.generation self.old.acknowledged point.now acked front) }
         ensures weight { OnOk result (self.new.weight ≡ point.now.staged) }
         ensures acknowledged { OnOk result (self.new.acknowledged ≡ point.now) }
         ensures ends { Ends self.old result self.new }

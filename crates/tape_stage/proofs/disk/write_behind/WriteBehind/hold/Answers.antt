@@ -45,7 +45,7 @@ returns-then-takes-clause-time g c honest =
 pub returns-in_err-pass_on-clause-crash : goal.returns-in_err-pass_on-clause-crash
 returns-in_err-pass_on-clause-crash g c honest x left = (
   x,
-  c.pass_on.ensures.crash honest x left,
+  c.pass_on.ensures.looks.crash honest x left,
   torn_same c.args.place (length c.args.bytes.now) x,
 )
 
@@ -68,45 +68,45 @@ returns-clause-any g c honest =
 pub returns-then-bytes-capacity-clause-crash : goal.returns-then-bytes-capacity-clause-crash
 returns-then-bytes-capacity-clause-crash g c honest =
     let passed = c.in_ok-pass_on.ensures in
-    then_follows _ _ _ _ _ _ passed.empty (passed.crash honest)
-    (c.write_at.ensures.crash (passed.honest.onward honest))
+    then_follows _ _ _ _ _ _ passed.empty (passed.looks.crash honest)
+    (c.write_at.ensures.crash (passed.looks.honest.onward honest))
 
 pub returns-then-bytes-capacity-clause-stays : goal.returns-then-bytes-capacity-clause-stays
 returns-then-bytes-capacity-clause-stays g c honest =
     let passed = c.in_ok-pass_on.ensures in
     then_stays _ _ _ _ _ passed.empty (passed.stays honest)
-    (c.write_at.ensures.stays (passed.honest.onward honest))
+    (c.write_at.ensures.stays (passed.looks.honest.onward honest))
 
 pub returns-then-bytes-capacity-clause-any : goal.returns-then-bytes-capacity-clause-any
 returns-then-bytes-capacity-clause-any g c honest =
     let passed = c.in_ok-pass_on.ensures in
     then_allows _ _ _ _ _ _ passed.empty (passed.stays honest)
-    (c.in_ok-write_at.ensures.any (passed.honest.onward honest))
+    (c.in_ok-write_at.ensures.any (passed.looks.honest.onward honest))
 
 pub returns-then-bytes-capacity-clause-time : goal.returns-then-bytes-capacity-clause-time
 returns-then-bytes-capacity-clause-time g c honest =
     let passed = c.in_ok-pass_on.ensures in
-    let onward = passed.honest.onward honest in
-    then_elapses _ _ _ _ _ _ _ _ _ _ _ _ _ passed.empty (passed.crash honest)
+    let onward = passed.looks.honest.onward honest in
+    then_elapses _ _ _ _ _ _ _ _ _ _ _ _ _ passed.empty (passed.looks.crash honest)
     (λ t x le now. g.met.D.Disk.counts_now c.pass_on.new.self.disk t x onward le now)
-    (passed.time honest) (c.write_at.ensures.time onward)
+    (passed.looks.time honest) (c.write_at.ensures.time onward)
 
 pub returns-in_err-write_at-clause-crash : goal.returns-in_err-write_at-clause-crash
 returns-in_err-write_at-clause-crash g c honest =
     let passed = c.in_ok-pass_on.ensures in
-    then_follows _ _ _ _ _ _ passed.empty (passed.crash honest)
-    (c.write_at.ensures.crash (passed.honest.onward honest))
+    then_follows _ _ _ _ _ _ passed.empty (passed.looks.crash honest)
+    (c.write_at.ensures.crash (passed.looks.honest.onward honest))
 
 pub returns-in_err-write_at-clause-stays : goal.returns-in_err-write_at-clause-stays
 returns-in_err-write_at-clause-stays g c honest =
     let passed = c.in_ok-pass_on.ensures in
     then_stays _ _ _ _ _ passed.empty (passed.stays honest)
-    (c.write_at.ensures.stays (passed.honest.onward honest))
+    (c.write_at.ensures.stays (passed.looks.honest.onward honest))
 
 pub returns-in_err-write_at-clause-time : goal.returns-in_err-write_at-clause-time
 returns-in_err-write_at-clause-time g c honest =
     let passed = c.in_ok-pass_on.ensures in
-    let onward = passed.honest.onward honest in
-    then_elapses _ _ _ _ _ _ _ _ _ _ _ _ _ passed.empty (passed.crash honest)
+    let onward = passed.looks.honest.onward honest in
+    then_elapses _ _ _ _ _ _ _ _ _ _ _ _ _ passed.empty (passed.looks.crash honest)
     (λ t x le now. g.met.D.Disk.counts_now c.pass_on.new.self.disk t x onward le now)
-    (passed.time honest) (c.write_at.ensures.time onward)
+    (passed.looks.time honest) (c.write_at.ensures.time onward)
