@@ -41,7 +41,7 @@ use Rattle.tape_stage.specs.Staged.{Staged, Holding, HoldsNone, StandsLike}
 use Rattle.tape_stage.specs.Staged.{KeepsStaged, KeepsFrames, Loses}
 use Rattle.tape_stage.specs.Staged.{WalkedTo, Ready, StagedIn, slot_at, best, gate_at, read_slot}
 use Rattle.tape_stage.specs.Stages.{Holds, IsAhead, IsStage, Returns, Survives, HasRefused}
-use Rattle.tape_stage.specs.Stages.{Ends, OpensOver, Returned, Survived, crashes_of}
+use Rattle.tape_stage.specs.Stages.{EndsCall, OpensOver, Returned, Survived, crashes_of}
 
 -- what a crash may leave of a write and of a cut
 pub record CasesOfCrashes : Type 0 where
@@ -310,11 +310,11 @@ pub record CasesOfStages {D : Type 0} (g : Ghosts D) : Type 0 where
   pub device_ends : (old new : Stage D g) → HasRefused old new Device
       → (old.failed ≡ false) × (new.failed ≡ true) × (new.weight ≡ old.weight)
   -- a call is Ok of a stage alone that had not failed, and its disk is as honest as it was,
-  pub end_ok : (old new : Stage D g) → Ends {A = Unit {0}} old (Ok tt) new
+  pub end_ok : (old new : Stage D g) → EndsCall {A = Unit {0}} old (Ok tt) new
       → (old.failed ≡ false) × (new.refused ≡ old.refused)
       × (g.is_honest old.disk → g.is_honest new.disk)
   -- and one is refused with Device where the disk failed, which became no honest one
-  pub end_refused : (old new : Stage D g) → Ends {A = Unit {0}} old (Err Device) new
+  pub end_refused : (old new : Stage D g) → EndsCall {A = Unit {0}} old (Err Device) new
       → HasRefused old new Device × Rose (g.faults old.disk) (g.faults new.disk)
       × (g.is_honest new.disk → g.is_honest old.disk)
   -- a crash while a stage is opened left what it might have before, or what stands for the same

@@ -60,11 +60,11 @@ HasRefused old new Full = new ≡ old
 HasRefused old new Failed = (new ≡ old) × (old.failed ≡ true)
 HasRefused old new _ = ⊥
 
--- How a call ends: Ok only of a stage that had not failed, whose disk is as honest as it was, and
--- refused as above, with Device only where the disk failed. No disk becomes an honest one, and what
--- was refused to the sink is counted by it alone.
-pub record Ends {A D : Type 0} {disk : Ghosts D} (old : Stage D disk) (result : Result A StageFault)
-    (new : Stage D disk) : Type 0 where
+-- How a call ends: Ok only of a stage that had not failed, and on a disk as honest as it was; else
+-- refused as above, with Device only where the disk failed. No disk becomes an honest one, and the
+-- count of what was refused to the stage as a sink stays.
+pub record EndsCall {A D : Type 0} {disk : Ghosts D} (old : Stage D disk)
+    (result : Result A StageFault) (new : Stage D disk) : Type 0 where
   pub was_alive : OnOk result (old.failed ≡ false)
   pub refused : IfErr result (HasRefused old new)
   pub refusals : new.refused ≡ old.refused
@@ -72,8 +72,8 @@ pub record Ends {A D : Type 0} {disk : Ghosts D} (old : Stage D disk) (result : 
   pub honest : OnOk result (disk.is_honest old.disk → disk.is_honest new.disk)
   pub back : disk.is_honest new.disk → disk.is_honest old.disk
 
--- How opening or making one ends: never with Full or Failed, with Device only where the disk failed,
--- and with Ok on a disk as honest as it was. No disk becomes an honest one.
+-- How opening or making one ends: with Full or Failed never, with Device only where the disk
+-- failed, and with Ok on a disk as honest as it was. No disk becomes an honest one.
 pub record EndsFinding {A D : Type 0} (disk : Ghosts D) (old : D) (result : Result A StageFault)
     (new : D) : Type 0 where
   pub not_full : IsErrOf result Full → ⊥

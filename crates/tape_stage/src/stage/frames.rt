@@ -14,7 +14,7 @@ ghost use Rattle.tape_stage.specs.OnlyReading.{OnlyReads};
 ghost use Rattle.tape_stage.specs.Parts.{longest_part, IsFront};
 ghost use Rattle.tape_stage.specs.Moments.{Passes};
 ghost use Rattle.tape_stage.specs.Frames.{IsFrameAt, NoFrameAt};
-ghost use Rattle.tape_stage.specs.Stages.{IsStage, Ends};
+ghost use Rattle.tape_stage.specs.Stages.{IsStage, EndsCall};
 ghost use Rattle.tape_stage.specs.Disk.{SameFact};
 
 use crate::disk::{Disk, DiskFault};
@@ -207,7 +207,7 @@ impl<D: Disk> Stage<D> {
             → Passes D.Disk self.old.disk self.new.disk (IsEither self.old.in_second
             self.old.generation self.old.acknowledged point.now acked front) }
         ensures weight { OnOk result (self.new.weight ≡ point.now.staged) }
-        ensures ends { Ends self.old result self.new }
+        ensures ends { EndsCall self.old result self.new }
     {
         if self.failed {
             return Err(StageFault::Failed);

@@ -10,7 +10,7 @@ ghost use Rattle.tape_core.specs.Weight.{Rose};
 ghost use Rattle.tape_core.specs.Known.{most_staged};
 ghost use Rattle.tape_stage.specs.Moments.{Passes};
 ghost use Rattle.tape_stage.specs.Staged.{StagedIn, IsPut, FrontOf, KeepsFront};
-ghost use Rattle.tape_stage.specs.Stages.{IsStage, Ends, Holds, IsAhead, crashes_of};
+ghost use Rattle.tape_stage.specs.Stages.{IsStage, EndsCall, Holds, IsAhead, crashes_of};
 ghost use Rattle.tape_stage.specs.Disk.{SameFact};
 ghost use Rattle.tape_stage.specs.Parts.{longest_part};
 ghost use Rattle.tape_stage.specs.Faults.{sink_fault_of};
@@ -78,7 +78,7 @@ impl<D: Disk> Stage<D> {
             (5 + length part.entry.bytes.now)) }
         ensures acknowledged { self.new.acknowledged ≡ self.old.acknowledged }
         ensures pending { self.new.pending ≡ self.old.pending }
-        ensures ends { Ends self.old result self.new }
+        ensures ends { EndsCall self.old result self.new }
         ensures full { IsErrOf result StageFault.Full → (self.new ≡ self.old)
             × (most_staged < self.old.weight + (5 + length part.entry.bytes.now)) }
         ensures honest { SameFact (D.is_honest self.old.disk) (D.is_honest self.new.disk) }

@@ -9,7 +9,7 @@ ghost use Rattle.tape_stage.specs.Parts.{IsFront};
 ghost use Rattle.tape_stage.specs.Staged.{Holding, IsEither, KeepsFrames, Staged, slot_place};
 ghost use Rattle.tape_stage.specs.Staged.{body_at, gate_at, StagedIn, IsClosed, IsFilled, IsNext};
 ghost use Rattle.tape_stage.specs.Staged.{Ready};
-ghost use Rattle.tape_stage.specs.Stages.{IsStage, HasRefused, Ends};
+ghost use Rattle.tape_stage.specs.Stages.{IsStage, HasRefused, EndsCall};
 ghost use Rattle.tape_stage.specs.Body.{most_generation, body_text, FitBody};
 
 use crate::disk::kept::write_kept;
@@ -59,7 +59,7 @@ impl<D: Disk> Stage<D> {
         ensures alive { OnOk result (self.new.failed ≡ false) }
         ensures slot { OnOk result (self.new.in_second ≡ not self.old.in_second) }
         ensures generation { OnOk result (self.new.generation ≡ self.old.generation + 1) }
-        ensures ends { Ends self.old result self.new }
+        ensures ends { EndsCall self.old result self.new }
     {
         let generation = self.next_generation()?;
         let next = *point;
@@ -122,7 +122,7 @@ impl<D: Disk> Stage<D> {
             → KeepsFrames (D.seen self.old.disk) (D.seen self.new.disk) }
         ensures weight { self.new.weight ≡ self.old.weight }
         ensures acknowledged { OnOk result (self.new.acknowledged ≡ point.now) }
-        ensures ends { Ends self.old result self.new }
+        ensures ends { EndsCall self.old result self.new }
     {
         self.acknowledge(point)
     }
@@ -141,7 +141,7 @@ impl<D: Disk> Stage<D> {
             self.old.generation self.old.acknowledged point.now acked front) }
         ensures weight { OnOk result (self.new.weight ≡ point.now.staged) }
         ensures acknowledged { OnOk result (self.new.acknowledged ≡ point.now) }
-        ensures ends { Ends self.old result self.new }
+        ensures ends { EndsCall self.old result self.new }
     {
         let staged = point.staged;
         // Saved first and then cut: a cut before could take parts that the older checkpoint tells.

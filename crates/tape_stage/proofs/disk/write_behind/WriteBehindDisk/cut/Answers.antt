@@ -26,4 +26,5 @@ returns-in-Err-cut-clause-time g c honest =
     failed.start failed.bytes
     (then_elapses _ _ _ _ _ _ _ _ _ _ _ _ _ passed.empty (passed.looks.crash honest)
     (λ t x le now. g.met.D.Disk.counts_now c.pass_on.new.self.disk t x
-    (passed.looks.honest.onward honest) le now) (passed.looks.time honest) (c.cut.ensures.time (passed.looks.honest.onward honest)))
+    (passed.looks.honest.onward honest) le now) (passed.looks.time honest)
+    (c.cut.ensures.time (passed.looks.honest.onward honest)))

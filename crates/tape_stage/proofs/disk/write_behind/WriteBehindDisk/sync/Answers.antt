@@ -6,7 +6,8 @@ returns-in-Ok-sync-clause-time g c honest =
     let passed = c.in-Ok.ensures in
     then_elapses _ _ _ _ _ _ _ _ _ _ _ _ _ passed.empty (passed.looks.crash honest)
     (λ t x le now. g.met.D.Disk.counts_now c.pass_on.new.self.disk t x
-    (passed.looks.honest.onward honest) le now) (passed.looks.time honest) (c.sync.ensures.time (passed.looks.honest.onward honest))
+    (passed.looks.honest.onward honest) le now) (passed.looks.time honest)
+    (c.sync.ensures.time (passed.looks.honest.onward honest))
 
 pub returns-in-Err-sync-clause-time : goal.returns-in-Err-sync-clause-time
 returns-in-Err-sync-clause-time g c honest =
@@ -16,4 +17,5 @@ returns-in-Err-sync-clause-time g c honest =
     failed.start failed.bytes
     (then_elapses _ _ _ _ _ _ _ _ _ _ _ _ _ passed.empty (passed.looks.crash honest)
     (λ t x le now. g.met.D.Disk.counts_now c.pass_on.new.self.disk t x
-    (passed.looks.honest.onward honest) le now) (passed.looks.time honest) (c.sync.ensures.time (passed.looks.honest.onward honest)))
+    (passed.looks.honest.onward honest) le now) (passed.looks.time honest)
+    (c.sync.ensures.time (passed.looks.honest.onward honest)))
