@@ -3,7 +3,6 @@
 pub mod changes;
 pub mod content;
 pub mod file;
-pub mod kept;
 pub mod memory;
 pub mod memory_disk;
 pub mod read_ahead;

@@ -1,12 +1,13 @@
 //! Opening.
 
 ghost use Rattle.std.specs.Prelude.{◌≡◌, ◌+◌, ◌≤◌, ◌∷◌, ◌++◌, [], ℕ, List, length, false};
-ghost use Rattle.std.specs.Prelude.{take, IfOk, IfErr, OnOk, OnErr, ◌<◌, ◌^◌, IfSome};
+ghost use Rattle.std.specs.Prelude.{take, max, IfOk, IfErr, OnOk, OnErr, ◌<◌, ◌^◌, IfSome};
 ghost use Rattle.tape_blocks.specs.Block.{Portion};
 ghost use Rattle.tape_core.specs.Weight.{Rose};
 ghost use Rattle.tape_core.specs.Point.{Point};
 ghost use Rattle.tape_core.specs.Known.{most_staged};
-ghost use Rattle.tape_stage.specs.Moments.{Untouched};
+ghost use Rattle.tape_stage.specs.Disk.{Holds as HoldsBytes, Torn, CutShort};
+ghost use Rattle.tape_stage.specs.Moments.{Untouched, After, EndsSynced, IsDurable, Passes};
 ghost use Rattle.tape_stage.specs.Staged.{Staged, HoldsNone, KeepsStaged, Ready, blank};
 ghost use Rattle.tape_stage.specs.Faults.{SaysNone, IsNotDevice, OnBadFrame};
 ghost use Rattle.tape_stage.specs.Found.{IsBadPlace};
@@ -15,8 +16,7 @@ ghost use Rattle.tape_stage.specs.Stages.{EndsFinding};
 ghost use Rattle.tape_stage.specs.Body.{body_text, FitBody, most_generation, body_of};
 ghost use Rattle.tape_stage.specs.Parts.{longest_part};
 
-use crate::disk::Disk;
-use crate::disk::kept::{cut_kept, write_kept};
+use crate::disk::{Disk, DiskFault};
 use crate::point::text::{put, whole};
 use crate::point::{read_point, write_point};
 use crate::stage::opening::look;
@@ -60,6 +60,40 @@ pub(crate) fn buffer_of(alloc: Global) -> Result<Vec<u8>, AllocError>
     ensures room { IfOk result (λ buffer. longest_part ≤ length buffer.items) }
 {
     Vec::from_elem(alloc, 0u8, ROOM)
+}
+
+/// Writes and syncs. At a crash the range may hold anything until that is done.
+pub(crate) fn write_kept<D: Disk>(disk: &mut D, place: u64, bytes: &[u8]) -> Result<(), DiskFault>
+    requires { place ≤ D.length_of disk.old }
+    ensures written { D.is_honest disk.old
+        → OnOk result (HoldsBytes (D.seen disk.old) place bytes.now (D.seen disk.new)) }
+    ensures long { OnOk result (D.length_of disk.new ≡ max (D.length_of disk.old)
+        (place + length bytes.now)) }
+    ensures any_moment { D.is_honest disk.old → Passes D.Disk disk.old disk.new
+        (After (Torn place (length bytes.now)) (D.may_leave disk.old)) }
+    ensures torn { D.is_honest disk.old → Torn place (length bytes.now) (D.seen disk.old)
+        (D.seen disk.new) }
+    ensures synced { EndsSynced D.Disk disk.old result disk.new }
+{
+    disk.write_at(place, bytes)?;
+    disk.sync()
+}
+
+/// Cuts what follows the staged end, and keeps that.
+pub(crate) fn cut_kept<D: Disk>(disk: &mut D, end: u64) -> Result<(), DiskFault>
+    requires { end ≤ D.length_of disk.old }
+    ensures cut { D.is_honest disk.old → OnOk result
+        (D.seen disk.new ≡ take end (D.seen disk.old)) }
+    ensures partly { D.is_honest disk.old
+        → OnErr result (CutShort end (D.seen disk.old) (D.seen disk.new)) }
+    ensures any_moment { D.is_honest disk.old → IsDurable D.Disk disk.old
+        → Passes D.Disk disk.old disk.new (λ c. take end c ≡ take end (D.seen disk.old)) }
+    ensures short { OnOk result (D.length_of disk.new ≡ end) }
+    ensures synced { EndsSynced D.Disk disk.old result disk.new }
+{
+    // Synced, so that what is put behind the end is not taken for what stood there before.
+    disk.cut(end)?;
+    disk.sync()
 }
 
 /// Finds what is staged, reserves the buffer, and cuts what follows.

@@ -12,9 +12,8 @@ ghost use Rattle.tape_stage.specs.Staged.{Ready};
 ghost use Rattle.tape_stage.specs.Stages.{IsStage, HasRefused, EndsCall};
 ghost use Rattle.tape_stage.specs.Body.{most_generation, body_text, FitBody};
 
-use crate::disk::kept::write_kept;
 use crate::disk::{Disk, DiskFault};
-use crate::stage::open_disk::body_bytes;
+use crate::stage::open_disk::{body_bytes, write_kept};
 use crate::stage::{CLOSED, MOST_GENERATION, OPEN, Stage, StageFault};
 use tape_core::Checkpoint;
 

@@ -1,6 +1,6 @@
 use Rattle.std.proofs.Common.{◌∙◌, arith}
 use Rattle.tape_stage.proofs.Refusals.{on_each_err, cut_whole}
-use Rattle.tape_stage.proofs.disk.kept.cut_kept.Goals as goal
+use Rattle.tape_stage.proofs.stage.open_disk.cut_kept.Goals as goal
 
 pub returns-clause-partly : goal.returns-clause-partly
 returns-clause-partly g c honest =

@@ -1,7 +1,7 @@
 use Rattle.std.proofs.Common.{ℕ, List, OnOk, length, rules, sym, subst, arith}
 use Rattle.tape_stage.specs.Disk.{Only, Torn}
 use Rattle.tape_stage.proofs.Torn.{holds_torn}
-use Rattle.tape_stage.proofs.disk.kept.write_kept.Goals as goal
+use Rattle.tape_stage.proofs.stage.open_disk.write_kept.Goals as goal
 
 pub returns-clause-torn : goal.returns-clause-torn
 returns-clause-torn g c honest =
