@@ -12,7 +12,7 @@ use Rattle.tape_run.specs.Causes.{WritingFails}
 pub fails_behind : {S : Type 0} (holds mid_holds : S → List Portion → Type 0) (refusals : S → ℕ)
     (fault : EngineFault) (old mid new : S) → refusals mid ≡ refusals old
     → ((parts : List Portion) → holds old parts → (rest : List Portion) × mid_holds mid rest)
-    → WritingFails mid_holds refusals fault mid new → WritingFails holds refusals fault old new
+    → WritingFails mid_holds refusals mid new fault → WritingFails holds refusals old new fault
 fails_behind holds mid_holds refusals (Run (Sink cause)) old mid new calm has (inl rose) =
     inl (subst (λ n. Rose n (refusals new)) calm rose)
 fails_behind holds mid_holds refusals (Run (Sink cause)) old mid new calm has (inr (is, none)) =

@@ -12,7 +12,7 @@ use Rattle.tape_image.specs.declared.item.ImageCause.TheVariants.{Truncated, Len
 use Rattle.tape_image.specs.declared.item.ImageCause.TheVariants.{Reserved, TooLong, Device}
 use Rattle.tape_image.specs.declared.item.ImageCause.TheVariants.{OutOfMemory}
 use Rattle.tape_image.specs.Tape.{TapeItem}
-use Rattle.tape_image.specs.Begins.{image_limit, Stop, ends, faults, Begins}
+use Rattle.tape_image.specs.Begins.{image_limit, Stop, ends, faults, Begins, Walks}
 use Rattle.tape_image.specs.Reader.{Reader, IfKnown}
 use Rattle.tape_image.specs.Step as image
 use Rattle.tape_image.specs.Step.{TakesEnd, TakesFault, Meets, GivesItem}
@@ -32,14 +32,27 @@ use Rattle.tape_run.specs.Mount.{after_mount}
 use Rattle.tape_core.specs.Follows.{IsFinal}
 use Rattle.tape_run.specs.Under.{is_under}
 use Rattle.tape_run.specs.Taking.{Taken, TakesItem, RefusesItem, ReadsItems, ReadsImage}
-use Rattle.tape_run.specs.Taking.{RefusesImage, SoFar, CutsTable, came_of, fault_of}
+use Rattle.tape_run.specs.Taking.{RefusesImage, CutsTable, came_of, fault_of}
 use Rattle.tape_core.specs.Table.{step_of}
 use Rattle.tape_core.specs.Place.{rest_of}
 use Rattle.tape_run.specs.ByTable.{parts_of_arrival, delivered_parts, StopsInside}
 use Rattle.tape_run.proofs.ByTable.{core_more, parts_more, led_by_final, led_to_end}
 use Rattle.tape_run.specs.Given.{is_device_cause, is_device}
 use Rattle.tape_run.proofs.Mounts.{reached, cut_whole}
+use Rattle.tape_run.specs.Reels.{behind_items}
 use Rattle.tape_run.proofs.Reels.{walks_on}
+
+-- So far: these items were taken, up to a place, of all that the reader has.
+pub record SoFar (old new : State) (held now : List Portion) (at : ℕ) (bytes left : List ℕ)
+    : Type 0 where
+  pub items : List TapeItem
+  pub walks : Walks 0 bytes items at left
+  pub core : new ≡ behind_items old items
+  pub parts : now ≡ held ++ delivered_parts old items
+  pub so_far : (set : FileSet) (p : Position) (xs rest : List TapeItem) (h : Happening)
+      → IsLawful set → IsMount set xs h → xs ≡ items ++ rest → IsPlaced set (rest_of old) held
+      → is_under old set p xs 0 h
+      → IsPlaced set (rest_of new) now × is_under new set p xs (length items) h
 
 -- ---- what an image begins with
 

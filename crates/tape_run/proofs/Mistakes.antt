@@ -88,7 +88,7 @@ failure_not_counted : (S : _) (R : _) (LS : _) (LR : _) (g : _) (d : _) (h : _) 
     → a.0.now.failures ≡ 0 → s.0.now.failures ≡ 0 → ⊥
 failure_not_counted S R LS LR g d h e κs a answer s held bytes place l was b device zero none =
     let r = l.ok held was in
-    let c = (count_of bytes (h.remaining a.1.0.now) _ r.4 b).count in
+    let c = (count_of bytes (h.remaining a.1.0.now) _ r.2.2 b).count in
     let n : 0 ≡ 1 = sym none ∙ c ∙ ap (λ f. counted f a.0.now.failures) (ap given.is_device device)
     ∙ ap (counted true) zero in
     absurd (omega (arith, n))
@@ -134,7 +134,7 @@ restart_keeps_later_notes S LS g d κs a s note l was both set file light first 
     let place : State = rest_of a.0.now.core in
     let kept : IsKept (seen g.refusals a.0.now []) = subst (λ v. KeepsNotes place [] v [])
     (sym both) (two_notes place note set file light) in
-    let w = (l.ok [] was kept).3 in
+    let w = (l.ok [] was kept).2.1 in
     let two : length a.0.now.notes ≡ 2 = ap length both in
     let n : length s.0.now.notes ≡ a.1.0 + 1 = ap length w.notes
     ∙ took_so_many a.1.0 a.0.now.notes (omega (arith, first, two)) in
@@ -150,8 +150,8 @@ restart_keeps_later_parts : (S : _) (LS : _) (g : _) (d : _) (κs : _) (a : _) (
     → g.holds s.0.now.sink held → ⊥
 restart_keeps_later_parts S LS g d κs a s held point l was kept noted ten twenty one same =
     let r = l.ok held was kept in
-    let p : r.3.point ≡ point = cc (noted, r.3.noted) in
-    let n : 20 ≡ 10 = sym twenty ∙ ap weight_of (one held r.0 same r.1) ∙ r.3.weighs
+    let p : r.2.1.point ≡ point = cc (noted, r.2.1.noted) in
+    let n : 20 ≡ 10 = sym twenty ∙ ap weight_of (one held r.0 same r.1) ∙ r.2.1.weighs
     ∙ ap (λ c. c.staged) p ∙ ten in
     absurd (omega (arith, n))
 
@@ -176,7 +176,7 @@ restart_keeps_complete : (S : _) (LS : _) (g : _) (d : _) (κs : _) (a : _) (s :
     → slice_get a.0.now.notes a.1.0 ≡ Some point → point.position ≡ Awaits 1 0 0
     → s.0.now.core.position ≡ Finished → ⊥
 restart_keeps_complete S LS g d κs a s held point l was kept noted start end =
-    let w = (l.ok held was kept).3 in
+    let w = (l.ok held was kept).2.1 in
     let p : w.point ≡ point = cc (noted, w.noted) in
     let e : s.0.now.core.position ≡ point.position
     = ap (λ c. c.position) w.place ∙ ap (λ c. c.position) p in

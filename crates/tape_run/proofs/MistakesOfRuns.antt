@@ -56,7 +56,7 @@ same_reel_read_again S R LS LR g d h e κs a s held bytes l was fresh two one =
     let r = l.runs held was kept in
     let old : Seen = seen g.refusals a.0.now held in
     let new : Seen = seen g.refusals s.0.now r.0 in
-    let (which, row, runs) = r.2 in
+    let (which, row, runs) = r.2.0 in
     second_reel which old new bytes (subst (λ v. Runs which old v (Some bytes ∷ []) new) two
     (subst (λ v. Runs which old a.1.0.now v new) one runs))
 
@@ -81,7 +81,7 @@ told_of_one S R LS LR g d h e κs a s held bytes l was fresh one known =
     let r = l.runs held was kept in
     let old : Seen = seen g.refusals a.0.now held in
     let new : Seen = seen g.refusals s.0.now r.0 in
-    let (which, row, runs) = r.2 in
+    let (which, row, runs) = r.2.0 in
     let (failed, is, count) = one_told which old new bytes
     (subst (λ v. Runs which old v (Some bytes ∷ []) new) one
     (subst (λ v. Runs which old a.1.0.now v new) known runs)) in
@@ -140,11 +140,11 @@ script_notes_in_the_list_alone S R LS LR g d h e κs a s held there older l was 
     let old : Seen = seen g.refusals a.0.now held in
     let new : Seen = seen g.refusals s.0.now r.0 in
     let here = saved old.place (weight_of held) in
-    let one : s.0.now.notes ≡ here ∷ [] = saved_alone r.2.0 old new (map h.remaining a.1.1.0.now)
-    (subst (λ v. Runs r.2.0 old v (map h.remaining a.1.1.0.now) new) steps r.2.2)
+    let one : s.0.now.notes ≡ here ∷ [] = saved_alone r.2.0.0 old new (map h.remaining a.1.1.0.now)
+    (subst (λ v. Runs r.2.0.0 old v (map h.remaining a.1.1.0.now) new) steps r.2.0.2)
     ∙ ap (λ l. l ++ here ∷ []) fresh in
     let (n, count, (is, front, weighs)) =
-    (r.3 (ap (is_saved false) steps)).0 older there back in
+    (r.2.1 (ap (is_saved false) steps)).0 older there back in
     let number : n ≡ 0 = omega (arith, count, ap length one) in
     let at : slice_get s.0.now.notes 0 ≡ Some older =
     subst (λ z. slice_get s.0.now.notes z ≡ Some older) number is in

@@ -147,8 +147,8 @@ stopped_first S R LS LR g d h e κs a s step steps held left l was fresh one kno
     let r = l.faults held was kept in (
       r.0,
       r.1 (λ lost. other lost.0.0 (sym (ap (λ v. slice_get v 0) one) ∙ lost.0.1)),
-      first_fails r.3 (seen g.refusals a.0.now held) (seen g.refusals s.0.now r.0) step a.1.0.now
-          steps (map h.remaining a.1.1.0.now) left (faults.Sink Device) one known r.5,
+      first_fails r.2.1 (seen g.refusals a.0.now held) (seen g.refusals s.0.now r.0) step a.1.0.now
+          steps (map h.remaining a.1.1.0.now) left (faults.Sink Device) one known r.2.3,
     )
 
 -- refused_save_loses_the_parts: the disk of the sink failed in a save, and the part that it held is
@@ -255,7 +255,7 @@ count_passed_over S R LS LR g d h e κs a answer s held bytes end stop items mor
     let all : List TapeItem = items ++ trailer ∷ more in
     let led : rest_of s.0.now.core ≡ rest_of (behind_items front all)
     = led_there (seen g.refusals a.0.now held) (seen g.refusals s.0.now r.0)
-    (h.remaining a.1.0.now) bytes all end stop answer.fault r.4 known none image in
+    (h.remaining a.1.0.now) bytes all end stop answer.fault r.2.2 known none image in
     not_finished (behind_items front items) trailer more (BlockCount 9 6) counts
     (sym (ap (λ c. c.position) (behind_app front items (trailer ∷ more)))
     ∙ sym (ap (λ c. c.position) led) ∙ finished)
@@ -279,7 +279,7 @@ broken_reader_mended S R LS LR g d h e κs a answer s held bytes end stop items 
     let front : State = mount_of (rest_of a.0.now.core) in
     let led : rest_of s.0.now.core ≡ rest_of (behind_items front items)
     = led_there (seen g.refusals a.0.now held) (seen g.refusals s.0.now r.0)
-    (h.remaining a.1.0.now) bytes items end stop answer.fault r.4 known none image in
+    (h.remaining a.1.0.now) bytes items end stop answer.fault r.2.2 known none image in
     let still : front.phase ≡ Broken
     = ap (λ f. mounted (resting f) a.0.now.core.position) broken in
     let idle : IsIdle front.position front.phase

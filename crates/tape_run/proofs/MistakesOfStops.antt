@@ -63,7 +63,7 @@ no_reel_told_as_no_point : (S : _) (R : _) (LS : _) (LR : _) (g : _) (d : _) (h 
 no_reel_told_as_no_point S R LS LR g d h e κs a s held n l was fresh one none =
     let kept = kept_without (rest_of a.0.now.core) held a.0.now.notes fresh in
     let (step, stops) = stops_at _ _ _ a.1.0.now (Reel ∷ []) (map h.remaining a.1.1.0.now) []
-    n NoSuchPoint one none (l.faults held was kept).5 in
+    n NoSuchPoint one none (l.faults held was kept).2.3 in
     absurd (cc (other_fault step n NoSuchPoint stops))
 
 -- a save is not stopped for want of a reel
@@ -83,7 +83,7 @@ step_told_one_too_low : (S : _) (R : _) (LS : _) (LR : _) (g : _) (d : _) (h : _
 step_told_one_too_low S R LS LR g d h e κs a s held l was fresh two none =
     let kept = kept_without (rest_of a.0.now.core) held a.0.now.notes fresh in
     let (step, (mid, new, is, fails)) = stops_at _ _ _ a.1.0.now (Save ∷ Reel ∷ [])
-    (map h.remaining a.1.1.0.now) [] 0 TooFewReels two none (l.faults held was kept).5 in
+    (map h.remaining a.1.1.0.now) [] 0 TooFewReels two none (l.faults held was kept).2.3 in
     saves_need_none step mid new is fails
 
 -- steps_counted_from_1: the only step was not made, and step 1 is told
@@ -95,5 +95,5 @@ steps_counted_from_1 : (S : _) (R : _) (LS : _) (LR : _) (g : _) (d : _) (h : _)
 steps_counted_from_1 S R LS LR g d h e κs a s held fault l was fresh one none =
     let kept = kept_without (rest_of a.0.now.core) held a.0.now.notes fresh in
     let (step, (mid, new, is, fails)) = stops_at _ _ _ a.1.0.now (Reel ∷ [])
-    (map h.remaining a.1.1.0.now) [] 1 fault one none (l.faults held was kept).5 in
+    (map h.remaining a.1.1.0.now) [] 1 fault one none (l.faults held was kept).2.3 in
     absurd (omega (arith, slice_get_within (Reel ∷ []) 1 step is))

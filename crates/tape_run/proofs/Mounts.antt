@@ -18,15 +18,24 @@ use Rattle.tape_core.specs.State.{State}
 use Rattle.tape_core.specs.Place.{rest_of, IsPlaced}
 use Rattle.tape_core.specs.Table.{Outcome, step_of, mount_of}
 use Rattle.tape_core.specs.Foreign.{IsForeignAt, Unmoved}
-use Rattle.tape_core.specs.Follows.{reading, IsAt, IsReading, Kept, Idle, Gives, Delivers, Checked}
+use Rattle.tape_core.specs.Follows.{reading, IsAt, IsFinal, IsReading, Kept, Idle, Gives, Delivers}
+use Rattle.tape_core.specs.Follows.{Checked}
 use Rattle.tape_core.proofs.Steps.{mounts, step_reads, position_reads}
 use Rattle.tape_core.proofs.IdleSteps.{idle_reads}
 use Rattle.tape_core.proofs.ForeignLaws.{foreign_mount, foreign_step}
 use Rattle.tape_core.proofs.Standing.{rests, rested}
 use Rattle.tape_run.specs.Mount.{Happening, reads, foreign_reel, saves, restarts, IsCopy, IsMount}
 use Rattle.tape_run.specs.Mount.{cut, after_mount}
-use Rattle.tape_run.specs.Followed.{IsChecked, Took}
+use Rattle.tape_run.specs.Puts.{IsChecked}
 use Rattle.tape_run.specs.Under.{is_under}
+
+-- One item of a mount that began at p: the place is right again behind what the step gave, and with
+-- a final answer no further item of the mount moves it.
+pub record Took (set : FileSet) (p : Position) (h : Happening) (item : Option TapeItem)
+    (answer : Answer) (old new : State) : Type 0 where
+  pub at : IsAt set new
+  pub gives : (x : TapeItem) × (item ≡ Some x) × Gives set x answer old new
+  pub done : IsFinal answer → new.position ≡ after_mount set new.file p h
 
 -- ---- items
 

@@ -20,9 +20,17 @@ use Rattle.tape_core.specs.Table.{step_of}
 use Rattle.tape_core.specs.Follows.{IsFinal}
 use Rattle.tape_run.specs.declared.intake.ReelAnswer.{ReelAnswer}
 use Rattle.tape_run.specs.Reels.{behind_items, answers_to, GoesOn, delivered_by, ReadsReel}
-use Rattle.tape_run.specs.Reels.{ReadsToBlock, ReadsSoFar, IsDelivery}
+use Rattle.tape_run.specs.Reels.{ReadsToBlock, IsDelivery}
 use Rattle.tape_run.specs.Taking.{came_of, fault_of}
 use Rattle.tape_run.proofs.ByTable.{core_more}
+
+-- So far: the bytes up to a place are these items, behind each of which the reading went on.
+pub record ReadsSoFar (old new : State) (blocks at : ℕ) (bytes left : List ℕ) : Type 0 where
+  pub items : List TapeItem
+  pub taken : Walks 0 bytes items at left
+  pub on : AllByRecursion GoesOn (answers_to old items)
+  pub counted : blocks ≡ delivered_by (answers_to old items)
+  pub core : new ≡ behind_items old items
 
 -- ---- what came
 

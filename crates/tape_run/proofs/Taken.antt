@@ -12,9 +12,8 @@ use Rattle.tape_core.specs.declared.event.Answer.TheVariants.{Deliver}
 use Rattle.tape_core.specs.Place.{place_of, rest_of, IsPlaced}
 use Rattle.tape_core.specs.State.{State}
 use Rattle.tape_core.specs.Table.{saved, step_of}
-use Rattle.tape_run.specs.Followed.{IsChecked}
 use Rattle.tape_run.specs.Mount.{cut, after_mount}
-use Rattle.tape_run.specs.Puts.{refused_point}
+use Rattle.tape_run.specs.Puts.{IsChecked, refused_point}
 use Rattle.tape_run.specs.Taking.{TakesItem, RefusesItem}
 use Rattle.tape_run.proofs.Mounts.{both, reached}
 use Rattle.tape_run.proofs.Places.{delivered_at, refused_at, refused_position, gives_block}

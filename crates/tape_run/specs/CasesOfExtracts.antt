@@ -290,10 +290,10 @@ pub record CasesOfOutputs : Type 0 where
 
 -- of a sink that is its count of refused calls, and holds no part, or of which nothing is held
 abbrev pub FailsEmpty : EngineFault → ℕ → ℕ → Type 0
-FailsEmpty = WritingFails (λ s ps. ps ≡ []) (λ s. s)
+FailsEmpty fault old new = WritingFails (λ s ps. ps ≡ []) (λ s. s) old new fault
 
 abbrev pub FailsUnknown : EngineFault → ℕ → ℕ → Type 0
-FailsUnknown = WritingFails (λ s ps. ⊥) (λ s. s)
+FailsUnknown fault old new = WritingFails (λ s ps. ⊥) (λ s. s) old new fault
 
 pub record CasesOfCauses : Type 0 where
   -- a refusal is told where one was counted, of whatever cause

@@ -12,15 +12,15 @@ use Rattle.tape_run.specs.declared.fault.RunFault.TheVariants.{OutOfMemory, Othe
 
 -- why the records of a sink were not written: it refused a call; or it gave fewer than were
 -- counted, as only a sink does of which nothing is held; or a write failed, and it refused none
-abbrev pub WritingFails : {S : Type 0} → (S → List Portion → Type 0) → (S → ℕ) → EngineFault → S
-    → S → Type 0
-WritingFails holds refusals (Run (Sink cause)) old new = Rose (refusals old) (refusals new)
+abbrev pub WritingFails : {S : Type 0} → (S → List Portion → Type 0) → (S → ℕ) → S → S
+    → EngineFault → Type 0
+WritingFails holds refusals old new (Run (Sink cause)) = Rose (refusals old) (refusals new)
     ⊎ ((cause ≡ Failed) × ((parts : List Portion) → holds old parts → ⊥))
-WritingFails holds refusals (Run NoSuchPoint) old new = ⊥
-WritingFails holds refusals (Run TooFewReels) old new = ⊥
-WritingFails holds refusals (Run OutOfMemory) old new = ⊥
-WritingFails holds refusals (Run OtherFile) old new = ⊥
-WritingFails holds refusals WriteFailed old new = refusals new ≡ refusals old
+WritingFails holds refusals old new (Run NoSuchPoint) = ⊥
+WritingFails holds refusals old new (Run TooFewReels) = ⊥
+WritingFails holds refusals old new (Run OutOfMemory) = ⊥
+WritingFails holds refusals old new (Run OtherFile) = ⊥
+WritingFails holds refusals old new WriteFailed = refusals new ≡ refusals old
 
 -- a write failed before, a record is begun, or another form is asked for than was written
 abbrev pub CannotEnd : Bool → Bool → Form → Form → Type 0

@@ -8,6 +8,7 @@ use Rattle.tape_core.specs.Point.{Point}
 use Rattle.tape_core.specs.Stands.{weight_of}
 use Rattle.tape_core.specs.Table.{saved}
 use Rattle.tape_core.specs.Weight.{IsFront}
+use Rattle.tape_core.specs.declared.sink.PartSink.{Ghosts}
 use Rattle.tape_run.specs.declared.script.Step.{Step}
 use Rattle.tape_run.specs.declared.script.Step.TheVariants.{Reel, Save, Restart}
 use Rattle.tape_run.specs.Seen.{Seen, seen}
@@ -94,6 +95,11 @@ pub record LeavesSaved {S : Type 0} (holds : S → List Portion → Type 0) (ref
       → IsLast now back there ⊎ IsHeld holds now.parts new back there
   pub survived : (t : ℕ) → t ≤ (crashes old.sink).moment
       → (crashes old.sink).survived t → (crashes new.sink).survived t
+
+-- Of a sink that held parts a crash brings back no more than before.
+abbrev pub BringsNoMore : {S : Type 0} → Ghosts S → S → S → Type 0
+BringsNoMore g old new = (parts : List Portion) → g.holds old parts
+    → AddsNothing (g.crashes old) (g.crashes new)
 
 -- The session is where it was, and only its sink may be another: one that holds what it held, and
 -- of which a crash brings back no more.

@@ -1,6 +1,6 @@
 -- The bytes that readers gave, and the count of readers that failed.
 use Rattle.std.specs.Prelude.{◌≡◌, ◌⊎◌, ℕ, zero, suc, ◌+◌, Bool, true, false, List, [], ◌∷◌, ◌++◌}
-use Rattle.std.specs.Prelude.{min, Option, Some, None}
+use Rattle.std.specs.Prelude.{map, min, Option, Some, None}
 use Rattle.tape_image.specs.declared.item.ImageFault.{ImageFault}
 use Rattle.tape_image.specs.declared.item.ImageCause.{ImageCause}
 use Rattle.tape_image.specs.declared.item.ImageCause.TheVariants.{Truncated, LengthsDiffer}
@@ -25,6 +25,12 @@ is_device (Some fault) = is_device_cause fault.cause
 abbrev pub IsGiven : Bool → List ℕ → List ℕ → Type 0
 IsGiven false bytes given = given ≡ bytes
 IsGiven true bytes given = (rest : List ℕ) × (bytes ≡ given ++ rest)
+
+-- Where each of the readers tells its bytes, these are so.
+abbrev pub IfTold : {R : Type 0} → (R → Option (List ℕ)) → List R → (List (List ℕ) → Type 0)
+    → Type 0
+IfTold remaining readers so = (bytes : List (List ℕ)) → map remaining readers ≡ map Some bytes
+    → so bytes
 
 -- a count of failures behind one more reader, which failed or did not; it stays at its greatest
 -- value

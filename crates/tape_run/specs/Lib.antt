@@ -18,7 +18,6 @@ pub mod Lives
 -- Of private functions alone.
 pub mod Under
 pub mod Made
-pub mod Followed
 pub mod Puts
 pub mod Taking
 -- The catalogue: to be believed, in this order.

@@ -3,7 +3,8 @@ use Rattle.std.specs.Prelude.{◌≡◌, ℕ, ◌<◌, ◌≤◌, ◌==◌, Bool
 use Rattle.std.specs.Prelude.{drop, Option, Some, None, ⊤}
 use Rattle.tape_blocks.specs.Block.{Portion, Holds}
 use Rattle.tape_blocks.specs.Judged.{begun_behind}
-use Rattle.tape_image.specs.Tape.{TapeItem, IsTapeItem}
+use Rattle.tape_blocks.specs.Spans.{InOrder}
+use Rattle.tape_image.specs.Tape.{TapeItem, IsTapeItem, block}
 use Rattle.tape_set.specs.Lawful.{FileForm}
 use Rattle.tape_set.specs.Position.{part_of}
 use Rattle.tape_core.specs.Point.{Point}
@@ -17,6 +18,18 @@ use Rattle.tape_run.specs.declared.intake.Refused.{Refused}
 abbrev pub IsSized : Option TapeItem → Type 0
 IsSized None = ⊤
 IsSized (Some item) = IsTapeItem item
+
+-- The block was checked: it holds parts in span order, as what is known says.
+pub record IsChecked (item : Option TapeItem) (new : State) : Type 0 where
+  pub bytes : List ℕ
+  pub is_block : item ≡ Some (block bytes)
+  pub known : FileForm
+  pub is_known : new.known ≡ Some known
+  pub begun : Bool
+  pub end : Bool
+  pub parts : List Portion
+  pub holds : Holds known.format known.rec_len known.offset bytes parts
+  pub order : InOrder begun parts end
 
 -- Of the parts of a block those from the first on, up to the refused one, were put.
 pub record PutsFew (holds : List Portion → Type 0) (held parts : List Portion) (first : ℕ)

@@ -90,14 +90,6 @@ abbrev pub IsDelivery : State → Option TapeItem → Type 0
 IsDelivery core came = (content : List ℕ) × (came ≡ Some (block content))
     × ((step_of core came).0 ≡ Deliver)
 
--- So far: the bytes up to a place are these items, behind each of which the reading went on.
-pub record ReadsSoFar (old new : State) (blocks at : ℕ) (bytes left : List ℕ) : Type 0 where
-  pub items : List TapeItem
-  pub taken : Walks 0 bytes items at left
-  pub on : AllByRecursion GoesOn (answers_to old items)
-  pub counted : blocks ≡ delivered_by (answers_to old items)
-  pub core : new ≡ behind_items old items
-
 -- What a reel answers and leaves unread: of a complete file it reads nothing.
 abbrev pub Reads : Position → State → List ℕ → List ℕ → ReelAnswer → Type 0
 Reads Finished core bytes left answer =

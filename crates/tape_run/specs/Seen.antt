@@ -9,6 +9,7 @@ use Rattle.tape_core.specs.Stands.{Stands}
 use Rattle.tape_core.specs.Weight.{IsFront}
 use Rattle.tape_core.specs.Stands.{weight_of}
 use Rattle.tape_core.specs.Place.{rest_of}
+use Rattle.tape_core.specs.declared.sink.PartSink.{Ghosts}
 use Rattle.tape_run.specs.Story.{Story}
 
 -- a session at rest: its core, the parts that its sink holds, its notes, how many readers failed,
@@ -59,3 +60,16 @@ seen refusals s parts = record {
   failures = s.failures;
   refusals = refusals s.sink;
 }
+
+-- Whatever parts its sink holds, the session as it is seen with them is so.
+abbrev pub IfSeen : {S : Type 0} → Ghosts S → Story S → (Seen → Type 0) → Type 0
+IfSeen g s so = (held : List Portion) → g.holds s.sink held → so (seen g.refusals s held)
+
+-- The sink holds parts, and the session as it is seen with them is so.
+abbrev pub IsSeen : {S : Type 0} → Ghosts S → Story S → (Seen → Type 0) → Type 0
+IsSeen g s so = (now : List Portion) × g.holds s.sink now × so (seen g.refusals s now)
+
+-- The same of parts that the sink holds, unless it lost them by this.
+abbrev pub IsSeenUnless : {S : Type 0} → Type 0 → Ghosts S → Story S → (Seen → Type 0) → Type 0
+IsSeenUnless lost g s so = (now : List Portion) × ((lost → ⊥) → g.holds s.sink now)
+    × so (seen g.refusals s now)

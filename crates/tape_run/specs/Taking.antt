@@ -1,10 +1,10 @@
 -- What an intake did with one item, and with the items of a reel.
-use Rattle.std.specs.Prelude.{◌≡◌, ℕ, ◌+◌, ◌<◌, Bool, List, ◌++◌, length, Option, slice_get}
+use Rattle.std.specs.Prelude.{◌≡◌, ℕ, ◌+◌, ◌<◌, Bool, List, length, Option, slice_get}
 use Rattle.std.specs.Prelude.{Some, None, Result, Ok, Err}
 use Rattle.tape_blocks.specs.Block.{Portion}
 use Rattle.tape_image.specs.declared.item.ImageFault.{ImageFault}
 use Rattle.tape_image.specs.Tape.{TapeItem}
-use Rattle.tape_image.specs.Begins.{Stop, Begins, Walks}
+use Rattle.tape_image.specs.Begins.{Stop, Begins}
 use Rattle.tape_set.specs.Layout.{FileSet}
 use Rattle.tape_set.specs.Lawful.{IsLawful}
 use Rattle.tape_set.specs.declared.position.Position.{Position}
@@ -14,8 +14,7 @@ use Rattle.tape_core.specs.Place.{IsPlaced, rest_of}
 use Rattle.tape_core.specs.Follows.{IsFinal}
 use Rattle.tape_run.specs.Mount.{Happening, IsMount, after_mount}
 use Rattle.tape_run.specs.Given.{IsGiven}
-use Rattle.tape_run.specs.Reels.{behind_items}
-use Rattle.tape_run.specs.ByTable.{IsLed, IsCutAt, delivered_parts}
+use Rattle.tape_run.specs.ByTable.{IsLed, IsCutAt}
 use Rattle.tape_run.specs.Steps.{ReadBy, StoppedBy}
 use Rattle.tape_run.specs.Under.{is_under}
 
@@ -85,15 +84,3 @@ RefusesImage old new held now bytes = (set : FileSet) (p : Position) (xs : List 
 abbrev pub CutsTable : State → State → List Portion → List Portion → List ℕ → Type 0
 CutsTable old new held now bytes = (xs : List TapeItem) (end : ℕ) (stop : Stop)
     → Begins 0 bytes xs end stop → IsCutAt xs old new held now
-
--- So far: these items were taken, up to a place, of all that the reader has.
-pub record SoFar (old new : State) (held now : List Portion) (at : ℕ) (bytes left : List ℕ)
-    : Type 0 where
-  pub items : List TapeItem
-  pub walks : Walks 0 bytes items at left
-  pub core : new ≡ behind_items old items
-  pub parts : now ≡ held ++ delivered_parts old items
-  pub so_far : (set : FileSet) (p : Position) (xs rest : List TapeItem) (h : Happening)
-      → IsLawful set → IsMount set xs h → xs ≡ items ++ rest → IsPlaced set (rest_of old) held
-      → is_under old set p xs 0 h
-      → IsPlaced set (rest_of new) now × is_under new set p xs (length items) h

@@ -13,10 +13,9 @@ ghost use Rattle.std.specs.Io.KnownBytes.{Appends};
 ghost use Rattle.tape_blocks.specs.Block.{Portion};
 ghost use Rattle.tape_blocks.specs.Parts.{view};
 ghost use Rattle.tape_blocks.specs.Spans.{join};
-ghost use Rattle.tape_core.specs.Crash.{AddsNothing};
 ghost use Rattle.tape_core.specs.Weight.{Rose};
 ghost use Rattle.tape_run.specs.Causes.{WritingFails};
-ghost use Rattle.tape_run.specs.Crash.{IsWalked};
+ghost use Rattle.tape_run.specs.Crash.{IsWalked, BringsNoMore};
 ghost use Rattle.tape_run.specs.Output.{AppendsFront};
 ghost use Rattle.tape_run.specs.Extracting.{Extracts, Stops, EndsFile, StopsAtEnd, IsWritten};
 ghost use Rattle.tape_run.specs.RecordText.{output_of, record_end, part_text};
@@ -95,8 +94,8 @@ fn end_file<S: PartWalk, W: Write, P: Write>(
     ensures err { OnErr result (StopsAtEnd S.holds session.old form W.contents out.old out.new
         (P.contents report.old) (P.contents report.new)) }
     ensures same { IsWalked S.holds S.crashes session.old session.new }
-    ensures cause { IfErr result (λ fault.
-        WritingFails S.holds S.refusals fault session.old.sink session.new.sink) }
+    ensures cause { IfErr result
+        (WritingFails S.holds S.refusals session.old.sink session.new.sink) }
     ensures calm { OnOk result (S.refusals session.new.sink ≡ S.refusals session.old.sink) }
 {
     if let Some(want) = session.want() {
@@ -146,10 +145,8 @@ pub fn write_file<S: PartWalk, W: Write>(
         → AppendsFront (W.contents out.old) (W.contents out.new) (output_of form parts)) }
     ensures kept { (parts : List Portion) → S.holds sink.old parts → S.holds sink.new parts }
     // Whatever it answered: a crash behind it brings back nothing that none before it could.
-    ensures crash { (parts : List Portion) → S.holds sink.old parts
-        → AddsNothing (S.crashes sink.old) (S.crashes sink.new) }
-    ensures cause { IfErr result (λ fault.
-        WritingFails S.holds S.refusals fault sink.old sink.new) }
+    ensures crash { BringsNoMore S.PartSink sink.old sink.new }
+    ensures cause { IfErr result (WritingFails S.holds S.refusals sink.old sink.new) }
     ensures calm { OnOk result (S.refusals sink.new ≡ S.refusals sink.old) }
 {
     let records = write_parts(sink, form, out)?;
@@ -166,8 +163,7 @@ pub fn count_records<S: PartWalk>(sink: &mut S) -> Result<u64, SinkFault>
     ensures count { IfOk result (λ count. (parts : List Portion) → S.holds sink.old parts
         → count ≡ length (join parts).records) }
     ensures kept { (parts : List Portion) → S.holds sink.old parts → S.holds sink.new parts }
-    ensures crash { (parts : List Portion) → S.holds sink.old parts
-        → AddsNothing (S.crashes sink.old) (S.crashes sink.new) }
+    ensures crash { BringsNoMore S.PartSink sink.old sink.new }
     ensures cause { OnErr result (Rose (S.refusals sink.old) (S.refusals sink.new)) }
     ensures calm { OnOk result (S.refusals sink.new ≡ S.refusals sink.old) }
 {
@@ -209,10 +205,9 @@ pub fn write_records<S: PartWalk, W: Write>(
         → records ≡ length (join parts).records
         → AppendsFront (W.contents out.old) (W.contents out.new) (output_of form parts)) }
     ensures kept { (parts : List Portion) → S.holds sink.old parts → S.holds sink.new parts }
-    ensures crash { (parts : List Portion) → S.holds sink.old parts
-        → AddsNothing (S.crashes sink.old) (S.crashes sink.new) }
+    ensures crash { BringsNoMore S.PartSink sink.old sink.new }
     ensures cause { IfErr result (λ fault. WritingFails (λ s parts. S.ahead s parts
-        × (records ≡ length (join parts).records)) S.refusals fault sink.old sink.new) }
+        × (records ≡ length (join parts).records)) S.refusals sink.old sink.new fault) }
     ensures calm { OnOk result (S.refusals sink.new ≡ S.refusals sink.old) }
 {
     let mut left = records;

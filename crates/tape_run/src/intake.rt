@@ -14,12 +14,12 @@ ghost use Rattle.tape_core.specs.Known.{is_finished};
 ghost use Rattle.tape_core.specs.Place.{rest_of};
 ghost use Rattle.tape_core.specs.Arrive.{arrival};
 ghost use Rattle.tape_core.specs.Table.{step_of};
-ghost use Rattle.tape_core.specs.Crash.{AddsNothing};
 ghost use Rattle.tape_core.specs.Weight.{IsFront, Rose};
-ghost use Rattle.tape_run.specs.Followed.{IsChecked};
+ghost use Rattle.tape_run.specs.Crash.{BringsNoMore};
 ghost use Rattle.tape_run.specs.ByTable.{parts_of_arrival, StopsInside};
 ghost use Rattle.tape_run.specs.Given.{is_device};
-ghost use Rattle.tape_run.specs.Puts.{IsSized, refused_point, PutsBlock, PutsFront, PutsFew};
+ghost use Rattle.tape_run.specs.Puts.{IsSized, IsChecked, refused_point, PutsBlock, PutsFront};
+ghost use Rattle.tape_run.specs.Puts.{PutsFew};
 ghost use Rattle.tape_run.specs.Reels.{ReadsReel, ReadsToBlock, IsDelivery, GoesOn, delivered_by};
 ghost use Rattle.tape_run.specs.Taking.{TakesItem, RefusesItem, ReadsImage, RefusesImage};
 ghost use Rattle.tape_run.specs.Taking.{CutsTable, came_of, fault_of};
@@ -100,8 +100,7 @@ pub fn put_parts<S: PartSink>(
         × (refused.part ≤ longest_block)) }
     ensures cause { OnErr result (Rose (S.refusals sink.old) (S.refusals sink.new)) }
     ensures calm { OnOk result (S.refusals sink.new ≡ S.refusals sink.old) }
-    ensures crash { (held : List Portion) → S.holds sink.old held
-        → AddsNothing (S.crashes sink.old) (S.crashes sink.new) }
+    ensures crash { BringsNoMore S.PartSink sink.old sink.new }
 {
     let mut going = begun;
     let mut seen = 0u32;
@@ -210,8 +209,7 @@ impl<S: PartSink> Intake<S> {
             × RefusesItem (arrival event.entry) self.old.core self.new.core held now) }
         ensures cause { OnErr result (Rose (S.refusals self.old.sink) (S.refusals self.new.sink)) }
         ensures calm { OnOk result (S.refusals self.new.sink ≡ S.refusals self.old.sink) }
-        ensures crash { (held : List Portion) → S.holds self.old.sink held
-            → AddsNothing (S.crashes self.old.sink) (S.crashes self.new.sink) }
+        ensures crash { BringsNoMore S.PartSink self.old.sink self.new.sink }
     {
         let before = self.core.save(0);
         let answer = self.core.step(event);
@@ -239,8 +237,7 @@ impl<S: PartSink> Intake<S> {
         ensures set_id { self.new.core.set_id ≡ self.old.core.set_id }
         ensures cause { OnErr result (Rose (S.refusals self.old.sink) (S.refusals self.new.sink)) }
         ensures calm { OnOk result (S.refusals self.new.sink ≡ S.refusals self.old.sink) }
-        ensures crash { (held : List Portion) → S.holds self.old.sink held
-            → AddsNothing (S.crashes self.old.sink) (S.crashes self.new.sink) }
+        ensures crash { BringsNoMore S.PartSink self.old.sink self.new.sink }
     {
         let Some(shape) = self.core.shape() else {
             unreachable!()
@@ -286,8 +283,7 @@ impl<S: PartSink> Intake<S> {
             (CutsTable self.old.core (rest_of self.new.core) held now)) }
         ensures cause { OnErr result (Rose (S.refusals self.old.sink) (S.refusals self.new.sink)) }
         ensures calm { OnOk result (S.refusals self.new.sink ≡ S.refusals self.old.sink) }
-        ensures crash { (held : List Portion) → S.holds self.old.sink held
-            → AddsNothing (S.crashes self.old.sink) (S.crashes self.new.sink) }
+        ensures crash { BringsNoMore S.PartSink self.old.sink self.new.sink }
     {
         let mut blocks = 0u32;
         'items: loop {

@@ -3,7 +3,6 @@
 ghost use Rattle.std.specs.Prelude.{◌≡◌, ◌+◌, [], ◌∷◌, ℕ, Bool, List, Some, None, OnOk};
 ghost use Rattle.std.specs.Prelude.{OnErr, IfOk, IfErr};
 ghost use Rattle.std.specs.Prelude.{map, drop, true, false};
-ghost use Rattle.tape_blocks.specs.Block.{Portion};
 ghost use Rattle.tape_blocks.specs.Spans.{join};
 ghost use Rattle.tape_set.specs.declared.position.Position.TheVariants.{Finished};
 ghost use Rattle.tape_set.specs.Layout.{FileSet, Section, file_of};
@@ -14,10 +13,10 @@ ghost use Rattle.tape_core.specs.Crash.{AddsOnly};
 ghost use Rattle.tape_run.specs.Back.{reels_of, AreVolumes};
 ghost use Rattle.tape_run.specs.Crash.{IsOf, StoodAt, LastAlone, is_saved};
 ghost use Rattle.tape_run.specs.Headline.{IsStart, IsRead, HasRun, HasStopped, LosesParts};
-ghost use Rattle.tape_run.specs.Given.{written};
+ghost use Rattle.tape_run.specs.Given.{written, IfTold};
 ghost use Rattle.tape_run.specs.Made.{IsMade, WritesFrom};
 ghost use Rattle.tape_run.specs.Runs.{Runs, RunsUpTo, Fails};
-ghost use Rattle.tape_run.specs.Seen.{seen, IsKept};
+ghost use Rattle.tape_run.specs.Seen.{seen, IsKept, IfSeen, IsSeen, IsSeenUnless};
 
 use crate::fault::{RunFault, Stopped};
 use crate::session::Session;
@@ -54,20 +53,16 @@ pub fn run<S: PartSink, R: Read>(
 ) -> Result<(), Stopped>
     // The headline: the sink holds the parts before the position that the history leads to, and the
     // session stands there with the notes of the history.
-    ensures headline { OnOk result ((held : List Portion) → S.holds session.old.sink held
-        → IsKept (seen S.refusals session.old held)
-        → (now : List Portion) × S.holds session.new.sink now
-        × IsKept (seen S.refusals session.new now)
-        × ((bytes : List (List ℕ)) → map R.remaining reels.old ≡ map Some bytes
-        → (run : HasRun (seen S.refusals session.old held) steps.now bytes
-        (seen S.refusals session.new now)) × (failed.new ≡ written run.which failed.old))) }
+    ensures headline { OnOk result (IfSeen S.PartSink session.old (λ old. IsKept old
+        → IsSeen S.PartSink session.new (λ new. IsKept new
+        × IfTold R.remaining reels.old (λ bytes. (run : HasRun old steps.now bytes new)
+        × (failed.new ≡ written run.which failed.old))))) }
     // The same of a session that has read nothing of its file.
     ensures start { OnOk result ((set_id : List ℕ) (file : ℕ) → S.holds session.old.sink []
         → IsStart set_id file (seen S.refusals session.old [])
-        → (now : List Portion) × S.holds session.new.sink now
-        × ((bytes : List (List ℕ)) → map R.remaining reels.old ≡ map Some bytes
-        → (read : IsRead set_id file steps.now bytes (seen S.refusals session.new now))
-        × (failed.new ≡ written read.which failed.old))) }
+        → IsSeen S.PartSink session.new (λ new. IfTold R.remaining reels.old (λ bytes.
+        (read : IsRead set_id file steps.now bytes new)
+        × (failed.new ≡ written read.which failed.old)))) }
     // There and back: over the images of all volumes, in order, where no reader failed, the sink
     // holds the whole file.
     ensures back { OnOk result ((set : FileSet) (file : ℕ) (f : List Section)
@@ -81,41 +76,30 @@ pub fn run<S: PartSink, R: Read>(
         × ((join (section_parts f)).rest ≡ None)) }
     // Where it stopped at a step the headline holds of the steps before; a part that was refused is
     // where the session stands. Only a going back that failed may lose what the sink holds.
-    ensures stopped { IfErr result (λ end. (held : List Portion) → S.holds session.old.sink held
-        → IsKept (seen S.refusals session.old held)
-        → (now : List Portion)
-        × ((LosesParts steps.now end.step end.fault → ⊥) → S.holds session.new.sink now)
-        × IsKept (seen S.refusals session.new now)
-        × ((bytes : List (List ℕ)) → map R.remaining reels.old ≡ map Some bytes
-        → (stop : HasStopped (seen S.refusals session.old held) steps.now bytes end.step end.fault
-        (seen S.refusals session.new now)) × (failed.new ≡ written stop.which failed.old))) }
+    ensures stopped { IfErr result (λ end. IfSeen S.PartSink session.old (λ old. IsKept old
+        → IsSeenUnless (LosesParts steps.now end.step end.fault) S.PartSink session.new (λ new.
+        IsKept new × IfTold R.remaining reels.old (λ bytes.
+        (stop : HasStopped old steps.now bytes end.step end.fault new)
+        × (failed.new ≡ written stop.which failed.old))))) }
     // Whatever the set and the history are: each step did what `reel`, `save` and `restart`
     // promise; and behind a save, and reels, a crash brings back what was saved, alone, now and
     // from then on.
-    ensures runs { OnOk result ((held : List Portion) → S.holds session.old.sink held
-        → IsKept (seen S.refusals session.old held)
-        → (now : List Portion) × S.holds session.new.sink now
-        × ((which : List Bool) × (failed.new ≡ written which failed.old)
-        × Runs which (seen S.refusals session.old held) steps.now (map R.remaining reels.old)
-        (seen S.refusals session.new now))
-        × (is_saved false steps.now ≡ true
-        → LastAlone (S.crashes session.new.sink) (seen S.refusals session.new now))) }
+    ensures runs { OnOk result (IfSeen S.PartSink session.old (λ old. IsKept old
+        → IsSeen S.PartSink session.new (λ new.
+        ((which : List Bool) × (failed.new ≡ written which failed.old)
+        × Runs which old steps.now (map R.remaining reels.old) new)
+        × (is_saved false steps.now ≡ true → LastAlone (S.crashes session.new.sink) new)))) }
     // Where it stopped: the same of the steps before, and the step that is told left what its call
     // promises.
-    ensures faults { IfErr result (λ end. (held : List Portion) → S.holds session.old.sink held
-        → IsKept (seen S.refusals session.old held)
-        → (now : List Portion)
-        × ((LosesParts steps.now end.step end.fault → ⊥) → S.holds session.new.sink now)
-        × IsKept (seen S.refusals session.new now)
-        × (which : List Bool) × (failed.new ≡ written which failed.old)
-        × RunsUpTo which (seen S.refusals session.old held) steps.now (map R.remaining reels.old)
-        end.step end.fault (seen S.refusals session.new now)) }
+    ensures faults { IfErr result (λ end. IfSeen S.PartSink session.old (λ old. IsKept old
+        → IsSeenUnless (LosesParts steps.now end.step end.fault) S.PartSink session.new (λ new.
+        IsKept new × (which : List Bool) × (failed.new ≡ written which failed.old)
+        × RunsUpTo which old steps.now (map R.remaining reels.old) end.step end.fault new))) }
     // Whatever it answered: what a crash in it or behind it brings back could come back before, or
     // is where the session stood between two steps, or one of its notes there.
-    ensures crash { (held : List Portion) → S.holds session.old.sink held
-        → IsKept (seen S.refusals session.old held)
-        → AddsOnly (StoodAt (seen S.refusals session.old held) steps.now
-        (map R.remaining reels.old)) (S.crashes session.old.sink) (S.crashes session.new.sink) }
+    ensures crash { IfSeen S.PartSink session.old (λ old. IsKept old
+        → AddsOnly (StoodAt old steps.now (map R.remaining reels.old))
+        (S.crashes session.old.sink) (S.crashes session.new.sink)) }
 {
     let mut used = 0usize;
     for (step, asked) in steps.iter().enumerate() {
@@ -137,26 +121,17 @@ fn make<S: PartSink, R: Read>(
 ) -> Result<usize, RunFault>
     ensures ok { IfOk result (λ now_used. (which : List Bool)
         × WritesFrom used which failed.old failed.new now_used
-        × ((held : List Portion) → S.holds session.old.sink held
-        → IsKept (seen S.refusals session.old held)
-        → (now : List Portion) × S.holds session.new.sink now
-        × IsKept (seen S.refusals session.new now)
+        × IfSeen S.PartSink session.old (λ old. IsKept old
+        → IsSeen S.PartSink session.new (λ new. IsKept new
         × IsMade which step (map R.remaining (drop used reels.old))
         (map R.remaining (drop now_used reels.new)) (S.crashes session.old.sink)
-        (S.crashes session.new.sink) (seen S.refusals session.old held)
-        (seen S.refusals session.new now))) }
+        (S.crashes session.new.sink) old new))) }
     ensures unwritten { OnErr result (failed.new ≡ failed.old) }
-    ensures err { IfErr result (λ fault. (held : List Portion) → S.holds session.old.sink held
-        → IsKept (seen S.refusals session.old held)
-        → (now : List Portion)
-        × ((LosesParts (step ∷ []) 0 fault → ⊥) → S.holds session.new.sink now)
-        × IsKept (seen S.refusals session.new now)
-        × Fails step (map R.remaining (drop used reels.old)) fault
-        (seen S.refusals session.old held) (seen S.refusals session.new now)) }
-    ensures crash { (held : List Portion) → S.holds session.old.sink held
-        → IsKept (seen S.refusals session.old held)
-        → AddsOnly (IsOf (seen S.refusals session.old held)) (S.crashes session.old.sink)
-        (S.crashes session.new.sink) }
+    ensures err { IfErr result (λ fault. IfSeen S.PartSink session.old (λ old. IsKept old
+        → IsSeenUnless (LosesParts (step ∷ []) 0 fault) S.PartSink session.new (λ new. IsKept new
+        × Fails step (map R.remaining (drop used reels.old)) fault old new))) }
+    ensures crash { IfSeen S.PartSink session.old (λ old. IsKept old → AddsOnly (IsOf old)
+        (S.crashes session.old.sink) (S.crashes session.new.sink)) }
 {
     match step {
         Step::Reel => {

@@ -12,14 +12,14 @@ ghost use Rattle.tape_core.specs.Known.{IsFileNumber};
 ghost use Rattle.tape_core.specs.Place.{rest_of};
 ghost use Rattle.tape_core.specs.Stands.{Stands, weight_of};
 ghost use Rattle.tape_core.specs.Table.{saved, reader_of};
-ghost use Rattle.tape_core.specs.Crash.{AddsNothing, AddsOnly, ThisAlone};
+ghost use Rattle.tape_core.specs.Crash.{AddsOnly, ThisAlone};
 ghost use Rattle.tape_core.specs.Weight.{IsFront};
-ghost use Rattle.tape_run.specs.Crash.{IsHere, IsNoteOf};
+ghost use Rattle.tape_run.specs.Crash.{IsHere, IsNoteOf, BringsNoMore};
 ghost use Rattle.tape_run.specs.Given.{is_device, counted};
 ghost use Rattle.tape_run.specs.Headline.{IsStart};
 ghost use Rattle.tape_run.specs.Lives.{IsResumed};
 ghost use Rattle.tape_run.specs.Reels.{Reads, Leaves};
-ghost use Rattle.tape_run.specs.Seen.{seen, IsKept, IsSession};
+ghost use Rattle.tape_run.specs.Seen.{seen, IsKept, IsSession, IfSeen, IsSeen};
 ghost use Rattle.tape_run.specs.Steps.{Reeled, ReelFails, Saved, SaveFails, WentBack, RestartFails};
 
 use crate::fault::RunFault;
@@ -143,16 +143,14 @@ impl<S: PartSink> Session<S> {
     /// session stands, and the next reel goes on there. `OutOfMemory`, where the image reader's
     /// buffer was refused: nothing changed, and nothing was read.
     pub fn reel<R: Read>(&mut self, device: &mut R) -> Result<ReelAnswer, RunFault>
-        ensures ok { IfOk result (λ answer. (held : List Portion) → S.holds self.old.sink held
-            → (now : List Portion) × S.holds self.new.sink now × IsFront held now
-            × (IsKept (seen S.refusals self.old held) → IsKept (seen S.refusals self.new now))
-            × IfSome (R.remaining device.old) (λ bytes. Reeled bytes (is_device answer.fault)
-            (seen S.refusals self.old held) (seen S.refusals self.new now))) }
-        ensures err { IfErr result (λ fault. (held : List Portion) → S.holds self.old.sink held
-            → (now : List Portion) × S.holds self.new.sink now × IsFront held now
-            × (IsKept (seen S.refusals self.old held) → IsKept (seen S.refusals self.new now))
-            × IfSome (R.remaining device.old) (λ bytes. ReelFails bytes fault
-            (seen S.refusals self.old held) (seen S.refusals self.new now))) }
+        ensures ok { IfOk result (λ answer. IfSeen S.PartSink self.old (λ old.
+            IsSeen S.PartSink self.new (λ new. IsFront old.parts new.parts
+            × (IsKept old → IsKept new) × IfSome (R.remaining device.old)
+            (λ bytes. Reeled bytes (is_device answer.fault) old new)))) }
+        ensures err { IfErr result (λ fault. IfSeen S.PartSink self.old (λ old.
+            IsSeen S.PartSink self.new (λ new. IsFront old.parts new.parts
+            × (IsKept old → IsKept new) × IfSome (R.remaining device.old)
+            (λ bytes. ReelFails bytes fault old new)))) }
         ensures notes { self.new.notes ≡ self.old.notes }
         // The answer is the core's last one, and no byte behind what ended the reading was read.
         ensures answer { IfOk result (λ answer. IfKnown (R.remaining device.old)
@@ -167,8 +165,7 @@ impl<S: PartSink> Session<S> {
             Leaves fault self.old.core (R.remaining device.old) (R.remaining device.new)) }
         // Whatever it answered: a crash in it or behind it brings back nothing that none before it
         // could.
-        ensures crash { (held : List Portion) → S.holds self.old.sink held
-            → AddsNothing (S.crashes self.old.sink) (S.crashes self.new.sink) }
+        ensures crash { BringsNoMore S.PartSink self.old.sink self.new.sink }
     {
         if self.intake.core.want().is_none() {
             return Ok(ReelAnswer::new(Answer::Complete, None, 0));
@@ -197,15 +194,12 @@ impl<S: PartSink> Session<S> {
     /// `OutOfMemory`, where the list could not grow, before the sink is asked; `Sink`, where the
     /// sink refused. Both leave the session as it was.
     pub fn save(&mut self) -> Result<Checkpoint, RunFault>
-        ensures ok { OnOk result ((held : List Portion) → S.holds self.old.sink held
-            → (now : List Portion) × S.holds self.new.sink now
-            × (IsKept (seen S.refusals self.old held) → IsKept (seen S.refusals self.new now))
-            × Saved (seen S.refusals self.old held) (seen S.refusals self.new now)) }
+        ensures ok { OnOk result (IfSeen S.PartSink self.old (λ old.
+            IsSeen S.PartSink self.new (λ new. (IsKept old → IsKept new) × Saved old new))) }
         ensures point { IfOk result (λ point. (held : List Portion) → S.holds self.old.sink held
             → point ≡ saved (rest_of self.old.core) (weight_of held)) }
-        ensures err { IfErr result (λ fault. (held : List Portion) → S.holds self.old.sink held
-            → (now : List Portion) × S.holds self.new.sink now
-            × SaveFails fault (seen S.refusals self.old held) (seen S.refusals self.new now)) }
+        ensures err { IfErr result (λ fault. IfSeen S.PartSink self.old (λ old.
+            IsSeen S.PartSink self.new (λ new. SaveFails fault old new))) }
         // The checkpoint stands, with the parts delivered.
         ensures stands { IfOk result (λ point. (set : FileSet) (held : List Portion)
             → S.holds self.old.sink held → IsSession set (seen S.refusals self.old held)
@@ -217,9 +211,8 @@ impl<S: PartSink> Session<S> {
             → ThisAlone point held (S.crashes self.new.sink)) }
         // Whatever it answered: a crash in it or behind it brings back where the session stands,
         // with the parts delivered, or what one before it could.
-        ensures crash { (held : List Portion) → S.holds self.old.sink held
-            → AddsOnly (IsHere (seen S.refusals self.old held)) (S.crashes self.old.sink)
-            (S.crashes self.new.sink) }
+        ensures crash { IfSeen S.PartSink self.old (λ old. AddsOnly (IsHere old)
+            (S.crashes self.old.sink) (S.crashes self.new.sink)) }
     {
         let point = self.intake.core.save(self.intake.sink.weight());
         if self.notes.push(point).is_err() {
@@ -270,22 +263,15 @@ impl<S: PartSink> Session<S> {
     /// the session as it was, but that of a sink which answered `Device` nothing is said until it
     /// is opened again.
     pub fn restart(&mut self, n: usize) -> Result<(), RunFault>
-        ensures ok { OnOk result ((held : List Portion) → S.holds self.old.sink held
-            → IsKept (seen S.refusals self.old held)
-            → (now : List Portion) × S.holds self.new.sink now
-            × IsKept (seen S.refusals self.new now)
-            × WentBack n (seen S.refusals self.old held) (seen S.refusals self.new now)) }
-        ensures err { IfErr result (λ fault. (held : List Portion) → S.holds self.old.sink held
-            → IsKept (seen S.refusals self.old held)
-            → (fault ≢ RunFault.Sink SinkFault.Device → S.holds self.new.sink held)
-            × RestartFails n fault (seen S.refusals self.old held)
-            (seen S.refusals self.new held)) }
+        ensures ok { OnOk result (IfSeen S.PartSink self.old (λ old. IsKept old
+            → IsSeen S.PartSink self.new (λ new. IsKept new × WentBack n old new))) }
+        ensures err { IfErr result (λ fault. IfSeen S.PartSink self.old (λ old. IsKept old
+            → (fault ≢ RunFault.Sink SinkFault.Device → S.holds self.new.sink old.parts)
+            × RestartFails n fault old (seen S.refusals self.new old.parts))) }
         // Whatever it answered: a crash in it or behind it brings back the note of this number,
         // with its parts, or what one before it could.
-        ensures crash { (held : List Portion) → S.holds self.old.sink held
-            → IsKept (seen S.refusals self.old held)
-            → AddsOnly (IsNoteOf n (seen S.refusals self.old held)) (S.crashes self.old.sink)
-            (S.crashes self.new.sink) }
+        ensures crash { IfSeen S.PartSink self.old (λ old. IsKept old → AddsOnly (IsNoteOf n old)
+            (S.crashes self.old.sink) (S.crashes self.new.sink)) }
     {
         let Some(&point) = self.notes.get(n) else {
             return Err(RunFault::NoSuchPoint);

@@ -1,14 +1,14 @@
 //! Whole readings, each in one call.
 
-ghost use Rattle.std.specs.Prelude.{◌≡◌, [], ℕ, List, Option, Some, None, map};
-ghost use Rattle.std.specs.Prelude.{Err, IsOk, IfOk, OnOk, IfErr};
+ghost use Rattle.std.specs.Prelude.{◌≡◌, [], List, Err, IsOk, IfOk, OnOk, IfErr};
 ghost use Rattle.tape_blocks.specs.Block.{Portion};
 ghost use Rattle.tape_core.specs.Known.{IsFileNumber};
 ghost use Rattle.tape_core.specs.Place.{rest_of};
 ghost use Rattle.tape_core.specs.Memory.{portions};
 ghost use Rattle.tape_run.specs.Headline.{IsRead, IsStart, HasStopped, LosesParts};
 ghost use Rattle.tape_run.specs.Lives.{IsResumed, LivesOn, GoesOn};
-ghost use Rattle.tape_run.specs.Seen.{Seen, seen};
+ghost use Rattle.tape_run.specs.Given.{IfTold};
+ghost use Rattle.tape_run.specs.Seen.{Seen, IsSeenUnless};
 
 use crate::fault::Stopped;
 use crate::script::{Step, run};
@@ -33,18 +33,16 @@ pub fn read_file<R: Read>(
 ) -> Result<(Session<MemorySink>, Result<(), Stopped>), CoreFault>
     // The headline with no premise on a sink: what is in memory are the parts before the position
     // that the history leads to.
-    ensures read { IfOk result (λ read. OnOk read.1 ((bytes : List (List ℕ))
-        → map R.remaining reels.old ≡ map Some bytes
-        → (now : Seen) × (now.parts ≡ portions read.0.sink) × (now.place ≡ rest_of read.0.core)
+    ensures read { IfOk result (λ read. OnOk read.1 (IfTold R.remaining reels.old (λ bytes.
+        (now : Seen) × (now.parts ≡ portions read.0.sink) × (now.place ≡ rest_of read.0.core)
         × (now.notes ≡ read.0.notes) × (now.failures ≡ read.0.failures)
-        × IsRead set_id file steps.now bytes now)) }
+        × IsRead set_id file steps.now bytes now))) }
     // It stopped at a step: the same of those before it.
-    ensures stopped { IfOk result (λ read. IfErr read.1 (λ end. (bytes : List (List ℕ))
-        → map R.remaining reels.old ≡ map Some bytes
-        → (began : Seen) × IsStart set_id file began
+    ensures stopped { IfOk result (λ read. IfErr read.1 (λ end. IfTold R.remaining reels.old
+        (λ bytes. (began : Seen) × IsStart set_id file began
         × (now : Seen) × (now.place ≡ rest_of read.0.core)
         × ((LosesParts steps.now end.step end.fault → ⊥) → now.parts ≡ portions read.0.sink)
-        × HasStopped began steps.now bytes end.step end.fault now)) }
+        × HasStopped began steps.now bytes end.step end.fault now))) }
     ensures number { IsFileNumber file → IsOk result }
     ensures refused { (IsFileNumber file → ⊥) → result ≡ Err CoreFault.FileNumber }
 {
@@ -67,22 +65,20 @@ pub fn go_on<S: PartSink, R: Read>(
     // from the checkpoint.
     ensures delivers { OnOk result.1 ((held : List Portion) → S.holds sink held
         → (now : List Portion) × S.holds result.0.sink now
-        × ((bytes : List (List ℕ)) → map R.remaining reels.old ≡ map Some bytes
-        → GoesOn point.now held steps.now bytes now)) }
+        × IfTold R.remaining reels.old (λ bytes. GoesOn point.now held steps.now bytes now)) }
     // It stopped at one of them: the same of the steps before it.
     ensures stopped { IfErr result.1 (λ end. (held : List Portion) → S.holds sink held
-        → (began : Seen) × IsResumed point.now held began × (now : List Portion)
-        × ((LosesParts steps.now end.step end.fault → ⊥) → S.holds result.0.sink now)
-        × ((bytes : List (List ℕ)) → map R.remaining reels.old ≡ map Some bytes
-        → HasStopped began steps.now bytes end.step end.fault (seen S.refusals result.0 now))) }
+        → (began : Seen) × IsResumed point.now held began
+        × IsSeenUnless (LosesParts steps.now end.step end.fault) S.PartSink result.0 (λ new.
+        IfTold R.remaining reels.old (λ bytes.
+        HasStopped began steps.now bytes end.step end.fault new))) }
     // Whatever it answered: what a crash behind it brings back, or one in it, is what was there, or
     // outlives this life.
-    ensures crash { (held : List Portion) → S.holds sink held
-        → (bytes : List (List ℕ)) → map R.remaining reels.old ≡ map Some bytes
-        → LivesOn point.now held steps.now bytes (S.crashes sink).returns
+    ensures crash { (held : List Portion) → S.holds sink held → IfTold R.remaining reels.old
+        (λ bytes. LivesOn point.now held steps.now bytes (S.crashes sink).returns
         (S.crashes result.0.sink).returns
         × LivesOn point.now held steps.now bytes ((S.crashes sink).returned (S.crashes sink).moment)
-        ((S.crashes result.0.sink).returned (S.crashes sink).moment) }
+        ((S.crashes result.0.sink).returned (S.crashes sink).moment)) }
     ensures survives { (held : List Portion) → S.holds sink held
         → ((S.crashes sink).survives → (S.crashes result.0.sink).survives)
         × ((S.crashes sink).survived (S.crashes sink).moment

@@ -3,9 +3,9 @@ ghost use Rattle.std.specs.Prelude.{◌≡◌, ◌++◌, List, length, OnOk, OnE
 ghost use Rattle.std.specs.Io.KnownBytes.{Appends};
 ghost use Rattle.tape_blocks.specs.Block.{Portion};
 ghost use Rattle.tape_blocks.specs.Spans.{join};
-ghost use Rattle.tape_core.specs.Crash.{AddsNothing};
 ghost use Rattle.tape_core.specs.Weight.{Rose};
 ghost use Rattle.tape_run.specs.Causes.{WritingFails};
+ghost use Rattle.tape_run.specs.Crash.{BringsNoMore};
 ghost use Rattle.tape_run.specs.Output.{AppendsFront};
 ghost use Rattle.tape_run.specs.RecordText.{output_of};
 ghost use Rattle.tape_run.specs.RecordFront.{EachEnds, WritesFront};
@@ -45,10 +45,8 @@ pub fn write_parts<S: PartWalk, W: Write>(
     ensures err { OnErr result ((parts : List Portion) → S.holds sink.old parts
         → AppendsFront (W.contents out.old) (W.contents out.new) (output_of form parts)) }
     ensures kept { (parts : List Portion) → S.holds sink.old parts → S.holds sink.new parts }
-    ensures crash { (parts : List Portion) → S.holds sink.old parts
-        → AddsNothing (S.crashes sink.old) (S.crashes sink.new) }
-    ensures cause { IfErr result (λ fault.
-        WritingFails S.holds S.refusals fault sink.old sink.new) }
+    ensures crash { BringsNoMore S.PartSink sink.old sink.new }
+    ensures cause { IfErr result (WritingFails S.holds S.refusals sink.old sink.new) }
     ensures calm { OnOk result (S.refusals sink.new ≡ S.refusals sink.old) }
 {
     let front = write_front(sink, form, out)?;
@@ -70,10 +68,8 @@ fn write_front<S: PartWalk, W: Write>(
     ensures err { OnErr result ((parts : List Portion) → S.holds sink.old parts
         → AppendsFront (W.contents out.old) (W.contents out.new) (output_of form parts)) }
     ensures kept { (parts : List Portion) → S.holds sink.old parts → S.holds sink.new parts }
-    ensures crash { (parts : List Portion) → S.holds sink.old parts
-        → AddsNothing (S.crashes sink.old) (S.crashes sink.new) }
-    ensures cause { IfErr result (λ fault.
-        WritingFails S.holds S.refusals fault sink.old sink.new) }
+    ensures crash { BringsNoMore S.PartSink sink.old sink.new }
+    ensures cause { IfErr result (WritingFails S.holds S.refusals sink.old sink.new) }
     ensures calm { OnOk result (S.refusals sink.new ≡ S.refusals sink.old) }
 {
     // No sink weighs more than its limit, so the count below stays far from a u64's greatest value.
@@ -114,11 +110,10 @@ fn write_rest<S: PartWalk, W: Write>(
         → length first ≡ passed → EachEnds first
         → AppendsFront (W.contents out.old) (W.contents out.new) (output_of form rest)) }
     ensures kept { (parts : List Portion) → S.holds sink.old parts → S.holds sink.new parts }
-    ensures crash { (parts : List Portion) → S.holds sink.old parts
-        → AddsNothing (S.crashes sink.old) (S.crashes sink.new) }
+    ensures crash { BringsNoMore S.PartSink sink.old sink.new }
     ensures cause { IfErr result (λ fault. WritingFails (λ s rest. (first : List Portion)
         × S.holds s (first ++ rest) × (length first ≡ passed) × EachEnds first)
-        S.refusals fault sink.old sink.new) }
+        S.refusals sink.old sink.new fault) }
     ensures calm { OnOk result (S.refusals sink.new ≡ S.refusals sink.old) }
 {
     let records = match count_records(sink) {
@@ -138,8 +133,7 @@ fn pass_parts<S: PartWalk>(sink: &mut S, count: u64) -> Result<(), SinkFault>
     ensures ok { OnOk result ((first rest : List Portion) → S.holds sink.old (first ++ rest)
         → length first ≡ count → S.ahead sink.new rest) }
     ensures kept { (parts : List Portion) → S.holds sink.old parts → S.holds sink.new parts }
-    ensures crash { (parts : List Portion) → S.holds sink.old parts
-        → AddsNothing (S.crashes sink.old) (S.crashes sink.new) }
+    ensures crash { BringsNoMore S.PartSink sink.old sink.new }
     ensures cause { OnErr result (Rose (S.refusals sink.old) (S.refusals sink.new)) }
     ensures calm { OnOk result (S.refusals sink.new ≡ S.refusals sink.old) }
 {

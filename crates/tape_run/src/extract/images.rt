@@ -1,11 +1,10 @@
 //! Images on a shelf, mounted one behind another.
 
-ghost use Rattle.std.specs.Prelude.{◌≡◌, ◌≢◌, ◌≤◌, ◌+◌, Some, Bool, List, OnOk, OnErr, true, false};
+ghost use Rattle.std.specs.Prelude.{◌≡◌, ◌≢◌, ◌≤◌, ◌+◌, Some, Bool, OnOk, OnErr, true, false};
 ghost use Rattle.std.specs.Prelude.{ℕ, IfOk, length};
-ghost use Rattle.tape_blocks.specs.Block.{Portion};
 ghost use Rattle.tape_set.specs.declared.position.Position.TheVariants.{Finished};
 ghost use Rattle.tape_run.specs.Crash.{KeepsLast, LeavesStep};
-ghost use Rattle.tape_run.specs.Seen.{seen, IsKept};
+ghost use Rattle.tape_run.specs.Seen.{IsKept, IfSeen, IsSeen};
 ghost use Rattle.tape_run.specs.Reeling.{Takes, TakesAll, StopsReading, IsReported, is_doubtful};
 ghost use Rattle.tape_run.specs.Reeling.{IsNoted, WentToLast, IsKeptFor, Mounting, Took};
 
@@ -118,9 +117,8 @@ fn take_image<S: PartSink, R: Read + Drop, P: Write>(
     ensures ok { OnOk result (Takes S.holds S.refusals S.crashes R.remaining back
         session.old session.new image number (P.contents report.old) (P.contents report.new)) }
     ensures err { OnErr result (IsReported number (P.contents report.old) (P.contents report.new)) }
-    ensures left { OnErr result ((held : List Portion) → S.holds session.old.sink held
-        → IsKeptFor back (seen S.refusals session.old held)
-        → LeavesStep S.holds S.refusals S.crashes back session.old held session.new) }
+    ensures left { OnErr result (IfSeen S.PartSink session.old (λ old. IsKeptFor back old
+        → LeavesStep S.holds S.refusals S.crashes back session.old old.parts session.new)) }
 {
     match image {
         Some(mut device) => take_reel(session, &mut device, number, back, report),
@@ -141,9 +139,8 @@ fn take_reel<S: PartSink, R: Read, P: Write>(
         session.old session.new (Some device.old) number
         (P.contents report.old) (P.contents report.new)) }
     ensures err { OnErr result (IsReported number (P.contents report.old) (P.contents report.new)) }
-    ensures left { OnErr result ((held : List Portion) → S.holds session.old.sink held
-        → IsKeptFor back (seen S.refusals session.old held)
-        → LeavesStep S.holds S.refusals S.crashes back session.old held session.new) }
+    ensures left { OnErr result (IfSeen S.PartSink session.old (λ old. IsKeptFor back old
+        → LeavesStep S.holds S.refusals S.crashes back session.old old.parts session.new)) }
 {
     let answer = session.reel(device)?;
     write_text(report, reel_line(number, Some(answer)).as_bytes())?;
@@ -158,15 +155,12 @@ fn settle<S: PartSink>(
     answer: &ReelAnswer,
     back: bool,
 ) -> Result<(), RunFault>
-    ensures ok { OnOk result ((held : List Portion) → S.holds session.old.sink held
-        → IsKeptFor back (seen S.refusals session.old held)
-        → (now : List Portion) × S.holds session.new.sink now
-        × IsNoted back (is_doubtful answer.now.answer) (seen S.refusals session.old held)
-        (seen S.refusals session.new now)
-        × KeepsLast S.refusals S.crashes session.old held session.new now) }
-    ensures left { OnErr result ((held : List Portion) → S.holds session.old.sink held
-        → IsKeptFor back (seen S.refusals session.old held)
-        → LeavesStep S.holds S.refusals S.crashes back session.old held session.new) }
+    ensures ok { OnOk result (IfSeen S.PartSink session.old (λ old. IsKeptFor back old
+        → IsSeen S.PartSink session.new (λ new.
+        IsNoted back (is_doubtful answer.now.answer) old new
+        × KeepsLast S.refusals S.crashes session.old old.parts session.new new.parts))) }
+    ensures left { OnErr result (IfSeen S.PartSink session.old (λ old. IsKeptFor back old
+        → LeavesStep S.holds S.refusals S.crashes back session.old old.parts session.new)) }
 {
     if back && is_doubtful(answer) {
         return go_back(session);
@@ -176,14 +170,11 @@ fn settle<S: PartSink>(
 
 /// Goes back to the note made last.
 fn go_back<S: PartSink>(session: &mut Session<S>) -> Result<(), RunFault>
-    ensures ok { OnOk result ((held : List Portion) → S.holds session.old.sink held
-        → IsKept (seen S.refusals session.old held)
-        → (now : List Portion) × S.holds session.new.sink now
-        × WentToLast (seen S.refusals session.old held) (seen S.refusals session.new now)
-        × KeepsLast S.refusals S.crashes session.old held session.new now) }
-    ensures left { OnErr result ((held : List Portion) → S.holds session.old.sink held
-        → IsKept (seen S.refusals session.old held)
-        → LeavesStep S.holds S.refusals S.crashes true session.old held session.new) }
+    ensures ok { OnOk result (IfSeen S.PartSink session.old (λ old. IsKept old
+        → IsSeen S.PartSink session.new (λ new. WentToLast old new
+        × KeepsLast S.refusals S.crashes session.old old.parts session.new new.parts))) }
+    ensures left { OnErr result (IfSeen S.PartSink session.old (λ old. IsKept old
+        → LeavesStep S.holds S.refusals S.crashes true session.old old.parts session.new)) }
 {
     let notes = session.notes();
     if notes == 0 {
@@ -196,14 +187,12 @@ fn go_back<S: PartSink>(session: &mut Session<S>) -> Result<(), RunFault>
 /// stage keeps what it held before that reel.
 fn note<S: PartSink>(session: &mut Session<S>, answer: &ReelAnswer) -> Result<(), RunFault>
     ensures doubtful { is_doubtful answer.now.answer ≡ true → session.new ≡ session.old }
-    ensures ok { OnOk result ((held : List Portion) → S.holds session.old.sink held
-        → (now : List Portion) × S.holds session.new.sink now
-        × IsNoted false (is_doubtful answer.now.answer) (seen S.refusals session.old held)
-        (seen S.refusals session.new now)
-        × KeepsLast S.refusals S.crashes session.old held session.new now) }
-    ensures left { OnErr result ((back : Bool) (held : List Portion)
-        → S.holds session.old.sink held
-        → LeavesStep S.holds S.refusals S.crashes back session.old held session.new) }
+    ensures ok { OnOk result (IfSeen S.PartSink session.old (λ old.
+        IsSeen S.PartSink session.new (λ new.
+        IsNoted false (is_doubtful answer.now.answer) old new
+        × KeepsLast S.refusals S.crashes session.old old.parts session.new new.parts))) }
+    ensures left { OnErr result ((back : Bool) → IfSeen S.PartSink session.old (λ old.
+        LeavesStep S.holds S.refusals S.crashes back session.old old.parts session.new)) }
 {
     if is_doubtful(answer) {
         return Ok(());

@@ -29,8 +29,7 @@ impl<S: PartWalk> Session<S> {
         // Whatever it answered: the session stands where it stood, and a crash behind it brings
         // back nothing that none before it could.
         ensures same { IsWalked S.holds S.crashes self.old self.new }
-        ensures cause { IfErr result (λ fault.
-            WritingFails S.holds S.refusals fault self.old.sink self.new.sink) }
+        ensures cause { IfErr result (WritingFails S.holds S.refusals self.old.sink self.new.sink) }
         ensures calm { OnOk result (S.refusals self.new.sink ≡ S.refusals self.old.sink) }
     {
         write_file(&mut self.intake.sink, form, out)

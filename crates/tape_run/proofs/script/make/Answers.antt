@@ -25,12 +25,14 @@ returns-in_ok-answer-in-Reel-clause-ok g c =
       subst (λ f. WritesFrom c.args.used (f ∷ []) c.args.failed.now c.write_at.new.row
           (c.args.used + 1)) c.is_device.ensures c.write_at.ensures,
       λ held was kept.
-          let (now, has, front, keeps, reeled) = c.in_ok-answer-in-Reel.ensures.ok held was in (
+          let (now, has, (front, keeps, reeled)) = c.in_ok-answer-in-Reel.ensures.ok held was in (
             now,
             has,
-            keeps kept,
-            rw (here, left, c.in-Reel.is) (reel_made _ _ (rem device) failed reeled _ _ _
-                c.in_ok-answer-in-Reel.ensures.notes front (c.reel.ensures.crash held was)),
+            (
+              keeps kept,
+              rw (here, left, c.in-Reel.is) (reel_made _ _ (rem device) failed reeled _ _ _
+                  c.in_ok-answer-in-Reel.ensures.notes front (c.reel.ensures.crash held was)),
+            ),
           ),
     )
 
@@ -42,15 +44,15 @@ returns-in_err-answer-in-Reel-clause-err g c =
     let here = ap (map rem) (drop_more reels c.args.used c.index-reels-used.result
     c.if-used-reels.false) in
     told_err _ _ _ c.from_residual.ensures.1 (λ held was kept.
-    let (now, has, front, keeps, fails) = c.in_err-answer-in-Reel.ensures.err held was in
+    let (now, has, (front, keeps, fails)) = c.in_err-answer-in-Reel.ensures.err held was in
     let told = reel_failed _ _ (rem device) _ _ fails in
-    (now, (λ ne. has), keeps kept, rw (here, c.in-Reel.is) told))
+    (now, (λ ne. has), (keeps kept, rw (here, c.in-Reel.is) told)))
 
 pub returns-then-used-reels-clause-err : goal.returns-then-used-reels-clause-err
 returns-then-used-reels-clause-err g c = λ held was kept.
     let none = ap (map g.R.Read.remaining) (drop_all c.args.used c.args.reels.now
     (omega (arith, c.if-used-reels.true))) in
-    (held, (λ ne. was), kept, rw (none, c.in-Reel.is) ((refl, refl)))
+    (held, (λ ne. was), (kept, rw (none, c.in-Reel.is) ((refl, refl))))
 
 pub returns-in_ok-answer-in-Reel-clause-crash : goal.returns-in_ok-answer-in-Reel-clause-crash
 returns-in_ok-answer-in-Reel-clause-crash g c = λ held was kept.
@@ -71,18 +73,18 @@ returns-in_ok-save-in-Save-clause-ok g c = (
   writes_none _ _,
   λ held was kept.
       let told = c.in_ok-save-in-Save.ensures in
-      let (now, has, keeps, saved) = told.ok held was in
+      let (now, has, (keeps, saved)) = told.ok held was in
       let last = alone_saved _ _ c.in_ok-save-in-Save.field-0
       (g.S.PartSink.crashes c.save.new.self.sink) (told.point held was)
       (told.kept held was) saved in
-      (now, has, keeps kept, rw c.in-Save.is (save_made _ _ saved _ _ _ last)),
+      (now, has, (keeps kept, rw c.in-Save.is (save_made _ _ saved _ _ _ last))),
 )
 
 pub returns-in_err-save-in-Save-clause-err : goal.returns-in_err-save-in-Save-clause-err
 returns-in_err-save-in-Save-clause-err g c =
     told_err _ _ _ c.from_residual-in_err-save-in-Save.ensures.1 (λ held was kept.
     let (now, has, fails) = c.in_err-save-in-Save.ensures.err held was in
-    (now, (λ ne. has), kept_save_fails _ _ _ fails kept, rw c.in-Save.is fails))
+    (now, (λ ne. has), (kept_save_fails _ _ _ fails kept, rw c.in-Save.is fails)))
 
 -- ---- going back
 
@@ -91,8 +93,8 @@ returns-in_ok-restart-in-Restart-clause-ok g c = (
   [],
   writes_none _ _,
   λ held was kept.
-      let (now, has, still, went) = c.in_ok-restart-in-Restart.ensures.ok held was kept in
-      (now, has, still, rw c.in-Restart.is (restart_made _ _ c.in-Restart.n went _ _ _)),
+      let (now, has, (still, went)) = c.in_ok-restart-in-Restart.ensures.ok held was kept in
+      (now, has, (still, rw c.in-Restart.is (restart_made _ _ c.in-Restart.n went _ _ _))),
 )
 
 pub returns-in_err-restart-in-Restart-clause-err : goal.returns-in_err-restart-in-Restart-clause-err
@@ -101,6 +103,5 @@ returns-in_err-restart-in-Restart-clause-err g c =
     let (ok, fails) = c.in_err-restart-in-Restart.ensures.err held was kept in (
       held,
       (λ keeps. ok (λ device. keeps (((c.in-Restart.n, ap Some c.in-Restart.is), device)))),
-      kept_restart_fails c.in-Restart.n _ _ _ fails kept,
-      rw c.in-Restart.is fails,
+      (kept_restart_fails c.in-Restart.n _ _ _ fails kept, rw c.in-Restart.is fails),
     ))

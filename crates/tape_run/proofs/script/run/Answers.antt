@@ -27,7 +27,7 @@ loop-step-preserved g c =
           _ count row writes,
       λ held was kept.
           let mid = come held was kept in
-          let (now, has, still, made) = makes mid.now mid.has mid.kept in
+          let (now, has, (still, made)) = makes mid.now mid.has mid.kept in
           one_more steps c.loop-step.step mid here now has still made
           (c.make.ensures.crash mid.now mid.has mid.kept),
     )
@@ -38,7 +38,7 @@ returns-clause-runs g c = λ held was kept.
     let end = come held was kept in
     let (runs, last) = came_to_end c.args.steps.now c.loop-step.step end
     (omega (arith, c.loop-step-test.false)) in
-    (end.now, end.has, (which, row, runs), last)
+    (end.now, end.has, ((which, row, runs), last))
 
 pub returns-clause-headline : goal.returns-clause-headline
 returns-clause-headline g c = λ held was kept.
@@ -48,16 +48,18 @@ returns-clause-headline g c = λ held was kept.
     (omega (arith, c.loop-step-test.false)) in (
       end.now,
       end.has,
-      end.kept,
-      λ bytes e.
-          let (run, same) = ran_so which _ _ _ _ runs bytes e in
-          (run, row ∙ ap (λ w. written w c.args.failed.now) (sym same)),
+      (
+        end.kept,
+        λ bytes e.
+            let (run, same) = ran_so which _ _ _ _ runs bytes e in
+            (run, row ∙ ap (λ w. written w c.args.failed.now) (sym same)),
+      ),
     )
 
 pub returns-clause-start : goal.returns-clause-start
 returns-clause-start g c = λ set_id file was st.
     let old = seen g.S.PartSink.refusals c.args.session.now [] in
-    let (now, has, k, run) =
+    let (now, has, (k, run)) =
     returns-clause-headline g c [] was (kept_new set_id file old refl st) in (
       now,
       has,
@@ -86,25 +88,29 @@ returns-in-Err-clause-faults g c = λ held was kept.
     let here = drop_more c.args.steps.now c.loop-step.step _ c.loop-step-test.true in
     let (which, count, row, come) = c.loop-step.invariant in
     let mid = come held was kept in
-    let (now, has, still, fails) = c.in-Err.ensures.err mid.now mid.has mid.kept in (
+    let (now, has, (still, fails)) = c.in-Err.ensures.err mid.now mid.has mid.kept in (
       now,
       (λ keeps. has (λ lost. keeps
           (lost_here c.args.steps.now c.loop-step.step _ _ _ here lost))),
-      still,
-      which,
-      c.in-Err.ensures.unwritten ∙ row,
-      stops_here _ which _ _ _ _ _ _ _ _ _ _ here mid.made fails,
+      (
+        still,
+        which,
+        c.in-Err.ensures.unwritten ∙ row,
+        stops_here _ which _ _ _ _ _ _ _ _ _ _ here mid.made fails,
+      ),
     )
 
 pub returns-in-Err-clause-stopped : goal.returns-in-Err-clause-stopped
 returns-in-Err-clause-stopped g c = λ held was kept.
-    let (now, has, k, which, row, runs) = returns-in-Err-clause-faults g c held was kept in (
+    let (now, has, (k, which, row, runs)) = returns-in-Err-clause-faults g c held was kept in (
       now,
       has,
-      k,
-      λ bytes e.
-          let (end, same) = stopped_so which _ _ _ _ _ _ runs bytes e in
-          (end, row ∙ ap (λ w. written w c.args.failed.now) (sym same)),
+      (
+        k,
+        λ bytes e.
+            let (end, same) = stopped_so which _ _ _ _ _ _ runs bytes e in
+            (end, row ∙ ap (λ w. written w c.args.failed.now) (sym same)),
+      ),
     )
 
 pub returns-in-Err-clause-crash : goal.returns-in-Err-clause-crash

@@ -43,7 +43,7 @@ pub returns-clause-delivers : goal.returns-clause-delivers
 returns-clause-delivers g c = on_ok c.run-result.result _ _ (λ run held was.
     let same = sym c.resume-session.ensures.sink in
     let first = seen g.S.PartSink.refusals c.resume-session.result held in
-    let (now, has, k, reads) = run held (subst (λ s. g.S.PartSink.holds s held) same was)
+    let (now, has, (k, reads)) = run held (subst (λ s. g.S.PartSink.holds s held) same was)
     (c.resume-session.ensures.kept held) in (
       now,
       has,
@@ -57,7 +57,7 @@ pub returns-clause-stopped : goal.returns-clause-stopped
 returns-clause-stopped g c = if_err c.run-result.result _ _ (λ fault run held was.
     let same = sym c.resume-session.ensures.sink in
     let first = seen g.S.PartSink.refusals c.resume-session.result held in
-    let (now, has, k, stops) = run held (subst (λ s. g.S.PartSink.holds s held) same was)
+    let (now, has, (k, stops)) = run held (subst (λ s. g.S.PartSink.holds s held) same was)
     (c.resume-session.ensures.kept held) in
-    (first, c.resume-session.ensures.resumed held, now, has, λ bytes e. (stops bytes e).0))
+    (first, c.resume-session.ensures.resumed held, (now, has, λ bytes e. (stops bytes e).0)))
     c.run-result.ensures.stopped

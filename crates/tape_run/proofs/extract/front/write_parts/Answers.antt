@@ -1,6 +1,7 @@
-use Rattle.std.proofs.Common.{subst}
+use Rattle.std.proofs.Common.{◌≡◌, ◌++◌, List, length, subst}
 use Rattle.std.proofs.lemmas.Result.{IfOk-weaker, IfErr-weaker}
-use Rattle.tape_run.specs.RecordFront.{WritesFront}
+use Rattle.tape_blocks.specs.Block.{Portion}
+use Rattle.tape_run.specs.RecordFront.{EachEnds, WritesFront}
 use Rattle.tape_run.proofs.Causes.{fails_behind}
 use Rattle.tape_run.proofs.Fitting.{on_err_map}
 use Rattle.tape_run.proofs.RecordFronts.{front_all, rest_written, rest_failed}
@@ -33,7 +34,9 @@ returns-clause-err g c = on_err_map c.write_rest.result _ _
 
 pub returns-clause-cause : goal.returns-clause-cause
 returns-clause-cause g c = IfErr-weaker c.write_rest.result _ _
-    (λ fault. fails_behind _ _ g.S.PartSink.refusals fault c.args.sink.now c.write_front.new.sink _
+    (λ fault. fails_behind g.S.PartSink.holds (λ s rest. (first : List Portion)
+    × g.S.PartSink.holds s (first ++ rest) × (length first ≡ c.in_ok-front.front.records)
+    × EachEnds first) g.S.PartSink.refusals fault c.args.sink.now c.write_front.new.sink _
     c.in_ok-front.ensures.calm
     (λ parts was.
     let f = c.in_ok-front.ensures.ok parts was in (

@@ -36,7 +36,10 @@ returns-clause-ok g c = λ first rest was long each. (
 pub returns-in_err-write_records-clause-cause : goal.returns-in_err-write_records-clause-cause
 returns-in_err-write_records-clause-cause g c =
     told_err c.from_residual.result c.in_err-write_records.field-0.0 _ c.from_residual.ensures.1
-    (fails_behind _ _ g.S.PartSink.refusals c.in_err-write_records.field-0.0 c.args.sink.now
+    (fails_behind (λ s rest. (first : List Portion) × g.S.PartSink.holds s (first ++ rest)
+    × (length first ≡ c.args.passed) × EachEnds first) (λ s parts. g.S.PartWalk.ahead s parts
+    × (c.saturating_sub.result ≡ length (join parts).records))
+    g.S.PartSink.refusals c.in_err-write_records.field-0.0 c.args.sink.now
     c.pass_parts.new.sink _ (c.in-Ok-pass_parts.ensures.calm ∙ c.in-Ok.ensures.calm)
     (λ rest (first, was, long, each). (
       rest,

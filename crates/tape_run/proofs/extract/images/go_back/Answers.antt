@@ -16,12 +16,14 @@ returns g c =
     record {
       ok = on_ok c.restart.result _ _
           (λ ok held was kept.
-          let (now, has, still, went) = ok held was kept in (
+          let (now, has, (still, went)) = ok held was kept in (
             now,
             has,
-            (n, count, went),
-            last_went refusals g.S.PartSink.crashes old new held now n count went
-                (c.restart.ensures.crash held was kept),
+            (
+              (n, count, went),
+              last_went refusals g.S.PartSink.crashes old new held now n count went
+                  (c.restart.ensures.crash held was kept),
+            ),
           )) c.restart.ensures.ok;
       left = on_err c.restart.result _ (λ held was kept.
           restart_left g.S.PartSink.holds refusals g.S.PartSink.crashes old

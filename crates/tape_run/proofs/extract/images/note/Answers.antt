@@ -10,14 +10,16 @@ pub returns-clause-ok : goal.returns-clause-ok
 returns-clause-ok g c = λ held was.
     let refusals = g.S.PartSink.refusals in
     let old = c.args.session.now in
-    let (now, has, keeps, saved) = c.in_ok-save.ensures.ok held was in (
+    let (now, has, (keeps, saved)) = c.in_ok-save.ensures.ok held was in (
       now,
       has,
-      subst (λ b. IsNoted false b (seen refusals old held) (seen refusals c.save.new.self now))
-          (sym (sym c.is_doubtful.ensures ∙ c.if-is_doubtful.false)) saved,
-      last_kept refusals g.S.PartSink.crashes old c.save.new.self held now c.in_ok-save.field-0
-          _ (c.in_ok-save.ensures.point held was) (c.in_ok-save.ensures.kept held was) saved
-          (c.save.ensures.crash held was),
+      (
+        subst (λ b. IsNoted false b (seen refusals old held) (seen refusals c.save.new.self now))
+            (sym (sym c.is_doubtful.ensures ∙ c.if-is_doubtful.false)) saved,
+        last_kept refusals g.S.PartSink.crashes old c.save.new.self held now c.in_ok-save.field-0
+            _ (c.in_ok-save.ensures.point held was) (c.in_ok-save.ensures.kept held was) saved
+            (c.save.ensures.crash held was),
+      ),
     )
 
 pub returns-in_err-save-clause-left : goal.returns-in_err-save-clause-left

@@ -44,12 +44,12 @@ returns-clause-ok g c =
       line = subst (Appends (g.P.Write.contents c.args.report.now)
           (g.P.Write.contents c.write_text.new.writer)) text c.in_ok-write_text.ensures.ok;
       follows = λ held was kept.
-          let (now, has, front, keeps, reeled) = c.in_ok-answer.ensures.ok held was in
+          let (now, has, (front, keeps, reeled)) = c.in_ok-answer.ensures.ok held was in
           let back = c.args.back in
           let doubtful = is_doubtful c.in_ok-answer.answer.answer in
           let mid = seen refusals c.reel.new.self now in
           let still = kept_for back (seen refusals c.args.session.now held) mid keeps kept in
-          let (behind, has_behind, saved, lasts) = c.in_ok-settle.ensures.ok now has still in (
+          let (behind, has_behind, (saved, lasts)) = c.in_ok-settle.ensures.ok now has still in (
             behind,
             has_behind,
             kept_behind back doubtful mid (seen refusals c.settle.new.session behind) saved still,
@@ -91,7 +91,7 @@ returns-in_err-write_text-clause-left g c =
 pub returns-in_err-settle-clause-left : goal.returns-in_err-settle-clause-left
 returns-in_err-settle-clause-left g c =
     on_err c.from_residual-in_err-settle.result _ (λ held was kept.
-    let (now, has, front, keeps, reeled) = c.in_ok-answer.ensures.ok held was in
+    let (now, has, (front, keeps, reeled)) = c.in_ok-answer.ensures.ok held was in
     let still = kept_for c.args.back (seen g.S.PartSink.refusals c.args.session.now held)
     (seen g.S.PartSink.refusals c.reel.new.self now) keeps kept in
     left_then g.S.PartSink.holds g.S.PartSink.refusals g.S.PartSink.crashes

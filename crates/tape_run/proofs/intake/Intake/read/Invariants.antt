@@ -4,8 +4,8 @@ use Rattle.tape_image.specs.Begins.{image_limit}
 use Rattle.tape_image.specs.Reader.{going, IfKnown}
 use Rattle.tape_core.specs.Crash.{AddsNothing}
 use Rattle.tape_core.specs.Weight.{IsFront}
-use Rattle.tape_run.specs.Reels.{ReadsSoFar}
-use Rattle.tape_run.specs.Taking.{SoFar}
+use Rattle.tape_run.proofs.Images.{SoFar}
+use Rattle.tape_run.proofs.Reels.{ReadsSoFar}
 use Rattle.tape_run.proofs.intake.Intake.read.Given as goal
 
 abbrev pub invariant-items : goal.invariant-items

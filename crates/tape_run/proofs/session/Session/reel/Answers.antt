@@ -28,20 +28,22 @@ returns-then-is_none-clause-ok g c =
       failures = c.self.inside.failures;
     } in
     subst (λ z. (held : List Portion) → g.S.PartSink.holds z.sink held
-    → (now : List Portion) × g.S.PartSink.holds z.sink now × IsFront held now × (IsKept (seen
+    → (now : List Portion) × g.S.PartSink.holds z.sink now × (IsFront held now × (IsKept (seen
     refusals z held)
     → IsKept (seen refusals z now)) × IfSome (g.R.Read.remaining c.args.device.now) (λ bytes.
-    Reeled bytes (is_device c.new.result.fault) (seen refusals z held) (seen refusals z now)))
+    Reeled bytes (is_device c.new.result.fault) (seen refusals z held) (seen refusals z now))))
     c.self.view_is (λ held was.
     let finished = want_none _ (rest_of c.self.inside.intake.core).position c.is_none.result
     (ap is_some (sym c.want.ensures.value) ∙ c.is_none.ensures) c.if-is_none.true in (
       held,
       was,
-      front_self held,
-      (λ k. k),
-      some_all _ _ (λ bytes. not_read bytes (seen refusals story held)
-          c.self.inside.intake.core (is_device c.new.result.fault)
-          (ap is_device c.new.ensures.fault) refl finished),
+      (
+        front_self held,
+        (λ k. k),
+        some_all _ _ (λ bytes. not_read bytes (seen refusals story held)
+            c.self.inside.intake.core (is_device c.new.result.fault)
+            (ap is_device c.new.ensures.fault) refl finished),
+      ),
     ))
 
 pub returns-in-Ok-read-clause-ok : goal.returns-in-Ok-read-clause-ok
@@ -55,10 +57,10 @@ returns-in-Ok-read-clause-ok g c =
       failures = c.counted-self-inside.result;
     } in
     subst (λ z. (held : List Portion) → g.S.PartSink.holds z.sink held → (now : List Portion)
-    × g.S.PartSink.holds new.sink now × IsFront held now × (IsKept (seen refusals z held)
+    × g.S.PartSink.holds new.sink now × (IsFront held now × (IsKept (seen refusals z held)
     → IsKept (seen refusals new now)) × IfSome (g.R.Read.remaining c.args.device.now) (λ bytes.
     Reeled bytes
-    (is_device c.in-Ok-read.answer.fault) (seen refusals z held) (seen refusals new now)))
+    (is_device c.in-Ok-read.answer.fault) (seen refusals z held) (seen refusals new now))))
     c.self.view_is (λ held was.
     let p = rest_of c.self.inside.intake.core in
     let end = c.in-Ok-read.ensures in
@@ -67,19 +69,21 @@ returns-in-Ok-read-clause-ok g c =
     let (now, has, front, reads) = end.ok held was in (
       now,
       has,
-      front,
-      (λ k. kept_place p (rest_of c.read-read.new.self.core) [] c.self.inside.notes.items now set_id
-          file (kept_grow p [] c.self.inside.notes.items held now front k)),
-      some_at _ c.over-image.result.left _ _ c.over-image.ensures.unread
-          (λ bytes r. reeled (is_device c.in-Ok-read.answer.fault)
-          c.mount.new.self
-          c.read-read.new.self.core held now bytes p c.self.inside.notes.items
-          c.self.inside.failures c.counted-self-inside.result _ _
-          (begins c.self.inside.intake.core c.mount.new.self c.mount.ensures.table
-          c.mount.ensures.same) c.mount.ensures.same set_id file end.calm front
-          (c.counted-self-inside.ensures ∙ ap (λ b. counted b c.self.inside.failures)
-          c.is_device.ensures)
-          (c.mount.ensures.table ∙ mount_rest c.self.inside.intake.core) r) reads,
+      (
+        front,
+        (λ k. kept_place p (rest_of c.read-read.new.self.core) [] c.self.inside.notes.items now set_id
+            file (kept_grow p [] c.self.inside.notes.items held now front k)),
+        some_at _ c.over-image.result.left _ _ c.over-image.ensures.unread
+            (λ bytes r. reeled (is_device c.in-Ok-read.answer.fault)
+            c.mount.new.self
+            c.read-read.new.self.core held now bytes p c.self.inside.notes.items
+            c.self.inside.failures c.counted-self-inside.result _ _
+            (begins c.self.inside.intake.core c.mount.new.self c.mount.ensures.table
+            c.mount.ensures.same) c.mount.ensures.same set_id file end.calm front
+            (c.counted-self-inside.ensures ∙ ap (λ b. counted b c.self.inside.failures)
+            c.is_device.ensures)
+            (c.mount.ensures.table ∙ mount_rest c.self.inside.intake.core) r) reads,
+      ),
     ))
 
 pub returns-in-Err-clause-err : goal.returns-in-Err-clause-err
@@ -93,10 +97,10 @@ returns-in-Err-clause-err g c =
       failures = c.self.inside.failures;
     } in
     subst (λ z. (held : List Portion) → g.S.PartSink.holds z.sink held
-    → (now : List Portion) × g.S.PartSink.holds new.sink now × IsFront held now × (IsKept (seen
+    → (now : List Portion) × g.S.PartSink.holds new.sink now × (IsFront held now × (IsKept (seen
     refusals z held)
     → IsKept (seen refusals new now)) × IfSome (g.R.Read.remaining c.args.device.now) (λ bytes.
-    ReelFails bytes (Sink c.in-Err.cause) (seen refusals z held) (seen refusals new now)))
+    ReelFails bytes (Sink c.in-Err.cause) (seen refusals z held) (seen refusals new now))))
     c.self.view_is (λ held was.
     let p = rest_of c.self.inside.intake.core in
     let end = c.in-Err.ensures in
@@ -105,15 +109,17 @@ returns-in-Err-clause-err g c =
     let (now, has, front, refuses, cuts) = end.err held was in (
       now,
       has,
-      front,
-      (λ k. kept_place p (rest_of c.read-read.new.self.core) [] c.self.inside.notes.items now set_id
-          file (kept_grow p [] c.self.inside.notes.items held now front k)),
-      some_at _ c.over-image.result.left _ _ c.over-image.ensures.unread
-          (λ bytes (r, t). cut_short c.mount.new.self c.read-read.new.self.core
-          held now
-          bytes p c.self.inside.notes.items c.self.inside.failures _ _
-          (begins c.self.inside.intake.core c.mount.new.self c.mount.ensures.table
-          c.mount.ensures.same) c.mount.ensures.same set_id file end.cause front
-          (c.mount.ensures.table ∙ mount_rest c.self.inside.intake.core)
-          t r) (some_both c.over-image.result.left _ _ refuses cuts),
+      (
+        front,
+        (λ k. kept_place p (rest_of c.read-read.new.self.core) [] c.self.inside.notes.items now set_id
+            file (kept_grow p [] c.self.inside.notes.items held now front k)),
+        some_at _ c.over-image.result.left _ _ c.over-image.ensures.unread
+            (λ bytes (r, t). cut_short c.mount.new.self c.read-read.new.self.core
+            held now
+            bytes p c.self.inside.notes.items c.self.inside.failures _ _
+            (begins c.self.inside.intake.core c.mount.new.self c.mount.ensures.table
+            c.mount.ensures.same) c.mount.ensures.same set_id file end.cause front
+            (c.mount.ensures.table ∙ mount_rest c.self.inside.intake.core)
+            t r) (some_both c.over-image.result.left _ _ refuses cuts),
+      ),
     ))

@@ -23,8 +23,7 @@ returns-clause-ok g c =
       back.parts,
       c.in-Ok.ensures.ok back.parts back.front.0
           (subst (g.S.PartSink.holds s.intake.sink) back.front.1 was) back.weighs,
-      back.kept,
-      back.went,
+      (back.kept, back.went),
     ))
 
 pub returns-then-point-weight-clause-err : goal.returns-then-point-weight-clause-err
