@@ -3,11 +3,10 @@ use Rattle.std.proofs.Common.{◌≡◌, Bool, ℕ, List, ◌++◌, map, Option,
 use Rattle.std.proofs.Common.{[], None, refl, sym, ap, subst, ◌∙◌, inl, arith, append-nil}
 use Rattle.std.specs.Io.KnownBytes.{Appends}
 use Rattle.std.proofs.KnownBytes.{Appends-trans}
-use Rattle.tape_blocks.specs.Block.{Portion}
 use Rattle.tape_blocks.specs.declared.parts.Form.{Form}
 use Rattle.tape_set.specs.declared.position.Want.{Want}
 use Rattle.tape_set.specs.Position.{want_at}
-use Rattle.tape_core.specs.Crash.{Crashes}
+use Rattle.tape_core.specs.declared.sink.PartSink.{Ghosts}
 use Rattle.tape_run.specs.Crash.{IsWalked}
 use Rattle.tape_core.specs.State.{State}
 use Rattle.tape_run.specs.Seen.{Seen, seen}
@@ -34,21 +33,20 @@ in_a_row back core old rounds mid turns last new f g =
     follows_then back core old (turns_of rounds) (core_behind core rounds) mid turns last new
     (all_turns back core old rounds mid f) g
 
-pub extracted_again : {S L R : Type 0} {crashes : S → Crashes}
-    (holds : S → List Portion → Type 0) (refusals : S → ℕ)
+pub extracted_again : {S L R : Type 0} (gs : Ghosts S)
     (size : L → ℕ) (gives : Mounting L R) (remaining : R → Option (List ℕ))
     (old mid new : Story S) (shelf left : L) (form : Form)
     (out written said between says : Option (List ℕ)) (want : Option Want)
     (back : Bool) → back ≡ goes_back old.notes
-    → TakesRounds holds refusals crashes (size shelf) gives remaining back old mid shelf
+    → TakesRounds gs (size shelf) gives remaining back old mid shelf
     left said between
-    → EndsFile holds mid form out written between says want
-    → IsWalked holds crashes mid new → refusals new.sink ≡ refusals mid.sink
-    → ExtractsAgain holds refusals crashes size gives remaining old new shelf left form out
+    → EndsFile gs.holds mid form out written between says want
+    → IsWalked gs.holds gs.crashes mid new → gs.refusals new.sink ≡ gs.refusals mid.sink
+    → ExtractsAgain gs size gives remaining old new shelf left form out
     written said says want
-extracted_again {S} {L} {R} {crashes} holds refusals size gives remaining old mid new
+extracted_again {S} {L} {R} gs size gives remaining old mid new
     shelf left form out written said between says want back same took e walked calm =
-    let t = subst (λ b. TakesRounds holds refusals crashes (size shelf) gives remaining b
+    let t = subst (λ b. TakesRounds gs (size shelf) gives remaining b
     old mid shelf left said between) same took in
     record {
       rounds = t.rounds;
@@ -68,33 +66,32 @@ extracted_again {S} {L} {R} {crashes} holds refusals size gives remaining old mi
           (lines_of_all said t.told between (turns_of t.rounds) t.last.turns t.gone.lines
           t.last.lines) e.line;
       ends = λ held was kept.
-          let (before, has, still, f, first) = t.gone.follows held was kept in
-          let (now, has_now, then, one, last) = t.last.follows before has still in
-          let start = seen refusals old held in
-          let g = subst (λ c. Follows (goes_back old.notes) c (seen refusals t.mid before)
-          t.last.turns mid.core (seen refusals mid now)) t.gone.at one in (
-            ended holds refusals mid old.core start (turns_of t.rounds ++ t.last.turns) form out
+          let (before, has, (still, f, first)) = t.gone.follows held was kept in
+          let (now, has_now, (then, one, last)) = t.last.follows before has still in
+          let start = seen gs.refusals old held in
+          let g = subst (λ c. Follows (goes_back old.notes) c (seen gs.refusals t.mid before)
+          t.last.turns mid.core (seen gs.refusals mid now)) t.gone.at one in (
+            ended gs.holds gs.refusals mid old.core start (turns_of t.rounds ++ t.last.turns) form out
                 written between says want now e has_now
                 (in_a_row (goes_back old.notes) old.core start t.rounds
-                (seen refusals t.mid before) t.last.turns mid.core (seen refusals mid now) f g),
-            (seen refusals t.mid before, f, g),
-            stood_walked holds refusals crashes old mid new held now has_now
-                (last_then refusals crashes old t.mid mid held before now first last)
+                (seen gs.refusals t.mid before) t.last.turns mid.core (seen gs.refusals mid now) f g),
+            (seen gs.refusals t.mid before, f, g),
+            stood_walked gs.holds gs.refusals gs.crashes old mid new held now has_now
+                (last_then gs.refusals gs.crashes old t.mid mid held before now first last)
                 walked calm,
           );
     }
 
-pub stops_in_round : {S L R W : Type 0} {crashes : S → Crashes} (holds : S → List Portion → Type 0)
-    (refusals : S → ℕ) (size : L → ℕ) (gives : Mounting L R) (remaining : R → Option (List ℕ))
+pub stops_in_round : {S L R W : Type 0} (gs : Ghosts S) (size : L → ℕ) (gives : Mounting L R) (remaining : R → Option (List ℕ))
     (old new : Story S) (shelf left : L) (form : Form) (contents : W → Option (List ℕ))
     (out : W) (said says : Option (List ℕ)) (back : Bool) → back ≡ goes_back old.notes
-    → StopsInRound holds refusals crashes (size shelf) gives remaining back old new shelf
+    → StopsInRound gs (size shelf) gives remaining back old new shelf
     left said says
-    → StopsAgain holds refusals crashes size gives remaining old new shelf left form
+    → StopsAgain gs size gives remaining old new shelf left form
     contents out out said says
-stops_in_round {S} {L} {R} {W} {crashes} holds refusals size gives remaining old new
+stops_in_round {S} {L} {R} {W} gs size gives remaining old new
     shelf left form contents out said says back same stopped =
-    let s = subst (λ b. StopsInRound holds refusals crashes (size shelf) gives remaining b
+    let s = subst (λ b. StopsInRound gs (size shelf) gives remaining b
     old new shelf left said says) same stopped in
     record {
       rounds = s.rounds;
@@ -112,36 +109,35 @@ stops_in_round {S} {L} {R} {W} {crashes} holds refusals size gives remaining old
           (front_of_all said s.told says (turns_of s.rounds) s.last.turns s.last.more s.gone.lines
           s.last.lines);
       follows = λ held was kept.
-          let (mid, has, still, f, before) = s.gone.follows held was kept in
+          let (mid, has, (still, f, before)) = s.gone.follows held was kept in
           let (core, now, one, leaves) = s.last.follows mid has still in (
             core,
             now,
             (
-              seen refusals s.mid mid,
+              seen gs.refusals s.mid mid,
               f,
-              subst (λ c. Follows (goes_back old.notes) c (seen refusals s.mid mid) s.last.turns
+              subst (λ c. Follows (goes_back old.notes) c (seen gs.refusals s.mid mid) s.last.turns
                   core now) s.gone.at one,
             ),
-            left_behind holds refusals crashes old s.mid new held mid now before leaves,
+            left_behind gs.holds gs.refusals gs.crashes old s.mid new held mid now before leaves,
             inl refl,
           );
     }
 
-pub stops_at_end_again : {S L R W : Type 0} {crashes : S → Crashes}
-    (holds : S → List Portion → Type 0) (refusals : S → ℕ)
+pub stops_at_end_again : {S L R W : Type 0} (gs : Ghosts S)
     (size : L → ℕ) (gives : Mounting L R) (remaining : R → Option (List ℕ)) (old new end : Story S)
     (shelf left : L) (form : Form)
     (contents : W → Option (List ℕ)) (out written : W) (said between says : Option (List ℕ))
     (back : Bool) → back ≡ goes_back old.notes
-    → TakesRounds holds refusals crashes (size shelf) gives remaining back old new shelf
+    → TakesRounds gs (size shelf) gives remaining back old new shelf
     left said between
-    → IsWalked holds crashes new end
-    → StopsAtEnd holds new form contents out written between says
-    → StopsAgain holds refusals crashes size gives remaining old end shelf left form
+    → IsWalked gs.holds gs.crashes new end
+    → StopsAtEnd gs.holds new form contents out written between says
+    → StopsAgain gs size gives remaining old end shelf left form
     contents out written said says
-stops_at_end_again {S} {L} {R} {W} {crashes} holds refusals size gives remaining old new
+stops_at_end_again {S} {L} {R} {W} gs size gives remaining old new
     end shelf left form contents out written said between says back same took walked e =
-    let t = subst (λ b. TakesRounds holds refusals crashes (size shelf) gives remaining b
+    let t = subst (λ b. TakesRounds gs (size shelf) gives remaining b
     old new shelf left
     said between) same took in
     record {
@@ -162,18 +158,18 @@ stops_at_end_again {S} {L} {R} {W} {crashes} holds refusals size gives remaining
           (lines_of_all said t.told between (turns_of t.rounds) t.last.turns t.gone.lines
           t.last.lines)) e.line;
       follows = λ held was kept.
-          let (mid, has, still, f, before) = t.gone.follows held was kept in
-          let (now, has_now, then, one, last) = t.last.follows mid has still in (
+          let (mid, has, (still, f, before)) = t.gone.follows held was kept in
+          let (now, has_now, (then, one, last)) = t.last.follows mid has still in (
             new.core,
-            seen refusals new now,
+            seen gs.refusals new now,
             (
-              seen refusals t.mid mid,
+              seen gs.refusals t.mid mid,
               f,
-              subst (λ c. Follows (goes_back old.notes) c (seen refusals t.mid mid) t.last.turns
-                  new.core (seen refusals new now)) t.gone.at one,
+              subst (λ c. Follows (goes_back old.notes) c (seen gs.refusals t.mid mid) t.last.turns
+                  new.core (seen gs.refusals new now)) t.gone.at one,
             ),
-            left_walked holds refusals crashes back old new end held now
-                (last_then refusals crashes old t.mid new held mid now before last) walked
+            left_walked gs.holds gs.refusals gs.crashes back old new end held now
+                (last_then gs.refusals gs.crashes old t.mid new held mid now before last) walked
                 has_now,
             e.is_written now has_now,
           );

@@ -10,7 +10,7 @@ use Rattle.tape_set.specs.declared.position.Position.TheVariants.{Awaits, Finish
 use Rattle.tape_set.specs.declared.position.Want.{Want}
 use Rattle.tape_set.specs.Position.{want_at}
 use Rattle.tape_core.specs.Point.{Point}
-use Rattle.tape_core.specs.Crash.{Crashes}
+use Rattle.tape_core.specs.declared.sink.PartSink.{Ghosts}
 use Rattle.tape_run.specs.Crash.{IsWalked}
 use Rattle.tape_core.specs.State.{State}
 use Rattle.tape_run.specs.Seen.{Seen, seen}
@@ -58,21 +58,20 @@ ended holds refusals mid core old turns form out written said says want now e ha
       is_written = e.is_written now has;
     }
 
-pub extracted : {S L R : Type 0} {crashes : S → Crashes}
-    (holds : S → List Portion → Type 0) (refusals : S → ℕ)
+pub extracted : {S L R : Type 0} (gs : Ghosts S)
     (size : L → ℕ) (gives : Mounting L R) (remaining : R → Option (List ℕ)) (old mid new : Story S)
     (shelf left : L) (form : Form)
     (out written said between says : Option (List ℕ)) (want : Option Want)
     (back : Bool) → back ≡ goes_back old.notes
-    → TakesAll holds refusals crashes (size shelf) 0 gives remaining back old mid shelf
+    → TakesAll gs (size shelf) 0 gives remaining back old mid shelf
     left said between
-    → EndsFile holds mid form out written between says want
-    → IsWalked holds crashes mid new → refusals new.sink ≡ refusals mid.sink
-    → Extracts holds refusals crashes size gives remaining old new shelf left form out
+    → EndsFile gs.holds mid form out written between says want
+    → IsWalked gs.holds gs.crashes mid new → gs.refusals new.sink ≡ gs.refusals mid.sink
+    → Extracts gs size gives remaining old new shelf left form out
     written said says want
-extracted {S} {L} {R} {crashes} holds refusals size gives remaining old mid new shelf
+extracted {S} {L} {R} gs size gives remaining old mid new shelf
     left form out written said between says want back same took e walked calm =
-    let t = subst (λ b. TakesAll holds refusals crashes (size shelf) 0 gives remaining b
+    let t = subst (λ b. TakesAll gs (size shelf) 0 gives remaining b
     old mid shelf left said between) same took in
     record {
       turns = t.turns;
@@ -82,24 +81,23 @@ extracted {S} {L} {R} {crashes} holds refusals size gives remaining old mid new 
       records = e.records;
       lines = Appends-trans said between says _ _ t.lines e.line;
       ends = λ held was kept.
-          let (now, has, still, f, last) = t.follows held was kept in (
-            ended holds refusals mid old.core (seen refusals old held) t.turns form out written
+          let (now, has, (still, f, last)) = t.follows held was kept in (
+            ended gs.holds gs.refusals mid old.core (seen gs.refusals old held) t.turns form out written
                 between says want now e has f,
-            stood_walked holds refusals crashes old mid new held now has last walked calm,
+            stood_walked gs.holds gs.refusals gs.crashes old mid new held now has last walked calm,
           );
     }
 
-pub stops_reading : {S L R W : Type 0} {crashes : S → Crashes} (holds : S → List Portion → Type 0)
-    (refusals : S → ℕ) (size : L → ℕ) (gives : Mounting L R) (remaining : R → Option (List ℕ))
+pub stops_reading : {S L R W : Type 0} (gs : Ghosts S) (size : L → ℕ) (gives : Mounting L R) (remaining : R → Option (List ℕ))
     (old new : Story S) (shelf left : L) (form : Form) (contents : W → Option (List ℕ))
     (out : W) (said says : Option (List ℕ)) (back : Bool) → back ≡ goes_back old.notes
-    → StopsReading holds refusals crashes (size shelf) 0 gives remaining back old new shelf
+    → StopsReading gs (size shelf) 0 gives remaining back old new shelf
     left said says
-    → Stops holds refusals crashes size gives remaining old new shelf left form contents
+    → Stops gs size gives remaining old new shelf left form contents
     out out said says
-stops_reading {S} {L} {R} {W} {crashes} holds refusals size gives remaining old new shelf
+stops_reading {S} {L} {R} {W} gs size gives remaining old new shelf
     left form contents out said says back same stopped =
-    let s = subst (λ b. StopsReading holds refusals crashes (size shelf) 0 gives remaining
+    let s = subst (λ b. StopsReading gs (size shelf) 0 gives remaining
     b old new shelf left said says) same stopped in
     record {
       turns = s.turns;
@@ -115,21 +113,20 @@ stops_reading {S} {L} {R} {W} {crashes} holds refusals size gives remaining old 
           (core, now, f, leaves, inl refl);
     }
 
-pub stops_at_end : {S L R W : Type 0} {crashes : S → Crashes}
-    (holds : S → List Portion → Type 0) (refusals : S → ℕ)
+pub stops_at_end : {S L R W : Type 0} (gs : Ghosts S)
     (size : L → ℕ) (gives : Mounting L R) (remaining : R → Option (List ℕ)) (old mid new : Story S)
     (shelf left : L) (form : Form)
     (contents : W → Option (List ℕ)) (out written : W) (said between says : Option (List ℕ))
     (back : Bool) → back ≡ goes_back old.notes
-    → TakesAll holds refusals crashes (size shelf) 0 gives remaining back old mid shelf
+    → TakesAll gs (size shelf) 0 gives remaining back old mid shelf
     left said between
-    → IsWalked holds crashes mid new
-    → StopsAtEnd holds mid form contents out written between says
-    → Stops holds refusals crashes size gives remaining old new shelf left form contents
+    → IsWalked gs.holds gs.crashes mid new
+    → StopsAtEnd gs.holds mid form contents out written between says
+    → Stops gs size gives remaining old new shelf left form contents
     out written said says
-stops_at_end {S} {L} {R} {W} {crashes} holds refusals size gives remaining old mid new
+stops_at_end {S} {L} {R} {W} gs size gives remaining old mid new
     shelf left form contents out written said between says back same took walked e =
-    let t = subst (λ b. TakesAll holds refusals crashes (size shelf) 0 gives remaining b
+    let t = subst (λ b. TakesAll gs (size shelf) 0 gives remaining b
     old mid shelf left said between) same took in
     record {
       turns = t.turns;
@@ -143,11 +140,11 @@ stops_at_end {S} {L} {R} {W} {crashes} holds refusals size gives remaining old m
           (subst (λ l. Appends said between (reel_lines 1 l))
           (sym (append-nil (map answer_of t.turns))) t.lines) e.line;
       follows = λ held was kept.
-          let (now, has, still, f, last) = t.follows held was kept in (
+          let (now, has, (still, f, last)) = t.follows held was kept in (
             mid.core,
-            seen refusals mid now,
+            seen gs.refusals mid now,
             f,
-            left_walked holds refusals crashes back old mid new held now last walked has,
+            left_walked gs.holds gs.refusals gs.crashes back old mid new held now last walked has,
             e.is_written now has,
           );
     }

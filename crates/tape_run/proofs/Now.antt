@@ -4,7 +4,7 @@ use Rattle.std.proofs.Common.{None, refl, sym, ap, subst, ◌∙◌, inl, arith,
 use Rattle.std.specs.Io.KnownBytes.{Appends}
 use Rattle.std.proofs.KnownBytes.{Appends-trans}
 use Rattle.tape_blocks.specs.Block.{Portion}
-use Rattle.tape_core.specs.Crash.{Crashes}
+use Rattle.tape_core.specs.declared.sink.PartSink.{Ghosts}
 use Rattle.tape_set.specs.declared.position.Position.TheVariants.{Finished}
 use Rattle.tape_set.specs.declared.position.Want.{Want}
 use Rattle.tape_set.specs.Position.{want_at}
@@ -19,18 +19,17 @@ use Rattle.tape_run.specs.ExtractingNow.{IsPut, ExtractsNow, StopsNow}
 use Rattle.tape_run.proofs.Fitting.{front_more, front_then}
 use Rattle.tape_run.proofs.Turns.{gathers}
 
-pub extracted_now : {S L R : Type 0} {crashes : S → Crashes}
-    (holds : S → List Portion → Type 0) (refusals : S → ℕ)
+pub extracted_now : {S L R : Type 0} (gs : Ghosts S)
     (size : L → ℕ) (gives : Mounting L R) (remaining : R → Option (List ℕ)) (old mid : Story S)
     (shelf left : L) (form : Form) (tells : Type 0)
     (stands said between says : Option (List ℕ)) (want : Option Want) (records : ℕ)
-    → TakesAll holds refusals crashes (size shelf) 0 gives remaining false old mid shelf
+    → TakesAll gs (size shelf) 0 gives remaining false old mid shelf
     left said between
     → want ≡ want_at mid.core.file mid.core.position → Appends between says (last_line want records)
-    → ((held : List Portion) → holds mid.sink held → IsPut want tells records form stands held)
-    → ExtractsNow holds refusals size gives remaining old shelf left form tells stands said says
+    → ((held : List Portion) → gs.holds mid.sink held → IsPut want tells records form stands held)
+    → ExtractsNow gs.holds gs.refusals size gives remaining old shelf left form tells stands said says
     want
-extracted_now {S} {L} {R} {crashes} holds refusals size gives remaining old mid shelf
+extracted_now {S} {L} {R} gs size gives remaining old mid shelf
     left form tells stands said between
     says want records t is last wrote = record {
       turns = t.turns;
@@ -40,29 +39,27 @@ extracted_now {S} {L} {R} {crashes} holds refusals size gives remaining old mid 
       records = records;
       lines = Appends-trans said between says _ _ t.lines last;
       ends = λ held was.
-          let (now, has, still, f, last) = t.follows held was tt in
+          let (now, has, (still, f, last)) = t.follows held was tt in
           record {
             last = mid.core;
-            now = seen refusals mid now;
+            now = seen gs.refusals mid now;
             follows = f;
             gathers =
-                gathers old.core (seen refusals old held) t.turns mid.core
-                (seen refusals mid now) f;
+                gathers old.core (seen gs.refusals old held) t.turns mid.core
+                (seen gs.refusals mid now) f;
             wanted = is;
             is_put = wrote now has;
           };
     }
 
-pub stops_reading_now : {S L R O : Type 0} {crashes : S → Crashes}
-    (holds : S → List Portion → Type 0)
-    (refusals : S → ℕ) (size : L → ℕ) (gives : Mounting L R) (remaining : R → Option (List ℕ))
+pub stops_reading_now : {S L R O : Type 0} (gs : Ghosts S) (size : L → ℕ) (gives : Mounting L R) (remaining : R → Option (List ℕ))
     (old new : Story S) (shelf left : L) (form : Form) (tells : Type 0)
     (stands : O → Option (List ℕ)) (out : O) (said says : Option (List ℕ))
-    → StopsReading holds refusals crashes (size shelf) 0 gives remaining false old new
+    → StopsReading gs (size shelf) 0 gives remaining false old new
     shelf left said says
-    → StopsNow holds refusals size gives remaining old shelf left form tells stands out out said
+    → StopsNow gs.holds gs.refusals size gives remaining old shelf left form tells stands out out said
     says
-stops_reading_now {S} {L} {R} {O} {crashes} holds refusals size gives remaining old new
+stops_reading_now {S} {L} {R} {O} gs size gives remaining old new
     shelf left form tells stands out said says s =
     record {
       turns = s.turns;
@@ -77,21 +74,20 @@ stops_reading_now {S} {L} {R} {O} {crashes} holds refusals size gives remaining 
           let (core, now, f, leaves) = s.follows held was tt in (core, now, f, inl refl);
     }
 
-pub stops_at_end_now : {S L R O : Type 0} {crashes : S → Crashes}
-    (holds : S → List Portion → Type 0) (refusals : S → ℕ)
+pub stops_at_end_now : {S L R O : Type 0} (gs : Ghosts S)
     (size : L → ℕ) (gives : Mounting L R) (remaining : R → Option (List ℕ)) (old mid : Story S)
     (shelf left : L) (form : Form) (tells : Type 0)
     (stands : O → Option (List ℕ)) (out put : O) (said between says : Option (List ℕ))
     (want : Option Want) (records : ℕ)
-    → TakesAll holds refusals crashes (size shelf) 0 gives remaining false old mid shelf
+    → TakesAll gs (size shelf) 0 gives remaining false old mid shelf
     left said between
     → AppendsFront between says (last_line want records)
-    → ((held : List Portion) → holds mid.sink held → (put ≡ out) ⊎ ((mid.core.position
+    → ((held : List Portion) → gs.holds mid.sink held → (put ≡ out) ⊎ ((mid.core.position
     ≡ Finished) × ((stands put ≡ stands out)
     ⊎ (tells → stands put ≡ Some (output_of form held)))))
-    → StopsNow holds refusals size gives remaining old shelf left form tells stands out put said
+    → StopsNow gs.holds gs.refusals size gives remaining old shelf left form tells stands out put said
     says
-stops_at_end_now {S} {L} {R} {O} {crashes} holds refusals size gives remaining old mid
+stops_at_end_now {S} {L} {R} {O} gs size gives remaining old mid
     shelf left form tells stands out put
     said between says want records t last wrote = record {
       turns = t.turns;
@@ -105,6 +101,6 @@ stops_at_end_now {S} {L} {R} {O} {crashes} holds refusals size gives remaining o
           (subst (λ l. Appends said between (reel_lines 1 l))
           (sym (append-nil (map answer_of t.turns))) t.lines) last;
       follows = λ held was.
-          let (now, has, still, f, last) = t.follows held was tt in
-          (mid.core, seen refusals mid now, f, wrote now has);
+          let (now, has, (still, f, last)) = t.follows held was tt in
+          (mid.core, seen gs.refusals mid now, f, wrote now has);
     }

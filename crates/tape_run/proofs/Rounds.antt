@@ -7,11 +7,10 @@ use Rattle.std.proofs.lemmas.Bool.{cases_lt}
 use Rattle.std.proofs.lemmas.List.{map-append}
 use Rattle.std.specs.Io.KnownBytes.{Appends}
 use Rattle.std.proofs.KnownBytes.{Appends-trans, Appends-nil}
-use Rattle.tape_blocks.specs.Block.{Portion}
 use Rattle.tape_set.specs.declared.position.Position.TheVariants.{Finished}
 use Rattle.tape_set.specs.declared.position.Want.{Want}
 use Rattle.tape_set.specs.Position.{want_at}
-use Rattle.tape_core.specs.Crash.{Crashes}
+use Rattle.tape_core.specs.declared.sink.PartSink.{Ghosts}
 use Rattle.tape_core.specs.State.{State}
 use Rattle.tape_run.specs.Seen.{Seen, seen}
 use Rattle.tape_run.specs.Story.{Story}
@@ -122,13 +121,12 @@ whole_round turns size core most all some = elim (cases_lt (length turns) size) 
 ]
 
 -- nothing has come yet
-pub none_gone : {S L R : Type 0} {crashes : S → Crashes}
-    (holds : S → List Portion → Type 0) (refusals : S → ℕ)
+pub none_gone : {S L R : Type 0} (gs : Ghosts S)
     (size : ℕ) (gives : Mounting L R) (remaining : R → Option (List ℕ)) (back : Bool)
     (old : Story S) (shelf : L) (said : Option (List ℕ))
-    → HasGone holds refusals crashes size gives remaining back old old shelf shelf said
+    → HasGone gs size gives remaining back old old shelf shelf said
     said []
-none_gone {S} {L} {R} {crashes} holds refusals size gives remaining back old shelf said =
+none_gone {S} {L} {R} gs size gives remaining back old shelf said =
     record {
       are_rounds = refl;
       brought = tt;
@@ -137,32 +135,28 @@ none_gone {S} {L} {R} {crashes} holds refusals size gives remaining back old she
       follows = λ held was kept. (
         held,
         was,
-        kept,
-        refl,
-        last_same refusals crashes old
-            held,
+        (kept, refl, last_same gs.refusals gs.crashes old held),
       );
     }
 
 -- one more round was made, and it was not enough
-pub gone_on : {S L R : Type 0} {crashes : S → Crashes}
-    (holds : S → List Portion → Type 0) (refusals : S → ℕ)
+pub gone_on : {S L R : Type 0} (gs : Ghosts S)
     (size before : ℕ) (gives : Mounting L R) (remaining : R → Option (List ℕ)) (back : Bool)
     (old mid new : Story S) (shelf between left : L) (said told says : Option (List ℕ))
     (rounds : List Round)
-    → HasGone holds refusals crashes size gives remaining back old mid shelf between said
+    → HasGone gs size gives remaining back old mid shelf between said
     told rounds
     → before ≡ length (turns_of rounds)
-    → TakesAll holds refusals crashes size before gives remaining back mid new between left
+    → TakesAll gs size before gives remaining back mid new between left
     told says
     → wanted new.core ≢ None → wanted new.core ≢ wanted mid.core
     → (more : List Round) × (before + size ≡ length (turns_of more))
-    × HasGone holds refusals crashes size gives remaining back old new shelf left said says
+    × HasGone gs size gives remaining back old new shelf left said says
     more
-gone_on {S} {L} {R} {crashes} holds refusals size before gives remaining back old mid new
+gone_on {S} {L} {R} gs size before gives remaining back old mid new
     shelf between left said told
     says rounds h count took some other =
-    let t = subst (λ n. TakesAll holds refusals crashes size n gives remaining back mid new
+    let t = subst (λ n. TakesAll gs size n gives remaining back mid new
     between left
     told says) count took in
     let whole = whole_round t.turns size new.core t.most t.all some in
@@ -185,29 +179,30 @@ gone_on {S} {L} {R} {crashes} holds refusals size before gives remaining back ol
             (sym (turns_push rounds r))
             (lines_of_all said told says (turns_of rounds) t.turns h.lines t.lines);
         follows = λ held was kept.
-            let (between, has, still, f, before) = h.follows held was kept in
-            let (now, has_now, then, one, last) = t.follows between has still in (
+            let (between, has, (still, f, before)) = h.follows held was kept in
+            let (now, has_now, (then, one, last)) = t.follows between has still in (
               now,
               has_now,
-              then,
-              follows_push back old.core (seen refusals old held) rounds (seen refusals mid between)
-                  r (seen refusals new now) f
-                  (subst (λ c. Follows back c (seen refusals mid between) t.turns new.core
-                  (seen refusals new now)) h.at one),
-              last_then refusals crashes old mid new held between now before last,
+              (
+                then,
+                follows_push back old.core (seen gs.refusals old held) rounds
+                    (seen gs.refusals mid between) r (seen gs.refusals new now) f
+                    (subst (λ c. Follows back c (seen gs.refusals mid between) t.turns new.core
+                    (seen gs.refusals new now)) h.at one),
+                last_then gs.refusals gs.crashes old mid new held between now before last,
+              ),
             );
       },
     )
 
 -- where a round brought something there are images
-pub some_images : {S L R : Type 0} {crashes : S → Crashes}
-    (holds : S → List Portion → Type 0) (refusals : S → ℕ)
+pub some_images : {S L R : Type 0} (gs : Ghosts S)
     (size before : ℕ) (gives : Mounting L R) (remaining : R → Option (List ℕ)) (back : Bool)
     (mid new : Story S) (between left : L) (told says : Option (List ℕ))
-    → TakesAll holds refusals crashes size before gives remaining back mid new between left
+    → TakesAll gs size before gives remaining back mid new between left
     told says
     → wanted new.core ≢ wanted mid.core → 0 < size
-some_images {S} {L} {R} {crashes} holds refusals size before gives remaining back mid new
+some_images {S} {L} {R} gs size before gives remaining back mid new
     between left told says t
     other = elim (cases_lt 0 size) [
       | inl some ↦ some
@@ -218,22 +213,21 @@ some_images {S} {L} {R} {crashes} holds refusals size before gives remaining bac
     ]
 
 -- one more round was made, and it was enough
-pub takes_rounds : {S L R : Type 0} {crashes : S → Crashes}
-    (holds : S → List Portion → Type 0) (refusals : S → ℕ)
+pub takes_rounds : {S L R : Type 0} (gs : Ghosts S)
     (size count before : ℕ) (gives : Mounting L R) (remaining : R → Option (List ℕ)) (back : Bool)
     (old mid new : Story S) (shelf between left : L) (said told says : Option (List ℕ))
     (rounds : List Round) → count ≡ size → before ≡ length (turns_of rounds)
-    → HasGone holds refusals crashes count gives remaining back old mid shelf between said
+    → HasGone gs count gives remaining back old mid shelf between said
     told rounds
-    → TakesAll holds refusals crashes count before gives remaining back mid new between
+    → TakesAll gs count before gives remaining back mid new between
     left told says
     → IsEnough count before (wanted mid.core) (wanted new.core)
-    → TakesRounds holds refusals crashes size gives remaining back old new shelf left said
+    → TakesRounds gs size gives remaining back old new shelf left said
     says
-takes_rounds {S} {L} {R} {crashes} holds refusals size count before gives remaining back
+takes_rounds {S} {L} {R} gs size count before gives remaining back
     old mid new shelf between left
     said told says rounds all lines h took enough =
-    subst (λ n. TakesRounds holds refusals crashes n gives remaining back old new shelf
+    subst (λ n. TakesRounds gs n gives remaining back old new shelf
     left said says) all
     (record {
       rounds = rounds;
@@ -241,28 +235,27 @@ takes_rounds {S} {L} {R} {crashes} holds refusals size count before gives remain
       between = between;
       told = told;
       gone = h;
-      last = subst (λ n. TakesAll holds refusals crashes count n gives remaining back mid
+      last = subst (λ n. TakesAll gs count n gives remaining back mid
           new between left
           told says) lines took;
       enough = subst (λ n. IsEnough count n (wanted mid.core) (wanted new.core)) lines enough;
     })
 
 -- a fault ended one more round
-pub stops_round : {S L R : Type 0} {crashes : S → Crashes}
-    (holds : S → List Portion → Type 0) (refusals : S → ℕ)
+pub stops_round : {S L R : Type 0} (gs : Ghosts S)
     (size count before : ℕ) (gives : Mounting L R) (remaining : R → Option (List ℕ)) (back : Bool)
     (old mid new : Story S) (shelf between left : L) (said told says : Option (List ℕ))
     (rounds : List Round) → count ≡ size → before ≡ length (turns_of rounds)
-    → HasGone holds refusals crashes count gives remaining back old mid shelf between said
+    → HasGone gs count gives remaining back old mid shelf between said
     told rounds
-    → StopsReading holds refusals crashes count before gives remaining back mid new
+    → StopsReading gs count before gives remaining back mid new
     between left told says
-    → StopsInRound holds refusals crashes size gives remaining back old new shelf left said
+    → StopsInRound gs size gives remaining back old new shelf left said
     says
-stops_round {S} {L} {R} {crashes} holds refusals size count before gives remaining back
+stops_round {S} {L} {R} gs size count before gives remaining back
     old mid new shelf between left said
     told says rounds all lines h stopped =
-    subst (λ n. StopsInRound holds refusals crashes n gives remaining back old new shelf
+    subst (λ n. StopsInRound gs n gives remaining back old new shelf
     left said says) all
     (record {
       rounds = rounds;
@@ -270,7 +263,7 @@ stops_round {S} {L} {R} {crashes} holds refusals size count before gives remaini
       between = between;
       told = told;
       gone = h;
-      last = subst (λ n. StopsReading holds refusals crashes count n gives remaining back
+      last = subst (λ n. StopsReading gs count n gives remaining back
           mid new between left
           told says) lines stopped;
     })

@@ -21,6 +21,7 @@ use Rattle.tape_core.specs.Crash.{lost}
 use Rattle.tape_core.specs.Place.{IsPlaced, rest_of}
 use Rattle.tape_core.specs.State.{State}
 use Rattle.tape_core.specs.Weight.{Rose}
+use Rattle.tape_core.specs.declared.sink.PartSink.{Ghosts}
 use Rattle.tape_core.specs.declared.sink.SinkFault.{SinkFault}
 use Rattle.tape_core.specs.declared.sink.SinkFault.TheVariants.{Device, Failed}
 use Rattle.tape_run.specs.declared.fault.EngineFault.{EngineFault}
@@ -153,6 +154,15 @@ pub record CasesOfTurns : Type 0 where
 abbrev pub Listed : Type 0
 Listed = Story (List Portion)
 
+-- what a list tells as the sink of its parts: it weighs nothing, and no crash brings it back
+abbrev pub as_sink : Ghosts (List Portion)
+as_sink = record {
+  holds = λ s ps. s ≡ ps;
+  weighs = λ s. 0;
+  refusals = λ s. 0;
+  crashes = λ s. lost;
+}
+
 abbrev pub Known : Type 0
 Known = Option (List ℕ)
 
@@ -164,14 +174,12 @@ Readers = List (Option Known)
 abbrev pub ExtractsListed : Listed → Listed → Readers → Readers → Form → Known → Known → Known
     → Known → Option Want → Type 0
 ExtractsListed session behind shelf left form out written said says want =
-    Extracts (λ s ps. s ≡ ps) (λ s. 0) (λ s. lost) length Took (λ r. r) session
-    behind shelf left form out written said says want
+    Extracts as_sink length Took (λ r. r) session behind shelf left form out written said says want
 
 abbrev pub StopsListed : Listed → Listed → Readers → Readers → Form → Known → Known → Known → Known
     → Type 0
 StopsListed session behind shelf left form out written said says =
-    Stops (λ s ps. s ≡ ps) (λ s. 0) (λ s. lost) length Took (λ r. r) session behind
-    shelf left form (λ w. w) out written said says
+    Stops as_sink length Took (λ r. r) session behind shelf left form (λ w. w) out written said says
 
 abbrev pub ExtractsListedNow : Listed → Readers → Readers → Form → Known → Known → Known
     → Option Want → Type 0

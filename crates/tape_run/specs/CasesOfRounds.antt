@@ -7,8 +7,7 @@ use Rattle.tape_blocks.specs.declared.parts.Form.{Form}
 use Rattle.tape_set.specs.declared.position.Position.TheVariants.{Awaits, Finished}
 use Rattle.tape_set.specs.declared.position.Want.{Want}
 use Rattle.tape_core.specs.State.{State}
-use Rattle.tape_core.specs.Crash.{lost}
-use Rattle.tape_run.specs.CasesOfExtracts.{Listed, Known, Readers}
+use Rattle.tape_run.specs.CasesOfExtracts.{Listed, as_sink, Known, Readers}
 use Rattle.tape_run.specs.Extracting.{Ends, EndsFile, StopsAtEnd, IsWritten}
 use Rattle.tape_run.specs.ExtractingAgain.{ExtractsAgain, StopsAgain}
 use Rattle.tape_run.specs.Output.{AppendsFront}
@@ -24,14 +23,14 @@ use Rattle.tape_run.specs.Seen.{Seen, seen}
 abbrev pub AgainListed : Listed → Listed → Readers → Readers → Form → Known → Known → Known → Known
     → Option Want → Type 0
 AgainListed session behind shelf left form out written said says want =
-    ExtractsAgain (λ s ps. s ≡ ps) (λ s. 0) (λ s. lost) length Took (λ r. r)
-    session behind shelf left form out written said says want
+    ExtractsAgain as_sink length Took (λ r. r) session behind shelf left form out written said says
+    want
 
 abbrev pub StopsAgainListed : Listed → Listed → Readers → Readers → Form → Known → Known → Known
     → Known → Type 0
 StopsAgainListed session behind shelf left form out written said says =
-    StopsAgain (λ s ps. s ≡ ps) (λ s. 0) (λ s. lost) length Took (λ r. r) session
-    behind shelf left form (λ w. w) out written said says
+    StopsAgain as_sink length Took (λ r. r) session behind shelf left form (λ w. w) out written said
+    says
 
 -- of rounds
 pub record CasesOfRounds : Type 0 where

@@ -7,11 +7,11 @@ use Rattle.tape_blocks.specs.Spans.{join}
 use Rattle.tape_set.specs.declared.position.Position.TheVariants.{Finished}
 use Rattle.tape_set.specs.declared.position.Want.{Want}
 use Rattle.tape_set.specs.Position.{want_at}
-use Rattle.tape_core.specs.Crash.{Crashes}
 use Rattle.tape_core.specs.State.{State}
+use Rattle.tape_core.specs.declared.sink.PartSink.{Ghosts}
 use Rattle.tape_run.specs.Crash.{LeavesSaved}
 use Rattle.tape_run.specs.declared.intake.ReelAnswer.{ReelAnswer}
-use Rattle.tape_run.specs.Seen.{Seen, seen}
+use Rattle.tape_run.specs.Seen.{Seen, IfSeen}
 use Rattle.tape_run.specs.Story.{Story}
 use Rattle.tape_blocks.specs.declared.parts.Form.{Form}
 use Rattle.tape_run.specs.Output.{AppendsFront}
@@ -67,30 +67,26 @@ pub record StopsAtEnd {S W : Type 0} (holds : S → List Portion → Type 0) (se
 -- Images were read in their order, all of them or up to the one that completed the file; a line was
 -- reported for each, and a last one with what is wanted or how many records the file has; and the
 -- session that the sink's parts belong to ended so.
-pub record Extracts {S L R : Type 0} (holds : S → List Portion → Type 0) (refusals : S → ℕ)
-    (crashes : S → Crashes)
-    (size : L → ℕ) (gives : Mounting L R) (remaining : R → Option (List ℕ)) (old new : Story S)
-    (shelf left : L) (form : Form) (out written said says : Option (List ℕ)) (want : Option Want)
-    : Type 0 where
+pub record Extracts {S L R : Type 0} (g : Ghosts S) (size : L → ℕ) (gives : Mounting L R)
+    (remaining : R → Option (List ℕ)) (old new : Story S) (shelf left : L) (form : Form)
+    (out written said says : Option (List ℕ)) (want : Option Want) : Type 0 where
   pub turns : List Turn
   pub are_turns : AreTurns gives remaining shelf 0 turns left
   pub most : length turns ≤ size shelf
   pub all : length turns < size shelf → want ≡ None
   pub records : ℕ
   pub lines : Appends said says (reel_lines 1 (map answer_of turns) ++ last_line want records)
-  pub ends : (held : List Portion) → holds old.sink held
-      → IsKeptFor (goes_back old.notes) (seen refusals old held)
-      → (e : Ends old.core (seen refusals old held) turns want records form out written)
-      × StoodSaved holds refusals crashes old held new e.now
+  pub ends : IfSeen g old (λ was. IsKeptFor (goes_back old.notes) was
+      → (e : Ends old.core was turns want records form out written)
+      × StoodSaved g.holds g.refusals g.crashes old was.parts new e.now)
 
 -- A fault ended it: what was reported is a front of such a report, with the line of at most one
 -- image more than those that were read and noted, which are the first of the images; and nothing
 -- was done to the output, or the file is complete and a front of its records was written.
-pub record Stops {S L R W : Type 0} (holds : S → List Portion → Type 0) (refusals : S → ℕ)
-    (crashes : S → Crashes)
-    (size : L → ℕ) (gives : Mounting L R) (remaining : R → Option (List ℕ)) (old new : Story S)
-    (shelf left : L) (form : Form) (contents : W → Option (List ℕ)) (out written : W)
-    (said says : Option (List ℕ)) : Type 0 where
+pub record Stops {S L R W : Type 0} (g : Ghosts S) (size : L → ℕ) (gives : Mounting L R)
+    (remaining : R → Option (List ℕ)) (old new : Story S) (shelf left : L) (form : Form)
+    (contents : W → Option (List ℕ)) (out written : W) (said says : Option (List ℕ))
+    : Type 0 where
   pub turns : List Turn
   pub are_turns : AreFirstTurns gives remaining shelf turns left
   pub most : length turns ≤ size shelf
@@ -100,10 +96,8 @@ pub record Stops {S L R W : Type 0} (holds : S → List Portion → Type 0) (ref
   pub records : ℕ
   pub lines : AppendsFront said says
       (reel_lines 1 (map answer_of turns ++ more) ++ last_line want records)
-  pub follows : (held : List Portion) → holds old.sink held
-      → IsKeptFor (goes_back old.notes) (seen refusals old held)
-      → (last : State) × (now : Seen)
-      × Follows (goes_back old.notes) old.core (seen refusals old held) turns last now
-      × LeavesSaved holds refusals crashes old held now new
+  pub follows : IfSeen g old (λ was. IsKeptFor (goes_back old.notes) was → (last : State)
+      × (now : Seen) × Follows (goes_back old.notes) old.core was turns last now
+      × LeavesSaved g.holds g.refusals g.crashes old was.parts now new
       × ((written ≡ out) ⊎ ((now.place.position ≡ Finished)
-      × AppendsFront (contents out) (contents written) (output_of form now.parts)))
+      × AppendsFront (contents out) (contents written) (output_of form now.parts))))

@@ -1,12 +1,11 @@
 -- What `extract` leaves where it goes round the images.
 use Rattle.std.specs.Prelude.{◌≡◌, ◌⊎◌, ℕ, ◌<◌, ◌≤◌, List, ◌++◌, length, map, Option, None}
 use Rattle.std.specs.Io.KnownBytes.{Appends}
-use Rattle.tape_blocks.specs.Block.{Portion}
 use Rattle.tape_blocks.specs.declared.parts.Form.{Form}
 use Rattle.tape_set.specs.declared.position.Position.TheVariants.{Finished}
 use Rattle.tape_set.specs.declared.position.Want.{Want}
-use Rattle.tape_core.specs.Crash.{Crashes}
 use Rattle.tape_core.specs.State.{State}
+use Rattle.tape_core.specs.declared.sink.PartSink.{Ghosts}
 use Rattle.tape_run.specs.Crash.{LeavesSaved}
 use Rattle.tape_run.specs.declared.intake.ReelAnswer.{ReelAnswer}
 use Rattle.tape_run.specs.Extracting.{Ends}
@@ -17,18 +16,16 @@ use Rattle.tape_run.specs.Reeling.{Turn, answer_of, AreTurns, AreFirstTurns, Mou
 use Rattle.tape_run.specs.Reeling.{IsKeptFor, StoodSaved}
 use Rattle.tape_run.specs.Rounds.{Round, turns_of, core_behind, wanted, AreRounds}
 use Rattle.tape_run.specs.Rounds.{BroughtSomething, IsEnough, GoesRound}
-use Rattle.tape_run.specs.Seen.{Seen, seen}
+use Rattle.tape_run.specs.Seen.{Seen, IfSeen}
 use Rattle.tape_run.specs.Story.{Story}
 
 -- Images were read round by round: whole rounds that brought something, and a last one, of all
 -- images or up to the one that completed the file, which was enough. A line was reported for each
 -- image of each round, numbered on and on, and a last one with what is wanted or how many records
 -- the file has; and over all rounds the session ended as over images that are named so often.
-pub record ExtractsAgain {S L R : Type 0} (holds : S → List Portion → Type 0) (refusals : S → ℕ)
-    (crashes : S → Crashes)
-    (size : L → ℕ) (gives : Mounting L R) (remaining : R → Option (List ℕ)) (old new : Story S)
-    (shelf left : L) (form : Form) (out written said says : Option (List ℕ)) (want : Option Want)
-    : Type 0 where
+pub record ExtractsAgain {S L R : Type 0} (g : Ghosts S) (size : L → ℕ) (gives : Mounting L R)
+    (remaining : R → Option (List ℕ)) (old new : Story S) (shelf left : L) (form : Form)
+    (out written said says : Option (List ℕ)) (want : Option Want) : Type 0 where
   pub rounds : List Round
   pub between : L
   pub are_rounds : AreRounds gives remaining shelf rounds between
@@ -42,23 +39,19 @@ pub record ExtractsAgain {S L R : Type 0} (holds : S → List Portion → Type 0
   pub records : ℕ
   pub lines : Appends said says
       (reel_lines 1 (map answer_of (turns_of rounds ++ turns)) ++ last_line want records)
-  pub ends : (held : List Portion) → holds old.sink held
-      → IsKeptFor (goes_back old.notes) (seen refusals old held)
-      → (e : Ends old.core (seen refusals old held) (turns_of rounds ++ turns) want records
-      form out written)
-      × GoesRound (goes_back old.notes) old.core (seen refusals old held) rounds turns
-      e.last e.now
-      × StoodSaved holds refusals crashes old held new e.now
+  pub ends : IfSeen g old (λ was. IsKeptFor (goes_back old.notes) was
+      → (e : Ends old.core was (turns_of rounds ++ turns) want records form out written)
+      × GoesRound (goes_back old.notes) old.core was rounds turns e.last e.now
+      × StoodSaved g.holds g.refusals g.crashes old was.parts new e.now)
 
 -- A fault ended it: what was reported is a front of such a report, with the line of at most one
 -- image more than those that were read and noted, which are those of whole rounds that brought
 -- something and the first of the images once more; and nothing was done to the output, or the file
 -- is complete and a front of its records was written.
-pub record StopsAgain {S L R W : Type 0} (holds : S → List Portion → Type 0) (refusals : S → ℕ)
-    (crashes : S → Crashes)
-    (size : L → ℕ) (gives : Mounting L R) (remaining : R → Option (List ℕ)) (old new : Story S)
-    (shelf left : L) (form : Form) (contents : W → Option (List ℕ)) (out written : W)
-    (said says : Option (List ℕ)) : Type 0 where
+pub record StopsAgain {S L R W : Type 0} (g : Ghosts S) (size : L → ℕ) (gives : Mounting L R)
+    (remaining : R → Option (List ℕ)) (old new : Story S) (shelf left : L) (form : Form)
+    (contents : W → Option (List ℕ)) (out written : W) (said says : Option (List ℕ))
+    : Type 0 where
   pub rounds : List Round
   pub between : L
   pub are_rounds : AreRounds gives remaining shelf rounds between
@@ -72,11 +65,8 @@ pub record StopsAgain {S L R W : Type 0} (holds : S → List Portion → Type 0)
   pub records : ℕ
   pub lines : AppendsFront said says
       (reel_lines 1 (map answer_of (turns_of rounds ++ turns) ++ more) ++ last_line want records)
-  pub follows : (held : List Portion) → holds old.sink held
-      → IsKeptFor (goes_back old.notes) (seen refusals old held)
-      → (last : State) × (now : Seen)
-      × GoesRound (goes_back old.notes) old.core (seen refusals old held) rounds turns
-      last now
-      × LeavesSaved holds refusals crashes old held now new
+  pub follows : IfSeen g old (λ was. IsKeptFor (goes_back old.notes) was → (last : State)
+      × (now : Seen) × GoesRound (goes_back old.notes) old.core was rounds turns last now
+      × LeavesSaved g.holds g.refusals g.crashes old was.parts now new
       × ((written ≡ out) ⊎ ((now.place.position ≡ Finished)
-      × AppendsFront (contents out) (contents written) (output_of form now.parts)))
+      × AppendsFront (contents out) (contents written) (output_of form now.parts))))

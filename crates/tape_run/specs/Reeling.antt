@@ -18,13 +18,14 @@ use Rattle.tape_core.specs.declared.event.Reason.TheVariants.{BlockCount, Broken
 use Rattle.tape_core.specs.Place.{IsPlaced, rest_of}
 use Rattle.tape_core.specs.Crash.{Crashes}
 use Rattle.tape_core.specs.Point.{Point}
+use Rattle.tape_core.specs.declared.sink.PartSink.{Ghosts}
 use Rattle.tape_run.specs.declared.intake.ReelAnswer.{ReelAnswer}
 use Rattle.tape_run.specs.Crash.{KeepsLast, LeavesSaved}
 use Rattle.tape_run.specs.Given.{is_device, IsGiven}
 use Rattle.tape_run.specs.Mount.{Happening, IsMountOf, after_mount}
 use Rattle.tape_run.specs.Lead.{Lead, over_reel}
 use Rattle.tape_run.specs.Reels.{Reads}
-use Rattle.tape_run.specs.Seen.{Seen, seen, IsKept}
+use Rattle.tape_run.specs.Seen.{Seen, seen, IsKept, IfSeen, IsSeen}
 use Rattle.tape_run.specs.Steps.{Reeled, Saved, WentBack}
 use Rattle.tape_run.specs.Headline.{HasRun}
 use Rattle.tape_run.specs.declared.script.Step.{Step}
@@ -244,37 +245,36 @@ AreSteps back turns old new = (bytes : List (List ℕ)) → AreTold turns bytes
 
 -- ---- calls
 
+-- Whatever parts its sink held, the session was brought so from what it was then to what it is now,
+-- a session that goes back has its own notes still, and the note made last comes back of a crash.
+abbrev pub Carries : {S : Type 0} → Ghosts S → Bool → Story S → Story S → (Seen → Seen → Type 0)
+    → Type 0
+Carries g back old new so = IfSeen g old (λ was. IsKeptFor back was
+    → IsSeen g new (λ is. IsKeptFor back is × so was is
+    × KeepsLast g.refusals g.crashes old was.parts new is.parts))
+
 -- The image with this number was read, or passed, and its line was reported.
-pub record Takes {S R : Type 0} (holds : S → List Portion → Type 0) (refusals : S → ℕ)
-    (crashes : S → Crashes)
-    (remaining : R → Option (List ℕ)) (back : Bool) (old new : Story S) (image : Option R)
-    (number : ℕ) (said says : Option (List ℕ)) : Type 0 where
+pub record Takes {S R : Type 0} (g : Ghosts S) (remaining : R → Option (List ℕ)) (back : Bool)
+    (old new : Story S) (image : Option R) (number : ℕ) (said says : Option (List ℕ))
+    : Type 0 where
   pub turn : Turn
   pub is_turn : IsTurn remaining image turn
   pub line : Appends said says (reel_line number (answer_of turn))
-  pub follows : (held : List Portion) → holds old.sink held
-      → IsKeptFor back (seen refusals old held) → (now : List Portion)
-      × holds new.sink now × IsKeptFor back (seen refusals new now)
-      × Follows back old.core (seen refusals old held) (turn ∷ []) new.core (seen refusals new now)
-      × KeepsLast refusals crashes old held new now
+  pub follows : Carries g back old new
+      (λ was is. Follows back old.core was (turn ∷ []) new.core is)
 
 -- Images, of which there are so many, were read in their order, all of them or up to the one that
 -- completed the file, and a line was reported for each, behind so many lines that were there.
-pub record TakesAll {S L R : Type 0} (holds : S → List Portion → Type 0) (refusals : S → ℕ)
-    (crashes : S → Crashes)
-    (size before : ℕ) (gives : Mounting L R) (remaining : R → Option (List ℕ)) (back : Bool)
-    (old new : Story S) (shelf left : L) (said says : Option (List ℕ)) : Type 0 where
+pub record TakesAll {S L R : Type 0} (g : Ghosts S) (size before : ℕ) (gives : Mounting L R)
+    (remaining : R → Option (List ℕ)) (back : Bool) (old new : Story S) (shelf left : L)
+    (said says : Option (List ℕ)) : Type 0 where
   pub turns : List Turn
   pub are_turns : AreTurns gives remaining shelf 0 turns left
   pub lines : Appends said says (reel_lines (before + 1) (map answer_of turns))
   pub most : length turns ≤ size
   pub all : length turns < size → new.core.position ≡ Finished
   pub none : size ≡ 0 → new ≡ old
-  pub follows : (held : List Portion) → holds old.sink held
-      → IsKeptFor back (seen refusals old held) → (now : List Portion)
-      × holds new.sink now × IsKeptFor back (seen refusals new now)
-      × Follows back old.core (seen refusals old held) turns new.core (seen refusals new now)
-      × KeepsLast refusals crashes old held new now
+  pub follows : Carries g back old new (λ was is. Follows back old.core was turns new.core is)
 
 -- Nothing was reported but a front of the lines of at most one image, which has this number.
 abbrev pub IsReported : ℕ → Option (List ℕ) → Option (List ℕ) → Type 0
@@ -291,17 +291,15 @@ StoodSaved holds refusals crashes old held new now = (parts : List Portion)
 
 -- Images were read in their order, and a fault ended that: a line was reported for each of them,
 -- and a front of one for one more. Those behind that one were not mounted.
-pub record StopsReading {S L R : Type 0} (holds : S → List Portion → Type 0) (refusals : S → ℕ)
-    (crashes : S → Crashes)
-    (size before : ℕ) (gives : Mounting L R) (remaining : R → Option (List ℕ)) (back : Bool)
-    (old new : Story S) (shelf left : L) (said says : Option (List ℕ)) : Type 0 where
+pub record StopsReading {S L R : Type 0} (g : Ghosts S) (size before : ℕ) (gives : Mounting L R)
+    (remaining : R → Option (List ℕ)) (back : Bool) (old new : Story S) (shelf left : L)
+    (said says : Option (List ℕ)) : Type 0 where
   pub turns : List Turn
   pub are_turns : AreFirstTurns gives remaining shelf turns left
   pub fewer : length turns < size
   pub more : List (Option ReelAnswer)
   pub few : length more ≤ 1
   pub lines : AppendsFront said says (reel_lines (before + 1) (map answer_of turns ++ more))
-  pub follows : (held : List Portion) → holds old.sink held
-      → IsKeptFor back (seen refusals old held) → (core : State) × (now : Seen)
-      × Follows back old.core (seen refusals old held) turns core now
-      × LeavesSaved holds refusals crashes old held now new
+  pub follows : IfSeen g old (λ was. IsKeptFor back was → (core : State) × (now : Seen)
+      × Follows back old.core was turns core now
+      × LeavesSaved g.holds g.refusals g.crashes old was.parts now new)

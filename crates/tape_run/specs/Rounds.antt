@@ -2,16 +2,14 @@
 use Rattle.std.specs.Prelude.{◌≡◌, ◌≢◌, ◌⊎◌, ℕ, ◌+◌, ◌<◌, List, [], ◌∷◌, ◌++◌, length, map, Option}
 use Rattle.std.specs.Prelude.{None, ⊤, Bool}
 use Rattle.std.specs.Io.KnownBytes.{Appends}
-use Rattle.tape_blocks.specs.Block.{Portion}
 use Rattle.tape_set.specs.declared.position.Want.{Want}
 use Rattle.tape_set.specs.Position.{want_at}
-use Rattle.tape_core.specs.Crash.{Crashes}
 use Rattle.tape_core.specs.State.{State}
-use Rattle.tape_run.specs.Crash.{KeepsLast}
+use Rattle.tape_core.specs.declared.sink.PartSink.{Ghosts}
 use Rattle.tape_run.specs.ReelLine.{reel_lines}
-use Rattle.tape_run.specs.Reeling.{Turn, answer_of, AreTurns, Follows, Mounting, IsKeptFor}
-use Rattle.tape_run.specs.Reeling.{TakesAll, StopsReading}
-use Rattle.tape_run.specs.Seen.{Seen, seen}
+use Rattle.tape_run.specs.Reeling.{Turn, answer_of, AreTurns, Follows, Mounting, Carries, TakesAll}
+use Rattle.tape_run.specs.Reeling.{StopsReading}
+use Rattle.tape_run.specs.Seen.{Seen}
 use Rattle.tape_run.specs.Story.{Story}
 
 -- A round over the images: what became of each, and the reader's state behind the last one.
@@ -69,46 +67,36 @@ GoesRound back core old rounds turns last new = (mid : Seen)
 -- ---- calls
 
 -- Whole rounds were made, each brought something, and a line was reported for each image of each.
-pub record HasGone {S L R : Type 0} (holds : S → List Portion → Type 0) (refusals : S → ℕ)
-    (crashes : S → Crashes)
-    (size : ℕ) (gives : Mounting L R) (remaining : R → Option (List ℕ)) (back : Bool)
-    (old new : Story S) (shelf left : L) (said says : Option (List ℕ)) (rounds : List Round)
-    : Type 0 where
+pub record HasGone {S L R : Type 0} (g : Ghosts S) (size : ℕ) (gives : Mounting L R)
+    (remaining : R → Option (List ℕ)) (back : Bool) (old new : Story S) (shelf left : L)
+    (said says : Option (List ℕ)) (rounds : List Round) : Type 0 where
   pub are_rounds : AreRounds gives remaining shelf rounds left
   pub brought : BroughtSomething size old.core rounds
   pub at : new.core ≡ core_behind old.core rounds
   pub lines : Appends said says (reel_lines 1 (map answer_of (turns_of rounds)))
-  pub follows : (held : List Portion) → holds old.sink held
-      → IsKeptFor back (seen refusals old held) → (now : List Portion)
-      × holds new.sink now × IsKeptFor back (seen refusals new now)
-      × FollowsRounds back old.core (seen refusals old held) rounds (seen refusals new now)
-      × KeepsLast refusals crashes old held new now
+  pub follows : Carries g back old new (λ was is. FollowsRounds back old.core was rounds is)
 
 -- Rounds were made until one was enough.
-pub record TakesRounds {S L R : Type 0} (holds : S → List Portion → Type 0) (refusals : S → ℕ)
-    (crashes : S → Crashes)
-    (size : ℕ) (gives : Mounting L R) (remaining : R → Option (List ℕ)) (back : Bool)
-    (old new : Story S) (shelf left : L) (said says : Option (List ℕ)) : Type 0 where
+pub record TakesRounds {S L R : Type 0} (g : Ghosts S) (size : ℕ) (gives : Mounting L R)
+    (remaining : R → Option (List ℕ)) (back : Bool) (old new : Story S) (shelf left : L)
+    (said says : Option (List ℕ)) : Type 0 where
   pub rounds : List Round
   pub mid : Story S
   pub between : L
   pub told : Option (List ℕ)
-  pub gone : HasGone holds refusals crashes size gives remaining back old mid shelf
-      between said told rounds
-  pub last : TakesAll holds refusals crashes size (length (turns_of rounds)) gives
-      remaining back mid new between left told says
+  pub gone : HasGone g size gives remaining back old mid shelf between said told rounds
+  pub last : TakesAll g size (length (turns_of rounds)) gives remaining back mid new between left
+      told says
   pub enough : IsEnough size (length (turns_of rounds)) (wanted mid.core) (wanted new.core)
 
 -- Rounds were made, and a fault ended the one behind them.
-pub record StopsInRound {S L R : Type 0} (holds : S → List Portion → Type 0) (refusals : S → ℕ)
-    (crashes : S → Crashes)
-    (size : ℕ) (gives : Mounting L R) (remaining : R → Option (List ℕ)) (back : Bool)
-    (old new : Story S) (shelf left : L) (said says : Option (List ℕ)) : Type 0 where
+pub record StopsInRound {S L R : Type 0} (g : Ghosts S) (size : ℕ) (gives : Mounting L R)
+    (remaining : R → Option (List ℕ)) (back : Bool) (old new : Story S) (shelf left : L)
+    (said says : Option (List ℕ)) : Type 0 where
   pub rounds : List Round
   pub mid : Story S
   pub between : L
   pub told : Option (List ℕ)
-  pub gone : HasGone holds refusals crashes size gives remaining back old mid shelf
-      between said told rounds
-  pub last : StopsReading holds refusals crashes size (length (turns_of rounds)) gives
-      remaining back mid new between left told says
+  pub gone : HasGone g size gives remaining back old mid shelf between said told rounds
+  pub last : StopsReading g size (length (turns_of rounds)) gives remaining back mid new between
+      left told says

@@ -67,13 +67,13 @@ pub fn extract_to<S: PartWalk, R: Read + Drop, L: Shelf<R>, W: Write, P: Write>(
     out: &mut W,
     report: &mut P,
 ) -> Result<Option<Want>, EngineFault>
-    ensures ok { IfOk result (Extracts S.holds S.refusals S.crashes L.size L.gives
-        R.remaining session.old session.new images.old images.new form (W.contents out.old)
-        (W.contents out.new) (P.contents report.old) (P.contents report.new)) }
+    ensures ok { IfOk result (Extracts S.PartSink L.size L.gives R.remaining session.old session.new
+        images.old images.new form (W.contents out.old) (W.contents out.new)
+        (P.contents report.old) (P.contents report.new)) }
     // While something of the file is wanted `out` is not touched at all.
     ensures untouched { IfOk result (λ want. want ≢ None → out.new ≡ out.old) }
-    ensures err { OnErr result (Stops S.holds S.refusals S.crashes L.size L.gives
-        R.remaining session.old session.new images.old images.new form W.contents out.old out.new
+    ensures err { OnErr result (Stops S.PartSink L.size L.gives R.remaining session.old session.new
+        images.old images.new form W.contents out.old out.new
         (P.contents report.old) (P.contents report.new)) }
 {
     let back = has_note(session);

@@ -32,13 +32,13 @@ pub fn extract_again<S: PartWalk, R: Read + Drop, L: Shelf<R>, W: Write, P: Writ
     out: &mut W,
     report: &mut P,
 ) -> Result<Option<Want>, EngineFault>
-    ensures ok { IfOk result (ExtractsAgain S.holds S.refusals S.crashes L.size L.gives
-        R.remaining session.old session.new images.old images.new form (W.contents out.old)
+    ensures ok { IfOk result (ExtractsAgain S.PartSink L.size L.gives R.remaining
+        session.old session.new images.old images.new form (W.contents out.old)
         (W.contents out.new) (P.contents report.old) (P.contents report.new)) }
     // While something of the file is wanted `out` is not touched at all.
     ensures untouched { IfOk result (λ want. want ≢ None → out.new ≡ out.old) }
-    ensures err { OnErr result (StopsAgain S.holds S.refusals S.crashes L.size L.gives
-        R.remaining session.old session.new images.old images.new form W.contents out.old out.new
+    ensures err { OnErr result (StopsAgain S.PartSink L.size L.gives R.remaining
+        session.old session.new images.old images.new form W.contents out.old out.new
         (P.contents report.old) (P.contents report.new)) }
 {
     let back = has_note(session);
@@ -54,11 +54,11 @@ fn read_rounds<S: PartSink, R: Read + Drop, L: Shelf<R>, P: Write>(
     back: bool,
     report: &mut P,
 ) -> Result<(), EngineFault>
-    ensures ok { OnOk result (TakesRounds S.holds S.refusals S.crashes (L.size
-        images.old) L.gives R.remaining back session.old session.new images.old images.new
+    ensures ok { OnOk result (TakesRounds S.PartSink (L.size images.old) L.gives R.remaining back
+        session.old session.new images.old images.new
         (P.contents report.old) (P.contents report.new)) }
-    ensures err { OnErr result (StopsInRound S.holds S.refusals S.crashes (L.size
-        images.old) L.gives R.remaining back session.old session.new images.old images.new
+    ensures err { OnErr result (StopsInRound S.PartSink (L.size images.old) L.gives R.remaining back
+        session.old session.new images.old images.new
         (P.contents report.old) (P.contents report.new)) }
 {
     let count = images.count();

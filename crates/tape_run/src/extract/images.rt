@@ -65,11 +65,11 @@ pub fn read_images<S: PartSink, R: Read + Drop, L: Shelf<R>, P: Write>(
     back: bool,
     report: &mut P,
 ) -> Result<(), EngineFault>
-    ensures ok { OnOk result (TakesAll S.holds S.refusals S.crashes (L.size images.old) 0
-        L.gives R.remaining back session.old session.new images.old images.new
+    ensures ok { OnOk result (TakesAll S.PartSink (L.size images.old) 0 L.gives R.remaining back
+        session.old session.new images.old images.new
         (P.contents report.old) (P.contents report.new)) }
-    ensures err { OnErr result (StopsReading S.holds S.refusals S.crashes (L.size
-        images.old) 0 L.gives R.remaining back session.old session.new images.old images.new
+    ensures err { OnErr result (StopsReading S.PartSink (L.size images.old) 0 L.gives R.remaining
+        back session.old session.new images.old images.new
         (P.contents report.old) (P.contents report.new)) }
 {
     let count = images.count();
@@ -86,11 +86,11 @@ pub fn read_round<S: PartSink, R: Read + Drop, L: Shelf<R>, P: Write>(
     report: &mut P,
 ) -> Result<(), EngineFault>
     requires room { lines + count ≤ 18446744073709551615 }
-    ensures ok { OnOk result (TakesAll S.holds S.refusals S.crashes count lines L.gives
-        R.remaining back session.old session.new images.old images.new
+    ensures ok { OnOk result (TakesAll S.PartSink count lines L.gives R.remaining back
+        session.old session.new images.old images.new
         (P.contents report.old) (P.contents report.new)) }
-    ensures err { OnErr result (StopsReading S.holds S.refusals S.crashes count lines
-        L.gives R.remaining back session.old session.new images.old images.new
+    ensures err { OnErr result (StopsReading S.PartSink count lines L.gives R.remaining back
+        session.old session.new images.old images.new
         (P.contents report.old) (P.contents report.new)) }
 {
     for number in 0..count {
@@ -114,8 +114,8 @@ fn take_image<S: PartSink, R: Read + Drop, P: Write>(
     report: &mut P,
 ) -> Result<(), EngineFault>
     requires waits { session.old.core.position ≢ Finished }
-    ensures ok { OnOk result (Takes S.holds S.refusals S.crashes R.remaining back
-        session.old session.new image number (P.contents report.old) (P.contents report.new)) }
+    ensures ok { OnOk result (Takes S.PartSink R.remaining back session.old session.new
+        image number (P.contents report.old) (P.contents report.new)) }
     ensures err { OnErr result (IsReported number (P.contents report.old) (P.contents report.new)) }
     ensures left { OnErr result (IfSeen S.PartSink session.old (λ old. IsKeptFor back old
         → LeavesStep S.holds S.refusals S.crashes back session.old old.parts session.new)) }
@@ -135,9 +135,8 @@ fn take_reel<S: PartSink, R: Read, P: Write>(
     report: &mut P,
 ) -> Result<(), EngineFault>
     requires waits { session.old.core.position ≢ Finished }
-    ensures ok { OnOk result (Takes S.holds S.refusals S.crashes R.remaining back
-        session.old session.new (Some device.old) number
-        (P.contents report.old) (P.contents report.new)) }
+    ensures ok { OnOk result (Takes S.PartSink R.remaining back session.old session.new
+        (Some device.old) number (P.contents report.old) (P.contents report.new)) }
     ensures err { OnErr result (IsReported number (P.contents report.old) (P.contents report.new)) }
     ensures left { OnErr result (IfSeen S.PartSink session.old (λ old. IsKeptFor back old
         → LeavesStep S.holds S.refusals S.crashes back session.old old.parts session.new)) }

@@ -5,7 +5,7 @@ use Rattle.tape_run.proofs.extract.again.read_rounds.Given as goal
 abbrev pub invariant-rounds : goal.invariant-rounds
 invariant-rounds g l = (rounds : List Round) × (l.lines ≡ length (turns_of rounds))
     × (l.lines + l.count ≤ 18446744073709551615)
-    × HasGone g.S.PartSink.holds g.S.PartSink.refusals g.S.PartSink.crashes
+    × HasGone g.S.PartSink
     l.count g.L.Shelf.gives g.R.Read.remaining
     l.fn.back l.fn.session l.session l.fn.images l.images (g.P.Write.contents l.fn.report)
     (g.P.Write.contents l.report) rounds

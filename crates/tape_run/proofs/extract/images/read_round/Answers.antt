@@ -29,7 +29,7 @@ returns-in_err-take_image-clause-err g c =
       few = few;
       lines = front_behind (c.args.lines + 1) _ _ _ turns more _ number lines part;
       follows = λ held was kept.
-          let (now, has, still, follows, lasts) = f held was kept in (
+          let (now, has, (still, follows, lasts)) = f held was kept in (
             c.loop-number.session.core,
             seen g.S.PartSink.refusals c.loop-number.session now,
             follows,
@@ -55,7 +55,7 @@ returns-in_default-clause-err g c =
           (g.P.Write.contents c.loop-number.report) (reel_lines (c.args.lines + 1) l))
           (sym (append-nil (map answer_of turns))) lines);
       follows = λ held was kept.
-          let (now, has, still, follows, lasts) = f held was kept in (
+          let (now, has, (still, follows, lasts)) = f held was kept in (
             c.loop-number.session.core,
             seen g.S.PartSink.refusals c.loop-number.session now,
             follows,
@@ -77,10 +77,11 @@ loop-number-init g c = (
   λ held was kept. (
     held,
     was,
-    kept,
-    (refl, refl),
-    last_same g.S.PartSink.refusals
-        g.S.PartSink.crashes c.args.session.now held,
+    (
+      kept,
+      (refl, refl),
+      last_same g.S.PartSink.refusals g.S.PartSink.crashes c.args.session.now held,
+    ),
   ),
 )
 
@@ -101,14 +102,16 @@ loop-number-preserved g c =
       line_behind (c.args.lines + 1) _ _ _ turns taken.turn _ number lines taken.line,
       λ zero. absurd (omega (arith, zero)),
       λ held was kept.
-          let (now, has, still, follows, lasts) = f held was kept in
-          let (next, has_next, then, one, last) = taken.follows now has still in (
+          let (now, has, (still, follows, lasts)) = f held was kept in
+          let (next, has_next, (then, one, last)) = taken.follows now has still in (
             next,
             has_next,
-            then,
-            follows_then c.args.back _ _ turns _ _ (taken.turn ∷ []) _ _ follows one,
-            last_then g.S.PartSink.refusals g.S.PartSink.crashes
-                c.args.session.now c.loop-number.session c.take_image.new.session held now next
-                lasts last,
+            (
+              then,
+              follows_then c.args.back _ _ turns _ _ (taken.turn ∷ []) _ _ follows one,
+              last_then g.S.PartSink.refusals g.S.PartSink.crashes
+                  c.args.session.now c.loop-number.session c.take_image.new.session held now next
+                  lasts last,
+            ),
           ),
     )

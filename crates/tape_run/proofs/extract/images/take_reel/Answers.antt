@@ -52,25 +52,27 @@ returns-clause-ok g c =
           let (behind, has_behind, (saved, lasts)) = c.in_ok-settle.ensures.ok now has still in (
             behind,
             has_behind,
-            kept_behind back doubtful mid (seen refusals c.settle.new.session behind) saved still,
             (
-              c.settle.new.session.core,
-              seen refusals c.settle.new.session behind,
-              record {
-                waits = c.requires.waits;
-                answers = c.in_ok-answer.ensures.answer;
-                reeled = noted back opened.had opened (seen refusals c.args.session.now held)
-                    mid (seen refusals c.settle.new.session behind)
-                    reeled saved;
-                place = refl;
-              },
-              (refl, refl),
+              kept_behind back doubtful mid (seen refusals c.settle.new.session behind) saved still,
+              (
+                c.settle.new.session.core,
+                seen refusals c.settle.new.session behind,
+                record {
+                  waits = c.requires.waits;
+                  answers = c.in_ok-answer.ensures.answer;
+                  reeled = noted back opened.had opened (seen refusals c.args.session.now held)
+                      mid (seen refusals c.settle.new.session behind)
+                      reeled saved;
+                  place = refl;
+                },
+                (refl, refl),
+              ),
+              last_then refusals g.S.PartSink.crashes c.args.session.now
+                  c.reel.new.self c.settle.new.session held now behind
+                  (last_stays refusals g.S.PartSink.crashes c.args.session.now c.reel.new.self
+                  held now c.in_ok-answer.ensures.notes front
+                  (c.reel.ensures.crash held was)) lasts,
             ),
-            last_then refusals g.S.PartSink.crashes c.args.session.now
-                c.reel.new.self c.settle.new.session held now behind
-                (last_stays refusals g.S.PartSink.crashes c.args.session.now c.reel.new.self
-                held now c.in_ok-answer.ensures.notes front
-                (c.reel.ensures.crash held was)) lasts,
           );
     }
 

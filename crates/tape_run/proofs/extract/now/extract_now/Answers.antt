@@ -1,7 +1,7 @@
 use Rattle.std.proofs.Common.{rules, ◌≡◌, Some, None, refl, sym, subst, ◌∙◌, inl, inr}
 use Rattle.tape_set.specs.Position.{want_at}
 use Rattle.tape_run.specs.OutSinks.{TellsAlways}
-use Rattle.tape_run.specs.ExtractingNow.{Takes, refused_by}
+use Rattle.tape_run.specs.ExtractingNow.{Takes}
 use Rattle.tape_run.proofs.Fitting.{on_err}
 use Rattle.tape_run.proofs.Extracted.{nothing_more, none_finished}
 use Rattle.tape_run.proofs.Now.{extracted_now, stops_reading_now, stops_at_end_now}
@@ -10,14 +10,14 @@ use Rattle.tape_run.proofs.extract.now.extract_now.Goals as goal
 pub returns-in_err-read_images-clause-err : goal.returns-in_err-read_images-clause-err
 returns-in_err-read_images-clause-err g c =
     on_err c.from_residual.result _
-    (stops_reading_now (Takes g.W.Write.contents) refused_by g.L.Shelf.size g.L.Shelf.gives
+    (stops_reading_now _ g.L.Shelf.size g.L.Shelf.gives
     g.R.Read.remaining c.args.session c.read_images.new.session _ _ c.args.form
     (TellsAlways g.W.Write.contents) g.O.Place.stands c.args.out.now _ _
     c.in_err-read_images.ensures.err)
 
 pub returns-in_err-end_report-clause-err : goal.returns-in_err-end_report-clause-err
 returns-in_err-end_report-clause-err g c =
-    on_err _ _ (stops_at_end_now (Takes g.W.Write.contents) refused_by g.L.Shelf.size
+    on_err _ _ (stops_at_end_now _ g.L.Shelf.size
     g.L.Shelf.gives
     g.R.Read.remaining
     c.args.session c.read_images.new.session _ _ c.args.form (TellsAlways g.W.Write.contents)
@@ -26,7 +26,7 @@ returns-in_err-end_report-clause-err g c =
 
 pub returns-in-Some-clause-ok : goal.returns-in-Some-clause-ok
 returns-in-Some-clause-ok g c =
-    extracted_now (Takes g.W.Write.contents) refused_by g.L.Shelf.size g.L.Shelf.gives
+    extracted_now _ g.L.Shelf.size g.L.Shelf.gives
     g.R.Read.remaining c.args.session
     c.read_images.new.session _ _ c.args.form (TellsAlways g.W.Write.contents) _ _ _ _
     (Some c.in-Some.want) 0
@@ -35,7 +35,7 @@ returns-in-Some-clause-ok g c =
 
 pub returns-in_err-written-clause-err : goal.returns-in_err-written-clause-err
 returns-in_err-written-clause-err g c =
-    on_err _ _ (stops_at_end_now (Takes g.W.Write.contents) refused_by g.L.Shelf.size
+    on_err _ _ (stops_at_end_now _ g.L.Shelf.size
     g.L.Shelf.gives
     g.R.Read.remaining
     c.args.session c.read_images.new.session _ _ c.args.form (TellsAlways g.W.Write.contents)
@@ -46,7 +46,7 @@ pub returns-in_err-place-clause-err : goal.returns-in_err-place-clause-err
 returns-in_err-place-clause-err g c =
     let mid = c.read_images.new.session in
     let none : None ≡ want_at mid.core.file mid.core.position = search rules in
-    on_err _ _ (stops_at_end_now (Takes g.W.Write.contents) refused_by g.L.Shelf.size
+    on_err _ _ (stops_at_end_now _ g.L.Shelf.size
     g.L.Shelf.gives
     g.R.Read.remaining
     c.args.session mid _ _ c.args.form (TellsAlways g.W.Write.contents)
@@ -61,7 +61,7 @@ pub returns-in_err-end_report-2-clause-err : goal.returns-in_err-end_report-2-cl
 returns-in_err-end_report-2-clause-err g c =
     let mid = c.read_images.new.session in
     let none : None ≡ want_at mid.core.file mid.core.position = search rules in
-    on_err _ _ (stops_at_end_now (Takes g.W.Write.contents) refused_by g.L.Shelf.size
+    on_err _ _ (stops_at_end_now _ g.L.Shelf.size
     g.L.Shelf.gives
     g.R.Read.remaining
     c.args.session mid _ _ c.args.form (TellsAlways g.W.Write.contents)
@@ -77,7 +77,7 @@ pub returns-clause-ok : goal.returns-clause-ok
 returns-clause-ok g c =
     let mid = c.read_images.new.session in
     let none : None ≡ want_at mid.core.file mid.core.position = search rules in
-    extracted_now (Takes g.W.Write.contents) refused_by g.L.Shelf.size g.L.Shelf.gives
+    extracted_now _ g.L.Shelf.size g.L.Shelf.gives
     g.R.Read.remaining c.args.session mid _ _
     c.args.form (TellsAlways g.W.Write.contents) _ _ _ _ None c.in_ok-written.records
     c.in_ok-read_images.ensures.ok none c.in_ok-end_report-2.ensures.ok
