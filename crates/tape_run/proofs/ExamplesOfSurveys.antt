@@ -105,7 +105,7 @@ cases_of_surveys = record {
   nothing_wanted = refl;
   not_mixed = refl;
   surveyed = λ y names shelf left old new all s.
-      (s.1.each, s.1.viewed, s.1.told, s.1.is_so, s.2);
+      (s.each, s.viewed, s.wrote, s.is_so);
   surveyed_in_part = λ y names shelf old new s. (s.few, s.viewed, s.wrote);
   left_there = λ law items n w h. law items n w h;
   ended_there = λ law items h. law items h;

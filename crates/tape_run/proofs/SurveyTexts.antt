@@ -283,18 +283,14 @@ pub surveyed : {L R : Type 0} (y : Wording) (gives : Mounting L R)
     (names : List (List ℕ)) (shelf left : L) (d : Found) (old w new : Option (List ℕ)) (all : Bool)
     → TellsAll y gives remaining names shelf left d old w → all ≡ is_all d
     → Appends w new (summary y d) → Surveys y gives remaining names shelf left old new all
-surveyed y gives remaining names shelf left d old w new all s is wrote = (
-  image_texts y names s.sights ++ summary y d,
-  record {
-    sights = s.sights;
-    found = d;
-    each = s.each;
-    viewed = s.viewed;
-    told = refl;
-    is_so = is;
-  },
-  Appends-trans old w new (image_texts y names s.sights) (summary y d) s.wrote wrote,
-)
+surveyed y gives remaining names shelf left d old w new all s is wrote = record {
+  sights = s.sights;
+  found = d;
+  each = s.each;
+  viewed = s.viewed;
+  wrote = Appends-trans old w new (image_texts y names s.sights) (summary y d) s.wrote wrote;
+  is_so = is;
+}
 
 -- a front of that was written
 pub surveyed_in_part : {L R : Type 0} (y : Wording) (gives : Mounting L R)

@@ -217,10 +217,10 @@ pub record CasesOfSurveys : Type 0 where
   -- the survey that is written is that of the images viewed, each of them in its place
   pub surveyed : (y : Wording) (names : List (List ℕ)) (shelf left : Readers) (old new : Known)
       (all : Bool) (s : Surveys y Took (λ r. r) names shelf left old new all)
-      → (length s.1.sights ≡ length names)
-      × AreViewed Took (λ r. r) shelf 0 s.1.sights nothing_found left s.1.found
-      × (s.0 ≡ image_texts y names s.1.sights ++ summary y s.1.found) × (all ≡ is_all s.1.found)
-      × Appends old new s.0
+      → (length s.sights ≡ length names)
+      × AreViewed Took (λ r. r) shelf 0 s.sights nothing_found left s.found
+      × Appends old new (image_texts y names s.sights ++ summary y s.found)
+      × (all ≡ is_all s.found)
   -- at a fault a front of it is, of the first images, with the summary behind the last one
   pub surveyed_in_part : (y : Wording) (names : List (List ℕ)) (shelf : Readers) (old new : Known)
       (s : SurveysInPart y Took (λ r. r) names shelf old new)

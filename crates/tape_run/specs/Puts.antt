@@ -46,13 +46,6 @@ refused_point before after part begun =
     if part == part_of before.position then before
     else inside_block after before.position part begun 0
 
--- The parts of the block from the first on were put, whatever it holds as what is known says.
-abbrev pub PutsBlock : (List Portion → Type 0) → (List Portion → Type 0) → ℕ → List ℕ
-    → Option FileForm → Type 0
-PutsBlock old new first content known = (held parts : List Portion) (k : FileForm) → known ≡ Some k
-    → Holds k.format k.rec_len k.offset content parts
-    → old held → new (held ++ drop first parts)
-
 -- The parts before the n-th were put, and the core went back from behind the block to this part.
 pub record PutUpTo (new : List Portion → Type 0) (before : Point) (held parts : List Portion)
     (behind place : State) : Type 0 where
@@ -62,10 +55,3 @@ pub record PutUpTo (new : List Portion → Type 0) (before : Point) (held parts 
   pub held_now : new (held ++ drop (part_of before.position) (take n parts))
   pub back : place ≡ place_of (refused_point before (saved behind 0) n (begun_behind before.begun
       (drop (part_of before.position) (take n parts))))
-
--- The same where a part was refused.
-abbrev pub PutsFront : (List Portion → Type 0) → (List Portion → Type 0) → Point → List ℕ → State
-    → State → Type 0
-PutsFront old new before content behind place = (held parts : List Portion) (k : FileForm)
-    → behind.known ≡ Some k → Holds k.format k.rec_len k.offset content parts
-    → old held → PutUpTo new before held parts behind place

@@ -80,16 +80,12 @@ abbrev pub AreTurns : {L R : Type 0} → Mounting L R → (R → Option (List �
     → Type 0
 AreTurns gives remaining = AreMounted gives (IsTurn remaining)
 
--- The image with this number may have been mounted; no other was.
-abbrev pub MayMount : {L R : Type 0} → Mounting L R → L → ℕ → L → Type 0
-MayMount gives shelf number last = (last ≡ shelf)
-    ⊎ ((image : Option _) × gives shelf number image last)
-
--- The first images of a shelf are these turns. The one behind them may have been mounted.
+-- The first images of a shelf are these turns, and no other but the next may have been mounted.
 abbrev pub AreFirstTurns : {L R : Type 0} → Mounting L R → (R → Option (List ℕ)) → L → List Turn → L
     → Type 0
 AreFirstTurns gives remaining shelf turns last = (mid : _)
-    × AreTurns gives remaining shelf 0 turns mid × MayMount gives mid (length turns) last
+    × AreTurns gives remaining shelf 0 turns mid
+    × ((last ≡ mid) ⊎ ((image : Option _) × gives mid (length turns) image last))
 
 -- whether the trailer label of a reel counted other blocks, or that of one before it did
 abbrev pub is_doubtful : Answer → Bool

@@ -39,23 +39,18 @@ pub record TellsAll {L R : Type 0} (y : Wording) (gives : Mounting L R)
   pub viewed : AreViewed gives remaining shelf 0 sights nothing_found left d
   pub wrote : Appends old new (image_texts y names sights)
 
--- The text is the survey of the images of a shelf that have these names, one after another, and it
--- tells so whether nothing lacks and nothing is left over. Behind the images this was found.
-pub record IsSurvey {L R : Type 0} (y : Wording) (gives : Mounting L R)
+-- The survey of the images of a shelf that have these names, one after another, was written, and it
+-- is told so whether nothing lacks and nothing is left over. Behind the images this was found.
+pub record Surveys {L R : Type 0} (y : Wording) (gives : Mounting L R)
     (remaining : R → Option (List ℕ))
-    (names : List (List ℕ)) (shelf left : L) (text : List ℕ) (all : Bool) : Type 0 where
+    (names : List (List ℕ)) (shelf left : L) (old new : Option (List ℕ)) (all : Bool)
+    : Type 0 where
   pub sights : List (Option Sight)
   pub found : Found
   pub each : length sights ≡ length names
   pub viewed : AreViewed gives remaining shelf 0 sights nothing_found left found
-  pub told : text ≡ image_texts y names sights ++ summary y found
+  pub wrote : Appends old new (image_texts y names sights ++ summary y found)
   pub is_so : all ≡ is_all found
-
--- the survey was written
-abbrev pub Surveys : {L R : Type 0} → Wording → Mounting L R → (R → Option (List ℕ))
-    → List (List ℕ) → L → L → Option (List ℕ) → Option (List ℕ) → Bool → Type 0
-Surveys y gives remaining names shelf left old new all = (text : List ℕ)
-    × IsSurvey y gives remaining names shelf left text all × Appends old new text
 
 -- the summary follows where there are as many as that
 abbrev pub summary_at : Wording → Bool → Found → List ℕ

@@ -56,12 +56,6 @@ pub record ViewsItems (before after : Option (List ℕ)) (sections : List Told) 
   pub noted : told ≡ noted_all sections (met_in items)
   pub named : filed ≡ filed_in files items
 
--- the same of what was found
-pub record Views (before after : Option (List ℕ)) (old : Found) (sight : Sight) (new : Found) :
-    Type 0 where
-  pub viewed : ViewsItems before after old.sections old.files sight new.sections new.files
-  pub same : new.whole ≡ old.whole
-
 -- An image was read, and nothing is left over on it where it is whole; or it was not opened.
 abbrev pub IsViewed : Reel → Option Sight → Found → Found → Type 0
 IsViewed None None c d = d ≡ record c { whole = false }

@@ -59,11 +59,6 @@ ReadsItems given old new held now = (set : FileSet) (p : Position) (xs : List Ta
     → IsPlaced set (rest_of old) held → is_under old set p xs 0 h
     → ReadBy set (rest_of new).file p h (rest_of new) now
 
--- Of whatever items the bytes given begin with, the core took what the table gives.
-abbrev pub TakesTable : List ℕ → State → State → List Portion → List Portion → Type 0
-TakesTable given old new held now = (xs : List TapeItem) (end : ℕ) (stop : Stop)
-    → Begins 0 given xs end stop → IsLed xs old new held now
-
 -- Of an image that a reader gave, all mounts were read to their end, and whatever it is, what the
 -- table gives was taken.
 pub record ReadsImage (failed : Bool) (old new : State) (held now : List Portion) (bytes : List ℕ)
@@ -71,7 +66,8 @@ pub record ReadsImage (failed : Bool) (old new : State) (held now : List Portion
   pub given : List ℕ
   pub is_given : IsGiven failed bytes given
   pub reads : ReadsItems given old new held now
-  pub table : TakesTable given old (rest_of new) held now
+  pub table : (xs : List TapeItem) (end : ℕ) (stop : Stop) → Begins 0 given xs end stop
+      → IsLed xs old (rest_of new) held now
 
 -- A part of a block of the image was refused.
 abbrev pub RefusesImage : State → State → List Portion → List Portion → List ℕ → Type 0

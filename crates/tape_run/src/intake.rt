@@ -8,6 +8,7 @@ ghost use Rattle.tape_image.specs.Tape.{block, TapeItem};
 ghost use Rattle.tape_blocks.specs.Block.{Portion, Holds};
 ghost use Rattle.tape_blocks.specs.Spans.{InOrder};
 ghost use Rattle.tape_blocks.specs.Packing.{longest_block};
+ghost use Rattle.tape_set.specs.Lawful.{FileForm};
 ghost use Rattle.tape_set.specs.Position.{part_of};
 ghost use Rattle.tape_core.specs.Follows.{IsFinal};
 ghost use Rattle.tape_core.specs.Known.{is_finished};
@@ -18,8 +19,7 @@ ghost use Rattle.tape_core.specs.Weight.{IsFront, Rose};
 ghost use Rattle.tape_run.specs.Crash.{BringsNoMore};
 ghost use Rattle.tape_run.specs.ByTable.{parts_of_arrival, StopsInside};
 ghost use Rattle.tape_run.specs.Given.{is_device};
-ghost use Rattle.tape_run.specs.Puts.{IsSized, IsChecked, refused_point, PutsBlock, PutsFront};
-ghost use Rattle.tape_run.specs.Puts.{PutsFew};
+ghost use Rattle.tape_run.specs.Puts.{IsSized, IsChecked, refused_point, PutUpTo, PutsFew};
 ghost use Rattle.tape_run.specs.Reels.{ReadsReel, ReadsToBlock, IsDelivery, GoesOn, delivered_by};
 ghost use Rattle.tape_run.specs.Taking.{TakesItem, RefusesItem, ReadsImage, RefusesImage};
 ghost use Rattle.tape_run.specs.Taking.{CutsTable, came_of, fault_of};
@@ -228,11 +228,15 @@ impl<S: PartSink> Intake<S> {
         requires same_set { before.now.set_id ≡ self.old.core.set_id }
         requires same_file { before.now.file ≡ self.old.core.file }
         requires waits { is_finished before.now.position ≡ false }
-        ensures ok { OnOk result (PutsBlock (S.holds self.old.sink) (S.holds self.new.sink)
-            (part_of before.now.position) content.now self.old.core.known) }
+        ensures ok { OnOk result ((held parts : List Portion) (k : FileForm)
+            → self.old.core.known ≡ Some k → Holds k.format k.rec_len k.offset content.now parts
+            → S.holds self.old.sink held
+            → S.holds self.new.sink (held ++ drop (part_of before.now.position) parts)) }
         ensures kept { OnOk result (self.new.core ≡ self.old.core) }
-        ensures err { OnErr result (PutsFront (S.holds self.old.sink) (S.holds self.new.sink)
-            before.now content.now (rest_of self.old.core) (rest_of self.new.core)) }
+        ensures err { OnErr result ((held parts : List Portion) (k : FileForm)
+            → self.old.core.known ≡ Some k → Holds k.format k.rec_len k.offset content.now parts
+            → S.holds self.old.sink held → PutUpTo (S.holds self.new.sink) before.now held parts
+            (rest_of self.old.core) (rest_of self.new.core)) }
         ensures file { self.new.core.file ≡ self.old.core.file }
         ensures set_id { self.new.core.set_id ≡ self.old.core.set_id }
         ensures cause { OnErr result (Rose (S.refusals self.old.sink) (S.refusals self.new.sink)) }

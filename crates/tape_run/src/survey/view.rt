@@ -6,7 +6,7 @@ ghost use Rattle.tape_set.specs.Lawful.{most_blocks};
 ghost use Rattle.tape_run.specs.Noted.{noted_all};
 ghost use Rattle.tape_run.specs.Passing.{step, in_list, under_way, blocks_of};
 ghost use Rattle.tape_run.specs.declared.fault.RunFault.TheVariants as faults;
-ghost use Rattle.tape_run.specs.SurveyRead.{Views, ViewsItems, IsViewed, is_whole_sight};
+ghost use Rattle.tape_run.specs.SurveyRead.{ViewsItems, IsViewed, is_whole_sight};
 ghost use Rattle.tape_run.specs.SurveyRead.{nothing_found, is_ended, is_none, is_end};
 
 use super::course::Course;
@@ -126,8 +126,10 @@ impl Findings {
     /// The same of one that was opened, whatever is left over on it.
     fn read_items<R: Read>(&mut self, reader: &mut R) -> Result<Sight, RunFault>
         ensures fault { IsOkUnless result faults.OutOfMemory }
-        ensures ok { IfOk result (λ sight. Views (R.remaining reader.old) (R.remaining reader.new)
-            self.old sight self.new) }
+        ensures ok { IfOk result (λ sight. ViewsItems (R.remaining reader.old)
+            (R.remaining reader.new) self.old.sections self.old.files sight self.new.sections
+            self.new.files) }
+        ensures same { OnOk result (self.new.whole ≡ self.old.whole) }
     {
         let Ok(mut image) = ImageReader::new(self.alloc, reader) else {
             return Err(RunFault::OutOfMemory);
