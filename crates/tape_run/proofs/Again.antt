@@ -71,10 +71,11 @@ extracted_again {S} {L} {R} gs size gives remaining old mid new
           let start = seen gs.refusals old held in
           let g = subst (λ c. Follows (goes_back old.notes) c (seen gs.refusals t.mid before)
           t.last.turns mid.core (seen gs.refusals mid now)) t.gone.at one in (
-            ended gs.holds gs.refusals mid old.core start (turns_of t.rounds ++ t.last.turns) form out
-                written between says want now e has_now
+            ended gs.holds gs.refusals mid old.core start (turns_of t.rounds ++ t.last.turns) form
+                out written between says want now e has_now
                 (in_a_row (goes_back old.notes) old.core start t.rounds
-                (seen gs.refusals t.mid before) t.last.turns mid.core (seen gs.refusals mid now) f g),
+                (seen gs.refusals t.mid before) t.last.turns mid.core
+                (seen gs.refusals mid now) f g),
             (seen gs.refusals t.mid before, f, g),
             stood_walked gs.holds gs.refusals gs.crashes old mid new held now has_now
                 (last_then gs.refusals gs.crashes old t.mid mid held before now first last)
@@ -82,7 +83,8 @@ extracted_again {S} {L} {R} gs size gives remaining old mid new
           );
     }
 
-pub stops_in_round : {S L R W : Type 0} (gs : Ghosts S) (size : L → ℕ) (gives : Mounting L R) (remaining : R → Option (List ℕ))
+pub stops_in_round : {S L R W : Type 0} (gs : Ghosts S) (size : L → ℕ)
+    (gives : Mounting L R) (remaining : R → Option (List ℕ))
     (old new : Story S) (shelf left : L) (form : Form) (contents : W → Option (List ℕ))
     (out : W) (said says : Option (List ℕ)) (back : Bool) → back ≡ goes_back old.notes
     → StopsInRound gs (size shelf) gives remaining back old new shelf

@@ -82,13 +82,14 @@ extracted {S} {L} {R} gs size gives remaining old mid new shelf
       lines = Appends-trans said between says _ _ t.lines e.line;
       ends = λ held was kept.
           let (now, has, (still, f, last)) = t.follows held was kept in (
-            ended gs.holds gs.refusals mid old.core (seen gs.refusals old held) t.turns form out written
-                between says want now e has f,
+            ended gs.holds gs.refusals mid old.core (seen gs.refusals old held) t.turns form out
+                written between says want now e has f,
             stood_walked gs.holds gs.refusals gs.crashes old mid new held now has last walked calm,
           );
     }
 
-pub stops_reading : {S L R W : Type 0} (gs : Ghosts S) (size : L → ℕ) (gives : Mounting L R) (remaining : R → Option (List ℕ))
+pub stops_reading : {S L R W : Type 0} (gs : Ghosts S) (size : L → ℕ)
+    (gives : Mounting L R) (remaining : R → Option (List ℕ))
     (old new : Story S) (shelf left : L) (form : Form) (contents : W → Option (List ℕ))
     (out : W) (said says : Option (List ℕ)) (back : Bool) → back ≡ goes_back old.notes
     → StopsReading gs (size shelf) 0 gives remaining back old new shelf

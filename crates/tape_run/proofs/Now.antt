@@ -27,8 +27,8 @@ pub extracted_now : {S L R : Type 0} (gs : Ghosts S)
     left said between
     → want ≡ want_at mid.core.file mid.core.position → Appends between says (last_line want records)
     → ((held : List Portion) → gs.holds mid.sink held → IsPut want tells records form stands held)
-    → ExtractsNow gs.holds gs.refusals size gives remaining old shelf left form tells stands said says
-    want
+    → ExtractsNow gs.holds gs.refusals size gives remaining old shelf left form tells stands said
+    says want
 extracted_now {S} {L} {R} gs size gives remaining old mid shelf
     left form tells stands said between
     says want records t is last wrote = record {
@@ -52,13 +52,14 @@ extracted_now {S} {L} {R} gs size gives remaining old mid shelf
           };
     }
 
-pub stops_reading_now : {S L R O : Type 0} (gs : Ghosts S) (size : L → ℕ) (gives : Mounting L R) (remaining : R → Option (List ℕ))
+pub stops_reading_now : {S L R O : Type 0} (gs : Ghosts S) (size : L → ℕ)
+    (gives : Mounting L R) (remaining : R → Option (List ℕ))
     (old new : Story S) (shelf left : L) (form : Form) (tells : Type 0)
     (stands : O → Option (List ℕ)) (out : O) (said says : Option (List ℕ))
     → StopsReading gs (size shelf) 0 gives remaining false old new
     shelf left said says
-    → StopsNow gs.holds gs.refusals size gives remaining old shelf left form tells stands out out said
-    says
+    → StopsNow gs.holds gs.refusals size gives remaining old shelf left form tells stands out out
+    said says
 stops_reading_now {S} {L} {R} {O} gs size gives remaining old new
     shelf left form tells stands out said says s =
     record {
@@ -85,8 +86,8 @@ pub stops_at_end_now : {S L R O : Type 0} (gs : Ghosts S)
     → ((held : List Portion) → gs.holds mid.sink held → (put ≡ out) ⊎ ((mid.core.position
     ≡ Finished) × ((stands put ≡ stands out)
     ⊎ (tells → stands put ≡ Some (output_of form held)))))
-    → StopsNow gs.holds gs.refusals size gives remaining old shelf left form tells stands out put said
-    says
+    → StopsNow gs.holds gs.refusals size gives remaining old shelf left form tells stands out put
+    said says
 stops_at_end_now {S} {L} {R} {O} gs size gives remaining old mid
     shelf left form tells stands out put
     said between says want records t last wrote = record {

@@ -71,8 +71,8 @@ returns-in-Ok-read-clause-ok g c =
       has,
       (
         front,
-        (λ k. kept_place p (rest_of c.read-read.new.self.core) [] c.self.inside.notes.items now set_id
-            file (kept_grow p [] c.self.inside.notes.items held now front k)),
+        (λ k. kept_place p (rest_of c.read-read.new.self.core) [] c.self.inside.notes.items now
+            set_id file (kept_grow p [] c.self.inside.notes.items held now front k)),
         some_at _ c.over-image.result.left _ _ c.over-image.ensures.unread
             (λ bytes r. reeled (is_device c.in-Ok-read.answer.fault)
             c.mount.new.self
@@ -111,8 +111,8 @@ returns-in-Err-clause-err g c =
       has,
       (
         front,
-        (λ k. kept_place p (rest_of c.read-read.new.self.core) [] c.self.inside.notes.items now set_id
-            file (kept_grow p [] c.self.inside.notes.items held now front k)),
+        (λ k. kept_place p (rest_of c.read-read.new.self.core) [] c.self.inside.notes.items now
+            set_id file (kept_grow p [] c.self.inside.notes.items held now front k)),
         some_at _ c.over-image.result.left _ _ c.over-image.ensures.unread
             (λ bytes (r, t). cut_short c.mount.new.self c.read-read.new.self.core
             held now
