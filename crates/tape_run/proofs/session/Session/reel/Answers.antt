@@ -1,12 +1,11 @@
-use Rattle.std.proofs.Common.{List, IfSome, [], sym, ap, subst, ◌∙◌, refl}
+use Rattle.std.proofs.Common.{IfSome, [], sym, ap, subst, ◌∙◌, refl}
 use Rattle.std.specs.Prelude.{is_some}
-use Rattle.tape_blocks.specs.Block.{Portion}
 use Rattle.tape_core.specs.State.{State}
 use Rattle.tape_core.specs.Place.{rest_of}
 use Rattle.tape_core.specs.Weight.{IsFront}
 use Rattle.tape_run.specs.Given.{is_device, counted}
 use Rattle.tape_run.specs.Story.{Story}
-use Rattle.tape_run.specs.Seen.{seen, IsKept}
+use Rattle.tape_run.specs.Seen.{seen, IsKept, IfSeen, IsSeen}
 use Rattle.tape_run.specs.Steps.{Reeled, ReelFails}
 use Rattle.tape_run.specs.declared.fault.RunFault.TheVariants.{Sink}
 use Rattle.tape_run.proofs.Sessions.{some_at, some_both, some_all, want_none, not_read, reeled}
@@ -27,11 +26,10 @@ returns-then-is_none-clause-ok g c =
       notes = c.self.inside.notes.items;
       failures = c.self.inside.failures;
     } in
-    subst (λ z. (held : List Portion) → g.S.PartSink.holds z.sink held
-    → (now : List Portion) × g.S.PartSink.holds z.sink now × (IsFront held now × (IsKept (seen
-    refusals z held)
-    → IsKept (seen refusals z now)) × IfSome (g.R.Read.remaining c.args.device.now) (λ bytes.
-    Reeled bytes (is_device c.new.result.fault) (seen refusals z held) (seen refusals z now))))
+    subst (λ z. IfSeen g.S.PartSink z (λ old. IsSeen g.S.PartSink z (λ new.
+    IsFront old.parts new.parts × (IsKept old → IsKept new)
+    × IfSome (g.R.Read.remaining c.args.device.now)
+    (λ bytes. Reeled bytes (is_device c.new.result.fault) old new))))
     c.self.view_is (λ held was.
     let finished = want_none _ (rest_of c.self.inside.intake.core).position c.is_none.result
     (ap is_some (sym c.want.ensures.value) ∙ c.is_none.ensures) c.if-is_none.true in (
@@ -48,7 +46,6 @@ returns-then-is_none-clause-ok g c =
 
 pub returns-in-Ok-read-clause-ok : goal.returns-in-Ok-read-clause-ok
 returns-in-Ok-read-clause-ok g c =
-    let refusals = g.S.PartSink.refusals in
     let new : Story _ =
     record {
       core = c.read-read.new.self.core;
@@ -56,11 +53,10 @@ returns-in-Ok-read-clause-ok g c =
       notes = c.self.inside.notes.items;
       failures = c.counted-self-inside.result;
     } in
-    subst (λ z. (held : List Portion) → g.S.PartSink.holds z.sink held → (now : List Portion)
-    × g.S.PartSink.holds new.sink now × (IsFront held now × (IsKept (seen refusals z held)
-    → IsKept (seen refusals new now)) × IfSome (g.R.Read.remaining c.args.device.now) (λ bytes.
-    Reeled bytes
-    (is_device c.in-Ok-read.answer.fault) (seen refusals z held) (seen refusals new now))))
+    subst (λ z. IfSeen g.S.PartSink z (λ old. IsSeen g.S.PartSink new (λ is.
+    IsFront old.parts is.parts × (IsKept old → IsKept is)
+    × IfSome (g.R.Read.remaining c.args.device.now)
+    (λ bytes. Reeled bytes (is_device c.in-Ok-read.answer.fault) old is))))
     c.self.view_is (λ held was.
     let p = rest_of c.self.inside.intake.core in
     let end = c.in-Ok-read.ensures in
@@ -88,7 +84,6 @@ returns-in-Ok-read-clause-ok g c =
 
 pub returns-in-Err-clause-err : goal.returns-in-Err-clause-err
 returns-in-Err-clause-err g c =
-    let refusals = g.S.PartSink.refusals in
     let new : Story _ =
     record {
       core = c.read-read.new.self.core;
@@ -96,11 +91,10 @@ returns-in-Err-clause-err g c =
       notes = c.self.inside.notes.items;
       failures = c.self.inside.failures;
     } in
-    subst (λ z. (held : List Portion) → g.S.PartSink.holds z.sink held
-    → (now : List Portion) × g.S.PartSink.holds new.sink now × (IsFront held now × (IsKept (seen
-    refusals z held)
-    → IsKept (seen refusals new now)) × IfSome (g.R.Read.remaining c.args.device.now) (λ bytes.
-    ReelFails bytes (Sink c.in-Err.cause) (seen refusals z held) (seen refusals new now))))
+    subst (λ z. IfSeen g.S.PartSink z (λ old. IsSeen g.S.PartSink new (λ is.
+    IsFront old.parts is.parts × (IsKept old → IsKept is)
+    × IfSome (g.R.Read.remaining c.args.device.now)
+    (λ bytes. ReelFails bytes (Sink c.in-Err.cause) old is))))
     c.self.view_is (λ held was.
     let p = rest_of c.self.inside.intake.core in
     let end = c.in-Err.ensures in
