@@ -21,13 +21,13 @@ use Rattle.tape_image.proofs.Uniqueness.{Begins-one}
 use Rattle.tape_image.proofs.Walks.{Walks-nil, TakesEnd-behind, TakesFault-behind}
 use Rattle.tape_image.proofs.Walks.{TakesFault-begins, TakesFault-device, known_then, known_all}
 use Rattle.tape_image.proofs.Walks.{known_same}
-use Rattle.tape_set.specs.Layout.{FileSet, items}
+use Rattle.tape_set.specs.Layout.{FileSet}
 use Rattle.tape_set.specs.Lawful.{IsLawful}
 use Rattle.tape_set.specs.declared.position.Position.{Position}
 use Rattle.tape_core.specs.declared.event.Answer.{Answer}
 use Rattle.tape_core.specs.State.{State}
 use Rattle.tape_core.specs.Place.{IsPlaced}
-use Rattle.tape_run.specs.Mount.{Happening, reads, IsMount, cut}
+use Rattle.tape_run.specs.Mount.{Happening, IsMount, cut}
 use Rattle.tape_run.specs.Mount.{after_mount}
 use Rattle.tape_core.specs.Follows.{IsFinal}
 use Rattle.tape_run.specs.Under.{is_under}

@@ -5,9 +5,7 @@ use Rattle.std.proofs.Common.{subst, inr, ◌<◌, arith, append-nil, ◌++◌, 
 use Rattle.std.proofs.lemmas.List.{append_assoc, take-append-drop}
 use Rattle.std.specs.List.{slice_get}
 use Rattle.std.proofs.lemmas.List.{drop_all}
-use Rattle.tape_blocks.specs.Block.{Portion}
 use Rattle.tape_core.specs.Crash.{AddsNothing, Crashes}
-use Rattle.tape_core.specs.Point.{Point}
 use Rattle.tape_core.specs.Weight.{IsFront}
 use Rattle.tape_run.specs.Crash.{LastAlone}
 use Rattle.tape_run.specs.declared.fault.RunFault.{RunFault}

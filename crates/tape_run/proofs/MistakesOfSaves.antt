@@ -1,6 +1,6 @@
 -- Answers that the contracts of a session exclude where it saves, where it is complete and where a
 -- trailer counts other blocks: each is what a wrong body would give.
-use Rattle.std.proofs.Common.{Bool, ◌≡◌, inl, inr, ℕ, List, [], ◌∷◌, ◌++◌, length, false, refl}
+use Rattle.std.proofs.Common.{Bool, ◌≡◌, ℕ, List, [], ◌∷◌, ◌++◌, length, false, refl}
 use Rattle.std.proofs.Common.{sym, ap, ◌∙◌, ◌+◌, subst, arith, length-append}
 use Rattle.std.specs.Prelude.{Option, Some, None, Ok, Err, IfSome, map, slice_get}
 use Rattle.tape_blocks.specs.Block.{Portion}

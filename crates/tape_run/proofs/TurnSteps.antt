@@ -1,8 +1,8 @@
 -- What was done with images is a run of steps.
 use Rattle.std.proofs.Common.{◌≡◌, Bool, ℕ, suc, ◌+◌, List, [], ◌∷◌, ◌++◌}
 use Rattle.std.proofs.Common.{length, map, Some, None, IfSome, refl, sym}
-use Rattle.std.proofs.Common.{ap, subst, ◌∙◌, arith, true, false, inl}
-use Rattle.std.proofs.Common.{Ok, length-append}
+use Rattle.std.proofs.Common.{ap, subst, ◌∙◌, arith, true, false}
+use Rattle.std.proofs.Common.{length-append}
 use Rattle.tape_core.specs.State.{State}
 use Rattle.tape_run.specs.Given.{is_device}
 use Rattle.tape_run.specs.Seen.{Seen}

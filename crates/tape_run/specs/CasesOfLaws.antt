@@ -1,7 +1,7 @@
 -- What a caller draws from each law, so that none has a premise that nothing meets. The call
 -- `laws::cases` has them as its contract.
 use Rattle.std.specs.Prelude.{◌≡◌, ℕ, true, false, List, [], ◌∷◌, ◌++◌, length, map, Option, Some}
-use Rattle.std.specs.Prelude.{None, IsSome, Bool, Err}
+use Rattle.std.specs.Prelude.{None, IsSome, Bool}
 use Rattle.std.specs.List.{AllByRecursion}
 use Rattle.tape_image.specs.Tape.{TapeItem}
 use Rattle.tape_blocks.specs.Block.{Portion}

@@ -3,7 +3,6 @@ use Rattle.std.specs.Prelude.{◌≡◌, ◌≢◌, ◌⊎◌, ℕ, Bool, true, 
 use Rattle.tape_blocks.specs.Block.{Portion}
 use Rattle.tape_blocks.specs.declared.parts.Form.{Form}
 use Rattle.tape_core.specs.Weight.{Rose}
-use Rattle.tape_core.specs.declared.sink.SinkFault.{SinkFault}
 use Rattle.tape_core.specs.declared.sink.SinkFault.TheVariants.{Failed}
 use Rattle.tape_run.specs.declared.fault.EngineFault.{EngineFault}
 use Rattle.tape_run.specs.declared.fault.EngineFault.TheVariants.{Run, WriteFailed}

@@ -1,9 +1,9 @@
 -- Answers that the contracts of what is kept of sections exclude: each is what a wrong body would
 -- give.
-use Rattle.std.proofs.Common.{◌≡◌, ℕ, ◌<◌, sym, ap, subst, ◌∙◌, arith}
-use Rattle.std.specs.Prelude.{not, ◌&&◌, if◌then◌else◌, Ok, Option, Some, None}
+use Rattle.std.proofs.Common.{◌≡◌, ◌<◌, sym, ap, ◌∙◌, arith}
+use Rattle.std.specs.Prelude.{not, ◌&&◌, if◌then◌else◌, Ok, Some, None}
 use Rattle.indexmap.specs.IndexMap.{spare}
-use Rattle.tape_run.specs.Passing.{Told, cut, under_way}
+use Rattle.tape_run.specs.Passing.{cut, under_way}
 use Rattle.tape_run.specs.declared.passing.Phase.TheVariants.{Data}
 use Rattle.tape_run.specs.declared.section.Entry.{Entry}
 use Rattle.tape_run.specs.declared.section.SectionState.{SectionState}

@@ -1,4 +1,4 @@
-use Rattle.std.proofs.Common.{◌≡◌, List}
+use Rattle.std.proofs.Common.{List}
 use Rattle.tape_blocks.specs.Block.{Portion}
 use Rattle.tape_run.proofs.Streams.{Counted}
 use Rattle.tape_run.proofs.Walked.{Walked}

@@ -1,7 +1,3 @@
-use Rattle.std.proofs.Common.{◌≡◌, true, sym, subst}
-use Rattle.tape_run.specs.Crash.{LeavesStep}
-use Rattle.tape_run.specs.Reeling.{IsKeptFor}
-use Rattle.tape_run.specs.Seen.{seen}
 use Rattle.tape_run.proofs.Fitting.{on_err_map}
 use Rattle.tape_run.proofs.extract.images.settle.Goals as goal
 
