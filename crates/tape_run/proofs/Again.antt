@@ -40,8 +40,8 @@ pub extracted_again : {S L R : Type 0} (gs : Ghosts S)
     (back : Bool) → back ≡ goes_back old.notes
     → TakesRounds gs (size shelf) gives remaining back old mid shelf
     left said between
-    → EndsFile gs.holds mid form out written between says want
-    → IsWalked gs.holds gs.crashes mid new → gs.refusals new.sink ≡ gs.refusals mid.sink
+    → EndsFile gs mid form out written between says want
+    → IsWalked gs mid new → gs.refusals new.sink ≡ gs.refusals mid.sink
     → ExtractsAgain gs size gives remaining old new shelf left form out
     written said says want
 extracted_again {S} {L} {R} gs size gives remaining old mid new
@@ -68,17 +68,17 @@ extracted_again {S} {L} {R} gs size gives remaining old mid new
       ends = λ held was kept.
           let (before, has, (still, f, first)) = t.gone.follows held was kept in
           let (now, has_now, (then, one, last)) = t.last.follows before has still in
-          let start = seen gs.refusals old held in
-          let g = subst (λ c. Follows (goes_back old.notes) c (seen gs.refusals t.mid before)
-          t.last.turns mid.core (seen gs.refusals mid now)) t.gone.at one in (
-            ended gs.holds gs.refusals mid old.core start (turns_of t.rounds ++ t.last.turns) form
+          let start = seen gs old held in
+          let g = subst (λ c. Follows (goes_back old.notes) c (seen gs t.mid before)
+          t.last.turns mid.core (seen gs mid now)) t.gone.at one in (
+            ended gs mid old.core start (turns_of t.rounds ++ t.last.turns) form
                 out written between says want now e has_now
                 (in_a_row (goes_back old.notes) old.core start t.rounds
-                (seen gs.refusals t.mid before) t.last.turns mid.core
-                (seen gs.refusals mid now) f g),
-            (seen gs.refusals t.mid before, f, g),
-            stood_walked gs.holds gs.refusals gs.crashes old mid new held now has_now
-                (last_then gs.refusals gs.crashes old t.mid mid held before now first last)
+                (seen gs t.mid before) t.last.turns mid.core
+                (seen gs mid now) f g),
+            (seen gs t.mid before, f, g),
+            stood_walked gs old mid new held now has_now
+                (last_then gs old t.mid mid held before now first last)
                 walked calm,
           );
     }
@@ -116,12 +116,12 @@ stops_in_round {S} {L} {R} {W} gs size gives remaining old new
             core,
             now,
             (
-              seen gs.refusals s.mid mid,
+              seen gs s.mid mid,
               f,
-              subst (λ c. Follows (goes_back old.notes) c (seen gs.refusals s.mid mid) s.last.turns
+              subst (λ c. Follows (goes_back old.notes) c (seen gs s.mid mid) s.last.turns
                   core now) s.gone.at one,
             ),
-            left_behind gs.holds gs.refusals gs.crashes old s.mid new held mid now before leaves,
+            left_behind gs old s.mid new held mid now before leaves,
             inl refl,
           );
     }
@@ -133,8 +133,8 @@ pub stops_at_end_again : {S L R W : Type 0} (gs : Ghosts S)
     (back : Bool) → back ≡ goes_back old.notes
     → TakesRounds gs (size shelf) gives remaining back old new shelf
     left said between
-    → IsWalked gs.holds gs.crashes new end
-    → StopsAtEnd gs.holds new form contents out written between says
+    → IsWalked gs new end
+    → StopsAtEnd gs new form contents out written between says
     → StopsAgain gs size gives remaining old end shelf left form
     contents out written said says
 stops_at_end_again {S} {L} {R} {W} gs size gives remaining old new
@@ -163,15 +163,15 @@ stops_at_end_again {S} {L} {R} {W} gs size gives remaining old new
           let (mid, has, (still, f, before)) = t.gone.follows held was kept in
           let (now, has_now, (then, one, last)) = t.last.follows mid has still in (
             new.core,
-            seen gs.refusals new now,
+            seen gs new now,
             (
-              seen gs.refusals t.mid mid,
+              seen gs t.mid mid,
               f,
-              subst (λ c. Follows (goes_back old.notes) c (seen gs.refusals t.mid mid) t.last.turns
-                  new.core (seen gs.refusals new now)) t.gone.at one,
+              subst (λ c. Follows (goes_back old.notes) c (seen gs t.mid mid) t.last.turns
+                  new.core (seen gs new now)) t.gone.at one,
             ),
-            left_walked gs.holds gs.refusals gs.crashes back old new end held now
-                (last_then gs.refusals gs.crashes old t.mid new held mid now before last) walked
+            left_walked gs back old new end held now
+                (last_then gs old t.mid new held mid now before last) walked
                 has_now,
             e.is_written now has_now,
           );

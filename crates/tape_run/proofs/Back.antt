@@ -17,7 +17,7 @@ use Rattle.tape_run.specs.Mount.{reads, IsCopy, IsMountOf}
 use Rattle.tape_run.specs.History.{Course, course, IsHistory}
 use Rattle.tape_run.specs.Seen.{Seen}
 use Rattle.tape_run.specs.Headline.{begins, IsRead}
-use Rattle.tape_run.specs.Given.{AreGiven, AreGivenBy, failed_of, counted_up}
+use Rattle.tape_run.specs.Given.{AreGivenBy, failed_of, counted_up}
 use Rattle.tape_run.specs.Back.{reels_of, AreVolumes}
 
 -- ---- a history of readings
@@ -83,34 +83,14 @@ none_failed zero e = refl
 none_failed (suc n) e = absurd
     (let h = least_up n (min (0 + 1) 18446744073709551615) (omega arith) in omega (arith, e, h))
 
-pub all_given : (bytes given : List (List ℕ)) → AreGiven 0 bytes given → given ≡ bytes
-all_given [] [] a = refl
-all_given [] (g ∷ given) a = absurd a
-all_given (b ∷ bytes) [] a = absurd a
-all_given (b ∷ bytes) (g ∷ given) (inl (e, rest)) =
-    ap (λ z. z ∷ given) e ∙ ap (λ z. b ∷ z) (all_given bytes given rest)
-all_given (b ∷ bytes) (g ∷ given) (inr (m, e, x, rest)) = absurd (omega (arith, e))
-
--- told of each, it is told of how many
-pub by_number : (which : List Bool) (bytes given : List (List ℕ)) → AreGivenBy which bytes given
-    → AreGiven (failed_of which) bytes given
-by_number [] bytes given e = subst (AreGiven 0 bytes) (sym e) (as_they_are bytes)
-  where
-    as_they_are : (bytes : List (List ℕ)) → AreGiven 0 bytes bytes
-    as_they_are [] = refl
-    as_they_are (b ∷ bytes) = inl ((refl, as_they_are bytes))
-by_number (f ∷ which) [] given a = absurd a
-by_number (f ∷ which) (b ∷ bytes) [] a = absurd a
-by_number (true ∷ which) (b ∷ bytes) (g ∷ given) (is, rest) =
-    inr ((failed_of which, omega arith, is, by_number which bytes given rest))
-by_number (false ∷ which) (b ∷ bytes) (g ∷ given) (is, rest) =
-    inl ((is, by_number which bytes given rest))
-
--- where none failed
 pub none_of : (which : List Bool) (bytes given : List (List ℕ)) → failed_of which ≡ 0
     → AreGivenBy which bytes given → given ≡ bytes
-none_of which bytes given none a = all_given bytes given
-    (subst (λ n. AreGiven n bytes given) none (by_number which bytes given a))
+none_of [] bytes given none a = a
+none_of (f ∷ which) [] given none a = absurd a
+none_of (f ∷ which) (b ∷ bytes) [] none a = absurd a
+none_of (true ∷ which) (b ∷ bytes) (g ∷ given) none a = absurd (omega (arith, none))
+none_of (false ∷ which) (b ∷ bytes) (g ∷ given) none (is, rest) =
+    ap (λ z. z ∷ given) is ∙ ap (λ z. b ∷ z) (none_of which bytes given none rest)
 
 -- All images of the set, none of a failed reader, and the file is whole.
 pub came_back : (set : FileSet) (file : ℕ) (f : List Section) (bytes : List (List ℕ)) (s : Seen)

@@ -35,19 +35,17 @@ begun_push begun [] p = refl
 begun_push begun (y ∷ ys) p = begun_push (leaves y.span) ys p
 
 -- Of the parts that came of a block those from the first on were put.
-pub record PutSoFar {S : Type 0} (holds : S → List Portion → Type 0) (refusals : S → ℕ)
-    (crashes : S → Crashes) (old new : S) (first seen : ℕ) (begun going : Bool)
+pub record PutSoFar {S : Type 0} (g : Ghosts S) (old new : S) (first seen : ℕ) (begun going : Bool)
     (came : List Portion) : Type 0 where
   pub count : seen ≡ length came
   pub behind : going ≡ begun_behind begun (drop first came)
-  pub calm : refusals new ≡ refusals old
-  pub held_now : (held : List Portion) → holds old held → holds new (held ++ drop first came)
-  pub crash : (held : List Portion) → holds old held → AddsNothing (crashes old) (crashes new)
+  pub calm : g.refusals new ≡ g.refusals old
+  pub held_now : (held : List Portion) → g.holds old held → g.holds new (held ++ drop first came)
+  pub crash : BringsNoMore g old new
 
-module _ {S : Type 0} (holds : S → List Portion → Type 0) (refusals : S → ℕ)
-    (crashes : S → Crashes) (old : S) (first : ℕ) (begun : Bool) where
+module _ {S : Type 0} (g : Ghosts S) (old : S) (first : ℕ) (begun : Bool) where
   abbrev Puts : S → ℕ → Bool → List Portion → Type 0
-  Puts new seen going came = PutSoFar holds refusals crashes old new first seen begun going came
+  Puts new seen going came = PutSoFar g old new first seen begun going came
 
   -- before the first part came
   pub none_put : Puts old 0 begun []
@@ -57,7 +55,7 @@ module _ {S : Type 0} (holds : S → List Portion → Type 0) (refusals : S → 
         count = refl;
         behind = sym (ap (begun_behind begun) none);
         calm = refl;
-        held_now = λ held was. subst (holds old)
+        held_now = λ held was. subst (g.holds old)
             (sym (ap (λ l. held ++ l) none ∙ append-nil held)) was;
         crash = λ held was. only_same _ _;
       }
@@ -74,15 +72,16 @@ module _ {S : Type 0} (holds : S → List Portion → Type 0) (refusals : S → 
         count = omega (arith, s.count, all);
         behind = s.behind ∙ ap (begun_behind begun) (sym same);
         calm = s.calm;
-        held_now = λ held was. subst (λ l. holds new (held ++ l)) (sym same) (s.held_now held was);
+        held_now = λ held was. subst (λ l. g.holds new (held ++ l)) (sym same)
+            (s.held_now held was);
         crash = s.crash;
       }
 
   -- one more part was put
   pub one_put : (mid new : S) (seen : ℕ) (going : Bool) (came : List Portion) (p : Portion)
-      → first ≤ seen → ((parts : List Portion) → holds mid parts → holds new (parts ++ p ∷ []))
-      → refusals new ≡ refusals mid
-      → ((parts : List Portion) → holds mid parts → AddsNothing (crashes mid) (crashes new))
+      → first ≤ seen → ((parts : List Portion) → g.holds mid parts → g.holds new (parts ++ p ∷ []))
+      → g.refusals new ≡ g.refusals mid
+      → BringsNoMore g mid new
       → Puts mid seen going came → Puts new (seen + 1) (leaves p.span) (came ++ p ∷ [])
   one_put mid new seen going came p le put calm crash s =
       let next = drop_push first came p (omega (arith, le, s.count)) in
@@ -90,7 +89,7 @@ module _ {S : Type 0} (holds : S → List Portion → Type 0) (refusals : S → 
         count = omega (arith, s.count, length-append came (p ∷ []));
         behind = sym (ap (begun_behind begun) next ∙ begun_push begun (drop first came) p);
         calm = calm ∙ s.calm;
-        held_now = λ held was. subst (holds new)
+        held_now = λ held was. subst (g.holds new)
             (append_assoc held (drop first came) (p ∷ []) ∙ ap (λ l. held ++ l) (sym next))
             (put _ (s.held_now held was));
         crash = λ held was. adds_then _ _ _ (s.crash held was) (crash _ (s.held_now held was));

@@ -26,7 +26,7 @@ use Rattle.tape_run.specs.declared.fault.RunFault.TheVariants.{TooFewReels}
 use Rattle.tape_run.specs.declared.script.Step.{Step}
 use Rattle.tape_run.specs.declared.script.Step.TheVariants.{Reel, Save, Restart}
 use Rattle.tape_run.specs.Crash.{IsOf, LastAlone}
-use Rattle.tape_run.specs.Given.{IsGiven, AreGiven}
+use Rattle.tape_run.specs.Given.{IsGiven}
 use Rattle.tape_run.specs.History.{course_of, IsHistory}
 use Rattle.tape_run.specs.Headline.{HasStopped, Stops}
 use Rattle.tape_run.specs.Lives.{IsPlaceOf}
@@ -111,18 +111,10 @@ no_other (rest, e) =
     let two : 1 ≡ 2 = ap (λ l. slice_index l 0) e in
     absurd (omega (arith, two))
 
-none_failed : (bytes given : List ℕ) → AreGiven 0 (bytes ∷ []) (given ∷ []) → given ≡ bytes
-none_failed bytes given (inl g) = g.0
-none_failed bytes given (inr (m, e, some, rest)) = absurd (omega (arith, e))
-
 pub cases_of_given : CasesOfGiven
 cases_of_given = record {
   no_other = no_other;
   front = (2 ∷ [], refl);
-  none_failed = none_failed;
-  one_failed = λ b c d. inl (refl, inr (0, refl, (c, refl), refl));
-  of_each = λ b g. g;
-  of_no_more = λ b g. g;
   calm = refl;
   one = refl;
   greatest = refl;
@@ -165,8 +157,6 @@ its_course s c one = rw one refl
 
 pub cases_of_sessions : CasesOfSessions
 cases_of_sessions = record {
-  is_seen = λ s parts. refl;
-  seen_counts = λ s parts. (refl, refl);
   its_course = its_course;
   session = λ set s is. (is.at, is.notes);
   one_note = λ set c parts stands. ([], ([], refl), stands, (parts, refl));

@@ -143,9 +143,9 @@ text known (more, is, none) =
 -- a session without notes keeps its own
 none_kept : (session : Listed) → session.notes ≡ []
     → IsKeptFor (goes_back session.notes)
-    (seen {S = List Portion} (λ s. 0) session session.sink)
+    (seen as_sink session session.sink)
 none_kept session none =
-    subst (λ n. IsKeptFor (goes_back n) (seen {S = List Portion} (λ s. 0) session session.sink))
+    subst (λ n. IsKeptFor (goes_back n) (seen as_sink session session.sink))
     (sym none) tt
 
 left_there : (session behind : Listed) (shelf left : Readers) (form : Form)
@@ -211,12 +211,10 @@ cases_of_outputs = record {
   stopped_turns = λ session behind shelf left form out now said says s. (s.most, s.are_turns);
   stopped_turns_now = λ session shelf left form out now said says s. (s.most, s.are_turns);
   taken = λ form out weight records begun failed parts t. (t.weighs, t.counted);
-  sink_takes = λ s parts t. (t.weighs, t.counted, t.begins);
   taken_text = λ form out weight records begun failed parts t. (t.begins, t.text);
   text = text;
   tells = λ w. refl;
   tells_nothing = λ tells. absurd (let e = tells [] in cc e);
-  refused = λ s. refl;
   ended = (refl, refl);
 }
 

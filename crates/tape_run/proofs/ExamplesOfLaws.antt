@@ -14,7 +14,7 @@ pub cases_of_run_laws : CasesOfRunLaws
 cases_of_run_laws = record {
   a_front = λ law set front rest h m. law set front rest h m;
   what_was_given = λ law set steps bytes given hs history are.
-      law set 0 2 steps bytes given hs history are;
+      law set 0 (true ∷ false ∷ true ∷ []) steps bytes given hs history are;
   a_refusal = λ law which old new steps bytes n fault set hs runs history.
       law which old new steps bytes bytes n fault set hs refl runs history;
   refusals = λ cause. (tt, tt);

@@ -53,7 +53,7 @@ cases_of_rounds = record {
       let (ends, goes, (parts, holds, is, keeps)) = e.ends session.sink refl kept in (
         ends,
         goes,
-        is ∙ ap (λ l. seen {S = List Portion} (λ s. 0) behind l) (sym holds),
+        is ∙ ap (λ l. seen as_sink behind l) (sym holds),
       );
   again = λ session behind shelf left form out now said says want e.
       (e.lines, e.are_rounds, e.are_turns, e.brought);

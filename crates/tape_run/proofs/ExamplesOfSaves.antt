@@ -13,6 +13,7 @@ use Rattle.tape_run.specs.Story.{Story}
 use Rattle.tape_core.specs.Point.{Point}
 use Rattle.tape_blocks.specs.Block.{Portion}
 use Rattle.tape_run.specs.CasesOfSaves.{CasesOfSaved, brings, comes_now, comes_since}
+use Rattle.tape_run.specs.CasesOfSaves.{weighing, holding_none}
 
 only_first : (s : Seen) (c d back : Point) (there : List Portion) → s.notes ≡ c ∷ d ∷ []
     → IsNoteOf 0 s back there
@@ -48,7 +49,7 @@ one_note s c p ps one last = of_one_note s c p ps one (last p ps (refl, refl))
 -- the one note came back alone before
 alone_before : (old : Story Point) (held ps : List Portion) (c : Point)
     → old.notes ≡ c ∷ [] → old.sink ≡ c → IsFront ps held → weight_of ps ≡ c.staged
-    → BringsLast (brings ps old.sink) (seen (λ s. 0) old held)
+    → BringsLast (brings ps old.sink) (seen (weighing (comes_now ps)) old held)
 alone_before old held ps c had came front weighs back there (b, t) = (
   0,
   ap length had,
@@ -61,32 +62,32 @@ alone_before old held ps c had came front weighs back there (b, t) = (
 
 came_alone : (old new : Story Point) (held now ps : List Portion) (c : Point)
     → old.notes ≡ c ∷ [] → new.notes ≡ c ∷ [] → old.sink ≡ c → IsFront ps held
-    → weight_of ps ≡ c.staged → KeepsLast (λ s. 0) (comes_now ps) old held new now
+    → weight_of ps ≡ c.staged → KeepsLast (weighing (comes_now ps)) old held new now
     → new.sink ≡ c
 came_alone old new held now ps c had has came front weighs keeps =
-    (one_note (seen (λ s. 0) new now) c new.sink ps has
+    (one_note (seen (weighing (comes_now ps)) new now) c new.sink ps has
     (keeps.last (λ same. alone_before old held ps c had came front weighs))).0
 
 alone_since : (old new : Story Point) (held now ps : List Portion) (c : Point) (t : ℕ)
     → old.notes ≡ c ∷ [] → new.notes ≡ c ∷ [] → old.sink ≡ c → IsFront ps held
     → weight_of ps ≡ c.staged → t ≤ old.sink.file
-    → KeepsLast (λ s. 0) (comes_since ps) old held new now → new.sink ≡ c
+    → KeepsLast (weighing (comes_since ps)) old held new now → new.sink ≡ c
 alone_since old new held now ps c t had has came front weighs le keeps =
-    (one_note (seen (λ s. 0) new now) c new.sink ps has
+    (one_note (seen (weighing (comes_now ps)) new now) c new.sink ps has
     (keeps.since t le (ap length has ∙ sym (ap length had))
     (alone_before old held ps c had came front weighs))).0
 
 on_the_way : (old new : Story Point) (held now ps : List Portion) (c : Point)
     → old.notes ≡ [] → new.notes ≡ c ∷ []
-    → KeepsLast (λ s. 0) (comes_now ps) old held new now
+    → KeepsLast (weighing (comes_now ps)) old held new now
     → (new.sink ≡ c) × IsFront ps now
 on_the_way old new held now ps c none has keeps =
-    one_note (seen (λ s. 0) new now) c new.sink ps has (keeps.last (λ same. absurd (let e : 1 ≡ 0 =
-    sym (ap length has) ∙ same ∙ ap length none in omega (arith, e))))
+    one_note (seen (weighing (comes_now ps)) new now) c new.sink ps has (keeps.last (λ same.
+    absurd (let e : 1 ≡ 0 = sym (ap length has) ∙ same ∙ ap length none in omega (arith, e))))
 
 stood_so : (old new : Story Point) (held ps : List Portion) (now : Seen) (c : Point)
     → old.notes ≡ [] → now.notes ≡ c ∷ []
-    → StoodSaved (λ s parts. s.staged ≡ weight_of parts) (λ s. 0) (comes_now ps) old held new
+    → StoodSaved (weighing (comes_now ps)) old held new
     now
     → (new.sink ≡ c) × (now.place ≡ rest_of new.core)
     × IsFront ps now.parts × (c.staged ≡ weight_of now.parts)
@@ -102,7 +103,7 @@ stood_so old new held ps now c none has (parts, holds, is, keeps) =
 
 left_at_a_fault : (old new : Story Point) (held ps : List Portion) (now : Seen) (c : Point)
     → old.notes ≡ [] → now.notes ≡ c ∷ []
-    → LeavesSaved (λ s parts. s.staged ≡ weight_of parts) (λ s. 0) (comes_now ps) old held now
+    → LeavesSaved (weighing (comes_now ps)) old held now
     new
     → ((new.sink ≡ c) × IsFront ps now.parts)
     ⊎ ((new.sink.staged ≡ weight_of ps) × IsFront now.parts ps
@@ -117,7 +118,7 @@ left_at_a_fault old new held ps now c none has leaves = elim (leaves.comes (λ s
 alone_at_a_fault : (old new : Story Point) (held ps : List Portion) (now : Seen) (c : Point)
     → old.notes ≡ c ∷ [] → now.notes ≡ c ∷ [] → old.sink ≡ c → IsFront ps held
     → weight_of ps ≡ c.staged
-    → LeavesSaved (λ s parts. ⊥) (λ s. 0) (comes_now ps) old held now new → new.sink ≡ c
+    → LeavesSaved (holding_none (comes_now ps)) old held now new → new.sink ≡ c
 alone_at_a_fault old new held ps now c had has came front weighs leaves =
     elim (leaves.comes (λ same. alone_before old held ps c had came front weighs) new.sink ps
     (refl, refl)) [
@@ -128,7 +129,7 @@ alone_at_a_fault old new held ps now c had has came front weighs leaves =
 alone_up_to_a_fault : (old new : Story Point) (held ps : List Portion) (now : Seen) (c : Point)
     (t : ℕ) → old.notes ≡ c ∷ [] → now.notes ≡ c ∷ [] → old.sink ≡ c → IsFront ps held
     → weight_of ps ≡ c.staged → t ≤ old.sink.file
-    → LeavesSaved (λ s parts. ⊥) (λ s. 0) (comes_since ps) old held now new → new.sink ≡ c
+    → LeavesSaved (holding_none (comes_since ps)) old held now new → new.sink ≡ c
 alone_up_to_a_fault old new held ps now c t had has came front weighs le leaves =
     elim (leaves.since t le (ap length has ∙ sym (ap length had))
     (alone_before old held ps c had came front weighs) new.sink ps (refl, refl)) [

@@ -13,7 +13,7 @@ use Rattle.tape_core.specs.Point.{Point}
 use Rattle.tape_core.specs.declared.sink.PartSink.{Ghosts}
 use Rattle.tape_run.specs.Crash.{IsWalked}
 use Rattle.tape_core.specs.State.{State}
-use Rattle.tape_run.specs.Seen.{Seen, seen}
+use Rattle.tape_run.specs.Seen.{Seen, seen, IfSeen}
 use Rattle.tape_run.specs.Story.{Story}
 use Rattle.tape_blocks.specs.declared.parts.Form.{Form}
 use Rattle.tape_run.specs.Output.{AppendsFront}
@@ -38,22 +38,21 @@ stayed notes core old turns last new (inr sure) f =
     sure_follows (goes_back notes) core old turns last new sure f
 
 -- A session that ended its file came to what its images lead to.
-abbrev pub ended : {S : Type 0} (holds : S → List Portion → Type 0) (refusals : S → ℕ)
-    (mid : Story S)
-    (core : State) (old : Seen) (turns : List Turn) (form : Form)
-    (out written said says : Option (List ℕ)) (want : Option Want) (now : List Portion)
-    (e : EndsFile holds mid form out written said says want)
-    → holds mid.sink now
-    → Follows (goes_back old.notes) core old turns mid.core (seen refusals mid now)
+abbrev pub ended : {S : Type 0} (g : Ghosts S) (mid : Story S) (core : State) (old : Seen)
+    (turns : List Turn) (form : Form) (out written said says : Option (List ℕ))
+    (want : Option Want) (now : List Portion)
+    (e : EndsFile g mid form out written said says want)
+    → g.holds mid.sink now
+    → Follows (goes_back old.notes) core old turns mid.core (seen g mid now)
     → Ends core old turns want e.records form out written
-ended holds refusals mid core old turns form out written said says want now e has f =
+ended g mid core old turns form out written said says want now e has f =
     record {
       last = mid.core;
-      now = seen refusals mid now;
+      now = seen g mid now;
       follows = f;
-      gathers = λ never. gathers core old turns mid.core (seen refusals mid now)
-          (stayed old.notes core old turns mid.core (seen refusals mid now) never f);
-      are_steps = are_steps (goes_back old.notes) core old turns mid.core (seen refusals mid now) f;
+      gathers = λ never. gathers core old turns mid.core (seen g mid now)
+          (stayed old.notes core old turns mid.core (seen g mid now) never f);
+      are_steps = are_steps (goes_back old.notes) core old turns mid.core (seen g mid now) f;
       wanted = e.wanted;
       is_written = e.is_written now has;
     }
@@ -65,8 +64,8 @@ pub extracted : {S L R : Type 0} (gs : Ghosts S)
     (back : Bool) → back ≡ goes_back old.notes
     → TakesAll gs (size shelf) 0 gives remaining back old mid shelf
     left said between
-    → EndsFile gs.holds mid form out written between says want
-    → IsWalked gs.holds gs.crashes mid new → gs.refusals new.sink ≡ gs.refusals mid.sink
+    → EndsFile gs mid form out written between says want
+    → IsWalked gs mid new → gs.refusals new.sink ≡ gs.refusals mid.sink
     → Extracts gs size gives remaining old new shelf left form out
     written said says want
 extracted {S} {L} {R} gs size gives remaining old mid new shelf
@@ -82,9 +81,9 @@ extracted {S} {L} {R} gs size gives remaining old mid new shelf
       lines = Appends-trans said between says _ _ t.lines e.line;
       ends = λ held was kept.
           let (now, has, (still, f, last)) = t.follows held was kept in (
-            ended gs.holds gs.refusals mid old.core (seen gs.refusals old held) t.turns form out
+            ended gs mid old.core (seen gs old held) t.turns form out
                 written between says want now e has f,
-            stood_walked gs.holds gs.refusals gs.crashes old mid new held now has last walked calm,
+            stood_walked gs old mid new held now has last walked calm,
           );
     }
 
@@ -121,8 +120,8 @@ pub stops_at_end : {S L R W : Type 0} (gs : Ghosts S)
     (back : Bool) → back ≡ goes_back old.notes
     → TakesAll gs (size shelf) 0 gives remaining back old mid shelf
     left said between
-    → IsWalked gs.holds gs.crashes mid new
-    → StopsAtEnd gs.holds mid form contents out written between says
+    → IsWalked gs mid new
+    → StopsAtEnd gs mid form contents out written between says
     → Stops gs size gives remaining old new shelf left form contents
     out written said says
 stops_at_end {S} {L} {R} {W} gs size gives remaining old mid new
@@ -143,23 +142,22 @@ stops_at_end {S} {L} {R} {W} gs size gives remaining old mid new
       follows = λ held was kept.
           let (now, has, (still, f, last)) = t.follows held was kept in (
             mid.core,
-            seen gs.refusals mid now,
+            seen gs mid now,
             f,
-            left_walked gs.holds gs.refusals gs.crashes back old mid new held now last walked has,
+            left_walked gs back old mid new held now last walked has,
             e.is_written now has,
           );
     }
 
 -- the last line, or the output, was written in part
-pub ends_in_part : {S W : Type 0} (holds : S → List Portion → Type 0) (session : Story S)
+pub ends_in_part : {S W : Type 0} (g : Ghosts S) (session : Story S)
     (form : Form) (contents : W → Option (List ℕ)) (out written : W)
     (said says : Option (List ℕ)) (want : Option Want) (records : ℕ)
     → AppendsFront said says (last_line want records)
-    → ((held : List Portion) → holds session.sink held → (written ≡ out)
-    ⊎ ((session.core.position ≡ Finished)
-    × AppendsFront (contents out) (contents written) (output_of form held)))
-    → StopsAtEnd holds session form contents out written said says
-ends_in_part holds session form contents out written said says want records line wrote =
+    → IfSeen g session (λ is. (written ≡ out) ⊎ ((session.core.position ≡ Finished)
+    × AppendsFront (contents out) (contents written) (output_of form is.parts)))
+    → StopsAtEnd g session form contents out written said says
+ends_in_part g session form contents out written said says want records line wrote =
     record { want = want; records = records; line = line; is_written = wrote }
 
 -- no more was written

@@ -20,6 +20,7 @@ use Rattle.tape_run.specs.Mount.{Happening, reads, foreign_reel, saves, restarts
 use Rattle.tape_run.specs.Mount.{IsMountOf, cut}
 use Rattle.tape_run.specs.Fronts.{FrontsAreMounts, GivenIsHistory}
 use Rattle.tape_run.specs.Given.{IsGiven}
+use Rattle.tape_run.specs.History.{IsHistory}
 use Rattle.tape_run.specs.declared.script.Step.TheVariants.{Reel, Save, Restart}
 
 -- ---- copies
@@ -165,24 +166,21 @@ mount_given set b g h m true (rest, whole) =
     (cut n h, front)
 
 pub given_is_history : GivenIsHistory
-given_is_history set notes failed [] bytes given [] h a = ([], tt)
-given_is_history set notes failed [] bytes given (x ∷ hs) h a = absurd h
-given_is_history set notes failed (s ∷ steps) bytes given [] h a = absurd h
-given_is_history set notes failed (Reel ∷ steps) [] given (x ∷ hs) h a = absurd h
-given_is_history set notes failed (Reel ∷ steps) (b ∷ bytes) [] (x ∷ hs) h a = absurd a
-given_is_history set notes failed (Reel ∷ steps) (b ∷ bytes) (g ∷ given) (x ∷ hs) (m, h)
-    (inl (same, a)) =
-    let (x', m') = mount_given set b g x m false same in
-    let (hs', h') = given_is_history set notes failed steps bytes given hs h a in
+given_is_history set notes which [] bytes given [] h a = ([], tt)
+given_is_history set notes which [] bytes given (x ∷ hs) h a = absurd h
+given_is_history set notes which (s ∷ steps) bytes given [] h a = absurd h
+given_is_history set notes which (Reel ∷ steps) [] given (x ∷ hs) h a = absurd h
+given_is_history set notes [] (Reel ∷ steps) (b ∷ bytes) given (x ∷ hs) h a =
+    (x ∷ hs, subst (λ z. IsHistory set notes (Reel ∷ steps) z (x ∷ hs)) (sym a) h)
+given_is_history set notes (f ∷ which) (Reel ∷ steps) (b ∷ bytes) [] (x ∷ hs) h a = absurd a
+given_is_history set notes (f ∷ which) (Reel ∷ steps) (b ∷ bytes) (g ∷ given) (x ∷ hs) (m, h)
+    (is, a) =
+    let (x', m') = mount_given set b g x m f is in
+    let (hs', h') = given_is_history set notes which steps bytes given hs h a in
     (x' ∷ hs', (m', h'))
-given_is_history set notes failed (Reel ∷ steps) (b ∷ bytes) (g ∷ given) (x ∷ hs) (m, h)
-    (inr (n, e, front, a)) =
-    let (x', m') = mount_given set b g x m true front in
-    let (hs', h') = given_is_history set notes n steps bytes given hs h a in
-    (x' ∷ hs', (m', h'))
-given_is_history set notes failed (Save ∷ steps) bytes given (x ∷ hs) (e, h) a =
-    let (hs', h') = given_is_history set (notes + 1) failed steps bytes given hs h a in
+given_is_history set notes which (Save ∷ steps) bytes given (x ∷ hs) (e, h) a =
+    let (hs', h') = given_is_history set (notes + 1) which steps bytes given hs h a in
     (saves ∷ hs', (refl, h'))
-given_is_history set notes failed (Restart n ∷ steps) bytes given (x ∷ hs) (e, less, h) a =
-    let (hs', h') = given_is_history set (n + 1) failed steps bytes given hs h a in
+given_is_history set notes which (Restart n ∷ steps) bytes given (x ∷ hs) (e, less, h) a =
+    let (hs', h') = given_is_history set (n + 1) which steps bytes given hs h a in
     (restarts n ∷ hs', (refl, less, h'))

@@ -10,6 +10,7 @@ use Rattle.tape_core.specs.Point.{Point}
 use Rattle.tape_core.specs.Stands.{weight_of}
 use Rattle.tape_core.specs.Table.{saved}
 use Rattle.tape_core.specs.Weight.{IsFront}
+use Rattle.tape_core.specs.declared.sink.PartSink.{Ghosts}
 use Rattle.tape_run.specs.Crash.{IsNoteOf, BringsLast, LastAlone, KeepsLast, IsWalked}
 use Rattle.tape_run.specs.Reeling.{StoodSaved}
 use Rattle.tape_run.specs.Seen.{Seen, seen}
@@ -17,9 +18,9 @@ use Rattle.tape_run.specs.Steps.{Saved, WentBack}
 use Rattle.tape_run.specs.Story.{Story}
 use Rattle.tape_run.proofs.Notes.{front_self, front_trans, same_front}
 
-pub last_same : {S : Type 0} (refusals : S → ℕ) (crashes : S → Crashes)
-    (s : Story S) (held : List Portion) → KeepsLast refusals crashes s held s held
-last_same refusals crashes s held = record {
+pub last_same : {S : Type 0} (g : Ghosts S) (s : Story S) (held : List Portion)
+    → KeepsLast g s held s held
+last_same g s held = record {
   last = λ h. h refl;
   survives = λ v. v;
   no_fewer = omega arith;
@@ -28,20 +29,17 @@ last_same refusals crashes s held = record {
   survived = λ t le h. h;
 }
 
-pub last_then : {S : Type 0} (refusals : S → ℕ) (crashes : S → Crashes)
-    (a b c : Story S) (held mid now : List Portion)
-    → KeepsLast refusals crashes a held b mid
-    → KeepsLast refusals crashes b mid c now
-    → KeepsLast refusals crashes a held c now
-last_then refusals crashes a b c held mid now f g = record {
-  last = λ h. g.last (λ d. f.last (λ e. h (d ∙ e)));
-  survives = λ x. g.survives (f.survives x);
-  no_fewer = omega (arith, f.no_fewer, g.no_fewer);
-  later = omega (arith, f.later, g.later);
-  since = λ t le same h. g.since t (omega (arith, le, f.later))
-      (omega (arith, same, f.no_fewer, g.no_fewer))
-      (f.since t le (omega (arith, same, f.no_fewer, g.no_fewer)) h);
-  survived = λ t le h. g.survived t (omega (arith, le, f.later)) (f.survived t le h);
+pub last_then : {S : Type 0} (g : Ghosts S) (a b c : Story S) (held mid now : List Portion)
+    → KeepsLast g a held b mid → KeepsLast g b mid c now → KeepsLast g a held c now
+last_then g a b c held mid now one two = record {
+  last = λ h. two.last (λ d. one.last (λ e. h (d ∙ e)));
+  survives = λ x. two.survives (one.survives x);
+  no_fewer = omega (arith, one.no_fewer, two.no_fewer);
+  later = omega (arith, one.later, two.later);
+  since = λ t le same h. two.since t (omega (arith, le, one.later))
+      (omega (arith, same, one.no_fewer, two.no_fewer))
+      (one.since t le (omega (arith, same, one.no_fewer, two.no_fewer)) h);
+  survived = λ t le h. two.survived t (omega (arith, le, one.later)) (one.survived t le h);
 }
 
 -- a reel was read: the notes are as they were, and no part went
@@ -70,23 +68,23 @@ alone_still was now old new notes front adds (last, (t, le, since)) = (
   ),
 )
 
-pub last_stays : {S : Type 0} (refusals : S → ℕ) (crashes : S → Crashes) (a b : Story S)
+pub last_stays : {S : Type 0} (g : Ghosts S) (a b : Story S)
     (held now : List Portion) → b.notes ≡ a.notes → IsFront held now
-    → AddsNothing (crashes a.sink) (crashes b.sink) → KeepsLast refusals crashes a held b now
-last_stays refusals crashes a b held now notes front adds = record {
-  last = λ h. still (crashes a.sink).returns (crashes b.sink).returns
+    → AddsNothing (g.crashes a.sink) (g.crashes b.sink) → KeepsLast g a held b now
+last_stays g a b held now notes front adds = record {
+  last = λ h. still (g.crashes a.sink).returns (g.crashes b.sink).returns
       (λ back there x. or_nothing (adds.now back there x)) (h (ap length notes));
   survives = adds.survives;
   no_fewer = omega (arith, ap length notes);
   later = adds.later;
-  since = λ t le same h. still ((crashes a.sink).returned t) ((crashes b.sink).returned t)
+  since = λ t le same h. still ((g.crashes a.sink).returned t) ((g.crashes b.sink).returned t)
       (λ back there x. or_nothing (adds.since t back there le x)) h;
   survived = adds.survived;
 }
   where
     still : (r t : Returns) → ((back : Point) (there : List Portion) → t back there → r back there)
-        → BringsLast r (seen refusals a held) → BringsLast t (seen refusals b now)
-    still r t = brings_still r t (seen refusals a held) (seen refusals b now) notes front
+        → BringsLast r (seen g a held) → BringsLast t (seen g b now)
+    still r t = brings_still r t (seen g a held) (seen g b now) notes front
 
 slice_last : (cs : List Point) (c : Point) → slice_get (cs ++ c ∷ []) (length cs) ≡ Some c
 slice_last [] c = refl
@@ -151,17 +149,17 @@ last_back old new n r t count went only last = λ back there x.
     )
 
 -- it was noted where the session stands, and that was kept
-pub last_kept : {S : Type 0} (refusals : S → ℕ) (crashes : S → Crashes) (a b : Story S)
+pub last_kept : {S : Type 0} (g : Ghosts S) (a b : Story S)
     (held now : List Portion) (point : Point) (these : Returns)
-    → point ≡ saved (seen refusals a held).place (weight_of held)
-    → ThisAlone point held (crashes b.sink) → Saved (seen refusals a held) (seen refusals b now)
-    → AddsOnly these (crashes a.sink) (crashes b.sink) → KeepsLast refusals crashes a held b now
-last_kept refusals crashes a b held now point these here alone s adds =
+    → point ≡ saved (seen g a held).place (weight_of held)
+    → ThisAlone point held (g.crashes b.sink) → Saved (seen g a held) (seen g b now)
+    → AddsOnly these (g.crashes a.sink) (g.crashes b.sink) → KeepsLast g a held b now
+last_kept g a b held now point these here alone s adds =
     let more : length b.notes ≡ length a.notes + 1 = ap length s.notes
-    ∙ length-append a.notes (saved (seen refusals a held).place (weight_of held) ∷ []) in
+    ∙ length-append a.notes (saved (seen g a held).place (weight_of held) ∷ []) in
     record {
-      last = λ same. last_saved (seen refusals a held) (seen refusals b now) point
-          (crashes b.sink).returns here alone.0 s;
+      last = λ same. last_saved (seen g a held) (seen g b now) point
+          (g.crashes b.sink).returns here alone.0 s;
       survives = adds.survives;
       no_fewer = omega (arith, more);
       later = adds.later;
@@ -170,46 +168,44 @@ last_kept refusals crashes a b held now point these here alone s adds =
     }
 
 -- the session went back to the note made last
-pub last_went : {S : Type 0} (refusals : S → ℕ) (crashes : S → Crashes) (a b : Story S)
+pub last_went : {S : Type 0} (g : Ghosts S) (a b : Story S)
     (held now : List Portion) (n : ℕ) → length a.notes ≡ n + 1
-    → WentBack n (seen refusals a held) (seen refusals b now)
-    → AddsOnly (IsNoteOf n (seen refusals a held)) (crashes a.sink) (crashes b.sink)
-    → KeepsLast refusals crashes a held b now
-last_went refusals crashes a b held now n count went adds =
+    → WentBack n (seen g a held) (seen g b now)
+    → AddsOnly (IsNoteOf n (seen g a held)) (g.crashes a.sink) (g.crashes b.sink)
+    → KeepsLast g a held b now
+last_went g a b held now n count went adds =
     let notes : b.notes ≡ a.notes =
     went.notes ∙ take_all (n + 1) a.notes (omega (arith, count)) in
     record {
-      last = λ h. last_back (seen refusals a held) (seen refusals b now) n
-          (crashes a.sink).returns (crashes b.sink).returns count went adds.now
+      last = λ h. last_back (seen g a held) (seen g b now) n
+          (g.crashes a.sink).returns (g.crashes b.sink).returns count went adds.now
           (h (ap length notes));
       survives = adds.survives;
       no_fewer = omega (arith, ap length notes);
       later = adds.later;
-      since = λ t le same h. last_back (seen refusals a held) (seen refusals b now) n
-          ((crashes a.sink).returned t) ((crashes b.sink).returned t) count went
+      since = λ t le same h. last_back (seen g a held) (seen g b now) n
+          ((g.crashes a.sink).returned t) ((g.crashes b.sink).returned t) count went
           (λ back there x. adds.since t back there le x) h;
       survived = adds.survived;
     }
 
 -- where only the sink was walked the session is seen as it was
-walked_seen : {S : Type 0} (holds : S → List Portion → Type 0) (refusals : S → ℕ)
-    (crashes : S → Crashes) (a b : Story S) (parts : List Portion)
-    → IsWalked holds crashes a b → refusals b.sink ≡ refusals a.sink
-    → seen refusals a parts ≡ seen refusals b parts
-walked_seen holds refusals crashes a b parts w calm =
+walked_seen : {S : Type 0} (g : Ghosts S) (a b : Story S) (parts : List Portion)
+    → IsWalked g a b → g.refusals b.sink ≡ g.refusals a.sink
+    → seen g a parts ≡ seen g b parts
+walked_seen g a b parts w calm =
     rw (w.core, w.notes, w.failures, calm) refl
 
 -- what the images were brought to, behind the walk that writes the file
-pub stood_walked : {S : Type 0} (holds : S → List Portion → Type 0) (refusals : S → ℕ)
-    (crashes : S → Crashes) (a b c : Story S) (held parts : List Portion)
-    → holds b.sink parts → KeepsLast refusals crashes a held b parts
-    → IsWalked holds crashes b c → refusals c.sink ≡ refusals b.sink
-    → StoodSaved holds refusals crashes a held c (seen refusals b parts)
-stood_walked holds refusals crashes a b c held parts has last w calm = (
+pub stood_walked : {S : Type 0} (g : Ghosts S) (a b c : Story S) (held parts : List Portion)
+    → g.holds b.sink parts → KeepsLast g a held b parts
+    → IsWalked g b c → g.refusals c.sink ≡ g.refusals b.sink
+    → StoodSaved g a held c (seen g b parts)
+stood_walked g a b c held parts has last w calm = (
   parts,
   w.kept parts has,
-  walked_seen holds refusals crashes b c parts w calm,
-  last_then refusals crashes a b c held parts parts last
-      (last_stays refusals crashes b c parts parts w.notes (front_self parts)
+  walked_seen g b c parts w calm,
+  last_then g a b c held parts parts last
+      (last_stays g b c parts parts w.notes (front_self parts)
       (w.crash parts has)),
 )

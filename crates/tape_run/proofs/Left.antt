@@ -2,13 +2,14 @@
 use Rattle.std.proofs.Common.{◌≡◌, ◌⊎◌, ℕ, ◌+◌, Bool, true, List, [], length, Some, slice_get}
 use Rattle.std.proofs.Common.{refl, sym, ap, subst, ◌∙◌, inl, inr, arith}
 use Rattle.tape_blocks.specs.Block.{Portion}
-use Rattle.tape_core.specs.Crash.{Returns, Crashes, AddsNothing, AddsOnly}
+use Rattle.tape_core.specs.Crash.{Returns, AddsNothing, AddsOnly}
 use Rattle.tape_core.proofs.Crashes.{only_among, only_same, only_then}
 use Rattle.tape_core.specs.Place.{rest_of}
 use Rattle.tape_core.specs.Point.{Point}
 use Rattle.tape_core.specs.Stands.{weight_of}
 use Rattle.tape_core.specs.Table.{saved}
 use Rattle.tape_core.specs.Weight.{IsFront}
+use Rattle.tape_core.specs.declared.sink.PartSink.{Ghosts}
 use Rattle.tape_run.specs.Crash.{IsHere, IsNoteOf, IsLast, IsHeld, BringsLast, KeepsLast}
 use Rattle.tape_run.specs.Crash.{LeavesStep, LeavesSaved, IsWalked}
 use Rattle.tape_run.specs.Reeling.{IsKeptFor}
@@ -25,19 +26,16 @@ use Rattle.tape_run.proofs.Sessions.{kept_at}
 -- ---- one step
 
 -- nothing more comes back
-pub nothing_left : {S : Type 0} (holds : S → List Portion → Type 0) (refusals : S → ℕ)
-    (crashes : S → Crashes) (goes : Bool) (a b : Story S)
-    (held : List Portion)
-    → AddsNothing (crashes a.sink) (crashes b.sink)
-    → LeavesStep holds refusals crashes goes a held b
-nothing_left holds refusals crashes goes a b held adds =
-    only_nothing _ (crashes a.sink) (crashes b.sink) adds
+pub nothing_left : {S : Type 0} (g : Ghosts S) (goes : Bool) (a b : Story S)
+    (held : List Portion) → AddsNothing (g.crashes a.sink) (g.crashes b.sink)
+    → LeavesStep g goes a held b
+nothing_left g goes a b held adds =
+    only_nothing _ (g.crashes a.sink) (g.crashes b.sink) adds
 
 -- the session is as it was
-pub same_left : {S : Type 0} (holds : S → List Portion → Type 0) (refusals : S → ℕ)
-    (crashes : S → Crashes) (goes : Bool) (a : Story S)
-    (held : List Portion) → LeavesStep holds refusals crashes goes a held a
-same_left holds refusals crashes goes a held = only_same _ (crashes a.sink)
+pub same_left : {S : Type 0} (g : Ghosts S) (goes : Bool) (a : Story S) (held : List Portion)
+    → LeavesStep g goes a held a
+same_left g goes a held = only_same _ (g.crashes a.sink)
 
 save_stays : (fault : RunFault) (old new : Seen) → SaveFails fault old new
     → (new.place ≡ old.place) × (new.parts ≡ old.parts)
@@ -49,35 +47,33 @@ save_stays OutOfMemory old new h =
 save_stays OtherFile old new h = absurd h
 
 -- where the session stands was not noted
-pub save_left : {S : Type 0} (holds : S → List Portion → Type 0) (refusals : S → ℕ)
-    (crashes : S → Crashes) (goes : Bool) (a b : Story S)
-    (held now : List Portion) (fault : RunFault) → holds b.sink now
-    → SaveFails fault (seen refusals a held) (seen refusals b now)
-    → AddsOnly (IsHere (seen refusals a held)) (crashes a.sink) (crashes b.sink)
-    → LeavesStep holds refusals crashes goes a held b
-save_left {S} holds refusals crashes goes a b held now fault has fails =
-    only_among (IsHere (seen refusals a held)) _ (crashes a.sink) (crashes b.sink) here
+pub save_left : {S : Type 0} (g : Ghosts S) (goes : Bool) (a b : Story S)
+    (held now : List Portion) (fault : RunFault) → g.holds b.sink now
+    → SaveFails fault (seen g a held) (seen g b now)
+    → AddsOnly (IsHere (seen g a held)) (g.crashes a.sink) (g.crashes b.sink)
+    → LeavesStep g goes a held b
+save_left {S} g goes a b held now fault has fails =
+    only_among (IsHere (seen g a held)) _ (g.crashes a.sink) (g.crashes b.sink) here
   where
-    here : (back : Point) (there : List Portion) → IsHere (seen refusals a held) back there
-        → ((goes ≡ true) × IsLast (seen refusals a held) back there)
-        ⊎ IsHeld holds held b back there
+    here : (back : Point) (there : List Portion) → IsHere (seen g a held) back there
+        → ((goes ≡ true) × IsLast (seen g a held) back there)
+        ⊎ IsHeld g held b back there
     here back there (is, all) =
-        let (place, parts) = save_stays fault (seen refusals a held) (seen refusals b now) fails in
+        let (place, parts) = save_stays fault (seen g a held) (seen g b now) fails in
         inr (
-          subst (holds b.sink) (parts ∙ sym all) has,
+          subst (g.holds b.sink) (parts ∙ sym all) has,
           subst (IsFront held) (sym all) (front_self held),
           is ∙ ap (λ z. saved z (weight_of held)) (sym place)
               ∙ ap (λ l. saved (rest_of b.core) (weight_of l)) (sym all),
         )
 
 -- the session did not go back
-pub restart_left : {S : Type 0} (holds : S → List Portion → Type 0) (refusals : S → ℕ)
-    (crashes : S → Crashes) (a b : Story S) (held : List Portion) (n : ℕ)
+pub restart_left : {S : Type 0} (g : Ghosts S) (a b : Story S) (held : List Portion) (n : ℕ)
     → length a.notes ≡ n + 1
-    → AddsOnly (IsNoteOf n (seen refusals a held)) (crashes a.sink) (crashes b.sink)
-    → LeavesStep holds refusals crashes true a held b
-restart_left {S} holds refusals crashes a b held n count =
-    only_among (IsNoteOf n (seen refusals a held)) _ (crashes a.sink) (crashes b.sink)
+    → AddsOnly (IsNoteOf n (seen g a held)) (g.crashes a.sink) (g.crashes b.sink)
+    → LeavesStep g true a held b
+restart_left {S} g a b held n count =
+    only_among (IsNoteOf n (seen g a held)) _ (g.crashes a.sink) (g.crashes b.sink)
     (λ back there i. inl (refl, (n, count, i)))
 
 -- ---- behind a reel
@@ -96,26 +92,24 @@ last_before old mid notes front kept back there (n, count, (is, f, w)) =
     )
 
 -- a reel was read, and the step behind it was not made
-pub left_then : {S : Type 0} (holds : S → List Portion → Type 0) (refusals : S → ℕ)
-    (crashes : S → Crashes) (goes : Bool) (a b c : Story S)
+pub left_then : {S : Type 0} (g : Ghosts S) (goes : Bool) (a b c : Story S)
     (held now : List Portion) → b.notes ≡ a.notes → IsFront held now
-    → IsKeptFor goes (seen refusals a held)
-    → AddsNothing (crashes a.sink) (crashes b.sink)
-    → LeavesStep holds refusals crashes goes b now c
-    → LeavesStep holds refusals crashes goes a held c
-left_then {S} holds refusals crashes goes a b c held now notes front kept adds =
-    only_then _ _ (crashes a.sink) (crashes b.sink) (crashes c.sink) among
-    (only_nothing _ (crashes a.sink) (crashes b.sink) adds)
+    → IsKeptFor goes (seen g a held)
+    → AddsNothing (g.crashes a.sink) (g.crashes b.sink) → LeavesStep g goes b now c
+    → LeavesStep g goes a held c
+left_then {S} g goes a b c held now notes front kept adds =
+    only_then _ _ (g.crashes a.sink) (g.crashes b.sink) (g.crashes c.sink) among
+    (only_nothing _ (g.crashes a.sink) (g.crashes b.sink) adds)
   where
     among : (back : Point) (there : List Portion)
-        → ((goes ≡ true) × IsLast (seen refusals b now) back there)
-        ⊎ IsHeld holds now c back there
-        → ((goes ≡ true) × IsLast (seen refusals a held) back there)
-        ⊎ IsHeld holds held c back there
+        → ((goes ≡ true) × IsLast (seen g b now) back there)
+        ⊎ IsHeld g now c back there
+        → ((goes ≡ true) × IsLast (seen g a held) back there)
+        ⊎ IsHeld g held c back there
     among back there (inl (is, last)) = inl (
       is,
-      last_before (seen refusals a held) (seen refusals b now) notes front
-          (subst (λ z. IsKeptFor z (seen refusals a held)) is kept) back there last,
+      last_before (seen g a held) (seen g b now) notes front
+          (subst (λ z. IsKeptFor z (seen g a held)) is kept) back there last,
     )
     among back there (inr (has, more, here)) =
         inr (has, front_trans held now there front more, here)
@@ -123,48 +117,42 @@ left_then {S} holds refusals crashes goes a b c held now notes front kept adds =
 -- ---- over images
 
 -- The images before were taken, and then a step was not made.
-pub left_saved : {S : Type 0} (holds : S → List Portion → Type 0) (refusals : S → ℕ)
-    (crashes : S → Crashes) (goes : Bool) (a b c : Story S)
-    (held now : List Portion) → KeepsLast refusals crashes a held b now
-    → LeavesStep holds refusals crashes goes b now c
-    → LeavesSaved holds refusals crashes a held (seen refusals b now) c
-left_saved {S} holds refusals crashes goes a b c held now keeps step = record {
-  comes = λ h back there x. either (crashes b.sink).returns (keeps.last h) back there
+pub left_saved : {S : Type 0} (g : Ghosts S) (goes : Bool) (a b c : Story S)
+    (held now : List Portion) → KeepsLast g a held b now
+    → LeavesStep g goes b now c → LeavesSaved g a held (seen g b now) c
+left_saved {S} g goes a b c held now keeps step = record {
+  comes = λ h back there x. either (g.crashes b.sink).returns (keeps.last h) back there
       (step.now back there x);
   survives = λ x. step.survives (keeps.survives x);
   no_fewer = keeps.no_fewer;
-  since = λ t le same h back there x. either ((crashes b.sink).returned t)
+  since = λ t le same h back there x. either ((g.crashes b.sink).returned t)
       (keeps.since t le same h) back there
       (step.since t back there (omega (arith, le, keeps.later)) x);
   survived = λ t le x. step.survived t (omega (arith, le, keeps.later)) (keeps.survived t le x);
 }
   where
-    either : (r : Returns) → BringsLast r (seen refusals b now) → (back : Point)
+    either : (r : Returns) → BringsLast r (seen g b now) → (back : Point)
         (there : List Portion)
-        → r back there ⊎ (((goes ≡ true) × IsLast (seen refusals b now) back there)
-        ⊎ IsHeld holds now c back there)
-        → IsLast (seen refusals b now) back there ⊎ IsHeld holds now c back there
+        → r back there ⊎ (((goes ≡ true) × IsLast (seen g b now) back there)
+        ⊎ IsHeld g now c back there)
+        → IsLast (seen g b now) back there ⊎ IsHeld g now c back there
     either r brings back there (inl x) = inl (brings back there x)
     either r brings back there (inr (inl (is, is_last))) = inl is_last
     either r brings back there (inr (inr here)) = inr here
 
 -- The images were taken, and then the sink was walked.
-pub left_walked : {S : Type 0} (holds : S → List Portion → Type 0) (refusals : S → ℕ)
-    (crashes : S → Crashes) (goes : Bool) (a b c : Story S)
-    (held now : List Portion) → KeepsLast refusals crashes a held b now
-    → IsWalked holds crashes b c → holds b.sink now
-    → LeavesSaved holds refusals crashes a held (seen refusals b now) c
-left_walked holds refusals crashes goes a b c held now last walked has =
-    left_saved holds refusals crashes goes a b c held now last
-    (nothing_left holds refusals crashes goes b c now (walked.crash now has))
+pub left_walked : {S : Type 0} (g : Ghosts S) (goes : Bool) (a b c : Story S)
+    (held now : List Portion) → KeepsLast g a held b now
+    → IsWalked g b c → g.holds b.sink now → LeavesSaved g a held (seen g b now) c
+left_walked g goes a b c held now last walked has =
+    left_saved g goes a b c held now last
+    (nothing_left g goes b c now (walked.crash now has))
 
 -- rounds were made before
-pub left_behind : {S : Type 0} (holds : S → List Portion → Type 0) (refusals : S → ℕ)
-    (crashes : S → Crashes) (a b c : Story S) (held between : List Portion)
-    (now : Seen) → KeepsLast refusals crashes a held b between
-    → LeavesSaved holds refusals crashes b between now c
-    → LeavesSaved holds refusals crashes a held now c
-left_behind holds refusals crashes a b c held between now keeps leaves = record {
+pub left_behind : {S : Type 0} (g : Ghosts S) (a b c : Story S) (held between : List Portion)
+    (now : Seen) → KeepsLast g a held b between
+    → LeavesSaved g b between now c → LeavesSaved g a held now c
+left_behind g a b c held between now keeps leaves = record {
   comes = λ h. leaves.comes (λ d. keeps.last (λ e. h (d ∙ e)));
   survives = λ x. leaves.survives (keeps.survives x);
   no_fewer = omega (arith, keeps.no_fewer, leaves.no_fewer);

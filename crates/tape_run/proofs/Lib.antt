@@ -76,6 +76,7 @@ mod ExamplesOfCatalogues
 mod ExamplesOfSections
 mod ExamplesOfExtracts
 mod ExamplesOfSaves
+mod ExamplesOfSeen
 mod ExamplesOfRounds
 mod ExamplesOfLaws
 mod Mistakes

@@ -18,7 +18,6 @@ use Rattle.tape_run.specs.declared.script.Step.TheVariants.{Reel, Save, Restart}
 use Rattle.tape_run.specs.Seen.{Seen, IsSession}
 use Rattle.tape_run.specs.History.{Course, course, course_of, IsHistory}
 use Rattle.tape_run.specs.Runs.{Runs}
-use Rattle.tape_run.specs.Given.{failed_of}
 use Rattle.tape_run.specs.Headline.{HasRun}
 use Rattle.tape_run.specs.Crash.{IsOf, StoodAt}
 use Rattle.tape_run.specs.Lives.{IsPlaceOf, ComesBack, Life, IsResumed, Outlives, AreHistories}
@@ -26,7 +25,6 @@ use Rattle.tape_run.specs.Lives.{GoesOn, LivesOn}
 use Rattle.tape_run.proofs.Notes.{same_front, note_at}
 use Rattle.tape_core.specs.Crash.{OnlyThis, Returns}
 use Rattle.tape_run.proofs.Headline.{headline}
-use Rattle.tape_run.proofs.Back.{by_number}
 use Rattle.tape_run.proofs.Begin.{is_resumed}
 
 -- what is of a session stands
@@ -122,8 +120,8 @@ comes_back old steps bytes back there h =
       record {
         rest = b.rest;
         all = b.all;
-        failed = failed_of run.which;
-        are_given = by_number run.which bytes run.given run.are_given;
+        which = run.which;
+        are_given = run.are_given;
         stands = λ set hs l hist s.
             let r = run.ran set hs l hist s in
             let (stands, place) = of_stands set b.mid back there r.session b.is_of in (
@@ -215,8 +213,8 @@ pub goes_on : (c : Point) (ps : List Portion) (s new : Seen) (steps : List Step)
     → IsResumed c ps s → HasRun s steps bytes new → GoesOn c ps steps bytes new.parts
 goes_on c ps s new steps bytes r h = record {
   given = h.given;
-  failed = failed_of h.which;
-  are_given = by_number h.which bytes h.given h.are_given;
+  which = h.which;
+  are_given = h.are_given;
   delivers = λ set hs l st hist.
       let none : length s.notes ≡ 0 = ap length r.notes in
       let file : s.place.file ≡ c.file = ap (λ (p : State). p.file) r.place in

@@ -132,7 +132,7 @@ restart_keeps_later_notes : (S : _) (LS : _) (g : _) (d : _) (κs : _) (a : _) (
     → a.1.0 ≡ 0 → length s.0.now.notes ≡ 2 → ⊥
 restart_keeps_later_notes S LS g d κs a s note l was both set file light first all =
     let place : State = rest_of a.0.now.core in
-    let kept : IsKept (seen g.refusals a.0.now []) = subst (λ v. KeepsNotes place [] v [])
+    let kept : IsKept (seen g a.0.now []) = subst (λ v. KeepsNotes place [] v [])
     (sym both) (two_notes place note set file light) in
     let w = (l.ok [] was kept).2.1 in
     let two : length a.0.now.notes ≡ 2 = ap length both in
@@ -144,7 +144,7 @@ restart_keeps_later_notes S LS g d κs a s note l was both set file light first 
 -- did before. That notes are kept so is what each session meets (`kept` of `Session::new`).
 restart_keeps_later_parts : (S : _) (LS : _) (g : _) (d : _) (κs : _) (a : _) (s : _)
     (held : List Portion) (point : Point) → restart.Learnt-named S LS g d κs a (Ok tt) s
-    → g.holds a.0.now.sink held → IsKept (seen g.refusals a.0.now held)
+    → g.holds a.0.now.sink held → IsKept (seen g a.0.now held)
     → slice_get a.0.now.notes a.1.0 ≡ Some point → point.staged ≡ 10 → weight_of held ≡ 20
     → ((xs ys : List Portion) → g.holds s.0.now.sink xs → g.holds s.0.now.sink ys → xs ≡ ys)
     → g.holds s.0.now.sink held → ⊥
@@ -163,7 +163,7 @@ no_such_point_cuts : (S : _) (LS : _) (g : _) (d : _) (κs : _) (a : _) (s : _)
     → g.holds s.0.now.sink [] → ⊥
 no_such_point_cuts S LS g d κs a s part l was none one gone =
     let held : List Portion = part ∷ [] in
-    let kept : IsKept (seen g.refusals a.0.now held) = subst
+    let kept : IsKept (seen g a.0.now held) = subst
     (λ v. KeepsNotes (rest_of a.0.now.core) [] v held) (sym none) (held, refl) in
     let same : g.holds s.0.now.sink held = (l.err held was kept).0 (λ e. absurd (cc e)) in
     let n : 1 ≡ 0 = ap length (one held [] same gone) in
@@ -172,7 +172,7 @@ no_such_point_cuts S LS g d κs a s part l was none one gone =
 -- restart_keeps_complete: a complete session that goes back to a note stays complete.
 restart_keeps_complete : (S : _) (LS : _) (g : _) (d : _) (κs : _) (a : _) (s : _)
     (held : List Portion) (point : Point) → restart.Learnt-named S LS g d κs a (Ok tt) s
-    → g.holds a.0.now.sink held → IsKept (seen g.refusals a.0.now held)
+    → g.holds a.0.now.sink held → IsKept (seen g a.0.now held)
     → slice_get a.0.now.notes a.1.0 ≡ Some point → point.position ≡ Awaits 1 0 0
     → s.0.now.core.position ≡ Finished → ⊥
 restart_keeps_complete S LS g d κs a s held point l was kept noted start end =
@@ -188,7 +188,7 @@ restart_keeps_complete S LS g d κs a s held point l was kept noted start end =
 saves_before_going_back : (S : _) (LS : _) (g : _) (d : _) (κs : _) (a : _) (s : _)
     (held there : List Portion) (note back : Point)
     → restart.Learnt-named S LS g d κs a (Ok tt) s
-    → g.holds a.0.now.sink held → IsKept (seen g.refusals a.0.now held)
+    → g.holds a.0.now.sink held → IsKept (seen g a.0.now held)
     → slice_get a.0.now.notes a.1.0 ≡ Some note → note.position ≡ Awaits 1 0 0
     → ((old : Point) (parts : List Portion) → (g.crashes a.0.now.sink).returns old parts
     → old.position ≡ Awaits 1 0 0)

@@ -124,7 +124,7 @@ image_read_behind_the_completing_one : (S : _) (R : _) (L : _) (W : _) (P : _) (
     → extract_to.Learnt-named S R L W P LS LR LL LW LP g d g' d' h e m n w f p i j κs a (Ok None)
     s
     → a.0.now.core.position ≡ Finished → g'.holds a.0.now.sink held
-    → IsKeptFor (goes_back a.0.now.notes) (seen g'.refusals a.0.now held)
+    → IsKeptFor (goes_back a.0.now.notes) (seen g' a.0.now held)
     → p.contents a.1.1.1.1.0.now ≡ Some []
     → p.contents s.1.1.1.1.0.now ≡ Some (codes "REEL 1 COMPLETE\n" ++ text) → ⊥
 image_read_behind_the_completing_one S R L W P LS LR LL LW LP g d g' d' h e m n w f p i j κs a s
@@ -148,7 +148,7 @@ session_taken_back_at_the_end : (S : _) (R : _) (L : _) (W : _) (P : _) (LS : _)
     (f : _) (p : _) (i : _) (j : _) (κs : _) (a : _) (s : _) (held : _) (sect block part : ℕ)
     → extract_to.Learnt-named S R L W P LS LR LL LW LP g d g' d' h e m n w f p i j κs a (Ok None) s
     → g'.holds a.0.now.sink held
-    → IsKeptFor (goes_back a.0.now.notes) (seen g'.refusals a.0.now held)
+    → IsKeptFor (goes_back a.0.now.notes) (seen g' a.0.now held)
     → s.0.now.core.position ≡ Awaits sect block part → ⊥
 session_taken_back_at_the_end S R L W P LS LR LL LW LP g d g' d' h e m n w f p i j κs a s held sect
     block part l holds kept waits =

@@ -19,7 +19,7 @@ use Rattle.tape_core.specs.Stands.{Stands, weight_of}
 use Rattle.tape_core.specs.Table.{saved}
 use Rattle.tape_run.specs.declared.script.Step.TheVariants.{Reel, Save}
 use Rattle.tape_run.specs.Crash.{is_saved}
-use Rattle.tape_run.specs.Given.{IsGiven, AreGiven, AreGivenBy, counted, written}
+use Rattle.tape_run.specs.Given.{IsGiven, AreGivenBy, counted, written}
 use Rattle.tape_run.specs.Headline.{begins, IsRead, IsStart}
 use Rattle.tape_run.specs.History.{IsHistory, course, after}
 use Rattle.tape_run.specs.Mount.{Happening, reads, foreign_reel, saves, restarts, IsMountOf}
@@ -54,8 +54,8 @@ same_reel_read_again : (S : _) (R : _) (LS : _) (LR : _) (g : _) (d : _) (h : _)
 same_reel_read_again S R LS LR g d h e κs a s held bytes l was fresh two one =
     let kept = kept_without (rest_of a.0.now.core) held a.0.now.notes fresh in
     let r = l.runs held was kept in
-    let old : Seen = seen g.refusals a.0.now held in
-    let new : Seen = seen g.refusals s.0.now r.0 in
+    let old : Seen = seen g a.0.now held in
+    let new : Seen = seen g s.0.now r.0 in
     let (which, row, runs) = r.2.0 in
     second_reel which old new bytes (subst (λ v. Runs which old v (Some bytes ∷ []) new) two
     (subst (λ v. Runs which old a.1.0.now v new) one runs))
@@ -79,8 +79,8 @@ told_of_one : (S : _) (R : _) (LS : _) (LR : _) (g : _) (d : _) (h : _) (e : _) 
 told_of_one S R LS LR g d h e κs a s held bytes l was fresh one known =
     let kept = kept_without (rest_of a.0.now.core) held a.0.now.notes fresh in
     let r = l.runs held was kept in
-    let old : Seen = seen g.refusals a.0.now held in
-    let new : Seen = seen g.refusals s.0.now r.0 in
+    let old : Seen = seen g a.0.now held in
+    let new : Seen = seen g s.0.now r.0 in
     let (which, row, runs) = r.2.0 in
     let (failed, is, count) = one_told which old new bytes
     (subst (λ v. Runs which old v (Some bytes ∷ []) new) one
@@ -137,8 +137,8 @@ script_notes_in_the_list_alone S R LS LR g d h e κs a s held there older l was 
     back began =
     let kept = kept_without (rest_of a.0.now.core) held a.0.now.notes fresh in
     let r = l.runs held was kept in
-    let old : Seen = seen g.refusals a.0.now held in
-    let new : Seen = seen g.refusals s.0.now r.0 in
+    let old : Seen = seen g a.0.now held in
+    let new : Seen = seen g s.0.now r.0 in
     let here = saved old.place (weight_of held) in
     let one : s.0.now.notes ≡ here ∷ [] = saved_alone r.2.0.0 old new (map h.remaining a.1.1.0.now)
     (subst (λ v. Runs r.2.0.0 old v (map h.remaining a.1.1.0.now) new) steps r.2.0.2)
@@ -159,13 +159,13 @@ script_notes_in_the_list_alone S R LS LR g d h e κs a s held there older l was 
 worked_parts : (S : _) (R : _) (LS : _) (LR : _) (g : _) (d : _) (h : _) (e : _) (κs : _) (a : _)
     (s : _) (held : List Portion)
     → run.Learnt-named S R LS LR g d h e κs a (Ok tt) s
-    → g.holds a.0.now.sink [] → IsStart (codes "ABC001") 1 (seen g.refusals a.0.now [])
+    → g.holds a.0.now.sink [] → IsStart (codes "ABC001") 1 (seen g a.0.now [])
     → a.1.0.now ≡ worked_steps → map h.remaining a.1.1.0.now ≡ map Some worked_reels
     → s.0.now.failures ≡ 0 → HoldsOne (g.holds s.0.now.sink) → g.holds s.0.now.sink held
     → held ≡ first ∷ middle ∷ last ∷ []
 worked_parts S R LS LR g d h e κs a s held l empty fresh steps known none one there =
     let r = l.start (codes "ABC001") 1 empty fresh in
-    let now : Seen = seen g.refusals s.0.now r.0 in
+    let now : Seen = seen g s.0.now r.0 in
     let read : IsRead (codes "ABC001") 1 worked_steps worked_reels now
     = subst (λ v. IsRead (codes "ABC001") 1 v worked_reels now) steps (r.2 worked_reels known).0 in
     one held r.0 there r.1 ∙ (is_worked.read now read none).0
@@ -174,7 +174,7 @@ worked_parts S R LS LR g d h e κs a s held l empty fresh steps known none one t
 -- part.
 delivers_nothing : (S : _) (R : _) (LS : _) (LR : _) (g : _) (d : _) (h : _) (e : _) (κs : _)
     (a : _) (s : _) → run.Learnt-named S R LS LR g d h e κs a (Ok tt) s
-    → g.holds a.0.now.sink [] → IsStart (codes "ABC001") 1 (seen g.refusals a.0.now [])
+    → g.holds a.0.now.sink [] → IsStart (codes "ABC001") 1 (seen g a.0.now [])
     → a.1.0.now ≡ worked_steps → map h.remaining a.1.1.0.now ≡ map Some worked_reels
     → s.0.now.failures ≡ 0 → HoldsOne (g.holds s.0.now.sink) → g.holds s.0.now.sink [] → ⊥
 delivers_nothing S R LS LR g d h e κs a s l empty fresh steps known none one there =
@@ -186,7 +186,7 @@ delivers_nothing S R LS LR g d h e κs a s l empty fresh steps known none one th
 -- delivered once more at its second mount.
 section_delivered_twice : (S : _) (R : _) (LS : _) (LR : _) (g : _) (d : _) (h : _) (e : _) (κs : _)
     (a : _) (s : _) (more : List Portion) → run.Learnt-named S R LS LR g d h e κs a (Ok tt) s
-    → g.holds a.0.now.sink [] → IsStart (codes "ABC001") 1 (seen g.refusals a.0.now [])
+    → g.holds a.0.now.sink [] → IsStart (codes "ABC001") 1 (seen g a.0.now [])
     → a.1.0.now ≡ worked_steps → map h.remaining a.1.1.0.now ≡ map Some worked_reels
     → s.0.now.failures ≡ 0 → HoldsOne (g.holds s.0.now.sink)
     → g.holds s.0.now.sink (first ∷ first ∷ more) → ⊥
@@ -260,7 +260,7 @@ stopped_run_told_as_done : (S : _) (R : _) (LS : _) (LR : _) (g : _) (d : _) (h 
     → g.holds a.1.1.0 held → IsLawful set → Stands set a.1.0.now.file a.1.0.now held
     → map h.remaining a.1.1.1.1.0.now ≡ map Some bytes
     → HoldsOne (g.holds session.sink) → g.holds session.sink now
-    → ((failed : ℕ) (given : List (List ℕ)) → AreGiven failed bytes given
+    → ((which : List Bool) (given : List (List ℕ)) → AreGivenBy which bytes given
     → (hs : List Happening) × IsHistory set 0 a.1.1.1.0.now given hs
     × (now ≡ before set a.1.0.now.file (course set a.1.0.now.file
     (record { at = a.1.0.now.position; notes = [] }) hs).at → ⊥)) → ⊥
@@ -268,5 +268,5 @@ stopped_run_told_as_done S R LS LR g d h e κs a session s set held now bytes l 
     known one there none =
     let r = l.delivers held was in
     let f = r.2 bytes known in
-    let (hs, history, other) = none f.failed f.given f.are_given in
+    let (hs, history, other) = none f.which f.given f.are_given in
     other (one now r.0 there r.1 ∙ f.delivers set hs lawful stands history)

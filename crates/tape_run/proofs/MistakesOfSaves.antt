@@ -77,7 +77,7 @@ list_grows_behind_keep S LS g d κs a s held told l now none =
 checkpoint_that_does_not_stand : (S : _) (LS : _) (g : _) (d : _) (κs : _) (a : _) (point : _)
     (s : _) (set : FileSet) (part : Portion) → save.Learnt-named S LS g d κs a (Ok point) s
     → g.holds a.0.now.sink (part ∷ [])
-    → IsSession set (seen g.refusals a.0.now (part ∷ []))
+    → IsSession set (seen g a.0.now (part ∷ []))
     → before set a.0.now.core.file point.position ≡ [] → ⊥
 checkpoint_that_does_not_stand S LS g d κs a point s set part l was session start =
     let n : 1 ≡ 0 = ap length ((l.stands set (part ∷ []) was session).all ∙ start) in
@@ -139,15 +139,15 @@ stopped_first : (S : _) (R : _) (LS : _) (LR : _) (g : _) (d : _) (h : _) (e : _
     → map h.remaining a.1.1.0.now ≡ left
     → ((note : ℕ) → Some step ≡ Some (Restart note) → ⊥)
     → (now : List Portion) × g.holds s.0.now.sink now
-    × Fails step left (faults.Sink Device) (seen g.refusals a.0.now held)
-    (seen g.refusals s.0.now now)
+    × Fails step left (faults.Sink Device) (seen g a.0.now held)
+    (seen g s.0.now now)
 stopped_first S R LS LR g d h e κs a s step steps held left l was fresh one known other =
     let kept : KeepsNotes (rest_of a.0.now.core) [] a.0.now.notes held
     = subst (λ v. KeepsNotes (rest_of a.0.now.core) [] v held) (sym fresh) (held, refl) in
     let r = l.faults held was kept in (
       r.0,
       r.1 (λ lost. other lost.0.0 (sym (ap (λ v. slice_get v 0) one) ∙ lost.0.1)),
-      first_fails r.2.1 (seen g.refusals a.0.now held) (seen g.refusals s.0.now r.0) step a.1.0.now
+      first_fails r.2.1 (seen g a.0.now held) (seen g s.0.now r.0) step a.1.0.now
           steps (map h.remaining a.1.1.0.now) left (faults.Sink Device) one known r.2.3,
     )
 
@@ -254,7 +254,7 @@ count_passed_over S R LS LR g d h e κs a answer s held bytes end stop items mor
     let front : State = mount_of (rest_of a.0.now.core) in
     let all : List TapeItem = items ++ trailer ∷ more in
     let led : rest_of s.0.now.core ≡ rest_of (behind_items front all)
-    = led_there (seen g.refusals a.0.now held) (seen g.refusals s.0.now r.0)
+    = led_there (seen g a.0.now held) (seen g s.0.now r.0)
     (h.remaining a.1.0.now) bytes all end stop answer.fault r.2.2 known none image in
     not_finished (behind_items front items) trailer more (BlockCount 9 6) counts
     (sym (ap (λ c. c.position) (behind_app front items (trailer ∷ more)))
@@ -278,7 +278,7 @@ broken_reader_mended S R LS LR g d h e κs a answer s held bytes end stop items 
     let r = l.ok held was in
     let front : State = mount_of (rest_of a.0.now.core) in
     let led : rest_of s.0.now.core ≡ rest_of (behind_items front items)
-    = led_there (seen g.refusals a.0.now held) (seen g.refusals s.0.now r.0)
+    = led_there (seen g a.0.now held) (seen g s.0.now r.0)
     (h.remaining a.1.0.now) bytes items end stop answer.fault r.2.2 known none image in
     let still : front.phase ≡ Broken
     = ap (λ f. mounted (resting f) a.0.now.core.position) broken in

@@ -27,7 +27,7 @@ pub extracted_now : {S L R : Type 0} (gs : Ghosts S)
     left said between
     → want ≡ want_at mid.core.file mid.core.position → Appends between says (last_line want records)
     → ((held : List Portion) → gs.holds mid.sink held → IsPut want tells records form stands held)
-    → ExtractsNow gs.holds gs.refusals size gives remaining old shelf left form tells stands said
+    → ExtractsNow gs size gives remaining old shelf left form tells stands said
     says want
 extracted_now {S} {L} {R} gs size gives remaining old mid shelf
     left form tells stands said between
@@ -42,11 +42,11 @@ extracted_now {S} {L} {R} gs size gives remaining old mid shelf
           let (now, has, (still, f, last)) = t.follows held was tt in
           record {
             last = mid.core;
-            now = seen gs.refusals mid now;
+            now = seen gs mid now;
             follows = f;
             gathers =
-                gathers old.core (seen gs.refusals old held) t.turns mid.core
-                (seen gs.refusals mid now) f;
+                gathers old.core (seen gs old held) t.turns mid.core
+                (seen gs mid now) f;
             wanted = is;
             is_put = wrote now has;
           };
@@ -58,7 +58,7 @@ pub stops_reading_now : {S L R O : Type 0} (gs : Ghosts S) (size : L → ℕ)
     (stands : O → Option (List ℕ)) (out : O) (said says : Option (List ℕ))
     → StopsReading gs (size shelf) 0 gives remaining false old new
     shelf left said says
-    → StopsNow gs.holds gs.refusals size gives remaining old shelf left form tells stands out out
+    → StopsNow gs size gives remaining old shelf left form tells stands out out
     said says
 stops_reading_now {S} {L} {R} {O} gs size gives remaining old new
     shelf left form tells stands out said says s =
@@ -86,7 +86,7 @@ pub stops_at_end_now : {S L R O : Type 0} (gs : Ghosts S)
     → ((held : List Portion) → gs.holds mid.sink held → (put ≡ out) ⊎ ((mid.core.position
     ≡ Finished) × ((stands put ≡ stands out)
     ⊎ (tells → stands put ≡ Some (output_of form held)))))
-    → StopsNow gs.holds gs.refusals size gives remaining old shelf left form tells stands out put
+    → StopsNow gs size gives remaining old shelf left form tells stands out put
     said says
 stops_at_end_now {S} {L} {R} {O} gs size gives remaining old mid
     shelf left form tells stands out put
@@ -103,5 +103,5 @@ stops_at_end_now {S} {L} {R} {O} gs size gives remaining old mid
           (sym (append-nil (map answer_of t.turns))) t.lines) last;
       follows = λ held was.
           let (now, has, (still, f, last)) = t.follows held was tt in
-          (mid.core, seen gs.refusals mid now, f, wrote now has);
+          (mid.core, seen gs mid now, f, wrote now has);
     }

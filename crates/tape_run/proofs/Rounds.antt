@@ -135,7 +135,7 @@ none_gone {S} {L} {R} gs size gives remaining back old shelf said =
       follows = λ held was kept. (
         held,
         was,
-        (kept, refl, last_same gs.refusals gs.crashes old held),
+        (kept, refl, last_same gs old held),
       );
     }
 
@@ -185,11 +185,11 @@ gone_on {S} {L} {R} gs size before gives remaining back old mid new
               has_now,
               (
                 then,
-                follows_push back old.core (seen gs.refusals old held) rounds
-                    (seen gs.refusals mid between) r (seen gs.refusals new now) f
-                    (subst (λ c. Follows back c (seen gs.refusals mid between) t.turns new.core
-                    (seen gs.refusals new now)) h.at one),
-                last_then gs.refusals gs.crashes old mid new held between now before last,
+                follows_push back old.core (seen gs old held) rounds
+                    (seen gs mid between) r (seen gs new now) f
+                    (subst (λ c. Follows back c (seen gs mid between) t.turns new.core
+                    (seen gs new now)) h.at one),
+                last_then gs old mid new held between now before last,
               ),
             );
       },

@@ -1,7 +1,7 @@
 -- The worked set where a reader fails, where a part is refused, and on another day.
 use Rattle.std.proofs.Common.{◌≡◌, ◌≤◌, ℕ, zero, suc, ◌+◌, List, [], ◌∷◌, true, false}
 use Rattle.std.proofs.Common.{refl, sym, ap, ◌∙◌, subst, inl, inr, lit≤, codes, arith, take}
-use Rattle.std.proofs.Common.{Some, length}
+use Rattle.std.proofs.Common.{Some, length, Bool}
 use Rattle.std.specs.Prelude.{replicate, min, ⊤}
 use Rattle.std.proofs.lemmas.List.{take_all}
 use Rattle.std.proofs.lemmas.Option.{slice_get_within}
@@ -23,7 +23,7 @@ use Rattle.tape_run.specs.declared.script.Step.{Step}
 use Rattle.tape_run.specs.declared.script.Step.TheVariants.{Reel}
 use Rattle.tape_run.specs.Mount.{Happening, IsMountOf, reads, cut}
 use Rattle.tape_run.specs.History.{Course, course, course_of, IsHistory}
-use Rattle.tape_run.specs.Given.{AreGiven, failed_of, counted_up}
+use Rattle.tape_run.specs.Given.{AreGivenBy, failed_of, counted_up}
 use Rattle.tape_run.specs.Headline.{begins, IsStart, IsRead, HasRun, HasStopped, Stops}
 use Rattle.tape_run.specs.Lives.{GoesOn}
 use Rattle.tape_run.specs.Seen.{Seen, IsSession}
@@ -32,7 +32,7 @@ use Rattle.tape_run.specs.WorkedHistory.{reel_1, reading}
 use Rattle.tape_run.specs.WorkedDays.{DaysAreWorked, IsWhole, once, twice, two_reels, four_reels}
 use Rattle.tape_run.specs.WorkedDays.{behind_one}
 use Rattle.tape_run.specs.Back.{reels_of}
-use Rattle.tape_run.proofs.Back.{all_given, by_number, none_of}
+use Rattle.tape_run.proofs.Back.{none_of}
 use Rattle.tape_run.proofs.Fronts.{fronts_are_mounts}
 use Rattle.tape_run.proofs.WorkedHistory.{is_lawful, fit_of}
 use Rattle.tape_run.proofs.WorkedReels.{whole_1, whole_2}
@@ -90,21 +90,21 @@ cut_one zero n (h ∷ hs) = cut n h ∷ hs
 cut_one (suc k) n (h ∷ hs) = h ∷ cut_one k n hs
 
 -- where one reader failed, one of the happenings is cut
-one_cut : (bytes given : List (List ℕ)) (hs : List Happening)
-    → IsHistory worked_set 0 (reels_of bytes) bytes hs → AreGiven 1 bytes given
+one_cut : (which : List Bool) (bytes given : List (List ℕ)) (hs : List Happening)
+    → IsHistory worked_set 0 (reels_of bytes) bytes hs → failed_of which ≡ 1
+    → AreGivenBy which bytes given
     → (k : ℕ) × (n : ℕ) × IsHistory worked_set 0 (reels_of bytes) given (cut_one k n hs)
-one_cut [] [] hs is a = absurd (omega (arith, a))
-one_cut [] (g ∷ given) hs is a = absurd a
-one_cut (b ∷ bytes) [] hs is a = absurd a
-one_cut (b ∷ bytes) (g ∷ given) [] is a = absurd is
-one_cut (b ∷ bytes) (g ∷ given) (h ∷ hs) (mount, rest) (inl (same, more)) =
-    let next = one_cut bytes given hs rest more in
+one_cut [] bytes given hs is one a = absurd (omega (arith, one))
+one_cut (f ∷ which) [] given hs is one a = absurd a
+one_cut (f ∷ which) (b ∷ bytes) [] hs is one a = absurd a
+one_cut (f ∷ which) (b ∷ bytes) (g ∷ given) [] is one a = absurd is
+one_cut (false ∷ which) (b ∷ bytes) (g ∷ given) (h ∷ hs) (mount, rest) one (same, more) =
+    let next = one_cut which bytes given hs rest one more in
     (suc next.0, next.1, (subst (λ z. IsMountOf worked_set z h) (sym same) mount, next.2))
-one_cut (b ∷ bytes) (g ∷ given) (h ∷ hs) (mount, rest) (inr (m, e, (left, is), more)) =
+one_cut (true ∷ which) (b ∷ bytes) (g ∷ given) (h ∷ hs) (mount, rest) one ((left, is), more) =
     let front = fronts_are_mounts worked_set g left h
     (subst (λ z. IsMountOf worked_set z h) is mount) in
-    let all : given ≡ bytes = all_given bytes given
-    (subst (λ z. AreGiven z bytes given) (omega (arith, e)) more) in
+    let all : given ≡ bytes = none_of which bytes given (omega (arith, one)) more in
     let same : IsHistory worked_set 0 (reels_of bytes) given hs =
     subst (λ z. IsHistory worked_set 0 (reels_of bytes) z hs) (sym all) rest in
     (0, front.0, (front.1, same))
@@ -151,8 +151,8 @@ one_failed (suc (suc n)) e = absurd (let two = counts_up n 2 (lit≤ tt) in omeg
 failed : (s : Seen) → IsRead (codes "ABC001") 1 four_reels twice s → s.failures ≡ 1 → IsWhole s
 failed s r one =
     let count : failed_of r.which ≡ 1 = one_failed (failed_of r.which) (sym one ∙ r.count) in
-    let h = one_cut twice r.given four_volumes (whole_1, (whole_2, (whole_1, (whole_2, tt))))
-    (subst (λ n. AreGiven n twice r.given) count (by_number r.which twice r.given r.are_given)) in
+    let h = one_cut r.which twice r.given four_volumes
+    (whole_1, (whole_2, (whole_1, (whole_2, tt)))) count r.are_given in
     let (there, parts) = r.reads worked_set (cut_one h.0 h.1 four_volumes) is_lawful refl refl
     h.2 in
     let end = ends_soon h.0 h.1 in
@@ -246,10 +246,9 @@ stands_there = record {
 }
 
 goes_on : (now : List Portion) (on : GoesOn behind_one (first ∷ []) two_reels once now)
-    → on.failed ≡ 0 → now ≡ first ∷ middle ∷ last ∷ []
+    → failed_of on.which ≡ 0 → now ≡ first ∷ middle ∷ last ∷ []
 goes_on now on none =
-    let given : on.given ≡ once =
-    all_given once on.given (subst (λ n. AreGiven n once on.given) none on.are_given) in
+    let given : on.given ≡ once = none_of on.which once on.given none on.are_given in
     let both = vol_1 ∷ vol_2 ∷ [] in
     on.delivers worked_set both is_lawful stands_there
     (subst (λ z. IsHistory worked_set 0 two_reels z both) (sym given) (whole_1, (whole_2, tt)))

@@ -8,7 +8,7 @@ use Rattle.tape_set.specs.Layout.{FileSet}
 use Rattle.tape_set.specs.Lawful.{IsLawful, most_blocks}
 use Rattle.tape_set.specs.Position.{want_at}
 use Rattle.tape_run.specs.History.{Course, IsHistory}
-use Rattle.tape_run.specs.Given.{AreGiven, failed_of}
+use Rattle.tape_run.specs.Given.{AreGivenBy, failed_of}
 use Rattle.tape_run.specs.Seen.{Seen}
 use Rattle.tape_run.specs.Headline.{IsRead}
 use Rattle.tape_run.proofs.Back.{none_failed, none_of}
@@ -104,21 +104,8 @@ is_history = (
   ),
 )
 
-all : AreGiven 0 worked_reels worked_reels
-all = inl (
-  refl,
-  inl (
-    refl,
-    inl (
-      refl,
-      inl (
-        refl,
-        inl
-            (refl, inl (refl, inl (refl, inl (refl, inl (refl, inl (refl, refl)))))),
-      ),
-    ),
-  ),
-)
+all : AreGivenBy (replicate 10 false) worked_reels worked_reels
+all = (refl, refl, refl, refl, refl, refl, refl, refl, refl, refl, refl)
 
 -- a session over these readers, of which none failed
 has_read : (s : Seen) → IsRead (codes "ABC001") 1 worked_steps worked_reels s → s.failures ≡ 0

@@ -31,7 +31,7 @@ use Rattle.tape_run.specs.declared.script.Step.TheVariants.{Reel, Save, Restart}
 use Rattle.tape_run.specs.Back.{reels_of, AreVolumes}
 use Rattle.tape_run.specs.CasesOfSaves.{brings, comes_now}
 use Rattle.tape_run.specs.Crash.{IsOf, LastAlone, StoodAt}
-use Rattle.tape_run.specs.Given.{is_device, IsGiven, AreGiven, AreGivenBy, counted, counted_up}
+use Rattle.tape_run.specs.Given.{is_device, IsGiven, AreGivenBy, counted, counted_up}
 use Rattle.tape_run.specs.Given.{failed_of, written}
 use Rattle.tape_run.specs.Headline.{Ran, HasRun, IsStart, IsRead}
 use Rattle.tape_run.specs.Headline.{begins}
@@ -114,10 +114,6 @@ pub record CasesOfGiven : Type 0 where
   -- of a reader that failed a front of its bytes was given
   pub no_other : IsGiven true (1 ∷ 2 ∷ []) (2 ∷ []) → ⊥
   pub front : IsGiven true (1 ∷ 2 ∷ []) (1 ∷ [])
-  pub none_failed : (bytes given : List ℕ) → AreGiven 0 (bytes ∷ []) (given ∷ []) → given ≡ bytes
-  pub one_failed : (b c d : List ℕ) → AreGiven 1 (b ∷ c ∷ []) (b ∷ [] ∷ [])
-  pub of_each : (b : List ℕ) → AreGiven 0 (b ∷ []) [] → ⊥
-  pub of_no_more : (b : List ℕ) → AreGiven 0 [] (b ∷ []) → ⊥
   -- they are counted up to the greatest number
   pub calm : counted false 3 ≡ 3
   pub one : counted true 3 ≡ 4
@@ -161,12 +157,6 @@ pub record CasesOfVolumes : Type 0 where
 
 -- of sessions, and of what was read of a file
 pub record CasesOfSessions : Type 0 where
-  -- what is seen of one whose sink is the count of its refused calls
-  pub is_seen : (s : Story ℕ) (parts : List Portion)
-      → (seen (λ n. n) s parts).place ≡ rest_of s.core
-  pub seen_counts : (s : Story ℕ) (parts : List Portion)
-      → ((seen (λ n. n) s parts).failures ≡ s.failures)
-      × ((seen (λ n. n) s parts).refusals ≡ s.sink)
   pub its_course : (s : Seen) (c : Point) → s.notes ≡ c ∷ []
       → course_of s ≡ record { at = s.place.position; notes = c.position ∷ [] }
   pub session : (set : FileSet) (s : Seen) → IsSession set s
@@ -319,7 +309,7 @@ pub record CasesOfCrashes : Type 0 where
       → IsHistory set (length old.notes) done given hs → IsSession set old
       → Stands set old.place.file back there
       × IsPlaceOf (course set old.place.file (course_of old) hs) back.position
-      × (steps ≡ done ++ c.rest) × AreGiven c.failed bytes given
+      × (steps ≡ done ++ c.rest) × AreGivenBy c.which bytes given
   pub resumed : (c : Point) (ps : List Portion) (s : Seen) → IsResumed c ps s
       → (s.place ≡ place_of c) × (s.parts ≡ ps) × (s.notes ≡ [])
   -- a life that saved, and was cut off in its next reel, has a history
@@ -335,4 +325,4 @@ pub record CasesOfCrashes : Type 0 where
       → Stands set c.file c ps → IsHistory set 0 steps g.given hs
       → (now ≡ before set c.file
       (course set c.file (record { at = c.position; notes = [] }) hs).at)
-      × AreGiven g.failed bytes g.given
+      × AreGivenBy g.which bytes g.given

@@ -31,7 +31,7 @@ use Rattle.tape_run.specs.declared.fault.RunFault.TheVariants.{Sink, NoSuchPoint
 use Rattle.tape_run.specs.declared.fault.RunFault.TheVariants.{OutOfMemory, OtherFile}
 use Rattle.tape_run.specs.Causes.{WritingFails, EndingFails}
 use Rattle.tape_run.specs.Extracting.{IsWritten, Ends, Extracts, Stops}
-use Rattle.tape_run.specs.ExtractingNow.{IsPut, EndsNow, ExtractsNow, StopsNow, Takes, refused_by}
+use Rattle.tape_run.specs.ExtractingNow.{IsPut, EndsNow, ExtractsNow, StopsNow}
 use Rattle.tape_run.specs.Lead.{Lead, over_reel}
 use Rattle.tape_run.specs.Mount.{Happening, IsMountOf, foreign_reel, after_mount}
 use Rattle.tape_run.specs.Output.{AppendsFront}
@@ -40,14 +40,13 @@ use Rattle.tape_run.specs.RecordText.{output_of}
 use Rattle.tape_run.specs.ReelLine.{reel_lines, last_line}
 use Rattle.tape_run.specs.Reeling.{Opened, Turn, answer_of, AreTurns, IsTurn, Follows, AreGiven}
 use Rattle.tape_run.specs.Reeling.{AreMounts, AreTapes, over_tapes, IsThere, Gathers}
-use Rattle.tape_run.specs.Reeling.{reached, is_doubtful, IsNoted, ReadsReel}
+use Rattle.tape_run.specs.Reeling.{reached, is_doubtful, IsNoted, ReadsAndNotes}
 use Rattle.tape_run.specs.Reeling.{goes_back, IsKeptFor, AreSure}
 use Rattle.tape_run.specs.Reeling.{AreFirstTurns, Took}
 use Rattle.tape_run.specs.Reeling.{step_behind, notes_behind, steps_of, AreTold, AreSteps}
 use Rattle.tape_run.specs.Reels.{Reads}
 use Rattle.tape_run.specs.Seen.{Seen, IsKept}
 use Rattle.tape_run.specs.Steps.{Saved, WentBack}
-use Rattle.tape_run.specs.declared.extract.out_sink.OutSink.{OutSink}
 use Rattle.tape_run.specs.declared.script.Step.TheVariants.{Reel, Save, Restart}
 use Rattle.tape_core.specs.Point.{Point}
 use Rattle.tape_run.specs.Story.{Story}
@@ -141,7 +140,7 @@ pub record CasesOfTurns : Type 0 where
   pub none_told : (o : Opened) → AreTold (Some o ∷ []) [] → ⊥
   pub told_alone : (b : List ℕ) → AreTold (None ∷ []) (b ∷ []) → ⊥
   pub reel_read : (back : Bool) (core next : State) (old new : Seen) (o : Opened)
-      → ReadsReel back core old o next new → (core.position ≢ Finished)
+      → ReadsAndNotes back core old o next new → (core.position ≢ Finished)
       × IfKnown o.had o.left (λ bytes left. Reads core.position core bytes left o.answer)
       × (new.place ≡ rest_of next)
   pub waits : (back : Bool) (core last : State) (old new : Seen)
@@ -184,15 +183,12 @@ StopsListed session behind shelf left form out written said says =
 abbrev pub ExtractsListedNow : Listed → Readers → Readers → Form → Known → Known → Known
     → Option Want → Type 0
 ExtractsListedNow session shelf left form stands said says want =
-    ExtractsNow (λ s ps. s ≡ ps) (λ s. 0) length Took (λ r. r) session shelf left form ⊤ stands
-    said says want
+    ExtractsNow as_sink length Took (λ r. r) session shelf left form ⊤ stands said says want
 
 abbrev pub StopsListedNow : Listed → Readers → Readers → Form → Known → Known → Known → Known
     → Type 0
 StopsListedNow session shelf left form out put said says =
-    StopsNow (λ s ps. s ≡ ps) (λ s. 0) length Took (λ r. r) session shelf left form ⊤ (λ o. o) out
-    put
-    said says
+    StopsNow as_sink length Took (λ r. r) session shelf left form ⊤ (λ o. o) out put said says
 
 -- of what was written
 pub record CasesOfOutputs : Type 0 where
@@ -284,14 +280,10 @@ pub record CasesOfOutputs : Type 0 where
       → HasTaken (λ (w : Known). w) form out weight records begun failed parts
       → (begun ≡ is_some (join parts).rest)
       × (TellsAlways (λ (w : Known). w) → IsText failed (text_so_far form parts) out)
-  pub sink_takes : (s : OutSink Known) (parts : List Portion) → Takes (λ w. w) s parts
-      → (s.weight ≡ weight_of parts) × (s.records ≡ length (join parts).records)
-      × (s.begun ≡ is_some (join parts).rest)
   pub text : (known : List ℕ) → IsText false (7 ∷ []) (Some known) → known ≡ 7 ∷ []
   -- a writer that is its bytes tells them always, and one whose bytes are never known does not
   pub tells : TellsAlways (λ (w : List ℕ). Some w)
   pub tells_nothing : TellsAlways {W = List ℕ} (λ w. None) → ⊥
-  pub refused : (s : OutSink Known) → refused_by s ≡ s.refused
   pub ended : (with_end true 3 ≡ 3) × (with_end false 3 ≡ 4)
 
 -- ---- why it was not

@@ -23,7 +23,7 @@ use Rattle.tape_run.specs.Checked.{IsReport}
 use Rattle.tape_run.specs.Checked as checked
 use Rattle.tape_run.specs.Crash.{StoodAt}
 use Rattle.tape_run.specs.Fronts.{FrontsAreMounts, GivenIsHistory}
-use Rattle.tape_run.specs.Given.{AreGiven}
+use Rattle.tape_run.specs.Given.{AreGivenBy}
 use Rattle.tape_run.specs.History.{IsHistory}
 use Rattle.tape_run.specs.Lacks.{LackIsFirst, IsFoundWhole, IsFirstLack, lack_of, found_all}
 use Rattle.tape_run.specs.Lead.{AreItems, ItemsAreThere}
@@ -49,7 +49,8 @@ pub record CasesOfRunLaws : Type 0 where
       → IsMountOf set (front ++ rest) h → (n : ℕ) × IsMountOf set front (cut n h)
   pub what_was_given : GivenIsHistory → (set : FileSet) (steps : List Step)
       (bytes given : List (List ℕ)) (hs : List Happening) → IsHistory set 0 steps bytes hs
-      → AreGiven 2 bytes given → (others : List Happening) × IsHistory set 0 steps given others
+      → AreGivenBy (true ∷ false ∷ true ∷ []) bytes given
+      → (others : List Happening) × IsHistory set 0 steps given others
   pub a_refusal : OnlyRefusalsStop → (which : List Bool) (old new : Seen) (steps : List Step)
       (bytes : List (List ℕ)) (n : ℕ) (fault : RunFault) (set : FileSet) (hs : List Happening)
       → RunsUpTo which old steps (map Some bytes) n fault new

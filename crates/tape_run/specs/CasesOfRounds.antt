@@ -71,11 +71,11 @@ pub record CasesOfRounds : Type 0 where
       → FollowsRounds back core old [] new → new ≡ old
   -- the last line, and what is written, are those of the session
   pub file_ended : (session : Listed) (form : Form) (out now said says : Known)
-      (want : Option Want) (e : EndsFile (λ s ps. s ≡ ps) session form out now said says want)
+      (want : Option Want) (e : EndsFile as_sink session form out now said says want)
       → (want ≡ wanted session.core) × Appends said says (last_line want e.records)
       × IsWritten want e.records form out now session.sink
   pub file_stopped : (session : Listed) (form : Form) (out now said says : Known)
-      (s : StopsAtEnd (λ s ps. s ≡ ps) session form (λ w. w) out now said says)
+      (s : StopsAtEnd as_sink session form (λ w. w) out now said says)
       → AppendsFront said says (last_line s.want s.records) × ((now ≡ out)
       ⊎ ((session.core.position ≡ Finished) × AppendsFront out now (output_of form session.sink)))
   -- the lines are those of all rounds, counted on
@@ -98,12 +98,12 @@ pub record CasesOfRounds : Type 0 where
       (out now said says : Known) (want : Option Want)
       (e : AgainListed session behind shelf left form out now said says want)
       → IsKeptFor (goes_back session.notes)
-      (seen {S = List Portion} (λ s. 0) session session.sink)
-      → (x : Ends session.core (seen {S = List Portion} (λ s. 0) session session.sink)
+      (seen as_sink session session.sink)
+      → (x : Ends session.core (seen as_sink session session.sink)
       (turns_of e.rounds ++ e.turns) want e.records form out now)
       × GoesRound (goes_back session.notes) session.core
-      (seen {S = List Portion} (λ s. 0) session session.sink) e.rounds e.turns x.last x.now
-      × (x.now ≡ seen {S = List Portion} (λ s. 0) behind behind.sink)
+      (seen as_sink session session.sink) e.rounds e.turns x.last x.now
+      × (x.now ≡ seen as_sink behind behind.sink)
   pub again_stopped : (session behind : Listed) (shelf left : Readers) (form : Form)
       (out now said says : Known)
       (s : StopsAgainListed session behind shelf left form out now said says) → (length s.more ≤ 1)
@@ -118,8 +118,8 @@ pub record CasesOfRounds : Type 0 where
       (out now said says : Known)
       (s : StopsAgainListed session behind shelf left form out now said says)
       → IsKeptFor (goes_back session.notes)
-      (seen {S = List Portion} (λ s. 0) session session.sink)
+      (seen as_sink session session.sink)
       → (last : State) × (x : Seen) × GoesRound (goes_back session.notes) session.core
-      (seen {S = List Portion} (λ s. 0) session session.sink) s.rounds s.turns last x
+      (seen as_sink session session.sink) s.rounds s.turns last x
       × ((now ≡ out) ⊎ ((x.place.position ≡ Finished)
       × AppendsFront out now (output_of form x.parts)))

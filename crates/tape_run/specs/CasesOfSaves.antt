@@ -5,6 +5,7 @@ use Rattle.std.specs.Prelude.{true, false}
 use Rattle.tape_blocks.specs.Block.{Portion}
 use Rattle.tape_set.specs.declared.position.Position.TheVariants.{Finished}
 use Rattle.tape_core.specs.Crash.{Crashes}
+use Rattle.tape_core.specs.declared.sink.PartSink.{Ghosts}
 use Rattle.tape_core.specs.Place.{rest_of}
 use Rattle.tape_run.specs.Crash.{IsNoteOf, BringsLast, KeepsLast, LeavesSaved, is_saved}
 use Rattle.tape_run.specs.Reeling.{StoodSaved}
@@ -39,6 +40,24 @@ comes_since ps c = record {
   survived = λ t. c.position ≡ Finished;
 }
 
+-- a sink that is a checkpoint: it holds any parts of that weight, and comes back so
+abbrev pub weighing : (Point → Crashes) → Ghosts Point
+weighing crashes = record {
+  holds = λ s parts. s.staged ≡ weight_of parts;
+  weighs = λ s. s.staged;
+  refusals = λ s. 0;
+  crashes = crashes;
+}
+
+-- the same of one that cannot be believed
+abbrev pub holding_none : (Point → Crashes) → Ghosts Point
+holding_none crashes = record {
+  holds = λ s parts. ⊥;
+  weighs = λ s. s.staged;
+  refusals = λ s. 0;
+  crashes = crashes;
+}
+
 -- of what comes back of a session that was saved
 pub record CasesOfSaved : Type 0 where
   -- of two notes the first comes back with its own parts, and the last alone is brought
@@ -53,39 +72,39 @@ pub record CasesOfSaved : Type 0 where
   -- the note that was made on the way is brought
   pub noted_on_the_way : (old new : Story Point) (held now ps : List Portion) (c : Point)
       → old.notes ≡ [] → new.notes ≡ c ∷ []
-      → KeepsLast (λ s. 0) (comes_now ps) old held new now
+      → KeepsLast (weighing (comes_now ps)) old held new now
       → (new.sink ≡ c) × IsFront ps now
   -- where none was made the one that came back alone still does
   pub none_on_the_way : (old new : Story Point) (held now ps : List Portion) (c : Point)
       → old.notes ≡ c ∷ [] → new.notes ≡ c ∷ [] → old.sink ≡ c → IsFront ps held
-      → weight_of ps ≡ c.staged → KeepsLast (λ s. 0) (comes_now ps) old held new now
+      → weight_of ps ≡ c.staged → KeepsLast (weighing (comes_now ps)) old held new now
       → new.sink ≡ c
   -- where something came back whatever a crash left it does so still
   pub survives : (old new : Story Point) (held now : List Portion)
-      → KeepsLast (λ s. 0) (comes_now []) old held new now
+      → KeepsLast (weighing (comes_now [])) old held new now
       → old.sink.position ≡ Finished → new.sink.position ≡ Finished
   -- the same since a moment up to the first, where no note was made
   pub none_since : (old new : Story Point) (held now ps : List Portion) (c : Point) (t : ℕ)
       → old.notes ≡ c ∷ [] → new.notes ≡ c ∷ [] → old.sink ≡ c → IsFront ps held
       → weight_of ps ≡ c.staged → t ≤ old.sink.file
-      → KeepsLast (λ s. 0) (comes_since ps) old held new now → new.sink ≡ c
+      → KeepsLast (weighing (comes_since ps)) old held new now → new.sink ≡ c
   pub survived : (old new : Story Point) (held now : List Portion) (t : ℕ) → t ≤ old.sink.file
-      → KeepsLast (λ s. 0) (comes_since []) old held new now
+      → KeepsLast (weighing (comes_since [])) old held new now
       → old.sink.position ≡ Finished → new.sink.position ≡ Finished
   pub goes_on : (old new : Story Point) (held now : List Portion)
-      → KeepsLast (λ s. 0) (comes_since []) old held new now
+      → KeepsLast (weighing (comes_since [])) old held new now
       → (length old.notes ≤ length new.notes) × (old.sink.file ≤ new.sink.file)
   -- a session that stands so is there, and its sink holds these parts
   pub stood : (old new : Story Point) (held ps : List Portion) (now : Seen) (c : Point)
       → old.notes ≡ [] → now.notes ≡ c ∷ []
-      → StoodSaved (λ s parts. s.staged ≡ weight_of parts) (λ s. 0) (comes_now ps) old held
+      → StoodSaved (weighing (comes_now ps)) old held
       new now
       → (new.sink ≡ c) × (now.place ≡ rest_of new.core)
       × IsFront ps now.parts × (c.staged ≡ weight_of now.parts)
   -- at a fault nothing comes back but the note made on the way, or where the session stands
   pub left_at_a_fault : (old new : Story Point) (held ps : List Portion) (now : Seen) (c : Point)
       → old.notes ≡ [] → now.notes ≡ c ∷ []
-      → LeavesSaved (λ s parts. s.staged ≡ weight_of parts) (λ s. 0) (comes_now ps) old held
+      → LeavesSaved (weighing (comes_now ps)) old held
       now new
       → ((new.sink ≡ c) × IsFront ps now.parts)
       ⊎ ((new.sink.staged ≡ weight_of ps) × IsFront now.parts ps
@@ -93,20 +112,20 @@ pub record CasesOfSaved : Type 0 where
   pub alone_at_a_fault : (old new : Story Point) (held ps : List Portion) (now : Seen) (c : Point)
       → old.notes ≡ c ∷ [] → now.notes ≡ c ∷ [] → old.sink ≡ c → IsFront ps held
       → weight_of ps ≡ c.staged
-      → LeavesSaved (λ s parts. ⊥) (λ s. 0) (comes_now ps) old held now new → new.sink ≡ c
+      → LeavesSaved (holding_none (comes_now ps)) old held now new → new.sink ≡ c
   pub survives_a_fault : (old new : Story Point) (held : List Portion) (now : Seen)
-      → LeavesSaved (λ s parts. ⊥) (λ s. 0) (comes_now []) old held now new
+      → LeavesSaved (holding_none (comes_now [])) old held now new
       → old.sink.position ≡ Finished → new.sink.position ≡ Finished
   pub alone_up_to_a_fault : (old new : Story Point) (held ps : List Portion) (now : Seen)
       (c : Point) (t : ℕ) → old.notes ≡ c ∷ [] → now.notes ≡ c ∷ [] → old.sink ≡ c
       → IsFront ps held → weight_of ps ≡ c.staged → t ≤ old.sink.file
-      → LeavesSaved (λ s parts. ⊥) (λ s. 0) (comes_since ps) old held now new → new.sink ≡ c
+      → LeavesSaved (holding_none (comes_since ps)) old held now new → new.sink ≡ c
   pub survived_a_fault : (old new : Story Point) (held : List Portion) (now : Seen) (t : ℕ)
       → t ≤ old.sink.file
-      → LeavesSaved (λ s parts. ⊥) (λ s. 0) (comes_since []) old held now new
+      → LeavesSaved (holding_none (comes_since [])) old held now new
       → old.sink.position ≡ Finished → new.sink.position ≡ Finished
   pub no_fewer_at_a_fault : (old new : Story Point) (held : List Portion) (now : Seen)
-      → LeavesSaved (λ s parts. ⊥) (λ s. 0) (comes_since []) old held now new
+      → LeavesSaved (holding_none (comes_since [])) old held now new
       → length old.notes ≤ length now.notes
   -- whether nothing but reels was read since the last save
   pub read_since : is_saved false (Reel ∷ Save ∷ Reel ∷ []) ≡ true

@@ -24,10 +24,6 @@ abbrev pub IsNoteOf : ℕ → Seen → Point → List Portion → Type 0
 IsNoteOf n s back there = (slice_get s.notes n ≡ Some back) × IsFront there s.parts
     × (weight_of there ≡ back.staged)
 
--- a note of the session, with its parts
-abbrev pub IsNoted : Seen → Point → List Portion → Type 0
-IsNoted s back there = (n : ℕ) × IsNoteOf n s back there
-
 -- the note of the session that was made last, with its parts
 abbrev pub IsLast : Seen → Point → List Portion → Type 0
 IsLast s back there = (n : ℕ) × (length s.notes ≡ n + 1) × IsNoteOf n s back there
@@ -47,54 +43,51 @@ LastAlone now s = BringsLast now.returns s
 -- the note made last came back before; where none was made on the way nothing else came back since
 -- a moment, if nothing else had up to here; and where something came back whatever a crash leaves
 -- it does so still, and did at each moment on the way.
-pub record KeepsLast {S : Type 0} (refusals : S → ℕ) (crashes : S → Crashes) (old : Story S)
-    (held : List Portion) (new : Story S) (now : List Portion) : Type 0 where
+pub record KeepsLast {S : Type 0} (g : Ghosts S) (old : Story S) (held : List Portion)
+    (new : Story S) (now : List Portion) : Type 0 where
   pub last : (length new.notes ≡ length old.notes
-      → BringsLast (crashes old.sink).returns (seen refusals old held))
-      → BringsLast (crashes new.sink).returns (seen refusals new now)
-  pub survives : (crashes old.sink).survives → (crashes new.sink).survives
+      → BringsLast (g.crashes old.sink).returns (seen g old held))
+      → BringsLast (g.crashes new.sink).returns (seen g new now)
+  pub survives : (g.crashes old.sink).survives → (g.crashes new.sink).survives
   pub no_fewer : length old.notes ≤ length new.notes
-  pub later : (crashes old.sink).moment ≤ (crashes new.sink).moment
-  pub since : (t : ℕ) → t ≤ (crashes old.sink).moment → length new.notes ≡ length old.notes
-      → BringsLast ((crashes old.sink).returned t) (seen refusals old held)
-      → BringsLast ((crashes new.sink).returned t) (seen refusals new now)
-  pub survived : (t : ℕ) → t ≤ (crashes old.sink).moment
-      → (crashes old.sink).survived t → (crashes new.sink).survived t
+  pub later : (g.crashes old.sink).moment ≤ (g.crashes new.sink).moment
+  pub since : (t : ℕ) → t ≤ (g.crashes old.sink).moment → length new.notes ≡ length old.notes
+      → BringsLast ((g.crashes old.sink).returned t) (seen g old held)
+      → BringsLast ((g.crashes new.sink).returned t) (seen g new now)
+  pub survived : (t : ℕ) → t ≤ (g.crashes old.sink).moment
+      → (g.crashes old.sink).survived t → (g.crashes new.sink).survived t
 
 -- where the session stands, with all that its sink holds: these parts, and perhaps more
-abbrev pub IsHeld : {S : Type 0} → (S → List Portion → Type 0) → List Portion → Story S → Point
-    → List Portion → Type 0
-IsHeld holds parts s back there = holds s.sink there × IsFront parts there
+abbrev pub IsHeld : {S : Type 0} → Ghosts S → List Portion → Story S → Returns
+IsHeld g parts s back there = g.holds s.sink there × IsFront parts there
     × (back ≡ saved (rest_of s.core) (weight_of there))
 
 -- A step was not made: nothing more comes back than before it, but where the session stands then,
 -- and of one that goes back the note that it made last.
-abbrev pub LeavesStep : {S : Type 0} → (S → List Portion → Type 0) → (S → ℕ) → (S → Crashes)
-    → Bool → Story S → List Portion → Story S → Type 0
-LeavesStep holds refusals crashes goes old held new =
-    AddsOnly (λ back there. ((goes ≡ true) × IsLast (seen refusals old held) back there)
-    ⊎ IsHeld holds held new back there) (crashes old.sink) (crashes new.sink)
+abbrev pub LeavesStep : {S : Type 0} → Ghosts S → Bool → Story S → List Portion → Story S → Type 0
+LeavesStep g goes old held new =
+    AddsOnly (λ back there. ((goes ≡ true) × IsLast (seen g old held) back there)
+    ⊎ IsHeld g held new back there) (g.crashes old.sink) (g.crashes new.sink)
 
 -- A fault came behind this: nothing comes back but the note that was made last then, where it was
 -- made on the way or nothing but the note made last came back before, or where the session stands
 -- now; where none was made on the way nothing else came back since a moment, if nothing else had up
 -- to here; and where something came back whatever a crash leaves it does so still, and did at each
 -- moment on the way.
-pub record LeavesSaved {S : Type 0} (holds : S → List Portion → Type 0) (refusals : S → ℕ)
-    (crashes : S → Crashes) (old : Story S) (held : List Portion) (now : Seen) (new : Story S)
-    : Type 0 where
+pub record LeavesSaved {S : Type 0} (g : Ghosts S) (old : Story S) (held : List Portion)
+    (now : Seen) (new : Story S) : Type 0 where
   pub comes : (length now.notes ≡ length old.notes
-      → BringsLast (crashes old.sink).returns (seen refusals old held))
-      → (back : Point) (there : List Portion) → (crashes new.sink).returns back there
-      → IsLast now back there ⊎ IsHeld holds now.parts new back there
-  pub survives : (crashes old.sink).survives → (crashes new.sink).survives
+      → BringsLast (g.crashes old.sink).returns (seen g old held))
+      → (back : Point) (there : List Portion) → (g.crashes new.sink).returns back there
+      → IsLast now back there ⊎ IsHeld g now.parts new back there
+  pub survives : (g.crashes old.sink).survives → (g.crashes new.sink).survives
   pub no_fewer : length old.notes ≤ length now.notes
-  pub since : (t : ℕ) → t ≤ (crashes old.sink).moment → length now.notes ≡ length old.notes
-      → BringsLast ((crashes old.sink).returned t) (seen refusals old held)
-      → (back : Point) (there : List Portion) → (crashes new.sink).returned t back there
-      → IsLast now back there ⊎ IsHeld holds now.parts new back there
-  pub survived : (t : ℕ) → t ≤ (crashes old.sink).moment
-      → (crashes old.sink).survived t → (crashes new.sink).survived t
+  pub since : (t : ℕ) → t ≤ (g.crashes old.sink).moment → length now.notes ≡ length old.notes
+      → BringsLast ((g.crashes old.sink).returned t) (seen g old held)
+      → (back : Point) (there : List Portion) → (g.crashes new.sink).returned t back there
+      → IsLast now back there ⊎ IsHeld g now.parts new back there
+  pub survived : (t : ℕ) → t ≤ (g.crashes old.sink).moment
+      → (g.crashes old.sink).survived t → (g.crashes new.sink).survived t
 
 -- Of a sink that held parts a crash brings back no more than before.
 abbrev pub BringsNoMore : {S : Type 0} → Ghosts S → S → S → Type 0
@@ -103,14 +96,12 @@ BringsNoMore g old new = (parts : List Portion) → g.holds old parts
 
 -- The session is where it was, and only its sink may be another: one that holds what it held, and
 -- of which a crash brings back no more.
-pub record IsWalked {S : Type 0} (holds : S → List Portion → Type 0) (crashes : S → Crashes)
-    (old new : Story S) : Type 0 where
+pub record IsWalked {S : Type 0} (g : Ghosts S) (old new : Story S) : Type 0 where
   pub core : new.core ≡ old.core
   pub notes : new.notes ≡ old.notes
   pub failures : new.failures ≡ old.failures
-  pub kept : (parts : List Portion) → holds old.sink parts → holds new.sink parts
-  pub crash : (parts : List Portion) → holds old.sink parts
-      → AddsNothing (crashes old.sink) (crashes new.sink)
+  pub kept : (parts : List Portion) → g.holds old.sink parts → g.holds new.sink parts
+  pub crash : BringsNoMore g old.sink new.sink
 
 -- whether nothing but reels was read behind the save made last, where that was so before or not
 abbrev pub is_saved : Bool → List Step → Bool
@@ -121,7 +112,7 @@ is_saved saved (Restart n ∷ steps) = is_saved false steps
 
 -- where the session stands, or a note of it
 abbrev pub IsOf : Seen → Point → List Portion → Type 0
-IsOf s back there = IsHere s back there ⊎ IsNoted s back there
+IsOf s back there = IsHere s back there ⊎ ((n : ℕ) × IsNoteOf n s back there)
 
 -- This is of the session before the first of the steps, or behind one of them that was made. Behind
 -- a reader that does not tell its bytes nothing is known.

@@ -44,25 +44,24 @@ pub record Ends (first : State) (old : Seen) (turns : List Turn) (want : Option 
 
 -- The last line was reported, with what is wanted or how many records the file has; and where
 -- nothing is wanted the records of the parts that the sink holds were written.
-pub record EndsFile {S : Type 0} (holds : S → List Portion → Type 0) (session : Story S)
-    (form : Form) (out written said says : Option (List ℕ)) (want : Option Want) : Type 0 where
+pub record EndsFile {S : Type 0} (g : Ghosts S) (session : Story S) (form : Form)
+    (out written said says : Option (List ℕ)) (want : Option Want) : Type 0 where
   pub wanted : want ≡ want_at session.core.file session.core.position
   pub records : ℕ
   pub line : Appends said says (last_line want records)
-  pub is_written : (held : List Portion) → holds session.sink held
-      → IsWritten want records form out written held
+  pub is_written : IfSeen g session (λ is. IsWritten want records form out written is.parts)
 
 -- A fault ended that: a front of the line was reported, and nothing was done to the output, or the
 -- file is complete and a front of its records was written.
-pub record StopsAtEnd {S W : Type 0} (holds : S → List Portion → Type 0) (session : Story S)
-    (form : Form) (contents : W → Option (List ℕ)) (out written : W) (said says : Option (List ℕ))
+pub record StopsAtEnd {S W : Type 0} (g : Ghosts S) (session : Story S) (form : Form)
+    (contents : W → Option (List ℕ)) (out written : W) (said says : Option (List ℕ))
     : Type 0 where
   pub want : Option Want
   pub records : ℕ
   pub line : AppendsFront said says (last_line want records)
-  pub is_written : (held : List Portion) → holds session.sink held → (written ≡ out)
+  pub is_written : IfSeen g session (λ is. (written ≡ out)
       ⊎ ((session.core.position ≡ Finished)
-      × AppendsFront (contents out) (contents written) (output_of form held))
+      × AppendsFront (contents out) (contents written) (output_of form is.parts)))
 
 -- Images were read in their order, all of them or up to the one that completed the file; a line was
 -- reported for each, and a last one with what is wanted or how many records the file has; and the
@@ -78,7 +77,7 @@ pub record Extracts {S L R : Type 0} (g : Ghosts S) (size : L → ℕ) (gives : 
   pub lines : Appends said says (reel_lines 1 (map answer_of turns) ++ last_line want records)
   pub ends : IfSeen g old (λ was. IsKeptFor (goes_back old.notes) was
       → (e : Ends old.core was turns want records form out written)
-      × StoodSaved g.holds g.refusals g.crashes old was.parts new e.now)
+      × StoodSaved g old was.parts new e.now)
 
 -- A fault ended it: what was reported is a front of such a report, with the line of at most one
 -- image more than those that were read and noted, which are the first of the images; and nothing
@@ -98,6 +97,6 @@ pub record Stops {S L R W : Type 0} (g : Ghosts S) (size : L → ℕ) (gives : M
       (reel_lines 1 (map answer_of turns ++ more) ++ last_line want records)
   pub follows : IfSeen g old (λ was. IsKeptFor (goes_back old.notes) was → (last : State)
       × (now : Seen) × Follows (goes_back old.notes) old.core was turns last now
-      × LeavesSaved g.holds g.refusals g.crashes old was.parts now new
+      × LeavesSaved g old was.parts now new
       × ((written ≡ out) ⊎ ((now.place.position ≡ Finished)
       × AppendsFront (contents out) (contents written) (output_of form now.parts))))

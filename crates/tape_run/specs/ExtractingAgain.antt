@@ -42,7 +42,7 @@ pub record ExtractsAgain {S L R : Type 0} (g : Ghosts S) (size : L → ℕ) (giv
   pub ends : IfSeen g old (λ was. IsKeptFor (goes_back old.notes) was
       → (e : Ends old.core was (turns_of rounds ++ turns) want records form out written)
       × GoesRound (goes_back old.notes) old.core was rounds turns e.last e.now
-      × StoodSaved g.holds g.refusals g.crashes old was.parts new e.now)
+      × StoodSaved g old was.parts new e.now)
 
 -- A fault ended it: what was reported is a front of such a report, with the line of at most one
 -- image more than those that were read and noted, which are those of whole rounds that brought
@@ -67,6 +67,6 @@ pub record StopsAgain {S L R W : Type 0} (g : Ghosts S) (size : L → ℕ) (give
       (reel_lines 1 (map answer_of (turns_of rounds ++ turns) ++ more) ++ last_line want records)
   pub follows : IfSeen g old (λ was. IsKeptFor (goes_back old.notes) was → (last : State)
       × (now : Seen) × GoesRound (goes_back old.notes) old.core was rounds turns last now
-      × LeavesSaved g.holds g.refusals g.crashes old was.parts now new
+      × LeavesSaved g old was.parts now new
       × ((written ≡ out) ⊎ ((now.place.position ≡ Finished)
       × AppendsFront (contents out) (contents written) (output_of form now.parts))))

@@ -8,26 +8,16 @@ use Rattle.tape_set.specs.declared.position.Position.TheVariants.{Finished}
 use Rattle.tape_set.specs.declared.position.Want.{Want}
 use Rattle.tape_set.specs.Position.{want_at}
 use Rattle.tape_core.specs.State.{State}
+use Rattle.tape_core.specs.declared.sink.PartSink.{Ghosts}
 use Rattle.tape_run.specs.declared.intake.ReelAnswer.{ReelAnswer}
-use Rattle.tape_run.specs.Seen.{Seen, seen}
+use Rattle.tape_run.specs.Seen.{Seen, IfSeen}
 use Rattle.tape_run.specs.Story.{Story}
 use Rattle.tape_blocks.specs.declared.parts.Form.{Form}
-use Rattle.tape_run.specs.declared.extract.out_sink.OutSink.{OutSink}
 use Rattle.tape_run.specs.Output.{AppendsFront}
 use Rattle.tape_run.specs.RecordText.{output_of}
-use Rattle.tape_run.specs.OutSinks.{HasTaken}
 use Rattle.tape_run.specs.ReelLine.{reel_lines, last_line}
 use Rattle.tape_run.specs.Reeling.{Turn, answer_of, AreTurns, AreFirstTurns, Follows, Gathers}
 use Rattle.tape_run.specs.Reeling.{Mounting}
-
--- what a sink that writes holds
-abbrev pub Takes : {W : Type 0} → (W → Option (List ℕ)) → OutSink W → List Portion → Type 0
-Takes contents s parts =
-    HasTaken contents s.form s.out s.weight s.records s.begun s.failed parts
-
--- how many calls it refused
-abbrev pub refused_by : {W : Type 0} → OutSink W → ℕ
-refused_by s = s.refused
 
 -- what stands under the output's name where something is wanted, and where nothing is: just the
 -- records, which were counted; the bytes, of a writer that tells them
@@ -50,26 +40,25 @@ pub record EndsNow (first : State) (old : Seen) (turns : List Turn) (want : Opti
 -- Images were read in their order, all of them or up to the one that completed the file; a line was
 -- reported for each, and a last one; and where nothing is wanted the records, and nothing else,
 -- stand under the output's name.
-pub record ExtractsNow {S L R : Type 0} (holds : S → List Portion → Type 0) (refusals : S → ℕ)
-    (size : L → ℕ) (gives : Mounting L R) (remaining : R → Option (List ℕ)) (session : Story S)
-    (shelf left : L) (form : Form) (tells : Type 0) (stands said says : Option (List ℕ))
-    (want : Option Want) : Type 0 where
+pub record ExtractsNow {S L R : Type 0} (g : Ghosts S) (size : L → ℕ) (gives : Mounting L R)
+    (remaining : R → Option (List ℕ)) (session : Story S) (shelf left : L) (form : Form)
+    (tells : Type 0) (stands said says : Option (List ℕ)) (want : Option Want) : Type 0 where
   pub turns : List Turn
   pub are_turns : AreTurns gives remaining shelf 0 turns left
   pub most : length turns ≤ size shelf
   pub all : length turns < size shelf → want ≡ None
   pub records : ℕ
   pub lines : Appends said says (reel_lines 1 (map answer_of turns) ++ last_line want records)
-  pub ends : (held : List Portion) → holds session.sink held
-      → EndsNow session.core (seen refusals session held) turns want records form tells stands
+  pub ends : IfSeen g session (λ was.
+      EndsNow session.core was turns want records form tells stands)
 
 -- A fault ended it: what was reported is a front of such a report, of the first of the images; and
 -- nothing was done to what stands under the output's name, or the file is complete and the same
 -- stands there, or just its records.
-pub record StopsNow {S L R O : Type 0} (holds : S → List Portion → Type 0) (refusals : S → ℕ)
-    (size : L → ℕ) (gives : Mounting L R) (remaining : R → Option (List ℕ)) (session : Story S)
-    (shelf left : L) (form : Form) (tells : Type 0) (stands : O → Option (List ℕ)) (out put : O)
-    (said says : Option (List ℕ)) : Type 0 where
+pub record StopsNow {S L R O : Type 0} (g : Ghosts S) (size : L → ℕ) (gives : Mounting L R)
+    (remaining : R → Option (List ℕ)) (session : Story S) (shelf left : L) (form : Form)
+    (tells : Type 0) (stands : O → Option (List ℕ)) (out put : O) (said says : Option (List ℕ))
+    : Type 0 where
   pub turns : List Turn
   pub are_turns : AreFirstTurns gives remaining shelf turns left
   pub most : length turns ≤ size shelf
@@ -79,7 +68,7 @@ pub record StopsNow {S L R O : Type 0} (holds : S → List Portion → Type 0) (
   pub records : ℕ
   pub lines : AppendsFront said says
       (reel_lines 1 (map answer_of turns ++ more) ++ last_line want records)
-  pub follows : (held : List Portion) → holds session.sink held → (last : State) × (now : Seen)
-      × Follows false session.core (seen refusals session held) turns last now
+  pub follows : IfSeen g session (λ was. (last : State) × (now : Seen)
+      × Follows false session.core was turns last now
       × ((put ≡ out) ⊎ ((now.place.position ≡ Finished) × ((stands put ≡ stands out)
-      ⊎ (tells → stands put ≡ Some (output_of form now.parts)))))
+      ⊎ (tells → stands put ≡ Some (output_of form now.parts))))))

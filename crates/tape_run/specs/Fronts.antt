@@ -1,10 +1,10 @@
 -- A front of a mount is a mount.
-use Rattle.std.specs.Prelude.{ℕ, List, ◌++◌}
+use Rattle.std.specs.Prelude.{Bool, ℕ, List, ◌++◌}
 use Rattle.tape_set.specs.Layout.{FileSet}
 use Rattle.tape_run.specs.declared.script.Step.{Step}
 use Rattle.tape_run.specs.Mount.{Happening, IsMountOf, cut}
 use Rattle.tape_run.specs.History.{IsHistory}
-use Rattle.tape_run.specs.Given.{AreGiven}
+use Rattle.tape_run.specs.Given.{AreGivenBy}
 
 -- The front of a reel that a reader gave before it failed is a mount: of the same volume, up to
 -- some item, or foreign.
@@ -14,7 +14,7 @@ FrontsAreMounts = (set : FileSet) (front rest : List ℕ) (h : Happening)
 
 -- So whatever readers failed, what was given is a history too.
 abbrev pub GivenIsHistory : Type 0
-GivenIsHistory = (set : FileSet) (notes failed : ℕ) (steps : List Step)
+GivenIsHistory = (set : FileSet) (notes : ℕ) (which : List Bool) (steps : List Step)
     (bytes given : List (List ℕ)) (hs : List Happening)
-    → IsHistory set notes steps bytes hs → AreGiven failed bytes given
+    → IsHistory set notes steps bytes hs → AreGivenBy which bytes given
     → (hs' : List Happening) × IsHistory set notes steps given hs'

@@ -1,5 +1,5 @@
 -- The bytes that readers gave, and the count of readers that failed.
-use Rattle.std.specs.Prelude.{◌≡◌, ◌⊎◌, ℕ, zero, suc, ◌+◌, Bool, true, false, List, [], ◌∷◌, ◌++◌}
+use Rattle.std.specs.Prelude.{◌≡◌, ℕ, zero, suc, ◌+◌, Bool, true, false, List, [], ◌∷◌, ◌++◌}
 use Rattle.std.specs.Prelude.{map, min, Option, Some, None}
 use Rattle.tape_image.specs.declared.item.ImageFault.{ImageFault}
 use Rattle.tape_image.specs.declared.item.ImageCause.{ImageCause}
@@ -37,16 +37,6 @@ IfTold remaining readers so = (bytes : List (List ℕ)) → map remaining reader
 abbrev pub counted : Bool → ℕ → ℕ
 counted false n = n
 counted true n = min (n + 1) 18446744073709551615
-
--- The bytes that were given of each reader: all that it has, but for so many that failed, which
--- gave a front of it.
-abbrev pub AreGiven : ℕ → List (List ℕ) → List (List ℕ) → Type 0
-AreGiven n [] [] = n ≡ 0
-AreGiven n [] (g ∷ given) = ⊥
-AreGiven n (bytes ∷ all) [] = ⊥
-AreGiven n (bytes ∷ all) (g ∷ given) =
-    (IsGiven false bytes g × AreGiven n all given)
-    ⊎ ((m : ℕ) × (n ≡ m + 1) × IsGiven true bytes g × AreGiven m all given)
 
 -- The bytes that were given of each of the first readers, as many as are told of, by whether it
 -- failed: all that it has, or a front of that. The readers behind these were not taken.

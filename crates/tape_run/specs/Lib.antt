@@ -82,6 +82,7 @@ pub mod CasesOfCatalogues
 pub mod CasesOfSections
 pub mod CasesOfExtracts
 pub mod CasesOfSaves
+pub mod CasesOfSeen
 pub mod CasesOfRounds
 pub mod CasesOfLaws
 pub mod CasesOfSurveys

@@ -1,5 +1,5 @@
 -- Sessions across crashes.
-use Rattle.std.specs.Prelude.{◌≡◌, ◌⊎◌, ℕ, List, [], ◌∷◌, ◌++◌, length, map, Some, slice_get}
+use Rattle.std.specs.Prelude.{Bool, ◌≡◌, ◌⊎◌, ℕ, List, [], ◌∷◌, ◌++◌, length, map, Some, slice_get}
 use Rattle.tape_blocks.specs.Block.{Portion}
 use Rattle.tape_set.specs.Layout.{FileSet}
 use Rattle.tape_set.specs.Lawful.{IsLawful}
@@ -13,7 +13,7 @@ use Rattle.tape_run.specs.Mount.{Happening}
 use Rattle.tape_run.specs.declared.script.Step.{Step}
 use Rattle.tape_run.specs.Seen.{Seen, IsSession}
 use Rattle.tape_run.specs.History.{Course, course, course_of, IsHistory}
-use Rattle.tape_run.specs.Given.{AreGiven}
+use Rattle.tape_run.specs.Given.{AreGivenBy}
 use Rattle.tape_run.specs.Crash.{StoodAt}
 
 -- the position of the course, or one that it noted
@@ -27,8 +27,8 @@ pub record ComesBack (old : Seen) (steps done : List Step) (bytes given : List (
     (back : Point) (there : List Portion) : Type 0 where
   pub rest : List Step
   pub all : steps ≡ done ++ rest
-  pub failed : ℕ
-  pub are_given : AreGiven failed bytes given
+  pub which : List Bool
+  pub are_given : AreGivenBy which bytes given
   pub stands : (set : FileSet) (hs : List Happening) → IsLawful set
       → IsHistory set (length old.notes) done given hs → IsSession set old
       → Stands set old.place.file back there
@@ -93,8 +93,8 @@ StandsAcrossCrashes = (set : FileSet) (c : Point) (ps : List Portion) (lives : L
 pub record GoesOn (c : Point) (ps : List Portion) (steps : List Step) (bytes : List (List ℕ))
     (now : List Portion) : Type 0 where
   pub given : List (List ℕ)
-  pub failed : ℕ
-  pub are_given : AreGiven failed bytes given
+  pub which : List Bool
+  pub are_given : AreGivenBy which bytes given
   pub delivers : (set : FileSet) (hs : List Happening) → IsLawful set → Stands set c.file c ps
       → IsHistory set 0 steps given hs
       → now ≡ before set c.file (course set c.file (record { at = c.position; notes = [] }) hs).at

@@ -123,7 +123,7 @@ IsKeptFor true s = IsKept s
 -- A reel was read from one state of a session to another, and then it was noted where this stands,
 -- or it went back: the file was not complete, the answer is the core's, and the session is where
 -- the reel and the note lead.
-pub record ReadsReel (back : Bool) (core : State) (old : Seen) (o : Opened) (next : State)
+pub record ReadsAndNotes (back : Bool) (core : State) (old : Seen) (o : Opened) (next : State)
     (new : Seen) : Type 0 where
   pub waits : core.position ≢ Finished
   pub answers : IfKnown o.had o.left
@@ -140,7 +140,7 @@ Follows back core old [] last new = (last ≡ core) × (new ≡ old)
 Follows back core old (None ∷ turns) last new =
     (core.position ≢ Finished) × Follows back core old turns last new
 Follows back core old (Some o ∷ turns) last new = (next : State) × (behind : Seen)
-    × ReadsReel back core old o next behind × Follows back next behind turns last new
+    × ReadsAndNotes back core old o next behind × Follows back next behind turns last new
 
 -- The bytes that were given of each image that was opened: all that it has, or a front of that
 -- where the line of the image tells that reading it failed.
@@ -247,7 +247,7 @@ abbrev pub Carries : {S : Type 0} → Ghosts S → Bool → Story S → Story S 
     → Type 0
 Carries g back old new so = IfSeen g old (λ was. IsKeptFor back was
     → IsSeen g new (λ is. IsKeptFor back is × so was is
-    × KeepsLast g.refusals g.crashes old was.parts new is.parts))
+    × KeepsLast g old was.parts new is.parts))
 
 -- The image with this number was read, or passed, and its line was reported.
 pub record Takes {S R : Type 0} (g : Ghosts S) (remaining : R → Option (List ℕ)) (back : Bool)
@@ -279,11 +279,9 @@ IsReported number said says = (more : List (Option ReelAnswer)) × (length more 
 
 -- The session is here, and its sink holds these parts; and a crash brings back nothing but the note
 -- that it made last, where it made one since it was the old one or that alone came back before.
-abbrev pub StoodSaved : {S : Type 0} → (S → List Portion → Type 0) → (S → ℕ) → (S → Crashes)
-    → Story S → List Portion → Story S → Seen → Type 0
-StoodSaved holds refusals crashes old held new now = (parts : List Portion)
-    × holds new.sink parts × (now ≡ seen refusals new parts)
-    × KeepsLast refusals crashes old held new parts
+abbrev pub StoodSaved : {S : Type 0} → Ghosts S → Story S → List Portion → Story S → Seen → Type 0
+StoodSaved g old held new now = (parts : List Portion) × g.holds new.sink parts
+    × (now ≡ seen g new parts) × KeepsLast g old held new parts
 
 -- Images were read in their order, and a fault ended that: a line was reported for each of them,
 -- and a front of one for one more. Those behind that one were not mounted.
@@ -298,4 +296,4 @@ pub record StopsReading {S L R : Type 0} (g : Ghosts S) (size before : ℕ) (giv
   pub lines : AppendsFront said says (reel_lines (before + 1) (map answer_of turns ++ more))
   pub follows : IfSeen g old (λ was. IsKeptFor back was → (core : State) × (now : Seen)
       × Follows back old.core was turns core now
-      × LeavesSaved g.holds g.refusals g.crashes old was.parts now new)
+      × LeavesSaved g old was.parts now new)

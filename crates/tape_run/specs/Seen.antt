@@ -52,24 +52,24 @@ abbrev pub IsKept : Seen → Type 0
 IsKept s = KeepsNotes s.place [] s.notes s.parts
 
 -- a session, where its sink holds these parts
-abbrev pub seen : {S : Type 0} → (S → ℕ) → Story S → List Portion → Seen
-seen refusals s parts = record {
+abbrev pub seen : {S : Type 0} → Ghosts S → Story S → List Portion → Seen
+seen g s parts = record {
   place = rest_of s.core;
   parts = parts;
   notes = s.notes;
   failures = s.failures;
-  refusals = refusals s.sink;
+  refusals = g.refusals s.sink;
 }
 
 -- Whatever parts its sink holds, the session as it is seen with them is so.
 abbrev pub IfSeen : {S : Type 0} → Ghosts S → Story S → (Seen → Type 0) → Type 0
-IfSeen g s so = (held : List Portion) → g.holds s.sink held → so (seen g.refusals s held)
+IfSeen g s so = (held : List Portion) → g.holds s.sink held → so (seen g s held)
 
 -- The sink holds parts, and the session as it is seen with them is so.
 abbrev pub IsSeen : {S : Type 0} → Ghosts S → Story S → (Seen → Type 0) → Type 0
-IsSeen g s so = (now : List Portion) × g.holds s.sink now × so (seen g.refusals s now)
+IsSeen g s so = (now : List Portion) × g.holds s.sink now × so (seen g s now)
 
 -- The same of parts that the sink holds, unless it lost them by this.
 abbrev pub IsSeenUnless : {S : Type 0} → Type 0 → Ghosts S → Story S → (Seen → Type 0) → Type 0
 IsSeenUnless lost g s so = (now : List Portion) × ((lost → ⊥) → g.holds s.sink now)
-    × so (seen g.refusals s now)
+    × so (seen g s now)

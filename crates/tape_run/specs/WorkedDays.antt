@@ -10,6 +10,7 @@ use Rattle.tape_core.specs.declared.sink.SinkFault.{SinkFault}
 use Rattle.tape_run.specs.declared.script.Step.{Step}
 use Rattle.tape_run.specs.declared.script.Step.TheVariants.{Reel}
 use Rattle.tape_run.specs.declared.fault.RunFault.TheVariants.{Sink}
+use Rattle.tape_run.specs.Given.{failed_of}
 use Rattle.tape_run.specs.Headline.{IsStart, IsRead, HasRun, HasStopped}
 use Rattle.tape_run.specs.Lives.{GoesOn}
 use Rattle.tape_run.specs.Seen.{Seen}
@@ -65,4 +66,4 @@ pub record DaysAreWorked : Type 0 where
   -- of which none fails, has all three parts in the end.
   pub stands : Stands worked_set 1 behind_one (first ∷ [])
   pub resumed : (now : List Portion) (on : GoesOn behind_one (first ∷ []) two_reels once now)
-      → on.failed ≡ 0 → now ≡ first ∷ middle ∷ last ∷ []
+      → failed_of on.which ≡ 0 → now ≡ first ∷ middle ∷ last ∷ []

@@ -16,7 +16,7 @@ use Rattle.tape_run.specs.declared.script.Step.{Step}
 use Rattle.tape_run.specs.declared.script.Step.TheVariants.{Reel, Save, Restart}
 use Rattle.tape_run.specs.Mount.{Happening, reads, foreign_reel, saves, restarts}
 use Rattle.tape_run.specs.History.{Course, course, IsHistory}
-use Rattle.tape_run.specs.Given.{AreGiven}
+use Rattle.tape_run.specs.Given.{AreGivenBy}
 use Rattle.tape_run.specs.Headline.{begins, IsRead}
 use Rattle.tape_run.specs.Seen.{Seen}
 
@@ -196,7 +196,7 @@ positions_after c (h ∷ hs) =
 pub record HistoryIsWorked : Type 0 where
   pub lawful : IsLawful worked_set
   pub history : IsHistory worked_set 0 worked_steps worked_reels worked_history
-  pub given : AreGiven 0 worked_reels worked_reels
+  pub given : AreGivenBy (replicate 10 false) worked_reels worked_reels
   pub positions : positions_after begins worked_history
       ≡ start ∷ start ∷ start
       ∷ awaiting 1 1 ∷ awaiting 1 1 ∷ awaiting 2 0 ∷ awaiting 1 1 ∷ awaiting 1 1

@@ -88,12 +88,12 @@ fn end_file<S: PartWalk, W: Write, P: Write>(
     out: &mut W,
     report: &mut P,
 ) -> Result<Option<Want>, EngineFault>
-    ensures ok { IfOk result (EndsFile S.holds session.old form (W.contents out.old)
+    ensures ok { IfOk result (EndsFile S.PartSink session.old form (W.contents out.old)
         (W.contents out.new) (P.contents report.old) (P.contents report.new)) }
     ensures untouched { IfOk result (λ want. want ≢ None → out.new ≡ out.old) }
-    ensures err { OnErr result (StopsAtEnd S.holds session.old form W.contents out.old out.new
+    ensures err { OnErr result (StopsAtEnd S.PartSink session.old form W.contents out.old out.new
         (P.contents report.old) (P.contents report.new)) }
-    ensures same { IsWalked S.holds S.crashes session.old session.new }
+    ensures same { IsWalked S.PartSink session.old session.new }
     ensures cause { IfErr result
         (WritingFails S.holds S.refusals session.old.sink session.new.sink) }
     ensures calm { OnOk result (S.refusals session.new.sink ≡ S.refusals session.old.sink) }

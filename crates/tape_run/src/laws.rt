@@ -9,6 +9,7 @@ ghost use Rattle.tape_run.specs.CasesOfCatalogues.{CasesOfCopies, CasesOfReports
 ghost use Rattle.tape_run.specs.CasesOfSections.{CasesOfSections};
 ghost use Rattle.tape_run.specs.CasesOfExtracts.{CasesOfTurns, CasesOfOutputs, CasesOfCauses};
 ghost use Rattle.tape_run.specs.CasesOfSaves.{CasesOfSaved};
+ghost use Rattle.tape_run.specs.CasesOfSeen.{CasesOfSeen};
 ghost use Rattle.tape_run.specs.CasesOfRuns.{CasesOfStops};
 ghost use Rattle.tape_run.specs.CasesOfRounds.{CasesOfRounds};
 ghost use Rattle.tape_run.specs.CasesOfLaws.{CasesOfRunLaws, CasesOfCatalogueLaws};
@@ -70,6 +71,7 @@ pub fn cases()
     ensures volumes { CasesOfVolumes }
     ensures sessions { CasesOfSessions }
     ensures made { CasesOfMade }
+    ensures seen { CasesOfSeen }
     ensures stops { CasesOfStops }
     ensures crashes { CasesOfCrashes }
     ensures answers { CasesOfAnswers }

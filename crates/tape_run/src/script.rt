@@ -59,7 +59,7 @@ pub fn run<S: PartSink, R: Read>(
         × (failed.new ≡ written run.which failed.old))))) }
     // The same of a session that has read nothing of its file.
     ensures start { OnOk result ((set_id : List ℕ) (file : ℕ) → S.holds session.old.sink []
-        → IsStart set_id file (seen S.refusals session.old [])
+        → IsStart set_id file (seen S.PartSink session.old [])
         → IsSeen S.PartSink session.new (λ new. IfTold R.remaining reels.old (λ bytes.
         (read : IsRead set_id file steps.now bytes new)
         × (failed.new ≡ written read.which failed.old)))) }
@@ -67,7 +67,7 @@ pub fn run<S: PartSink, R: Read>(
     // holds the whole file.
     ensures back { OnOk result ((set : FileSet) (file : ℕ) (f : List Section)
         (bytes : List (List ℕ))
-        → S.holds session.old.sink [] → IsStart set.set_id file (seen S.refusals session.old [])
+        → S.holds session.old.sink [] → IsStart set.set_id file (seen S.PartSink session.old [])
         → IsLawful set → file_of set file ≡ Some f → AreVolumes set 0 bytes
         → map R.remaining reels.old ≡ map Some bytes → steps.now ≡ reels_of bytes
         → session.new.failures ≡ 0

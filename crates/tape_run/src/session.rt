@@ -64,8 +64,8 @@ impl<S: PartSink + Drop> Session<S> {
     /// `FileNumber`, where the file's number is not 1 to 9,999; the sink is then dropped.
     pub fn new(alloc: Global, set_id: Field<6>, file: u16, sink: S) -> Result<Session<S>, CoreFault>
         ensures sink { IfOk result (λ session. session.sink ≡ sink) }
-        ensures start { IfOk result (λ session. IsStart set_id file (seen S.refusals session [])) }
-        ensures kept { IfOk result (λ session. IsKept (seen S.refusals session [])) }
+        ensures start { IfOk result (λ session. IsStart set_id file (seen S.PartSink session [])) }
+        ensures kept { IfOk result (λ session. IsKept (seen S.PartSink session [])) }
         ensures core { IfOk result (λ session. session.core ≡ reader_of set_id file) }
         ensures number { IsFileNumber file → IsOk result }
         ensures refused { (IsFileNumber file → ⊥) → result ≡ Err CoreFault.FileNumber }
@@ -98,12 +98,12 @@ impl<S: PartSink> Session<S> {
     /// takes no memory.
     pub fn resume(alloc: Global, point: &Checkpoint, sink: S) -> Session<S>
         ensures sink { result.sink ≡ sink }
-        ensures kept { (held : List Portion) → IsKept (seen S.refusals result held) }
+        ensures kept { (held : List Portion) → IsKept (seen S.PartSink result held) }
         ensures session { (set : FileSet) (held : List Portion)
             → Stands set point.now.file point.now held
-            → IsSession set (seen S.refusals result held) }
+            → IsSession set (seen S.PartSink result held) }
         ensures resumed { (held : List Portion)
-            → IsResumed point.now held (seen S.refusals result held) }
+            → IsResumed point.now held (seen S.PartSink result held) }
         ensures failures { result.failures ≡ 0 }
     {
         // What a checkpoint tells of its file is a number of a file: a core can be made.
@@ -202,7 +202,7 @@ impl<S: PartSink> Session<S> {
             IsSeen S.PartSink self.new (λ new. SaveFails fault old new))) }
         // The checkpoint stands, with the parts delivered.
         ensures stands { IfOk result (λ point. (set : FileSet) (held : List Portion)
-            → S.holds self.old.sink held → IsSession set (seen S.refusals self.old held)
+            → S.holds self.old.sink held → IsSession set (seen S.PartSink self.old held)
             → Stands set (rest_of self.old.core).file point held) }
         ensures memory { result ≡ Err RunFault.OutOfMemory → self.new.sink ≡ self.old.sink }
         // Behind an Ok, and from then on, a crash brings back the checkpoint that was saved, with
@@ -236,7 +236,7 @@ impl<S: PartSink> Session<S> {
     pub fn note(&mut self) -> Result<(), RunFault>
         ensures sink { self.new.sink ≡ self.old.sink }
         ensures ok { OnOk result ((held : List Portion) → S.holds self.old.sink held
-            → Saved (seen S.refusals self.old held) (seen S.refusals self.new held)) }
+            → Saved (seen S.PartSink self.old held) (seen S.PartSink self.new held)) }
         ensures err { IfErr result (λ fault. (fault ≡ RunFault.OutOfMemory)
             × (self.new ≡ self.old)) }
     {
@@ -267,7 +267,7 @@ impl<S: PartSink> Session<S> {
             → IsSeen S.PartSink self.new (λ new. IsKept new × WentBack n old new))) }
         ensures err { IfErr result (λ fault. IfSeen S.PartSink self.old (λ old. IsKept old
             → (fault ≢ RunFault.Sink SinkFault.Device → S.holds self.new.sink old.parts)
-            × RestartFails n fault old (seen S.refusals self.new old.parts))) }
+            × RestartFails n fault old (seen S.PartSink self.new old.parts))) }
         // Whatever it answered: a crash in it or behind it brings back the note of this number,
         // with its parts, or what one before it could.
         ensures crash { IfSeen S.PartSink self.old (λ old. IsKept old → AddsOnly (IsNoteOf n old)

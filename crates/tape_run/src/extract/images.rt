@@ -118,7 +118,7 @@ fn take_image<S: PartSink, R: Read + Drop, P: Write>(
         image number (P.contents report.old) (P.contents report.new)) }
     ensures err { OnErr result (IsReported number (P.contents report.old) (P.contents report.new)) }
     ensures left { OnErr result (IfSeen S.PartSink session.old (λ old. IsKeptFor back old
-        → LeavesStep S.holds S.refusals S.crashes back session.old old.parts session.new)) }
+        → LeavesStep S.PartSink back session.old old.parts session.new)) }
 {
     match image {
         Some(mut device) => take_reel(session, &mut device, number, back, report),
@@ -139,7 +139,7 @@ fn take_reel<S: PartSink, R: Read, P: Write>(
         (Some device.old) number (P.contents report.old) (P.contents report.new)) }
     ensures err { OnErr result (IsReported number (P.contents report.old) (P.contents report.new)) }
     ensures left { OnErr result (IfSeen S.PartSink session.old (λ old. IsKeptFor back old
-        → LeavesStep S.holds S.refusals S.crashes back session.old old.parts session.new)) }
+        → LeavesStep S.PartSink back session.old old.parts session.new)) }
 {
     let answer = session.reel(device)?;
     write_text(report, reel_line(number, Some(answer)).as_bytes())?;
@@ -157,9 +157,9 @@ fn settle<S: PartSink>(
     ensures ok { OnOk result (IfSeen S.PartSink session.old (λ old. IsKeptFor back old
         → IsSeen S.PartSink session.new (λ new.
         IsNoted back (is_doubtful answer.now.answer) old new
-        × KeepsLast S.refusals S.crashes session.old old.parts session.new new.parts))) }
+        × KeepsLast S.PartSink session.old old.parts session.new new.parts))) }
     ensures left { OnErr result (IfSeen S.PartSink session.old (λ old. IsKeptFor back old
-        → LeavesStep S.holds S.refusals S.crashes back session.old old.parts session.new)) }
+        → LeavesStep S.PartSink back session.old old.parts session.new)) }
 {
     if back && is_doubtful(answer) {
         return go_back(session);
@@ -171,9 +171,9 @@ fn settle<S: PartSink>(
 fn go_back<S: PartSink>(session: &mut Session<S>) -> Result<(), RunFault>
     ensures ok { OnOk result (IfSeen S.PartSink session.old (λ old. IsKept old
         → IsSeen S.PartSink session.new (λ new. WentToLast old new
-        × KeepsLast S.refusals S.crashes session.old old.parts session.new new.parts))) }
+        × KeepsLast S.PartSink session.old old.parts session.new new.parts))) }
     ensures left { OnErr result (IfSeen S.PartSink session.old (λ old. IsKept old
-        → LeavesStep S.holds S.refusals S.crashes true session.old old.parts session.new)) }
+        → LeavesStep S.PartSink true session.old old.parts session.new)) }
 {
     let notes = session.notes();
     if notes == 0 {
@@ -189,9 +189,9 @@ fn note<S: PartSink>(session: &mut Session<S>, answer: &ReelAnswer) -> Result<()
     ensures ok { OnOk result (IfSeen S.PartSink session.old (λ old.
         IsSeen S.PartSink session.new (λ new.
         IsNoted false (is_doubtful answer.now.answer) old new
-        × KeepsLast S.refusals S.crashes session.old old.parts session.new new.parts))) }
+        × KeepsLast S.PartSink session.old old.parts session.new new.parts))) }
     ensures left { OnErr result ((back : Bool) → IfSeen S.PartSink session.old (λ old.
-        LeavesStep S.holds S.refusals S.crashes back session.old old.parts session.new)) }
+        LeavesStep S.PartSink back session.old old.parts session.new)) }
 {
     if is_doubtful(answer) {
         return Ok(());

@@ -2,7 +2,7 @@
 
 ghost use Rattle.std.specs.Prelude.{◌≡◌, ◌≢◌, ℕ, List, Option, None, OnOk, IfOk, OnErr};
 ghost use Rattle.tape_run.specs.OutSinks.{TellsAlways};
-ghost use Rattle.tape_run.specs.ExtractingNow.{Takes, refused_by, ExtractsNow, StopsNow};
+ghost use Rattle.tape_run.specs.ExtractingNow.{ExtractsNow, StopsNow};
 
 use crate::extract::end_report;
 use crate::extract::images::{Shelf, read_images};
@@ -50,12 +50,12 @@ pub fn extract_now<W: Write + Drop, R: Read + Drop, L: Shelf<R>, O: Place<W>, P:
     out: &mut O,
     report: &mut P,
 ) -> Result<Option<Want>, EngineFault>
-    ensures ok { IfOk result (ExtractsNow (Takes W.contents) refused_by L.size L.gives R.remaining
+    ensures ok { IfOk result (ExtractsNow ⟦<OutSink<W> as PartSink>⟧ L.size L.gives R.remaining
         session images.old images.new form (TellsAlways W.contents) (O.stands out.new)
         (P.contents report.old) (P.contents report.new)) }
     // While something of the file is wanted the output's name is not touched at all.
     ensures untouched { IfOk result (λ want. want ≢ None → out.new ≡ out.old) }
-    ensures err { OnErr result (StopsNow (Takes W.contents) refused_by L.size L.gives R.remaining
+    ensures err { OnErr result (StopsNow ⟦<OutSink<W> as PartSink>⟧ L.size L.gives R.remaining
         session images.old images.new form (TellsAlways W.contents) O.stands out.old out.new
         (P.contents report.old) (P.contents report.new)) }
 {

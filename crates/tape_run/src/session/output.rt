@@ -28,7 +28,7 @@ impl<S: PartWalk> Session<S> {
             → AppendsFront (W.contents out.old) (W.contents out.new) (output_of form parts)) }
         // Whatever it answered: the session stands where it stood, and a crash behind it brings
         // back nothing that none before it could.
-        ensures same { IsWalked S.holds S.crashes self.old self.new }
+        ensures same { IsWalked S.PartSink self.old self.new }
         ensures cause { IfErr result (WritingFails S.holds S.refusals self.old.sink self.new.sink) }
         ensures calm { OnOk result (S.refusals self.new.sink ≡ S.refusals self.old.sink) }
     {

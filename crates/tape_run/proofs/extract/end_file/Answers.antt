@@ -6,7 +6,7 @@ use Rattle.tape_run.proofs.extract.end_file.Goals as goal
 
 pub returns-in_err-end_report-clause-err : goal.returns-in_err-end_report-clause-err
 returns-in_err-end_report-clause-err g c =
-    on_err _ _ (ends_in_part g.S.PartSink.holds c.args.session.now c.args.form g.W.Write.contents
+    on_err _ _ (ends_in_part g.S.PartSink c.args.session.now c.args.form g.W.Write.contents
     c.args.out.now c.args.out.now _ _ (Some c.in-Some.want) 0 c.in_err-end_report.ensures.err
     (λ held was. inl refl))
 
@@ -22,7 +22,7 @@ pub returns-in_err-records-clause-err : goal.returns-in_err-records-clause-err
 returns-in_err-records-clause-err g c =
     let none : None ≡ want_at c.args.session.now.core.file c.args.session.now.core.position =
     search rules in
-    on_err _ _ (ends_in_part g.S.PartSink.holds c.args.session.now c.args.form g.W.Write.contents
+    on_err _ _ (ends_in_part g.S.PartSink c.args.session.now c.args.form g.W.Write.contents
     c.args.out.now c.write_file.new.out _ _ None 0 (nothing_more _ _)
     (λ held was. inr (
       none_finished c.args.session.now.core.file c.args.session.now.core.position none,
@@ -33,7 +33,7 @@ pub returns-in_err-end_report-2-clause-err : goal.returns-in_err-end_report-2-cl
 returns-in_err-end_report-2-clause-err g c =
     let none : None ≡ want_at c.args.session.now.core.file c.args.session.now.core.position =
     search rules in
-    on_err _ _ (ends_in_part g.S.PartSink.holds c.args.session.now c.args.form g.W.Write.contents
+    on_err _ _ (ends_in_part g.S.PartSink c.args.session.now c.args.form g.W.Write.contents
     c.args.out.now c.write_file.new.out _ _ None c.in_ok-records.records
     c.in_err-end_report-2.ensures.err
     (λ held was. inr (

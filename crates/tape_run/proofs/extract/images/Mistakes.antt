@@ -45,10 +45,10 @@ saved_in_the_list_alone : (S : _) (L : _) (g : _) (d : _) (κs : _) (a : _) (s :
     → a.0.now.core.position ≡ Awaits 1 5 0
     → (g.crashes s.0.now.sink).returns older there → older.position ≡ Awaits 1 0 0 → ⊥
 saved_in_the_list_alone S L g d κs a s held there older l done was none five back start =
-    let old = seen g.refusals a.0.now held in
+    let old = seen g a.0.now held in
     let (now, has, (noted, last)) = l.ok held was in
-    let saved : Saved old (seen g.refusals s.0.now now) =
-    subst (λ b. IsNoted false b old (seen g.refusals s.0.now now)) (ap is_doubtful done) noted in
+    let saved : Saved old (seen g s.0.now now) =
+    subst (λ b. IsNoted false b old (seen g s.0.now now)) (ap is_doubtful done) noted in
     let here = saved_point old.place (weight_of held) in
     let one : s.0.now.notes ≡ here ∷ [] = saved.notes ∙ ap (λ l. l ++ here ∷ []) none in
     let (n, count, (is, front, weighs)) = last.last (λ same. absurd (omega (
@@ -74,12 +74,12 @@ went back doubtful old new b d s =
 wrong_count_not_taken_back : (S : _) (L : _) (g : _) (d : _) (κs : _) (a : _) (s : _) (label : _)
     (count : _) (held : _) → settle.Learnt-named S L g d κs a (Ok tt) s
     → a.1.0.now.answer ≡ Useless (BlockCount label count) → a.1.1.0 ≡ true
-    → g.holds a.0.now.sink held → IsKept (seen g.refusals a.0.now held)
+    → g.holds a.0.now.sink held → IsKept (seen g a.0.now held)
     → s.0.now.core.phase ≡ Broken → ⊥
 wrong_count_not_taken_back S L g d κs a s label count held l told back was kept broken =
-    let old = seen g.refusals a.0.now held in
+    let old = seen g a.0.now held in
     let (now, has, (noted, last)) = l.ok held was (subst (λ b. IsKeptFor b old) (sym back) kept) in
-    let (n, one, w) = went a.1.1.0 (is_doubtful a.1.0.now.answer) old (seen g.refusals s.0.now now)
+    let (n, one, w) = went a.1.1.0 (is_doubtful a.1.0.now.answer) old (seen g s.0.now now)
     back (ap is_doubtful told) noted in
     absurd (let e : Broken ≡ Over = sym (ap resting broken) ∙ ap (λ p. p.phase) w.place in cc)
 
@@ -87,12 +87,12 @@ wrong_count_not_taken_back S L g d κs a s label count held l told back was kept
 taken_back_to_the_beginning : (S : _) (L : _) (g : _) (d : _) (κs : _) (a : _) (s : _) (label : _)
     (count : _) (held : _) → settle.Learnt-named S L g d κs a (Ok tt) s
     → a.1.0.now.answer ≡ Useless (BlockCount label count) → a.1.1.0 ≡ true
-    → g.holds a.0.now.sink held → IsKept (seen g.refusals a.0.now held)
+    → g.holds a.0.now.sink held → IsKept (seen g a.0.now held)
     → length a.0.now.notes ≡ 2 → length s.0.now.notes ≡ 1 → ⊥
 taken_back_to_the_beginning S L g d κs a s label count held l told back was kept two left =
-    let old = seen g.refusals a.0.now held in
+    let old = seen g a.0.now held in
     let (now, has, (noted, last)) = l.ok held was (subst (λ b. IsKeptFor b old) (sym back) kept) in
-    let (n, one, w) = went a.1.1.0 (is_doubtful a.1.0.now.answer) old (seen g.refusals s.0.now now)
+    let (n, one, w) = went a.1.1.0 (is_doubtful a.1.0.now.answer) old (seen g s.0.now now)
     back (ap is_doubtful told) noted in
     absurd (omega (
       arith,

@@ -10,7 +10,7 @@ use Rattle.tape_run.proofs.extract.write_records.Goals as goal
 pub parts-init : goal.parts-init
 parts-init g c = (
   λ parts is e. stream_starts c.args.form _ c.args.records _ parts e is,
-  walked_same g.S.PartSink.holds g.S.PartSink.refusals g.S.PartSink.crashes c.args.sink.now,
+  walked_same g.S.PartSink c.args.sink.now,
 )
 
 pub returns-in_err-write_part-in-Ok-Some-clause-err :

@@ -10,7 +10,7 @@ invariant-parts g l = ((parts : List Portion) → g.S.PartWalk.ahead l.fn.sink p
     → l.records ≡ length (join parts).records
     → Streams l.form (g.S.PartWalk.ahead l.sink) l.left (g.W.Write.contents l.fn.out)
     (g.W.Write.contents l.out) parts)
-    × Walked g.S.PartSink.holds g.S.PartSink.refusals g.S.PartSink.crashes l.fn.sink l.sink
+    × Walked g.S.PartSink l.fn.sink l.sink
 
 abbrev pub decreases-parts : goal.decreases-parts
 decreases-parts g l = g.S.PartWalk.left l.sink

@@ -77,7 +77,7 @@ returns-in-Err-clause-crash g c = λ held was.
     (c.put.ensures.crash _ (c.loop-part.invariant.held_now held was))
 
 pub loop-part-init : goal.loop-part-init
-loop-part-init g c = none_put g.S.PartSink.holds g.S.PartSink.refusals g.S.PartSink.crashes
+loop-part-init g c = none_put g.S.PartSink
     c.args.sink.now c.args.first c.args.begun
 
 pub loop-part-preserved : goal.loop-part-preserved
@@ -87,11 +87,11 @@ loop-part-preserved g c =
     let x = view c.in-Some.part in
     rw (map-append view l.yielded (c.in-Some.part ∷ [])) (elim c.if-first-seen.branch [
       | then-first-seen+in-Ok w ↦ rw (w.sink-is, w.going-is, w.leaves-going.ensures) (one_put
-          g.S.PartSink.holds g.S.PartSink.refusals g.S.PartSink.crashes c.args.sink.now
+          g.S.PartSink c.args.sink.now
           c.args.first c.args.begun l.sink w.put.new.self l.seen l.going ys x w.if-first-seen.true
           w.in-Ok.ensures.ok w.in-Ok.ensures.calm w.put.ensures.crash l.invariant)
       | else-first-seen w ↦ rw (w.sink-is, w.going-is) (one_passed
-          g.S.PartSink.holds g.S.PartSink.refusals g.S.PartSink.crashes c.args.sink.now
+          g.S.PartSink c.args.sink.now
           c.args.first c.args.begun l.sink l.seen l.going ys x w.if-first-seen.false l.invariant)
     ])
 

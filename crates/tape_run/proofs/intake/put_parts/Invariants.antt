@@ -4,5 +4,5 @@ use Rattle.tape_run.proofs.Blocks.{PutSoFar}
 use Rattle.tape_run.proofs.intake.put_parts.Given as goal
 
 abbrev pub invariant-loop-part : goal.invariant-loop-part
-invariant-loop-part g l = PutSoFar g.S.PartSink.holds g.S.PartSink.refusals g.S.PartSink.crashes
+invariant-loop-part g l = PutSoFar g.S.PartSink
     l.fn.sink l.sink l.first l.seen l.begun l.going (map view l.yielded)

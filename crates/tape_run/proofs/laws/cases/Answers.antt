@@ -9,6 +9,7 @@ use Rattle.tape_run.proofs.ExamplesOfUnpacking.{cases_of_unpacking}
 use Rattle.tape_run.proofs.ExamplesOfSurveys.{cases_of_glances, cases_of_wholes, cases_of_surveys}
 use Rattle.tape_run.proofs.ExamplesOfExtracts.{cases_of_turns, cases_of_outputs, cases_of_causes}
 use Rattle.tape_run.proofs.ExamplesOfSaves.{cases_of_saved}
+use Rattle.tape_run.proofs.ExamplesOfSeen.{cases_of_seen}
 use Rattle.tape_run.proofs.ExamplesOfRounds.{cases_of_rounds}
 use Rattle.tape_run.proofs.ExamplesOfLaws.{cases_of_run_laws, cases_of_catalogue_laws}
 use Rattle.tape_run.proofs.laws.cases.Goals as goal
@@ -75,6 +76,9 @@ returns-clause-surveys c = cases_of_surveys
 
 pub returns-clause-turns : goal.returns-clause-turns
 returns-clause-turns c = cases_of_turns
+
+pub returns-clause-seen : goal.returns-clause-seen
+returns-clause-seen c = cases_of_seen
 
 pub returns-clause-saved : goal.returns-clause-saved
 returns-clause-saved c = cases_of_saved

@@ -58,7 +58,7 @@ returns-clause-headline g c = λ held was kept.
 
 pub returns-clause-start : goal.returns-clause-start
 returns-clause-start g c = λ set_id file was st.
-    let old = seen g.S.PartSink.refusals c.args.session.now [] in
+    let old = seen g.S.PartSink c.args.session.now [] in
     let (now, has, (k, run)) =
     returns-clause-headline g c [] was (kept_new set_id file old refl st) in (
       now,
@@ -72,7 +72,7 @@ returns-clause-start g c = λ set_id file was st.
 pub returns-clause-back : goal.returns-clause-back
 returns-clause-back g c = λ set file f bytes was st l has_file volumes readers reels none.
     let (now, has, reads) = returns-clause-start g c set.set_id file was st in
-    let end = seen g.S.PartSink.refusals c.loop-step.session now in
+    let end = seen g.S.PartSink c.loop-step.session now in
     let r = subst (λ z. IsRead set.set_id file z bytes end) reels (reads bytes readers).0 in
     let (done, parts) = came_back set file f bytes end l has_file volumes none r in (
       subst (g.S.PartSink.holds c.loop-step.session.sink) parts has,

@@ -9,7 +9,7 @@ abbrev pub invariant-loop-step : goal.invariant-loop-step
 invariant-loop-step g l = (which : List Bool) × (length which ≡ l.used)
     × (l.failed ≡ written which l.fn.failed)
     × ((held : List Portion) → g.S.PartSink.holds l.fn.session.sink held
-    → IsKept (seen g.S.PartSink.refusals l.fn.session held)
-    → HasCome g.S.PartSink.holds g.S.PartSink.refusals g.S.PartSink.crashes which l.fn.session held
+    → IsKept (seen g.S.PartSink l.fn.session held)
+    → HasCome g.S.PartSink which l.fn.session held
     l.steps (map g.R.Read.remaining l.fn.reels) l.step l.session
     (map g.R.Read.remaining (drop l.used l.reels)))

@@ -12,7 +12,7 @@ returns-clause-crash g c = λ held was bytes e.
     let steps = c.args.steps.now in
     let first = c.resume-session.result in
     let last = crashes c.run-result.new.session.sink in
-    let start = seen g.S.PartSink.refusals first held in
+    let start = seen g.S.PartSink first held in
     let resumed = c.resume-session.ensures.resumed held in
     let adds = c.run-result.ensures.crash held
     (subst (λ s. g.S.PartSink.holds s held) (sym c.resume-session.ensures.sink) was)
@@ -42,13 +42,13 @@ returns-clause-survives g c = λ held was.
 pub returns-clause-delivers : goal.returns-clause-delivers
 returns-clause-delivers g c = on_ok c.run-result.result _ _ (λ run held was.
     let same = sym c.resume-session.ensures.sink in
-    let first = seen g.S.PartSink.refusals c.resume-session.result held in
+    let first = seen g.S.PartSink c.resume-session.result held in
     let (now, has, (k, reads)) = run held (subst (λ s. g.S.PartSink.holds s held) same was)
     (c.resume-session.ensures.kept held) in (
       now,
       has,
       λ bytes e. goes_on c.args.point.now held first
-          (seen g.S.PartSink.refusals c.run-result.new.session now) c.args.steps.now bytes
+          (seen g.S.PartSink c.run-result.new.session now) c.args.steps.now bytes
           (c.resume-session.ensures.resumed held) (reads bytes e).0,
     ))
     c.run-result.ensures.headline
@@ -56,7 +56,7 @@ returns-clause-delivers g c = on_ok c.run-result.result _ _ (λ run held was.
 pub returns-clause-stopped : goal.returns-clause-stopped
 returns-clause-stopped g c = if_err c.run-result.result _ _ (λ fault run held was.
     let same = sym c.resume-session.ensures.sink in
-    let first = seen g.S.PartSink.refusals c.resume-session.result held in
+    let first = seen g.S.PartSink c.resume-session.result held in
     let (now, has, (k, stops)) = run held (subst (λ s. g.S.PartSink.holds s held) same was)
     (c.resume-session.ensures.kept held) in
     (first, c.resume-session.ensures.resumed held, (now, has, λ bytes e. (stops bytes e).0)))

@@ -1,7 +1,6 @@
 use Rattle.std.proofs.Common.{◌≡◌, [], refl, sym, ap, ◌∙◌}
-use Rattle.tape_core.specs.declared.memory.MemorySink.{MemorySink}
 use Rattle.tape_core.specs.Memory.{portions}
-use Rattle.tape_run.specs.Seen.{seen}
+use Rattle.tape_core.specs.Place.{rest_of}
 use Rattle.tape_run.proofs.Lives.{on_ok}
 use Rattle.tape_run.proofs.whole.read_file.Goals as goal
 
@@ -9,8 +8,15 @@ pub returns-clause-read : goal.returns-clause-read
 returns-clause-read g c = on_ok c.run-made.result _ _ (λ start bytes e.
     let empty : [] ≡ portions c.in_ok-session.session.sink =
     sym (ap portions c.in_ok-session.ensures.sink ∙ c.new-sink.ensures.empty) in
-    let (now, has, reads) = start c.args.set_id c.args.file empty c.in_ok-session.ensures.start in (
-      seen (λ (s : MemorySink). s.refused) c.run-made.new.session now,
+    let (now, has, reads) = start c.args.set_id c.args.file empty c.in_ok-session.ensures.start in
+    let session = c.run-made.new.session in (
+      record {
+        place = rest_of session.core;
+        parts = now;
+        notes = session.notes;
+        failures = session.failures;
+        refusals = session.sink.refused;
+      },
       has,
       refl,
       refl,

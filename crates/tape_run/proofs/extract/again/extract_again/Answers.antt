@@ -17,7 +17,7 @@ returns-in_err-read_rounds-clause-err g c =
 
 pub returns-clause-ok : goal.returns-clause-ok
 returns-clause-ok g c =
-    if_ok_both c.end_file.result (EndsFile g.S.PartSink.holds c.read_rounds.new.session c.args.form
+    if_ok_both c.end_file.result (EndsFile g.S.PartSink c.read_rounds.new.session c.args.form
     (g.W.Write.contents c.args.out.now) (g.W.Write.contents c.end_file.new.out)
     (g.P.Write.contents c.read_rounds.new.report) (g.P.Write.contents c.end_file.new.report))
     (ExtractsAgain g.S.PartSink
@@ -36,7 +36,7 @@ returns-clause-ok g c =
 
 pub returns-clause-err : goal.returns-clause-err
 returns-clause-err g c =
-    on_err_map c.end_file.result (StopsAtEnd g.S.PartSink.holds c.read_rounds.new.session
+    on_err_map c.end_file.result (StopsAtEnd g.S.PartSink c.read_rounds.new.session
     c.args.form g.W.Write.contents c.args.out.now c.end_file.new.out
     (g.P.Write.contents c.read_rounds.new.report) (g.P.Write.contents c.end_file.new.report))
     (StopsAgain g.S.PartSink

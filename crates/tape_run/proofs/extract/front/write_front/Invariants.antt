@@ -5,7 +5,7 @@ use Rattle.tape_run.proofs.Walked.{Walked}
 use Rattle.tape_run.proofs.extract.front.write_front.Given as goal
 
 abbrev pub invariant-parts : goal.invariant-parts
-invariant-parts g l = Walked g.S.PartSink.holds g.S.PartSink.refusals g.S.PartSink.crashes
+invariant-parts g l = Walked g.S.PartSink
     l.fn.sink l.sink
     × ((parts : List Portion) → g.S.PartSink.holds l.fn.sink parts
     → Fronts l.form (g.S.PartWalk.ahead l.sink) l.records (g.W.Write.contents l.fn.out)

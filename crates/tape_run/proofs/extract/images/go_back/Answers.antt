@@ -7,7 +7,7 @@ use Rattle.tape_run.proofs.extract.images.go_back.Goals as goal
 
 pub returns : goal.returns
 returns g c =
-    let refusals = g.S.PartSink.refusals in
+    let sink = g.S.PartSink in
     let old = c.args.session.now in
     let new = c.restart.new.self in
     let n = c.notes-notes.result - 1 in
@@ -21,11 +21,11 @@ returns g c =
             has,
             (
               (n, count, went),
-              last_went refusals g.S.PartSink.crashes old new held now n count went
+              last_went sink old new held now n count went
                   (c.restart.ensures.crash held was kept),
             ),
           )) c.restart.ensures.ok;
       left = on_err c.restart.result _ (λ held was kept.
-          restart_left g.S.PartSink.holds refusals g.S.PartSink.crashes old
+          restart_left sink old
           new held n count (c.restart.ensures.crash held was kept));
     }

@@ -8,15 +8,15 @@ use Rattle.tape_run.proofs.extract.images.note.Goals as goal
 
 pub returns-clause-ok : goal.returns-clause-ok
 returns-clause-ok g c = λ held was.
-    let refusals = g.S.PartSink.refusals in
+    let sink = g.S.PartSink in
     let old = c.args.session.now in
     let (now, has, (keeps, saved)) = c.in_ok-save.ensures.ok held was in (
       now,
       has,
       (
-        subst (λ b. IsNoted false b (seen refusals old held) (seen refusals c.save.new.self now))
+        subst (λ b. IsNoted false b (seen sink old held) (seen sink c.save.new.self now))
             (sym (sym c.is_doubtful.ensures ∙ c.if-is_doubtful.false)) saved,
-        last_kept refusals g.S.PartSink.crashes old c.save.new.self held now c.in_ok-save.field-0
+        last_kept sink old c.save.new.self held now c.in_ok-save.field-0
             _ (c.in_ok-save.ensures.point held was) (c.in_ok-save.ensures.kept held was) saved
             (c.save.ensures.crash held was),
       ),
@@ -26,6 +26,6 @@ pub returns-in_err-save-clause-left : goal.returns-in_err-save-clause-left
 returns-in_err-save-clause-left g c =
     on_err c.from_residual.result _ (λ back held was.
     let (now, has, fails) = c.in_err-save.ensures.err held was in
-    save_left g.S.PartSink.holds g.S.PartSink.refusals g.S.PartSink.crashes back
+    save_left g.S.PartSink back
     c.args.session.now c.save.new.self held now c.in_err-save.field-0.0 has fails
     (c.save.ensures.crash held was))

@@ -31,9 +31,9 @@ returns-in_err-take_image-clause-err g c =
       follows = λ held was kept.
           let (now, has, (still, follows, lasts)) = f held was kept in (
             c.loop-number.session.core,
-            seen g.S.PartSink.refusals c.loop-number.session now,
+            seen g.S.PartSink c.loop-number.session now,
             follows,
-            left_saved g.S.PartSink.holds g.S.PartSink.refusals g.S.PartSink.crashes
+            left_saved g.S.PartSink
                 c.args.back c.args.session.now c.loop-number.session
                 c.take_image.new.session held now lasts
                 (c.in_err-take_image.ensures.left now has still),
@@ -57,12 +57,12 @@ returns-in_default-clause-err g c =
       follows = λ held was kept.
           let (now, has, (still, follows, lasts)) = f held was kept in (
             c.loop-number.session.core,
-            seen g.S.PartSink.refusals c.loop-number.session now,
+            seen g.S.PartSink c.loop-number.session now,
             follows,
-            left_saved g.S.PartSink.holds g.S.PartSink.refusals g.S.PartSink.crashes
+            left_saved g.S.PartSink
                 c.args.back c.args.session.now c.loop-number.session
                 c.loop-number.session held now lasts
-                (same_left g.S.PartSink.holds g.S.PartSink.refusals g.S.PartSink.crashes
+                (same_left g.S.PartSink
                 c.args.back c.loop-number.session now),
           );
     }
@@ -80,7 +80,7 @@ loop-number-init g c = (
     (
       kept,
       (refl, refl),
-      last_same g.S.PartSink.refusals g.S.PartSink.crashes c.args.session.now held,
+      last_same g.S.PartSink c.args.session.now held,
     ),
   ),
 )
@@ -109,7 +109,7 @@ loop-number-preserved g c =
             (
               then,
               follows_then c.args.back _ _ turns _ _ (taken.turn ∷ []) _ _ follows one,
-              last_then g.S.PartSink.refusals g.S.PartSink.crashes
+              last_then g.S.PartSink
                   c.args.session.now c.loop-number.session c.take_image.new.session held now next
                   lasts last,
             ),

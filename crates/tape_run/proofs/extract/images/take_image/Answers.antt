@@ -18,5 +18,5 @@ pub returns-in_err-write_text-in-None-clause-left :
     goal.returns-in_err-write_text-in-None-clause-left
 returns-in_err-write_text-in-None-clause-left g c =
     on_err c.from_residual.result _ (λ held was kept.
-    same_left g.S.PartSink.holds g.S.PartSink.refusals g.S.PartSink.crashes
+    same_left g.S.PartSink
     c.args.back c.args.session.now held)

@@ -37,7 +37,7 @@ returns-clause-ok g c =
       left = g.R.Read.remaining c.reel.new.device;
       answer = c.in_ok-answer.answer;
     } in
-    let refusals = g.S.PartSink.refusals in
+    let sink = g.S.PartSink in
     record {
       turn = Some opened;
       is_turn = (refl, (c.reel.new.device, refl));
@@ -47,29 +47,29 @@ returns-clause-ok g c =
           let (now, has, (front, keeps, reeled)) = c.in_ok-answer.ensures.ok held was in
           let back = c.args.back in
           let doubtful = is_doubtful c.in_ok-answer.answer.answer in
-          let mid = seen refusals c.reel.new.self now in
-          let still = kept_for back (seen refusals c.args.session.now held) mid keeps kept in
+          let mid = seen sink c.reel.new.self now in
+          let still = kept_for back (seen sink c.args.session.now held) mid keeps kept in
           let (behind, has_behind, (saved, lasts)) = c.in_ok-settle.ensures.ok now has still in (
             behind,
             has_behind,
             (
-              kept_behind back doubtful mid (seen refusals c.settle.new.session behind) saved still,
+              kept_behind back doubtful mid (seen sink c.settle.new.session behind) saved still,
               (
                 c.settle.new.session.core,
-                seen refusals c.settle.new.session behind,
+                seen sink c.settle.new.session behind,
                 record {
                   waits = c.requires.waits;
                   answers = c.in_ok-answer.ensures.answer;
-                  reeled = noted back opened.had opened (seen refusals c.args.session.now held)
-                      mid (seen refusals c.settle.new.session behind)
+                  reeled = noted back opened.had opened (seen sink c.args.session.now held)
+                      mid (seen sink c.settle.new.session behind)
                       reeled saved;
                   place = refl;
                 },
                 (refl, refl),
               ),
-              last_then refusals g.S.PartSink.crashes c.args.session.now
+              last_then sink c.args.session.now
                   c.reel.new.self c.settle.new.session held now behind
-                  (last_stays refusals g.S.PartSink.crashes c.args.session.now c.reel.new.self
+                  (last_stays sink c.args.session.now c.reel.new.self
                   held now c.in_ok-answer.ensures.notes front
                   (c.reel.ensures.crash held was)) lasts,
             ),
@@ -79,14 +79,14 @@ returns-clause-ok g c =
 pub returns-in_err-answer-clause-left : goal.returns-in_err-answer-clause-left
 returns-in_err-answer-clause-left g c =
     on_err c.from_residual.result _ (λ held was kept.
-    nothing_left g.S.PartSink.holds g.S.PartSink.refusals g.S.PartSink.crashes
+    nothing_left g.S.PartSink
     c.args.back c.args.session.now c.reel.new.self held
     (c.reel.ensures.crash held was))
 
 pub returns-in_err-write_text-clause-left : goal.returns-in_err-write_text-clause-left
 returns-in_err-write_text-clause-left g c =
     on_err c.from_residual-in_err-write_text.result _ (λ held was kept.
-    nothing_left g.S.PartSink.holds g.S.PartSink.refusals g.S.PartSink.crashes
+    nothing_left g.S.PartSink
     c.args.back c.args.session.now c.reel.new.self held
     (c.reel.ensures.crash held was))
 
@@ -94,9 +94,9 @@ pub returns-in_err-settle-clause-left : goal.returns-in_err-settle-clause-left
 returns-in_err-settle-clause-left g c =
     on_err c.from_residual-in_err-settle.result _ (λ held was kept.
     let (now, has, (front, keeps, reeled)) = c.in_ok-answer.ensures.ok held was in
-    let still = kept_for c.args.back (seen g.S.PartSink.refusals c.args.session.now held)
-    (seen g.S.PartSink.refusals c.reel.new.self now) keeps kept in
-    left_then g.S.PartSink.holds g.S.PartSink.refusals g.S.PartSink.crashes
+    let still = kept_for c.args.back (seen g.S.PartSink c.args.session.now held)
+    (seen g.S.PartSink c.reel.new.self now) keeps kept in
+    left_then g.S.PartSink
     c.args.back c.args.session.now c.reel.new.self c.settle.new.session held
     now c.in_ok-answer.ensures.notes front kept (c.reel.ensures.crash held was)
     (c.in_err-settle.ensures.left now has still))

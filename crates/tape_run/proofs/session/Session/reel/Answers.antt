@@ -18,7 +18,7 @@ use Rattle.tape_run.proofs.session.Session.reel.Goals as goal
 
 pub returns-then-is_none-clause-ok : goal.returns-then-is_none-clause-ok
 returns-then-is_none-clause-ok g c =
-    let refusals = g.S.PartSink.refusals in
+    let sink = g.S.PartSink in
     let story : Story _ =
     record {
       core = c.self.inside.intake.core;
@@ -38,7 +38,7 @@ returns-then-is_none-clause-ok g c =
       (
         front_self held,
         (λ k. k),
-        some_all _ _ (λ bytes. not_read bytes (seen refusals story held)
+        some_all _ _ (λ bytes. not_read bytes (seen sink story held)
             c.self.inside.intake.core (is_device c.new.result.fault)
             (ap is_device c.new.ensures.fault) refl finished),
       ),

@@ -1,0 +1,55 @@
+-- The cases of what is seen of a session, and of readers that tell their bytes.
+use Rattle.std.proofs.Common.{◌≡◌, ℕ, List, [], ◌∷◌, length, Some, None, refl, sym, ap, subst, ◌∙◌}
+use Rattle.std.proofs.Common.{arith, map, Option}
+use Rattle.tape_blocks.specs.Block.{Portion}
+use Rattle.tape_core.specs.Point.{Point}
+use Rattle.tape_core.proofs.Crashes.{or_nothing}
+use Rattle.tape_run.specs.CasesOfSaves.{comes_now, weighing}
+use Rattle.tape_run.specs.CasesOfSeen.{CasesOfSeen, counting}
+use Rattle.tape_run.specs.Crash.{BringsNoMore}
+use Rattle.tape_run.specs.Given.{IfTold}
+use Rattle.tape_run.specs.Seen.{Seen, seen, IfSeen, IsSeen}
+use Rattle.tape_run.specs.Story.{Story}
+
+each_part : (s : Story ℕ) (p : Portion) → s.sink ≡ 1
+    → IfSeen counting s (λ is. is.parts ≡ p ∷ []) → (q : Portion) → q ≡ p
+each_part s p one so q = let e = so (q ∷ []) (sym one) in cc
+
+no_part : (s : Story ℕ) → s.sink ≡ 1 → IsSeen counting s (λ is. is.parts ≡ []) → ⊥
+no_part s one (now, count, none) =
+    absurd (omega (arith, one, count, ap length none))
+
+one_untold : (a : List ℕ) → IfTold (λ r. r) (Some a ∷ None ∷ []) (λ bytes. ⊥)
+one_untold a [] e = absurd (cc)
+one_untold a (b ∷ []) e = absurd (cc)
+one_untold a (b ∷ c ∷ bytes) e = absurd (cc)
+
+came_no_more : (old new : Point) → old.staged ≡ 0
+    → BringsNoMore (weighing (comes_now [])) old new → new ≡ old
+came_no_more old new none brings =
+    (or_nothing ((brings [] none).now new [] (refl, refl))).0
+
+pub cases_of_seen : CasesOfSeen
+cases_of_seen = record {
+  is_seen = λ s parts. refl;
+  seen_counts = λ s parts. (refl, refl);
+  each_part = each_part;
+  no_others = λ s one held count none. absurd (omega (arith, one, count, ap length none));
+  some_part = λ s p one. (p ∷ [], sym one, refl);
+  no_part = no_part;
+  lost_parts = λ s parts. (parts, λ kept. absurd (kept tt), refl);
+  not_lost = λ s one (now, has, none). no_part s one (now, has (λ x. x), none);
+  told = λ a b all so. sym (so (a ∷ b ∷ []) refl);
+  both_told = λ a b bytes e. let f = e in cc;
+  one_untold = one_untold;
+  brings_no_more = came_no_more;
+  of_no_parts = λ old new parts none. absurd none;
+  carried = λ back old new was is kept carries.
+      let (now, has, (still, next, last)) = carries [] was kept in
+      (next, (seen (weighing (comes_now [])) new now, still, refl, last));
+  not_kept = λ back old new never held was kept.
+      absurd (never (seen (weighing (comes_now [])) old held) refl kept);
+  walked = λ old new ps none w.
+      let back = (w.crash [] none).now new.sink ps (refl, refl) in
+      (w.core, w.notes, w.failures, (or_nothing back).0);
+}

@@ -1,0 +1,66 @@
+-- What the definitions of what is seen of a session, and of readers that tell their bytes, say of
+-- cases. The call `laws::cases` has them as its contract.
+use Rattle.std.specs.Prelude.{◌≡◌, ℕ, ◌+◌, List, [], ◌∷◌, length, ⊤, Bool, Some, None}
+use Rattle.tape_blocks.specs.Block.{Portion}
+use Rattle.tape_core.specs.Crash.{lost}
+use Rattle.tape_core.specs.Place.{rest_of}
+use Rattle.tape_core.specs.Point.{Point}
+use Rattle.tape_core.specs.declared.sink.PartSink.{Ghosts}
+use Rattle.tape_run.specs.CasesOfSaves.{comes_now, weighing, holding_none}
+use Rattle.tape_run.specs.Crash.{BringsNoMore, IsWalked, KeepsLast}
+use Rattle.tape_run.specs.Given.{IfTold}
+use Rattle.tape_run.specs.Reeling.{Carries, IsKeptFor}
+use Rattle.tape_run.specs.Seen.{Seen, seen, IfSeen, IsSeen, IsSeenUnless}
+use Rattle.tape_run.specs.Story.{Story}
+
+-- a sink that is a count: it holds any parts of that number, and refused as many calls
+abbrev pub counting : Ghosts ℕ
+counting = record {
+  holds = λ n parts. length parts ≡ n;
+  weighs = λ n. 0;
+  refusals = λ n. n;
+  crashes = λ n. lost;
+}
+
+-- of what is seen of a session
+pub record CasesOfSeen : Type 0 where
+  pub is_seen : (s : Story ℕ) (parts : List Portion)
+      → (seen counting s parts).place ≡ rest_of s.core
+  pub seen_counts : (s : Story ℕ) (parts : List Portion)
+      → ((seen counting s parts).failures ≡ s.failures)
+      × ((seen counting s parts).refusals ≡ s.sink)
+  -- of a sink that holds one part: whichever this is, and none is not one
+  pub each_part : (s : Story ℕ) (p : Portion) → s.sink ≡ 1
+      → IfSeen counting s (λ is. is.parts ≡ p ∷ []) → (q : Portion) → q ≡ p
+  pub no_others : (s : Story ℕ) → s.sink ≡ 1 → IfSeen counting s (λ is. is.parts ≡ [] → ⊥)
+  pub some_part : (s : Story ℕ) (p : Portion) → s.sink ≡ 1
+      → IsSeen counting s (λ is. is.parts ≡ p ∷ [])
+  pub no_part : (s : Story ℕ) → s.sink ≡ 1 → IsSeen counting s (λ is. is.parts ≡ []) → ⊥
+  -- a sink that lost its parts may be seen with any
+  pub lost_parts : (s : Story ℕ) (parts : List Portion)
+      → IsSeenUnless ⊤ counting s (λ is. is.parts ≡ parts)
+  pub not_lost : (s : Story ℕ) → s.sink ≡ 1 → IsSeenUnless ⊥ counting s (λ is. is.parts ≡ []) → ⊥
+  -- what holds of known bytes is asked where each reader tells its own
+  pub told : (a b : List ℕ) (all : List (List ℕ))
+      → IfTold (λ r. r) (Some a ∷ Some b ∷ []) (λ bytes. bytes ≡ all) → all ≡ a ∷ b ∷ []
+  pub both_told : (a b : List ℕ)
+      → IfTold (λ r. r) (Some a ∷ Some b ∷ []) (λ bytes. bytes ≡ a ∷ b ∷ [])
+  pub one_untold : (a : List ℕ) → IfTold (λ r. r) (Some a ∷ None ∷ []) (λ bytes. ⊥)
+  -- a crash brings back what it did, of a sink that held parts
+  pub brings_no_more : (old new : Point) → old.staged ≡ 0
+      → BringsNoMore (weighing (comes_now [])) old new → new ≡ old
+  pub of_no_parts : (old new : Point) → BringsNoMore (holding_none (comes_now [])) old new
+  -- a session is brought from what it was to what it is, its own notes kept, and the last of them
+  pub carried : (back : Bool) (old new : Story Point) → old.sink.staged ≡ 0 → new.sink.staged ≡ 0
+      → IsKeptFor back (seen (weighing (comes_now [])) old [])
+      → Carries (weighing (comes_now [])) back old new
+      (λ was is. is.place.file ≡ was.place.file + 1) → (new.core.file ≡ old.core.file + 1)
+      × ((is : Seen) × IsKeptFor back is × (is.place ≡ rest_of new.core)
+      × KeepsLast (weighing (comes_now [])) old [] new is.parts)
+  pub not_kept : (back : Bool) (old new : Story Point)
+      → ((was : Seen) → was.notes ≡ old.notes → IsKeptFor back was → ⊥)
+      → Carries (weighing (comes_now [])) back old new (λ was is. ⊥)
+  -- only the sink of a session may be another, which holds what it held
+  pub walked : (old new : Story Point) (ps : List Portion) → old.sink.staged ≡ 0
+      → IsWalked (weighing (comes_now ps)) old new → (new.core ≡ old.core)
+      × (new.notes ≡ old.notes) × (new.failures ≡ old.failures) × (new.sink ≡ old.sink)
