@@ -18,7 +18,7 @@ use Rattle.tape_run.specs.Rounds.{FollowsRounds, TakesRounds, StopsInRound}
 use Rattle.tape_run.specs.Extracting.{EndsFile, StopsAtEnd}
 use Rattle.tape_run.specs.ExtractingAgain.{ExtractsAgain, StopsAgain}
 use Rattle.tape_run.proofs.Fitting.{front_more, front_then}
-use Rattle.tape_run.proofs.Extracted.{ended}
+use Rattle.tape_run.proofs.Extracted.{ended, tells_then}
 use Rattle.tape_run.proofs.Lasting.{last_then, stood_walked}
 use Rattle.tape_run.proofs.Left.{left_walked, left_behind}
 use Rattle.tape_run.proofs.Turns.{follows_then}
@@ -95,6 +95,8 @@ stops_in_round {S} {L} {R} {W} gs size gives remaining old new
     shelf left form contents out said says back same stopped =
     let s = subst (λ b. StopsInRound gs (size shelf) gives remaining b
     old new shelf left said says) same stopped in
+    let lines = front_of_all said s.told says (turns_of s.rounds) s.last.turns s.last.more
+    s.gone.lines s.last.lines in
     record {
       rounds = s.rounds;
       between = s.between;
@@ -102,14 +104,12 @@ stops_in_round {S} {L} {R} {W} gs size gives remaining old new
       brought = s.gone.brought;
       turns = s.last.turns;
       are_turns = s.last.are_turns;
-      most = omega (arith, s.last.fewer);
       more = s.last.more;
       few = s.last.few;
+      most = omega (arith, s.last.fewer, s.last.few);
       want = None;
       records = 0;
-      lines = front_more said says _ (last_line None 0)
-          (front_of_all said s.told says (turns_of s.rounds) s.last.turns s.last.more s.gone.lines
-          s.last.lines);
+      lines = front_more said says _ (last_line None 0) lines;
       follows = λ held was kept.
           let (mid, has, (still, f, before)) = s.gone.follows held was kept in
           let (core, now, one, leaves) = s.last.follows mid has still in (
@@ -122,6 +122,7 @@ stops_in_round {S} {L} {R} {W} gs size gives remaining old new
                   core now) s.gone.at one,
             ),
             left_behind gs old s.mid new held mid now before leaves,
+            inl lines,
             inl refl,
           );
     }
@@ -142,6 +143,10 @@ stops_at_end_again {S} {L} {R} {W} gs size gives remaining old new
     let t = subst (λ b. TakesRounds gs (size shelf) gives remaining b
     old new shelf left
     said between) same took in
+    let lines = subst (λ l. Appends said between (reel_lines 1 l))
+    (sym (append-nil (map answer_of (turns_of t.rounds ++ t.last.turns))))
+    (lines_of_all said t.told between (turns_of t.rounds) t.last.turns t.gone.lines
+    t.last.lines) in
     record {
       rounds = t.rounds;
       between = t.between;
@@ -149,16 +154,12 @@ stops_at_end_again {S} {L} {R} {W} gs size gives remaining old new
       brought = t.gone.brought;
       turns = t.last.turns;
       are_turns = (left, t.last.are_turns, inl refl);
-      most = t.last.most;
       more = [];
       few = omega arith;
+      most = omega (arith, t.last.most);
       want = e.want;
       records = e.records;
-      lines = front_then said between says _ (last_line e.want e.records)
-          (subst (λ l. Appends said between (reel_lines 1 l))
-          (sym (append-nil (map answer_of (turns_of t.rounds ++ t.last.turns))))
-          (lines_of_all said t.told between (turns_of t.rounds) t.last.turns t.gone.lines
-          t.last.lines)) e.line;
+      lines = front_then said between says _ (last_line e.want e.records) lines e.line;
       follows = λ held was kept.
           let (mid, has, (still, f, before)) = t.gone.follows held was kept in
           let (now, has_now, (then, one, last)) = t.last.follows mid has still in (
@@ -173,6 +174,8 @@ stops_at_end_again {S} {L} {R} {W} gs size gives remaining old new
             left_walked gs back old new end held now
                 (last_then gs old t.mid new held mid now before last) walked
                 has_now,
+            tells_then said between says _ e.want e.records (seen gs new now) lines
+                (e.tells now has_now),
             e.is_written now has_now,
           );
     }

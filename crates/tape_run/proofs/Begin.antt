@@ -68,20 +68,19 @@ pub is_start : (set_id : List ℕ)
 is_start set_id file core place failures refusals notes e f g h at = record {
   no_notes = g;
   no_failures = h;
+  no_parts = refl;
   place = f ∙ ap rest_of e;
   each = λ set l id has. is_new set set_id file core place failures refusals notes e f g
       (at set id (has_start set l file has));
 }
 
-pub kept_new : (set_id : List ℕ) (file : ℕ) (s : Seen) → s.parts ≡ [] → IsStart set_id file s
-    → IsKept s
-kept_new set_id file s e st = rw (st.no_notes) ((s.parts, refl))
+pub kept_new : (set_id : List ℕ) (file : ℕ) (s : Seen) → IsStart set_id file s → IsKept s
+kept_new set_id file s st = rw (st.no_notes) ((s.parts, refl))
 
 pub is_read : (set_id : List ℕ) (file : ℕ) (steps : List Step) (bytes : List (List ℕ))
-    (old new : Seen)
-    → old.parts ≡ [] → IsStart set_id file old → (h : HasRun old steps bytes new)
+    (old new : Seen) → IsStart set_id file old → (h : HasRun old steps bytes new)
     → (read : IsRead set_id file steps bytes new) × (read.which ≡ h.which)
-is_read set_id file steps bytes old new none st h = (
+is_read set_id file steps bytes old new st h = (
   record {
     given = h.given;
     which = h.which;
@@ -101,7 +100,7 @@ is_read set_id file steps bytes old new none st h = (
         );
     led = λ reels a. h.led (at_start set_id file) reels a (record {
       place = st.place;
-      parts = none;
+      parts = st.no_parts;
       notes = rw st.no_notes ((old.parts, refl));
     });
   },

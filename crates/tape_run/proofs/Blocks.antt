@@ -11,8 +11,9 @@ use Rattle.tape_blocks.specs.declared.parts.Parts.{Parts}
 use Rattle.tape_blocks.specs.PartsLeft.{parts_left}
 use Rattle.tape_blocks.proofs.YieldLaws.{yielded_parts}
 use Rattle.tape_blocks.specs.Judged.{begun_behind}
-use Rattle.tape_core.specs.Crash.{AddsNothing, Crashes}
+use Rattle.tape_core.specs.declared.sink.PartSink.{Ghosts}
 use Rattle.tape_core.proofs.Crashes.{only_same}
+use Rattle.tape_run.specs.Crash.{BringsNoMore}
 use Rattle.tape_run.proofs.Crashes.{adds_then}
 
 -- ---- parts from a number on

@@ -1,9 +1,10 @@
 -- Items that are taken one after another by the table.
-use Rattle.std.proofs.Common.{zero, suc, ◌+◌, ◌-◌, ◌≤◌, arith, take}
+use Rattle.std.proofs.Common.{zero, suc, ◌+◌, ◌-◌, ◌<◌, ◌≤◌, arith, take, length, length-drop}
 use Rattle.std.proofs.Math.Seq.{take-nil}
 use Rattle.std.proofs.Common.{◌≡◌, ◌≢◌, ℕ, List, [], ◌∷◌, ◌++◌, drop, Option, Some, None, refl, sym}
 use Rattle.std.proofs.Common.{ap, subst, ◌∙◌, append_assoc, append-nil}
 use Rattle.tape_blocks.specs.Block.{Portion, Holds}
+use Rattle.tape_blocks.specs.Judged.{begun_behind}
 use Rattle.tape_image.specs.Tape.{TapeItem, block}
 use Rattle.tape_set.specs.Lawful.{FileForm}
 use Rattle.tape_set.specs.declared.position.Position.{Position}
@@ -13,14 +14,16 @@ use Rattle.tape_core.specs.declared.event.Answer.TheVariants.{Passed, Deliver, S
 use Rattle.tape_core.specs.declared.event.Answer.TheVariants.{Complete, Useless}
 use Rattle.tape_core.specs.State.{State}
 use Rattle.tape_core.specs.Parts.{parts_in}
-use Rattle.tape_core.specs.Place.{rest_of}
-use Rattle.tape_core.specs.Table.{step_of}
+use Rattle.tape_core.specs.Place.{rest_of, place_of}
+use Rattle.tape_core.specs.Table.{step_of, saved}
 use Rattle.tape_core.specs.Follows.{IsFinal}
 use Rattle.tape_core.proofs.BlockLaws.{parts_in_it}
 use Rattle.tape_run.specs.Reels.{behind_items}
 use Rattle.tape_run.specs.ByTable.{parts_by, parts_at, parts_of_arrival}
 use Rattle.tape_run.specs.ByTable.{delivered_parts}
 use Rattle.tape_run.specs.ByTable.{IsLed, StopsInside}
+use Rattle.tape_run.specs.Puts.{refused_point}
+use Rattle.tape_run.proofs.Places.{refused_position}
 use Rattle.tape_run.proofs.Finals.{IsIdle, behind_final, idle_items}
 use Rattle.tape_core.specs.declared.event.Phase.{Phase}
 use Rattle.tape_core.specs.declared.event.Phase.TheVariants.{Broken}
@@ -197,23 +200,38 @@ pub puts_front : (core new : State) (answer : Answer) (came : Option TapeItem) (
     (bytes : List ℕ) (form : FileForm) (parts held : List Portion) (first n : ℕ) (place : State)
     → (answer, new) ≡ step_of core came → answer ≡ Deliver → came ≡ Some (block bytes)
     → new.known ≡ Some form → Holds form.format form.rec_len form.offset bytes parts
-    → first ≡ part_of core.position → first ≤ n → place.position ≡ at_part n core.position
+    → first ≡ part_of core.position → first ≤ n → n < length parts
+    → place ≡ place_of (refused_point (saved core 0) (saved new 0) n
+    (begun_behind core.begun (drop first (take n parts))))
     → came ≡ Some item
     → StopsInside core place item held (held ++ drop first (take n parts))
 puts_front core new answer came item bytes form parts held first n place step is e known h at le
-    there i =
+    lt back i =
     let more = n - first in
     let up : n ≡ first + more = omega (arith, le) in
     let all : drop first parts ≡ parts_at core item =
     puts_delivered core new answer came bytes form parts first step is e known h at
     ∙ ap (parts_of_arrival core) i in
+    let put : drop first (take n parts) ≡ take more (parts_at core item) =
+    ap (λ (k : ℕ). drop first (take k parts)) up
+    ∙ (drop_take first more parts ∙ ap (take more) all) in
+    let number : n ≡ part_of core.position + more = up ∙ ap (λ (f : ℕ). f + more) at in
+    let behind : new ≡ (step_of core (Some item)).1 = ap (λ (z : Answer × State). z.1) step
+    ∙ ap (λ (z : Option TapeItem). (step_of core z).1) i in
     record {
       delivers = sym (ap (λ (z : Answer × State). z.0) step
           ∙ ap (λ (z : Option TapeItem). (step_of core z).0) i) ∙ is;
       more = more;
-      parts = ap (λ (l : List Portion). held ++ l)
-          (ap (λ (k : ℕ). drop first (take k parts)) up
-          ∙ (drop_take first more parts ∙ ap (take more) all));
-      position = there ∙ ap (λ (k : ℕ). at_part k core.position)
-          (up ∙ ap (λ (f : ℕ). f + more) at);
+      within = omega (arith, le, lt, length-drop first parts, ap length all);
+      parts = ap (λ (l : List Portion). held ++ l) put;
+      position = ap (λ (z : State). z.position) back
+          ∙ (refused_position core new n _ ∙ ap (λ (k : ℕ). at_part k core.position) number);
+      place = back ∙ (ap (λ (z : State). place_of (refused_point (saved core 0) (saved z 0) n
+          (begun_behind core.begun (drop first (take n parts))))) behind
+          ∙ (ap (λ (k : ℕ). place_of (refused_point (saved core 0)
+          (saved (step_of core (Some item)).1 0) k
+          (begun_behind core.begun (drop first (take n parts))))) number
+          ∙ ap (λ (l : List Portion). place_of (refused_point (saved core 0)
+          (saved (step_of core (Some item)).1 0) (part_of core.position + more)
+          (begun_behind core.begun l))) put));
     }

@@ -25,9 +25,10 @@ use Rattle.tape_blocks.specs.Block.{Portion}
 use Rattle.tape_core.specs.State.{State}
 use Rattle.tape_core.specs.Table.{mount_of}
 use Rattle.tape_run.specs.ByTable.{IsCutAt}
-use Rattle.tape_run.specs.Lead.{Lead, lead, StandsThere, StopsBy}
+use Rattle.tape_run.specs.Lead.{Lead, lead, AreNoted, StandsThere, StopsBy}
 use Rattle.tape_run.proofs.Notes.{notes_grow}
 use Rattle.tape_run.proofs.Headline.{headline}
+use Rattle.tape_run.proofs.Lead.{noted_grow}
 
 -- ---- results
 
@@ -145,12 +146,17 @@ unmoved_there t old new u s = record {
 }
 
 cut_there : (t : Lead) (old new : Seen) (bytes : List ℕ) → CutShort bytes old new
-    → StandsThere t old → (xs : List TapeItem) (end : ℕ) (stop : Stop) → Begins 0 bytes xs end stop
-    → IsCutAt xs (mount_of t.place) new.place t.parts new.parts
-cut_there t old new bytes c s xs end stop b =
-    subst (λ (l : List Portion). IsCutAt xs (mount_of t.place) new.place l new.parts) s.parts
-    (subst (λ (z : State). IsCutAt xs (mount_of z) new.place old.parts new.parts) s.place
-    (c.table xs end stop b))
+    → StandsThere t old → AreNoted [] t.notes new.notes new.parts × ((xs : List TapeItem) (end : ℕ)
+    (stop : Stop) → Begins 0 bytes xs end stop
+    → IsCutAt xs (mount_of t.place) new.place t.parts new.parts)
+cut_there t old new bytes c s = (
+  subst (λ (cs : List Point). AreNoted [] t.notes cs new.parts) (sym c.notes)
+      (noted_grow [] t.notes old.notes old.parts new.parts c.grows s.notes),
+  λ xs end stop b.
+      subst (λ (l : List Portion). IsCutAt xs (mount_of t.place) new.place l new.parts) s.parts
+      (subst (λ (z : State). IsCutAt xs (mount_of z) new.place old.parts new.parts) s.place
+      (c.table xs end stop b)),
+)
 
 reel_led : (t : Lead) (old new : Seen) (b : List ℕ) (bs : List (List ℕ)) (fault : RunFault)
     → ReelFails b fault old new → StandsThere t old → StopsBy t Reel (b ∷ bs) fault new

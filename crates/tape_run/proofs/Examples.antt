@@ -165,7 +165,7 @@ cases_of_sessions = record {
   ran = λ set old new hs r. (r.session, r.same_file, r.reached);
   has_run = λ old new steps bytes set hs r lawful history is.
       (r.ran set hs lawful history is, r.are_given, r.count);
-  starts = λ id file s is. (is.place, is.no_notes, is.no_failures);
+  starts = λ id file s is. (is.place, is.no_notes, is.no_failures, is.no_parts);
   begins_file = λ set file s is lawful some.
       let new = is.each set lawful refl some in (new.session, new.its_file, new.course);
   was_read = λ set file steps bytes s hs r lawful some history.
@@ -304,8 +304,6 @@ cases_of_crashes = record {
   of_no_reel = λ s back there stood. stood;
   came_back = λ old steps done bytes given back there set hs c lawful history is.
       let stands = c.stands set hs lawful history is in (stands.0, stands.1, c.all, c.are_given);
-  resumed = λ c ps s r. (r.place, r.parts, r.notes);
+  resumed = λ c ps s r. (r.place, r.parts, r.notes, r.failures);
   saved_life = λ set s. ((refl, tt), refl);
-  went_on = λ c ps now steps bytes set hs g lawful stands history.
-      (g.delivers set hs lawful stands history, g.are_given);
 }

@@ -1,7 +1,7 @@
 -- The cases of files got back.
 use Rattle.std.proofs.Common.{◌≡◌, ◌⊎◌, inl, inr, ℕ, List, [], ◌∷◌, Some, None}
 use Rattle.std.proofs.Common.{refl, sym, ap, subst, ◌∙◌, false, true, length, arith}
-use Rattle.std.specs.Prelude.{IfSome, Option, get_or, set}
+use Rattle.std.specs.Prelude.{IfSome, Option, get_or, map, set, ◌++◌}
 use Rattle.tape_set.specs.Layout.{FileSet}
 use Rattle.tape_set.specs.Lawful.{IsLawful}
 use Rattle.tape_core.specs.Place.{IsPlaced}
@@ -10,17 +10,18 @@ use Rattle.tape_run.specs.Mount.{IsMountOf, foreign_reel}
 use Rattle.tape_run.specs.OutSinks.{IsText}
 use Rattle.tape_run.specs.Reeling.{Opened, AreGiven, AreMounts, Gathers, IsNoted, goes_back}
 use Rattle.tape_run.specs.Reeling.{IsKeptFor, AreSure, is_doubtful, Turn, IsTurn, Took}
-use Rattle.tape_run.specs.Reeling.{AreTurns, AreFirstTurns}
+use Rattle.tape_run.specs.Reeling.{AreTurns, AreFirstTurns, answer_of}
 use Rattle.tape_run.specs.Seen.{Seen, seen}
 use Rattle.tape_run.specs.Steps.{WentBack}
 use Rattle.tape_core.specs.Point.{Point}
-use Rattle.tape_blocks.specs.Block.{Portion}
+use Rattle.tape_blocks.specs.Spans.{join}
 use Rattle.tape_run.specs.Output.{AppendsFront}
+use Rattle.tape_run.specs.ReelLine.{reel_lines}
 use Rattle.tape_run.specs.RecordText.{output_of}
 use Rattle.tape_blocks.specs.declared.parts.Form.{Form}
 use Rattle.tape_set.specs.declared.position.Position.TheVariants.{Finished}
-use Rattle.tape_run.specs.CasesOfExtracts.{CasesOfTurns, CasesOfOutputs, Listed, Known, Readers}
-use Rattle.tape_run.specs.CasesOfExtracts.{ExtractsListed, StopsListed, StopsListedNow}
+use Rattle.tape_run.specs.CasesOfExtracts.{CasesOfTurns, CasesOfOutputs, Listed, as_sink, Known}
+use Rattle.tape_run.specs.CasesOfExtracts.{Readers, ExtractsListed, StopsListed, StopsListedNow}
 use Rattle.tape_run.specs.CasesOfExtracts.{CasesOfCauses, FailsEmpty, FailsUnknown}
 use Rattle.tape_core.specs.Weight.{Rose}
 use Rattle.tape_core.specs.declared.sink.SinkFault.{SinkFault}
@@ -28,7 +29,7 @@ use Rattle.tape_core.specs.declared.sink.SinkFault.TheVariants.{Failed}
 use Rattle.tape_run.specs.declared.fault.EngineFault.TheVariants.{Run}
 use Rattle.tape_run.specs.declared.fault.RunFault.TheVariants.{Sink}
 use Rattle.tape_run.specs.Causes.{CannotEnd}
-use Rattle.tape_run.specs.Extracting.{IsWritten}
+use Rattle.tape_run.specs.Extracting.{IsWritten, TellsEnd}
 use Rattle.tape_set.specs.declared.position.Want.{Want}
 use Rattle.tape_set.specs.Position.{want_at}
 
@@ -128,6 +129,7 @@ cases_of_turns = record {
   steps_behind = (refl, refl, refl, refl);
   counted = (refl, refl);
   steps = λ o p. refl;
+  by_its_line = λ back o b old new had are. are (b ∷ []) (had, refl);
   told = λ o b are. are.0;
   none_told = λ o are. are;
   told_alone = λ b are. absurd (cc are);
@@ -170,11 +172,38 @@ output_stopped : (session behind : Listed) (shelf left : Readers) (form : Form)
     → (now ≡ out)
     ⊎ ((s : Seen) × (s.place.position ≡ Finished) × AppendsFront out now (output_of form s.parts))
 output_stopped session behind shelf left form out now said says none s =
-    let (last, seen, follows, stood, wrote) = s.follows session.sink refl (none_kept session none)
-    in elim wrote [
+    let (last, seen, follows, stood, tells, wrote) =
+    s.follows session.sink refl (none_kept session none) in elim wrote [
       | inl same ↦ inl same
       | inr more ↦ inr (seen, more.0, more.1)
     ]
+
+last_line_tells : (p : Seen) (want : Option Want) (records : ℕ)
+    → p.place.position ≡ Finished → TellsEnd ⊥ want records p
+    → (want ≡ None) × (records ≡ length (join p.parts).records)
+last_line_tells p want records done (inl none) = absurd none
+last_line_tells p want records done (inr (is, counted)) =
+    let none : want ≡ None = is ∙ ap (want_at p.place.file) done in (none, counted none)
+
+last_line_of : (session behind : Listed) (shelf left : Readers) (form : Form)
+    (out now said says : Known) → session.notes ≡ []
+    → (s : StopsListed session behind shelf left form out now said says)
+    → (p : Seen) × TellsEnd (AppendsFront said says
+    (reel_lines 1 (map answer_of s.turns ++ s.more))) s.want s.records p
+    × ((now ≡ out) ⊎ (p.place.position ≡ Finished))
+last_line_of session behind shelf left form out now said says none s =
+    let (last, seen, follows, stood, tells, wrote) =
+    s.follows session.sink refl (none_kept session none) in
+    (seen, tells, elim wrote [ inl same ↦ inl same | inr more ↦ inr more.0 ])
+
+last_line_of_now : (session : Listed) (shelf left : Readers) (form : Form)
+    (out now said says : Known) (s : StopsListedNow session shelf left form out now said says)
+    → (p : Seen) × TellsEnd (AppendsFront said says
+    (reel_lines 1 (map answer_of s.turns ++ s.more))) s.want s.records p
+    × ((now ≡ out) ⊎ (p.place.position ≡ Finished))
+last_line_of_now session shelf left form out now said says s =
+    let (last, seen, follows, tells, wrote) = s.follows session.sink refl in
+    (seen, tells, elim wrote [ inl same ↦ inl same | inr more ↦ inr more.0 ])
 
 output_stopped_now : (session : Listed) (shelf left : Readers) (form : Form)
     (out now said says : Known)
@@ -182,7 +211,7 @@ output_stopped_now : (session : Listed) (shelf left : Readers) (form : Form)
     → (now ≡ out)
     ⊎ ((s : Seen) × (s.place.position ≡ Finished) × (now ≡ Some (output_of form s.parts)))
 output_stopped_now session shelf left form out now said says s =
-    let (last, seen, follows, wrote) = s.follows session.sink refl in elim wrote [
+    let (last, seen, follows, tells, wrote) = s.follows session.sink refl in elim wrote [
       | inl same ↦ inl same
       | inr more ↦ elim more.1 [
         | inl same ↦ inl same
@@ -192,6 +221,10 @@ output_stopped_now session shelf left form out now said says s =
 
 pub cases_of_outputs : CasesOfOutputs
 cases_of_outputs = record {
+  last_line_tells = last_line_tells;
+  less_was_told = λ p want records. inl tt;
+  last_line_of = last_line_of;
+  last_line_of_now = last_line_of_now;
   output_stopped = output_stopped;
   output_stopped_now = output_stopped_now;
   written = λ records form out now parts w. w;

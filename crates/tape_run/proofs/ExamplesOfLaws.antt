@@ -2,6 +2,20 @@
 use Rattle.std.proofs.Common.{◌≡◌, ◌≢◌, ℕ, List, [], ◌∷◌, Some, None, refl, ap, sym, ◌∙◌}
 use Rattle.std.proofs.Common.{subst, arith, true, false, inr}
 use Rattle.std.specs.Prelude.{MatchOption}
+use Rattle.tape_blocks.specs.Block.{Portion}
+use Rattle.tape_set.specs.Before.{before}
+use Rattle.tape_set.specs.Layout.{FileSet}
+use Rattle.tape_set.specs.Lawful.{IsLawful}
+use Rattle.tape_set.specs.Reach.{far}
+use Rattle.tape_set.specs.Reading.{Reading}
+use Rattle.tape_core.specs.Point.{Point}
+use Rattle.tape_core.specs.Stands.{Stands}
+use Rattle.tape_run.specs.declared.script.Step.TheVariants.{Reel}
+use Rattle.tape_run.specs.Headline.{HasRun}
+use Rattle.tape_run.specs.History.{Course, IsHistory}
+use Rattle.tape_run.specs.Lives.{IsResumed, ResumedGoesOn}
+use Rattle.tape_run.specs.Mount.{reads}
+use Rattle.tape_run.specs.Seen.{Seen}
 use Rattle.tape_run.specs.declared.section.SectionKey.{SectionKey}
 use Rattle.tape_run.specs.declared.section.SectionState.TheVariants.{Good, Cut}
 use Rattle.tape_run.specs.Lacks.{LackIsFirst, IsFoundWhole, IsFirstLack, lack_of}
@@ -9,6 +23,17 @@ use Rattle.tape_run.specs.OneEntry.{HasOneEach}
 use Rattle.tape_run.specs.Passing.{Told}
 use Rattle.tape_run.specs.CasesOfCatalogues.{met}
 use Rattle.tape_run.specs.CasesOfLaws.{CasesOfRunLaws, CasesOfCatalogueLaws}
+
+went_on : ResumedGoesOn → (set : FileSet) (c : Point) (ps : List Portion) (began new : Seen)
+    (bytes : List ℕ) (r : Reading) → IsLawful set → Stands set c.file c ps
+    → IsResumed c ps began → (run : HasRun began (Reel ∷ []) (bytes ∷ []) new)
+    → IsHistory set 0 (Reel ∷ []) run.given (reads r ∷ [])
+    → (new.place.position ≡ far set c.file c.position r)
+    × (new.parts ≡ before set c.file new.place.position)
+went_on law set c ps began new bytes r lawful stands from run history =
+    let (there, parts) = law set c ps began new (Reel ∷ []) (bytes ∷ []) (reads r ∷ [])
+    lawful stands from run history in
+    (sym (ap (λ (z : Course). z.at) there), parts)
 
 pub cases_of_run_laws : CasesOfRunLaws
 cases_of_run_laws = record {
@@ -22,6 +47,7 @@ cases_of_run_laws = record {
   came_back = λ law old steps bytes back there stood. law old steps bytes back there stood;
   one_crash = λ law set c back ps there life hs lawful stands outlives are.
       law set c ps (life ∷ []) (hs ∷ []) back there lawful stands outlives are;
+  went_on = went_on;
   items_are = λ law bytes. let all = law (bytes ∷ []) in (all.0, all.1);
   no_life = λ c ps. (refl, refl);
   one_life = λ c back ps there life resumed came.

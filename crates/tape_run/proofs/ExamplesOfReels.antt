@@ -1,5 +1,5 @@
 -- The cases of a reel's answer, and of where the table leads over any tapes.
-use Rattle.std.proofs.Common.{◌≡◌, [], ◌∷◌, refl, inl, inr}
+use Rattle.std.proofs.Common.{◌≡◌, ◌+◌, [], ◌∷◌, Some, refl, ap, ◌∙◌, inl, inr, arith}
 use Rattle.tape_image.specs.declared.item.Ending.TheVariants.{Physical}
 use Rattle.tape_image.specs.Begins.{ends}
 use Rattle.tape_label.specs.Kinds.{kind_at}
@@ -8,11 +8,15 @@ use Rattle.tape_label.specs.VolumeLabels.{is_volume_label}
 use Rattle.tape_blocks.specs.Units.{unit_at}
 use Rattle.tape_blocks.specs.Parts.{parts_by}
 use Rattle.tape_blocks.specs.Judged.{judged}
+use Rattle.tape_set.specs.Position.{part_of}
+use Rattle.tape_core.specs.State.{State}
+use Rattle.tape_core.specs.Table.{step_of}
 use Rattle.tape_core.specs.declared.event.Answer.TheVariants.{Complete}
 use Rattle.tape_run.specs.declared.script.Step.TheVariants.{Save, Restart}
 use Rattle.tape_run.specs.Lead.{Lead, lead}
 use Rattle.tape_run.specs.Reels.{GoesOn}
 use Rattle.tape_run.proofs.Examples.{empty_begins}
+use Rattle.tape_run.proofs.Places.{stands_first, stands_behind}
 use Rattle.tape_run.specs.CasesOfReels.{CasesOfAnswers, CasesOfTable, CasesOfLeads}
 
 ended : GoesOn Complete → ⊥
@@ -47,7 +51,15 @@ cases_of_table = record {
   one_block = refl;
   behind_one = refl;
   led = λ xs core new held now l. (l.place, l.parts);
-  stops = λ core new item held now s. (s.delivers, s.parts, s.position);
+  stops = λ core new item held now s. (s.delivers, s.parts, s.position, s.within);
+  stops_at_first = λ core new item held now s none.
+      s.place ∙ stands_first core (step_of core (Some item)).1 _ _ (omega (arith, none));
+  stops_behind = λ core new item held now s some.
+      let behind = stands_behind core (step_of core (Some item)).1
+      (part_of core.position + s.more) _ (omega (arith, some)) in (
+        ap (λ (z : State). z.known) s.place ∙ behind.0,
+        λ none. ap (λ (z : State). z.begun) s.place ∙ behind.1 none,
+      );
   cut_at = λ xs core new held now c. (c.all, c.stops);
 }
 
@@ -68,7 +80,7 @@ cases_of_leads = record {
   noted = λ n c parts are. (are.1, are.2);
   each_noted = λ n c parts. (λ x. x, λ x. x);
   save_stops = λ t readers fault new s. s;
-  reel_stops = λ t bytes cause new xs end stop s b. s xs end stop b;
+  reel_stops = λ t bytes cause new xs end stop s b. (s.1 xs end stop b, s.0);
   run_led = λ old new steps bytes t tapes r are st. r.led t tapes are st;
   read_led = λ id file steps bytes s tapes r are. r.led tapes are;
   stopped_led = λ old new steps bytes n fault t tapes s are st. s.led t tapes are st;

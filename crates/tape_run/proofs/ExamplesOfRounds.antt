@@ -2,14 +2,13 @@
 use Rattle.std.proofs.Common.{◌≡◌, ◌⊎◌, List, [], ◌∷◌, inl, inr, refl, sym, ap, subst}
 use Rattle.std.proofs.Common.{◌∙◌, arith}
 use Rattle.std.specs.Prelude.{Option, Bool, None}
-use Rattle.tape_blocks.specs.Block.{Portion}
 use Rattle.tape_set.specs.declared.position.Want.{Want}
 use Rattle.tape_set.specs.Position.{want_at}
 use Rattle.tape_core.specs.State.{State}
 use Rattle.tape_run.specs.Reeling.{Turn, AreTurns, Follows, Took}
 use Rattle.tape_run.specs.Rounds.{Round, AreRounds, IsEnough, GoesRound}
 use Rattle.tape_run.specs.Seen.{Seen, seen}
-use Rattle.tape_run.specs.CasesOfExtracts.{Known, Readers}
+use Rattle.tape_run.specs.CasesOfExtracts.{as_sink, Known, Readers}
 use Rattle.tape_run.specs.CasesOfRounds.{CasesOfRounds}
 
 enough : (before want : Option Want) → IsEnough 3 6 before want → (want ≡ None) ⊎ (want ≡ before)
@@ -48,7 +47,8 @@ cases_of_rounds = record {
   follows_none = λ back core old new f. f;
   file_ended = λ session form out now said says want e.
       (e.wanted, e.line, e.is_written session.sink refl);
-  file_stopped = λ session form out now said says s. (s.line, s.is_written session.sink refl);
+  file_stopped = λ session form out now said says s.
+      (s.line, s.tells session.sink refl, s.is_written session.sink refl);
   again_ends = λ session behind shelf left form out now said says want e kept.
       let (ends, goes, (parts, holds, is, keeps)) = e.ends session.sink refl kept in (
         ends,
@@ -61,6 +61,6 @@ cases_of_rounds = record {
   again_stopped = λ session behind shelf left form out now said says s.
       (s.few, s.most, s.are_rounds, s.are_turns, s.brought, s.lines);
   again_output = λ session behind shelf left form out now said says s kept.
-      let (last, now, goes, stood, wrote) = s.follows session.sink refl kept in
-      (last, now, goes, wrote);
+      let (last, now, goes, stood, tells, wrote) = s.follows session.sink refl kept in
+      (last, now, goes, tells, wrote);
 }

@@ -1,6 +1,6 @@
 -- The cases of what is seen of a session, and of readers that tell their bytes.
-use Rattle.std.proofs.Common.{◌≡◌, ℕ, List, [], ◌∷◌, length, Some, None, refl, sym, ap, subst, ◌∙◌}
-use Rattle.std.proofs.Common.{arith, map, Option}
+use Rattle.std.proofs.Common.{◌≡◌, ℕ, List, [], ◌∷◌, length, Some, None, refl, sym, ap}
+use Rattle.std.proofs.Common.{arith}
 use Rattle.tape_blocks.specs.Block.{Portion}
 use Rattle.tape_core.specs.Point.{Point}
 use Rattle.tape_core.proofs.Crashes.{or_nothing}
@@ -8,7 +8,7 @@ use Rattle.tape_run.specs.CasesOfSaves.{comes_now, weighing}
 use Rattle.tape_run.specs.CasesOfSeen.{CasesOfSeen, counting}
 use Rattle.tape_run.specs.Crash.{BringsNoMore}
 use Rattle.tape_run.specs.Given.{IfTold}
-use Rattle.tape_run.specs.Seen.{Seen, seen, IfSeen, IsSeen}
+use Rattle.tape_run.specs.Seen.{seen, IfSeen, IsSeen}
 use Rattle.tape_run.specs.Story.{Story}
 
 each_part : (s : Story ℕ) (p : Portion) → s.sink ≡ 1
@@ -18,6 +18,13 @@ each_part s p one so q = let e = so (q ∷ []) (sym one) in cc
 no_part : (s : Story ℕ) → s.sink ≡ 1 → IsSeen counting s (λ is. is.parts ≡ []) → ⊥
 no_part s one (now, count, none) =
     absurd (omega (arith, one, count, ap length none))
+
+both_told : (a b : List ℕ)
+    → IfTold (λ r. r) (Some a ∷ Some b ∷ []) (λ bytes. bytes ≡ a ∷ b ∷ [])
+both_told a b [] e = absurd (cc)
+both_told a b (x ∷ []) e = absurd (cc)
+both_told a b (x ∷ y ∷ []) e = let f = e in cc
+both_told a b (x ∷ y ∷ z ∷ bytes) e = absurd (cc)
 
 one_untold : (a : List ℕ) → IfTold (λ r. r) (Some a ∷ None ∷ []) (λ bytes. ⊥)
 one_untold a [] e = absurd (cc)
@@ -40,7 +47,7 @@ cases_of_seen = record {
   lost_parts = λ s parts. (parts, λ kept. absurd (kept tt), refl);
   not_lost = λ s one (now, has, none). no_part s one (now, has (λ x. x), none);
   told = λ a b all so. sym (so (a ∷ b ∷ []) refl);
-  both_told = λ a b bytes e. let f = e in cc;
+  both_told = both_told;
   one_untold = one_untold;
   brings_no_more = came_no_more;
   of_no_parts = λ old new parts none. absurd none;
@@ -49,6 +56,9 @@ cases_of_seen = record {
       (next, (seen (weighing (comes_now [])) new now, still, refl, last));
   not_kept = λ back old new never held was kept.
       absurd (never (seen (weighing (comes_now [])) old held) refl kept);
+  reel_refused = λ cause old new r. r;
+  no_memory = λ old new r. r;
+  no_other_fault = λ old new. (λ r. r, λ r. r, λ r. r);
   walked = λ old new ps none w.
       let back = (w.crash [] none).now new.sink ps (refl, refl) in
       (w.core, w.notes, w.failures, (or_nothing back).0);

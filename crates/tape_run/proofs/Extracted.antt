@@ -21,7 +21,7 @@ use Rattle.tape_run.specs.RecordText.{output_of}
 use Rattle.tape_run.specs.ReelLine.{reel_lines, last_line}
 use Rattle.tape_run.specs.Reeling.{Turn, answer_of, TakesAll, StopsReading, Follows, goes_back}
 use Rattle.tape_run.specs.Reeling.{AreSure, Mounting}
-use Rattle.tape_run.specs.Extracting.{Ends, Extracts, Stops, EndsFile, StopsAtEnd}
+use Rattle.tape_run.specs.Extracting.{Ends, Extracts, Stops, EndsFile, StopsAtEnd, TellsEnd}
 use Rattle.tape_run.proofs.Fitting.{front_more, front_then}
 use Rattle.tape_run.proofs.Lasting.{stood_walked}
 use Rattle.tape_run.proofs.Left.{left_walked}
@@ -102,16 +102,26 @@ stops_reading {S} {L} {R} {W} gs size gives remaining old new shelf
     record {
       turns = s.turns;
       are_turns = s.are_turns;
-      most = omega (arith, s.fewer);
       more = s.more;
       few = s.few;
+      most = omega (arith, s.fewer, s.few);
       want = None;
       records = 0;
       lines = front_more said says _ (last_line None 0) s.lines;
       follows = λ held was kept.
           let (core, now, f, leaves) = s.follows held was kept in
-          (core, now, f, leaves, inl refl);
+          (core, now, f, leaves, inl s.lines, inl refl);
     }
+
+-- behind the lines of all images
+pub tells_then : (said between says : Option (List ℕ)) (lines : List ℕ) (want : Option Want)
+    (records : ℕ) (now : Seen) → Appends said between lines
+    → TellsEnd (AppendsFront between says []) want records now
+    → TellsEnd (AppendsFront said says lines) want records now
+tells_then said between says lines want records now before (inl none) =
+    inl (subst (AppendsFront said says) (append-nil lines)
+    (front_then said between says lines [] before none))
+tells_then said between says lines want records now before (inr tells) = inr tells
 
 pub stops_at_end : {S L R W : Type 0} (gs : Ghosts S)
     (size : L → ℕ) (gives : Mounting L R) (remaining : R → Option (List ℕ)) (old mid new : Story S)
@@ -128,23 +138,25 @@ stops_at_end {S} {L} {R} {W} gs size gives remaining old mid new
     shelf left form contents out written said between says back same took walked e =
     let t = subst (λ b. TakesAll gs (size shelf) 0 gives remaining b
     old mid shelf left said between) same took in
+    let lines = subst (λ l. Appends said between (reel_lines 1 l))
+    (sym (append-nil (map answer_of t.turns))) t.lines in
     record {
       turns = t.turns;
       are_turns = (left, t.are_turns, inl refl);
-      most = t.most;
       more = [];
       few = omega arith;
+      most = omega (arith, t.most);
       want = e.want;
       records = e.records;
-      lines = front_then said between says _ (last_line e.want e.records)
-          (subst (λ l. Appends said between (reel_lines 1 l))
-          (sym (append-nil (map answer_of t.turns))) t.lines) e.line;
+      lines = front_then said between says _ (last_line e.want e.records) lines e.line;
       follows = λ held was kept.
           let (now, has, (still, f, last)) = t.follows held was kept in (
             mid.core,
             seen gs mid now,
             f,
             left_walked gs back old mid new held now last walked has,
+            tells_then said between says _ e.want e.records (seen gs mid now) lines
+                (e.tells now has),
             e.is_written now has,
           );
     }
@@ -154,11 +166,12 @@ pub ends_in_part : {S W : Type 0} (g : Ghosts S) (session : Story S)
     (form : Form) (contents : W → Option (List ℕ)) (out written : W)
     (said says : Option (List ℕ)) (want : Option Want) (records : ℕ)
     → AppendsFront said says (last_line want records)
+    → IfSeen g session (TellsEnd (AppendsFront said says []) want records)
     → IfSeen g session (λ is. (written ≡ out) ⊎ ((session.core.position ≡ Finished)
     × AppendsFront (contents out) (contents written) (output_of form is.parts)))
     → StopsAtEnd g session form contents out written said says
-ends_in_part g session form contents out written said says want records line wrote =
-    record { want = want; records = records; line = line; is_written = wrote }
+ends_in_part g session form contents out written said says want records line tells wrote =
+    record { want = want; records = records; line = line; tells = tells; is_written = wrote }
 
 -- no more was written
 pub nothing_more : (old : Option (List ℕ)) (text : List ℕ) → AppendsFront old old text

@@ -18,10 +18,9 @@ use Rattle.tape_run.specs.declared.script.Step.TheVariants.{Reel, Save, Restart}
 use Rattle.tape_run.specs.Seen.{Seen, IsSession}
 use Rattle.tape_run.specs.History.{Course, course, course_of, IsHistory}
 use Rattle.tape_run.specs.Runs.{Runs}
-use Rattle.tape_run.specs.Headline.{HasRun}
 use Rattle.tape_run.specs.Crash.{IsOf, StoodAt}
 use Rattle.tape_run.specs.Lives.{IsPlaceOf, ComesBack, Life, IsResumed, Outlives, AreHistories}
-use Rattle.tape_run.specs.Lives.{GoesOn, LivesOn}
+use Rattle.tape_run.specs.Lives.{ResumedGoesOn, LivesOn}
 use Rattle.tape_run.proofs.Notes.{same_front, note_at}
 use Rattle.tape_core.specs.Crash.{OnlyThis, Returns}
 use Rattle.tape_run.proofs.Headline.{headline}
@@ -208,26 +207,18 @@ lives_on c ps s steps reels bytes old new r e adds only back there h =
     one_more_life c ps s steps reels bytes old back there r e only (adds back there h) in
     (life, of_steps, of_bytes, outlives)
 
-pub goes_on : (c : Point) (ps : List Portion) (s new : Seen) (steps : List Step)
-    (bytes : List (List ℕ))
-    → IsResumed c ps s → HasRun s steps bytes new → GoesOn c ps steps bytes new.parts
-goes_on c ps s new steps bytes r h = record {
-  given = h.given;
-  which = h.which;
-  are_given = h.are_given;
-  delivers = λ set hs l st hist.
-      let none : length s.notes ≡ 0 = ap length r.notes in
-      let file : s.place.file ≡ c.file = ap (λ (p : State). p.file) r.place in
-      let from : course_of s ≡ record { at = c.position; notes = [] } =
-      rw (r.place, r.notes) refl in
-      let ran = h.ran set hs l (subst (λ (n : ℕ). IsHistory set n steps h.given hs) (sym none) hist)
-      (resumed_session set c ps s r st) in
-      let there : course set c.file (record { at = c.position; notes = [] }) hs ≡ course_of new =
+pub goes_on : ResumedGoesOn
+goes_on set c ps s new steps bytes hs l st r h hist =
+    let none : length s.notes ≡ 0 = ap length r.notes in
+    let file : s.place.file ≡ c.file = ap (λ (p : State). p.file) r.place in
+    let from : course_of s ≡ record { at = c.position; notes = [] } =
+    rw (r.place, r.notes) refl in
+    let ran = h.ran set hs l (subst (λ (n : ℕ). IsHistory set n steps h.given hs) (sym none) hist)
+    (resumed_session set c ps s r st) in (
       sym (ap (λ (f : ℕ). course set f (course_of s) hs) file
-      ∙ ap (λ (z : Course). course set c.file z hs) from) ∙ ran.reached in
-      ran.session.at.all ∙ (ap (λ (f : ℕ). before set f new.place.position) (ran.same_file ∙ file)
-      ∙ ap (λ (z : Course). before set c.file z.at) (sym there));
-}
+          ∙ ap (λ (z : Course). course set c.file z hs) from) ∙ ran.reached,
+      ran.session.at.all ∙ ap (λ (f : ℕ). before set f new.place.position) (ran.same_file ∙ file),
+    )
 
 pub on_ok : {B : Type 0} (r : Result (Unit {0}) B) (P Q : Type 0) → (P → Q) → OnOk r P → OnOk r Q
 on_ok (Ok x) P Q f h = f h

@@ -19,13 +19,15 @@ use Rattle.tape_core.specs.Stands.{Stands, weight_of}
 use Rattle.tape_core.specs.Table.{saved}
 use Rattle.tape_run.specs.declared.script.Step.TheVariants.{Reel, Save}
 use Rattle.tape_run.specs.Crash.{is_saved}
-use Rattle.tape_run.specs.Given.{IsGiven, AreGivenBy, counted, written}
+use Rattle.tape_run.specs.Given.{IsGiven, AreGivenBy, counted, counted_up, failed_of, written}
 use Rattle.tape_run.specs.Headline.{begins, IsRead, IsStart}
-use Rattle.tape_run.specs.History.{IsHistory, course, after}
+use Rattle.tape_run.specs.History.{Course, IsHistory, course, after}
 use Rattle.tape_run.specs.Mount.{Happening, reads, foreign_reel, saves, restarts, IsMountOf}
 use Rattle.tape_run.specs.Runs.{Runs}
 use Rattle.tape_run.specs.Seen.{Seen, seen}
 use Rattle.tape_run.specs.WorkedHistory.{worked_steps, worked_reels, first, middle, last}
+use Rattle.tape_run.proofs.Back.{none_failed, none_of}
+use Rattle.tape_run.proofs.Lives.{goes_on}
 use Rattle.tape_run.proofs.MistakesOfStops.{kept_without}
 use Rattle.tape_run.proofs.WorkedHistory.{is_worked}
 use Rattle.tape_run.proofs.script.run.Reads as run
@@ -266,7 +268,36 @@ stopped_run_told_as_done : (S : _) (R : _) (LS : _) (LR : _) (g : _) (d : _) (h 
     (record { at = a.1.0.now.position; notes = [] }) hs).at → ⊥)) → ⊥
 stopped_run_told_as_done S R LS LR g d h e κs a session s set held now bytes l was lawful stands
     known one there none =
-    let r = l.delivers held was in
-    let f = r.2 bytes known in
-    let (hs, history, other) = none f.which f.given f.are_given in
-    other (one now r.0 there r.1 ∙ f.delivers set hs lawful stands history)
+    let (began, from, (new, has, runs)) = l.delivers held was in
+    let run = runs bytes known in
+    let (hs, history, other) = none run.which run.given run.are_given in
+    let (at, parts) = goes_on set a.1.0.now held began (seen g session new) a.1.1.1.0.now bytes hs
+    lawful stands from run history in
+    other (one now new there has ∙ parts
+    ∙ ap (λ (c : Course). before set a.1.0.now.file c.at) (sym at))
+
+-- gone_on_without_reading: no reader failed, and the session is given back as it was resumed. What
+-- it held lies before no position that the reels lead to.
+gone_on_without_reading : (S : _) (R : _) (LS : _) (LR : _) (g : _) (d : _) (h : _) (e : _)
+    (κs : _) (a : _) (session : _) (s : _) (set : FileSet) (held : List Portion)
+    (bytes : List (List ℕ)) (hs : List Happening)
+    → go_on.Learnt-named S R LS LR g d h e κs a (session, Ok tt) s
+    → g.holds a.1.1.0 held → IsLawful set → Stands set a.1.0.now.file a.1.0.now held
+    → map h.remaining a.1.1.1.1.0.now ≡ map Some bytes → session.failures ≡ 0
+    → HoldsOne (g.holds session.sink) → g.holds session.sink held
+    → IsHistory set 0 a.1.1.1.0.now bytes hs
+    → (held ≡ before set a.1.0.now.file (course set a.1.0.now.file
+    (record { at = a.1.0.now.position; notes = [] }) hs).at → ⊥) → ⊥
+gone_on_without_reading S R LS LR g d h e κs a session s set held bytes hs l was lawful stands
+    known calm one there history other =
+    let (began, from, (new, has, runs)) = l.delivers held was in
+    let run = runs bytes known in
+    let none : failed_of run.which ≡ 0 =
+    none_failed (failed_of run.which) (sym (sym calm ∙ run.count
+    ∙ ap (counted_up (failed_of run.which)) from.failures)) in
+    let given : run.given ≡ bytes = none_of run.which bytes run.given none run.are_given in
+    let (at, parts) = goes_on set a.1.0.now held began (seen g session new) a.1.1.1.0.now bytes hs
+    lawful stands from run
+    (subst (λ z. IsHistory set 0 a.1.1.1.0.now z hs) (sym given) history) in
+    other (one held new there has ∙ parts
+    ∙ ap (λ (c : Course). before set a.1.0.now.file c.at) (sym at))

@@ -8,7 +8,8 @@ use Rattle.tape_core.specs.declared.sink.PartSink.{Ghosts}
 use Rattle.tape_set.specs.declared.position.Position.TheVariants.{Finished}
 use Rattle.tape_set.specs.declared.position.Want.{Want}
 use Rattle.tape_set.specs.Position.{want_at}
-use Rattle.tape_run.specs.Seen.{seen}
+use Rattle.tape_run.specs.Seen.{seen, IfSeen}
+use Rattle.tape_run.specs.Extracting.{TellsEnd}
 use Rattle.tape_run.specs.Story.{Story}
 use Rattle.tape_blocks.specs.declared.parts.Form.{Form}
 use Rattle.tape_run.specs.Output.{AppendsFront}
@@ -16,6 +17,7 @@ use Rattle.tape_run.specs.RecordText.{output_of}
 use Rattle.tape_run.specs.ReelLine.{reel_lines, last_line}
 use Rattle.tape_run.specs.Reeling.{answer_of, TakesAll, StopsReading, Mounting}
 use Rattle.tape_run.specs.ExtractingNow.{IsPut, ExtractsNow, StopsNow}
+use Rattle.tape_run.proofs.Extracted.{tells_then}
 use Rattle.tape_run.proofs.Fitting.{front_more, front_then}
 use Rattle.tape_run.proofs.Turns.{gathers}
 
@@ -65,14 +67,15 @@ stops_reading_now {S} {L} {R} {O} gs size gives remaining old new
     record {
       turns = s.turns;
       are_turns = s.are_turns;
-      most = omega (arith, s.fewer);
       more = s.more;
       few = s.few;
+      most = omega (arith, s.fewer, s.few);
       want = None;
       records = 0;
       lines = front_more said says _ (last_line None 0) s.lines;
       follows = λ held was.
-          let (core, now, f, leaves) = s.follows held was tt in (core, now, f, inl refl);
+          let (core, now, f, leaves) = s.follows held was tt in
+          (core, now, f, inl s.lines, inl refl);
     }
 
 pub stops_at_end_now : {S L R O : Type 0} (gs : Ghosts S)
@@ -83,6 +86,7 @@ pub stops_at_end_now : {S L R O : Type 0} (gs : Ghosts S)
     → TakesAll gs (size shelf) 0 gives remaining false old mid shelf
     left said between
     → AppendsFront between says (last_line want records)
+    → IfSeen gs mid (TellsEnd (AppendsFront between says []) want records)
     → ((held : List Portion) → gs.holds mid.sink held → (put ≡ out) ⊎ ((mid.core.position
     ≡ Finished) × ((stands put ≡ stands out)
     ⊎ (tells → stands put ≡ Some (output_of form held)))))
@@ -90,18 +94,24 @@ pub stops_at_end_now : {S L R O : Type 0} (gs : Ghosts S)
     said says
 stops_at_end_now {S} {L} {R} {O} gs size gives remaining old mid
     shelf left form tells stands out put
-    said between says want records t last wrote = record {
+    said between says want records t last told wrote =
+    let lines = subst (λ l. Appends said between (reel_lines 1 l))
+    (sym (append-nil (map answer_of t.turns))) t.lines in
+    record {
       turns = t.turns;
       are_turns = (left, t.are_turns, inl refl);
-      most = t.most;
       more = [];
       few = omega arith;
+      most = omega (arith, t.most);
       want = want;
       records = records;
-      lines = front_then said between says _ (last_line want records)
-          (subst (λ l. Appends said between (reel_lines 1 l))
-          (sym (append-nil (map answer_of t.turns))) t.lines) last;
+      lines = front_then said between says _ (last_line want records) lines last;
       follows = λ held was.
-          let (now, has, (still, f, last)) = t.follows held was tt in
-          (mid.core, seen gs mid now, f, wrote now has);
+          let (now, has, (still, f, last)) = t.follows held was tt in (
+            mid.core,
+            seen gs mid now,
+            f,
+            tells_then said between says _ want records (seen gs mid now) lines (told now has),
+            wrote now has,
+          );
     }

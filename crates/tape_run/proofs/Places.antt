@@ -21,6 +21,7 @@ use Rattle.tape_core.specs.declared.event.Answer.TheVariants.{Passed, Deliver, S
 use Rattle.tape_core.specs.declared.event.Answer.TheVariants.{Complete, Useless}
 use Rattle.tape_core.specs.Arrive.{arrival}
 use Rattle.tape_core.specs.declared.event.Event.{Event}
+use Rattle.tape_core.specs.declared.event.Phase.TheVariants.{Over}
 use Rattle.tape_core.specs.declared.event.Event.TheVariants.{Block, Bad, Mark, ReelEnd}
 use Rattle.tape_core.specs.Point.{Point}
 use Rattle.tape_core.specs.State.{State}
@@ -114,6 +115,29 @@ refused_position old new n begun =
     kept : (p : Position) (n : ℕ) → n ≡ part_of p → p ≡ at_part n p
     kept (Awaits sect b part) n e = rw e refl
     kept Finished n e = refl
+
+-- at the awaited part it stands as it did
+pub stands_first : (old new : State) (n : ℕ) (begun : Bool) → n ≡ part_of old.position
+    → place_of (refused_point (saved old 0) (saved new 0) n begun) ≡ record old { phase = Over }
+stands_first old new n begun first =
+    pick_place (n == part_of old.position) (saved old 0)
+    (inside_block (saved new 0) old.position n begun 0)
+    (λ (p : State). p ≡ record old { phase = Over })
+    (λ e. refl)
+    (λ e. absurd (grind (arith, nat_tests)))
+
+-- and behind it as the block told
+pub stands_behind : (old new : State) (n : ℕ) (begun : Bool) → part_of old.position < n
+    → ((place_of (refused_point (saved old 0) (saved new 0) n begun)).known ≡ new.known)
+    × (begun ≡ false
+    → (place_of (refused_point (saved old 0) (saved new 0) n begun)).begun ≡ false)
+stands_behind old new n begun behind =
+    pick_place (n == part_of old.position) (saved old 0)
+    (inside_block (saved new 0) old.position n begun 0)
+    (λ (p : State). (p.known ≡ new.known) × (begun ≡ false → p.begun ≡ false))
+    (λ e. let q : n ≡ part_of old.position = grind (arith, nat_tests) in
+    absurd (omega (arith, q, behind)))
+    (λ e. (refl, λ none. rw none refl))
 
 -- ---- a step of a core
 

@@ -12,7 +12,7 @@ use Rattle.tape_run.specs.declared.script.Step.TheVariants.{Reel}
 use Rattle.tape_run.proofs.Headline.{headline, took_so_many}
 use Rattle.tape_run.specs.Steps.{Reeled}
 use Rattle.tape_run.specs.Reeling.{is_doubtful, IsNoted, step_behind, notes_behind}
-use Rattle.tape_run.specs.Reeling.{steps_of, AreTold, AreSteps}
+use Rattle.tape_run.specs.Reeling.{steps_of, AreTold, AreSteps, failed_in}
 use Rattle.tape_run.specs.Reeling.{Turn, Follows}
 
 -- one reel, and what was done behind it
@@ -38,12 +38,6 @@ step_made true true failed which old mid behind new b bs steps r (n, one, w) res
     subst (λ m. Runs (failed ∷ which) old (Reel ∷ step_behind true true m ++ steps)
     (map Some (b ∷ bs)) new) (sym had) ((mid, r, (behind, w, rest count)))
 
--- which of the readers that were taken failed
-abbrev failed_in : List Turn → List Bool
-failed_in [] = []
-failed_in (None ∷ turns) = failed_in turns
-failed_in (Some o ∷ turns) = is_device o.answer.fault ∷ failed_in turns
-
 made : (back : Bool) (core : State) (old : Seen) (turns : List Turn) (last : State) (new : Seen)
     (bytes : List (List ℕ)) → Follows back core old turns last new → AreTold turns bytes
     → Runs (failed_in turns) old (steps_of back (length old.notes) turns) (map Some bytes) new
@@ -65,5 +59,5 @@ made back core old (Some o ∷ turns) last new (b ∷ bs) (next, behind, r, f) (
 pub are_steps : (back : Bool) (core : State) (old : Seen) (turns : List Turn) (last : State)
     (new : Seen) → Follows back core old turns last new → AreSteps back turns old new
 are_steps back core old turns last new f = λ bytes told.
-    (headline (failed_in turns) old new (steps_of back (length old.notes) turns) bytes
-    (made back core old turns last new bytes f told)).0
+    headline (failed_in turns) old new (steps_of back (length old.notes) turns) bytes
+    (made back core old turns last new bytes f told)

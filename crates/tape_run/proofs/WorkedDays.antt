@@ -1,11 +1,10 @@
 -- The worked set where a reader fails, where a part is refused, and on another day.
 use Rattle.std.proofs.Common.{◌≡◌, ◌≤◌, ℕ, zero, suc, ◌+◌, List, [], ◌∷◌, true, false}
-use Rattle.std.proofs.Common.{refl, sym, ap, ◌∙◌, subst, inl, inr, lit≤, codes, arith, take}
+use Rattle.std.proofs.Common.{refl, sym, ap, ◌∙◌, subst, inl, lit≤, codes, arith, take}
 use Rattle.std.proofs.Common.{Some, length, Bool}
 use Rattle.std.specs.Prelude.{replicate, min, ⊤}
 use Rattle.std.proofs.lemmas.List.{take_all}
 use Rattle.std.proofs.lemmas.Option.{slice_get_within}
-use Rattle.tape_blocks.specs.Block.{Portion}
 use Rattle.tape_set.proofs.Worked as w
 use Rattle.tape_set.proofs.Worked.{made_form}
 use Rattle.tape_set.proofs.WorkedSpan as sp
@@ -25,14 +24,15 @@ use Rattle.tape_run.specs.Mount.{Happening, IsMountOf, reads, cut}
 use Rattle.tape_run.specs.History.{Course, course, course_of, IsHistory}
 use Rattle.tape_run.specs.Given.{AreGivenBy, failed_of, counted_up}
 use Rattle.tape_run.specs.Headline.{begins, IsStart, IsRead, HasRun, HasStopped, Stops}
-use Rattle.tape_run.specs.Lives.{GoesOn}
+use Rattle.tape_run.specs.Lives.{IsResumed}
 use Rattle.tape_run.specs.Seen.{Seen, IsSession}
-use Rattle.tape_run.specs.WorkedHistory.{worked_set, section_1, section_2, first, middle, last}
+use Rattle.tape_run.specs.WorkedHistory.{worked_set, section_1, section_2, first}
 use Rattle.tape_run.specs.WorkedHistory.{reel_1, reading}
 use Rattle.tape_run.specs.WorkedDays.{DaysAreWorked, IsWhole, once, twice, two_reels, four_reels}
 use Rattle.tape_run.specs.WorkedDays.{behind_one}
 use Rattle.tape_run.specs.Back.{reels_of}
 use Rattle.tape_run.proofs.Back.{none_of}
+use Rattle.tape_run.proofs.Lives.{goes_on}
 use Rattle.tape_run.proofs.Fronts.{fronts_are_mounts}
 use Rattle.tape_run.proofs.WorkedHistory.{is_lawful, fit_of}
 use Rattle.tape_run.proofs.WorkedReels.{whole_1, whole_2}
@@ -245,18 +245,24 @@ stands_there = record {
   staged = refl;
 }
 
-goes_on : (now : List Portion) (on : GoesOn behind_one (first ∷ []) two_reels once now)
-    → failed_of on.which ≡ 0 → now ≡ first ∷ middle ∷ last ∷ []
-goes_on now on none =
-    let given : on.given ≡ once = none_of on.which once on.given none on.are_given in
+resumed : (began new : Seen) → IsResumed behind_one (first ∷ []) began
+    → HasRun began two_reels once new → new.failures ≡ 0 → IsWhole new
+resumed began new from ran none =
+    let no_failure : failed_of ran.which ≡ 0 =
+    none_up (failed_of ran.which) began.failures (sym none ∙ ran.count) in
+    let given : ran.given ≡ once =
+    none_of ran.which once ran.given no_failure ran.are_given in
     let both = vol_1 ∷ vol_2 ∷ [] in
-    on.delivers worked_set both is_lawful stands_there
-    (subst (λ z. IsHistory worked_set 0 two_reels z both) (sym given) (whole_1, (whole_2, tt)))
+    let (there, parts) = goes_on worked_set behind_one (first ∷ []) began new two_reels once both
+    is_lawful stands_there from ran
+    (subst (λ z. IsHistory worked_set 0 two_reels z both) (sym given) (whole_1, (whole_2, tt))) in
+    let end : new.place.position ≡ Finished = sym (ap (λ (c : Course). c.at) there) in
+    record { all = parts ∙ ap (before worked_set 1) end; no_want = ap (want_at 1) end }
 
 pub are_worked : DaysAreWorked
 are_worked = record {
   failed_reader = failed;
   refused_part = refused;
   stands = stands_there;
-  resumed = goes_on;
+  resumed = resumed;
 }

@@ -1,6 +1,6 @@
 -- The worked history, by computation: its set is lawful, and it meets the headline's premises.
 use Rattle.std.proofs.Common.{◌≡◌, ◌≤◌, ℕ, [], ◌∷◌, true, false, refl, sym, ap}
-use Rattle.std.proofs.Common.{◌∙◌, subst, inl, codes, lit≤, lit<, None}
+use Rattle.std.proofs.Common.{◌∙◌, subst, codes, lit≤, lit<, None, replicate}
 use Rattle.tape_set.proofs.Worked as w
 use Rattle.tape_set.proofs.Worked.{Fit, made_section, made_form}
 use Rattle.tape_set.proofs.WorkedSpan as sp
@@ -105,7 +105,7 @@ is_history = (
 )
 
 all : AreGivenBy (replicate 10 false) worked_reels worked_reels
-all = (refl, refl, refl, refl, refl, refl, refl, refl, refl, refl, refl)
+all = (refl, (refl, (refl, (refl, (refl, (refl, (refl, (refl, (refl, (refl, refl))))))))))
 
 -- a session over these readers, of which none failed
 has_read : (s : Seen) → IsRead (codes "ABC001") 1 worked_steps worked_reels s → s.failures ≡ 0

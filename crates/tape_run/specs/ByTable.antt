@@ -1,6 +1,8 @@
 -- What the reader's table makes of any items whatever, whether or not a lawful set fits them.
-use Rattle.std.specs.Prelude.{◌≡◌, ℕ, List, [], ◌∷◌, ◌++◌, ◌+◌, take, drop, Option, Some, None}
+use Rattle.std.specs.Prelude.{◌≡◌, ℕ, ◌<◌, ◌+◌, List, [], ◌∷◌, ◌++◌, length, take, drop, Option}
+use Rattle.std.specs.Prelude.{Some, None}
 use Rattle.tape_blocks.specs.Block.{Portion}
+use Rattle.tape_blocks.specs.Judged.{begun_behind}
 use Rattle.tape_image.specs.Tape.{TapeItem, block}
 use Rattle.tape_set.specs.Lawful.{FileForm}
 use Rattle.tape_set.specs.declared.position.Position.{Position}
@@ -9,8 +11,9 @@ use Rattle.tape_core.specs.declared.event.Answer.{Answer}
 use Rattle.tape_core.specs.declared.event.Answer.TheVariants.{Deliver}
 use Rattle.tape_core.specs.State.{State}
 use Rattle.tape_core.specs.Parts.{parts_in}
-use Rattle.tape_core.specs.Place.{rest_of}
-use Rattle.tape_core.specs.Table.{step_of}
+use Rattle.tape_core.specs.Place.{rest_of, place_of}
+use Rattle.tape_core.specs.Table.{step_of, saved}
+use Rattle.tape_run.specs.Puts.{refused_point}
 use Rattle.tape_run.specs.Reels.{behind_items}
 
 -- the parts of a block by what is known of its file, from the awaited one on
@@ -44,14 +47,17 @@ pub record IsLed (xs : List TapeItem) (core new : State) (held now : List Portio
   pub place : new ≡ rest_of (behind_items core xs)
   pub parts : now ≡ held ++ delivered_parts core xs
 
--- A part of a block that came was refused: the parts before it, so many more, were delivered, and
--- the core stands at it.
+-- A part of a block that came was refused: the parts before it, so many more and not all of them,
+-- were delivered, and the core stands at it; where it is the first of them it stands as it did.
 pub record StopsInside (core new : State) (item : TapeItem) (held now : List Portion)
     : Type 0 where
   pub delivers : (step_of core (Some item)).0 ≡ Deliver
   pub more : ℕ
+  pub within : more < length (parts_at core item)
   pub parts : now ≡ held ++ take more (parts_at core item)
   pub position : new.position ≡ at_part (part_of core.position + more) core.position
+  pub place : new ≡ place_of (refused_point (saved core 0) (saved (step_of core (Some item)).1 0)
+      (part_of core.position + more) (begun_behind core.begun (take more (parts_at core item))))
 
 -- Behind some of these items a part of the next one was refused.
 pub record IsCutAt (xs : List TapeItem) (core new : State) (held now : List Portion)

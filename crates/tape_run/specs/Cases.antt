@@ -18,7 +18,7 @@ use Rattle.tape_set.specs.Reach.{passes}
 use Rattle.tape_set.specs.Reading.{Reading, IsReadingOf, as_read}
 use Rattle.tape_core.specs.declared.sink.SinkFault.{SinkFault}
 use Rattle.tape_core.specs.Crash.{Crashes}
-use Rattle.tape_core.specs.Place.{IsPlaced, place_of, rest_of}
+use Rattle.tape_core.specs.Place.{IsPlaced, place_of}
 use Rattle.tape_core.specs.Point.{Point}
 use Rattle.tape_core.specs.Stands.{Stands, weight_of}
 use Rattle.tape_core.specs.Table.{saved, reader_of}
@@ -36,14 +36,13 @@ use Rattle.tape_run.specs.Given.{failed_of, written}
 use Rattle.tape_run.specs.Headline.{Ran, HasRun, IsStart, IsRead}
 use Rattle.tape_run.specs.Headline.{begins}
 use Rattle.tape_run.specs.History.{Course, IsHistory, course, course_of}
-use Rattle.tape_run.specs.Lives.{IsPlaceOf, ComesBack, IsResumed, AreHistories, GoesOn}
+use Rattle.tape_run.specs.Lives.{IsPlaceOf, ComesBack, IsResumed, AreHistories}
 use Rattle.tape_run.specs.Mount.{Happening, reads, foreign_reel, saves, restarts, IsMount}
 use Rattle.tape_run.specs.Mount.{IsMountOf, after_mount, cut}
 use Rattle.tape_run.specs.Runs.{Runs, RunsUpTo, Fails}
-use Rattle.tape_run.specs.Seen.{Seen, AreNotes, IsSession, IsKept, seen}
+use Rattle.tape_run.specs.Seen.{Seen, AreNotes, IsSession, IsKept}
 use Rattle.tape_run.specs.Steps.{Reeled, ReelFails, SaveFails, RestartFails, WentBack, Saved}
 use Rattle.tape_run.specs.Steps.{StoppedBy}
-use Rattle.tape_run.specs.Story.{Story}
 use Rattle.tape_run.specs.WorkedHistory.{worked_set, vol1, hdr1, reading}
 
 -- ---- what may be mounted
@@ -179,7 +178,7 @@ pub record CasesOfSessions : Type 0 where
       → Ran set old hs new × AreGivenBy r.which bytes r.given
       × (new.failures ≡ counted_up (failed_of r.which) old.failures)
   pub starts : (id : List ℕ) (file : ℕ) (s : Seen) → IsStart id file s
-      → (s.place ≡ reader_of id file) × (s.notes ≡ []) × (s.failures ≡ 0)
+      → (s.place ≡ reader_of id file) × (s.notes ≡ []) × (s.failures ≡ 0) × (s.parts ≡ [])
   pub begins_file : (set : FileSet) (file : ℕ) (s : Seen) → IsStart set.set_id file s
       → IsLawful set → IsSome (file_of set file)
       → IsSession set s × (s.place.file ≡ file) × (course_of s ≡ begins)
@@ -311,7 +310,7 @@ pub record CasesOfCrashes : Type 0 where
       × IsPlaceOf (course set old.place.file (course_of old) hs) back.position
       × (steps ≡ done ++ c.rest) × AreGivenBy c.which bytes given
   pub resumed : (c : Point) (ps : List Portion) (s : Seen) → IsResumed c ps s
-      → (s.place ≡ place_of c) × (s.parts ≡ ps) × (s.notes ≡ [])
+      → (s.place ≡ place_of c) × (s.parts ≡ ps) × (s.notes ≡ []) × (s.failures ≡ 0)
   -- a life that saved, and was cut off in its next reel, has a history
   pub saved_life : (set : FileSet) (s : Seen) → AreHistories set (record {
     began = s;
@@ -320,9 +319,3 @@ pub record CasesOfCrashes : Type 0 where
     done = Save ∷ [];
     given = [];
   } ∷ []) ((saves ∷ []) ∷ [])
-  pub went_on : (c : Point) (ps now : List Portion) (steps : List Step) (bytes : List (List ℕ))
-      (set : FileSet) (hs : List Happening) (g : GoesOn c ps steps bytes now) → IsLawful set
-      → Stands set c.file c ps → IsHistory set 0 steps g.given hs
-      → (now ≡ before set c.file
-      (course set c.file (record { at = c.position; notes = [] }) hs).at)
-      × AreGivenBy g.which bytes g.given

@@ -1,6 +1,6 @@
 -- What the definitions of files got back say of cases. The call `laws::cases` has them as its
 -- contract.
-use Rattle.std.specs.Prelude.{◌≡◌, ◌≢◌, ◌<◌, ◌≤◌, ◌⊎◌, ℕ, List, [], ◌∷◌, ◌++◌, length, map, Option}
+use Rattle.std.specs.Prelude.{◌≡◌, ◌≢◌, ◌+◌, ◌<◌, ◌≤◌, ◌⊎◌, ℕ, List, [], ◌∷◌, ◌++◌, length, map, Option}
 use Rattle.std.specs.Prelude.{Some, None, Bool, true, false, ⊤, is_some}
 use Rattle.std.specs.Io.KnownBytes.{Appends}
 use Rattle.tape_blocks.specs.declared.parts.Form.{Form}
@@ -30,8 +30,10 @@ use Rattle.tape_run.specs.declared.fault.RunFault.{RunFault}
 use Rattle.tape_run.specs.declared.fault.RunFault.TheVariants.{Sink, NoSuchPoint, TooFewReels}
 use Rattle.tape_run.specs.declared.fault.RunFault.TheVariants.{OutOfMemory, OtherFile}
 use Rattle.tape_run.specs.Causes.{WritingFails, EndingFails}
-use Rattle.tape_run.specs.Extracting.{IsWritten, Ends, Extracts, Stops}
+use Rattle.tape_run.specs.Extracting.{IsWritten, Ends, Extracts, Stops, TellsEnd}
 use Rattle.tape_run.specs.ExtractingNow.{IsPut, EndsNow, ExtractsNow, StopsNow}
+use Rattle.tape_run.specs.Given.{is_device}
+use Rattle.tape_run.specs.Headline.{HasRun}
 use Rattle.tape_run.specs.Lead.{Lead, over_reel}
 use Rattle.tape_run.specs.Mount.{Happening, IsMountOf, foreign_reel, after_mount}
 use Rattle.tape_run.specs.Output.{AppendsFront}
@@ -136,6 +138,10 @@ pub record CasesOfTurns : Type 0 where
       ≡ Reel ∷ step_behind true (is_doubtful o.answer.answer) 2
       ++ (Reel ∷ step_behind true (is_doubtful p.answer.answer)
       (notes_behind (is_doubtful o.answer.answer) 2) ++ [])
+  pub by_its_line : (back : Bool) (o : Opened) (b : List ℕ) (old new : Seen) → o.had ≡ Some b
+      → AreSteps back (None ∷ Some o ∷ []) old new
+      → (run : HasRun old (steps_of back (length old.notes) (Some o ∷ [])) (b ∷ []) new)
+      × (run.which ≡ is_device o.answer.fault ∷ [])
   pub told : (o : Opened) (b : List ℕ) → AreTold (None ∷ Some o ∷ []) (b ∷ []) → o.had ≡ Some b
   pub none_told : (o : Opened) → AreTold (Some o ∷ []) [] → ⊥
   pub told_alone : (b : List ℕ) → AreTold (None ∷ []) (b ∷ []) → ⊥
@@ -248,6 +254,23 @@ pub record CasesOfOutputs : Type 0 where
       (s : StopsListed session behind shelf left form out now said says) → (length s.more ≤ 1)
       × AppendsFront said says
       (reel_lines 1 (map answer_of s.turns ++ s.more) ++ last_line s.want s.records)
+  -- what its last line tells is of the session, if anything of that line was reported
+  pub last_line_tells : (p : Seen) (want : Option Want) (records : ℕ)
+      → p.place.position ≡ Finished → TellsEnd ⊥ want records p
+      → (want ≡ None) × (records ≡ length (join p.parts).records)
+  pub less_was_told : (p : Seen) (want : Option Want) (records : ℕ) → TellsEnd ⊤ want records p
+  pub last_line_of : (session behind : Listed) (shelf left : Readers) (form : Form)
+      (out now said says : Known) → session.notes ≡ []
+      → (s : StopsListed session behind shelf left form out now said says)
+      → (p : Seen) × TellsEnd (AppendsFront said says
+      (reel_lines 1 (map answer_of s.turns ++ s.more))) s.want s.records p
+      × ((now ≡ out) ⊎ (p.place.position ≡ Finished))
+  pub last_line_of_now : (session : Listed) (shelf left : Readers) (form : Form)
+      (out now said says : Known)
+      (s : StopsListedNow session shelf left form out now said says)
+      → (p : Seen) × TellsEnd (AppendsFront said says
+      (reel_lines 1 (map answer_of s.turns ++ s.more))) s.want s.records p
+      × ((now ≡ out) ⊎ (p.place.position ≡ Finished))
   pub one_line_more_now : (session : Listed) (shelf left : Readers) (form : Form)
       (out now said says : Known)
       (s : StopsListedNow session shelf left form out now said says) → (length s.more ≤ 1)
@@ -256,10 +279,12 @@ pub record CasesOfOutputs : Type 0 where
   -- these are turns of the first of the images
   pub stopped_turns : (session behind : Listed) (shelf left : Readers) (form : Form)
       (out now said says : Known) (s : StopsListed session behind shelf left form out now said says)
-      → (length s.turns ≤ length shelf) × AreFirstTurns Took (λ r. r) shelf s.turns left
+      → (length s.turns + length s.more ≤ length shelf)
+      × AreFirstTurns Took (λ r. r) shelf s.turns left
   pub stopped_turns_now : (session : Listed) (shelf left : Readers) (form : Form)
       (out now said says : Known) (s : StopsListedNow session shelf left form out now said says)
-      → (length s.turns ≤ length shelf) × AreFirstTurns Took (λ r. r) shelf s.turns left
+      → (length s.turns + length s.more ≤ length shelf)
+      × AreFirstTurns Took (λ r. r) shelf s.turns left
   -- and nothing was done to the output, or the file is complete and a front of it was written
   pub output_stopped : (session behind : Listed) (shelf left : Readers) (form : Form)
       (out now said says : Known)

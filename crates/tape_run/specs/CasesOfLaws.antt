@@ -17,6 +17,9 @@ use Rattle.tape_run.specs.declared.script.Step.{Step}
 use Rattle.tape_run.specs.declared.script.Step.TheVariants.{Reel}
 use Rattle.tape_run.specs.declared.section.ImageLine.{ImageLine}
 use Rattle.tape_run.specs.declared.section.SectionState.TheVariants.{Good, Cut}
+use Rattle.tape_set.specs.Before.{before}
+use Rattle.tape_set.specs.Reach.{far}
+use Rattle.tape_set.specs.Reading.{Reading}
 use Rattle.tape_run.specs.Added.{Adds}
 use Rattle.tape_run.specs.CasesOfCatalogues.{met}
 use Rattle.tape_run.specs.Checked.{IsReport}
@@ -28,9 +31,10 @@ use Rattle.tape_run.specs.History.{IsHistory}
 use Rattle.tape_run.specs.Lacks.{LackIsFirst, IsFoundWhole, IsFirstLack, lack_of, found_all}
 use Rattle.tape_run.specs.Lead.{AreItems, ItemsAreThere}
 use Rattle.tape_run.specs.Lives.{StoodComesBack, StandsAcrossCrashes, ComesBack, Life, Outlives}
-use Rattle.tape_run.specs.Lives.{AreHistories, IsResumed}
+use Rattle.tape_run.specs.Lives.{AreHistories, IsResumed, ResumedGoesOn}
 use Rattle.tape_run.specs.Listing.{OneListing, IsListing}
-use Rattle.tape_run.specs.Mount.{Happening, IsMountOf, cut}
+use Rattle.tape_run.specs.Headline.{HasRun}
+use Rattle.tape_run.specs.Mount.{Happening, IsMountOf, cut, reads}
 use Rattle.tape_run.specs.Noted.{noted_all, StandsIn}
 use Rattle.tape_run.specs.OneEntry.{HasOneEach, OneEntryASection}
 use Rattle.tape_run.specs.Passing.{Told, met_in}
@@ -66,6 +70,12 @@ pub record CasesOfRunLaws : Type 0 where
       (life : Life) (hs : List Happening) → IsLawful set → Stands set c.file c ps
       → Outlives c ps (life ∷ []) back there → AreHistories set (life ∷ []) (hs ∷ [])
       → Stands set c.file back there
+  pub went_on : ResumedGoesOn → (set : FileSet) (c : Point) (ps : List Portion) (began new : Seen)
+      (bytes : List ℕ) (r : Reading) → IsLawful set → Stands set c.file c ps
+      → IsResumed c ps began → (run : HasRun began (Reel ∷ []) (bytes ∷ []) new)
+      → IsHistory set 0 (Reel ∷ []) run.given (reads r ∷ [])
+      → (new.place.position ≡ far set c.file c.position r)
+      × (new.parts ≡ before set c.file new.place.position)
   pub items_are : ItemsAreThere → (bytes : List ℕ)
       → (reels : List (List TapeItem)) × AreItems (bytes ∷ []) reels
   -- a life begins with what was there, ends with what comes back of it, and has the history of what

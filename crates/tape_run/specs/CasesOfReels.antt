@@ -1,7 +1,7 @@
 -- What the definitions of a reel's answer, and of where the table leads over any tapes, say of
 -- cases. The call `laws::cases` has them as its contract.
-use Rattle.std.specs.Prelude.{◌≡◌, ◌+◌, ℕ, List, [], ◌∷◌, ◌++◌, take, drop, codes}
-use Rattle.std.specs.Prelude.{Option, Some, None, false}
+use Rattle.std.specs.Prelude.{◌≡◌, ◌<◌, ◌+◌, ℕ, List, [], ◌∷◌, ◌++◌, length, take, drop}
+use Rattle.std.specs.Prelude.{codes, Option, Some, None, false}
 use Rattle.std.specs.List.{AllByRecursion}
 use Rattle.tape_image.specs.Tape.{TapeItem, block, bad, mark}
 use Rattle.tape_image.specs.Begins.{Stop, Begins, Walks}
@@ -9,11 +9,13 @@ use Rattle.tape_image.specs.Reader.{IfKnown}
 use Rattle.tape_image.specs.Step.{TakesEnd, TakesFault}
 use Rattle.tape_label.specs.declared.values.Format.TheVariants.{Spanned}
 use Rattle.tape_blocks.specs.Block.{Portion}
+use Rattle.tape_blocks.specs.Judged.{begun_behind}
 use Rattle.tape_set.specs.Lawful.{FileForm}
 use Rattle.tape_set.specs.declared.position.Position.{Position}
 use Rattle.tape_set.specs.declared.position.Position.TheVariants.{Awaits, Finished}
 use Rattle.tape_set.specs.Position.{start, awaiting, part_of, at_part}
 use Rattle.tape_core.specs.declared.event.Answer.TheVariants.{Passed, Deliver, Complete}
+use Rattle.tape_core.specs.declared.event.Phase.TheVariants.{Over}
 use Rattle.tape_core.specs.declared.sink.SinkFault.{SinkFault}
 use Rattle.tape_core.specs.Follows.{IsFinal}
 use Rattle.tape_core.specs.Place.{rest_of}
@@ -115,6 +117,14 @@ pub record CasesOfTable : Type 0 where
       (s : StopsInside core new item held now) → ((step_of core (Some item)).0 ≡ Deliver)
       × (now ≡ held ++ take s.more (parts_at core item))
       × (new.position ≡ at_part (part_of core.position + s.more) core.position)
+      × (s.more < length (parts_at core item))
+  -- at the awaited part it stands as it did, and behind it as the block told
+  pub stops_at_first : (core new : State) (item : TapeItem) (held now : List Portion)
+      (s : StopsInside core new item held now) → s.more ≡ 0 → new ≡ record core { phase = Over }
+  pub stops_behind : (core new : State) (item : TapeItem) (held now : List Portion)
+      (s : StopsInside core new item held now) → 0 < s.more
+      → (new.known ≡ (step_of core (Some item)).1.known)
+      × (begun_behind core.begun (take s.more (parts_at core item)) ≡ false → new.begun ≡ false)
   pub cut_at : (xs : List TapeItem) (core new : State) (held now : List Portion)
       (c : IsCutAt xs core new held now) → (xs ≡ c.before ++ c.item ∷ c.behind)
       × StopsInside (behind_items core c.before) new c.item
@@ -156,6 +166,7 @@ pub record CasesOfLeads : Type 0 where
       (xs : List TapeItem) (end : ℕ) (stop : Stop)
       → StopsBy t Reel (bytes ∷ []) (Sink cause) new → Begins 0 bytes xs end stop
       → IsCutAt xs (mount_of t.place) new.place t.parts new.parts
+      × AreNoted [] t.notes new.notes new.parts
   -- what calls say of it
   pub run_led : (old new : Seen) (steps : List Step) (bytes : List (List ℕ)) (t : Lead)
       (tapes : List (List TapeItem)) (r : HasRun old steps bytes new) → AreItems r.given tapes

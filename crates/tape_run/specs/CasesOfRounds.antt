@@ -1,14 +1,13 @@
 -- What the definitions of rounds say of cases. The call `laws::cases` has them as its contract.
-use Rattle.std.specs.Prelude.{◌≡◌, ◌≢◌, ◌⊎◌, ◌<◌, ◌≤◌, List, [], ◌∷◌, ◌++◌, length, map}
+use Rattle.std.specs.Prelude.{◌≡◌, ◌≢◌, ◌⊎◌, ◌+◌, ◌<◌, ◌≤◌, List, [], ◌∷◌, ◌++◌, length, map}
 use Rattle.std.specs.Prelude.{Option, Some, None, Bool}
 use Rattle.std.specs.Io.KnownBytes.{Appends}
-use Rattle.tape_blocks.specs.Block.{Portion}
 use Rattle.tape_blocks.specs.declared.parts.Form.{Form}
 use Rattle.tape_set.specs.declared.position.Position.TheVariants.{Awaits, Finished}
 use Rattle.tape_set.specs.declared.position.Want.{Want}
 use Rattle.tape_core.specs.State.{State}
 use Rattle.tape_run.specs.CasesOfExtracts.{Listed, as_sink, Known, Readers}
-use Rattle.tape_run.specs.Extracting.{Ends, EndsFile, StopsAtEnd, IsWritten}
+use Rattle.tape_run.specs.Extracting.{Ends, EndsFile, StopsAtEnd, IsWritten, TellsEnd}
 use Rattle.tape_run.specs.ExtractingAgain.{ExtractsAgain, StopsAgain}
 use Rattle.tape_run.specs.Output.{AppendsFront}
 use Rattle.tape_run.specs.RecordText.{output_of}
@@ -76,7 +75,9 @@ pub record CasesOfRounds : Type 0 where
       × IsWritten want e.records form out now session.sink
   pub file_stopped : (session : Listed) (form : Form) (out now said says : Known)
       (s : StopsAtEnd as_sink session form (λ w. w) out now said says)
-      → AppendsFront said says (last_line s.want s.records) × ((now ≡ out)
+      → AppendsFront said says (last_line s.want s.records)
+      × TellsEnd (AppendsFront said says []) s.want s.records (seen as_sink session session.sink)
+      × ((now ≡ out)
       ⊎ ((session.core.position ≡ Finished) × AppendsFront out now (output_of form session.sink)))
   -- the lines are those of all rounds, counted on
   pub again : (session behind : Listed) (shelf left : Readers) (form : Form)
@@ -107,7 +108,7 @@ pub record CasesOfRounds : Type 0 where
   pub again_stopped : (session behind : Listed) (shelf left : Readers) (form : Form)
       (out now said says : Known)
       (s : StopsAgainListed session behind shelf left form out now said says) → (length s.more ≤ 1)
-      × (length s.turns ≤ length shelf) × AreRounds Took (λ r. r) shelf s.rounds s.between
+      × (length s.turns + length s.more ≤ length shelf) × AreRounds Took (λ r. r) shelf s.rounds s.between
       × AreFirstTurns Took (λ r. r) s.between s.turns left
       × BroughtSomething (length shelf) session.core s.rounds
       × AppendsFront said says
@@ -121,5 +122,7 @@ pub record CasesOfRounds : Type 0 where
       (seen as_sink session session.sink)
       → (last : State) × (x : Seen) × GoesRound (goes_back session.notes) session.core
       (seen as_sink session session.sink) s.rounds s.turns last x
+      × TellsEnd (AppendsFront said says (reel_lines 1
+      (map answer_of (turns_of s.rounds ++ s.turns) ++ s.more))) s.want s.records x
       × ((now ≡ out) ⊎ ((x.place.position ≡ Finished)
       × AppendsFront out now (output_of form x.parts)))

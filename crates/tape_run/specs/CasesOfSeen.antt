@@ -5,12 +5,17 @@ use Rattle.tape_blocks.specs.Block.{Portion}
 use Rattle.tape_core.specs.Crash.{lost}
 use Rattle.tape_core.specs.Place.{rest_of}
 use Rattle.tape_core.specs.Point.{Point}
+use Rattle.tape_core.specs.Weight.{Rose}
 use Rattle.tape_core.specs.declared.sink.PartSink.{Ghosts}
+use Rattle.tape_core.specs.declared.sink.SinkFault.{SinkFault}
+use Rattle.tape_run.specs.declared.fault.RunFault.TheVariants.{Sink, NoSuchPoint, TooFewReels}
+use Rattle.tape_run.specs.declared.fault.RunFault.TheVariants.{OutOfMemory, OtherFile}
 use Rattle.tape_run.specs.CasesOfSaves.{comes_now, weighing, holding_none}
 use Rattle.tape_run.specs.Crash.{BringsNoMore, IsWalked, KeepsLast}
 use Rattle.tape_run.specs.Given.{IfTold}
 use Rattle.tape_run.specs.Reeling.{Carries, IsKeptFor}
 use Rattle.tape_run.specs.Seen.{Seen, seen, IfSeen, IsSeen, IsSeenUnless}
+use Rattle.tape_run.specs.Steps.{RefusesReel}
 use Rattle.tape_run.specs.Story.{Story}
 
 -- a sink that is a count: it holds any parts of that number, and refused as many calls
@@ -60,6 +65,15 @@ pub record CasesOfSeen : Type 0 where
   pub not_kept : (back : Bool) (old new : Story Point)
       → ((was : Seen) → was.notes ≡ old.notes → IsKeptFor back was → ⊥)
       → Carries (weighing (comes_now [])) back old new (λ was is. ⊥)
+  -- a reel is not read since the sink refused, or memory did and nothing changed, and for no other
+  -- reason
+  pub reel_refused : (cause : SinkFault) (old new : Story ℕ)
+      → RefusesReel counting (Sink cause) old new
+      → (new.failures ≡ old.failures) × Rose old.sink new.sink
+  pub no_memory : (old new : Story ℕ) → RefusesReel counting OutOfMemory old new → new ≡ old
+  pub no_other_fault : (old new : Story ℕ) → (RefusesReel counting NoSuchPoint old new → ⊥)
+      × (RefusesReel counting TooFewReels old new → ⊥)
+      × (RefusesReel counting OtherFile old new → ⊥)
   -- only the sink of a session may be another, which holds what it held
   pub walked : (old new : Story Point) (ps : List Portion) → old.sink.staged ≡ 0
       → IsWalked (weighing (comes_now ps)) old new → (new.core ≡ old.core)

@@ -1,6 +1,6 @@
 -- What `extract` leaves.
-use Rattle.std.specs.Prelude.{◌≡◌, ◌⊎◌, ℕ, ◌<◌, ◌≤◌, List, [], ◌++◌, length, map, Option, Some}
-use Rattle.std.specs.Prelude.{None, ⊤}
+use Rattle.std.specs.Prelude.{◌≡◌, ◌⊎◌, ℕ, ◌+◌, ◌<◌, ◌≤◌, List, [], ◌++◌, length, map, Option}
+use Rattle.std.specs.Prelude.{Some, None, ⊤}
 use Rattle.std.specs.Io.KnownBytes.{Appends}
 use Rattle.tape_blocks.specs.Block.{Portion}
 use Rattle.tape_blocks.specs.Spans.{join}
@@ -51,6 +51,12 @@ pub record EndsFile {S : Type 0} (g : Ghosts S) (session : Story S) (form : Form
   pub line : Appends said says (last_line want records)
   pub is_written : IfSeen g session (λ is. IsWritten want records form out written is.parts)
 
+-- The last line tells what a session that came here wants, or how many records its parts have;
+-- where less was reported it may be any.
+abbrev pub TellsEnd : Type 0 → Option Want → ℕ → Seen → Type 0
+TellsEnd less want records now = less ⊎ ((want ≡ want_at now.place.file now.place.position)
+    × (want ≡ None → records ≡ length (join now.parts).records))
+
 -- A fault ended that: a front of the line was reported, and nothing was done to the output, or the
 -- file is complete and a front of its records was written.
 pub record StopsAtEnd {S W : Type 0} (g : Ghosts S) (session : Story S) (form : Form)
@@ -59,6 +65,7 @@ pub record StopsAtEnd {S W : Type 0} (g : Ghosts S) (session : Story S) (form : 
   pub want : Option Want
   pub records : ℕ
   pub line : AppendsFront said says (last_line want records)
+  pub tells : IfSeen g session (TellsEnd (AppendsFront said says []) want records)
   pub is_written : IfSeen g session (λ is. (written ≡ out)
       ⊎ ((session.core.position ≡ Finished)
       × AppendsFront (contents out) (contents written) (output_of form is.parts)))
@@ -88,15 +95,16 @@ pub record Stops {S L R W : Type 0} (g : Ghosts S) (size : L → ℕ) (gives : M
     : Type 0 where
   pub turns : List Turn
   pub are_turns : AreFirstTurns gives remaining shelf turns left
-  pub most : length turns ≤ size shelf
   pub more : List (Option ReelAnswer)
   pub few : length more ≤ 1
+  pub most : length turns + length more ≤ size shelf
   pub want : Option Want
   pub records : ℕ
   pub lines : AppendsFront said says
       (reel_lines 1 (map answer_of turns ++ more) ++ last_line want records)
   pub follows : IfSeen g old (λ was. IsKeptFor (goes_back old.notes) was → (last : State)
       × (now : Seen) × Follows (goes_back old.notes) old.core was turns last now
-      × LeavesSaved g old was.parts now new
+      × LeavesSaved g old was.parts now new × TellsEnd (AppendsFront said says
+      (reel_lines 1 (map answer_of turns ++ more))) want records now
       × ((written ≡ out) ⊎ ((now.place.position ≡ Finished)
       × AppendsFront (contents out) (contents written) (output_of form now.parts))))

@@ -1,5 +1,5 @@
 -- What `extract` leaves where it goes round the images.
-use Rattle.std.specs.Prelude.{◌≡◌, ◌⊎◌, ℕ, ◌<◌, ◌≤◌, List, ◌++◌, length, map, Option, None}
+use Rattle.std.specs.Prelude.{◌≡◌, ◌⊎◌, ℕ, ◌+◌, ◌<◌, ◌≤◌, List, ◌++◌, length, map, Option, None}
 use Rattle.std.specs.Io.KnownBytes.{Appends}
 use Rattle.tape_blocks.specs.declared.parts.Form.{Form}
 use Rattle.tape_set.specs.declared.position.Position.TheVariants.{Finished}
@@ -8,7 +8,7 @@ use Rattle.tape_core.specs.State.{State}
 use Rattle.tape_core.specs.declared.sink.PartSink.{Ghosts}
 use Rattle.tape_run.specs.Crash.{LeavesSaved}
 use Rattle.tape_run.specs.declared.intake.ReelAnswer.{ReelAnswer}
-use Rattle.tape_run.specs.Extracting.{Ends}
+use Rattle.tape_run.specs.Extracting.{Ends, TellsEnd}
 use Rattle.tape_run.specs.Output.{AppendsFront}
 use Rattle.tape_run.specs.RecordText.{output_of}
 use Rattle.tape_run.specs.ReelLine.{reel_lines, last_line}
@@ -58,15 +58,16 @@ pub record StopsAgain {S L R W : Type 0} (g : Ghosts S) (size : L → ℕ) (give
   pub brought : BroughtSomething (size shelf) old.core rounds
   pub turns : List Turn
   pub are_turns : AreFirstTurns gives remaining between turns left
-  pub most : length turns ≤ size shelf
   pub more : List (Option ReelAnswer)
   pub few : length more ≤ 1
+  pub most : length turns + length more ≤ size shelf
   pub want : Option Want
   pub records : ℕ
   pub lines : AppendsFront said says
       (reel_lines 1 (map answer_of (turns_of rounds ++ turns) ++ more) ++ last_line want records)
   pub follows : IfSeen g old (λ was. IsKeptFor (goes_back old.notes) was → (last : State)
       × (now : Seen) × GoesRound (goes_back old.notes) old.core was rounds turns last now
-      × LeavesSaved g old was.parts now new
+      × LeavesSaved g old was.parts now new × TellsEnd (AppendsFront said says
+      (reel_lines 1 (map answer_of (turns_of rounds ++ turns) ++ more))) want records now
       × ((written ≡ out) ⊎ ((now.place.position ≡ Finished)
       × AppendsFront (contents out) (contents written) (output_of form now.parts))))

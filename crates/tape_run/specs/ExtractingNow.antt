@@ -1,6 +1,6 @@
 -- What `extract` leaves where the records are written as the images are read.
-use Rattle.std.specs.Prelude.{◌≡◌, ◌⊎◌, ℕ, ◌<◌, ◌≤◌, List, ◌++◌, length, map, Option, Some, None, ⊤}
-use Rattle.std.specs.Prelude.{false}
+use Rattle.std.specs.Prelude.{◌≡◌, ◌⊎◌, ℕ, ◌+◌, ◌<◌, ◌≤◌, List, ◌++◌, length, map, Option, Some}
+use Rattle.std.specs.Prelude.{None, ⊤, false}
 use Rattle.std.specs.Io.KnownBytes.{Appends}
 use Rattle.tape_blocks.specs.Block.{Portion}
 use Rattle.tape_blocks.specs.Spans.{join}
@@ -13,6 +13,7 @@ use Rattle.tape_run.specs.declared.intake.ReelAnswer.{ReelAnswer}
 use Rattle.tape_run.specs.Seen.{Seen, IfSeen}
 use Rattle.tape_run.specs.Story.{Story}
 use Rattle.tape_blocks.specs.declared.parts.Form.{Form}
+use Rattle.tape_run.specs.Extracting.{TellsEnd}
 use Rattle.tape_run.specs.Output.{AppendsFront}
 use Rattle.tape_run.specs.RecordText.{output_of}
 use Rattle.tape_run.specs.ReelLine.{reel_lines, last_line}
@@ -61,14 +62,15 @@ pub record StopsNow {S L R O : Type 0} (g : Ghosts S) (size : L → ℕ) (gives 
     : Type 0 where
   pub turns : List Turn
   pub are_turns : AreFirstTurns gives remaining shelf turns left
-  pub most : length turns ≤ size shelf
   pub more : List (Option ReelAnswer)
   pub few : length more ≤ 1
+  pub most : length turns + length more ≤ size shelf
   pub want : Option Want
   pub records : ℕ
   pub lines : AppendsFront said says
       (reel_lines 1 (map answer_of turns ++ more) ++ last_line want records)
   pub follows : IfSeen g session (λ was. (last : State) × (now : Seen)
-      × Follows false session.core was turns last now
+      × Follows false session.core was turns last now × TellsEnd (AppendsFront said says
+      (reel_lines 1 (map answer_of turns ++ more))) want records now
       × ((put ≡ out) ⊎ ((now.place.position ≡ Finished) × ((stands put ≡ stands out)
       ⊎ (tells → stands put ≡ Some (output_of form now.parts))))))

@@ -64,6 +64,7 @@ pub record IsNew (set : FileSet) (file : ℕ) (s : Seen) : Type 0 where
 pub record IsStart (set_id : List ℕ) (file : ℕ) (s : Seen) : Type 0 where
   pub no_notes : s.notes ≡ []
   pub no_failures : s.failures ≡ 0
+  pub no_parts : s.parts ≡ []
   pub place : s.place ≡ reader_of set_id file
   pub each : (set : FileSet) → IsLawful set → set_id ≡ set.set_id → IsSome (file_of set file)
       → IsNew set file s

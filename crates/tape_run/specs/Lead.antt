@@ -101,8 +101,9 @@ ItemsAreThere = (given : List (List ℕ)) → (reels : List (List TapeItem)) × 
     × ((others : List (List TapeItem)) → AreItems given others → others ≡ reels)
 
 -- A step was not made, for this reason, by a session that stood there: it stands there still, or
--- inside the reel at a part that the sink refused.
+-- inside the reel at a part that the sink refused, with its notes.
 abbrev pub StopsBy : Lead → Step → List (List ℕ) → RunFault → Seen → Type 0
-StopsBy t Reel (bytes ∷ readers) (Sink cause) new = (xs : List TapeItem) (end : ℕ) (stop : Stop)
-    → Begins 0 bytes xs end stop → IsCutAt xs (mount_of t.place) new.place t.parts new.parts
+StopsBy t Reel (bytes ∷ readers) (Sink cause) new = AreNoted [] t.notes new.notes new.parts
+    × ((xs : List TapeItem) (end : ℕ) (stop : Stop) → Begins 0 bytes xs end stop
+    → IsCutAt xs (mount_of t.place) new.place t.parts new.parts)
 StopsBy t step readers fault new = StandsThere t new

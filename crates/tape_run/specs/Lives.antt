@@ -14,6 +14,7 @@ use Rattle.tape_run.specs.declared.script.Step.{Step}
 use Rattle.tape_run.specs.Seen.{Seen, IsSession}
 use Rattle.tape_run.specs.History.{Course, course, course_of, IsHistory}
 use Rattle.tape_run.specs.Given.{AreGivenBy}
+use Rattle.tape_run.specs.Headline.{HasRun}
 use Rattle.tape_run.specs.Crash.{StoodAt}
 
 -- the position of the course, or one that it noted
@@ -54,6 +55,7 @@ pub record IsResumed (c : Point) (ps : List Portion) (s : Seen) : Type 0 where
   pub place : s.place ≡ place_of c
   pub parts : s.parts ≡ ps
   pub notes : s.notes ≡ []
+  pub failures : s.failures ≡ 0
 
 -- Life after life was resumed at what the crash before it brought back: what was there when the
 -- life began, or what comes back of it.
@@ -87,14 +89,13 @@ StandsAcrossCrashes = (set : FileSet) (c : Point) (ps : List Portion) (lives : L
     → Stands set c.file c ps → Outlives c ps lives back there → AreHistories set lives hss
     → Stands set c.file back there
 
--- What was delivered once a session resumed at the checkpoint made its steps: of every lawful set
--- in which it stands, and every history that the bytes given are, the parts before the position
--- that this leads to from there.
-pub record GoesOn (c : Point) (ps : List Portion) (steps : List Step) (bytes : List (List ℕ))
-    (now : List Portion) : Type 0 where
-  pub given : List (List ℕ)
-  pub which : List Bool
-  pub are_given : AreGivenBy which bytes given
-  pub delivers : (set : FileSet) (hs : List Happening) → IsLawful set → Stands set c.file c ps
-      → IsHistory set 0 steps given hs
-      → now ≡ before set c.file (course set c.file (record { at = c.position; notes = [] }) hs).at
+-- What such a session delivered once it made its steps: of every lawful set in which the checkpoint
+-- stands, and every history that the bytes given are, it is where this leads from there, with the
+-- parts before that position.
+abbrev pub ResumedGoesOn : Type 0
+ResumedGoesOn = (set : FileSet) (c : Point) (ps : List Portion) (began new : Seen)
+    (steps : List Step) (bytes : List (List ℕ)) (hs : List Happening)
+    → IsLawful set → Stands set c.file c ps → IsResumed c ps began
+    → (run : HasRun began steps bytes new) → IsHistory set 0 steps run.given hs
+    → (course set c.file (record { at = c.position; notes = [] }) hs ≡ course_of new)
+    × (new.parts ≡ before set c.file new.place.position)

@@ -16,7 +16,6 @@ use Rattle.tape_core.specs.declared.event.Answer.{Answer}
 use Rattle.tape_core.specs.declared.event.Answer.TheVariants.{Useless}
 use Rattle.tape_core.specs.declared.event.Reason.TheVariants.{BlockCount, Broken}
 use Rattle.tape_core.specs.Place.{IsPlaced, rest_of}
-use Rattle.tape_core.specs.Crash.{Crashes}
 use Rattle.tape_core.specs.Point.{Point}
 use Rattle.tape_core.specs.declared.sink.PartSink.{Ghosts}
 use Rattle.tape_run.specs.declared.intake.ReelAnswer.{ReelAnswer}
@@ -233,11 +232,19 @@ AreTold (None ∷ turns) bytes = AreTold turns bytes
 AreTold (Some o ∷ turns) [] = ⊥
 AreTold (Some o ∷ turns) (b ∷ bytes) = (o.had ≡ Some b) × AreTold turns bytes
 
+-- which of the readers that were taken failed, as the lines of their images tell
+abbrev pub failed_in : List Turn → List Bool
+failed_in [] = []
+failed_in (None ∷ turns) = failed_in turns
+failed_in (Some o ∷ turns) = is_device o.answer.fault ∷ failed_in turns
+
 -- What was done with the images are steps of a run, one that goes back where a reel is in doubt: so
--- the headline holds of them, over all histories that the images are.
+-- the headline holds of them, over all histories that the images are; and those readers failed of
+-- which it is told.
 abbrev pub AreSteps : Bool → List Turn → Seen → Seen → Type 0
 AreSteps back turns old new = (bytes : List (List ℕ)) → AreTold turns bytes
-    → HasRun old (steps_of back (length old.notes) turns) bytes new
+    → (run : HasRun old (steps_of back (length old.notes) turns) bytes new)
+    × (run.which ≡ failed_in turns)
 
 -- ---- calls
 

@@ -14,6 +14,7 @@ use Rattle.tape_core.specs.Place.{IsPlaced, place_of}
 use Rattle.tape_core.specs.Table.{saved, mount_of}
 use Rattle.tape_core.specs.Stands.{weight_of}
 use Rattle.tape_core.specs.Weight.{IsFront, Rose}
+use Rattle.tape_core.specs.declared.sink.PartSink.{Ghosts}
 use Rattle.tape_run.specs.declared.fault.RunFault.{RunFault}
 use Rattle.tape_run.specs.declared.fault.RunFault.TheVariants.{Sink, NoSuchPoint, TooFewReels}
 use Rattle.tape_run.specs.declared.fault.RunFault.TheVariants.{OutOfMemory, OtherFile}
@@ -21,6 +22,7 @@ use Rattle.tape_run.specs.Mount.{Happening, IsMount, IsMountOf, cut, after_mount
 use Rattle.tape_run.specs.Given.{IsGiven, counted}
 use Rattle.tape_run.specs.ByTable.{IsLed, IsCutAt}
 use Rattle.tape_run.specs.Seen.{Seen}
+use Rattle.tape_run.specs.Story.{Story}
 
 -- ---- steps that were made
 
@@ -111,6 +113,16 @@ ReelFails bytes NoSuchPoint old new = ⊥
 ReelFails bytes TooFewReels old new = ⊥
 ReelFails bytes OutOfMemory old new = new ≡ old
 ReelFails bytes OtherFile old new = ⊥
+
+-- Why a reel was not read to its end, whether or not its reader tells its bytes: the sink refused a
+-- call, or memory was refused, and nothing changed.
+abbrev pub RefusesReel : {S : Type 0} → Ghosts S → RunFault → Story S → Story S → Type 0
+RefusesReel g (Sink cause) old new = (new.failures ≡ old.failures)
+    × Rose (g.refusals old.sink) (g.refusals new.sink)
+RefusesReel g NoSuchPoint old new = ⊥
+RefusesReel g TooFewReels old new = ⊥
+RefusesReel g OutOfMemory old new = new ≡ old
+RefusesReel g OtherFile old new = ⊥
 
 -- why nothing was noted
 abbrev pub SaveFails : RunFault → Seen → Seen → Type 0

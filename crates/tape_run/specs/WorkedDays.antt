@@ -2,7 +2,6 @@
 -- where a session is resumed on another day.
 use Rattle.std.specs.Prelude.{◌≡◌, ℕ, true, List, [], ◌∷◌, None, Some, codes}
 use Rattle.tape_label.specs.declared.values.Format.TheVariants.{Spanned}
-use Rattle.tape_blocks.specs.Block.{Portion}
 use Rattle.tape_set.specs.Position.{awaiting, want_at}
 use Rattle.tape_core.specs.Point.{Point}
 use Rattle.tape_core.specs.Stands.{Stands}
@@ -10,9 +9,8 @@ use Rattle.tape_core.specs.declared.sink.SinkFault.{SinkFault}
 use Rattle.tape_run.specs.declared.script.Step.{Step}
 use Rattle.tape_run.specs.declared.script.Step.TheVariants.{Reel}
 use Rattle.tape_run.specs.declared.fault.RunFault.TheVariants.{Sink}
-use Rattle.tape_run.specs.Given.{failed_of}
 use Rattle.tape_run.specs.Headline.{IsStart, IsRead, HasRun, HasStopped}
-use Rattle.tape_run.specs.Lives.{GoesOn}
+use Rattle.tape_run.specs.Lives.{IsResumed}
 use Rattle.tape_run.specs.Seen.{Seen}
 use Rattle.tape_run.specs.WorkedHistory.{worked_set, first, middle, last, reel_1, reel_2}
 
@@ -63,7 +61,7 @@ pub record DaysAreWorked : Type 0 where
       → HasStopped old (Reel ∷ []) (reel_1 ∷ []) n (Sink cause) mid
       → HasRun mid two_reels once new → new.failures ≡ 0 → IsWhole new
   -- The checkpoint stands, with the part before it. A session that is resumed there, over readers
-  -- of which none fails, has all three parts in the end.
+  -- of which none fails, holds the whole file in the end.
   pub stands : Stands worked_set 1 behind_one (first ∷ [])
-  pub resumed : (now : List Portion) (on : GoesOn behind_one (first ∷ []) two_reels once now)
-      → failed_of on.which ≡ 0 → now ≡ first ∷ middle ∷ last ∷ []
+  pub resumed : (began new : Seen) → IsResumed behind_one (first ∷ []) began
+      → HasRun began two_reels once new → new.failures ≡ 0 → IsWhole new

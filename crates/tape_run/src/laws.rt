@@ -17,7 +17,7 @@ ghost use Rattle.tape_run.specs.CasesOfSurveys.{CasesOfGlances, CasesOfWholes, C
 ghost use Rattle.tape_run.specs.CasesOfUnpacking.{CasesOfUnpacking};
 ghost use Rattle.tape_run.specs.Fronts.{FrontsAreMounts, GivenIsHistory};
 ghost use Rattle.tape_run.specs.Lead.{ItemsAreThere};
-ghost use Rattle.tape_run.specs.Lives.{StoodComesBack, StandsAcrossCrashes};
+ghost use Rattle.tape_run.specs.Lives.{StoodComesBack, StandsAcrossCrashes, ResumedGoesOn};
 ghost use Rattle.tape_run.specs.Runs.{OnlyRefusalsStop};
 ghost use Rattle.tape_run.specs.WorkedDays.{DaysAreWorked};
 ghost use Rattle.tape_run.specs.WorkedHistory.{HistoryIsWorked};
@@ -38,6 +38,12 @@ pub fn stood_comes_back()
 /// stands.
 pub fn stands_across_crashes()
     ensures { StandsAcrossCrashes }
+{}
+
+/// A session that was resumed at a checkpoint, and made its steps, is where the history leads from
+/// there, with the parts before that position.
+pub fn resumed_goes_on()
+    ensures { ResumedGoesOn }
 {}
 
 /// What a reader gave of a mount before it failed is a mount.

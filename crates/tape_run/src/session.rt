@@ -20,7 +20,8 @@ ghost use Rattle.tape_run.specs.Headline.{IsStart};
 ghost use Rattle.tape_run.specs.Lives.{IsResumed};
 ghost use Rattle.tape_run.specs.Reels.{Reads, Leaves};
 ghost use Rattle.tape_run.specs.Seen.{seen, IsKept, IsSession, IfSeen, IsSeen};
-ghost use Rattle.tape_run.specs.Steps.{Reeled, ReelFails, Saved, SaveFails, WentBack, RestartFails};
+ghost use Rattle.tape_run.specs.Steps.{Reeled, ReelFails, RefusesReel, Saved, SaveFails, WentBack};
+ghost use Rattle.tape_run.specs.Steps.{RestartFails};
 
 use crate::fault::RunFault;
 use crate::intake::{Intake, ReelAnswer};
@@ -151,7 +152,17 @@ impl<S: PartSink> Session<S> {
             IsSeen S.PartSink self.new (λ new. IsFront old.parts new.parts
             × (IsKept old → IsKept new) × IfSome (R.remaining device.old)
             (λ bytes. ReelFails bytes fault old new)))) }
+        // Whatever its reader tells, it is a session of the same file, with the same notes; a reader
+        // that failed is counted, and a call of the sink that was refused is told.
         ensures notes { self.new.notes ≡ self.old.notes }
+        ensures file { (self.new.core.set_id ≡ self.old.core.set_id)
+            × (self.new.core.file ≡ self.old.core.file) }
+        ensures count { IfOk result (λ answer.
+            self.new.failures ≡ counted (is_device answer.fault) self.old.failures) }
+        ensures calm { IfOk result (λ _.
+            S.refusals self.new.sink ≡ S.refusals self.old.sink) }
+        ensures refuses { IfErr result (λ fault.
+            RefusesReel S.PartSink fault self.old self.new) }
         // The answer is the core's last one, and no byte behind what ended the reading was read.
         ensures answer { IfOk result (λ answer. IfKnown (R.remaining device.old)
             (R.remaining device.new)

@@ -5,10 +5,10 @@ ghost use Rattle.tape_blocks.specs.Block.{Portion};
 ghost use Rattle.tape_core.specs.Known.{IsFileNumber};
 ghost use Rattle.tape_core.specs.Place.{rest_of};
 ghost use Rattle.tape_core.specs.Memory.{portions};
-ghost use Rattle.tape_run.specs.Headline.{IsRead, IsStart, HasStopped, LosesParts};
-ghost use Rattle.tape_run.specs.Lives.{IsResumed, LivesOn, GoesOn};
+ghost use Rattle.tape_run.specs.Headline.{IsRead, IsStart, HasRun, HasStopped, LosesParts};
+ghost use Rattle.tape_run.specs.Lives.{IsResumed, LivesOn};
 ghost use Rattle.tape_run.specs.Given.{IfTold};
-ghost use Rattle.tape_run.specs.Seen.{Seen, IsSeenUnless};
+ghost use Rattle.tape_run.specs.Seen.{Seen, IsSeen, IsSeenUnless};
 
 use crate::fault::Stopped;
 use crate::script::{Step, run};
@@ -61,11 +61,12 @@ pub fn go_on<S: PartSink, R: Read>(
     steps: &[Step],
     reels: &mut [R],
 ) -> (Session<S>, Result<(), Stopped>)
-    // The steps were made: the sink holds the parts before the position that the history leads to
-    // from the checkpoint.
+    // The steps were made: a session that was resumed at the checkpoint is where the history leads,
+    // with the parts before that position.
     ensures delivers { OnOk result.1 ((held : List Portion) → S.holds sink held
-        → (now : List Portion) × S.holds result.0.sink now
-        × IfTold R.remaining reels.old (λ bytes. GoesOn point.now held steps.now bytes now)) }
+        → (began : Seen) × IsResumed point.now held began
+        × IsSeen S.PartSink result.0 (λ new. IfTold R.remaining reels.old (λ bytes.
+        HasRun began steps.now bytes new))) }
     // It stopped at one of them: the same of the steps before it.
     ensures stopped { IfErr result.1 (λ end. (held : List Portion) → S.holds sink held
         → (began : Seen) × IsResumed point.now held began

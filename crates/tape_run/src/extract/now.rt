@@ -11,6 +11,7 @@ use crate::fault::{EngineFault, WriteFailed};
 use crate::session::Session;
 use std::io::{Read, Write};
 use tape_blocks::Form;
+use tape_core::PartSink;
 use tape_set::Want;
 
 /// The name under which an output comes to stand once it is complete.

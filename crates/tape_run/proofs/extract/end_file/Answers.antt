@@ -1,4 +1,4 @@
-use Rattle.std.proofs.Common.{rules, ◌≡◌, Some, None, refl, sym, ◌∙◌, inl, inr}
+use Rattle.std.proofs.Common.{rules, ◌≡◌, [], Some, None, refl, sym, ◌∙◌, inl, inr}
 use Rattle.tape_set.specs.Position.{want_at}
 use Rattle.tape_run.proofs.Fitting.{on_err}
 use Rattle.tape_run.proofs.Extracted.{ends_in_part, nothing_more, all_of_it, none_finished}
@@ -8,6 +8,7 @@ pub returns-in_err-end_report-clause-err : goal.returns-in_err-end_report-clause
 returns-in_err-end_report-clause-err g c =
     on_err _ _ (ends_in_part g.S.PartSink c.args.session.now c.args.form g.W.Write.contents
     c.args.out.now c.args.out.now _ _ (Some c.in-Some.want) 0 c.in_err-end_report.ensures.err
+    (λ held was. inr (sym c.in-Some.is ∙ c.want.ensures, λ none. absurd (cc none)))
     (λ held was. inl refl))
 
 pub returns-in-Some-clause-ok : goal.returns-in-Some-clause-ok
@@ -24,6 +25,7 @@ returns-in_err-records-clause-err g c =
     search rules in
     on_err _ _ (ends_in_part g.S.PartSink c.args.session.now c.args.form g.W.Write.contents
     c.args.out.now c.write_file.new.out _ _ None 0 (nothing_more _ _)
+    (λ held was. inl (nothing_more _ []))
     (λ held was. inr (
       none_finished c.args.session.now.core.file c.args.session.now.core.position none,
       c.in_err-records.ensures.err held was,
@@ -36,6 +38,7 @@ returns-in_err-end_report-2-clause-err g c =
     on_err _ _ (ends_in_part g.S.PartSink c.args.session.now c.args.form g.W.Write.contents
     c.args.out.now c.write_file.new.out _ _ None c.in_ok-records.records
     c.in_err-end_report-2.ensures.err
+    (λ held was. inr (none, λ same. (c.in_ok-records.ensures.ok held was).0))
     (λ held was. inr (
       none_finished c.args.session.now.core.file c.args.session.now.core.position none,
       all_of_it _ _ _ (c.in_ok-records.ensures.ok held was).1,

@@ -60,12 +60,12 @@ pub returns-clause-start : goal.returns-clause-start
 returns-clause-start g c = λ set_id file was st.
     let old = seen g.S.PartSink c.args.session.now [] in
     let (now, has, (k, run)) =
-    returns-clause-headline g c [] was (kept_new set_id file old refl st) in (
+    returns-clause-headline g c [] was (kept_new set_id file old st) in (
       now,
       has,
       λ bytes e.
           let (ran, row) = run bytes e in
-          let (read, same) = is_read set_id file _ bytes old _ refl st ran in
+          let (read, same) = is_read set_id file _ bytes old _ st ran in
           (read, row ∙ ap (λ w. written w c.args.failed.now) (sym same)),
     )
 

@@ -1,7 +1,7 @@
 use Rattle.std.proofs.Common.{sym, subst, arith}
 use Rattle.tape_run.specs.Lives.{LivesOn}
 use Rattle.tape_run.specs.Seen.{seen}
-use Rattle.tape_run.proofs.Lives.{lives_on, goes_on, on_ok}
+use Rattle.tape_run.proofs.Lives.{lives_on, on_ok}
 use Rattle.tape_run.proofs.Ended.{if_err}
 use Rattle.tape_run.proofs.whole.go_on.Goals as goal
 
@@ -45,11 +45,9 @@ returns-clause-delivers g c = on_ok c.run-result.result _ _ (λ run held was.
     let first = seen g.S.PartSink c.resume-session.result held in
     let (now, has, (k, reads)) = run held (subst (λ s. g.S.PartSink.holds s held) same was)
     (c.resume-session.ensures.kept held) in (
-      now,
-      has,
-      λ bytes e. goes_on c.args.point.now held first
-          (seen g.S.PartSink c.run-result.new.session now) c.args.steps.now bytes
-          (c.resume-session.ensures.resumed held) (reads bytes e).0,
+      first,
+      c.resume-session.ensures.resumed held,
+      (now, has, λ bytes e. (reads bytes e).0),
     ))
     c.run-result.ensures.headline
 

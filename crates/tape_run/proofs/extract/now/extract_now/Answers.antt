@@ -1,7 +1,6 @@
-use Rattle.std.proofs.Common.{rules, ◌≡◌, Some, None, refl, sym, subst, ◌∙◌, inl, inr}
+use Rattle.std.proofs.Common.{rules, ◌≡◌, [], Some, None, refl, sym, subst, ◌∙◌, inl, inr}
 use Rattle.tape_set.specs.Position.{want_at}
-use Rattle.tape_run.specs.OutSinks.{TellsAlways}
-use Rattle.tape_run.specs.ExtractingNow.{Takes}
+use Rattle.tape_run.specs.OutSinks.{HasTaken, TellsAlways}
 use Rattle.tape_run.proofs.Fitting.{on_err}
 use Rattle.tape_run.proofs.Extracted.{nothing_more, none_finished}
 use Rattle.tape_run.proofs.Now.{extracted_now, stops_reading_now, stops_at_end_now}
@@ -22,7 +21,9 @@ returns-in_err-end_report-clause-err g c =
     g.R.Read.remaining
     c.args.session c.read_images.new.session _ _ c.args.form (TellsAlways g.W.Write.contents)
     g.O.Place.stands c.args.out.now c.args.out.now _ _ _ (Some c.in-Some.want) 0
-    c.in_ok-read_images.ensures.ok c.in_err-end_report.ensures.err (λ held was. inl refl))
+    c.in_ok-read_images.ensures.ok c.in_err-end_report.ensures.err
+    (λ held was. inr (sym c.in-Some.is ∙ c.want.ensures, λ none. absurd (cc none)))
+    (λ held was. inl refl))
 
 pub returns-in-Some-clause-ok : goal.returns-in-Some-clause-ok
 returns-in-Some-clause-ok g c =
@@ -40,7 +41,8 @@ returns-in_err-written-clause-err g c =
     g.R.Read.remaining
     c.args.session c.read_images.new.session _ _ c.args.form (TellsAlways g.W.Write.contents)
     g.O.Place.stands c.args.out.now c.args.out.now _ _ _ None 0
-    c.in_ok-read_images.ensures.ok (nothing_more _ _) (λ held was. inl refl))
+    c.in_ok-read_images.ensures.ok (nothing_more _ _) (λ held was. inl (nothing_more _ []))
+    (λ held was. inl refl))
 
 pub returns-in_err-place-clause-err : goal.returns-in_err-place-clause-err
 returns-in_err-place-clause-err g c =
@@ -51,7 +53,7 @@ returns-in_err-place-clause-err g c =
     g.R.Read.remaining
     c.args.session mid _ _ c.args.form (TellsAlways g.W.Write.contents)
     g.O.Place.stands c.args.out.now c.place.new.self _ _ _ None 0
-    c.in_ok-read_images.ensures.ok (nothing_more _ _)
+    c.in_ok-read_images.ensures.ok (nothing_more _ _) (λ held was. inl (nothing_more _ []))
     (λ held was. inr (
       none_finished mid.core.file mid.core.position none,
       inl c.in_err-place.ensures.err,
@@ -68,9 +70,16 @@ returns-in_err-end_report-2-clause-err g c =
     g.O.Place.stands c.args.out.now c.place.new.self _ _ _ None c.in_ok-written.records
     c.in_ok-read_images.ensures.ok c.in_err-end_report-2.ensures.err
     (λ held was. inr (
+      none,
+      λ same. (c.in_ok-written.ensures.ok held
+          (subst (λ s. HasTaken g.W.Write.contents s.form s.out s.weight s.records s.begun s.failed held)
+          (sym c.into_sink.ensures) was)).0,
+    ))
+    (λ held was. inr (
       none_finished mid.core.file mid.core.position none,
       inr (λ tells. c.in_ok-place.ensures.ok ∙ (c.in_ok-written.ensures.ok held
-          (subst (λ s. Takes g.W.Write.contents s held) (sym c.into_sink.ensures) was)).1 tells),
+          (subst (λ s. HasTaken g.W.Write.contents s.form s.out s.weight s.records s.begun s.failed held)
+          (sym c.into_sink.ensures) was)).1 tells),
     )))
 
 pub returns-clause-ok : goal.returns-clause-ok
@@ -83,5 +92,6 @@ returns-clause-ok g c =
     c.in_ok-read_images.ensures.ok none c.in_ok-end_report-2.ensures.ok
     (λ held was.
     let done = c.in_ok-written.ensures.ok held
-    (subst (λ s. Takes g.W.Write.contents s held) (sym c.into_sink.ensures) was) in
+    (subst (λ s. HasTaken g.W.Write.contents s.form s.out s.weight s.records s.begun s.failed held)
+    (sym c.into_sink.ensures) was) in
     (done.0, λ tells. c.in_ok-place.ensures.ok ∙ done.1 tells))

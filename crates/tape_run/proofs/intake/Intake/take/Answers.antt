@@ -14,7 +14,7 @@ use Rattle.tape_run.proofs.Completes.{Tells, step_tells}
 use Rattle.tape_core.proofs.Crashes.{only_same}
 use Rattle.tape_run.proofs.Mounts.{checked_of}
 use Rattle.tape_run.proofs.Notes.{front_more, front_self}
-use Rattle.tape_run.proofs.Places.{refused_position, no_block, on_err}
+use Rattle.tape_run.proofs.Places.{no_block, on_err}
 use Rattle.tape_run.proofs.Taken.{checked_parts, takes_other, takes_block, refuses_block}
 use Rattle.tape_run.proofs.intake.Intake.take.Goals as goal
 
@@ -39,8 +39,7 @@ returns-in_err-put_block-clause-err g c = on_err c.from_residual.result _ (λ he
       front_more held _,
       (λ item came. puts_front core mid c.step-answer.result (arrival c.args.event) item bytes
           checked.known checked.parts held first up.n _ step.table c.in-Deliver.is is
-          checked.is_known holds part up.from (ap (λ (z : State). z.position) back
-          ∙ refused_position (rest_of core) (rest_of mid) up.n _) came),
+          checked.is_known holds part up.from up.within back came),
       refuses_block core mid c.put_block.new.self.core c.step-answer.result (arrival c.args.event)
           step.table c.in-Deliver.is bytes is checked.known checked.is_known checked.parts holds
           first up.n part up.from up.within step.file (c.put_block.ensures.file ∙ step.file) back

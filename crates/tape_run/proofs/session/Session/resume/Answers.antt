@@ -21,4 +21,5 @@ returns-clause-resumed g c = λ held. record {
       (sym (ap (λ z. z.file) c.point.view_is) ∙ sym (ap (λ z. z.file) c.in-Ok.ensures.value)));
   parts = refl;
   notes = c.over.ensures.notes;
+  failures = c.over.ensures.failures;
 }
