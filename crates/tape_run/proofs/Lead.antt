@@ -26,8 +26,9 @@ use Rattle.tape_run.proofs.Notes.{front_self, front_trans, same_front}
 
 -- ---- notes
 
-pub noted_grow : (front : List Portion) (ns : List Noted) (cs : List Point) (parts more : List Portion)
-    → IsFront parts more → AreNoted front ns cs parts → AreNoted front ns cs more
+pub noted_grow : (front : List Portion) (ns : List Noted) (cs : List Point)
+    (parts more : List Portion) → IsFront parts more → AreNoted front ns cs parts
+    → AreNoted front ns cs more
 noted_grow front [] [] parts more f h = front_trans front parts more h f
 noted_grow front [] (c ∷ cs) parts more f h = absurd h
 noted_grow front (n ∷ ns) [] parts more f h = absurd h

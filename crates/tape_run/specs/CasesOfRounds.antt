@@ -108,7 +108,8 @@ pub record CasesOfRounds : Type 0 where
   pub again_stopped : (session behind : Listed) (shelf left : Readers) (form : Form)
       (out now said says : Known)
       (s : StopsAgainListed session behind shelf left form out now said says) → (length s.more ≤ 1)
-      × (length s.turns + length s.more ≤ length shelf) × AreRounds Took (λ r. r) shelf s.rounds s.between
+      × (length s.turns + length s.more ≤ length shelf)
+      × AreRounds Took (λ r. r) shelf s.rounds s.between
       × AreFirstTurns Took (λ r. r) s.between s.turns left
       × BroughtSomething (length shelf) session.core s.rounds
       × AppendsFront said says

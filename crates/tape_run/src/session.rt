@@ -152,8 +152,8 @@ impl<S: PartSink> Session<S> {
             IsSeen S.PartSink self.new (λ new. IsFront old.parts new.parts
             × (IsKept old → IsKept new) × IfSome (R.remaining device.old)
             (λ bytes. ReelFails bytes fault old new)))) }
-        // Whatever its reader tells, it is a session of the same file, with the same notes; a reader
-        // that failed is counted, and a call of the sink that was refused is told.
+        // Whatever its reader tells, it is a session of the same file, with the same notes; a
+        // reader that failed is counted, and a call of the sink that was refused is told.
         ensures notes { self.new.notes ≡ self.old.notes }
         ensures file { (self.new.core.set_id ≡ self.old.core.set_id)
             × (self.new.core.file ≡ self.old.core.file) }

@@ -72,13 +72,15 @@ returns-in_err-end_report-2-clause-err g c =
     (λ held was. inr (
       none,
       λ same. (c.in_ok-written.ensures.ok held
-          (subst (λ s. HasTaken g.W.Write.contents s.form s.out s.weight s.records s.begun s.failed held)
+          (subst (λ s. HasTaken g.W.Write.contents s.form s.out s.weight s.records s.begun s.failed
+          held)
           (sym c.into_sink.ensures) was)).0,
     ))
     (λ held was. inr (
       none_finished mid.core.file mid.core.position none,
       inr (λ tells. c.in_ok-place.ensures.ok ∙ (c.in_ok-written.ensures.ok held
-          (subst (λ s. HasTaken g.W.Write.contents s.form s.out s.weight s.records s.begun s.failed held)
+          (subst (λ s. HasTaken g.W.Write.contents s.form s.out s.weight s.records s.begun s.failed
+          held)
           (sym c.into_sink.ensures) was)).1 tells),
     )))
 
@@ -92,6 +94,7 @@ returns-clause-ok g c =
     c.in_ok-read_images.ensures.ok none c.in_ok-end_report-2.ensures.ok
     (λ held was.
     let done = c.in_ok-written.ensures.ok held
-    (subst (λ s. HasTaken g.W.Write.contents s.form s.out s.weight s.records s.begun s.failed held)
+    (subst (λ s. HasTaken g.W.Write.contents s.form s.out s.weight s.records s.begun s.failed
+    held)
     (sym c.into_sink.ensures) was) in
     (done.0, λ tells. c.in_ok-place.ensures.ok ∙ done.1 tells))
