@@ -12,13 +12,13 @@ use Rattle.tape_stage.proofs.Backs.{returned_now, survived_now}
 use Rattle.tape_stage.proofs.Passing.{follow, stands, weaken}
 use Rattle.tape_stage.specs.Disk.{IsLater}
 use Rattle.tape_stage.specs.Staged.{StandsLike}
-use Rattle.tape_tool.specs.Staging.{StandsAt}
+use Rattle.tape_tool.specs.Staging.{StandsAt, as_sink}
 
 module _ {D : Type 0} {disk : Ghosts D} where
   -- a session over a stage stands where the stage does
   pub stands_at : (point told : Point) (parts : List Portion) (session : Story (Stage D disk))
       (stage : Stage D disk) → session.sink ≡ stage
-      → IsResumed point parts (seen (λ s. s.refused) session parts) → told ≡ point
+      → IsResumed point parts (seen as_sink session parts) → told ≡ point
       → Holds stage parts
       → ((back : Point) (there : List Portion) → Returns stage back there
       → (back ≡ told) × (there ≡ parts))

@@ -4,12 +4,13 @@ use Rattle.tape_blocks.specs.Block.{Portion}
 use Rattle.tape_core.specs.Crash.{OnlyThis}
 use Rattle.tape_core.specs.Point.{Point}
 use Rattle.tape_core.specs.Table.{saved, reader_of}
+use Rattle.tape_core.specs.declared.sink.PartSink as sinks
 use Rattle.tape_run.specs.Lives.{IsResumed}
 use Rattle.tape_run.specs.Seen.{seen}
 use Rattle.tape_run.specs.Story.{Story}
 use Rattle.tape_stage.specs.Faults.{SaysNone, IsNotDevice}
 use Rattle.tape_stage.specs.Staged.{Staged, HoldsNone}
-use Rattle.tape_stage.specs.Stages.{Holds, Returns, Survives, Returned, Survived}
+use Rattle.tape_stage.specs.Stages.{Holds, Returns, Survives, Returned, Survived, crashes_of}
 use Rattle.tape_stage.specs.declared.disk.Disk.{Ghosts}
 use Rattle.tape_stage.specs.declared.stage.Stage.{Stage}
 use Rattle.tape_tool.specs.declared.staging.StagingFault.{StagingFault}
@@ -23,11 +24,20 @@ IsOfFile set_id file point = (point.set_id ≡ set_id) × (point.file ≡ file)
 abbrev pub first_point : List ℕ → ℕ → Point
 first_point set_id file = saved (reader_of set_id file) 0
 
+-- a stage as a sink, as it is where parts are put into it
+abbrev pub as_sink : {D : Type 0} {disk : Ghosts D} → sinks.Ghosts (Stage D disk)
+as_sink = record {
+  holds = Holds;
+  weighs = λ s. s.weight;
+  refusals = λ s. s.refused;
+  crashes = λ s. crashes_of s;
+}
+
 -- The session stands at the checkpoint. Its stage holds these parts and no others, and whatever a
 -- crash leaves of it, now or from this moment on, stands for this checkpoint and these parts.
 pub record StandsAt {D : Type 0} {disk : Ghosts D} (point : Point) (parts : List Portion)
     (session : Story (Stage D disk)) : Type 0 where
-  pub resumed : IsResumed point parts (seen (λ s. s.refused) session parts)
+  pub resumed : IsResumed point parts (seen as_sink session parts)
   pub holds : Holds session.sink parts
   pub only : OnlyThis point parts (λ back there. Returns session.sink back there)
   pub survives : Survives session.sink

@@ -9,7 +9,7 @@ ghost use Rattle.tape_stage.specs.Stages.{OpensOver};
 ghost use Rattle.tape_run.specs.Headline.{IsStart};
 ghost use Rattle.tape_run.specs.Seen.{seen};
 ghost use Rattle.tape_tool.specs.Staging.{IsOfFile, StandsAt, GoesOn, Says, IsUnopened};
-ghost use Rattle.tape_tool.specs.Staging.{SaysNoStage, first_point};
+ghost use Rattle.tape_tool.specs.Staging.{SaysNoStage, as_sink, first_point};
 
 use crate::fault::{FileFault, ToolFault};
 use crate::host::Host;
@@ -53,7 +53,7 @@ pub fn open_session<D: Disk + Drop>(
     ensures begins { D.is_honest disk → D.length_of disk ≡ 0
         → IfOk result (StandsAt (first_point set_id file) []) }
     ensures start { D.length_of disk ≡ 0
-        → IfOk result (λ session. IsStart set_id file (seen (λ s. s.refused) session [])) }
+        → IfOk result (λ session. IsStart set_id file (seen as_sink session [])) }
     // On any disk it is a session of this file.
     ensures file { IfOk result (λ session.
         (session.core.set_id ≡ set_id) × (session.core.file ≡ file)) }
@@ -108,7 +108,7 @@ fn begin<D: Disk + Drop>(
     requires empty { D.length_of disk ≡ 0 }
     ensures begins { D.is_honest disk → IfOk result (StandsAt (first_point set_id file) []) }
     ensures start { IfOk result
-        (λ session. IsStart set_id file (seen (λ s. s.refused) session [])) }
+        (λ session. IsStart set_id file (seen as_sink session [])) }
     ensures file { IfOk result (λ session.
         (session.core.set_id ≡ set_id) × (session.core.file ≡ file)) }
     ensures number { IfErr result

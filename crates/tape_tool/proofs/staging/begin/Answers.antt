@@ -16,6 +16,7 @@ returns-in-Ok-new-clause-begins g c honest =
       place = ap rest_of begun.core;
       parts = refl;
       notes = begun.start.no_notes;
+      failures = begun.start.no_failures;
     })
     (c.save.ensures.value ∙ ap (λ (core : State). saved core 0) c.in-Ok.ensures.value)
     (made.holds honest) (made.returns honest) (made.survives honest) (made.ok honest).1.alive
