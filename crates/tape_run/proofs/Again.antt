@@ -17,7 +17,7 @@ use Rattle.tape_run.specs.Rounds.{Round, turns_of, core_behind, wanted, IsEnough
 use Rattle.tape_run.specs.Rounds.{FollowsRounds, TakesRounds, StopsInRound}
 use Rattle.tape_run.specs.Extracting.{EndsFile, StopsAtEnd}
 use Rattle.tape_run.specs.ExtractingAgain.{ExtractsAgain, StopsAgain}
-use Rattle.tape_run.proofs.Fitting.{front_more, front_then}
+use Rattle.tape_image.proofs.Pieces.{front_more, front_behind}
 use Rattle.tape_run.proofs.Extracted.{ended, tells_then}
 use Rattle.tape_run.proofs.Lasting.{last_then, stood_walked}
 use Rattle.tape_run.proofs.Left.{left_walked, left_behind}
@@ -159,7 +159,7 @@ stops_at_end_again {S} {L} {R} {W} gs size gives remaining old new
       most = omega (arith, t.last.most);
       want = e.want;
       records = e.records;
-      lines = front_then said between says _ (last_line e.want e.records) lines e.line;
+      lines = front_behind said between says _ (last_line e.want e.records) lines e.line;
       follows = λ held was kept.
           let (mid, has, (still, f, before)) = t.gone.follows held was kept in
           let (now, has_now, (then, one, last)) = t.last.follows mid has still in (

@@ -15,7 +15,7 @@ use Rattle.tape_run.specs.Seen.{Seen, seen}
 use Rattle.tape_run.specs.Steps.{WentBack}
 use Rattle.tape_core.specs.Point.{Point}
 use Rattle.tape_blocks.specs.Spans.{join}
-use Rattle.tape_run.specs.Output.{AppendsFront}
+use Rattle.tape_image.specs.Written.{AppendsFront}
 use Rattle.tape_run.specs.ReelLine.{reel_lines}
 use Rattle.tape_run.specs.RecordText.{output_of}
 use Rattle.tape_blocks.specs.declared.parts.Form.{Form}

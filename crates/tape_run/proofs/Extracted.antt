@@ -16,13 +16,13 @@ use Rattle.tape_core.specs.State.{State}
 use Rattle.tape_run.specs.Seen.{Seen, seen, IfSeen}
 use Rattle.tape_run.specs.Story.{Story}
 use Rattle.tape_blocks.specs.declared.parts.Form.{Form}
-use Rattle.tape_run.specs.Output.{AppendsFront}
+use Rattle.tape_image.specs.Written.{AppendsFront}
 use Rattle.tape_run.specs.RecordText.{output_of}
 use Rattle.tape_run.specs.ReelLine.{reel_lines, last_line}
 use Rattle.tape_run.specs.Reeling.{Turn, answer_of, TakesAll, StopsReading, Follows, goes_back}
 use Rattle.tape_run.specs.Reeling.{AreSure, Mounting}
 use Rattle.tape_run.specs.Extracting.{Ends, Extracts, Stops, EndsFile, StopsAtEnd, TellsEnd}
-use Rattle.tape_run.proofs.Fitting.{front_more, front_then}
+use Rattle.tape_image.proofs.Pieces.{front_more, front_behind}
 use Rattle.tape_run.proofs.Lasting.{stood_walked}
 use Rattle.tape_run.proofs.Left.{left_walked}
 use Rattle.tape_run.proofs.Turns.{gathers, sure_follows}
@@ -120,7 +120,7 @@ pub tells_then : (said between says : Option (List ℕ)) (lines : List ℕ) (wan
     → TellsEnd (AppendsFront said says lines) want records now
 tells_then said between says lines want records now before (inl none) =
     inl (subst (AppendsFront said says) (append-nil lines)
-    (front_then said between says lines [] before none))
+    (front_behind said between says lines [] before none))
 tells_then said between says lines want records now before (inr tells) = inr tells
 
 pub stops_at_end : {S L R W : Type 0} (gs : Ghosts S)
@@ -148,7 +148,7 @@ stops_at_end {S} {L} {R} {W} gs size gives remaining old mid new
       most = omega (arith, t.most);
       want = e.want;
       records = e.records;
-      lines = front_then said between says _ (last_line e.want e.records) lines e.line;
+      lines = front_behind said between says _ (last_line e.want e.records) lines e.line;
       follows = λ held was kept.
           let (now, has, (still, f, last)) = t.follows held was kept in (
             mid.core,

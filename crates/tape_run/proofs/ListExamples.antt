@@ -2,7 +2,7 @@
 use Rattle.std.proofs.Common.{◌≡◌, ℕ, ◌+◌, List, [], ◌∷◌, ◌++◌, length, Option, refl, sym, ap, ◌∙◌}
 use Rattle.std.proofs.Common.{append_assoc}
 use Rattle.std.specs.List.{flat_map}
-use Rattle.tape_run.specs.Output.{AppendsFront}
+use Rattle.tape_image.specs.Written.{AppendsFront}
 use Rattle.tape_run.specs.ListLine.{line_of}
 use Rattle.tape_run.specs.Listing.{lines_from, end_line}
 use Rattle.tape_run.specs.Listed.{AppendsInto, at_item, at_end, at_fault}

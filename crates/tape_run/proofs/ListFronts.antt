@@ -13,7 +13,7 @@ use Rattle.tape_image.proofs.Walks.{Walks-begins, Walks-item, IfKnown-at}
 use Rattle.tape_run.specs.ListLine.{line_of}
 use Rattle.tape_run.specs.Listing.{lines_from, end_line, last_line, listing_of}
 use Rattle.tape_run.specs.Listed.{ListsInPart}
-use Rattle.tape_run.specs.Output.{AppendsFront}
+use Rattle.tape_image.specs.Written.{AppendsFront}
 use Rattle.tape_run.proofs.ListLines.{lines_from-append}
 use Rattle.tape_run.proofs.ListedSoFar.{SoFar}
 

@@ -20,7 +20,7 @@ use Rattle.tape_run.specs.ListLine.{line_of}
 use Rattle.tape_run.specs.Listing.{lines_from, end_line, listing_of, IsListing}
 use Rattle.tape_run.specs.declared.fault.ListFault.{ListFault}
 use Rattle.tape_run.specs.declared.fault.ListFault.TheVariants.{WriteFailed}
-use Rattle.tape_run.specs.Output.{AppendsFront}
+use Rattle.tape_image.specs.Written.{AppendsFront}
 use Rattle.tape_run.specs.Listed.{ListsToEnd, ListsToFault, FitsCause, FitsFault, AppendsInto}
 use Rattle.tape_run.specs.Listed.{StopsWriting, at_item, at_end, at_fault}
 use Rattle.tape_run.proofs.Fitting.{kept}

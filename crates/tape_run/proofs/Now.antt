@@ -12,13 +12,13 @@ use Rattle.tape_run.specs.Seen.{seen, IfSeen}
 use Rattle.tape_run.specs.Extracting.{TellsEnd}
 use Rattle.tape_run.specs.Story.{Story}
 use Rattle.tape_blocks.specs.declared.parts.Form.{Form}
-use Rattle.tape_run.specs.Output.{AppendsFront}
+use Rattle.tape_image.specs.Written.{AppendsFront}
 use Rattle.tape_run.specs.RecordText.{output_of}
 use Rattle.tape_run.specs.ReelLine.{reel_lines, last_line}
 use Rattle.tape_run.specs.Reeling.{answer_of, TakesAll, StopsReading, Mounting}
 use Rattle.tape_run.specs.ExtractingNow.{IsPut, ExtractsNow, StopsNow}
 use Rattle.tape_run.proofs.Extracted.{tells_then}
-use Rattle.tape_run.proofs.Fitting.{front_more, front_then}
+use Rattle.tape_image.proofs.Pieces.{front_more, front_behind}
 use Rattle.tape_run.proofs.Turns.{gathers}
 
 pub extracted_now : {S L R : Type 0} (gs : Ghosts S)
@@ -105,7 +105,7 @@ stops_at_end_now {S} {L} {R} {O} gs size gives remaining old mid
       most = omega (arith, t.most);
       want = want;
       records = records;
-      lines = front_then said between says _ (last_line want records) lines last;
+      lines = front_behind said between says _ (last_line want records) lines last;
       follows = λ held was.
           let (now, has, (still, f, last)) = t.follows held was tt in (
             mid.core,

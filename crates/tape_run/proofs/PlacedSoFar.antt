@@ -17,7 +17,7 @@ use Rattle.tape_image.specs.Step.{TakesItem, TakesEnd, TakesFault}
 use Rattle.tape_image.proofs.Walks.{known_then, IfKnown-map}
 use Rattle.tape_run.specs.declared.fault.ListFault.{ListFault}
 use Rattle.tape_run.specs.declared.fault.ListFault.TheVariants.{WriteFailed}
-use Rattle.tape_run.specs.Output.{AppendsFront}
+use Rattle.tape_image.specs.Written.{AppendsFront}
 use Rattle.tape_run.specs.ListLine.{line_of}
 use Rattle.tape_run.specs.Placed.{PlacedItem, Places, item_extent, told_at, placed_line}
 use Rattle.tape_run.specs.Placed.{placed_lines, placed_end}

@@ -224,10 +224,6 @@ no_block ReelEnd bytes not is = absurd (cc)
 
 -- ---- results
 
-pub on_err : {A B : Type 0} (r : Result A B) (P : Type 0) → P → OnErr r P
-on_err (Ok x) P p = tt
-on_err (Err e) P p = p
-
 pub from_taken : {B : Type 0} (r : Result (Unit {0}) B) (P : Type 0) → OnOk r P → r ≡ Ok tt → P
 from_taken (Ok x) P p ok = p
 from_taken (Err e) P p ok = absurd (cc)

@@ -13,10 +13,10 @@ use Rattle.tape_blocks.specs.declared.parts.Form.{Form}
 use Rattle.tape_blocks.specs.declared.parts.Part.{Part}
 use Rattle.tape_core.specs.Walks.{GivesPart}
 use Rattle.tape_core.specs.Stands.{weight_of}
-use Rattle.tape_run.specs.Output.{AppendsFront}
+use Rattle.tape_image.specs.Written.{AppendsFront}
 use Rattle.tape_run.specs.RecordText.{record_end, records_text, output_of, part_text}
 use Rattle.tape_run.specs.RecordFront.{EachEnds, WritesFront}
-use Rattle.tape_run.proofs.Fitting.{front_more, front_then}
+use Rattle.tape_image.proofs.Pieces.{front_more, front_behind}
 use Rattle.tape_run.proofs.Streams.{with_end, ends, count_ends, ends_few}
 
 -- ---- what is written of such parts
@@ -132,7 +132,7 @@ front_failed form ahead after count old mid new parts part f gives e wrote =
     (sym (ap (output_of form) (f.are ∙ ap (λ t. f.first ++ t) is)
     ∙ front_text form f.first (p ∷ rest) f.each
     ∙ ap (λ t. output_of form f.first ++ t) (one_text form p rest e)))
-    (front_then old mid new (output_of form f.first) (part_text form p ++ output_of form rest)
+    (front_behind old mid new (output_of form f.first) (part_text form p ++ output_of form rest)
     f.wrote (front_more mid new (part_text form p) (output_of form rest) wrote))
 
 -- the walk was refused
@@ -195,7 +195,7 @@ pub rest_failed : (form : Form) (count : ℕ) (all : Bool) (old mid new : Option
 rest_failed form count all old mid new parts f wrote =
     subst (AppendsFront old new) (sym (front_text form f.first f.rest f.each)
     ∙ ap (output_of form) (sym f.are))
-    (front_then old mid new (output_of form f.first) (output_of form f.rest) f.wrote wrote)
+    (front_behind old mid new (output_of form f.first) (output_of form f.rest) f.wrote wrote)
 
 -- ---- a walk that passes them
 

@@ -16,7 +16,7 @@ use Rattle.tape_run.specs.Lacks.{line_of, lacks, found_all}
 use Rattle.tape_run.specs.CheckLine.{image_line, image_lines}
 use Rattle.tape_run.specs.Checked.{Reel, IsReel, IsRead, AreRead, summary, summary_of, Reports}
 use Rattle.tape_run.specs.Checked.{summary_behind, ReportsInPart, Tells, TellsAll, StopsAt}
-use Rattle.tape_run.specs.Output.{AppendsFront}
+use Rattle.tape_image.specs.Written.{AppendsFront}
 use Rattle.tape_run.specs.Reeling.{Mounting, AreMounted}
 use Rattle.tape_run.proofs.Turns.{one_mounted}
 

@@ -15,14 +15,14 @@ use Rattle.tape_core.specs.State.{State}
 use Rattle.tape_run.specs.Seen.{Seen, seen}
 use Rattle.tape_run.specs.Story.{Story}
 use Rattle.tape_run.specs.ReelLine.{reel_lines}
-use Rattle.tape_run.specs.Output.{AppendsFront}
+use Rattle.tape_image.specs.Written.{AppendsFront}
 use Rattle.tape_run.specs.declared.intake.ReelAnswer.{ReelAnswer}
 use Rattle.tape_run.specs.Reeling.{Turn, answer_of, AreTurns, Follows, Mounting, TakesAll}
 use Rattle.tape_run.specs.Reeling.{StopsReading}
 use Rattle.tape_run.specs.Rounds.{Round, turns_of, core_behind, wanted, AreRounds, IsEnough}
 use Rattle.tape_run.specs.Rounds.{BroughtSomething, FollowsRounds, HasGone, TakesRounds}
 use Rattle.tape_run.specs.Rounds.{StopsInRound}
-use Rattle.tape_run.proofs.Fitting.{front_then}
+use Rattle.tape_image.proofs.Pieces.{front_behind}
 use Rattle.tape_run.proofs.Lasting.{last_same, last_then}
 use Rattle.tape_run.proofs.Turns.{lines_more, follows_then}
 
@@ -108,7 +108,7 @@ pub front_of_all : (old mid new : Option (List ℕ)) (turns others : List Turn)
     → AppendsFront old new (reel_lines 1 (map answer_of (turns ++ others) ++ more))
 front_of_all old mid new turns others more first then =
     subst (AppendsFront old new) (sym (lines_then turns others more))
-    (front_then old mid new _ _ first then)
+    (front_behind old mid new _ _ first then)
 
 -- ---- calls
 

@@ -13,7 +13,7 @@ use Rattle.std.proofs.lemmas.Grind.{flat_map-append}
 use Rattle.tape_run.specs.declared.survey.Wording.{Wording}
 use Rattle.tape_run.specs.declared.survey.view.Sight.{Sight}
 use Rattle.tape_run.specs.Lacks.{SetFiles}
-use Rattle.tape_run.specs.Output.{AppendsFront}
+use Rattle.tape_image.specs.Written.{AppendsFront}
 use Rattle.tape_run.specs.Reeling.{Mounting}
 use Rattle.tape_run.specs.Survey.{image_texts, Tells, TellsAll, StopsAt, Surveys, SurveysInPart}
 use Rattle.tape_run.specs.Survey.{summary_at}

@@ -16,7 +16,7 @@ use Rattle.tape_run.specs.Mount.{Happening, IsMountOf}
 use Rattle.tape_run.specs.Seen.{Seen, IsKept}
 use Rattle.tape_run.proofs.Sessions.{kept_save, kept_restart}
 use Rattle.tape_run.specs.Steps.{Reeled}
-use Rattle.tape_run.specs.Output.{AppendsFront}
+use Rattle.tape_image.specs.Written.{AppendsFront}
 use Rattle.tape_run.specs.ReelLine.{reel_line, reel_lines}
 use Rattle.tape_run.specs.Reeling.{is_doubtful, IsNoted, IsKeptFor}
 use Rattle.tape_run.specs.Reeling.{Turn, Opened, answer_of, Follows}

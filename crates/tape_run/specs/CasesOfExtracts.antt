@@ -36,7 +36,7 @@ use Rattle.tape_run.specs.Given.{is_device}
 use Rattle.tape_run.specs.Headline.{HasRun}
 use Rattle.tape_run.specs.Lead.{Lead, over_reel}
 use Rattle.tape_run.specs.Mount.{Happening, IsMountOf, foreign_reel, after_mount}
-use Rattle.tape_run.specs.Output.{AppendsFront}
+use Rattle.tape_image.specs.Written.{AppendsFront}
 use Rattle.tape_run.specs.OutSinks.{HasTaken, IsText, TellsAlways, text_so_far, with_end}
 use Rattle.tape_run.specs.RecordText.{output_of}
 use Rattle.tape_run.specs.ReelLine.{reel_lines, last_line}

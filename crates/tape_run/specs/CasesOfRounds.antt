@@ -9,7 +9,7 @@ use Rattle.tape_core.specs.State.{State}
 use Rattle.tape_run.specs.CasesOfExtracts.{Listed, as_sink, Known, Readers}
 use Rattle.tape_run.specs.Extracting.{Ends, EndsFile, StopsAtEnd, IsWritten, TellsEnd}
 use Rattle.tape_run.specs.ExtractingAgain.{ExtractsAgain, StopsAgain}
-use Rattle.tape_run.specs.Output.{AppendsFront}
+use Rattle.tape_image.specs.Written.{AppendsFront}
 use Rattle.tape_run.specs.RecordText.{output_of}
 use Rattle.tape_run.specs.ReelLine.{reel_lines, last_line}
 use Rattle.tape_run.specs.Reeling.{Turn, answer_of, AreTurns, AreFirstTurns, Follows, Took}

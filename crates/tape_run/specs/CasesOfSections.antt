@@ -12,7 +12,7 @@ use Rattle.tape_run.specs.Added.{AddsInPart}
 use Rattle.tape_run.specs.CasesOfCatalogues.{met, lack}
 use Rattle.tape_run.specs.Lacks.{IsGoodAt, lacks}
 use Rattle.tape_run.specs.Noted.{noted, noted_all}
-use Rattle.tape_run.specs.Output.{AppendsFront}
+use Rattle.tape_image.specs.Written.{AppendsFront}
 use Rattle.tape_run.specs.Passing.{Told, told_from}
 use Rattle.tape_run.specs.WholeReels.{IsListedGood}
 use Rattle.tape_run.specs.WholeSet.{AreAllGood, key_in}

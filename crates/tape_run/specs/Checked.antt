@@ -13,7 +13,7 @@ use Rattle.tape_run.specs.Lacks.{line_of, lacks, found_all}
 use Rattle.tape_run.specs.declared.fault.EngineFault.{EngineFault}
 use Rattle.tape_run.specs.declared.fault.EngineFault.TheVariants.{Run, WriteFailed}
 use Rattle.tape_run.specs.CheckLine.{image_line, image_lines, section_line, lack_line, found_line}
-use Rattle.tape_run.specs.Output.{AppendsFront}
+use Rattle.tape_image.specs.Written.{AppendsFront}
 use Rattle.tape_run.specs.Reeling.{Mounting}
 use Rattle.tape_run.specs.Reeling.{AreMounted}
 

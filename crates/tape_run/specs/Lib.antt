@@ -33,7 +33,6 @@ pub mod Fronts
 pub mod WorkedHistory
 pub mod WorkedDays
 -- Writers, and identifiers as they are printed: of the reports below.
-pub mod Output
 pub mod Identifier
 -- Listings of images: to be believed, in this order.
 pub mod ListLine

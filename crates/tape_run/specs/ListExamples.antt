@@ -11,7 +11,7 @@ use Rattle.tape_image.specs.Reader.{IfKnown}
 use Rattle.tape_image.specs.Step.{TakesEnd, TakesFault}
 use Rattle.tape_run.specs.declared.fault.ListFault.TheVariants.{WriteFailed}
 use Rattle.tape_run.specs.Listing.{lines_from, listing_of, IsListing}
-use Rattle.tape_run.specs.Output.{AppendsFront}
+use Rattle.tape_image.specs.Written.{AppendsFront}
 use Rattle.tape_run.specs.Listed.{ListsToEnd, ListsToFault, ListsInPart, StopsWriting, FitsFault}
 use Rattle.tape_run.specs.Listed.{FitsCause}
 

@@ -13,7 +13,7 @@ use Rattle.tape_run.specs.declared.fault.ListFault.{ListFault}
 use Rattle.tape_run.specs.declared.fault.ListFault.TheVariants.{Image, WriteFailed}
 use Rattle.tape_run.specs.ListLine.{line_of}
 use Rattle.tape_run.specs.Listing.{lines_from, end_line, listing_of, IsListing}
-use Rattle.tape_run.specs.Output.{AppendsFront}
+use Rattle.tape_image.specs.Written.{AppendsFront}
 
 -- The items that the bytes begin with, up to the end of medium, were read, and the listing of the
 -- image was written. What is left of the bytes begins behind the end word, if there is one.

@@ -8,7 +8,7 @@ ghost use Rattle.tape_run.specs.Lacks.{line_of, lacks, found_all};
 ghost use Rattle.tape_run.specs.CheckLine.{section_line, lack_line};
 ghost use Rattle.tape_run.specs.Checked.{IsRead, Tells, TellsAll, StopsAt, last_line, summary_of};
 ghost use Rattle.tape_run.specs.Checked.{summary, Reports, ReportsInPart, IsCheckFault};
-ghost use Rattle.tape_run.specs.Output.{AppendsFront};
+ghost use Rattle.tape_image.specs.Written.{AppendsFront};
 
 use crate::catalogue::Catalogue;
 use crate::check_line::{image_line, lack_line, section_line};

@@ -2,7 +2,7 @@
 ghost use Rattle.std.specs.Prelude.{◌≡◌, IfErr, IfSome, OnOk, OnErr};
 ghost use Rattle.std.specs.Io.KnownBytes.{Appends};
 ghost use Rattle.tape_run.specs.Listing.{end_line};
-ghost use Rattle.tape_run.specs.Output.{AppendsFront};
+ghost use Rattle.tape_image.specs.Written.{AppendsFront};
 ghost use Rattle.tape_image.specs.Reader.{IfKnown, going};
 ghost use Rattle.tape_run.specs.Listed.{ListsToEnd, ListsInPart, FitsFault};
 

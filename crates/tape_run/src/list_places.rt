@@ -7,7 +7,7 @@ ghost use Rattle.arrayvec.specs.ArrayVec.{array_vec_len};
 ghost use Rattle.tape_image.specs.Reader.{IfKnown, going, tape_item};
 ghost use Rattle.tape_image.specs.Spelling.{end_len};
 ghost use Rattle.tape_image.specs.Tape.{IsTapeItem};
-ghost use Rattle.tape_run.specs.Output.{AppendsFront};
+ghost use Rattle.tape_image.specs.Written.{AppendsFront};
 ghost use Rattle.tape_run.specs.Placed.{item_extent, told_at, placed_end, PlacesToEnd, FitsPlaces};
 
 use crate::fault::{ListFault, WriteFailed};

@@ -2,7 +2,7 @@
 ghost use Rattle.std.specs.Prelude.{◌≡◌, map, option_map, IfOk, OnOk, OnErr, IfErr};
 ghost use Rattle.std.specs.Io.KnownBytes.{Appends};
 ghost use Rattle.tape_run.specs.Checked.{IsCheckFault};
-ghost use Rattle.tape_run.specs.Output.{AppendsFront};
+ghost use Rattle.tape_image.specs.Written.{AppendsFront};
 ghost use Rattle.tape_run.specs.SurveyWording.{image_text, end_text, summary};
 ghost use Rattle.tape_run.specs.SurveyLine.{named, name_text, image_line};
 ghost use Rattle.tape_run.specs.SurveyRead.{nothing_found};

@@ -6,7 +6,7 @@ ghost use Rattle.arrayvec.specs.ArrayString.{array_string_len};
 ghost use Rattle.arrayvec.specs.ArrayVec.{array_vec_len};
 ghost use Rattle.tape_run.specs.Identifier.{printed, identifier_text};
 ghost use Rattle.tape_run.specs.SurveyLine.{trimmed_len, trimmed_text};
-ghost use Rattle.tape_run.specs.Output.{AppendsFront};
+ghost use Rattle.tape_image.specs.Written.{AppendsFront};
 
 use crate::fault::WriteFailed;
 use arrayvec::{ArrayString, ArrayVec};

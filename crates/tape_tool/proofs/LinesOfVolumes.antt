@@ -3,8 +3,8 @@ use Rattle.std.proofs.Common.{◌≡◌, ℕ, ◌+◌, ◌<◌, List, [], ◌∷
 use Rattle.std.proofs.Common.{Option, refl, sym, ap, subst, ◌∙◌, append_assoc, append-nil}
 use Rattle.std.proofs.lemmas.List.{take_more, take-append-drop}
 use Rattle.std.specs.Io.KnownBytes.{Appends}
-use Rattle.tape_run.specs.Output.{AppendsFront}
-use Rattle.tape_run.proofs.Fitting.{front_more, front_then}
+use Rattle.tape_image.specs.Written.{AppendsFront}
+use Rattle.tape_image.proofs.Pieces.{front_more, front_behind}
 use Rattle.tape_writer.specs.declared.system.image_files.Ended.{Ended}
 use Rattle.tape_tool.specs.Report.{volume_line, volume_lines}
 
@@ -46,4 +46,4 @@ front_of_lines old mid new xs i x more within is wrote part =
     subst (AppendsFront old new) (ap (λ t. t ++ more) (sym all))
     (front_more old new ((before ++ volume_line x) ++ behind) more
     (front_more old new (before ++ volume_line x) behind
-    (front_then old mid new before (volume_line x) wrote part)))
+    (front_behind old mid new before (volume_line x) wrote part)))

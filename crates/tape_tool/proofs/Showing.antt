@@ -6,7 +6,7 @@ use Rattle.tape_blocks.specs.declared.parts.Form.{Form}
 use Rattle.tape_set.specs.declared.position.Want.{Want}
 use Rattle.tape_core.specs.Point.{Point}
 use Rattle.tape_run.specs.Extracting.{IsWritten}
-use Rattle.tape_run.specs.Output.{AppendsFront}
+use Rattle.tape_image.specs.Written.{AppendsFront}
 use Rattle.tape_run.specs.RecordText.{output_of}
 use Rattle.tape_stage.specs.Salvaged.{Remains}
 use Rattle.tape_stage.specs.Staged.{Staged}

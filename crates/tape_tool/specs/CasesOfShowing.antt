@@ -10,7 +10,7 @@ use Rattle.tape_set.specs.declared.position.Want.{Want}
 use Rattle.tape_set.specs.declared.position.Position.{Position}
 use Rattle.tape_set.specs.declared.position.Position.TheVariants.{Awaits, Finished}
 use Rattle.tape_core.specs.Point.{Point}
-use Rattle.tape_run.specs.Output.{AppendsFront}
+use Rattle.tape_image.specs.Written.{AppendsFront}
 use Rattle.tape_run.specs.RecordText.{output_of}
 use Rattle.tape_stage.specs.Faults.{SaysNone}
 use Rattle.tape_stage.specs.Salvaged.{Remains, RemainsNone}

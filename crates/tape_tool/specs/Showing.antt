@@ -8,7 +8,7 @@ use Rattle.tape_set.specs.declared.position.Want.{Want}
 use Rattle.tape_set.specs.Position.{want_at}
 use Rattle.tape_core.specs.Point.{Point}
 use Rattle.tape_run.specs.Identifier.{identifier_text}
-use Rattle.tape_run.specs.Output.{AppendsFront}
+use Rattle.tape_image.specs.Written.{AppendsFront}
 use Rattle.tape_run.specs.RecordText.{output_of}
 use Rattle.tape_run.specs.ReelLine.{last_line}
 use Rattle.tape_stage.specs.Faults.{SaysNone}

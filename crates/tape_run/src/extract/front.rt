@@ -6,7 +6,7 @@ ghost use Rattle.tape_blocks.specs.Spans.{join};
 ghost use Rattle.tape_core.specs.Weight.{Rose};
 ghost use Rattle.tape_run.specs.Causes.{WritingFails};
 ghost use Rattle.tape_run.specs.Crash.{BringsNoMore};
-ghost use Rattle.tape_run.specs.Output.{AppendsFront};
+ghost use Rattle.tape_image.specs.Written.{AppendsFront};
 ghost use Rattle.tape_run.specs.RecordText.{output_of};
 ghost use Rattle.tape_run.specs.RecordFront.{EachEnds, WritesFront};
 

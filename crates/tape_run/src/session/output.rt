@@ -4,7 +4,7 @@ ghost use Rattle.tape_blocks.specs.Block.{Portion};
 ghost use Rattle.tape_run.specs.Causes.{WritingFails};
 ghost use Rattle.tape_run.specs.Crash.{IsWalked};
 ghost use Rattle.tape_run.specs.Extracting.{IsWritten};
-ghost use Rattle.tape_run.specs.Output.{AppendsFront};
+ghost use Rattle.tape_image.specs.Written.{AppendsFront};
 ghost use Rattle.tape_run.specs.RecordText.{output_of};
 
 use super::Session;

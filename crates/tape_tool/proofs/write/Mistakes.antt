@@ -13,7 +13,7 @@ use Rattle.tape_tool.specs.Words.{AreAtOdds, HavePaths, text_in, texts_in}
 use Rattle.tape_tool.proofs.ExamplesOfWrongWords.{has_path, is_prefix, missing, other}
 use Rattle.tape_tool.proofs.FoundWords.{reason_of}
 use Rattle.tape_tool.proofs.WordsOfWriting.{lawful}
-use Rattle.tape_run.specs.Output.{AppendsFront}
+use Rattle.tape_image.specs.Written.{AppendsFront}
 use Rattle.tape_tool.specs.Report.{report}
 use Rattle.tape_tool.proofs.write.run.split.Reads as split
 use Rattle.tape_tool.proofs.write.report.say.Reads as say

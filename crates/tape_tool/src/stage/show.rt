@@ -4,7 +4,7 @@ ghost use Rattle.std.specs.Prelude.{IfOk, IfErr, OnOk, OnErr, None};
 ghost use Rattle.std.specs.Io.KnownBytes.{Appends};
 ghost use Rattle.arrayvec.specs.ArrayVec.{array_vec_len};
 ghost use Rattle.tape_blocks.specs.Block.{Portion};
-ghost use Rattle.tape_run.specs.Output.{AppendsFront};
+ghost use Rattle.tape_image.specs.Written.{AppendsFront};
 ghost use Rattle.tape_set.specs.Position.{want_at};
 ghost use Rattle.tape_stage.specs.Salvaged.{HoldsRest};
 ghost use Rattle.tape_tool.specs.Showing.{stage_line, told_with, ending_of, ending_line};

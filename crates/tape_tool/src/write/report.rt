@@ -1,7 +1,7 @@
 //! What `write` prints.
 ghost use Rattle.std.specs.Prelude.{◌≡◌, OnOk, OnErr};
 ghost use Rattle.std.specs.Io.KnownBytes.{Appends};
-ghost use Rattle.tape_run.specs.Output.{AppendsFront};
+ghost use Rattle.tape_image.specs.Written.{AppendsFront};
 ghost use Rattle.tape_tool.specs.Report.{volume_line, files_line, report};
 
 use arrayvec::ArrayVec;

@@ -1,5 +1,5 @@
 use Rattle.std.proofs.Common.{◌≡◌, ◌<◌, rules, arith}
-use Rattle.tape_run.proofs.Fitting.{on_err}
+use Rattle.tape_image.proofs.Pieces.{on_err}
 use Rattle.tape_run.proofs.Reporting.{starts, one_more, stops_at, not_mounted}
 use Rattle.tape_run.proofs.check.check_images.Goals as goal
 

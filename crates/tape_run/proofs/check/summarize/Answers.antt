@@ -1,6 +1,6 @@
 use Rattle.std.proofs.Common.{◌≡◌, map, ◌∙◌}
 use Rattle.tape_run.specs.Lacks.{line_of, lacks}
-use Rattle.tape_run.proofs.Fitting.{on_err}
+use Rattle.tape_image.proofs.Pieces.{on_err}
 use Rattle.tape_run.proofs.Reporting.{summed_up}
 use Rattle.tape_run.proofs.check.summarize.Goals as goal
 

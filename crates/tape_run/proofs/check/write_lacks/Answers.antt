@@ -3,8 +3,8 @@ use Rattle.std.specs.List.{flat_map}
 use Rattle.std.specs.Io.KnownBytes.{Appends}
 use Rattle.std.proofs.KnownBytes.{Appends-trans}
 use Rattle.tape_run.specs.CheckLine.{lack_line}
-use Rattle.tape_run.specs.Output.{AppendsFront}
-use Rattle.tape_run.proofs.Fitting.{on_err}
+use Rattle.tape_image.specs.Written.{AppendsFront}
+use Rattle.tape_image.proofs.Pieces.{on_err}
 use Rattle.tape_run.proofs.Reporting.{front_then, one_text, all_texts}
 use Rattle.tape_run.proofs.check.write_lacks.Goals as goal
 

@@ -1,7 +1,7 @@
 use Rattle.std.specs.List.{flat_map}
 use Rattle.tape_run.specs.CheckLine.{section_line, lack_line}
 use Rattle.tape_run.specs.Checked.{last_line}
-use Rattle.tape_run.proofs.Fitting.{on_err}
+use Rattle.tape_image.proofs.Pieces.{on_err}
 use Rattle.tape_run.proofs.Reporting.{in_first, in_second, in_third, if_err}
 use Rattle.tape_run.proofs.check.write_summary.Goals as goal
 

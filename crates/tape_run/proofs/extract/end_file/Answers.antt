@@ -1,6 +1,6 @@
 use Rattle.std.proofs.Common.{rules, ◌≡◌, [], Some, None, refl, sym, ◌∙◌, inl, inr}
 use Rattle.tape_set.specs.Position.{want_at}
-use Rattle.tape_run.proofs.Fitting.{on_err}
+use Rattle.tape_image.proofs.Pieces.{on_err}
 use Rattle.tape_run.proofs.Extracted.{ends_in_part, nothing_more, all_of_it, none_finished}
 use Rattle.tape_run.proofs.extract.end_file.Goals as goal
 

@@ -1,6 +1,7 @@
 use Rattle.std.proofs.Common.{◌≡◌}
 use Rattle.tape_run.specs.Extracting.{Extracts, Stops, EndsFile, StopsAtEnd}
-use Rattle.tape_run.proofs.Fitting.{on_err, on_err_map}
+use Rattle.tape_run.proofs.Fitting.{on_err_map}
+use Rattle.tape_image.proofs.Pieces.{on_err}
 use Rattle.tape_run.proofs.Reporting.{if_ok_both}
 use Rattle.tape_run.proofs.Extracted.{extracted, stops_reading, stops_at_end}
 use Rattle.tape_run.proofs.extract.extract_to.Goals as goal

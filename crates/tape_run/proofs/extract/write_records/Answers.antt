@@ -1,7 +1,7 @@
 use Rattle.std.proofs.Common.{rules, ◌≡◌, Ok, true, false, ap, subst, ◌∙◌, arith, ◌-◌, ◌<◌}
 use Rattle.tape_blocks.specs.Spans.{leaves}
 use Rattle.tape_core.specs.Walks.{GivesPart}
-use Rattle.tape_run.proofs.Fitting.{on_err}
+use Rattle.tape_image.proofs.Pieces.{on_err}
 use Rattle.tape_run.proofs.Streams.{with_end, stream_starts, stream_goes_on, stream_ended}
 use Rattle.tape_run.proofs.Streams.{stream_failed}
 use Rattle.tape_run.proofs.Walked.{walked_same, walk_on}

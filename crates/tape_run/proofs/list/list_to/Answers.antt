@@ -1,7 +1,8 @@
 use Rattle.std.proofs.Common.{[], refl, arith}
 use Rattle.std.proofs.KnownBytes.{Keeps-refl}
 use Rattle.tape_run.proofs.ListedSoFar.{starts}
-use Rattle.tape_run.proofs.Fitting.{on_err, no_front}
+use Rattle.tape_run.proofs.Fitting.{no_front}
+use Rattle.tape_image.proofs.Pieces.{on_err}
 use Rattle.tape_run.proofs.ListFronts.{in_part, after_none}
 use Rattle.tape_run.proofs.list.list_to.Goals as goal
 

@@ -1,6 +1,6 @@
 use Rattle.std.proofs.Common.{◌∙◌, subst}
-use Rattle.tape_run.specs.Output.{AppendsFront}
-use Rattle.tape_run.proofs.Fitting.{on_err}
+use Rattle.tape_image.specs.Written.{AppendsFront}
+use Rattle.tape_image.proofs.Pieces.{on_err}
 use Rattle.tape_run.proofs.survey.sum_up.Goals as goal
 
 pub returns-in_err-pass_on-clause-front : goal.returns-in_err-pass_on-clause-front

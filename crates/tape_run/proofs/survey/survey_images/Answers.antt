@@ -1,6 +1,6 @@
 use Rattle.std.proofs.Common.{◌≡◌, ◌<◌, map, length, arith}
 use Rattle.std.proofs.lemmas.List.{length-map}
-use Rattle.tape_run.proofs.Fitting.{on_err}
+use Rattle.tape_image.proofs.Pieces.{on_err}
 use Rattle.tape_run.proofs.SurveyTexts.{tells_none, tells_more, tells_all, stops_before, stops_at}
 use Rattle.tape_run.proofs.SurveyTexts.{name_at}
 use Rattle.tape_run.proofs.survey.survey_images.Goals as goal

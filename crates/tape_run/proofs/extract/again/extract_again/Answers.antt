@@ -2,7 +2,8 @@ use Rattle.std.proofs.Common.{◌≡◌}
 use Rattle.tape_run.specs.Extracting.{EndsFile, StopsAtEnd}
 use Rattle.tape_run.specs.ExtractingAgain.{ExtractsAgain, StopsAgain}
 use Rattle.tape_run.proofs.Again.{extracted_again, stops_in_round, stops_at_end_again}
-use Rattle.tape_run.proofs.Fitting.{on_err, on_err_map}
+use Rattle.tape_run.proofs.Fitting.{on_err_map}
+use Rattle.tape_image.proofs.Pieces.{on_err}
 use Rattle.tape_run.proofs.Reporting.{if_ok_both}
 use Rattle.tape_run.proofs.extract.again.extract_again.Goals as goal
 

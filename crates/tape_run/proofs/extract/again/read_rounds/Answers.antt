@@ -1,5 +1,5 @@
 use Rattle.std.proofs.Common.{◌+◌, ◌-◌, ◌<◌, [], refl, inr, arith}
-use Rattle.tape_run.proofs.Fitting.{on_err}
+use Rattle.tape_image.proofs.Pieces.{on_err}
 use Rattle.tape_run.proofs.Rounds.{none_gone, gone_on, takes_rounds, stops_round, enough_by}
 use Rattle.tape_run.proofs.Rounds.{not_none, not_same, some_images}
 use Rattle.tape_run.proofs.extract.again.read_rounds.Goals as goal

@@ -1,7 +1,7 @@
 use Rattle.std.proofs.Common.{rules, ◌≡◌, Ok, false, ap, subst, ◌∙◌, arith}
 use Rattle.tape_blocks.specs.Spans.{leaves}
 use Rattle.tape_core.specs.Walks.{GivesPart}
-use Rattle.tape_run.proofs.Fitting.{on_err}
+use Rattle.tape_image.proofs.Pieces.{on_err}
 use Rattle.tape_run.proofs.RecordFronts.{front_starts, front_goes_on, front_failed, front_refused}
 use Rattle.tape_run.proofs.Walked.{walk_on}
 use Rattle.tape_run.proofs.extract.front.write_front.Goals as goal

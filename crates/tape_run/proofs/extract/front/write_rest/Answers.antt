@@ -4,7 +4,7 @@ use Rattle.tape_blocks.specs.Spans.{join}
 use Rattle.tape_run.specs.RecordFront.{EachEnds}
 use Rattle.tape_run.proofs.Causes.{fails_behind}
 use Rattle.tape_run.proofs.Ended.{told_err}
-use Rattle.tape_run.proofs.Fitting.{on_err}
+use Rattle.tape_image.proofs.Pieces.{on_err}
 use Rattle.tape_run.proofs.RecordFronts.{front_records}
 use Rattle.tape_run.proofs.extract.front.write_rest.Goals as goal
 

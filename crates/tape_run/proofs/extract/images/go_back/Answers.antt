@@ -1,5 +1,5 @@
 use Rattle.std.proofs.Common.{◌≡◌, ◌+◌, ◌-◌, length, arith}
-use Rattle.tape_run.proofs.Fitting.{on_err}
+use Rattle.tape_image.proofs.Pieces.{on_err}
 use Rattle.tape_run.proofs.Lasting.{last_went}
 use Rattle.tape_run.proofs.Left.{restart_left}
 use Rattle.tape_run.proofs.Lives.{on_ok}

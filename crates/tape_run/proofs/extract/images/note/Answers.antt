@@ -2,7 +2,7 @@ use Rattle.std.proofs.Common.{false, sym, subst, ◌∙◌}
 use Rattle.tape_run.specs.Reeling.{IsNoted}
 use Rattle.tape_run.specs.Seen.{seen}
 use Rattle.tape_run.proofs.Lasting.{last_kept}
-use Rattle.tape_run.proofs.Fitting.{on_err}
+use Rattle.tape_image.proofs.Pieces.{on_err}
 use Rattle.tape_run.proofs.Left.{save_left}
 use Rattle.tape_run.proofs.extract.images.note.Goals as goal
 

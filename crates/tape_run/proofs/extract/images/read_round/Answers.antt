@@ -6,7 +6,7 @@ use Rattle.tape_run.specs.ReelLine.{reel_lines}
 use Rattle.tape_run.specs.Reeling.{answer_of, IsTurn}
 use Rattle.tape_run.specs.Seen.{seen}
 use Rattle.tape_run.proofs.Extracted.{all_of_it}
-use Rattle.tape_run.proofs.Fitting.{on_err}
+use Rattle.tape_image.proofs.Pieces.{on_err}
 use Rattle.tape_run.proofs.Turns.{front_behind, line_behind, one_mounted}
 use Rattle.tape_run.proofs.Turns.{follows_then}
 use Rattle.tape_run.proofs.Lasting.{last_same, last_then}

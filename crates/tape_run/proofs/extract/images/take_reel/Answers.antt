@@ -1,10 +1,10 @@
 use Rattle.std.proofs.Common.{rules, ◌≡◌, Some, refl, subst}
 use Rattle.std.specs.Io.KnownBytes.{Appends}
 use Rattle.tape_run.specs.Seen.{seen}
-use Rattle.tape_run.specs.Output.{AppendsFront}
+use Rattle.tape_image.specs.Written.{AppendsFront}
 use Rattle.tape_run.specs.ReelLine.{reel_line}
 use Rattle.tape_run.specs.Reeling.{Opened, is_doubtful}
-use Rattle.tape_run.proofs.Fitting.{on_err}
+use Rattle.tape_image.proofs.Pieces.{on_err}
 use Rattle.tape_run.proofs.Turns.{part_line, whole_line, noted, kept_for, kept_behind}
 use Rattle.tape_run.proofs.Lasting.{last_stays, last_then}
 use Rattle.tape_run.proofs.Left.{nothing_left, left_then}

@@ -1,7 +1,7 @@
 use Rattle.std.proofs.Common.{rules, ◌≡◌, [], Some, None, refl, sym, subst, ◌∙◌, inl, inr}
 use Rattle.tape_set.specs.Position.{want_at}
 use Rattle.tape_run.specs.OutSinks.{HasTaken, TellsAlways}
-use Rattle.tape_run.proofs.Fitting.{on_err}
+use Rattle.tape_image.proofs.Pieces.{on_err}
 use Rattle.tape_run.proofs.Extracted.{nothing_more, none_finished}
 use Rattle.tape_run.proofs.Now.{extracted_now, stops_reading_now, stops_at_end_now}
 use Rattle.tape_run.proofs.extract.now.extract_now.Goals as goal

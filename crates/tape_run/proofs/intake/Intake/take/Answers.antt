@@ -14,7 +14,8 @@ use Rattle.tape_run.proofs.Completes.{Tells, step_tells}
 use Rattle.tape_core.proofs.Crashes.{only_same}
 use Rattle.tape_run.proofs.Mounts.{checked_of}
 use Rattle.tape_run.proofs.Notes.{front_more, front_self}
-use Rattle.tape_run.proofs.Places.{no_block, on_err}
+use Rattle.tape_run.proofs.Places.{no_block}
+use Rattle.tape_image.proofs.Pieces.{on_err}
 use Rattle.tape_run.proofs.Taken.{checked_parts, takes_other, takes_block, refuses_block}
 use Rattle.tape_run.proofs.intake.Intake.take.Goals as goal
 

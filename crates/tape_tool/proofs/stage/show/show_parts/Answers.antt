@@ -1,4 +1,4 @@
-use Rattle.tape_run.proofs.Fitting.{on_err}
+use Rattle.tape_image.proofs.Pieces.{on_err}
 use Rattle.tape_tool.proofs.Showing.{gives_front}
 use Rattle.tape_tool.proofs.stage.show.show_parts.Goals as goal
 

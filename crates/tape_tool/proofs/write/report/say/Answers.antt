@@ -2,8 +2,9 @@ use Rattle.std.proofs.Common.{◌≡◌, ◌++◌, length, take, sym, ap, subst,
 use Rattle.std.proofs.lemmas.List.{take_all}
 use Rattle.std.specs.Io.KnownBytes.{Appends}
 use Rattle.std.proofs.KnownBytes.{Appends-trans}
-use Rattle.tape_run.specs.Output.{AppendsFront}
-use Rattle.tape_run.proofs.Fitting.{front_then, on_err, whole_front}
+use Rattle.tape_image.specs.Written.{AppendsFront}
+use Rattle.tape_run.proofs.Fitting.{whole_front}
+use Rattle.tape_image.proofs.Pieces.{front_behind, on_err}
 use Rattle.tape_tool.specs.Report.{volume_line, volume_lines, files_line}
 use Rattle.tape_tool.proofs.LinesOfVolumes.{lines_more, front_of_lines}
 use Rattle.tape_tool.proofs.write.report.say.Goals as goal
@@ -46,7 +47,7 @@ returns-in_err-write_text-2-clause-front g c =
     let part : AppendsFront (g.W.Write.contents c.loop-volume.writer)
     (g.W.Write.contents c.write_text-2.new.writer) (files_line c.args.files (length all))
     = search rules in
-    on_err c.from_residual-in_err-write_text-2.result _ (front_then _ _ _ _ _ lines part)
+    on_err c.from_residual-in_err-write_text-2.result _ (front_behind _ _ _ _ _ lines part)
 
 pub returns-clause-front : goal.returns-clause-front
 returns-clause-front g c =
