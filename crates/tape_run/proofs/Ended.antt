@@ -1,5 +1,5 @@
 -- A run that a fault ended is where its steps before lead, or at a part that was refused.
-use Rattle.std.proofs.Common.{Bool, ◌≡◌, ℕ, suc, ◌+◌, ◌≤◌, List, [], ◌∷◌, length, map, take, drop}
+use Rattle.std.proofs.Common.{Bool, ◌≡◌, ℕ, suc, ◌≤◌, List, [], ◌∷◌, length, map, take, drop}
 use Rattle.std.proofs.Common.{Option, Some, Result, Ok, Err, refl, sym, ap, subst, ◌∙◌, arith}
 use Rattle.std.proofs.lemmas.List.{drop-map}
 use Rattle.std.specs.Result.{IfErr, IsErrAnd}
@@ -8,9 +8,8 @@ use Rattle.tape_image.specs.Begins.{Stop, Begins}
 use Rattle.tape_set.specs.Layout.{FileSet}
 use Rattle.tape_set.specs.Lawful.{IsLawful}
 use Rattle.tape_set.specs.declared.position.Position.{Position}
-use Rattle.tape_set.specs.Position.{at_part, next_block}
 use Rattle.tape_core.specs.Point.{Point}
-use Rattle.tape_run.specs.Mount.{Happening, IsMount, cut, after_mount}
+use Rattle.tape_run.specs.Mount.{Happening, IsMount}
 use Rattle.tape_run.specs.declared.script.Step.{Step}
 use Rattle.tape_run.specs.declared.script.Step.TheVariants.{Reel, Save, Restart}
 use Rattle.tape_run.specs.declared.fault.RunFault.{RunFault}
@@ -19,7 +18,7 @@ use Rattle.tape_run.specs.declared.fault.RunFault.TheVariants.{OutOfMemory, Othe
 use Rattle.tape_run.specs.Seen.{Seen, AreNotes, IsKept}
 use Rattle.tape_run.specs.History.{Course, course, course_of}
 use Rattle.tape_run.specs.Headline.{Ran, HasStopped, Stops, PutRefused, reels_in}
-use Rattle.tape_run.specs.Steps.{CutShort, Unmoved, ReelFails, SaveFails, RestartFails}
+use Rattle.tape_run.specs.Steps.{StoppedBy, CutShort, Unmoved, ReelFails, SaveFails, RestartFails}
 use Rattle.tape_run.specs.Runs.{RunsUpTo, Fails}
 use Rattle.tape_blocks.specs.Block.{Portion}
 use Rattle.tape_core.specs.State.{State}
@@ -69,26 +68,15 @@ put_refused set old mid new hs bytes c l r xs end stop h b m =
     let there = c.stops set xs end stop h l b m r.session.at in
     let notes : AreNotes set mid.place.file [] mid.notes new.parts =
     notes_grow set mid.place.file [] mid.notes mid.parts new.parts c.grows r.session.notes in
-    let file = c.same_file ∙ r.same_file in
     let start : mid.place.position ≡ (course set old.place.file (course_of old) hs).at =
     ap (λ (z : Course). z.at) (sym r.reached) in
     record {
       session = record { at = there.at; notes = rw (c.same_file, c.notes) notes };
-      same_file = file;
-      n = there.n;
-      content = there.content;
-      refused = there.refused;
-      awaited = subst (λ (q : Position). after_mount set old.place.file q (cut (there.n + 1) h)
-          ≡ next_block (after_mount set old.place.file q (cut there.n h))) start
-          (subst (λ (f : ℕ). after_mount set f mid.place.position (cut (there.n + 1) h)
-          ≡ next_block (after_mount set f mid.place.position (cut there.n h))) r.same_file
-          there.awaited);
-      part = there.part;
+      same_file = c.same_file ∙ r.same_file;
       notes = rw c.notes (ap (λ (z : Course). z.notes) (sym r.reached));
-      position = there.position ∙ (ap (λ (f : ℕ). at_part there.part (after_mount set f
-          mid.place.position (cut there.n h))) r.same_file
-          ∙ ap (λ (p : Position). at_part there.part (after_mount set old.place.file p
-          (cut there.n h))) start);
+      by = subst (λ (q : Position). StoppedBy set old.place.file q xs h new.place new.parts) start
+          (subst (λ (f : ℕ). StoppedBy set f mid.place.position xs h new.place new.parts)
+          r.same_file there);
     }
 
 reel_stops : (set : FileSet) (old mid new : Seen) (hs : List Happening) (b : List ℕ)

@@ -249,7 +249,7 @@ cases_of_stops = record {
   restarts_stop = λ set old new hs readers n. (λ x. x, λ x. x, λ x. x);
   sinks_stop = λ set old new hs readers cause. (λ r. r, λ r. r);
   part_refused = λ set old new hs xs h r.
-      (r.session.at.all, r.same_file, r.refused, r.awaited, r.position, r.notes);
+      (r.session.at.all, r.same_file, r.by.refused, r.by.awaited, r.by.position, r.notes);
   stopped_at = λ old new bytes fault s. (step_is Save s.step s.at, s.are_given, s.count);
   stopped_so = stopped_so;
   nothing_stops_none = λ old new bytes n fault s.

@@ -188,11 +188,11 @@ refused old mid new n cause begun halt ran none =
     let fresh = begun.each worked_set is_lawful refl refl in
     let put = at_first old mid n cause halt fresh.session
     whole_1.0 whole_1.1 whole_1.2 vol_1 whole_1.3 whole_1.4 in
-    let cut_1 = reading 1 (take put.n (replicate 11 true)) in
-    let at : mid.place.position ≡ behind_1 put.n put.part =
-    put.position
-    ∙ (ap (λ f. at_part put.part (far worked_set f (course_of old).at cut_1)) fresh.its_file
-    ∙ ap (λ (c : Course). at_part put.part (far worked_set 1 c.at cut_1)) fresh.course) in
+    let cut_1 = reading 1 (take put.by.n (replicate 11 true)) in
+    let at : mid.place.position ≡ behind_1 put.by.n put.by.part =
+    put.by.position
+    ∙ (ap (λ f. at_part put.by.part (far worked_set f (course_of old).at cut_1)) fresh.its_file
+    ∙ ap (λ (c : Course). at_part put.by.part (far worked_set 1 c.at cut_1)) fresh.course) in
     let file : mid.place.file ≡ 1 = put.same_file ∙ fresh.its_file in
     let no_failure : failed_of ran.which ≡ 0 =
     none_up (failed_of ran.which) mid.failures (sym none ∙ ran.count) in
@@ -207,7 +207,7 @@ refused old mid new n cause begun halt ran none =
     ∙ (ap (λ f. (course worked_set f (course_of mid) both).at) file
     ∙ (ap (λ p. far worked_set 1 (far worked_set 1 p (reading 1 (replicate 11 true)))
     (reading 2 (replicate 10 true))) at
-    ∙ completes put.n put.part)) in
+    ∙ completes put.by.n put.by.part)) in
     record {
       all = r.session.at.all
           ∙ (ap (λ f. before worked_set f new.place.position) (r.same_file ∙ file)

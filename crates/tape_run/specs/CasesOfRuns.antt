@@ -51,12 +51,12 @@ pub record CasesOfStops : Type 0 where
   pub part_refused : (set : FileSet) (old new : Seen) (hs : List Happening) (xs : List TapeItem)
       (h : Happening) (r : PutRefused set old hs xs h new)
       → (new.parts ≡ before set new.place.file new.place.position)
-      × (new.place.file ≡ old.place.file) × (slice_get xs r.n ≡ Some (block r.content))
+      × (new.place.file ≡ old.place.file) × (slice_get xs r.by.n ≡ Some (block r.by.content))
       × (after_mount set old.place.file (course set old.place.file (course_of old) hs).at
-      (cut (r.n + 1) h) ≡ next_block (after_mount set old.place.file
-      (course set old.place.file (course_of old) hs).at (cut r.n h)))
-      × (new.place.position ≡ at_part r.part (after_mount set old.place.file
-      (course set old.place.file (course_of old) hs).at (cut r.n h)))
+      (cut (r.by.n + 1) h) ≡ next_block (after_mount set old.place.file
+      (course set old.place.file (course_of old) hs).at (cut r.by.n h)))
+      × (new.place.position ≡ at_part r.by.part (after_mount set old.place.file
+      (course set old.place.file (course_of old) hs).at (cut r.by.n h)))
       × ((course_of new).notes ≡ (course set old.place.file (course_of old) hs).notes)
   -- the step that was not made is the one of the number that is told
   pub stopped_at : (old new : Seen) (bytes : List (List ℕ)) (fault : RunFault)

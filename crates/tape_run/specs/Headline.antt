@@ -5,12 +5,12 @@
 -- none of the set (`IsHistory`); the notes that the script goes back to exist (`IsHistory`); the
 -- sink holds the parts of the session before (`IsSession`, `IsNew`); no call was refused (`HasRun`,
 -- `IsRead`), or the first one that was ended the run (`HasStopped`).
-use Rattle.std.specs.Prelude.{◌≡◌, ℕ, suc, ◌+◌, ◌≤◌, List, [], ◌∷◌, length, take, drop, IsSome}
+use Rattle.std.specs.Prelude.{◌≡◌, ℕ, suc, ◌≤◌, List, [], ◌∷◌, length, take, drop, IsSome}
 use Rattle.std.specs.Prelude.{Bool, Some, slice_get}
-use Rattle.tape_image.specs.Tape.{TapeItem, block}
+use Rattle.tape_image.specs.Tape.{TapeItem}
 use Rattle.tape_image.specs.Begins.{Stop, Begins}
 use Rattle.tape_core.specs.declared.sink.SinkFault.TheVariants.{Device}
-use Rattle.tape_set.specs.Position.{start, at_part, next_block}
+use Rattle.tape_set.specs.Position.{start}
 use Rattle.tape_set.specs.Layout.{FileSet, file_of}
 use Rattle.tape_set.specs.Lawful.{IsLawful}
 use Rattle.tape_set.specs.Before.{before}
@@ -19,10 +19,11 @@ use Rattle.tape_run.specs.declared.script.Step.TheVariants.{Reel, Save, Restart}
 use Rattle.tape_run.specs.declared.fault.RunFault.{RunFault}
 use Rattle.tape_run.specs.declared.fault.RunFault.TheVariants.{Sink, NoSuchPoint, TooFewReels}
 use Rattle.tape_run.specs.declared.fault.RunFault.TheVariants.{OutOfMemory}
-use Rattle.tape_run.specs.Mount.{Happening, IsMount, cut, after_mount}
+use Rattle.tape_run.specs.Mount.{Happening, IsMount}
 use Rattle.tape_run.specs.History.{Course, course, course_of, IsHistory}
 use Rattle.tape_run.specs.Given.{AreGivenBy, failed_of, counted_up}
 use Rattle.tape_run.specs.Seen.{Seen, IsSession}
+use Rattle.tape_run.specs.Steps.{StoppedBy}
 use Rattle.tape_run.specs.Lead.{Lead, lead, at_start, AreItems, StandsThere, LeadsBy, StopsBy}
 use Rattle.tape_core.specs.Table.{reader_of}
 
@@ -102,24 +103,16 @@ abbrev pub LosesParts : List Step → ℕ → RunFault → Type 0
 LosesParts steps n fault =
     ((note : ℕ) × (slice_get steps n ≡ Some (Restart note))) × (fault ≡ Sink Device)
 
--- Behind these happenings a part of the block that stands behind n items of the reel was refused,
--- which is the one that is awaited there: the session is where the n items lead, in the block at
--- the refused part, with just the parts before that position.
+-- Behind these happenings a part was refused, in the block of the reel that was awaited there: the
+-- session is where the items before it lead, in the block at the refused part, with just the parts
+-- before that position.
 pub record PutRefused (set : FileSet) (old : Seen) (hs : List Happening) (xs : List TapeItem)
     (h : Happening) (new : Seen) : Type 0 where
   pub session : IsSession set new
   pub same_file : new.place.file ≡ old.place.file
-  pub n : ℕ
-  pub content : List ℕ
-  pub refused : slice_get xs n ≡ Some (block content)
-  pub awaited : after_mount set old.place.file (course set old.place.file (course_of old) hs).at
-      (cut (n + 1) h) ≡ next_block (after_mount set old.place.file
-      (course set old.place.file (course_of old) hs).at (cut n h))
-  pub part : ℕ
   pub notes : (course_of new).notes ≡ (course set old.place.file (course_of old) hs).notes
-  pub position : new.place.position
-      ≡ at_part part (after_mount set old.place.file (course set old.place.file
-      (course_of old) hs).at (cut n h))
+  pub by : StoppedBy set old.place.file (course set old.place.file (course_of old) hs).at xs h
+      new.place new.parts
 
 -- The step was not made, for this reason, by a session that these happenings brought where it was,
 -- with these readers left: the session is there still, or at a part that the sink refused.

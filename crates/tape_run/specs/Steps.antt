@@ -79,8 +79,8 @@ pub record StoppedBy (set : FileSet) (file : ℕ) (p : Position) (xs : List Tape
   pub n : ℕ
   pub content : List ℕ
   pub refused : slice_get xs n ≡ Some (block content)
-  pub awaited : after_mount set file p (cut (n + 1) h) ≡ next_block (after_mount set file p (cut n
-      h))
+  pub awaited : after_mount set file p (cut (n + 1) h)
+      ≡ next_block (after_mount set file p (cut n h))
   pub part : ℕ
   pub position : place.position ≡ at_part part (after_mount set file p (cut n h))
 
