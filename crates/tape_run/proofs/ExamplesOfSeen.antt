@@ -31,9 +31,9 @@ one_untold a [] e = absurd (cc)
 one_untold a (b ∷ []) e = absurd (cc)
 one_untold a (b ∷ c ∷ bytes) e = absurd (cc)
 
-came_no_more : (old new : Point) → old.staged ≡ 0
+brings_no_more : (old new : Point) → old.staged ≡ 0
     → BringsNoMore (weighing (comes_now [])) old new → new ≡ old
-came_no_more old new none brings =
+brings_no_more old new none brings =
     (or_nothing ((brings [] none).now new [] (refl, refl))).0
 
 pub cases_of_seen : CasesOfSeen
@@ -49,7 +49,7 @@ cases_of_seen = record {
   told = λ a b all so. sym (so (a ∷ b ∷ []) refl);
   both_told = both_told;
   one_untold = one_untold;
-  brings_no_more = came_no_more;
+  brings_no_more = brings_no_more;
   of_no_parts = λ old new parts none. absurd none;
   carried = λ back old new was is kept carries.
       let (now, has, (still, next, last)) = carries [] was kept in
