@@ -2,7 +2,7 @@
 # make.sh OUT [GATE-LOG]: makes a release of the program from this clone, which is at a commit, with
 # a clean work tree, and has its proofs in crates/*/out (what is not there is proved first).
 #
-# OUT is made anew, and gets
+# OUT is a new folder, or an empty one, and gets
 #   tape-volumes_VERSION_amd64.deb      the program as it was proved and built, over Debian's libc6
 #   tape-VERSION-x86_64-linux.tar.gz    the program linked without any library, and what it is
 #                                       linked from (relink/)
@@ -11,7 +11,8 @@
 #   SHA256SUMS
 # Both packages have man page, completion, pages and an image to try. GATE-LOG is what 'rt ci'
 # printed at this commit; its last line goes into PROVED.txt.
-# The same commit and toolchain give the same bytes: times are the commit's, names are sorted.
+# The same commit and GATE-LOG, with the same toolchain, C compiler and packers, give the same
+# bytes: times are the commit's, names are sorted.
 set -eu
 here=$(dirname "$(readlink -f "$0")")
 out=$(realpath -m "${1:?usage: make.sh OUT [GATE-LOG]}")
@@ -28,6 +29,7 @@ case ${gate:-, 0 failed} in
 *', 0 failed') ;;
 *) fail "the gate's last line is '$gate'" ;;
 esac
+[ ! -e "$out" ] || rmdir "$out" || fail "OUT is there, and is no empty folder"
 docs/man.py --check || fail "the man page is old"
 docs/definitions.py --check || fail "docs/DEFINITIONS.md is old"
 
@@ -37,7 +39,6 @@ SOURCE_DATE_EPOCH=$(git log -1 --format=%ct)
 umask 022
 room=$(mktemp -d)
 trap 'rm -rf "$room"' EXIT
-rm -rf "$out"
 mkdir -p "$out"
 
 # The proofs: each crate's own last line, lowest first.
@@ -98,14 +99,11 @@ sums       (SHA-256)
 T
 cp "$built/tape_tool.stamp" "$out/"
 
-# What both packages have: pages, an image to try.
+# What both packages have: all pages, so that their links lead somewhere, and an image to try.
 papers() {
-    mkdir -p "$1/docs" "$1/examples"
-    cp README.md "$out/PROVED.txt" "$1/"
-    for it in CHANGELOG.md CONTRIBUTING.md; do
-        [ ! -f "$it" ] || cp "$it" "$1/"
-    done
-    cp docs/*.md docs/page.html "$1/docs/"
+    mkdir -p "$1/examples"
+    git ls-files -z '*.md' docs/page.html ':!.github' | xargs -0 cp --parents -t "$1"
+    cp "$out/PROVED.txt" "$1/"
     cp crates/tape_tool/stdin "$1/examples/reel.tap"
 }
 

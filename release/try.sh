@@ -23,7 +23,7 @@ cp -R "$top"/crates/tape_tool/{args,data,stdin,stdout} "$root/try/crates/tape_to
 find "$root/usr" "$root/etc" -xdev | LC_ALL=C sort >"$out.before"
 
 inside sh -c 'dpkg -i /try/*.deb'
-inside dpkg -L tape-volumes | grep -v '/docs/'
+inside dpkg -L tape-volumes | grep -v '\.md$'
 inside tape --version
 inside sh -c 'cd /try/crates/tape_tool/data && tape $(cat ../args) | cmp - ../stdout'
 inside cat /usr/share/doc/tape-volumes/copyright
