@@ -41,6 +41,17 @@ LEGEND = (("block", "a block"), ("label", "a label"), ("mark", "a tape mark"),
           ("bad", "a block that could not be read"), ("end", "here the image breaks off"))
 
 
+def rows_of(paths):
+    """The rows of the survey of any number of images. Status 3 says that something lacks."""
+    names = b"".join(os.fsencode(path) + b"\0" for path in paths)
+    done = subprocess.run([TAPE, "survey", "--tsv", "--from", "-", "--null"],
+                          input=names, stdout=subprocess.PIPE, check=False)
+    if done.returncode not in (0, 3):
+        sys.exit("page.py: tape survey failed")
+    lines = done.stdout.decode("utf-8", "replace").split("\n")
+    return [line.split("\t") for line in lines if "\t" in line]
+
+
 def told(*words):
     """What the program prints, with its fault line behind, as lines."""
     done = subprocess.run([TAPE, *words], capture_output=True, check=False)
@@ -105,7 +116,7 @@ def file_row(row, sections):
 
 
 def main(paths):
-    rows = [line.split("\t") for line in told("survey", "--tsv", *paths) if "\t" in line]
+    rows = rows_of(paths)
     images = [row for row in rows if row[0] == "IMAGE"]
     sections = collections.defaultdict(list)
     for row in sorted((r for r in rows if r[0] == "SECTION"), key=lambda r: int(r[3])):
