@@ -43,6 +43,23 @@ COMMANDS = {
         ("--offset N", "OFFSET"), ("--pad-full", "PAD_FULL"), ("--form lines|raw", "FORM")]),
 }
 
+# Where more is said: a term and what it has, each as roff.
+SEE_ALSO = """\
+In the pages of the package, as
+.IR /usr/share/doc/tape\\-volumes/docs :
+.TP
+.B GUIDE.md
+from a shelf of reels to files, and every fault
+.TP
+.B RECIPES.md
+what archives ask of reels, in a line of shell each
+.TP
+.B FORMATS.md
+images, labels, stages, and every line that is printed
+.TP
+.B PROVED.md
+what is proved, and what is only tested""".split("\n")
+
 # The options of every command.
 OPTIONS = [("--explain", "EXPLAIN")]
 
@@ -54,7 +71,8 @@ def read(*path):
 
 def texts():
     """The texts of help.rt and help/ by their names."""
-    parts = (("help.rt",), ("help", "lists.rt"), ("help", "stage.rt"), ("help", "unpack.rt"), ("help", "volumes.rt"))
+    below = [("help", f"{name}.rt") for name in ("lists", "stage", "unpack", "volumes")]
+    parts = [("help.rt",), *below]
     source = "".join(read(SOURCE, *part) for part in parts)
     found = re.findall(r'pub const (\w+): &str =\s*"((?:[^"\\]|\\.)*)";', source, re.S)
     return {name: unescaped(text) for name, text in found}
@@ -164,11 +182,20 @@ def usage(name):
     return f".B tape {name}\n{escaped(COMMANDS[name][0])}"
 
 
+def defaults(name):
+    """What stands for the options of a command that are left out, as its help tells it."""
+    found = re.findall(r'Word\(\s*"([\w-]+)",\s*Kind::\w+Option\([^()]*&\["(\w+)"\]\)',
+                       read(SOURCE, name, "words.rt"))
+    return {"--" + option: f" [default: {value}]" for option, value in found}
+
+
 def command_part(name, said):
     """What is said of a command."""
     out = [f".SS {quoted('tape ' + name)}", escaped(said["ABOUT_" + name.upper()]) + "."]
+    left_out = defaults(name)
     for word, text in COMMANDS[name][1]:
-        out += [".TP", f".B {escaped(word)}", escaped(said[text])]
+        default = left_out.get(word.split(" ")[0], "")
+        out += [".TP", f".B {escaped(word)}", escaped(said[text] + default)]
     return out + [".PP", *paragraphs(said["AFTER_" + name.upper()])]
 
 
@@ -189,7 +216,7 @@ def page():
     for name in COMMANDS:
         out += command_part(name, said)
     out += titled(said["AFTER"])
-    out += [".SH SEE ALSO", "What is proved, and what is only tested, tells the program's README."]
+    out += [".SH SEE ALSO", *SEE_ALSO]
     return "\n".join(out) + "\n"
 
 
