@@ -159,9 +159,9 @@ Section: utils
 Priority: optional
 Description: reads and writes ANSI labelled magnetic tapes in .tap images
  Lists, checks and extracts files on volumes with the labels of ECMA-13 (ANSI
- X3.27, ISO 1001), from SIMH .tap images of reels in any order, damaged, cut
- or mixed with others, and writes such volumes. What it reads and writes is
- proved against definitions: PROVED.txt and docs/PROVED.md.
+ X3.27, ISO 1001), from SIMH .tap images of reels, damaged, cut or mixed with
+ others, and writes such volumes. What it reads and writes is proved against
+ definitions: PROVED.txt and docs/PROVED.md.
 T
 (cd "$deb" && find usr -type f -print0 | sort -z | xargs -0 md5sum) >"$deb/DEBIAN/md5sums"
 settle "$deb"
