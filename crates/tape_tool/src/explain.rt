@@ -8,6 +8,7 @@ use files::{
 };
 use std::fmt;
 use tape_image::{ImageCause, ImageFault};
+use tape_run::RunFault;
 use tape_writer::Prefix;
 
 /// What the program was at when a fault came, where it knows that.
@@ -78,10 +79,23 @@ pub struct Explanation<'a> {
 impl fmt::Display for Explanation<'_> {
     fn fmt<W: fmt::Write>(&self, f: &mut fmt::Formatter<W>) -> fmt::Result {
         let text = text_of(self.fault, self.site);
-        if text != NO_MEMORY && is_at(self.fault, self.site) {
-            write!(f, "{}", self.site)?;
+        let site = site_of(self.fault, self.site);
+        if text != NO_MEMORY && is_at(self.fault, site) {
+            write!(f, "{site}")?;
         }
         f.write_str(text)
+    }
+}
+
+/// Where it is told to have come: the folder of `unpack` has a stage for each file.
+fn site_of<'a>(fault: ToolFault, site: Site<'a>) -> Site<'a> {
+    let is_stage = matches!(
+        fault,
+        ToolFault::Stage(_) | ToolFault::StageInUse | ToolFault::Run(RunFault::OtherFile)
+    );
+    match site {
+        Site::Folder(_) if is_stage => Site::Stage(STAGE_OF_FAILED),
+        _ => site,
     }
 }
 
@@ -140,11 +154,14 @@ fn nth(texts: &'static [&'static str], number: u8) -> &'static str {
     }
 }
 
+/// The stage of the file at which `unpack` ended, by the line of that file.
+const STAGE_OF_FAILED: &str = "the path told as FAILED, with .stage behind it";
+
 // The texts of each kind of fault, in the order of its numbers.
 
 /// What the program never tells.
 const NEVER: &str = "  Nothing that was asked for leads to this: the program itself is wrong.
-  Please report it, with the command line.
+  What a report of it has to hold stands in CONTRIBUTING.md.
 ";
 
 const NO_MEMORY: &str = "  There was not enough memory. What was written before it stays.
@@ -169,7 +186,7 @@ const IMAGE: &[&str] = &[
   What was listed is right. Copy it again, or 'extract' from another copy too.
 ",
     "  The image has more than 4,294,967,295 bytes, and is not read behind them.
-  What was listed is right.
+  What was listed is right, and all that can be read of it here.
 ",
     "  Reading the image failed there: it is a folder, or the disk fails.
   What was listed is right. Copy the image to another disk, and list the copy.
@@ -196,8 +213,8 @@ const WRITE: &[&str] = &[
     "  Blocks and records of these lengths are not written. Nothing was written.
   'tape write --help' tells what --block, --record, --offset, --pad-full take.
 ",
-    "  CAPACITY is less than 1,024 or than the block length. Nothing was written.
-  Name a greater one.
+    "  CAPACITY is less than the block length and 1,024 bytes together. Nothing was
+  written. Name a greater one: with the default --block of 2048 at least 3072.
 ",
     "  A record is too long, or with F not as long as --record says.
   Images that were begun are not blank any more: remove them. Then name greater
@@ -226,12 +243,12 @@ const RUN: &[&str] = &[
     NEVER,
     NO_MEMORY,
     "  It is the stage of another file, or of another set, and stays as it is.
-  Name the SET and FILE that it was begun with, or another stage.
+  Name the SET and FILE that it is of, or another stage; else move it away.
 ",
 ];
 
 const STAGE: &[&str] = &[
-    "  It is no stage, and was left as it is. Is the name right?
+    "  It is no stage, and was left as it is. Is the name right? If so move it away.
   A file of at most 256 bytes may be left by a first run that was stopped:
   nothing is in it, and it may be removed.
 ",
@@ -245,7 +262,7 @@ const STAGE: &[&str] = &[
     NEVER,
     NEVER,
     "  Another run has it open. Nothing was read of it, and nothing changed.
-  Wait until that run has ended, or name another stage.
+  Wait until that run has ended, and call again.
 ",
 ];
 

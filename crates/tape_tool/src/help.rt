@@ -31,7 +31,8 @@ pub const EXPLAIN: &str = "Tells a fault in words too: what stands now, and what
 pub const AFTER: &str = "Examples:
   tape list reel.tap
   zcat reel.tap.gz | tape list
-  for f in *.tap; do why=$(tape list \"$f\" 2>&1 >\"$f.txt\") || echo \"$f: $why\"; done
+  mkdir ../lists
+  for f in *.tap; do why=$(tape list \"$f\" 2>&1 >\"../lists/$f.txt\") || echo \"$f: $why\"; done
 
 Exit status: 0 done, 1 a fault, 2 a wrong command line, 3 something is missing or still wanted.
 A fault is one line on standard error: 'tape: KIND fault NUMBER'; of an image, with the place of
@@ -43,7 +44,7 @@ Faults of an image:
   2  the lengths before and behind a block differ            damaged there, or no .tap image
   3  a word that begins nothing                              at 0: no .tap image, or compressed
                                                              (zcat); else damaged there
-  4  longer than 4,294,967,295 bytes                         no image that can be read here
+  4  longer than 4,294,967,295 bytes                         only what is before can be read
   5  reading it failed                                       a folder, or a failing disk
   6  no memory
 
@@ -82,7 +83,8 @@ pub const PLACES: &str = "Tells the place and the size of each item before its l
 pub const AFTER_LIST: &str = "Examples:
   tape list reel.tap
   zcat reel.tap.gz | tape list
-  for f in *.tap; do why=$(tape list \"$f\" 2>&1 >\"$f.txt\") || echo \"$f: $why\"; done
+  mkdir ../lists
+  for f in *.tap; do why=$(tape list \"$f\" 2>&1 >\"../lists/$f.txt\") || echo \"$f: $why\"; done
 
 A line: a number, the kind, and what the label says.
   000001 VOL1 ABC001                                  volume
@@ -207,7 +209,8 @@ pub const ONE_IMAGE: &str = "list takes one image; for several of them:
   for f in *.tap; do echo \"$f\"; tape list \"$f\"; done";
 
 /// What `extract` does.
-pub const ABOUT_EXTRACT: &str = "Gets a file back from the images of its set, in any order";
+pub const ABOUT_EXTRACT: &str =
+    "Gets a file back from the images of its set, with --again in any order";
 
 /// What SET is.
 pub const SET: &str = "The set identifier, up to 6 characters: that of its first volume";
@@ -282,10 +285,10 @@ that completes the file are not read. A line for each:
   REEL n BAD ITEM                 a block that is needed cannot be read: try another copy
   REEL n REEL ENDED               the reel ends before the section does: try another copy
   REEL n BAD BLOCK CAUSE PLACE    the block is no block of the file's format
-  REEL n BLOCK COUNT LABEL SEEN   the trailer counts other blocks than were read: one was lost
+  REEL n BLOCK COUNT LABEL SEEN   its trailer counts others: a block was lost, or stands there twice
   REEL n BROKEN                   nothing is read behind a wrong count
   REEL n SPAN LEFT                the last section ends inside a record
-  REEL n SECTION DIFFERS          labels that do not fit to those of the file
+  REEL n SECTION DIFFERS          labels that do not fit those of the file
   REEL n BAD LABEL CAUSE          a label that cannot be read
 Behind them stands ' IMAGE CAUSE PLACE' where the image itself ended the reading ('tape --help' has
 the causes). The last line is 'COMPLETE n', with the number of records, or what is still wanted:

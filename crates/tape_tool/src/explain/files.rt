@@ -24,7 +24,7 @@ pub const FILE_OF_LINES: &[&str] = &[
     NEVER,
     NEVER,
     "  It takes no more: a full disk, or a pipe that was closed, as by 'head'.
-  What was printed is right.
+  What was printed is right, and what was made stays. On a full disk make room.
 ",
 ];
 
@@ -56,6 +56,7 @@ pub const FILE_OF_LIST: &[&str] = &[
   Is the name right, and may you read it?
 ",
     "  Reading it failed: it is a folder, or the disk fails. No image was read.
+  Name a file, or copy the list to another disk, and call again.
 ",
     NEVER,
 ];

@@ -31,7 +31,8 @@ Exit status: 0 all were made, 1 a fault, 2 a wrong command line.";
 pub const ABOUT_WRITE: &str = "Writes files on labelled volumes, as images";
 
 /// What CAPACITY is.
-pub const CAPACITY: &str = "The most bytes of an image, at least 1,024 and the block length";
+pub const CAPACITY: &str =
+    "The most bytes of an image, at least the block length and 1,024 together";
 
 /// What ID=PATH is.
 pub const FILES: &str = "A file: its identifier, up to the first '=', and where its records are";
@@ -85,7 +86,7 @@ or ended stay; they are not blank any more, and have to go before the command is
 
 Faults of a label:                            Faults of writing:
   6  a character of ID is none of labels        2  blocks of these lengths are not written
-     (A to Z, 0 to 9, space and                 3  CAPACITY is less than 1,024 and the block length
+     (A to Z, 0 to 9, space and                 3  CAPACITY is less than 1,024 and a block together
      ! \" % & ' ( ) * + , - . / : ; < = > ? _)   4  a record is too long, or with F not as long
   7  ID is longer than 17                       7  the 257th volume is wanted
                                                 8  more than 9,999 files

@@ -10,6 +10,7 @@ use std::process::Abort;
 use std::test::Fail;
 use tape_image::{ImageCause, ImageFault};
 use tape_run::RunFault;
+use tape_stage::StageFault;
 use tape_writer::Prefix;
 
 /// Whether the text has one to three lines of at most 79 columns, none of them empty.
@@ -79,6 +80,7 @@ const SITES: &[(&str, Option<Site<'_>>)] = &[
         "extract ABC001 1 lost/told.txt told.tap --explain",
         Some(Site::Out("lost/told.txt")),
     ),
+    ("unpack lost told.tap --explain", Some(Site::Folder("lost"))),
 ];
 
 /// The line ends by a fault, which is told to have come there.
@@ -159,6 +161,26 @@ const TOLD: &[(ToolFault, Site<'_>, &str)] = &[
         ToolFault::Run(RunFault::OtherFile),
         Site::Stage("s"),
         "  Stage: s\n  It is the stage of another file,",
+    ),
+    (
+        ToolFault::Stage(StageFault::NoPoint),
+        Site::Folder("d"),
+        "  Stage: the path told as FAILED, with .stage behind it\n  It is no stage, and was left",
+    ),
+    (
+        ToolFault::StageInUse,
+        Site::Folder("d"),
+        "  Stage: the path told as FAILED, with .stage behind it\n  Another run has it open.",
+    ),
+    (
+        ToolFault::Run(RunFault::OtherFile),
+        Site::Folder("d"),
+        "  Stage: the path told as FAILED, with .stage behind it\n  It is the stage of another",
+    ),
+    (
+        ToolFault::File(FileFault::WriteFailed),
+        Site::Folder("d"),
+        "  DIR: d\n  A file in it, or standard output, takes no more:",
     ),
     (
         ToolFault::Run(RunFault::OutOfMemory),
