@@ -63,7 +63,7 @@ pub const FILE_OF_LIST: &[&str] = &[
 
 pub const FILE_OF_OUT: &[&str] = &[
     "  It may keep a tape, and was left as it is: an image, compressed, or a stage.
-  OUT stands before the images: tape extract SET FILE OUT IMAGE..
+  With 'extract' it stands before the images: SET FILE OUT IMAGE..
   Name another OUT, or remove the file if you do not need it.
 ",
     "  It could not be opened or made. What a stage keeps stays.
