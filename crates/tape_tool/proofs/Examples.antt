@@ -1,13 +1,15 @@
 -- The cases of ends, faults, lines, names and sessions over stages.
-use Rattle.std.proofs.Common.{◌≡◌, refl, ap, get_or, arith, Bool, true, false, [], inl, inr}
+use Rattle.std.proofs.Common.{◌≡◌, refl, ap, get_or, arith, Bool, true, false, [], inl, inr, subst}
 use Rattle.std.specs.Fmt.{digits}
 use Rattle.tape_stage.specs.declared.disk.Disk.{Ghosts}
+use Rattle.tape_stage.proofs.Once.{staged_once}
 use Rattle.std.proofs.lemmas.List.Splits.{join_with_byte-slice_split}
 use Rattle.tape_tool.specs.Cases.{CasesOfEnds, CasesOfFaults, CasesOfLines, CasesOfNames}
 use Rattle.tape_tool.specs.Cases.{CasesOfStaging}
 use Rattle.tape_tool.specs.declared.program.End.TheVariants.{Done, Incomplete}
 use Rattle.tape_tool.specs.Ends.{exit_status, IsWrongWords}
 use Rattle.tape_tool.specs.Names.{end_byte, names_in}
+use Rattle.tape_tool.specs.Staging.{IsOfFile}
 
 never_done : IsWrongWords Done → ⊥
 never_done (inl e) = absurd (let n : 0 ≡ 2 = ap exit_status e in omega arith)
@@ -90,7 +92,13 @@ cases_of_staging disk = record {
   goes_on = λ set_id read file session g. (g.staged, g.of_file.0, g.of_file.1, g.stands);
   none_staged = λ set_id read file. (λ says. says tt, λ says. says tt);
   of_another = λ set_id read file n point parts says staged set is.
-      says n point parts staged (set, is);
+      let same = staged_once read n says.0 point says.1 parts says.2 staged says.3 in
+      says.4 (subst (IsOfFile set_id file) same.1 (set, is));
+  none_of_another = λ set_id read file none says. none says.0 says.1 says.2 says.3;
+  of_another_set = λ set_id read file n point parts staged other.
+      (n, point, parts, staged, λ own. other own.0);
+  of_another_file = λ set_id read file n point parts staged other.
+      (n, point, parts, staged, λ own. other own.1);
   unopened = (tt, tt, tt);
   opened = (λ h. h, λ h. h);
   none_told = (tt, tt);

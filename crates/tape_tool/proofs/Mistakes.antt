@@ -12,7 +12,7 @@ use Rattle.tape_core.specs.State.{State}
 use Rattle.tape_set.specs.declared.position.Position.TheVariants.{Awaits}
 use Rattle.tape_set.specs.declared.position.Want.{Want}
 use Rattle.tape_set.specs.Position.{sect_of}
-use Rattle.tape_stage.specs.Staged.{Staged}
+use Rattle.tape_stage.specs.Staged.{HoldsNone, Staged}
 use Rattle.tape_writer.specs.declared.fault.WriteFault.TheVariants as write_faults
 use Rattle.tape_tool.specs.declared.program.End.TheVariants as ends
 use Rattle.tape_writer.specs.declared.system.fault.FileFault.TheVariants as file_faults
@@ -22,7 +22,7 @@ use Rattle.tape_tool.specs.Ends.{exit_status}
 use Rattle.tape_tool.specs.Fault.{no_memory}
 use Rattle.tape_stage.specs.declared.stage.StageFault.TheVariants as stage_faults
 use Rattle.tape_tool.specs.declared.staging.StagingFault.TheVariants as staging_faults
-use Rattle.tape_tool.specs.Staging.{IsOfFile, SaysNoStage}
+use Rattle.tape_tool.specs.Staging.{IsOfFile, Says, SaysNoStage}
 use Rattle.tape_tool.proofs.program.End.status.Reads as status
 use Rattle.tape_tool.proofs.program.end_of.Reads as end_of
 use Rattle.tape_tool.proofs.program.damaged_end.Reads as damaged_end
@@ -165,6 +165,16 @@ empty_disk_told_as_no_stage : (D : _) (L : _) (g : _) (d : _) (e : _) (κs : _) 
     → g.length_of a.1.0 ≡ 0 → refused.fault ≡ staging_faults.Stage stage_faults.NoPoint → ⊥
 empty_disk_told_as_no_stage D L g d e κs a refused s l empty told =
     l.not_none empty (subst SaysNoStage (sym told) tt)
+
+-- no_stage_told_as_another_file: a file that is no stage is told as the stage of another file
+no_stage_told_as_another_file : (D : _) (L : _) (g : _) (d : _) (e : _) (κs : _) (a : _)
+    (refused : _) (s : _) → open_session.Learnt-named D L g d e κs a (Err refused) s
+    → g.is_honest a.1.0 → (g.length_of a.1.0 ≡ 0 → ⊥) → HoldsNone (g.seen a.1.0)
+    → refused.fault ≡ staging_faults.OtherFile → ⊥
+no_stage_told_as_another_file D L g d e κs a refused s l honest some none told =
+    let says : Says a.1.1.0 a.1.1.1.0 (g.seen a.1.0) staging_faults.OtherFile
+    = subst (Says a.1.1.0 a.1.1.1.0 (g.seen a.1.0)) told (l.says honest some) in
+    none says.0 says.1 says.2 says.3
 
 -- stage_of_another_file_emptied: what is staged of another file is gone from the disk
 stage_of_another_file_emptied : (D : _) (L : _) (g : _) (d : _) (e : _) (κs : _) (a : _)

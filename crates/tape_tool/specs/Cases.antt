@@ -200,6 +200,16 @@ pub record CasesOfStaging {D : Type 0} (disk : Ghosts D) : Type 0 where
   pub of_another : (set_id read : List ℕ) (file n : ℕ) (point : Point) (parts : List Portion)
       → Says set_id file read staging.OtherFile → Staged read n point parts
       → point.set_id ≡ set_id → point.file ≡ file → ⊥
+  -- and it stands for one: what is no stage is never told to be another file's
+  pub none_of_another : (set_id read : List ℕ) (file : ℕ) → HoldsNone read
+      → Says set_id file read staging.OtherFile → ⊥
+  -- each stage of another set is one, and each of another file
+  pub of_another_set : (set_id read : List ℕ) (file n : ℕ) (point : Point) (parts : List Portion)
+      → Staged read n point parts → (point.set_id ≡ set_id → ⊥)
+      → Says set_id file read staging.OtherFile
+  pub of_another_file : (set_id read : List ℕ) (file n : ℕ) (point : Point) (parts : List Portion)
+      → Staged read n point parts → (point.file ≡ file → ⊥)
+      → Says set_id file read staging.OtherFile
   -- what is no stage, and one for which there was no memory, was not opened
   pub unopened : IsUnopened (staging.Stage stages.NoPoint)
       × IsUnopened (staging.Stage (stages.BadFrame 300))

@@ -55,11 +55,13 @@ pub record GoesOn {D : Type 0} {disk : Ghosts D} (set_id : List ℕ) (file : ℕ
   pub of_file : IsOfFile set_id file point
   pub stands : StandsAt point parts session
 
--- What the fault says of the bytes that were read.
+-- What the fault says of the bytes that were read: that they stand for nothing, or that they stand
+-- for a checkpoint of another file or set.
 abbrev pub Says : List ℕ → ℕ → List ℕ → StagingFault → Type 0
 Says set_id file read (faults.Stage fault) = SaysNone fault → HoldsNone read
-Says set_id file read faults.OtherFile = (generation : ℕ) (point : Point) (parts : List Portion)
-    → Staged read generation point parts → IsOfFile set_id file point → ⊥
+Says set_id file read faults.OtherFile = (generation : ℕ) × (point : Point)
+    × (parts : List Portion) × Staged read generation point parts
+    × (IsOfFile set_id file point → ⊥)
 
 -- No stage was opened, and the disk did not fail.
 abbrev pub IsUnopened : StagingFault → Type 0

@@ -2,6 +2,7 @@ use Rattle.std.proofs.Common.{ℕ, List, sym, subst}
 use Rattle.tape_stage.specs.Staged.{HoldsNone, KeepsStaged}
 use Rattle.tape_stage.proofs.Refusals.{untouched_by, untouched_then}
 use Rattle.tape_stage.proofs.Results.{if_err, if_ok}
+use Rattle.tape_tool.specs.Staging.{Says}
 use Rattle.tape_tool.proofs.Sessions.{looked, looked_then}
 use Rattle.tape_tool.proofs.staging.open_session.Goals as goal
 
@@ -15,6 +16,13 @@ returns-in-Ok-clause-foreign g c honest filled none =
     if_err c.resume.result (λ refused then. untouched_then g.D.Disk d0 d1 refused.disk asked then)
     (c.resume.ensures.foreign (c.len.ensures.honest.onward honest)
     (subst HoldsNone (sym same) none))
+
+pub returns-in-Ok-clause-says : goal.returns-in-Ok-clause-says
+returns-in-Ok-clause-says g c honest filled =
+    if_err c.resume.result (λ refused says. subst
+    (λ (read : List ℕ). Says c.args.set_id c.args.file read refused.fault)
+    (c.len.ensures.same honest) says)
+    (c.resume.ensures.says (c.len.ensures.honest.onward honest))
 
 pub returns-in-Ok-clause-kept : goal.returns-in-Ok-clause-kept
 returns-in-Ok-clause-kept g c honest filled =

@@ -5,6 +5,7 @@ use Rattle.tape_tool.specs.Staging.{IsOfFile}
 use Rattle.tape_stage.specs.declared.stage.Stage.{Stage}
 use Rattle.tape_stage.proofs.Refusals.{opened_keeps}
 use Rattle.tape_tool.proofs.Sessions.{stands_at}
+use Rattle.tape_tool.proofs.WordsOfWriting.{never}
 use Rattle.tape_tool.proofs.staging.resume.Goals as goal
 
 pub returns-then-same_file-clause-goes_on : goal.returns-then-same_file-clause-goes_on
@@ -28,6 +29,11 @@ returns-then-same_file-clause-file g c =
     let of_file : IsOfFile c.args.set_id c.args.file c.in-Ok.point =
     c.if-same_file.ensures.0 refl in
     (ap (λ (s : State). s.set_id) place ∙ of_file.0, ap (λ (s : State). s.file) place ∙ of_file.1)
+
+pub returns-else-same_file-clause-says : goal.returns-else-same_file-clause-says
+returns-else-same_file-clause-says g c honest =
+    let read = c.in-Ok.ensures.resumes honest in
+    (read.0, c.in-Ok.point, read.1, read.2, λ own. never (c.if-same_file.ensures.1 own))
 
 pub returns-else-same_file-clause-foreign : goal.returns-else-same_file-clause-foreign
 returns-else-same_file-clause-foreign g c honest none =
