@@ -1,13 +1,15 @@
 -- The cases of the words of a command line.
 use Rattle.std.proofs.Common.{◌≡◌, ◌≢◌, ◌≤◌, ◌<◌, ℕ, Bool, true, false, List, [], ◌∷◌, length}
 use Rattle.std.proofs.Common.{Bor, Option, Some, None, refl, sym, ap, ◌∙◌, subst, inl, inr, arith}
-use Rattle.std.proofs.Common.{codes, get_or, lit<, zero, suc}
+use Rattle.std.proofs.Common.{codes, get_or, lit<, zero, suc, ◌^◌, cond, drop, ne_eqb}
 use Rattle.std.proofs.lemmas.List.Elements.{All-cons, All-nil}
 use Rattle.std.specs.List.{Contains}
+use Rattle.std.specs.Char.{digit_value}
 use Rattle.std.specs.Str.Parse.{IsNumeral, digits_value, without_leading_plus}
-use Rattle.std.specs.Prelude.{option_map, IfSome}
+use Rattle.std.proofs.lemmas.Fmt.{decimal_is_IsNumeral}
+use Rattle.std.specs.Prelude.{option_map, IfSome, decimal}
 use Rattle.std.specs.Fmt.{digits}
-use Rattle.clap.specs.Words.{Row, kind_of}
+use Rattle.clap.specs.Words.{Row, kind_of, one_of}
 use Rattle.clap.specs.declared.error.Error.{Error}
 use Rattle.clap.specs.declared.error.kind.ErrorKind.{ErrorKind}
 use Rattle.clap.specs.declared.error.kind.ErrorKind.TheVariants.{OutOfMemory, ValueValidation}
@@ -22,7 +24,7 @@ use Rattle.tape_tool.specs.declared.words.Order.TheVariants as orders
 use Rattle.tape_tool.specs.CasesOfWords.{CasesOfWords, CasesOfOrders, shelf}
 use Rattle.tape_tool.specs.Words.{AsksToExtract, AsksToInit, AsksToUnpack, IsDashOrMore, IsFlag}
 use Rattle.tape_tool.specs.Words.{IsNoExtract, IsNoInit, IsNoSet, IsNoUnpack, IsOrderIn}
-use Rattle.tape_tool.specs.Words.{NamesImages}
+use Rattle.tape_tool.specs.Words.{IsNumber, NamesImages}
 use Rattle.tape_tool.specs.Words.{RefusedFor, is_in_rows, texts_of_one}
 
 abbrev bit : Bool → ℕ
@@ -99,14 +101,48 @@ lacks : (byte : ℕ) → byte ≢ 61 → Contains (byte ∷ []) 61 → ⊥
 lacks byte other (zero, _, e) = other e
 lacks byte other (suc k, within, _) = absurd (let n : suc k < 1 = within in omega (arith, n))
 
+-- the value of digits, behind a plus sign too
+abbrev value_of : List ℕ → ℕ
+value_of text = digits_value 10 (without_leading_plus text)
+
+four : IsNumeral 10 (codes "9000")
+four = (lit< tt, (lit< tt, (lit< tt, (lit< tt, (lit< tt, tt)))))
+
+other_four : IsNumeral 10 (codes "2048")
+other_four = (lit< tt, (lit< tt, (lit< tt, (lit< tt, (lit< tt, tt)))))
+
+-- digits have no plus sign before them
+no_plus : (text : List ℕ) → IsNumeral 10 text → without_leading_plus text ≡ text
+no_plus [] numeral = refl
+no_plus (c ∷ text) numeral = ap (λ (b : Bool). drop (cond b 1 0) (c ∷ text))
+    (ne_eqb c 43 (λ e. absurd (let d : 36 < 10
+    = subst (λ (x : ℕ). digit_value x < 10) e numeral.1.0 in omega (arith, d))))
+
+-- a number in its plain digits is one
+plain : (bits n : ℕ) (rows : List Row) (word : List ℕ) → n < 2 ^ bits → n < 2 ^ 64
+    → one_of word rows ≡ Some (decimal n) → IsNumber bits rows word n
+plain bits n rows word fits short is =
+    let numeral = decimal_is_IsNumeral n short in
+    let same = no_plus (decimal n) numeral.0 in (
+      decimal n,
+      is,
+      subst (IsNumeral 10) (sym same) numeral.0,
+      ap (digits_value 10) same ∙ numeral.1,
+      fits,
+    )
+
 pub cases_of_words : CasesOfWords
 unfolding digits
 cases_of_words = record {
   text = refl;
   none = (refl, refl);
   texts = refl;
-  number = (lit< tt, refl);
-  fits = λ rows h. absurd (let n : 65536 < 65536 = h.0 in omega (arith, n));
+  number = (codes "12", refl, (lit< tt, (lit< tt, (lit< tt, tt))), refl, lit< tt);
+  fits = λ rows h. absurd (let n : 65536 < 65536 = h.4 in omega (arith, n));
+  plus = (codes "+80", refl, (lit< tt, (lit< tt, (lit< tt, tt))), refl, lit< tt);
+  plus_alone = λ n h. sym h.3 ∙ ap value_of (sym (text_is h.1));
+  zeros = λ n h. sym h.3 ∙ ap value_of (sym (text_is h.1));
+  plain = plain;
   given = λ is_given f. f.given refl;
   left_out = λ is_given f. f.left_out refl;
   not_there = λ is_given f. f.none refl;
@@ -114,15 +150,15 @@ cases_of_words = record {
   form_lines = λ form f. f.lines refl;
   form_default = λ f. missing (f.only_raw refl);
   has_number = (
-    (codes "4", refl, (lit< tt, (lit< tt, tt)), lit< tt),
-    (codes "+04", refl, (lit< tt, (lit< tt, (lit< tt, tt))), lit< tt),
+    (4, (codes "4", refl, (lit< tt, (lit< tt, tt)), refl, lit< tt)),
+    (4, (codes "+04", refl, (lit< tt, (lit< tt, (lit< tt, tt))), refl, lit< tt)),
   );
   no_number = (
-    λ h. missing h.1,
+    λ h. missing h.1.1,
     λ h. absurd (let n : 20 < 10 = (subst (λ t. IsNumeral 10 (without_leading_plus t))
-        (sym (text_is h.1)) h.2).1.1.0 in omega (arith, n)),
-    λ h. absurd (let n : 256 < 256 = subst (λ t. digits_value 10 (without_leading_plus t) < 256)
-        (sym (text_is h.1)) h.3 in omega (arith, n)),
+        (sym (text_is h.1.1)) h.1.2).1.1.0 in omega (arith, n)),
+    λ h. absurd (let n : 256 ≡ h.0 = ap value_of (text_is h.1.1) ∙ h.1.3 in
+        let fits : h.0 < 256 = h.1.4 in omega (arith, n, fits)),
   );
   paths = All-cons (λ w. Contains w 61) (codes "A=a") (codes "=b=" ∷ []) (1, lit< tt, refl)
       (All-cons (λ w. Contains w 61) (codes "=b=") [] (0, lit< tt, refl)
@@ -199,7 +235,7 @@ cases_of_orders = record {
   survey_words = λ order a. told_in_words order.wording (a.wording.none refl);
   extract = λ order a. (
     a.task.set_id,
-    a.task.file 2 (lit< tt, refl),
+    a.task.file 2 (codes "2", refl, (lit< tt, (lit< tt, tt)), refl, lit< tt),
     a.task.out,
     a.task.form.raw refl,
     a.task.stage,
@@ -218,19 +254,27 @@ cases_of_orders = record {
     a.damaged.given refl,
   );
   stage_dash = λ order a. never_dash order.out a.out a.named;
-  init = λ order a. (a.folder, a.prefix, a.count 12 (lit< tt, refl));
+  init = λ order a. (
+    a.folder,
+    a.prefix,
+    a.count 12 (codes "12", refl, (lit< tt, (lit< tt, (lit< tt, tt))), refl, lit< tt),
+  );
   no_init = no_init;
   write = λ order a. (
     a.folder,
     a.prefix,
-    a.capacity 9000 (lit< tt, refl),
+    a.capacity 9000 (codes "9000", refl, four, refl, lit< tt),
     a.files,
     a.counted refl,
-    a.block 2048 (lit< tt, refl),
-    a.rec_len 80 (lit< tt, refl),
-    a.offset 4 (lit< tt, refl),
+    a.block 2048 (codes "2048", refl, other_four, refl, lit< tt),
+    a.rec_len 80 (codes "80", refl, (lit< tt, (lit< tt, (lit< tt, tt))), refl, lit< tt),
+    a.offset 4 (codes "4", refl, (lit< tt, (lit< tt, tt)), refl, lit< tt),
     a.padded.given refl,
     a.form.lines refl,
+  );
+  write_numbers = λ order a. (
+    a.rec_len 80 (codes "+80", refl, (lit< tt, (lit< tt, (lit< tt, tt))), refl, lit< tt),
+    a.offset 5 (codes "05", refl, (lit< tt, (lit< tt, (lit< tt, tt))), refl, lit< tt),
   );
   no_write = λ order rows a. a.lawful;
   names = λ rows order h.

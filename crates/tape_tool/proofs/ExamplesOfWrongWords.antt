@@ -64,7 +64,7 @@ options_of format option text = to_write (codes "ABC") (codes "out") (codes "A=a
 
 has_80 : (format : List ℕ)
     → IsSomeNumber 32 (options_of format (codes "record") (codes "80")) (codes "record")
-has_80 format = (codes "80", refl, (lit< tt, (lit< tt, (lit< tt, tt))), lit< tt)
+has_80 format = (80, (codes "80", refl, (lit< tt, (lit< tt, (lit< tt, tt))), refl, lit< tt))
 
 fixed : AreAtOdds (options_of (codes "F") (codes "record") (codes "80")) → ⊥
 fixed (inl h) = h.1 (has_80 (codes "F"))
@@ -73,7 +73,7 @@ fixed (inr (inr h)) = h.0 refl
 
 spanned : AreAtOdds (options_of (codes "S") (codes "form") (codes "raw")) → ⊥
 spanned (inl h) = other _ _ 83 70 (omega arith) refl refl h.0
-spanned (inr (inl h)) = missing h.1.1
+spanned (inr (inl h)) = missing h.1.1.1
 spanned (inr (inr h)) = h.1 refl
 
 counted : AreAtOdds (options_of (codes "D") (codes "record") (codes "80")) → ⊥
@@ -157,7 +157,7 @@ cases_of_wrong_words = record {
   spanned = lawful (with_format (codes "S") (codes "form") (codes "raw")) spanned;
   counted = lawful (with_format (codes "D") (codes "record") (codes "80")) counted;
   counted_lines = lawful (with_format (codes "D") (codes "form") (codes "lines")) counted_lines;
-  no_length = inr (inr (inr (inl (refl, λ number. missing number.1))));
+  no_length = inr (inr (inr (inl (refl, λ number. missing number.1.1))));
   a_length = inr (inr (inr (inr (inl (refl, has_80 (codes "S"))))));
   raw = inr (inr (inr (inr (inr (
     other _ _ 68 70 (omega arith) refl refl,

@@ -1,11 +1,9 @@
 -- What the parser's calls give, over the rows of what it found; and mistakes in words.
-use Rattle.std.proofs.Common.{◌≡◌, ◌<◌, ◌^◌, ℕ, Bor, List, [], map, Result, Ok, Err, Option}
-use Rattle.std.proofs.Common.{Some, None}
-use Rattle.std.proofs.Common.{refl, sym, ap, ◌∙◌, arith, inl, inr}
-use Rattle.std.specs.Prelude.{⊤, decimal, unwrap_or, option_map}
+use Rattle.std.proofs.Common.{◌≡◌, ◌<◌, ◌^◌, ℕ, Bor, List, [], map, Option, Some, None}
+use Rattle.std.proofs.Common.{sym, ap, ◌∙◌, subst, inl, inr}
+use Rattle.std.specs.Prelude.{⊤, unwrap_or, option_map}
 use Rattle.std.specs.Str.Parse.{ParsesUnsigned, ExplainsUnsignedError, HasUnsignedDigitsIfOk}
-use Rattle.std.proofs.lemmas.Fmt.{parse-decimal}
-use Rattle.std.specs.declared.num.ParseIntError.{ParseIntError}
+use Rattle.std.specs.Str.Parse.{IsNumeral, digits_value, without_leading_plus}
 use Rattle.clap.specs.Words.{ReadsOne, kind_of, matched_of, raw_values, rows_of}
 use Rattle.clap.specs.declared.parser.matches.Found.{Found}
 use Rattle.clap.proofs.WalkLemmas.{raw_values-rows}
@@ -13,23 +11,15 @@ use Rattle.clap.specs.declared.error.Error.{Error}
 use Rattle.clap.specs.declared.error.kind.ErrorKind.TheVariants.{OutOfMemory, ValueValidation}
 use Rattle.tape_tool.specs.Words.{RefusedFor, texts_in}
 
-abbrev value_of : Result ℕ ParseIntError → ℕ
-value_of (Ok v) = v
-value_of (Err e) = 0
-
-abbrev count_of : Result ℕ ParseIntError → ℕ
-count_of (Ok v) = 1
-count_of (Err e) = 0
-
--- the digits of a number read as that number
-pub read_back : (bits n : ℕ) (read : Option ℕ) → n < 2 ^ bits → n < 2 ^ 64
+-- digits, with or without a plus sign before them, read as the number that they write
+pub read_back : (bits n : ℕ) (text : List ℕ) (read : Option ℕ)
+    → IsNumeral 10 (without_leading_plus text)
+    → digits_value 10 (without_leading_plus text) ≡ n → n < 2 ^ bits
     → ReadsOne (λ t r. ParsesUnsigned bits 10 t r × ExplainsUnsignedError 10 t r
-    × HasUnsignedDigitsIfOk t r) (decimal n) read → read ≡ Some n
-read_back bits n (Some v) fits short g =
-    ap (λ r. Some (value_of r)) (parse-decimal bits n (decimal n) (Ok v) fits short refl g.0)
-read_back bits n None fits short g =
-    absurd (let d : 0 ≡ 1 = ap (λ r. count_of r)
-    (parse-decimal bits n (decimal n) (Err g.0) fits short refl g.1.0) in omega arith)
+    × HasUnsignedDigitsIfOk t r) text read → read ≡ Some n
+read_back bits n text (Some v) numeral is fits g = ap (λ m. Some m) (g.0.1 ∙ is)
+read_back bits n text None numeral is fits g =
+    absurd (g.1.0 (numeral, subst (λ m. m < 2 ^ bits) (sym is) fits))
 
 -- the text of a word is lent, or nothing is
 pub lent : (found : Option (Bor (List ℕ))) (other : Bor (List ℕ)) (text : Option (List ℕ))

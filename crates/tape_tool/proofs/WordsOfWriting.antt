@@ -1,5 +1,5 @@
 -- What the words of `write` are, over the rows of what the parser found, and what is at odds.
-use Rattle.std.proofs.Common.{◌≡◌, ◌≢◌, ◌<◌, ℕ, List, map, Option}
+use Rattle.std.proofs.Common.{◌≡◌, ◌≢◌, ◌<◌, ◌^◌, ℕ, List, map, Option}
 use Rattle.std.proofs.Common.{Some, None, refl, sym, ◌∙◌, subst, inl, inr, codes, length}
 use Rattle.std.proofs.Common.{◌⊎◌, true, false, [], ◌+◌, get_or, take, take_all, ◌≤◌}
 use Rattle.std.proofs.lemmas.List.{get_or-map, length-map, map_more}
@@ -38,14 +38,25 @@ number_given found word bits read none value = (
     stands None read is some none value = absurd (some (none is))
     stands (Some t) None is some none value = absurd (some refl)
     stands (Some t) (Some n) is some none value =
-        let g = value t is in (t, sym (one_text-rows found word) ∙ is, g.0.0.0, g.0.0.1)
+        let g = value t is in (
+          n,
+          (
+            t,
+            sym (one_text-rows found word) ∙ is,
+            g.0.0.0,
+            sym g.0.1,
+            subst (λ m. m < 2 ^ bits) (sym g.0.1) g.0.0.1,
+          ),
+        )
 
     refused : IsSomeNumber bits (rows_of found) word → (read : Option ℕ) → read ≡ None
         → ((t : List ℕ) → one_text found word ≡ Some t
         → ReadsOne (λ t r. ParsesUnsigned bits 10 t r × ExplainsUnsignedError 10 t r
         × HasUnsignedDigitsIfOk t r) t read) → ⊥
     refused given None gone value =
-        (value given.0 (one_text-rows found word ∙ given.1)).1.0 (given.2, given.3)
+        let h = given.1 in
+        (value h.0 (one_text-rows found word ∙ h.1)).1.0
+        (h.2, subst (λ m. m < 2 ^ bits) (sym h.3) h.4)
     refused given (Some n) gone value = cc
 
 pub never : false ≡ true → ⊥

@@ -1,7 +1,7 @@
 -- What the definitions of the words of a command line say of cases.
-use Rattle.std.specs.Prelude.{◌≡◌, ℕ, Bool, true, false, List, [], ◌∷◌, map}
+use Rattle.std.specs.Prelude.{◌≡◌, ◌<◌, ◌^◌, ℕ, Bool, true, false, List, [], ◌∷◌, map, decimal}
 use Rattle.std.specs.Prelude.{codes, replicate, Option, Some, None, option_map}
-use Rattle.clap.specs.Words.{Row, kind_of}
+use Rattle.clap.specs.Words.{Row, kind_of, one_of}
 use Rattle.clap.specs.declared.builder.value_parser.Reading.TheVariants.{AsWritten}
 use Rattle.clap.specs.declared.error.Error.{Error}
 use Rattle.clap.specs.declared.error.kind.ErrorKind.TheVariants.{OutOfMemory, ValueValidation}
@@ -56,6 +56,15 @@ pub record CasesOfWords : Type 0 where
   -- a number is that of its own word, and has to fit
   pub number : IsNumber 16 (word (codes "FILE") (codes "12" ∷ []) ∷ []) (codes "FILE") 12
   pub fits : (rows : List Row) → IsNumber 16 rows (codes "FILE") 65536 → ⊥
+  -- it is the value of its digits, behind a plus sign or zeros too, and no other
+  pub plus : IsNumber 32 (word (codes "record") (codes "+80" ∷ []) ∷ []) (codes "record") 80
+  pub plus_alone : (n : ℕ)
+      → IsNumber 32 (word (codes "record") (codes "+80" ∷ []) ∷ []) (codes "record") n → n ≡ 80
+  pub zeros : (n : ℕ)
+      → IsNumber 8 (word (codes "offset") (codes "010" ∷ []) ∷ []) (codes "offset") n → n ≡ 10
+  -- and each is one in its plain digits
+  pub plain : (bits n : ℕ) (rows : List Row) (word : List ℕ) → n < 2 ^ bits → n < 2 ^ 64
+      → one_of word rows ≡ Some (decimal n) → IsNumber bits rows word n
   -- an option by itself is given, or is not
   pub given : (is_given : Bool) → IsFlag shelf (codes "null") is_given → is_given ≡ true
   pub left_out : (is_given : Bool)
@@ -171,6 +180,10 @@ pub record CasesOfOrders : Type 0 where
       × (map (λ w. w.now) order.files.items ≡ codes "A=a" ∷ codes "B=b" ∷ [])
       × (order.format ≡ Counted) × (order.block ≡ 2048) × (order.«record» ≡ Some 80)
       × (order.offset ≡ 4) × (order.pad_full ≡ true) × (order.form ≡ Lines)
+  -- and takes a number behind a plus sign or zeros as it is
+  pub write_numbers : (order : WriteOrder) → AsksToWrite (word (codes "record") (codes "+80" ∷ [])
+      ∷ word (codes "offset") (codes "05" ∷ []) ∷ []) order
+      → (order.«record» ≡ Some 80) × (order.offset ≡ 5)
   pub no_write : (order : WriteOrder) (rows : List Row) → AsksToWrite rows order
       → IsNoWrite rows → ⊥
   -- a command's name gives its order, and no other

@@ -1,6 +1,6 @@
 -- What the words of a command line ask for, by what the parser found of them: a row for each word
 -- and each option of a command, which has the texts that stand there.
-use Rattle.std.specs.Prelude.{◌≡◌, ◌≢◌, ◌⊎◌, ◌<◌, ◌≤◌, ◌^◌, ℕ, Bool, true, false, codes, decimal}
+use Rattle.std.specs.Prelude.{◌≡◌, ◌≢◌, ◌⊎◌, ◌<◌, ◌≤◌, ◌^◌, ℕ, Bool, true, false, codes}
 use Rattle.std.specs.Prelude.{List, [], ◌∷◌, ◌++◌, map, length, replicate, if◌then◌else◌}
 use Rattle.std.specs.Prelude.{◌-◌, ⊤, Option, Some, None, IfSome, option_map, unwrap_or}
 use Rattle.std.specs.Borrow.{Bor}
@@ -41,16 +41,16 @@ text_in rows word = unwrap_or (first_of word rows) []
 abbrev pub texts_in : List Row → List ℕ → List (List ℕ)
 texts_in rows word = unwrap_or (all_of word rows) []
 
--- a number of so many bits stands there, in decimal digits
+-- This number of so many bits stands there: it is the value of decimal digits, with or without a
+-- plus sign before them.
 abbrev pub IsNumber : ℕ → List Row → List ℕ → ℕ → Type 0
-IsNumber bits rows word n = (n < 2 ^ bits) × (one_of word rows ≡ Some (decimal n))
-
--- Some number of so many bits stands there, in decimal digits with or without a plus sign before
--- them.
-abbrev pub IsSomeNumber : ℕ → List Row → List ℕ → Type 0
-IsSomeNumber bits rows word = (text : List ℕ) × (one_of word rows ≡ Some text)
+IsNumber bits rows word n = (text : List ℕ) × (one_of word rows ≡ Some text)
     × IsNumeral 10 (without_leading_plus text)
-    × (digits_value 10 (without_leading_plus text) < 2 ^ bits)
+    × (digits_value 10 (without_leading_plus text) ≡ n) × (n < 2 ^ bits)
+
+-- some number of so many bits stands there
+abbrev pub IsSomeNumber : ℕ → List Row → List ℕ → Type 0
+IsSomeNumber bits rows word = (n : ℕ) × IsNumber bits rows word n
 
 -- an option by itself is given, or is not
 pub record IsFlag (rows : List Row) (word : List ℕ) (is_given : Bool) : Type 0 where

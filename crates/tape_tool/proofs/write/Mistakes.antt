@@ -30,15 +30,36 @@ cut_at_the_last_equals_sign κs a r s l word id =
 fits : (rows : List Row) → text_in rows (codes "format") ≡ codes "S"
     → one_of (codes "record") rows ≡ None → AreAtOdds rows → ⊥
 fits rows format none (inl h) = other _ _ 83 70 (omega arith) refl refl (sym format ∙ h.0)
-fits rows format none (inr (inl h)) = missing (sym none ∙ h.1.1)
+fits rows format none (inr (inl h)) = missing (sym none ∙ h.1.1.1)
 fits rows format none (inr (inr h)) = h.1 format
 
 -- offset_forgotten: an offset of 3 is asked for, and the blocks have none
 offset_forgotten : (κs : _) (a : _) (o : _) (s : _)
     → write_order.Learnt-named κs a (Ok o) s
     → one_of (codes "offset") (rows_of (found_of a.1.0.now)) ≡ Some (decimal 3) → o.offset ≡ 0 → ⊥
+unfolding digits
 offset_forgotten κs a o s l asked none =
-    absurd (let n : 0 ≡ 3 = sym none ∙ l.ok.offset 3 (lit< tt, asked) in omega arith)
+    absurd (let n : 0 ≡ 3 = sym none
+    ∙ l.ok.offset 3 (decimal 3, asked, (lit< tt, (lit< tt, tt)), refl, lit< tt) in omega arith)
+
+-- length_behind_a_plus_sign_forgotten: a record length of +80 is asked for, and none is taken
+length_behind_a_plus_sign_forgotten : (κs : _) (a : _) (o : _) (s : _)
+    → write_order.Learnt-named κs a (Ok o) s
+    → one_of (codes "record") (rows_of (found_of a.1.0.now)) ≡ Some (codes "+80")
+    → o.«record» ≡ None → ⊥
+length_behind_a_plus_sign_forgotten κs a o s l asked none =
+    absurd (let n = sym none ∙ l.ok.rec_len 80
+    (codes "+80", asked, (lit< tt, (lit< tt, (lit< tt, tt))), refl, lit< tt) in cc)
+
+-- zero_before_digits_taken_for_octal: an offset of 010 is asked for, and the blocks have one of 8
+zero_before_digits_taken_for_octal : (κs : _) (a : _) (o : _) (s : _)
+    → write_order.Learnt-named κs a (Ok o) s
+    → one_of (codes "offset") (rows_of (found_of a.1.0.now)) ≡ Some (codes "010")
+    → o.offset ≡ 8 → ⊥
+zero_before_digits_taken_for_octal κs a o s l asked got =
+    absurd (let n : 8 ≡ 10 = sym got ∙ l.ok.offset 10
+    (codes "010", asked, (lit< tt, (lit< tt, (lit< tt, (lit< tt, tt)))), refl, lit< tt) in
+    omega arith)
 
 -- lawful_write_refused: format S is asked for without a record length, and is refused as wrong
 lawful_write_refused : (κs : _) (a : _) (e : _) (s : _) → write_order.Learnt-named κs a (Err e) s

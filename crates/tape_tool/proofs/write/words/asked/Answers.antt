@@ -1,4 +1,4 @@
-use Rattle.std.proofs.Common.{[], codes, ap, ◌∙◌, arith}
+use Rattle.std.proofs.Common.{[], codes, ap, ◌∙◌}
 use Rattle.std.specs.Prelude.{unwrap_or}
 use Rattle.clap.specs.Words.{found_of, rows_of}
 use Rattle.clap.proofs.WalkLemmas.{one_text-rows}
@@ -12,19 +12,19 @@ returns-clause-asks c prefix files lawful = let found = found_of c.args.matches.
   prefix = prefix;
   files = files;
   capacity = λ n h. c.unwrap_or.ensures ∙ ap (λ r. unwrap_or r 0)
-      (read_back 32 n _ h.0 (omega (arith, h.0))
+      (read_back 32 n h.0 _ h.2 h.3 h.4
       (c.get_one.ensures.value _ (one_text-rows found (codes "CAPACITY") ∙ h.1)));
   fixed = λ e. c.format_of.ensures.fixed.1 (c.text_of-2.ensures ∙ ap (λ o. unwrap_or o []) e);
   counted = λ e. c.format_of.ensures.counted (c.text_of-2.ensures ∙ ap (λ o. unwrap_or o []) e);
   spanned = λ e. c.format_of.ensures.spanned.1 (c.text_of-2.ensures ∙ ap (λ o. unwrap_or o []) e);
   block = λ n h. c.unwrap_or-2.ensures ∙ ap (λ r. unwrap_or r 0)
-      (read_back 32 n _ h.0 (omega (arith, h.0))
+      (read_back 32 n h.0 _ h.2 h.3 h.4
       (c.get_one-2.ensures.value _ (one_text-rows found (codes "block") ∙ h.1)));
-  rec_len = λ n h. read_back 32 n _ h.0 (omega (arith, h.0))
+  rec_len = λ n h. read_back 32 n h.0 _ h.2 h.3 h.4
       (c.get_one-3.ensures.value _ (one_text-rows found (codes "record") ∙ h.1));
   no_rec_len = λ e. c.get_one-3.ensures.none (one_text-rows found (codes "record") ∙ e);
   offset = λ n h. c.unwrap_or-3.ensures ∙ ap (λ r. unwrap_or r 0)
-      (read_back 8 n _ h.0 (omega (arith, h.0))
+      (read_back 8 n h.0 _ h.2 h.3 h.4
       (c.get_one-4.ensures.value _ (one_text-rows found (codes "offset") ∙ h.1)));
   padded = c.flag_of.ensures;
   form = c.form_of.ensures;
