@@ -12,7 +12,7 @@ use Rattle.tape_stage.specs.Salvaged.{Remains}
 use Rattle.tape_stage.specs.Staged.{Staged}
 use Rattle.tape_tool.specs.declared.fault.ToolFault.{ToolFault}
 use Rattle.tape_tool.specs.declared.stage.ending.StageEnding.{StageEnding}
-use Rattle.tape_tool.specs.Showing.{told_with, ending_of, GivesFront, StopsShowing}
+use Rattle.tape_tool.specs.Showing.{told_with, ending_of, EndsInPart, GivesFront, StopsShowing}
 use Rattle.tape_tool.specs.Showing.{in_part, salvaged_in_part, StopsSalvaging}
 
 -- the records were written, and a front of the lines
@@ -31,21 +31,22 @@ pub stops_in_part : (read : List ℕ) (generation : ℕ) (point : Point) (parts 
     (form : Form) (out written said says : Option (List ℕ))
     (result : Result (Option Want) ToolFault) → Staged read generation point parts
     → OnErr result (GivesFront point (ending_of point None) form out written said says parts)
-    → IfErr result (StopsShowing read form out written said says)
-stops_in_part read generation point parts form out written said says (Ok want) staged front = tt
-stops_in_part read generation point parts form out written said says (Err fault) staged front =
-    in_part generation point parts staged front
+    → IfErr result EndsInPart → IfErr result (StopsShowing read form out written said says)
+stops_in_part read generation point parts form out written said says (Ok want) staged front ends =
+    tt
+stops_in_part read generation point parts form out written said says (Err fault) staged front ends =
+    in_part generation point parts staged front ends
 
 -- the same of a stage that may break off
 pub stops_salvaging : (read : List ℕ) (generation : ℕ) (point : Point) (broken : Option ℕ)
     (parts : List Portion) (form : Form) (out written said says : Option (List ℕ))
     (result : Result StageEnding ToolFault) → Remains read generation point broken parts
     → OnErr result (GivesFront point (ending_of point broken) form out written said says parts)
-    → IfErr result (StopsSalvaging read form out written said says)
+    → IfErr result EndsInPart → IfErr result (StopsSalvaging read form out written said says)
 stops_salvaging read generation point broken parts form out written said says (Ok ending) remains
-    front = tt
+    front ends = tt
 stops_salvaging read generation point broken parts form out written said says (Err fault) remains
-    front = salvaged_in_part generation point broken parts remains front
+    front ends = salvaged_in_part generation point broken parts remains front ends
 
 -- a fact that follows of each list of parts, for one that is held
 pub of_held_err : {T E : Type 0} (result : Result T E) (H P : List Portion → Type 0)

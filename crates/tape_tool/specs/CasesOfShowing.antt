@@ -1,5 +1,5 @@
 -- What the definitions of `stage` say of cases, so that none of them says less than it should.
-use Rattle.std.specs.Prelude.{◌≡◌, ◌⊎◌, ℕ, false, List, length}
+use Rattle.std.specs.Prelude.{◌≡◌, ◌≢◌, ◌⊎◌, ℕ, false, List, length}
 use Rattle.std.specs.Prelude.{Option, Some, None, Ok, Err}
 use Rattle.std.specs.Prelude.{codes}
 use Rattle.std.specs.Io.KnownBytes.{Appends, Keeps}
@@ -12,13 +12,18 @@ use Rattle.tape_set.specs.declared.position.Position.TheVariants.{Awaits, Finish
 use Rattle.tape_core.specs.Point.{Point}
 use Rattle.tape_image.specs.Written.{AppendsFront}
 use Rattle.tape_run.specs.RecordText.{output_of}
-use Rattle.tape_stage.specs.Faults.{SaysNone}
+use Rattle.tape_stage.specs.Faults.{OnBadFrame, SaysNone}
 use Rattle.tape_stage.specs.Salvaged.{Remains, RemainsNone}
 use Rattle.tape_stage.specs.Staged.{Staged, HoldsNone}
 use Rattle.tape_stage.specs.declared.stage.StageFault.{StageFault}
+use Rattle.tape_stage.specs.declared.stage.StageFault.TheVariants.{BadFrame, Device, Failed, Full}
+use Rattle.tape_stage.specs.declared.stage.StageFault.TheVariants.{OutOfMemory}
+use Rattle.tape_run.specs.declared.fault.RunFault.{RunFault}
+use Rattle.tape_writer.specs.declared.system.fault.FileFault.{FileFault}
+use Rattle.tape_writer.specs.declared.system.fault.FileFault.TheVariants.{WriteFailed}
 use Rattle.tape_tool.specs.declared.program.End.TheVariants.{Done, Faulted, Incomplete}
 use Rattle.tape_tool.specs.declared.fault.ToolFault.{ToolFault}
-use Rattle.tape_tool.specs.declared.fault.ToolFault.TheVariants.{Stage}
+use Rattle.tape_tool.specs.declared.fault.ToolFault.TheVariants.{File, Run, Stage}
 use Rattle.tape_tool.specs.declared.stage.ending.StageEnding.{StageEnding}
 use Rattle.tape_tool.specs.declared.stage.ending.StageEnding.TheVariants.{Whole, Broken}
 use Rattle.tape_tool.specs.Ends.{stage_end, damaged_end}
@@ -41,27 +46,40 @@ point_at position = record {
 }
 
 -- what a fault says: no stage was opened and nothing written, and that there is none is told only
--- where there is none; or a front of what is staged in these bytes was written
+-- where there is none; or a front of what is staged in these bytes was written, and a write that
+-- failed is told, or a device
 abbrev pub StopSays : List ℕ → Form → Option (List ℕ) → Option (List ℕ) → Option (List ℕ)
     → Option (List ℕ) → ToolFault → Type 0
 StopSays read form out written said says fault = StopsShowing read form out written said says fault
     → ((cause : StageFault) × (fault ≡ Stage cause) × (SaysNone cause → HoldsNone read)
-    × Keeps out written × Keeps said says)
+    × (cause ≢ Full) × (cause ≢ Failed) × Keeps out written × Keeps said says)
     ⊎ ((g : ℕ) × (point : Point) × (parts : List Portion) × Staged read g point parts
     × AppendsFront out written (output_of form parts)
-    × AppendsFront said says (told_of point None (length (join parts).records)))
+    × AppendsFront said says (told_of point None (length (join parts).records))
+    × ((fault ≡ File WriteFailed) ⊎ (fault ≡ Stage Device)))
 
 -- what a fault says of a stage that may break off: nothing was opened, and that nothing remains is
--- told only where nothing does; or a front of what remains was written
+-- told only where nothing does, and by no frame; or a front of what remains was written, and a
+-- write that failed is told, or a device
 abbrev pub SalvageSays : List ℕ → Form → Option (List ℕ) → Option (List ℕ) → Option (List ℕ)
     → Option (List ℕ) → ToolFault → Type 0
 SalvageSays read form out written said says fault =
     StopsSalvaging read form out written said says fault
     → ((cause : StageFault) × (fault ≡ Stage cause) × (SaysNone cause → RemainsNone read)
+    × OnBadFrame cause (λ place. ⊥) × (cause ≢ Full) × (cause ≢ Failed)
     × Keeps out written × Keeps said says)
     ⊎ ((g : ℕ) × (point : Point) × (broken : Option ℕ) × (parts : List Portion)
     × Remains read g point broken parts × AppendsFront out written (output_of form parts)
-    × AppendsFront said says (told_of point broken (length (join parts).records)))
+    × AppendsFront said says (told_of point broken (length (join parts).records))
+    × ((fault ≡ File WriteFailed) ⊎ (fault ≡ Stage Device)))
+
+-- Which faults can stop it: never is a stage told to be full, or to have failed before; for want of
+-- memory nothing was written; a file's fault is a write that failed, and a run's is none.
+abbrev pub StoppedOnlyBy : (ToolFault → Type 0) → Type 0 → Type 0
+StoppedOnlyBy stops untouched = (stops (Stage Full) → ⊥) × (stops (Stage Failed) → ⊥)
+    × (stops (Stage OutOfMemory) → untouched)
+    × ((fault : FileFault) → stops (File fault) → fault ≡ WriteFailed)
+    × ((fault : RunFault) → stops (Run fault) → ⊥)
 
 -- what `stage` says
 pub record CasesOfShowing : Type 0 where
@@ -98,3 +116,21 @@ pub record CasesOfShowing : Type 0 where
       (fault : ToolFault) → StopSays read form out written said says fault
   pub salvage_stopped : (read : List ℕ) (form : Form) (out written said says : Option (List ℕ))
       (fault : ToolFault) → SalvageSays read form out written said says fault
+  -- a good stage is never told to be none
+  pub good : (read : List ℕ) (form : Form) (out written said says : Option (List ℕ)) (g : ℕ)
+      (point : Point) (parts : List Portion) (cause : StageFault) → Staged read g point parts
+      → SaysNone cause → StopsShowing read form out written said says (Stage cause) → ⊥
+  -- nor is one of which something remains, and no frame is told of any
+  pub remaining : (read : List ℕ) (form : Form) (out written said says : Option (List ℕ)) (g : ℕ)
+      (point : Point) (broken : Option ℕ) (parts : List Portion) (cause : StageFault)
+      → Remains read g point broken parts → SaysNone cause
+      → StopsSalvaging read form out written said says (Stage cause) → ⊥
+  pub no_frame : (read : List ℕ) (form : Form) (out written said says : Option (List ℕ))
+      (place : ℕ) → StopsSalvaging read form out written said says (Stage (BadFrame place)) → ⊥
+  -- which faults stop either
+  pub stops_by : (read : List ℕ) (form : Form) (out written said says : Option (List ℕ))
+      → StoppedOnlyBy (StopsShowing read form out written said says)
+      (Keeps out written × Keeps said says)
+  pub salvage_stops_by : (read : List ℕ) (form : Form) (out written said says : Option (List ℕ))
+      → StoppedOnlyBy (StopsSalvaging read form out written said says)
+      (Keeps out written × Keeps said says)

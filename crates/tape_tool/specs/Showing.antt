@@ -1,5 +1,6 @@
 -- What `stage` tells of a stage, and the records that it writes.
-use Rattle.std.specs.Prelude.{◌≡◌, ℕ, List, ◌++◌, length, Option, Some, None, codes, decimal}
+use Rattle.std.specs.Prelude.{◌≡◌, ◌≢◌, ◌⊎◌, ℕ, List, ◌++◌, length, Option, Some, None, codes}
+use Rattle.std.specs.Prelude.{decimal}
 use Rattle.std.specs.Io.KnownBytes.{Appends, Keeps}
 use Rattle.tape_blocks.specs.Block.{Portion}
 use Rattle.tape_blocks.specs.Spans.{join}
@@ -11,12 +12,14 @@ use Rattle.tape_run.specs.Identifier.{identifier_text}
 use Rattle.tape_image.specs.Written.{AppendsFront}
 use Rattle.tape_run.specs.RecordText.{output_of}
 use Rattle.tape_run.specs.ReelLine.{last_line}
-use Rattle.tape_stage.specs.Faults.{SaysNone}
+use Rattle.tape_stage.specs.Faults.{OnBadFrame, SaysNone}
 use Rattle.tape_stage.specs.Salvaged.{Remains, RemainsNone}
 use Rattle.tape_stage.specs.Staged.{Staged, HoldsNone}
 use Rattle.tape_stage.specs.declared.stage.StageFault.{StageFault}
+use Rattle.tape_stage.specs.declared.stage.StageFault.TheVariants.{Device, Failed, Full}
+use Rattle.tape_writer.specs.declared.system.fault.FileFault.TheVariants.{WriteFailed}
 use Rattle.tape_tool.specs.declared.fault.ToolFault.{ToolFault}
-use Rattle.tape_tool.specs.declared.fault.ToolFault.TheVariants.{Stage}
+use Rattle.tape_tool.specs.declared.fault.ToolFault.TheVariants.{File, Stage}
 use Rattle.tape_tool.specs.declared.stage.ending.StageEnding.{StageEnding}
 use Rattle.tape_tool.specs.declared.stage.ending.StageEnding.TheVariants.{Whole, Broken}
 
@@ -67,15 +70,23 @@ pub record Shows (read : List ℕ) (form : Form) (out written said says : Option
   pub wanted : want ≡ want_at point.file point.position
   pub gives : Gives point (ending_of point None) form out written said says parts
 
+-- what is told where a stage was opened: a write that failed, or its device, as the parts are read
+-- again
+abbrev pub EndsInPart : ToolFault → Type 0
+EndsInPart fault = (fault ≡ File WriteFailed) ⊎ (fault ≡ Stage Device)
+
 -- A fault ended it. No stage was opened, and nothing was written; that there is none is told only
--- where there is none. Or a front of what was to be written was.
+-- where there is none, and never that one is full or failed before. Or a front of what was to be
+-- written was, and a write that failed is told, or a device.
 pub data StopsShowing (read : List ℕ) (form : Form) (out written said says : Option (List ℕ))
     (fault : ToolFault) : Type 0 where
   unopened : (cause : StageFault) → fault ≡ Stage cause → (SaysNone cause → HoldsNone read)
+      → cause ≢ Full → cause ≢ Failed
       → Keeps out written → Keeps said says → StopsShowing read form out written said says fault
   in_part : (generation : ℕ) (point : Point) (parts : List Portion)
       → Staged read generation point parts
       → GivesFront point (ending_of point None) form out written said says parts
+      → EndsInPart fault
       → StopsShowing read form out written said says fault
 
 -- This remains of the bytes that were read: a checkpoint, and its parts up to where the frames
@@ -91,12 +102,15 @@ pub record ShowsDamaged (read : List ℕ) (form : Form) (out written said says :
   pub gives : Gives point ending form out written said says parts
 
 -- A fault ended it. Nothing was opened and nothing written, and that nothing remains is told only
--- where nothing does. Or a front of what was to be written was.
+-- where nothing does, and never by a frame; nor that the stage is full or failed before. Or a front
+-- of what was to be written was, and a write that failed is told, or a device.
 pub data StopsSalvaging (read : List ℕ) (form : Form) (out written said says : Option (List ℕ))
     (fault : ToolFault) : Type 0 where
   nothing : (cause : StageFault) → fault ≡ Stage cause → (SaysNone cause → RemainsNone read)
+      → OnBadFrame cause (λ place. ⊥) → cause ≢ Full → cause ≢ Failed
       → Keeps out written → Keeps said says → StopsSalvaging read form out written said says fault
   salvaged_in_part : (generation : ℕ) (point : Point) (broken : Option ℕ) (parts : List Portion)
       → Remains read generation point broken parts
       → GivesFront point (ending_of point broken) form out written said says parts
+      → EndsInPart fault
       → StopsSalvaging read form out written said says fault

@@ -8,7 +8,7 @@ ghost use Rattle.tape_image.specs.Written.{AppendsFront};
 ghost use Rattle.tape_set.specs.Position.{want_at};
 ghost use Rattle.tape_stage.specs.Salvaged.{HoldsRest};
 ghost use Rattle.tape_tool.specs.Showing.{stage_line, told_with, ending_of, ending_line};
-ghost use Rattle.tape_tool.specs.Showing.{break_line};
+ghost use Rattle.tape_tool.specs.Showing.{EndsInPart, break_line};
 ghost use Rattle.tape_tool.specs.Showing.{Gives, GivesFront, Shows, StopsShowing};
 ghost use Rattle.tape_tool.specs.Showing.{ShowsDamaged, StopsSalvaging};
 
@@ -35,7 +35,7 @@ use tape_stage::{Disk, Salvage, Stage, StageFault};
 ///
 /// `Stage` with the fault of opening the stage, and then nothing was written, or with `Device`
 /// where its parts could not be read again; `File` with `WriteFailed` where `out` or the report
-/// failed.
+/// failed. That there is no stage is told only where there is none.
 pub fn show_stage<D: Disk + Drop, W: Write, P: Write>(
     alloc: Global,
     disk: D,
@@ -69,6 +69,7 @@ fn show_opened<S: PartWalk + Drop, W: Write, P: Write>(
     ensures err { OnErr result ((parts : List Portion) → S.holds sink parts
         → GivesFront point.now (ending_of point.now None) form (W.contents out.old)
         (W.contents out.new) (P.contents report.old) (P.contents report.new) parts) }
+    ensures fault { IfErr result EndsInPart }
 {
     let mut sink = sink;
     let want = point.position.want(point.file);
@@ -123,6 +124,7 @@ fn show_rest<D: Disk + Drop, W: Write, P: Write>(
     ensures err { OnErr result ((parts : List Portion) → HoldsRest salvage parts
         → GivesFront point.now (ending_of point.now salvage.broken) form (W.contents out.old)
         (W.contents out.new) (P.contents report.old) (P.contents report.new) parts) }
+    ensures fault { IfErr result EndsInPart }
 {
     let mut salvage = salvage;
     let ending = ending_at(point, salvage.broken());
@@ -155,6 +157,7 @@ fn show_parts<S: PartWalk, W: Write, P: Write>(
     ensures err { OnErr result ((parts : List Portion) → S.holds sink.old parts
         → GivesFront point.now ending form (W.contents out.old) (W.contents out.new)
         (P.contents report.old) (P.contents report.new) parts) }
+    ensures fault { IfErr result EndsInPart }
 {
     match write_file(sink, form, out) {
         Ok(records) => Ok(tell(report, point, ending, records)?),
@@ -164,7 +167,9 @@ fn show_parts<S: PartWalk, W: Write, P: Write>(
 
 /// The fault of writing the records: parts that could not be walked over are a stage that could not
 /// be read.
-fn as_read(fault: EngineFault) -> ToolFault {
+fn as_read(fault: EngineFault) -> ToolFault
+    ensures { EndsInPart result }
+{
     match fault {
         EngineFault::WriteFailed => ToolFault::File(FileFault::WriteFailed),
         EngineFault::Run(_) => ToolFault::Stage(StageFault::Device),

@@ -1,15 +1,21 @@
 -- Answers that the contracts of the pieces of `stage` exclude: each is what a wrong body gives.
 use Rattle.std.proofs.Common.{◌≡◌, ℕ, List, [], ◌∷◌, ◌++◌, length, ap, ◌∙◌, subst, sym, codes}
 use Rattle.std.proofs.Common.{arith}
-use Rattle.std.specs.Prelude.{Some, None, Ok, slice_index}
+use Rattle.std.specs.Prelude.{Some, None, Ok, Err, slice_index}
 use Rattle.std.specs.Io.KnownBytes.{Appends}
 use Rattle.tape_blocks.specs.declared.parts.Span.TheVariants as spans
 use Rattle.tape_blocks.specs.Block.{Portion}
 use Rattle.tape_blocks.specs.declared.parts.Form.TheVariants.{Lines}
 use Rattle.tape_set.specs.Position.{want_at}
 use Rattle.tape_run.specs.RecordText.{output_of}
-use Rattle.tape_tool.specs.Showing.{ending_of, stage_line}
+use Rattle.tape_stage.specs.Staged.{Staged}
+use Rattle.tape_stage.specs.declared.stage.StageFault.TheVariants.{BadFrame, NoPoint}
+use Rattle.tape_tool.specs.Showing.{StopsSalvaging, StopsShowing, ending_of, stage_line}
+use Rattle.tape_tool.specs.declared.fault.ToolFault.TheVariants.{Stage}
 use Rattle.tape_tool.specs.declared.stage.ending.StageEnding.TheVariants.{Whole}
+use Rattle.tape_tool.proofs.ExamplesOfShowing.{no_frame, none_told}
+use Rattle.tape_tool.proofs.stage.show.show_damaged.Reads as show_damaged
+use Rattle.tape_tool.proofs.stage.show.show_stage.Reads as show_stage
 use Rattle.tape_tool.proofs.stage.show.show_parts.Reads as show_parts
 use Rattle.tape_tool.proofs.stage.show.show_opened.Reads as show_opened
 use Rattle.tape_tool.proofs.stage.show.put_stage.Reads as put_stage
@@ -47,6 +53,30 @@ damage_told_as_complete : (D : _) (W : _) (P : _) (LD : _) (LW : _) (LP : _) (g 
     → a.0.broken ≡ Some place → ⊥
 damage_told_as_complete D W P LD LW LP g d g' h e i j κs a s place l breaks =
     absurd (let n = l.ending ∙ ap (ending_of a.1.0.now) breaks in cc)
+
+-- good_stage_told_as_none: its parts cannot be read again, and a good stage is told to be none
+good_stage_told_as_none : (D : _) (W : _) (P : _) (LD : _) (LW : _) (LP : _) (g : _) (d : _)
+    (h : _) (e : _) (i : _) (j : _) (k : _) (κs : _) (a : _) (fault : _) (s : _) (n : _)
+    (point : _) (parts : _)
+    → show_stage.Learnt-named D W P LD LW LP g d h e i j k κs a (Err fault) s
+    → g.is_honest a.1.0 → Staged (g.seen a.1.0) n point parts → fault ≡ Stage NoPoint → ⊥
+good_stage_told_as_none D W P LD LW LP g d h e i j k κs a fault s n point parts l honest staged
+    told =
+    none_told (g.seen a.1.0) a.1.1.0 _ _ _ _ NoPoint tt
+    (subst (StopsShowing (g.seen a.1.0) a.1.1.0 (h.contents a.1.1.1.0.now)
+    (h.contents s.1.1.1.0.now) (i.contents a.1.1.1.1.0.now) (i.contents s.1.1.1.1.0.now)) told
+    (l.err honest)) n point parts staged
+
+-- damaged_stage_refused: the frames of a stage break off, and its first records are not shown
+damaged_stage_refused : (D : _) (W : _) (P : _) (LD : _) (LW : _) (LP : _) (g : _) (d : _)
+    (h : _) (e : _) (i : _) (j : _) (k : _) (κs : _) (a : _) (fault : _) (s : _) (place : _)
+    → show_damaged.Learnt-named D W P LD LW LP g d h e i j k κs a (Err fault) s
+    → g.is_honest a.1.0 → fault ≡ Stage (BadFrame place) → ⊥
+damaged_stage_refused D W P LD LW LP g d h e i j k κs a fault s place l honest told =
+    no_frame (g.seen a.1.0) a.1.1.0 _ _ _ _ place
+    (subst (StopsSalvaging (g.seen a.1.0) a.1.1.0 (h.contents a.1.1.1.0.now)
+    (h.contents s.1.1.1.0.now) (i.contents a.1.1.1.1.0.now) (i.contents s.1.1.1.1.0.now)) told
+    (l.err honest))
 
 -- records_told_as_the_file: file 1 with 25 records is told as file 25
 records_told_as_the_file : (κs : _) (a : _) (z : _) (s : _) → put_stage.Learnt-named κs a z s

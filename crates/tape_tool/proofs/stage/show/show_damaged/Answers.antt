@@ -15,9 +15,10 @@ returns-in-Ok-clause-err g c honest =
     (g.P.Write.contents c.args.report.now) (g.P.Write.contents c.show_rest.new.report) ps)
     found.1 found.3 c.show_rest.ensures.err in
     stops_salvaging (g.D.Disk.seen c.args.disk) found.0 c.in-Ok.point salvage.broken found.1
-    c.args.form _ _ _ _ c.show_rest.result found.2 front
+    c.args.form _ _ _ _ c.show_rest.result found.2 front c.show_rest.ensures.fault
 
 pub returns-in-Err-clause-err : goal.returns-in-Err-clause-err
 returns-in-Err-clause-err g c honest =
     nothing c.in-Err.refused.fault refl (λ says. c.in-Err.ensures.none honest says)
+    c.in-Err.ensures.no_frame c.in-Err.ensures.not_full c.in-Err.ensures.not_failed
     (Keeps-refl _) (Keeps-refl _)

@@ -15,9 +15,9 @@ returns-in-Ok-clause-err g c honest =
     (g.P.Write.contents c.args.report.now) (g.P.Write.contents c.show_opened.new.report) ps)
     read.1 read.3 c.show_opened.ensures.err in
     stops_in_part (g.D.Disk.seen c.args.disk) read.0 c.in-Ok.point read.1 c.args.form _ _ _ _
-    c.show_opened.result read.2 front
+    c.show_opened.result read.2 front c.show_opened.ensures.fault
 
 pub returns-in-Err-clause-err : goal.returns-in-Err-clause-err
 returns-in-Err-clause-err g c honest =
     unopened c.in-Err.refused.fault refl (λ says. c.in-Err.ensures.none honest says)
-    (Keeps-refl _) (Keeps-refl _)
+    c.in-Err.ensures.not_full c.in-Err.ensures.not_failed (Keeps-refl _) (Keeps-refl _)
