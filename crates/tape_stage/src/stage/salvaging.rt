@@ -127,11 +127,17 @@ impl<D: Disk> PartSink for Salvage<D> {
 
     ghost survived_now = { λ s t none. none };
 
-    fn put(&mut self, _part: Part<'_>) -> Result<(), SinkFault> {
+    // Of each change the trait alone would allow an Ok.
+    fn put(&mut self, _part: Part<'_>) -> Result<(), SinkFault>
+        ensures refused { result ≡ Err SinkFault.Failed }
+        ensures same { (parts : List Portion) → HoldsRest self.old parts
+            → HoldsRest self.new parts }
+        ensures same_weight { self.new.weight ≡ self.old.weight }
+        ensures cause { Rose self.old.refused self.new.refused }
+    {
         Err(self.refuse())
     }
 
-    // A keep changes nothing that is held: of an Ok the trait alone would say nothing here.
     fn keep(&mut self, _point: &Checkpoint) -> Result<(), SinkFault>
         ensures refused { result ≡ Err SinkFault.Failed }
         ensures same { (parts : List Portion) → HoldsRest self.old parts
@@ -142,7 +148,13 @@ impl<D: Disk> PartSink for Salvage<D> {
         Err(self.refuse())
     }
 
-    fn cut_to(&mut self, _point: &Checkpoint) -> Result<(), SinkFault> {
+    fn cut_to(&mut self, _point: &Checkpoint) -> Result<(), SinkFault>
+        ensures refused { result ≡ Err SinkFault.Failed }
+        ensures same { (parts : List Portion) → HoldsRest self.old parts
+            → HoldsRest self.new parts }
+        ensures same_weight { self.new.weight ≡ self.old.weight }
+        ensures cause { Rose self.old.refused self.new.refused }
+    {
         Err(self.refuse())
     }
 
