@@ -81,9 +81,10 @@ pub record CasesOfTapes : Type 0 where
   pub second : volume_at (UnderWay ((mark ∷ []) ∷ []) (bad ∷ [])) 1 ≡ bad ∷ []
   pub none_behind : volume_at (Ended ((mark ∷ []) ∷ [])) 1 ≡ []
   -- each fault has its own count
-  pub device_failed : (old new : Failures) → HasCause old (Err out.Device) new
-      → Rose old.device new.device
-  pub growth_refused : (old new : Failures) → HasCause old (Err out.OutOfMemory) new
+  pub device_failed : (old new : Failures)
+      → HasCause out.Device out.OutOfMemory old (Err out.Device) new → Rose old.device new.device
+  pub growth_refused : (old new : Failures)
+      → HasCause out.Device out.OutOfMemory old (Err out.OutOfMemory) new
       → Rose old.memory new.memory
   pub writing_failed : (old new : Failures) → FailsWith old (Err faults.Device) new
       → Rose old.device new.device

@@ -1,9 +1,9 @@
 -- Where the writer's faults come from, and what they leave.
 use Rattle.std.specs.Prelude.{◌≡◌, ◌≢◌, Result, IfErr}
 use Rattle.tape_writer.specs.declared.fault.WriteFault.{WriteFault}
-use Rattle.tape_writer.specs.declared.fault.WriteFault.TheVariants.{RecordLength, OutOfVolumes}
-use Rattle.tape_writer.specs.declared.fault.WriteFault.TheVariants.{Device, OutOfMemory}
-use Rattle.tape_writer.specs.Tapes.{Failures, Rose}
+use Rattle.tape_writer.specs.declared.fault.WriteFault.TheVariants.{OutOfVolumes, Device}
+use Rattle.tape_writer.specs.declared.fault.WriteFault.TheVariants.{OutOfMemory}
+use Rattle.tape_writer.specs.Tapes.{Failures, HasCause, Rose}
 
 -- `Device` is answered only where the device failed in the call
 abbrev pub FailsByDevice : Failures → Result (Unit {0}) WriteFault → Failures → Type 0
@@ -11,8 +11,7 @@ FailsByDevice old result new = IfErr result (λ fault. fault ≡ Device → Rose
 
 -- and `OutOfMemory` only where the tapes were refused a growth
 abbrev pub FailsWith : Failures → Result (Unit {0}) WriteFault → Failures → Type 0
-FailsWith old result new = IfErr result (λ fault. (fault ≡ Device → Rose old.device new.device)
-    × (fault ≡ OutOfMemory → Rose old.memory new.memory))
+FailsWith old result new = HasCause Device OutOfMemory old result new
 
 -- the faults behind which every call answers `Failed`
 abbrev pub IsEnding : WriteFault → Type 0
@@ -21,10 +20,6 @@ IsEnding Device = Unit {0}
 IsEnding OutOfMemory = Unit {0}
 IsEnding _ = ⊥
 
--- a fault in the middle of a record, a file's end or a volume's
-abbrev pub IsOfTape : WriteFault → Type 0
-IsOfTape fault = IsEnding fault × (fault ≢ RecordLength)
-
--- the same where no change of the volume was due
+-- those of them that are answered where no change of the volume is due
 abbrev pub IsOfOut : WriteFault → Type 0
-IsOfOut fault = IsEnding fault × (fault ≢ RecordLength) × (fault ≢ OutOfVolumes)
+IsOfOut fault = IsEnding fault × (fault ≢ OutOfVolumes)

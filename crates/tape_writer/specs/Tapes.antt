@@ -4,8 +4,6 @@ use Rattle.std.specs.Prelude.{IfErr, slice_get, unwrap_or, ◌+◌, Some}
 use Rattle.tape_image.specs.Tape.{TapeItem}
 use Rattle.tape_label.specs.declared.values.Vol1.{Vol1}
 pub use Rattle.tape_set.specs.Counts.{Rose}
-use Rattle.tape_writer.specs.declared.fault.OutFault.{OutFault}
-use Rattle.tape_writer.specs.declared.fault.OutFault.TheVariants.{Device, OutOfMemory}
 
 -- the volumes that ended, in order, and the items of the one under way, if there is one
 pub data Tapes : Type 0 where
@@ -57,7 +55,8 @@ pub record Failures : Type 0 where
 abbrev pub Grows : Failures → Failures → Type 0
 Grows old new = (old.device ≤ new.device) × (old.memory ≤ new.memory)
 
--- each fault is answered only where its count rose in the call
-abbrev pub HasCause : Failures → Result (Unit {0}) OutFault → Failures → Type 0
-HasCause old result new = IfErr result (λ fault. (fault ≡ Device → Rose old.device new.device)
-    × (fault ≡ OutOfMemory → Rose old.memory new.memory))
+-- the device's fault and memory's are each answered only where its count rose in the call
+abbrev pub HasCause : {E : Type 0} → E → E → Failures → Result (Unit {0}) E → Failures → Type 0
+HasCause device memory old result new = IfErr result (λ fault.
+    (fault ≡ device → Rose old.device new.device)
+    × (fault ≡ memory → Rose old.memory new.memory))

@@ -11,7 +11,7 @@ ghost use Rattle.tape_set.specs.Sizes.{item_size};
 ghost use Rattle.tape_writer.specs.declared.course.Course.{Course};
 ghost use Rattle.tape_writer.specs.Front.{HoldsFront};
 ghost use Rattle.tape_writer.specs.Lasting.{TapeLasts, StaysAsked};
-ghost use Rattle.tape_writer.specs.Faults.{FailsWith, IsOfTape};
+ghost use Rattle.tape_writer.specs.Faults.{FailsWith, IsEnding};
 ghost use Rattle.tape_writer.specs.Labels.{IsReady};
 ghost use Rattle.tape_writer.specs.Draft.{Draft, IsOpen, IsRoomy, Grew, Closed};
 ghost use Rattle.tape_writer.specs.Room.{Passed};
@@ -98,7 +98,7 @@ impl<T: TapeOut> Tape<T> {
         ensures passed { OnOk result
             (Passed self.old.course (item_size (block_item bytes.now)) self.new.course) }
         ensures asked { StaysAsked T.TapeOut volumes.now self.old result self.new }
-        ensures of_tape { IfErr result IsOfTape }
+        ensures ending { IfErr result IsEnding }
         ensures lasting { TapeLasts T.TapeOut self.old self.new }
         ensures cause { FailsWith (T.failures self.old.out) result (T.failures self.new.out) }
     {
@@ -141,7 +141,7 @@ impl<T: TapeOut> Tape<T> {
             → capacity < self.old.course.used + 184 + 372
             → result ≡ Err WriteFault.OutOfVolumes }
         ensures asked { StaysAsked T.TapeOut volumes.now self.old result self.new }
-        ensures of_tape { IfErr result IsOfTape }
+        ensures ending { IfErr result IsEnding }
         ensures lasting { TapeLasts T.TapeOut self.old self.new }
         ensures cause { FailsWith (T.failures self.old.out) result (T.failures self.new.out) }
     {

@@ -9,7 +9,7 @@ ghost use Rattle.tape_writer.specs.declared.course.Course.{Course};
 ghost use Rattle.tape_writer.specs.Tapes.{Ended, UnderWay, Grows};
 ghost use Rattle.tape_writer.specs.Front.{HoldsFront, IsEndingLast};
 ghost use Rattle.tape_writer.specs.Lasting.{TapeLasts, StaysAsked};
-ghost use Rattle.tape_writer.specs.Faults.{FailsWith, IsOfTape, IsOfOut};
+ghost use Rattle.tape_writer.specs.Faults.{FailsWith, IsEnding, IsOfOut};
 ghost use Rattle.tape_label.specs.Widths.{IsWideVolume};
 ghost use Rattle.tape_writer.specs.Labels.{IsReady};
 ghost use Rattle.tape_writer.specs.Draft.{IsRoomy};
@@ -54,7 +54,7 @@ pub(crate) fn close_file<T: TapeOut>(
         → IfErr result (λ _. IsEndingLast (HoldsFront (T.holds tape.new.out)) volumes.now capacity
         set_id (past ++ record { file = file.now; records = records } ∷ [])) }
     ensures asked { StaysAsked T.TapeOut volumes.now tape.old result tape.new }
-    ensures of_tape { IfErr result IsOfTape }
+    ensures ending { IfErr result IsEnding }
     ensures stuck { IfErr result (λ fault. fault ≡ WriteFault.OutOfVolumes
         → IfInside T.TapeOut volumes.now capacity file.now tape.old packer.old
         (λ set_id fs records. IsStuck (T.holds tape.new.out) volumes.now capacity set_id

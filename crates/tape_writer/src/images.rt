@@ -99,7 +99,7 @@ impl<S: ImageStore + Drop> ImageTapes<S> {
         ensures ok { Closes (Holds S.holds self.old) result (Holds S.holds self.new) }
         ensures err { Keeps (Holds S.holds self.old) result (Holds S.holds self.new) }
         ensures count { self.old.failed ≤ self.new.failed }
-        ensures cause { HasCause
+        ensures cause { HasCause OutFault.Device OutFault.OutOfMemory
             (device_failures self.old.failed) result (device_failures self.new.failed) }
         ensures none { OnOk result (self.new.image ≡ None) }
         ensures same { OnOk result (self.new.failed ≡ self.old.failed) }

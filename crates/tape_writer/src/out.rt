@@ -30,7 +30,8 @@ pub trait TapeOut {
         ensures ok { Takes (block bytes.now ∷ []) (holds self.old) result (holds self.new) }
         ensures err { Keeps (holds self.old) result (holds self.new) }
         ensures count { Grows (failures self.old) (failures self.new) }
-        ensures cause { HasCause (failures self.old) result (failures self.new) }
+        ensures cause { HasCause OutFault.Device OutFault.OutOfMemory
+            (failures self.old) result (failures self.new) }
         ensures asked { (v : Vol1) → asked self.old v → asked self.new v };
 
     /// Appends a tape mark to the volume under way.
@@ -38,7 +39,8 @@ pub trait TapeOut {
         ensures ok { Takes (mark ∷ []) (holds self.old) result (holds self.new) }
         ensures err { Keeps (holds self.old) result (holds self.new) }
         ensures count { Grows (failures self.old) (failures self.new) }
-        ensures cause { HasCause (failures self.old) result (failures self.new) }
+        ensures cause { HasCause OutFault.Device OutFault.OutOfMemory
+            (failures self.old) result (failures self.new) }
         ensures asked { (v : Vol1) → asked self.old v → asked self.new v };
 
     /// Ends the volume under way, if there is one, and begins the next, which this label names. The
@@ -47,7 +49,8 @@ pub trait TapeOut {
         ensures ok { Changes [] (holds self.old) result (holds self.new) }
         ensures err { Keeps (holds self.old) result (holds self.new) }
         ensures count { Grows (failures self.old) (failures self.new) }
-        ensures cause { HasCause (failures self.old) result (failures self.new) }
+        ensures cause { HasCause OutFault.Device OutFault.OutOfMemory
+            (failures self.old) result (failures self.new) }
         ensures asked { OnOk result (asked self.new volume.now) };
 
     /// Ends the volume under way, if there is one.
@@ -55,6 +58,7 @@ pub trait TapeOut {
         ensures ok { Closes (holds self.old) result (holds self.new) }
         ensures err { Keeps (holds self.old) result (holds self.new) }
         ensures count { Grows (failures self.old) (failures self.new) }
-        ensures cause { HasCause (failures self.old) result (failures self.new) }
+        ensures cause { HasCause OutFault.Device OutFault.OutOfMemory
+            (failures self.old) result (failures self.new) }
         ensures asked { (v : Vol1) → asked self.old v → asked self.new v };
 }

@@ -9,7 +9,7 @@ ghost use Rattle.tape_set.specs.Tight.{least_capacity};
 ghost use Rattle.tape_writer.specs.declared.course.Course.{Course};
 ghost use Rattle.tape_writer.specs.Front.{HoldsFront, IsMidRecord, IsPartly};
 ghost use Rattle.tape_writer.specs.Lasting.{TapeLasts, StaysAsked};
-ghost use Rattle.tape_writer.specs.Faults.{FailsWith, IsOfTape, IsEnding};
+ghost use Rattle.tape_writer.specs.Faults.{FailsWith, IsEnding};
 ghost use Rattle.tape_label.specs.Widths.{IsWideVolume};
 ghost use Rattle.tape_writer.specs.Labels.{IsReady};
 ghost use Rattle.tape_writer.specs.Draft.{IsRoomy};
@@ -55,7 +55,7 @@ fn flush<T: TapeOut>(
         × Flushed (HoldsFront (T.holds tape.new.out)) volumes.now capacity set_id file.now course
         d packer.old)) }
     ensures asked { StaysAsked T.TapeOut volumes.now tape.old result tape.new }
-    ensures of_tape { IfErr result IsOfTape }
+    ensures ending { IfErr result IsEnding }
     ensures lasting { TapeLasts T.TapeOut tape.old tape.new }
     ensures cause { FailsWith (T.failures tape.old.out) result (T.failures tape.new.out) }
 {
@@ -151,7 +151,7 @@ pub(crate) fn flush_last<T: TapeOut>(
         × IsPartly (HoldsFront (T.holds tape.new.out)) volumes.now capacity set_id file.now course
         fs records)) }
     ensures asked { StaysAsked T.TapeOut volumes.now tape.old result tape.new }
-    ensures of_tape { IfErr result IsOfTape }
+    ensures ending { IfErr result IsEnding }
     ensures stuck { IfErr result (λ fault. fault ≡ WriteFault.OutOfVolumes
         → IfInside T.TapeOut volumes.now capacity file.now tape.old packer.old
         (λ set_id fs records. IsStuck (T.holds tape.new.out) volumes.now capacity set_id
