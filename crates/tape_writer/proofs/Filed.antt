@@ -10,6 +10,7 @@ use Rattle.tape_label.specs.Head1.{IsHead1}
 use Rattle.tape_label.specs.Head2.{IsHead2}
 use Rattle.tape_label.specs.Trail1.{IsTrail1}
 use Rattle.tape_blocks.specs.Block.{Portion, IsUnit, Holds}
+use Rattle.tape_blocks.specs.Records.{AreRecordsOf}
 use Rattle.tape_blocks.specs.Tight.{Filled, IsWritten}
 use Rattle.tape_blocks.specs.Tight as packing
 use Rattle.tape_set.specs.Layout.{Section, Placed, numbered, ends_file}
@@ -21,7 +22,6 @@ use Rattle.tape_writer.specs.declared.course.Opened.{Opened}
 use Rattle.tape_writer.specs.Labels.{IsReady, head_at, trailer_at, second_label, second_kind}
 use Rattle.tape_writer.specs.Told.{IsOfFile, Told, IsFiled, AreFiled}
 use Rattle.tape_writer.specs.Draft.{IsGoing}
-use Rattle.tape_writer.specs.Inside.{HaveLengths}
 use Rattle.tape_writer.proofs.LabelLaws.{first_is, second_is, trailer_is}
 use Rattle.tape_writer.proofs.LabelLaws
 use Rattle.tape_writer.proofs.Sections.{second_kind_is}
@@ -119,7 +119,7 @@ formed file (s ∷ f) h k = (
 -- **the file has ended**
 pub filed : (cap : ℕ) (file : Opened) (records : List (List ℕ)) (bs : List Filled)
     (ss : List Section) (last : Placed)
-    → IsReady file → least_capacity file.shape ≤ cap → HaveLengths file.shape records
+    → IsReady file → least_capacity file.shape ≤ cap → AreRecordsOf file.shape records
     → packing.IsTight file.shape records bs
     → last.sect ≡ length ss + 1 → AllByRecursion (IsGoing file) (numbered file.head.sequence 1 ss)
     → IsOfFile file last → ends_file last.section ≡ true

@@ -7,6 +7,7 @@ use Rattle.tape_image.specs.Tape.{TapeItem, block, mark}
 use Rattle.tape_label.specs.declared.values.Vol1.{Vol1}
 use Rattle.tape_blocks.specs.declared.parts.Shape.{Shape}
 use Rattle.tape_blocks.specs.Packing.{Packing, HasRecordLength, the_packing, longest_block}
+use Rattle.tape_blocks.specs.Records.{AreRecordsOf}
 use Rattle.tape_blocks.specs.Run.{RunOf, Going}
 use Rattle.tape_blocks.specs.Spans.{InOrder}
 use Rattle.tape_blocks.specs.Tight as packing
@@ -21,7 +22,7 @@ use Rattle.tape_writer.specs.Draft.{Draft, placed, open_blocks, closing, here, I
 use Rattle.tape_writer.specs.Draft.{body_items, open_items, ended_volumes, Between, Within, Steady}
 use Rattle.tape_writer.specs.Draft.{IsOpen, IsResting, IsRoomy}
 use Rattle.tape_writer.specs.Inside.{IsInside, IsPacking, IsFlat, IsBetween, IsFiling, IsWaiting}
-use Rattle.tape_writer.specs.Inside.{HaveLengths, Continues, IsStuck}
+use Rattle.tape_writer.specs.Inside.{Continues, IsStuck}
 use Rattle.tape_writer.specs.Labels.{IsReady, volume_label, header_items, trailer_items}
 use Rattle.tape_writer.specs.Tapes.{Tapes, Ended, UnderWay}
 use Rattle.tape_writer.specs.Told.{Told, AreFiled, IsOfFile, IsWithin, labelled}
@@ -200,7 +201,7 @@ pub record CasesOfInside : Type 0 where
       (course : Course) (p : Packing) (fs : List (List Section)) (records : List (List ℕ))
       (i : IsInside (λ t. t ≡ tapes) volumes capacity id file course p fs records)
       → (i.draft.files ≡ fs) × (p.shape ≡ file.shape) × (p.begun ≡ false)
-      × RunOf (open_blocks i.draft) p records × HaveLengths file.shape records
+      × RunOf (open_blocks i.draft) p records × AreRecordsOf file.shape records
       × IsOpen (λ t. t ≡ tapes) volumes capacity id file course i.draft
   -- in the middle of a record a rest of it is to be packed
   pub middle : (tapes : Tapes) (volumes : List Vol1) (capacity : ℕ) (id : List ℕ) (file : Opened)
@@ -208,17 +209,17 @@ pub record CasesOfInside : Type 0 where
       (whole rest : List ℕ)
       (i : IsPacking (λ t. t ≡ tapes) volumes capacity id file course p fs records whole rest)
       → (i.draft.files ≡ fs) × (p.shape ≡ file.shape)
-      × Going (open_blocks i.draft) p records whole rest × HaveLengths file.shape records
+      × Going (open_blocks i.draft) p records whole rest × AreRecordsOf file.shape records
       × IsOpen (λ t. t ≡ tapes) volumes capacity id file course i.draft
   -- and at the end all stand in blocks
   pub flat : (tapes : Tapes) (volumes : List Vol1) (capacity : ℕ) (id : List ℕ) (file : Opened)
       (course : Course) (fs : List (List Section)) (records : List (List ℕ))
       (i : IsFlat (λ t. t ≡ tapes) volumes capacity id file course fs records)
       → (i.draft.files ≡ fs) × packing.IsTight file.shape records (open_blocks i.draft)
-      × HaveLengths file.shape records
+      × AreRecordsOf file.shape records
       × IsOpen (λ t. t ≡ tapes) volumes capacity id file course i.draft
   -- each record has a length of the shape
-  pub lengths : (shape : Shape) (r s : List ℕ) → HaveLengths shape (r ∷ s ∷ [])
+  pub lengths : (shape : Shape) (r s : List ℕ) → AreRecordsOf shape (r ∷ s ∷ [])
       → HasRecordLength shape.format shape.rec_len (length r)
       × HasRecordLength shape.format shape.rec_len (length s)
   -- between two files those told stand whole, and inside one those before it

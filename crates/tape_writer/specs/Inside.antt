@@ -3,8 +3,9 @@ use Rattle.std.specs.Prelude.{◌≡◌, ◌⊎◌, ◌≢◌, ◌≤◌, ℕ, �
 use Rattle.std.specs.List.{AllByRecursion}
 use Rattle.tape_label.specs.declared.values.Vol1.{Vol1}
 use Rattle.tape_blocks.specs.declared.parts.Shape.{Shape}
-use Rattle.tape_blocks.specs.Packing.{Packing, Given, HasRecordLength}
+use Rattle.tape_blocks.specs.Packing.{Packing, Given}
 use Rattle.tape_blocks.specs.Block.{Portion}
+use Rattle.tape_blocks.specs.Records.{AreRecordsOf}
 use Rattle.tape_blocks.specs.Spans.{InOrder, join}
 use Rattle.tape_blocks.specs.Run.{RunOf, Going, AreClosed}
 use Rattle.tape_blocks.specs.Tight.{Filled, first_len, parts_of_all}
@@ -19,11 +20,6 @@ use Rattle.tape_writer.specs.Tapes.{Tapes, Ended}
 use Rattle.tape_writer.specs.Draft.{Draft, IsOpen, IsResting, open_blocks}
 use Rattle.tape_writer.specs.Told.{Told, AreFiled}
 
--- the records have lengths of this shape
-abbrev pub HaveLengths : Shape → List (List ℕ) → Type 0
-HaveLengths shape records =
-    AllByRecursion (λ r. HasRecordLength shape.format shape.rec_len (length r)) records
-
 -- Behind the finished files fs, inside this one: these records were given.
 pub record IsInside (H : Tapes → Type 0) (volumes : List Vol1) (capacity : ℕ) (set_id : List ℕ)
     (file : Opened) (course : Course) (p : Packing) (fs : List (List Section))
@@ -34,7 +30,7 @@ pub record IsInside (H : Tapes → Type 0) (volumes : List Vol1) (capacity : ℕ
   pub shape : p.shape ≡ file.shape
   pub ended : p.begun ≡ false
   pub run : RunOf (open_blocks draft) p records
-  pub lengths : HaveLengths file.shape records
+  pub lengths : AreRecordsOf file.shape records
 
 -- In the middle of a record, this rest of it is still to be packed.
 pub record IsPacking (H : Tapes → Type 0) (volumes : List Vol1) (capacity : ℕ) (set_id : List ℕ)
@@ -45,7 +41,7 @@ pub record IsPacking (H : Tapes → Type 0) (volumes : List Vol1) (capacity : �
   pub files : draft.files ≡ fs
   pub shape : p.shape ≡ file.shape
   pub going : Going (open_blocks draft) p records whole rest
-  pub lengths : HaveLengths file.shape records
+  pub lengths : AreRecordsOf file.shape records
 
 -- The block under way was written.
 pub record Flushed (H : Tapes → Type 0) (volumes : List Vol1) (capacity : ℕ) (set_id : List ℕ)
@@ -65,7 +61,7 @@ pub record IsFlat (H : Tapes → Type 0) (volumes : List Vol1) (capacity : ℕ) 
   pub is_open : IsOpen H volumes capacity set_id file course draft
   pub files : draft.files ≡ fs
   pub tight : packing.IsTight file.shape records (open_blocks draft)
-  pub lengths : HaveLengths file.shape records
+  pub lengths : AreRecordsOf file.shape records
 
 -- Between two files, these were told.
 pub record IsBetween (H : Tapes → Type 0) (volumes : List Vol1) (capacity : ℕ) (set_id : List ℕ)
