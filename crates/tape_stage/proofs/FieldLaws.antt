@@ -2,8 +2,9 @@
 use Rattle.std.proofs.Common.{◌≡◌, ℕ, ◌+◌, ◌-◌, ◌≤◌, List, []}
 use Rattle.std.proofs.Common.{◌∷◌, length, take, drop, replicate, Ok, refl}
 use Rattle.std.proofs.Common.{subst, arith}
+use Rattle.tape_label.specs.Positions.{positions}
 use Rattle.tape_stage.specs.Text.{state_letter, flag_digit, format_letter}
-use Rattle.tape_stage.specs.Reading.{◌>>=◌, chars_at, number_at, flag_at, format_at, tail_at}
+use Rattle.tape_stage.specs.Reading.{◌>>=◌, number_at, flag_at, format_at, tail_at}
 use Rattle.tape_stage.specs.Reading.{place_at, flags_at, form_at, staged_at, state_position}
 use Rattle.tape_stage.specs.Reading.{fields_at}
 use Rattle.tape_stage.specs.declared.point.Version.{Version}
@@ -30,14 +31,14 @@ pub record HasForm (text : List ℕ) (first : ℕ) (form : Form) : Type 0 where
   pub format : take 1 (drop (first - 1) text) ≡ format_letter form.format ∷ []
   pub rec_len : HasDigits text (first + 1) (first + 5) form.rec_len
   pub offset : HasDigits text (first + 6) (first + 7) form.offset
-  pub file_id : chars_at text (first + 8) (first + 24) ≡ form.file_id
+  pub file_id : positions text (first + 8) (first + 24) ≡ form.file_id
 
 pub record HasStaged (text : List ℕ) (first staged : ℕ) : Type 0 where
   pub number : HasDigits text first (first + 14) staged
   pub tail : drop (first + 15 - 1) text ≡ replicate (81 - (first + 15)) 32
 
 pub record HasFields (version : Version) (text : List ℕ) (f : Fields) : Type 0 where
-  pub set_id : chars_at text 6 11 ≡ f.set_id
+  pub set_id : positions text 6 11 ≡ f.set_id
   pub file : HasDigits text 12 15 f.file
   pub sect : HasDigits text 16 19 f.sect
   pub place : HasPlace version text f.place
@@ -119,7 +120,7 @@ form_found : (text : List ℕ) (first : ℕ) (form : Form) → length text ≡ 8
     → form_at text first ≡ Ok form → HasForm text first form
 unfolding form_at
 form_found text first form size low e =
-    let id = chars_at text (first + 8) (first + 24) in
+    let id = positions text (first + 8) (first + 24) in
     let f =
     bind_ok (format_at text first) (λ format. number_at text (first + 1) (first + 5) >>=
     λ rec_len. number_at text (first + 6) (first + 7) >>= λ offset. Ok (record {
@@ -195,7 +196,7 @@ unfolding fields_at
 fields_found version text f size e =
     let at = state_position version in
     let low = low_state version in
-    let id = chars_at text 6 11 in
+    let id = positions text 6 11 in
     let a =
     bind_ok (number_at text 12 15) (λ file. number_at text 16 19 >>= λ sect. place_at version
     text >>= λ place. flags_at text at >>= λ flags. form_at text (at + 3) >>= λ form. staged_at

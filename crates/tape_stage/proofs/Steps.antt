@@ -8,13 +8,14 @@ use Rattle.std.proofs.lemmas.Slice.Eq.{bytes_eq-Decides}
 use Rattle.tape_label.specs.declared.values.Format.{Format}
 use Rattle.tape_label.specs.declared.values.Format.TheVariants.{Fixed, Counted, Spanned}
 use Rattle.tape_label.specs.Digits.{digits, number_of}
+use Rattle.tape_label.specs.Positions.{positions}
 use Rattle.tape_label.proofs.DigitLaws.{digits-number_of, number_of-digits, number_of-lt}
 use Rattle.tape_label.proofs.DigitLaws.{all_ascii_digits-digits}
 use Rattle.tape_label.proofs.Steps.{length-positions, character_found, character_is}
 use Rattle.tape_stage.specs.declared.point.text.PointFault.{PointFault}
 use Rattle.tape_stage.specs.declared.point.text.PointFault.TheVariants as faults
 use Rattle.tape_stage.specs.Text.{format_letter}
-use Rattle.tape_stage.specs.Reading.{◌>>=◌, chars_at, number_at, flag_at, format_at, tail_at}
+use Rattle.tape_stage.specs.Reading.{◌>>=◌, number_at, flag_at, format_at, tail_at}
 
 -- the value of a step that did not fail
 pub bind_ok : {A B : Type 0} (r : Result A PointFault) (f : A → Result B PointFault) (y : B)
@@ -37,13 +38,13 @@ passed false d x y e = absurd cc
 -- ---- numbers
 
 pub record HasDigits (text : List ℕ) (first last n : ℕ) : Type 0 where
-  pub spelled : chars_at text first last ≡ digits (last - (first - 1)) n
+  pub spelled : positions text first last ≡ digits (last - (first - 1)) n
   pub fits : n < 10 ^ (last - (first - 1))
 
 pub number_found : (text : List ℕ) (first last n : ℕ) → last ≤ length text
     → number_at text first last ≡ Ok n → HasDigits text first last n
 number_found text first last n fits e =
-    let ds = chars_at text first last in
+    let ds = positions text first last in
     let p = passed (all_ascii_digits ds) (faults.Field first) (number_of ds) n e in
     let len = length-positions text first last fits in
     rw (← p.1) record {
@@ -55,9 +56,9 @@ pub number_again : (text : List ℕ) (first last n : ℕ) → HasDigits text fir
     → number_at text first last ≡ Ok n
 number_again text first last n h =
     let width = last - (first - 1) in
-    let tests : all_ascii_digits (chars_at text first last) ≡ true =
+    let tests : all_ascii_digits (positions text first last) ≡ true =
     rw h.spelled (all_ascii_digits-digits width n) in
-    let value : number_of (chars_at text first last) ≡ n =
+    let value : number_of (positions text first last) ≡ n =
     rw h.spelled (number_of-digits width n h.fits) in
     rw (tests, value) refl
 

@@ -8,6 +8,7 @@ use Rattle.std.specs.Str.{bytes_eq, all_ascii_digits}
 use Rattle.tape_label.specs.declared.values.Format.{Format}
 use Rattle.tape_label.specs.declared.values.Format.TheVariants.{Fixed, Counted, Spanned}
 use Rattle.tape_label.specs.Digits.{number_of}
+use Rattle.tape_label.specs.Positions.{positions}
 use Rattle.tape_core.specs.Point.{Point}
 use Rattle.tape_stage.specs.declared.point.text.PointFault.{PointFault}
 use Rattle.tape_stage.specs.declared.point.text.PointFault.TheVariants as faults
@@ -27,15 +28,11 @@ abbrev pub ◌>>=◌ : {A B : Type 0} → Result A PointFault → (A → Result 
 (Ok x) >>= f = f x
 (Err e) >>= f = Err e
 
--- the characters at these positions, counted from 1
-abbrev pub chars_at : List ℕ → ℕ → ℕ → List ℕ
-chars_at text first last = slice_range text (first - 1) last
-
 -- the number in digits at these positions
 abbrev pub number_at : List ℕ → ℕ → ℕ → Result ℕ PointFault
 number_at text first last =
-    if all_ascii_digits (chars_at text first last)
-    then Ok (number_of (chars_at text first last)) else Err (faults.Field first)
+    if all_ascii_digits (positions text first last)
+    then Ok (number_of (positions text first last)) else Err (faults.Field first)
 
 -- which of two characters stands at this position
 abbrev pub flag_at : List ℕ → ℕ → ℕ → ℕ → Result Bool PointFault
@@ -86,7 +83,7 @@ form_at text first = do
     format = format;
     rec_len = rec_len;
     offset = offset;
-    file_id = chars_at text (first + 8) (first + 24);
+    file_id = positions text (first + 8) (first + 24);
   }
 
 -- the staged weight, and spaces to the end
@@ -111,7 +108,7 @@ fields_at version text = do
   form ← form_at text (state_position version + 3)
   staged ← staged_at text (state_position version + 28)
   Ok record {
-    set_id = chars_at text 6 11;
+    set_id = positions text 6 11;
     file = file;
     sect = sect;
     place = place;

@@ -3,9 +3,10 @@
 ghost use Rattle.std.specs.Prelude.{◌≡◌, ◌≤◌, length, ◌<◌, ◌+◌, ◌-◌, ◌^◌, ◌++◌};
 ghost use Rattle.arrayvec.specs.ArrayVec.{array_vec_len};
 ghost use Rattle.tape_label.specs.Digits.{digits};
+ghost use Rattle.tape_label.specs.Positions.{positions};
 ghost use Rattle.tape_label.specs.Written.{text_of, HaveWidths};
 ghost use Rattle.tape_stage.specs.Reading.{version_by, state_position, fields_at, text_at};
-ghost use Rattle.tape_stage.specs.Reading.{place_at, flags_at, form_at, staged_at, chars_at};
+ghost use Rattle.tape_stage.specs.Reading.{place_at, flags_at, form_at, staged_at};
 ghost use Rattle.tape_stage.specs.Reading.{number_at, flag_at, format_at, tail_at};
 ghost use Rattle.tape_stage.specs.PointFaults.{number};
 ghost use Rattle.tape_stage.specs.Text.{state_letter, flag_digit, format_letter, Fit, pieces};
@@ -114,7 +115,7 @@ pub(crate) fn tail_at(text: &[u8], first: u8) -> Result<(), PointFault>
 pub(crate) fn field_at<const N: usize>(text: &[u8], first: u8) -> Field<N>
     requires first { 1 ≤ first }
     requires last { first + N ≤ length text.now + 1 }
-    ensures { result ≡ chars_at text.now first (first - 1 + N) }
+    ensures { result ≡ positions text.now first (first - 1 + N) }
 {
     let start = first as usize - 1;
     let mut characters = [0; N];
