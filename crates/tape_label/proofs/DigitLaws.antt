@@ -1,18 +1,14 @@
 -- A number and its digits with leading zeros are told by each other.
-use Rattle.std.proofs.Common.{◌≡◌, ℕ, zero, suc, ◌+◌, ◌-◌, ◌*◌, ◌/◌, ◌%◌, ◌^◌, ◌<◌, ◌≤◌, Bool, true}
-use Rattle.std.proofs.Common.{false, List, [], ◌∷◌, ◌++◌, length, drop, arith, add-one, refl, sym}
-use Rattle.std.proofs.Common.{ap, ◌∙◌, append_assoc, rules}
-use Rattle.std.specs.Prelude.{◌&&◌}
+use Rattle.std.proofs.Common.{◌≡◌, ℕ, zero, suc, ◌+◌, ◌-◌, ◌*◌, ◌/◌, ◌%◌, ◌^◌, ◌<◌, ◌≤◌, true}
+use Rattle.std.proofs.Common.{List, [], ◌∷◌, ◌++◌, length, drop, arith, add-one, refl, sym}
+use Rattle.std.proofs.Common.{◌∙◌, append_assoc, rules}
 use Rattle.std.specs.Str.{all_ascii_digits}
 use Rattle.std.specs.Char.{is_ascii_digit}
+use Rattle.std.proofs.lemmas.Bool.{and_parts}
 use Rattle.std.proofs.Math.Nat.{pow-suc, pow-le-pow_right}
 use Rattle.std.proofs.lemmas.List.{append-nil, drop_all}
 use Rattle.std.proofs.lemmas.Grind.{common_steps}
 use Rattle.tape_label.specs.Digits.{digits, number_after, number_of}
-
-both : (a b : Bool) → (a && b) ≡ true → (a ≡ true) × (b ≡ true)
-both true b e = (refl, e)
-both false b e = absurd cc
 
 digit_range : (d : ℕ) → is_ascii_digit d ≡ true → (48 ≤ d) × (d < 58)
 digit_range d e = search rules
@@ -23,7 +19,7 @@ digits-number_after : (k n : ℕ) (ds : List ℕ) → all_ascii_digits ds ≡ tr
     → digits (k + length ds) (number_after n ds) ≡ digits k n ++ ds
 digits-number_after k n [] e = let z : k + 0 ≡ k = omega arith in rw (z, append-nil) refl
 digits-number_after k n (d ∷ ds) e =
-    let parts = both (is_ascii_digit d) (all_ascii_digits ds) e in
+    let parts = and_parts (is_ascii_digit d) (all_ascii_digits ds) e in
     let range = digit_range d parts.0 in
     let widths : k + suc (length ds) ≡ suc k + length ds = omega arith in
     let high : (n * 10 + (d - 48)) / 10 ≡ n = omega arith in
@@ -67,7 +63,7 @@ all_ascii_digits-append : (xs ys : List ℕ) → all_ascii_digits xs ≡ true �
     → all_ascii_digits (xs ++ ys) ≡ true
 all_ascii_digits-append [] ys p q = q
 all_ascii_digits-append (x ∷ xs) ys p q =
-    let parts = both (is_ascii_digit x) (all_ascii_digits xs) p in
+    let parts = and_parts (is_ascii_digit x) (all_ascii_digits xs) p in
     rw (parts.0, all_ascii_digits-append xs ys parts.1 q) refl
 
 last_digit : (n : ℕ) → all_ascii_digits ((48 + n % 10) ∷ []) ≡ true
@@ -87,7 +83,7 @@ number_after-lt : (n : ℕ) (ds : List ℕ) → all_ascii_digits ds ≡ true
     → number_after n ds < (n + 1) * 10 ^ length ds
 number_after-lt n [] e = omega arith
 number_after-lt n (d ∷ ds) e =
-    let parts = both (is_ascii_digit d) (all_ascii_digits ds) e in
+    let parts = and_parts (is_ascii_digit d) (all_ascii_digits ds) e in
     let range = digit_range d parts.0 in
     let more : 10 ^ suc (length ds) ≡ 10 ^ length ds * 10 = pow-suc 10 (length ds) in
     let rest = number_after-lt (n * 10 + (d - 48)) ds parts.1 in
@@ -120,9 +116,3 @@ pub read_all : (number i : ℕ) (text : List ℕ) → length text ≤ i
 read_all number i text le value tests =
     let rest : drop i text ≡ [] = drop_all i text le in
     (sym (rw rest at tests), rw rest at value)
-
--- ---- for the crates above
-
--- Two numbers that fit and have the same digits are one.
-pub digits-unique : (k m n : ℕ) → m < 10 ^ k → n < 10 ^ k → digits k m ≡ digits k n → m ≡ n
-digits-unique k m n p q e = sym (number_of-digits k m p) ∙ ap number_of e ∙ number_of-digits k n q
