@@ -11,14 +11,14 @@ use Rattle.tape_label.specs.Kinds.{identifier}
 use Rattle.tape_label.specs.Head1.{IsHead1}
 use Rattle.tape_label.specs.Head2.{Head2Fits}
 use Rattle.tape_label.specs.Written.{text_of, head1_pieces}
-use Rattle.tape_label.proofs.DigitLaws.{length-digits}
+use Rattle.tape_label.proofs.Widths.{head_wide}
 use Rattle.tape_label.proofs.Texts.{head1_text_is}
 use Rattle.tape_blocks.specs.declared.parts.Shape.{Shape}
 use Rattle.tape_set.specs.Layout.{Section}
 use Rattle.tape_set.specs.Lawful.{FileForm, TellsForm, IsVolume, form_of}
 use Rattle.tape_set.specs.Tight.{second_of}
 use Rattle.tape_set.proofs.Forms.{one_form}
-use Rattle.tape_set.proofs.Worked.{head, vol1, second, made, form, second_is, made_form}
+use Rattle.tape_set.proofs.Worked.{head, wide, vol1, second, made, form, second_is, made_form}
 use Rattle.tape_set.proofs.WorkedFile.{shape, shape_fits}
 use Rattle.tape_set.proofs.RefusedSets.{OnlyVolumes, on_volume, only_volume, fit_of, empty_form}
 
@@ -159,22 +159,8 @@ other_head = record (head 1 2) { file_id = codes "WAGES            " }
 
 other_head_is : IsHead1 (text_of (head1_pieces other_head)) other_head
 other_head_is =
-    head1_text_is other_head (record { sect = (lit≤ tt, lit≤ tt); sequence = (lit≤ tt, lit≤ tt) }) (
-      refl,
-      (
-        refl,
-        (
-          refl,
-          (
-            length-digits 4 2,
-            (
-              length-digits 4 1,
-              (refl, (refl, (refl, (refl, (refl, (length-digits 6 0, (refl, (refl, tt)))))))),
-            ),
-          ),
-        ),
-      ),
-    )
+    head1_text_is other_head (record { sect = (lit≤ tt, lit≤ tt); sequence = (lit≤ tt, lit≤ tt) })
+    (head_wide kinds.Hdr1 other_head 0 (wide 1 2 other_head.file_id other_head.set_id refl refl))
 
 abbrev other_file_section : Section
 other_file_section = record (made shape 2 1 2 true []) { hdr1 = text_of (head1_pieces other_head) }

@@ -13,13 +13,14 @@ use Rattle.tape_label.specs.declared.values.Kind.TheVariants.{Eov2 as AEov2}
 use Rattle.tape_label.specs.declared.values.Vol1.{Vol1}
 use Rattle.tape_label.specs.declared.values.Head1.{Head1}
 use Rattle.tape_label.specs.declared.values.Trail1.{Trail1}
-use Rattle.tape_label.specs.Kinds.{HasKind, IsSecond, identifier}
+use Rattle.tape_label.specs.Kinds.{HasKind, IsSecond, trailer as trailer_kind}
 use Rattle.tape_label.specs.Head1.{IsHead1, HeadFits}
 use Rattle.tape_label.specs.Head2.{IsHead2, Head2Fits}
 use Rattle.tape_label.specs.Trail1.{IsTrail1, TrailFits}
 use Rattle.tape_label.specs.Written.{text_of, vol1_pieces, head1_pieces, trail1_pieces}
 use Rattle.tape_label.specs.Written.{head2_pieces}
-use Rattle.tape_label.proofs.DigitLaws.{length-digits}
+use Rattle.tape_label.specs.Widths.{IsWide}
+use Rattle.tape_label.proofs.Widths.{head_wide, head2_wide}
 use Rattle.tape_label.proofs.Texts.{head1_text_is, trail1_text_is, head2_text_is}
 use Rattle.tape_blocks.specs.declared.parts.Shape.{Shape}
 use Rattle.tape_blocks.specs.Block.{Portion, Holds}
@@ -78,84 +79,36 @@ trailer eof file sect n = text_of (trail1_pieces (trail eof file sect n))
 pub vol1_is : HasKind vol1 kinds.Vol1
 vol1_is = record { size = refl; named = refl }
 
+-- a first label with any identifiers that are as wide
+pub wide : (file sect : ℕ) (name id : List ℕ) → length name ≡ 17 → length id ≡ 6
+    → IsWide (record (head file sect) { file_id = name; set_id = id })
+wide file sect name id named identified = record {
+  file_id = named;
+  set_id = identified;
+  generation = refl;
+  gen_version = refl;
+  created = refl;
+  expires = refl;
+  implementation = refl;
+}
+
+head_is_wide : (file sect : ℕ) → IsWide (head file sect)
+head_is_wide file sect = wide file sect (head file sect).file_id set_id refl refl
+
 pub hdr1_is : (file sect : ℕ) → HeadFits (head file sect)
     → IsHead1 (hdr1 file sect) (head file sect)
-hdr1_is file sect fits =
-    head1_text_is (head file sect) fits (
-      refl,
-      (
-        refl,
-        (
-          refl,
-          (
-            length-digits 4 sect,
-            (
-              length-digits 4 file,
-              (refl, (refl, (refl, (refl, (refl, (length-digits 6 0, (refl, (refl, tt)))))))),
-            ),
-          ),
-        ),
-      ),
-    )
+hdr1_is file sect fits = head1_text_is (head file sect) fits
+    (head_wide kinds.Hdr1 (head file sect) 0 (head_is_wide file sect))
 
 pub trailer_is : (eof : Bool) (file sect n : ℕ) → TrailFits (trail eof file sect n)
     → IsTrail1 (trailer eof file sect n) (trail eof file sect n)
-trailer_is true file sect n fits =
-    trail1_text_is (trail true file sect n) fits (
-      refl,
-      (
-        refl,
-        (
-          refl,
-          (
-            length-digits 4 sect,
-            (
-              length-digits 4 file,
-              (refl, (refl, (refl, (refl, (refl, (length-digits 6 n, (refl, (refl, tt)))))))),
-            ),
-          ),
-        ),
-      ),
-    )
-trailer_is false file sect n fits =
-    trail1_text_is (trail false file sect n) fits (
-      refl,
-      (
-        refl,
-        (
-          refl,
-          (
-            length-digits 4 sect,
-            (
-              length-digits 4 file,
-              (refl, (refl, (refl, (refl, (refl, (length-digits 6 n, (refl, (refl, tt)))))))),
-            ),
-          ),
-        ),
-      ),
-    )
+trailer_is eof file sect n fits = trail1_text_is (trail eof file sect n) fits
+    (head_wide (trailer_kind eof) (head file sect) n (head_is_wide file sect))
 
 pub second_is : (kind : Kind) (shape : Shape) → IsSecond kind → Head2Fits (second_of shape)
     → IsHead2 (second kind shape) kind (second_of shape)
-second_is kind shape h fits = head2_text_is kind (second_of shape) h fits (
-  four kind h,
-  (
-    refl,
-    (
-      length-digits 5 shape.block_len,
-      (length-digits 5 shape.rec_len, (refl, (length-digits 2 shape.offset, (refl, tt)))),
-    ),
-  ),
-)
-  where
-    four : (k : Kind) → IsSecond k → length (identifier k) ≡ 4
-    four AHdr2 h = refl
-    four AEof2 h = refl
-    four AEov2 h = refl
-    four AVol1 h = absurd h
-    four AHdr1 h = absurd h
-    four AEof1 h = absurd h
-    four AEov1 h = absurd h
+second_is kind shape h fits =
+    head2_text_is kind (second_of shape) h fits (head2_wide kind (second_of shape))
 
 -- ---- sections
 
