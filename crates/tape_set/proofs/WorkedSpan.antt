@@ -18,10 +18,11 @@ use Rattle.tape_set.specs.Layout.{FileSet, sections, all_items, item_of, data_gr
 use Rattle.tape_set.specs.Position.{awaiting, at_part}
 use Rattle.tape_set.specs.Sizes.{items_size}
 use Rattle.tape_set.specs.Before.{before}
-use Rattle.tape_set.specs.Lawful.{IsLawful, most_blocks}
+use Rattle.tape_set.specs.Lawful.{IsLawful}
 use Rattle.tape_set.specs.Tight.{IsTight, IsTightChange, ChainBehind, second_of}
-use Rattle.tape_set.proofs.Worked.{set_id, made, filled, form, Fit, made_section, made_form}
+use Rattle.tape_set.proofs.Worked.{set_id, made, filled, form, made_section, made_form}
 use Rattle.tape_set.proofs.Worked.{made_plain, plain_volume, plain_volume_is}
+use Rattle.tape_set.proofs.WorkedFile.{fit_of}
 
 -- a format that is not F has no least record length
 pub not_fixed : Spanned ≡ Fixed → 1 ≤ 0
@@ -144,15 +145,6 @@ spanned = record {
   set_id = set_id;
   volumes = plain_volume ∷ plain_volume ∷ [];
   files = (made shape 1 1 1 false on_first ∷ made shape 2 1 2 true (last_block ∷ []) ∷ []) ∷ [];
-}
-
-fit_of : (sect n : ℕ) → 1 ≤ sect → sect ≤ 9999 → n ≤ most_blocks → Fit 1 sect n
-fit_of sect n a b c = record {
-  file_least = lit≤ tt;
-  file_most = lit≤ tt;
-  sect_least = a;
-  sect_most = b;
-  count_most = c;
 }
 
 spanned_lawful : IsLawful spanned
