@@ -50,6 +50,10 @@ pub fn entries(
 }
 
 /// What stands on the volume of this section before the section's data, where `own` is its file.
+///
+/// # Errors
+///
+/// `AllocError` where memory is refused.
 pub fn before_data(
     alloc: Global,
     layout: &Layout,
