@@ -3,13 +3,12 @@ use Rattle.std.proofs.Common.{◌≡◌, ℕ, ◌^◌, ◌<◌, true, List, leng
 use Rattle.std.proofs.Common.{Option, None, Some, Result, Ok, Err, refl, sym, subst, ap, ◌∙◌}
 use Rattle.std.proofs.Common.{arith}
 use Rattle.std.specs.Prelude.{IfOk}
-use Rattle.tape_label.specs.Written.{text_of, HaveWidths}
+use Rattle.tape_label.specs.Written.{text_of, spaces, HaveWidths}
 use Rattle.tape_label.proofs.Pieces.{StandAt, pieces_stand}
 use Rattle.tape_label.proofs.Steps.{length-positions}
-use Rattle.tape_label.proofs.DigitLaws.{length-digits}
 use Rattle.tape_set.specs.declared.position.Position.{Position}
 use Rattle.tape_set.specs.declared.position.Position.TheVariants.{Awaits, Finished}
-use Rattle.tape_set.specs.Position.{sect_of, block_of, part_of}
+use Rattle.tape_set.specs.Position.{sect_of}
 use Rattle.tape_set.specs.Lawful.{FileForm}
 use Rattle.tape_core.specs.Known.{PositionFits}
 use Rattle.tape_core.specs.Point.{Point}
@@ -21,7 +20,8 @@ use Rattle.tape_stage.specs.declared.point.Fields.{Fields}
 use Rattle.tape_stage.specs.Fields.{form_of, fields_of, point_by}
 use Rattle.tape_stage.specs.Range.{is_right}
 use Rattle.tape_stage.specs.Reading.{text_at, right_point, reading}
-use Rattle.tape_stage.specs.Text.{pieces, Fit, KnownFits, IsWritable, IsPointText}
+use Rattle.tape_stage.specs.Text.{pieces, rest_pieces, tail_width, Fit, KnownFits, IsWritable}
+use Rattle.tape_stage.specs.Text.{IsPointText}
 use Rattle.tape_stage.proofs.Stood.{stood}
 use Rattle.tape_stage.proofs.Steps.{bind_ok, passed}
 use Rattle.tape_stage.proofs.TextLaws.{Reads, text_found, text_again, reads_stand, stands_read}
@@ -51,92 +51,28 @@ point_fits v c w =
       staged = omega (arith, w.right.light);
     }
 
-widths : (v : Version) (c : Point) → length c.set_id ≡ 6 → length (form_of c.known).file_id ≡ 17
-    → HaveWidths (pieces v (fields_of c))
-widths One c set_id file_id = (
-  refl,
-  (
-    refl,
-    (
-      set_id,
-      (
-        length-digits 4 c.file,
-        (
-          length-digits 4 (sect_of c.position),
-          (
-            length-digits 6 (block_of c.position),
-            (
-              refl,
-              (
-                refl,
-                (
-                  refl,
-                  (
-                    refl,
-                    (
-                      length-digits 5 (form_of c.known).rec_len,
-                      (
-                        length-digits 2 (form_of c.known).offset,
-                        (file_id, (length-digits 15 c.staged, (refl, tt))),
-                      ),
-                    ),
-                  ),
-                ),
-              ),
-            ),
-          ),
-        ),
-      ),
-    ),
-  ),
-)
-widths Two c set_id file_id = (
-  refl,
-  (
-    refl,
-    (
-      set_id,
-      (
-        length-digits 4 c.file,
-        (
-          length-digits 4 (sect_of c.position),
-          (
-            length-digits 10 (block_of c.position),
-            (
-              length-digits 5 (part_of c.position),
-              (
-                refl,
-                (
-                  refl,
-                  (
-                    refl,
-                    (
-                      refl,
-                      (
-                        length-digits 5 (form_of c.known).rec_len,
-                        (
-                          length-digits 2 (form_of c.known).offset,
-                          (file_id, (length-digits 15 c.staged, (refl, tt))),
-                        ),
-                      ),
-                    ),
-                  ),
-                ),
-              ),
-            ),
-          ),
-        ),
-      ),
-    ),
-  ),
-)
+tail_wide : (v : Version) → length (spaces (tail_width v)).text ≡ tail_width v
+tail_wide One = refl
+tail_wide Two = refl
+
+-- from the state on
+rest_wide : (v : Version) (f : Fields) → length f.form.file_id ≡ 17 → HaveWidths (rest_pieces v f)
+rest_wide v f file_id =
+    (refl, (refl, (refl, (refl, (refl, (refl, (file_id, (refl, (tail_wide v, tt)))))))))
+
+widths : (v : Version) (f : Fields) → length f.set_id ≡ 6 → length f.form.file_id ≡ 17
+    → HaveWidths (pieces v f)
+widths One f set_id file_id =
+    (refl, (refl, (set_id, (refl, (refl, (refl, rest_wide One f file_id))))))
+widths Two f set_id file_id =
+    (refl, (refl, (set_id, (refl, (refl, (refl, (refl, rest_wide Two f file_id)))))))
 
 pub point_read : (v : Version) (c : Point) (text : List ℕ) → IsPointText v text c
     → text_at text ≡ Ok (v, fields_of c)
 point_read v c text is =
     let ps = pieces v (fields_of c) in
     let stand : StandAt 0 ps text = subst (λ (t : List ℕ). StandAt 0 ps t) (sym is.text)
-    (pieces_stand ps (widths v c is.set_id is.file_id)) in
+    (pieces_stand ps (widths v (fields_of c) is.set_id is.file_id)) in
     text_again text v (fields_of c) (stands_read v (fields_of c) text (point_fits v c is.writable)
     stand)
 
