@@ -182,13 +182,6 @@ given walked end size old new span content parts low found long same ahead =
           (subst (λ (k : ℕ). AheadIn k end old one.rest) there one.next),
     )
 
--- No frame stands where none is read, so parts do not either.
-pub refused : (place end : ℕ) (bytes : List ℕ) (parts : List Portion) → place < end
-    → ((span : Span) (content : List ℕ) → IsFrameAt place end bytes span content → ⊥)
-    → AheadIn place end bytes parts → ⊥
-refused place end bytes parts low none ahead = let one =
-    one_ahead place end bytes parts low ahead in none one.part.span one.part.bytes one.frame_is
-
 -- nothing is ahead of the end, and that is so again from there on
 pub nothing_ahead : (place end : ℕ) (bytes : List ℕ) (parts : List Portion) → end ≤ place
     → AheadIn place end bytes parts → (parts ≡ []) × AheadIn place end bytes []

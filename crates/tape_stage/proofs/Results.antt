@@ -20,9 +20,6 @@ pub if_err : {A B : Type 0} (r : Result A B) {P Q : B → Type 0} → ((e : B) �
 if_err (Ok x) also p = tt
 if_err (Err e) also p = also e p
 
-err_is : {A : Type 0} (d e : StageFault) (r : Result A StageFault) → r ≡ Err d → r ≡ Err e → d ≡ e
-err_is d e r a b = cc
-
 -- an error passed on
 pub err_bad : {A : Type 0} {P : Type 0} (r : Result A StageFault) (e : StageFault) → r ≡ Err e
     → (SaysNone e → P) → IfErr r (λ fault. SaysNone fault → P)

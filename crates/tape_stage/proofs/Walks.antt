@@ -1,6 +1,6 @@
 -- One frame after another.
-use Rattle.std.proofs.Common.{◌≡◌, ℕ, zero, suc, ◌+◌, ◌-◌, ◌≤◌, ◌<◌, List}
-use Rattle.std.proofs.Common.{[], ◌∷◌, ◌++◌, take, drop, length, get_or, w32, refl, sym, ap, ◌∙◌}
+use Rattle.std.proofs.Common.{◌≡◌, ℕ, ◌+◌, ◌-◌, ◌≤◌, List}
+use Rattle.std.proofs.Common.{[], ◌∷◌, ◌++◌, take, drop, length, w32, refl, sym, ap, ◌∙◌}
 use Rattle.std.proofs.Common.{subst, arith}
 use Rattle.std.proofs.lemmas.List.{length-take-le, length-drop, drop-drop}
 use Rattle.std.proofs.Math.Seq.{take-add}
@@ -53,21 +53,3 @@ walked_more place size span header bytes room read is short walked =
           (omega (arith, n, walked.low)) holding.frames_are;
       short = holding.short;
     }
-
-five : (l : List ℕ) → length l ≡ 5 → l ≡ get_or l 0 0 ∷ get_or l 1 0 ∷ get_or l 2 0 ∷ get_or l 3 0
-    ∷ get_or l 4 0 ∷ []
-five [] is = absurd (omega arith)
-five (a ∷ []) is = absurd (omega arith)
-five (a ∷ b ∷ []) is = absurd (omega arith)
-five (a ∷ b ∷ c ∷ []) is = absurd (omega arith)
-five (a ∷ b ∷ c ∷ d ∷ []) is = absurd (omega arith)
-five (a ∷ b ∷ c ∷ d ∷ e ∷ []) is = refl
-five (a ∷ b ∷ c ∷ d ∷ e ∷ f ∷ l) is = absurd (omega arith)
-
-four_fit : (l : List ℕ) → ((i : ℕ) → get_or l i 0 < 256) → (i : ℕ)
-    → get_or (get_or l 1 0 ∷ get_or l 2 0 ∷ get_or l 3 0 ∷ get_or l 4 0 ∷ []) i 0 < 256
-four_fit l fits zero = fits 1
-four_fit l fits (suc zero) = fits 2
-four_fit l fits (suc (suc zero)) = fits 3
-four_fit l fits (suc (suc (suc zero))) = fits 4
-four_fit l fits (suc (suc (suc (suc i)))) = omega arith
