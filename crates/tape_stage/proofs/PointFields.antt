@@ -3,6 +3,7 @@ use Rattle.std.proofs.Common.{◌≡◌, ℕ, ◌^◌, ◌<◌, ◌≤◌, Bool,
 use Rattle.std.proofs.Common.{replicate, Option, None, Some, refl, sym, subst, arith, rules}
 use Rattle.std.specs.Prelude.{◌&&◌, ◌==◌, nat_le, not, if◌then◌else◌, is_some}
 use Rattle.std.specs.Str.{bytes_eq}
+use Rattle.std.proofs.lemmas.Bool.{and_parts}
 use Rattle.std.proofs.lemmas.Slice.Eq.{bytes_eq-Decides}
 use Rattle.tape_label.specs.declared.values.Format.{Format}
 use Rattle.tape_label.specs.declared.values.Format.TheVariants.{Fixed, Counted, Spanned}
@@ -77,10 +78,6 @@ point_right v c w =
 
 -- ---- right fields are those of their checkpoint
 
-both : (a b : Bool) → (a && b) ≡ true → (a ≡ true) × (b ≡ true)
-both true b e = (refl, e)
-both false b e = absurd cc
-
 record AreRight (f : Fields) : Type 0 where
   place : place_agrees f ≡ true
   form : form_agrees f.form f.flags.known f.form.format ≡ true
@@ -88,9 +85,9 @@ record AreRight (f : Fields) : Type 0 where
 
 are_right : (f : Fields) → is_right f ≡ true → AreRight f
 are_right f right =
-    let a = both (place_agrees f && form_agrees f.form f.flags.known f.form.format)
+    let a = and_parts (place_agrees f && form_agrees f.form f.flags.known f.form.format)
     (in_range (point_by f)) right in
-    let b = both (place_agrees f) (form_agrees f.form f.flags.known f.form.format) a.0 in
+    let b = and_parts (place_agrees f) (form_agrees f.form f.flags.known f.form.format) a.0 in
     record { place = b.0; form = b.1; range = a.1 }
 
 record HasPlaceBack (p : Position) (done : Bool) (sect block part : ℕ) : Type 0 where
@@ -119,9 +116,9 @@ blank_is : (form : Form) → is_blank form ≡ true → (form.rec_len ≡ 0) × 
     × (form.file_id ≡ replicate 17 32)
 blank_is form e =
     let a =
-    both ((form.rec_len == 0) && (form.offset == 0)) (bytes_eq form.file_id (replicate 17 32))
+    and_parts ((form.rec_len == 0) && (form.offset == 0)) (bytes_eq form.file_id (replicate 17 32))
     e in
-    let b = both (form.rec_len == 0) (form.offset == 0) a.0 in
+    let b = and_parts (form.rec_len == 0) (form.offset == 0) a.0 in
     let len : (form.rec_len == 0) ≡ true = b.0 in
     let off : (form.offset == 0) ≡ true = b.1 in
     (search rules, search rules, (bytes_eq-Decides form.file_id (replicate 17 32)).0 a.1)
@@ -134,7 +131,7 @@ form_back : (form : Form) (known : Bool) (format : Option Format) → form.forma
     → form_agrees form known format ≡ true
     → (form_of (known_as form format) ≡ form) × (is_some (known_as form format) ≡ known)
 form_back form known None is e =
-    let a = both (not known) (is_blank form) e in
+    let a = and_parts (not known) (is_blank form) e in
     let b = blank_is form a.1 in
     let blank : Form = record {
       format = None;
@@ -152,7 +149,7 @@ form_back form known None is e =
     } ≡ blank = rw (is, b.0, b.1, b.2) refl in
     (sym same, not_true known a.0)
 form_back form known (Some format) is e =
-    (rw (← is) refl, sym (both known (form_in_range (form_as form format)) e).0)
+    (rw (← is) refl, sym (and_parts known (form_in_range (form_as form format)) e).0)
 
 pub fields_again : (f : Fields) → is_right f ≡ true → fields_of (point_by f) ≡ f
 fields_again f right =
@@ -166,7 +163,7 @@ fields_again f right =
 form_says : (format : Format) (rec_len offset : ℕ) → length_in_range format rec_len ≡ true
     → offset ≤ 99 → IsForm format rec_len offset
 form_says Fixed rec_len offset e small =
-    let a = both (nat_le 1 rec_len) (nat_le rec_len 99999) e in
+    let a = and_parts (nat_le 1 rec_len) (nat_le rec_len 99999) e in
     let least : nat_le 1 rec_len ≡ true = a.0 in
     let most : nat_le rec_len 99999 ≡ true = a.1 in
     record { least = search rules; binding = refl; len_fits = search rules; offset_fits = small }
@@ -193,8 +190,8 @@ known_fits : (form : Form) (known : Bool) (format : Option Format) → form.offs
     → form_agrees form known format ≡ true → KnownFits (known_as form format)
 known_fits form known None off e = tt
 known_fits form known (Some format) off e =
-    let a = both known (form_in_range (form_as form format)) e in
-    let b = both (length_in_range format form.rec_len) (nat_le form.offset 99) a.1 in
+    let a = and_parts known (form_in_range (form_as form format)) e in
+    let b = and_parts (length_in_range format form.rec_len) (nat_le form.offset 99) a.1 in
     form_says format form.rec_len form.offset b.0 (omega (arith, off))
 
 place_same : (p : Position) (done : Bool) (f : Fields) → HasPlaceBack p done f.sect f.place.block
