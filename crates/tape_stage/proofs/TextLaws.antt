@@ -1,5 +1,5 @@
 -- A text that is read is that of its fields, and the text of fields is read.
-use Rattle.std.proofs.Common.{◌≡◌, ℕ, ◌+◌, Bool, true, false, cond, eqb, List}
+use Rattle.std.proofs.Common.{◌≡◌, ℕ, ◌+◌, ◌-◌, ◌++◌, Bool, true, false, cond, eqb, List}
 use Rattle.std.proofs.Common.{[], ◌∷◌, length, get_or, take, drop, replicate}
 use Rattle.std.proofs.Common.{Result, Ok, Err, refl, sym, subst, ap, ◌∙◌, arith}
 use Rattle.std.specs.Prelude.{codes}
@@ -14,11 +14,10 @@ use Rattle.tape_stage.specs.declared.point.text.PointFault.TheVariants as faults
 use Rattle.tape_stage.specs.declared.point.Version.{Version}
 use Rattle.tape_stage.specs.declared.point.Version.TheVariants.{One, Two}
 use Rattle.tape_stage.specs.declared.point.Fields.{Fields}
-use Rattle.tape_stage.specs.Text.{version_digit, pieces, Fit}
-use Rattle.tape_stage.specs.Reading.{◌>>=◌, version_by, fields_at, text_at}
-use Rattle.tape_stage.proofs.Steps.{bind_ok, done, ok_is}
-use Rattle.tape_stage.proofs.FieldLaws.{HasFields}
-use Rattle.tape_stage.proofs.FieldLaws.{fields_found, fields_again}
+use Rattle.tape_stage.specs.Text.{version_digit, place_pieces, rest_pieces, pieces, Fit}
+use Rattle.tape_stage.specs.Reading.{◌>>=◌, state_position, version_by, fields_at, text_at}
+use Rattle.tape_stage.proofs.Steps.{HasDigits, bind_ok, done, ok_is}
+use Rattle.tape_stage.proofs.FieldLaws.{HasFields, fields_found, fields_again}
 
 -- the text has these fields in this version
 pub record Reads (version : Version) (f : Fields) (text : List ℕ) : Type 0 where
@@ -78,93 +77,40 @@ text_again text v f r =
 
 -- ---- as pieces that stand one after another
 
+staged_stand : (v : Version) (f : Fields) (text : List ℕ) → Reads v f text
+    → StandAt (state_position v + 27) (drop 7 (rest_pieces v f)) text
+staged_stand One f text r =
+    let h = r.fields.staged in (h.number.spelled, (ap (take 12) h.tail, r.size))
+staged_stand Two f text r =
+    let h = r.fields.staged in (h.number.spelled, (ap (take 3) h.tail, r.size))
+
+form_stand : (v : Version) (f : Fields) (text : List ℕ) → Reads v f text
+    → StandAt (state_position v + 2) (drop 3 (rest_pieces v f)) text
+form_stand One f text r =
+    let h = r.fields.form in
+    (h.format, (h.rec_len.spelled, (h.offset.spelled, (h.file_id, staged_stand One f text r))))
+form_stand Two f text r =
+    let h = r.fields.form in
+    (h.format, (h.rec_len.spelled, (h.offset.spelled, (h.file_id, staged_stand Two f text r))))
+
+rest_stand : (v : Version) (f : Fields) (text : List ℕ) → Reads v f text
+    → StandAt (state_position v - 1) (rest_pieces v f) text
+rest_stand One f text r =
+    let h = r.fields.flags in (h.done, (h.begun, (h.known, form_stand One f text r)))
+rest_stand Two f text r =
+    let h = r.fields.flags in (h.done, (h.begun, (h.known, form_stand Two f text r)))
+
+place_stand : (v : Version) (f : Fields) (text : List ℕ) → Reads v f text
+    → StandAt 19 (place_pieces v f.place ++ rest_pieces v f) text
+place_stand One f text r = (r.fields.place.0.spelled, rest_stand One f text r)
+place_stand Two f text r =
+    (r.fields.place.0.spelled, (r.fields.place.1.spelled, rest_stand Two f text r))
+
 pub reads_stand : (v : Version) (f : Fields) (text : List ℕ) → Reads v f text
     → StandAt 0 (pieces v f) text
-reads_stand One f text r =
-    let h = r.fields in (
-      r.mark,
-      (
-        r.digit,
-        (
-          h.set_id,
-          (
-            h.file.spelled,
-            (
-              h.sect.spelled,
-              (
-                h.place.0.spelled,
-                (
-                  h.flags.done,
-                  (
-                    h.flags.begun,
-                    (
-                      h.flags.known,
-                      (
-                        h.form.format,
-                        (
-                          h.form.rec_len.spelled,
-                          (
-                            h.form.offset.spelled,
-                            (
-                              h.form.file_id,
-                              (h.staged.number.spelled, (ap (take 12) h.staged.tail, r.size)),
-                            ),
-                          ),
-                        ),
-                      ),
-                    ),
-                  ),
-                ),
-              ),
-            ),
-          ),
-        ),
-      ),
-    )
-reads_stand Two f text r =
-    let h = r.fields in (
-      r.mark,
-      (
-        r.digit,
-        (
-          h.set_id,
-          (
-            h.file.spelled,
-            (
-              h.sect.spelled,
-              (
-                h.place.0.spelled,
-                (
-                  h.place.1.spelled,
-                  (
-                    h.flags.done,
-                    (
-                      h.flags.begun,
-                      (
-                        h.flags.known,
-                        (
-                          h.form.format,
-                          (
-                            h.form.rec_len.spelled,
-                            (
-                              h.form.offset.spelled,
-                              (
-                                h.form.file_id,
-                                (h.staged.number.spelled, (ap (take 3) h.staged.tail, r.size)),
-                              ),
-                            ),
-                          ),
-                        ),
-                      ),
-                    ),
-                  ),
-                ),
-              ),
-            ),
-          ),
-        ),
-      ),
-    )
+reads_stand v f text r =
+    let h = r.fields in
+    (r.mark, (r.digit, (h.set_id, (h.file.spelled, (h.sect.spelled, place_stand v f text r)))))
 
 -- the tail is all that is left
 tail_is : (n i : ℕ) (text tail : List ℕ) → length text ≡ n + i → take n (drop i text) ≡ tail
@@ -189,24 +135,20 @@ stands_read One f text fit s =
         flags = record { done = r.0; begun = r.1.0; known = r.1.1.0 };
         form = record {
           format = r.1.1.1.0;
-          rec_len = record {
-            spelled = r.1.1.1.1.0;
-            fits =
-                fit.rec_len;
-          };
+          rec_len = record { spelled = r.1.1.1.1.0; fits = fit.rec_len };
           offset = record { spelled = r.1.1.1.1.1.0; fits = fit.offset };
-          file_id =
-              r.1.1.1.1.1.1.0;
+          file_id = r.1.1.1.1.1.1.0;
         };
         staged = record {
           number = record { spelled = r.1.1.1.1.1.1.1.0; fits = fit.staged };
-          tail =
-              tail_is 12 68 text (replicate 12 32) size r.1.1.1.1.1.1.1.1.0;
+          tail = tail_is 12 68 text (replicate 12 32) size r.1.1.1.1.1.1.1.1.0;
         };
       };
     }
 stands_read Two f text fit s =
     let r = s.1.1.1.1.1.1.1 in
+    let part : HasDigits text 30 34 f.place.part =
+    record { spelled = s.1.1.1.1.1.1.0; fits = fit.place.1 } in
     let size : length text ≡ 80 = r.1.1.1.1.1.1.1.1.1 in
     record {
       size = size;
@@ -216,30 +158,17 @@ stands_read Two f text fit s =
         set_id = s.1.1.0;
         file = record { spelled = s.1.1.1.0; fits = fit.file };
         sect = record { spelled = s.1.1.1.1.0; fits = fit.sect };
-        place = (
-          record { spelled = s.1.1.1.1.1.0; fits = fit.place.0 },
-          record {
-            spelled =
-                s.1.1.1.1.1.1.0;
-            fits = fit.place.1;
-          },
-        );
+        place = (record { spelled = s.1.1.1.1.1.0; fits = fit.place.0 }, part);
         flags = record { done = r.0; begun = r.1.0; known = r.1.1.0 };
         form = record {
           format = r.1.1.1.0;
-          rec_len = record {
-            spelled = r.1.1.1.1.0;
-            fits =
-                fit.rec_len;
-          };
+          rec_len = record { spelled = r.1.1.1.1.0; fits = fit.rec_len };
           offset = record { spelled = r.1.1.1.1.1.0; fits = fit.offset };
-          file_id =
-              r.1.1.1.1.1.1.0;
+          file_id = r.1.1.1.1.1.1.0;
         };
         staged = record {
           number = record { spelled = r.1.1.1.1.1.1.1.0; fits = fit.staged };
-          tail =
-              tail_is 3 77 text (replicate 3 32) size r.1.1.1.1.1.1.1.1.0;
+          tail = tail_is 3 77 text (replicate 3 32) size r.1.1.1.1.1.1.1.1.0;
         };
       };
     }
@@ -253,8 +182,7 @@ reads_fit One f text r =
       file = h.file.fits;
       sect = h.sect.fits;
       place = (h.place.0.fits, h.place.1);
-      rec_len =
-          h.form.rec_len.fits;
+      rec_len = h.form.rec_len.fits;
       offset = h.form.offset.fits;
       staged = h.staged.number.fits;
     }
@@ -263,11 +191,9 @@ reads_fit Two f text r =
     record {
       file = h.file.fits;
       sect = h.sect.fits;
-      place =
-          (h.place.0.fits, h.place.1.fits);
+      place = (h.place.0.fits, h.place.1.fits);
       rec_len = h.form.rec_len.fits;
-      offset =
-          h.form.offset.fits;
+      offset = h.form.offset.fits;
       staged = h.staged.number.fits;
     }
 
@@ -275,11 +201,9 @@ pub fit_two : (v : Version) (f : Fields) → Fit v f → Fit Two f
 fit_two One f fit = record {
   file = fit.file;
   sect = fit.sect;
-  place =
-      (omega (arith, fit.place.0), omega (arith, fit.place.1));
+  place = (omega (arith, fit.place.0), omega (arith, fit.place.1));
   rec_len = fit.rec_len;
-  offset =
-      fit.offset;
+  offset = fit.offset;
   staged = fit.staged;
 }
 fit_two Two f fit = fit
