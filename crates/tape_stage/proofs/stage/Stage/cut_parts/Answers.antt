@@ -2,7 +2,6 @@ use Rattle.std.proofs.Common.{◌≡◌, ◌+◌}
 use Rattle.std.proofs.Common.{length, take, ◌∙◌}
 use Rattle.std.proofs.Common.{ap, arith}
 use Rattle.std.proofs.lemmas.List.{take-take, length-take-le}
-use Rattle.tape_stage.specs.Staged.{StagedIn}
 use Rattle.tape_stage.proofs.Passing.{stands}
 use Rattle.tape_stage.proofs.Tears.{alike_holding}
 use Rattle.tape_stage.proofs.FrameLaws.{front_holding}
@@ -35,22 +34,14 @@ returns-in-Ok-clause-ok g c honest acked parts front is of =
 
 pub returns-in-Ok-clause-any_moment : goal.returns-in-Ok-clause-any_moment
 returns-in-Ok-clause-any_moment g c honest acked parts is =
-    let s = c.args.self.now in
-    stands g.D.Disk s.disk c.cut.new.self
-    (StagedIn s.in_second s.generation s.acknowledged acked) (c.cut.ensures.time honest)
-    (λ x left.
+    stands g.D.Disk _ _ _ (c.cut.ensures.time honest) (λ x left.
     let from = c.cut.ensures.crash honest x left in
-    front_staged s.in_second s.generation s.acknowledged acked s.other_open (256 + c.args.staged)
-    (g.D.Disk.seen s.disk) (g.D.Disk.may_leave s.disk) x (omega (arith, c.requires.behind))
-    is.ready (from.0, from.1, from.2.front))
+    front_staged _ _ _ _ _ (256 + c.args.staged) _ _ x (omega (arith, c.requires.behind)) is.ready
+    (from.0, from.1, from.2.front))
 
 pub returns-in-Err-clause-any_moment : goal.returns-in-Err-clause-any_moment
 returns-in-Err-clause-any_moment g c honest acked parts is =
-    let s = c.args.self.now in
-    stands g.D.Disk s.disk c.cut.new.self
-    (StagedIn s.in_second s.generation s.acknowledged acked) (c.cut.ensures.time honest)
-    (λ x left.
+    stands g.D.Disk _ _ _ (c.cut.ensures.time honest) (λ x left.
     let from = c.cut.ensures.crash honest x left in
-    front_staged s.in_second s.generation s.acknowledged acked s.other_open (256 + c.args.staged)
-    (g.D.Disk.seen s.disk) (g.D.Disk.may_leave s.disk) x (omega (arith, c.requires.behind))
-    is.ready (from.0, from.1, from.2.front))
+    front_staged _ _ _ _ _ (256 + c.args.staged) _ _ x (omega (arith, c.requires.behind)) is.ready
+    (from.0, from.1, from.2.front))

@@ -2,7 +2,7 @@ use Rattle.std.proofs.Common.{◌+◌}
 use Rattle.std.proofs.Common.{refl}
 use Rattle.std.proofs.Common.{arith}
 use Rattle.tape_blocks.specs.Parts.{view}
-use Rattle.tape_stage.specs.Staged.{StagedIn, FrontOf}
+use Rattle.tape_stage.specs.Staged.{StagedIn}
 use Rattle.tape_stage.proofs.Passing.{weaken, nothing}
 use Rattle.tape_stage.proofs.SlotSteps.{ready_each}
 use Rattle.tape_stage.proofs.FrameLaws.{put_holding}
@@ -39,21 +39,13 @@ returns-in-Ok-clause-ok g c honest acked parts is =
 pub returns-in-Ok-clause-any_moment : goal.returns-in-Ok-clause-any_moment
 returns-in-Ok-clause-any_moment g c honest acked parts is =
     let s = c.args.self.now in
-    weaken g.D.Disk s.disk c.write_frame.new.disk
-    (FrontOf (256 + s.weight) (g.D.Disk.may_leave s.disk))
-    (StagedIn s.in_second s.generation s.acknowledged acked)
-    (λ x of. front_staged s.in_second s.generation s.acknowledged acked s.other_open
-    (256 + s.weight) (g.D.Disk.seen s.disk) (g.D.Disk.may_leave s.disk) x
-    (omega (arith, is.behind)) is.ready of)
+    weaken g.D.Disk _ _ _ _
+    (λ x of. front_staged _ _ _ _ _ (256 + s.weight) _ _ x (omega (arith, is.behind)) is.ready of)
     (c.write_frame.ensures.any_moment honest)
 
 pub returns-in-Err-clause-any_moment : goal.returns-in-Err-clause-any_moment
 returns-in-Err-clause-any_moment g c honest acked parts is =
     let s = c.args.self.now in
-    weaken g.D.Disk s.disk c.write_frame.new.disk
-    (FrontOf (256 + s.weight) (g.D.Disk.may_leave s.disk))
-    (StagedIn s.in_second s.generation s.acknowledged acked)
-    (λ x of. front_staged s.in_second s.generation s.acknowledged acked s.other_open
-    (256 + s.weight) (g.D.Disk.seen s.disk) (g.D.Disk.may_leave s.disk) x
-    (omega (arith, is.behind)) is.ready of)
+    weaken g.D.Disk _ _ _ _
+    (λ x of. front_staged _ _ _ _ _ (256 + s.weight) _ _ x (omega (arith, is.behind)) is.ready of)
     (c.write_frame.ensures.any_moment honest)

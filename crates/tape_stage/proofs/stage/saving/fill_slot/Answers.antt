@@ -2,7 +2,6 @@ use Rattle.std.proofs.Common.{◌≡◌, ℕ, ◌+◌, not, List, length}
 use Rattle.std.proofs.Common.{subst, ◌∙◌, ap, arith}
 use Rattle.tape_stage.specs.Disk.{Holds, Torn}
 use Rattle.tape_stage.specs.Body.{body_text, FitBody}
-use Rattle.tape_stage.specs.Staged.{StagedIn}
 use Rattle.tape_stage.specs.Moments.{After}
 use Rattle.tape_core.specs.Point.{Point}
 use Rattle.tape_stage.proofs.Passing.{weaken}
@@ -12,17 +11,16 @@ use Rattle.tape_stage.proofs.SlotSteps.{filled_done, filled_body, filled_after}
 use Rattle.tape_stage.proofs.Keeps.{torn_body_frames}
 use Rattle.tape_stage.proofs.stage.saving.fill_slot.Goals as goal
 
-size_of : {x : List ℕ} (g : ℕ) (point : Point) → FitBody g point → x ≡ body_text g point
+size_of : {x : List ℕ} {g : ℕ} {point : Point} → FitBody g point → x ≡ body_text g point
     → length x ≡ 127
-size_of g point fit is = ap length is ∙ length-body g point fit
+size_of {x} {g} {point} fit is = ap length is ∙ length-body g point fit
 
 pub returns-clause-closed : goal.returns-clause-closed
 returns-clause-closed g c honest =
     let old = g.D.Disk.seen c.args.disk.now in
     let new = g.D.Disk.seen c.write_kept.new.disk in
     let body = c.body_bytes-body.result in
-    let size = size_of c.args.generation c.args.next c.body_bytes-body.ensures.fit
-    c.body_bytes-body.ensures.text in
+    let size = size_of c.body_bytes-body.ensures.fit c.body_bytes-body.ensures.text in
     on_ok c.write_kept.result
     (λ holds g' point parts is. filled_done c.args.in_second g' point parts body old new size
     (subst (λ (p : ℕ). Holds old (p + 1) body new) c.gate_place.ensures holds) is)
@@ -33,8 +31,7 @@ returns-clause-body g c honest =
     let old = g.D.Disk.seen c.args.disk.now in
     let new = g.D.Disk.seen c.write_kept.new.disk in
     let body = c.body_bytes-body.result in
-    let size = size_of c.args.generation c.args.next c.body_bytes-body.ensures.fit
-    c.body_bytes-body.ensures.text in
+    let size = size_of c.body_bytes-body.ensures.fit c.body_bytes-body.ensures.text in
     on_ok c.write_kept.result
     (λ holds. filled_body (not c.args.in_second) body old new size
     (omega (arith, g.met.D.Disk.long_as_seen c.args.disk.now honest, c.requires))
@@ -47,8 +44,7 @@ returns-clause-frames g c honest =
     let old = g.D.Disk.seen c.args.disk.now in
     let new = g.D.Disk.seen c.write_kept.new.disk in
     let body = c.body_bytes-body.result in
-    let size = size_of c.args.generation c.args.next c.body_bytes-body.ensures.fit
-    c.body_bytes-body.ensures.text in
+    let size = size_of c.body_bytes-body.ensures.fit c.body_bytes-body.ensures.text in
     torn_body_frames (not c.args.in_second) (length body) old new size
     (subst (λ (p : ℕ). Torn (p + 1) (length body) old new) c.gate_place.ensures
     (c.write_kept.ensures.torn honest))
@@ -58,11 +54,8 @@ returns-clause-any_moment g c honest g' point parts is only =
     let old = g.D.Disk.seen c.args.disk.now in
     let left = g.D.Disk.may_leave c.args.disk.now in
     let body = c.body_bytes-body.result in
-    let size = size_of c.args.generation c.args.next c.body_bytes-body.ensures.fit
-    c.body_bytes-body.ensures.text in
-    weaken g.D.Disk c.args.disk.now
-    c.write_kept.new.disk (After (Torn (c.gate_place.result + 1) (length body)) left)
-    (StagedIn c.args.in_second g' point parts)
+    let size = size_of c.body_bytes-body.ensures.fit c.body_bytes-body.ensures.text in
+    weaken g.D.Disk _ _ _ _
     (λ x after. filled_after c.args.in_second g' point parts body old left x size is only
     (subst (λ (p : ℕ). After (Torn (p + 1) (length body)) left x) c.gate_place.ensures after))
     (c.write_kept.ensures.any_moment honest)
