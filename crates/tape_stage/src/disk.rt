@@ -44,6 +44,10 @@ pub trait Disk {
     ghost faults: { Self → ℕ };
 
     /// How many bytes there are.
+    ///
+    /// # Errors
+    ///
+    /// `Device`. What there is stays.
     fn len(&mut self) -> Result<u64, DiskFault>
         ensures value { IfOk result (λ n. n ≡ length_of self.old) }
         ensures same_length { length_of self.new ≡ length_of self.old }
@@ -56,6 +60,10 @@ pub trait Disk {
         ensures stays { is_honest self.old → NoMore (may_leave self.new) (may_leave self.old) };
 
     /// Fills the buffer with the bytes from a place on.
+    ///
+    /// # Errors
+    ///
+    /// `Device`. What there is stays; the buffer may then hold any bytes.
     fn read(&mut self, place: u64, buf: &mut [u8]) -> Result<(), DiskFault>
         requires { place + length buf.old ≤ length_of self.old }
         ensures bytes { is_honest self.old
@@ -70,6 +78,10 @@ pub trait Disk {
 
     /// Writes over what is there, and past the end. Until a sync, a crash may leave any bytes in
     /// the range.
+    ///
+    /// # Errors
+    ///
+    /// `Device`. Any bytes may then stand in the range; what stands before and behind it stays.
     fn write_at(&mut self, place: u64, bytes: &[u8]) -> Result<(), DiskFault>
         requires { place ≤ length_of self.old }
         ensures written { is_honest self.old
@@ -93,6 +105,10 @@ pub trait Disk {
             (may_leave self.new)) };
 
     /// Cuts to a length.
+    ///
+    /// # Errors
+    ///
+    /// `Device`. Any bytes, or none, may then stand behind that length; before it nothing changes.
     fn cut(&mut self, len: u64) -> Result<(), DiskFault>
         requires { len ≤ length_of self.old }
         ensures cut { is_honest self.old → OnOk result (seen self.new ≡ take len (seen self.old)) }

@@ -35,6 +35,7 @@ impl MemoryDisk {
         }
     }
 
+    /// The bytes that reads give.
     pub fn bytes(&self) -> &[u8]
         ensures { result.now ≡ memory_bytes self.now }
     {

@@ -168,6 +168,12 @@ pub struct Refused<D, F> {
 
 impl<D: Disk> Stage<D> {
     /// Finds the stage that a disk holds, and cuts what follows it. It may crash too.
+    ///
+    /// # Errors
+    ///
+    /// `NoPoint` where no slot counts; `BadFrame` where the frames that the checkpoint tells break
+    /// off; `OutOfMemory`; `Device`. Each hands the disk back, and all but `Device` with nothing
+    /// written to it.
     pub fn open_disk(
         alloc: Global,
         disk: D,
@@ -233,6 +239,10 @@ impl<D: Disk> Stage<D> {
     }
 
     /// Makes a stage on a disk that holds nothing.
+    ///
+    /// # Errors
+    ///
+    /// `OutOfMemory`; `Device`. Each hands the disk back.
     pub fn create(
         alloc: Global,
         disk: D,

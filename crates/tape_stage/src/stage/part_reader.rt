@@ -19,6 +19,10 @@ impl<'s, D: Disk> PartReader<'s, D> {
     ghost use Rattle.tape_stage.specs.Reads.{ReadsAs};
 
     /// Lends the next part; `None` behind the last.
+    ///
+    /// # Errors
+    ///
+    /// Those of `PartWalk::next_part`: the same part is still to come.
     pub fn next(&mut self) -> Result<Option<Part<'_>>, SinkFault>
         ensures* after { sem 𝓛 (ReadsAs D.row D.Disk self.entry result) }
     {

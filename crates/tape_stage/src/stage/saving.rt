@@ -107,6 +107,11 @@ impl<D: Disk> Stage<D> {
     }
 
     /// Acknowledges all parts under a checkpoint.
+    ///
+    /// # Errors
+    ///
+    /// `Failed` where the disk failed before, and `Full` where no generation is left: nothing is
+    /// changed. `Device`: the checkpoint is pending, and the stage has to be opened again.
     pub fn save(&mut self, point: &Checkpoint) -> Result<(), StageFault>
         requires { point.now.staged ≡ self.old.weight }
         ensures pending { IsErrOf result StageFault.Device → self.new.pending ≡ Some point.now }
@@ -127,6 +132,11 @@ impl<D: Disk> Stage<D> {
     }
 
     /// Acknowledges the first parts under a checkpoint, and drops the others.
+    ///
+    /// # Errors
+    ///
+    /// `Failed` where the disk failed before, and `Full` where no generation is left: nothing is
+    /// changed. `Device`: the stage has to be opened again.
     pub fn restart(&mut self, point: &Checkpoint) -> Result<(), StageFault>
         requires { point.now.staged ≤ self.old.weight }
         ensures not_pending { OnOk result (self.new.pending ≡ None) }
