@@ -1,26 +1,34 @@
-pub mod Body
+-- to be believed, in this order; checkpoints:
+pub mod Fields
+pub mod Text
+pub mod Range
+pub mod Reading
+pub mod PointFaults
+-- disks, and the one in memory:
+pub mod Disk
 pub mod Calls
+pub mod Memory
+-- stages:
+pub mod Body
+pub mod Parts
+pub mod Staged
+pub mod Moments
+pub mod Stages
+pub mod Found
+pub mod Frames
+pub mod Faults
+pub mod Reads
+-- stages that are only read, and what remains of those whose frames break off:
+pub mod OnlyReading
+pub mod Salvaged
+-- bytes held before a disk:
+pub mod Holding
+-- laws of those, which are proved:
+pub mod Laws
+pub mod StageLaws
+-- cases, which hold the definitions from below:
 pub mod Cases
 pub mod CasesOfLaws
 pub mod CasesOfSalvage
-pub mod Disk
-pub mod Faults
-pub mod Fields
-pub mod Found
-pub mod Frames
-pub mod Holding
-pub mod Laws
-pub mod Memory
-pub mod Moments
-pub mod OnlyReading
-pub mod Parts
-pub mod PointFaults
-pub mod Range
-pub mod Reading
-pub mod Reads
-pub mod Salvaged
+-- of private code:
 pub mod Same
-pub mod StageLaws
-pub mod Staged
-pub mod Stages
-pub mod Text
