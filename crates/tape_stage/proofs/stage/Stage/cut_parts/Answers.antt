@@ -22,10 +22,8 @@ returns-in-Ok-clause-ok g c honest acked parts front is of =
     let same : take n new ≡ take n old = ap (take n) cut ∙ take-take n n old (omega arith) in
     record {
       alive = is.alive;
-      ready = still_ready s.in_second s.generation s.acknowledged acked s.other_open n old new
-          (g.D.Disk.may_leave s.disk) (g.D.Disk.may_leave c.cut.new.self)
-          (omega (arith, c.requires.behind)) is.ready same (omega (arith, long))
-          (λ x left. let from = c.cut.ensures.crash honest x left in
+      ready = still_ready _ _ _ _ _ n _ _ _ _ (omega (arith, c.requires.behind)) is.ready same
+          (omega (arith, long)) (λ x left. let from = c.cut.ensures.crash honest x left in
           (from.0, from.1, from.2.front));
       holds = alike_holding n c.args.staged front old new (omega arith) same (omega (arith, long))
           holding;

@@ -2,7 +2,6 @@ use Rattle.std.proofs.Common.{◌+◌}
 use Rattle.std.proofs.Common.{refl}
 use Rattle.std.proofs.Common.{arith}
 use Rattle.tape_blocks.specs.Parts.{view}
-use Rattle.tape_stage.specs.Staged.{StagedIn}
 use Rattle.tape_stage.proofs.Passing.{weaken, nothing}
 use Rattle.tape_stage.proofs.SlotSteps.{ready_each}
 use Rattle.tape_stage.proofs.FrameLaws.{put_holding}
@@ -11,28 +10,18 @@ use Rattle.tape_stage.proofs.stage.Stage.put_part.Goals as goal
 
 pub returns-then-size-self-clause-any_moment : goal.returns-then-size-self-clause-any_moment
 returns-then-size-self-clause-any_moment g c honest acked parts is =
-    let s = c.args.self.now in
-    nothing g.D.Disk s.disk
-    (StagedIn s.in_second s.generation s.acknowledged acked)
-    (λ x left. (ready_each s.in_second s.generation s.acknowledged acked s.other_open
-    (g.D.Disk.seen s.disk) (g.D.Disk.may_leave s.disk) x is.ready left).0)
+    nothing g.D.Disk _ _ (λ x left. (ready_each _ _ _ _ _ _ _ x is.ready left).0)
 
 pub returns-in-Ok-clause-ok : goal.returns-in-Ok-clause-ok
 returns-in-Ok-clause-ok g c honest acked parts is =
     let s = c.args.self.now in
-    let value = view c.args.part in
-    let old = g.D.Disk.seen s.disk in
-    let new = g.D.Disk.seen c.write_frame.new.disk in
     let put = c.in-Ok.ensures.written honest in
     record {
       alive = is.alive;
-      ready = still_ready s.in_second s.generation s.acknowledged acked s.other_open
-          (256 + s.weight) old new (g.D.Disk.may_leave s.disk)
-          (g.D.Disk.may_leave c.write_frame.new.disk)
-          (omega (arith, is.behind)) is.ready put.front (omega (arith, put.long))
+      ready = still_ready _ _ _ _ _ (256 + s.weight) _ _ _ _ (omega (arith, is.behind)) is.ready
+          put.front (omega (arith, put.long))
           (λ x left. (c.write_frame.ensures.any_moment honest).now x left);
-      holds = put_holding s.weight (256 + s.weight) parts value old new refl c.requires is.holds
-          put;
+      holds = put_holding _ _ parts (view c.args.part) _ _ refl c.requires is.holds put;
       behind = omega (arith, is.behind);
     }
 

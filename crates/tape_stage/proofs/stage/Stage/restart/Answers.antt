@@ -1,8 +1,7 @@
-use Rattle.std.proofs.Common.{◌≡◌, inr, ℕ, ◌+◌, Bool, true, false}
+use Rattle.std.proofs.Common.{◌≡◌, inr, ℕ, true, false}
 use Rattle.std.proofs.Common.{rules, subst, sym, ◌∙◌}
 use Rattle.tape_core.specs.Weight.{Rose}
 use Rattle.tape_stage.specs.Parts.{IsFront}
-use Rattle.tape_stage.specs.Staged.{StagedIn, IsEither}
 use Rattle.tape_core.specs.Point.{Point}
 use Rattle.tape_stage.proofs.Passing.{weaken, follow}
 use Rattle.tape_stage.proofs.Results.{on_ok, if_err}
@@ -41,17 +40,9 @@ returns-in-Ok-clause-any_moment g c honest acked parts front is of =
     let mid = c.in-Ok.ensures.ok honest acked parts front is holding in
     let honest1 = c.in-Ok.ensures.ends.honest honest in
     let point : k.acknowledged ≡ c.args.point.now = c.in-Ok.ensures.acknowledged in
-    let P = IsEither s.in_second s.generation s.acknowledged c.args.point.now acked front in
-    follow g.D.Disk s.disk k.disk
-    c.cut_parts.new.self.disk P (c.acknowledge.ensures.any_moment honest acked parts front is
-    holding)
-    (weaken g.D.Disk k.disk c.cut_parts.new.self.disk
-    (StagedIn k.in_second k.generation k.acknowledged front) P
-    (λ x now.
-    inr (subst (λ (b : Bool). StagedIn b (s.generation + 1) c.args.point.now front x)
-    c.in-Ok.ensures.slot
-    (subst (λ (n : ℕ). StagedIn k.in_second n c.args.point.now front x) c.in-Ok.ensures.generation
-    (subst (λ (p : Point). StagedIn k.in_second k.generation p front x) point now))))
+    follow g.D.Disk _ _ _ _ (c.acknowledge.ensures.any_moment honest acked parts front is holding)
+    (weaken g.D.Disk _ _ _ _ (λ x now.
+    inr (rw (point, c.in-Ok.ensures.generation, c.in-Ok.ensures.slot) at now))
     (c.cut_parts.ensures.any_moment honest1 front parts mid))
 
 -- a failed cut, since the acknowledged stage

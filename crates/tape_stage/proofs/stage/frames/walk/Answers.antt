@@ -5,8 +5,12 @@ use Rattle.tape_stage.proofs.Walks.{walked_more}
 use Rattle.tape_stage.proofs.Remaining.{framed_whole, framed_broken, same_size}
 use Rattle.tape_stage.proofs.stage.frames.walk.Goals as goal
 
-same_room : (place : ℕ) → place + 5 - place ≡ 5
-same_room place = omega arith
+header_read : (place : ℕ) (buf now bytes : List ℕ) → buf ≡ take (place + 5 - place) (drop place now)
+    → now ≡ bytes → buf ≡ take 5 (drop place bytes)
+header_read place buf now bytes read same =
+    let five : place + 5 - place ≡ 5 = omega arith in
+    read ∙ ap (λ (k : ℕ). take k (drop place now)) five
+    ∙ ap (λ (l : List ℕ). take 5 (drop place l)) same
 
 pub loop-place-preserved : goal.loop-place-preserved
 loop-place-preserved g c =
@@ -19,22 +23,16 @@ loop-place-preserved g c =
       faults = c.in_ok-read.ensures.calm ∙ i.faults;
       honest = record {
         onward = λ h. r.honest.onward (i.honest.onward h);
-        back =
-            λ h. i.honest.back (r.honest.back h);
+        back = λ h. i.honest.back (r.honest.back h);
       };
       seen = λ h. r.same (i.honest.onward h) ∙ i.seen h;
-      moments = λ h. follow g.D.Disk c.args.disk.now
-          c.loop-place.disk c.read.new.self (g.D.Disk.may_leave c.args.disk.now) (i.moments h)
-          (stands g.D.Disk c.loop-place.disk
-          c.read.new.self (g.D.Disk.may_leave c.args.disk.now) (r.time (i.honest.onward h))
+      moments = λ h. follow g.D.Disk _ _ _ _ (i.moments h)
+          (stands g.D.Disk _ _ _ (r.time (i.honest.onward h))
           (λ x left. (i.moments h).now x (r.crash (i.honest.onward h) x left)));
       walked = λ h.
           let bytes = g.D.Disk.seen c.args.disk.now in
-          let read : c.read.new.buf ≡ take 5 (drop c.loop-place.place bytes) =
-          c.in_ok-read.ensures.bytes (i.honest.onward h)
-          ∙ ap (λ (k : ℕ). take k (drop c.loop-place.place (g.D.Disk.seen c.loop-place.disk)))
-          (same_room c.loop-place.place)
-          ∙ ap (λ (l : List ℕ). take 5 (drop c.loop-place.place l)) (i.seen h) in
+          let read = header_read c.loop-place.place _ _ bytes
+          (c.in_ok-read.ensures.bytes (i.honest.onward h)) (i.seen h) in
           walked_more c.loop-place.place c.in-Some.size c.in-Some.ensures.1.0 c.read.new.buf bytes
           (omega (arith, g.met.D.Disk.long_as_seen c.args.disk.now h, c.requires.there)) read
           c.in-Some.ensures.1.1 c.in-Some.ensures.0 (i.walked h);
@@ -54,11 +52,8 @@ returns-in_default-clause-framed g c h =
     let i = c.loop-place.invariant in
     let bytes = g.D.Disk.seen c.args.disk.now in
     let long = g.met.D.Disk.long_as_seen c.args.disk.now h in
-    let read : c.read.new.buf ≡ take 5 (drop c.loop-place.place bytes) =
-    c.in_ok-read.ensures.bytes (i.honest.onward h)
-    ∙ ap (λ (k : ℕ). take k (drop c.loop-place.place (g.D.Disk.seen c.loop-place.disk)))
-    (same_room c.loop-place.place)
-    ∙ ap (λ (l : List ℕ). take 5 (drop c.loop-place.place l)) (i.seen h) in
+    let read = header_read c.loop-place.place _ _ bytes
+    (c.in_ok-read.ensures.bytes (i.honest.onward h)) (i.seen h) in
     framed_broken c.args.staged c.loop-place.place c.args.limit bytes
     (omega (arith, c.requires.there, long)) i.high (omega arith) (i.walked h)
     (λ span content frame. c.in_default.ensures span (length content) frame.short
@@ -69,11 +64,8 @@ returns-then-size-limit-clause-framed g c h =
     let i = c.loop-place.invariant in
     let bytes = g.D.Disk.seen c.args.disk.now in
     let long = g.met.D.Disk.long_as_seen c.args.disk.now h in
-    let read : c.read.new.buf ≡ take 5 (drop c.loop-place.place bytes) =
-    c.in_ok-read.ensures.bytes (i.honest.onward h)
-    ∙ ap (λ (k : ℕ). take k (drop c.loop-place.place (g.D.Disk.seen c.loop-place.disk)))
-    (same_room c.loop-place.place)
-    ∙ ap (λ (l : List ℕ). take 5 (drop c.loop-place.place l)) (i.seen h) in
+    let read = header_read c.loop-place.place _ _ bytes
+    (c.in_ok-read.ensures.bytes (i.honest.onward h)) (i.seen h) in
     framed_broken c.args.staged c.loop-place.place c.args.limit bytes
     (omega (arith, c.requires.there, long)) i.high (omega arith) (i.walked h)
     (λ span content frame.

@@ -30,18 +30,12 @@ returns-clause-written g c honest =
 pub returns-clause-any_moment : goal.returns-clause-any_moment
 returns-clause-any_moment g c honest =
     let m = g.D.Disk.may_leave in
-    let P = FrontOf c.args.place (m c.args.disk.now) in
     let honest1 = c.write_at.ensures.honest.onward honest in
     let here : (x : List ℕ) → m c.write_at.new.self x → FrontOf c.args.place (m c.args.disk.now) x =
     λ x left.
     let from = c.write_at.ensures.crash honest x left in (from.0, from.1, from.2.before) in
-    follow g.D.Disk c.args.disk.now c.write_at.new.self
-    c.write_at-2.new.self P
-    (stands g.D.Disk c.args.disk.now c.write_at.new.self P
-    (c.write_at.ensures.time honest) here)
-    (stands g.D.Disk c.write_at.new.self c.write_at-2.new.self P
-    (c.write_at-2.ensures.time honest1)
-    (λ x left.
+    follow g.D.Disk _ _ _ _ (stands g.D.Disk _ _ _ (c.write_at.ensures.time honest) here)
+    (stands g.D.Disk _ _ _ (c.write_at-2.ensures.time honest1) (λ x left.
     let from = c.write_at-2.ensures.crash honest1 x left in
     let was = here from.0 from.1 in (
       was.0,
@@ -52,16 +46,12 @@ returns-clause-any_moment g c honest =
 
 pub returns-in_err-write_at-clause-any_moment : goal.returns-in_err-write_at-clause-any_moment
 returns-in_err-write_at-clause-any_moment g c honest =
-    let m = g.D.Disk.may_leave in
-    stands g.D.Disk c.args.disk.now c.write_at.new.self
-    (FrontOf c.args.place (m c.args.disk.now)) (c.write_at.ensures.time honest)
-    (λ x left.
+    stands g.D.Disk _ _ _ (c.write_at.ensures.time honest) (λ x left.
     let from = c.write_at.ensures.crash honest x left in (from.0, from.1, from.2.before))
 
 pub returns-in_err-write_at-clause-kept : goal.returns-in_err-write_at-clause-kept
 returns-in_err-write_at-clause-kept g c honest =
-    torn_keeps c.args.place _ c.args.place (g.D.Disk.seen c.args.disk.now)
-    (g.D.Disk.seen c.write_at.new.self) (omega arith) (c.in_err-write_at.ensures.partly honest)
+    torn_keeps c.args.place _ _ _ _ (omega arith) (c.in_err-write_at.ensures.partly honest)
 
 -- whether it was written or not
 torn_either : {A B : Type 0} (r : Result A B) (place : ℕ) (bytes old new : List ℕ)

@@ -1,6 +1,6 @@
-use Rattle.std.proofs.Common.{ℕ, Bool, not, [], ◌∷◌, subst}
-use Rattle.tape_stage.specs.Disk.{Holds, Torn}
-use Rattle.tape_stage.specs.Staged.{StagedIn, Ready}
+use Rattle.std.proofs.Common.{ℕ, Bool, subst}
+use Rattle.tape_stage.specs.Disk.{Torn}
+use Rattle.tape_stage.specs.Staged.{Ready}
 use Rattle.tape_stage.specs.Moments.{After}
 use Rattle.tape_stage.proofs.Passing.{weaken, stands}
 use Rattle.tape_stage.proofs.Results.{on_ok}
@@ -10,36 +10,23 @@ use Rattle.tape_stage.proofs.stage.saving.close_gate.Goals as goal
 
 pub returns-then-is_open-clause-closed : goal.returns-then-is_open-clause-closed
 returns-then-is_open-clause-closed g c honest =
-    let old = g.D.Disk.seen c.args.disk.now in
-    let new = g.D.Disk.seen c.write_kept.new.disk in
     on_ok c.write_kept.result
-    (λ holds g' point parts ready. closed_done c.args.in_second g' point parts old new
-    (g.D.Disk.may_leave c.args.disk.now)
-    (subst (λ (b : Bool). Ready c.args.in_second g' point parts b old
-    (g.D.Disk.may_leave c.args.disk.now)) c.if-is_open.true ready)
-    (subst (λ (p : ℕ). Holds old p (67 ∷ []) new) c.gate_place.ensures holds))
+    (λ holds g' point parts ready. closed_done _ _ _ _ _ _ _ (rw c.if-is_open.true at ready)
+    (rw c.gate_place.ensures at holds))
     (c.write_kept.ensures.written honest)
 
 pub returns-then-is_open-clause-frames : goal.returns-then-is_open-clause-frames
 returns-then-is_open-clause-frames g c honest =
-    let old = g.D.Disk.seen c.args.disk.now in
-    let new = g.D.Disk.seen c.write_kept.new.disk in
-    torn_gate_frames (not c.args.in_second) old new
-    (subst (λ (p : ℕ). Torn p 1 old new) c.gate_place.ensures
-    (c.write_kept.ensures.torn honest))
+    torn_gate_frames _ _ _ (rw c.gate_place.ensures at (c.write_kept.ensures.torn honest))
 
 pub returns-clause-frames : goal.returns-clause-frames
-returns-clause-frames g c honest =
-    frames_same (g.D.Disk.seen c.args.disk.now) (g.D.Disk.seen c.sync.new.self)
-    (c.sync.ensures.same honest)
+returns-clause-frames g c honest = frames_same _ _ (c.sync.ensures.same honest)
 
 pub returns-then-is_open-clause-any_moment : goal.returns-then-is_open-clause-any_moment
 returns-then-is_open-clause-any_moment g c honest g' point parts ready =
     let old = g.D.Disk.seen c.args.disk.now in
     let left = g.D.Disk.may_leave c.args.disk.now in
-    weaken g.D.Disk c.args.disk.now
-    c.write_kept.new.disk (After (Torn c.gate_place.result 1) left)
-    (StagedIn c.args.in_second g' point parts)
+    weaken g.D.Disk _ _ _ _
     (λ x after. ready_after c.args.in_second g' point parts old left x
     (subst (λ (b : Bool). Ready c.args.in_second g' point parts b old left) c.if-is_open.true ready)
     (subst (λ (p : ℕ). After (Torn p 1) left x) c.gate_place.ensures after))
@@ -47,8 +34,5 @@ returns-then-is_open-clause-any_moment g c honest g' point parts ready =
 
 pub returns-clause-any_moment : goal.returns-clause-any_moment
 returns-clause-any_moment g c honest g' point parts ready =
-    stands g.D.Disk c.args.disk.now c.sync.new.self
-    (StagedIn c.args.in_second g' point parts) (c.sync.ensures.time honest)
-    (λ x left. (ready_each c.args.in_second g' point parts c.args.is_open
-    (g.D.Disk.seen c.args.disk.now) (g.D.Disk.may_leave c.args.disk.now) x ready
-    (c.sync.ensures.crash honest x left)).0)
+    stands g.D.Disk _ _ _ (c.sync.ensures.time honest)
+    (λ x left. (ready_each _ _ _ _ _ _ _ x ready (c.sync.ensures.crash honest x left)).0)

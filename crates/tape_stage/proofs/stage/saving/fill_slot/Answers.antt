@@ -1,6 +1,6 @@
-use Rattle.std.proofs.Common.{◌≡◌, ℕ, ◌+◌, not, List, length}
+use Rattle.std.proofs.Common.{◌≡◌, ℕ, ◌+◌, List, length}
 use Rattle.std.proofs.Common.{subst, ◌∙◌, ap, arith}
-use Rattle.tape_stage.specs.Disk.{Holds, Torn}
+use Rattle.tape_stage.specs.Disk.{Torn}
 use Rattle.tape_stage.specs.Body.{body_text, FitBody}
 use Rattle.tape_stage.specs.Moments.{After}
 use Rattle.tape_core.specs.Point.{Point}
@@ -17,37 +17,25 @@ size_of {x} {g} {point} fit is = ap length is ∙ length-body g point fit
 
 pub returns-clause-closed : goal.returns-clause-closed
 returns-clause-closed g c honest =
-    let old = g.D.Disk.seen c.args.disk.now in
-    let new = g.D.Disk.seen c.write_kept.new.disk in
-    let body = c.body_bytes-body.result in
     let size = size_of c.body_bytes-body.ensures.fit c.body_bytes-body.ensures.text in
     on_ok c.write_kept.result
-    (λ holds g' point parts is. filled_done c.args.in_second g' point parts body old new size
-    (subst (λ (p : ℕ). Holds old (p + 1) body new) c.gate_place.ensures holds) is)
+    (λ holds g' point parts is.
+    filled_done _ _ _ _ _ _ _ size (rw c.gate_place.ensures at holds) is)
     (c.write_kept.ensures.written honest)
 
 pub returns-clause-body : goal.returns-clause-body
 returns-clause-body g c honest =
-    let old = g.D.Disk.seen c.args.disk.now in
-    let new = g.D.Disk.seen c.write_kept.new.disk in
-    let body = c.body_bytes-body.result in
     let size = size_of c.body_bytes-body.ensures.fit c.body_bytes-body.ensures.text in
     on_ok c.write_kept.result
-    (λ holds. filled_body (not c.args.in_second) body old new size
+    (λ holds. filled_body _ _ _ _ size
     (omega (arith, g.met.D.Disk.long_as_seen c.args.disk.now honest, c.requires))
-    (subst (λ (p : ℕ). Holds old (p + 1) body new) c.gate_place.ensures holds) ∙
-    c.body_bytes-body.ensures.text)
+    (rw c.gate_place.ensures at holds) ∙ c.body_bytes-body.ensures.text)
     (c.write_kept.ensures.written honest)
 
 pub returns-clause-frames : goal.returns-clause-frames
 returns-clause-frames g c honest =
-    let old = g.D.Disk.seen c.args.disk.now in
-    let new = g.D.Disk.seen c.write_kept.new.disk in
-    let body = c.body_bytes-body.result in
     let size = size_of c.body_bytes-body.ensures.fit c.body_bytes-body.ensures.text in
-    torn_body_frames (not c.args.in_second) (length body) old new size
-    (subst (λ (p : ℕ). Torn (p + 1) (length body) old new) c.gate_place.ensures
-    (c.write_kept.ensures.torn honest))
+    torn_body_frames _ _ _ _ size (rw c.gate_place.ensures at (c.write_kept.ensures.torn honest))
 
 pub returns-clause-any_moment : goal.returns-clause-any_moment
 returns-clause-any_moment g c honest g' point parts is only =

@@ -1,7 +1,4 @@
-use Rattle.std.proofs.Common.{inl, ℕ}
-use Rattle.std.proofs.Common.{subst, sym, ◌∙◌, ap}
-use Rattle.tape_stage.specs.Body.{body_text, FitBody}
-use Rattle.tape_stage.specs.Staged.{IsNext}
+use Rattle.std.proofs.Common.{inl}
 use Rattle.tape_stage.proofs.Passing.{weaken, follow}
 use Rattle.tape_stage.proofs.Results.{on_ok}
 use Rattle.tape_stage.proofs.Keeps.{frames_then, frames_holding}
@@ -28,13 +25,10 @@ returns-clause-done g c honest =
     on_ok c.open_gate.result
     (λ to g' point parts more next_is ready holding.
     let closed = c.in_ok-close_gate.ensures.closed honest g' point parts ready in
-    subst (λ (n : ℕ). IsNext c.args.in_second n c.args.next more
-    (g.D.Disk.seen c.open_gate.new.disk)) next_is
-    (to g' point c.args.next parts more (subst (λ (n : ℕ). FitBody n c.args.next) (sym next_is)
-    c.fill_slot.ensures.fit) (record {
+    rw next_is at (to g' point c.args.next parts more (rw (← next_is) at c.fill_slot.ensures.fit)
+    (record {
       closed = c.in_ok-fill_slot.ensures.closed honest1 g' point parts closed;
-      body = c.in_ok-fill_slot.ensures.body honest1 ∙ ap (λ (n : ℕ). body_text n c.args.next)
-          (sym next_is);
+      body = rw (← next_is) at (c.in_ok-fill_slot.ensures.body honest1);
       holds = frames_holding _ _ _ _ (frames_then _ _ _ (c.close_gate.ensures.frames honest)
           (c.fill_slot.ensures.frames honest1)) holding;
     })))
@@ -51,10 +45,9 @@ returns-clause-any_moment g c honest g' point parts more next_is ready holding =
     (c.fill_slot.ensures.any_moment honest1 g' point parts closed
     (c.in_ok-close_gate.ensures.synced.durable honest))))
     (c.open_gate.ensures.any_moment honest2 g' point c.args.next parts more
-    (subst (λ (n : ℕ). FitBody n c.args.next) (sym next_is) c.fill_slot.ensures.fit) (record {
+    (rw (← next_is) at c.fill_slot.ensures.fit) (record {
       closed = c.in_ok-fill_slot.ensures.closed honest1 g' point parts closed;
-      body = c.in_ok-fill_slot.ensures.body honest1 ∙ ap (λ (n : ℕ). body_text n c.args.next)
-          (sym next_is);
+      body = rw (← next_is) at (c.in_ok-fill_slot.ensures.body honest1);
       holds = frames_holding _ _ _ _ (frames_then _ _ _ (c.close_gate.ensures.frames honest)
           (c.fill_slot.ensures.frames honest1)) holding;
     }) (c.in_ok-fill_slot.ensures.synced.durable honest1))
