@@ -1,15 +1,13 @@
 -- What a reader knows of the section awaited, and of what is ahead of it on the volume.
-use Rattle.std.proofs.Common.{◌≡◌, ◌<◌, ◌≤◌, ◌⊎◌, ℕ, List, [], ◌∷◌, ◌++◌, length, drop, Bool, true}
-use Rattle.std.proofs.Common.{false, Some, None, refl, sym, ap, ◌∙◌, subst, inl, inr, append_assoc}
+use Rattle.std.proofs.Common.{◌≡◌, ◌<◌, ◌⊎◌, List, [], ◌∷◌, ◌++◌, length, drop, Bool, true, false}
+use Rattle.std.proofs.Common.{Some, None, refl, sym, ap, ◌∙◌, subst, inl, inr, append_assoc}
 use Rattle.std.specs.Prelude.{◌||◌, MatchBool}
 use Rattle.std.proofs.lemmas.List.{drop-append-le}
 use Rattle.tape_set.specs.declared.position.Position.{Position}
-use Rattle.tape_set.specs.declared.position.Position.TheVariants.{Awaits}
 use Rattle.tape_set.specs.Position.{is_start}
-use Rattle.tape_set.specs.Layout.{FileSet, Section, Placed, Volume, Entry, a_mark, is_data, nth}
-use Rattle.tape_set.specs.Layout.{data_group, trailer_group, section_of, sections, on}
-use Rattle.tape_set.specs.Before.{parts_at}
-use Rattle.tape_set.specs.Lawful.{FileForm, IsLawful, TellsForm}
+use Rattle.tape_set.specs.Layout.{Section, Placed, Entry, a_mark, is_data, data_group}
+use Rattle.tape_set.specs.Layout.{trailer_group, sections, on}
+use Rattle.tape_set.specs.Lawful.{FileForm, TellsForm}
 use Rattle.tape_set.specs.Reach.{passes, far, before_data, moved}
 use Rattle.tape_set.proofs.Everywhere.{every-append}
 use Rattle.tape_set.proofs.Numbering.{FileOf, section_found}
@@ -17,23 +15,13 @@ use Rattle.tape_set.proofs.Reaching.{passes_longer, passes_length}
 use Rattle.tape_set.proofs.Volumes.{IsOn}
 use Rattle.tape_set.proofs.Forms.{one_form, forms_alike, form_told}
 use Rattle.tape_core.specs.declared.event.Heading.{Heading}
-use Rattle.tape_core.specs.State.{State}
-use Rattle.tape_core.specs.Follows.{FileTells, KnownAt, IsAt, reading, to_come, Among, Inside}
-use Rattle.tape_core.specs.Follows.{Reached}
+use Rattle.tape_core.specs.Follows.{FileTells, KnownAt, reading, to_come, Among, Inside, Reached}
 use Rattle.tape_core.proofs.Fronts.{left_more, ahead_later, wanted_here, AtIt, Ahead, among_on}
-use Rattle.tape_core.proofs.Fronts.{far_on, shorter}
+use Rattle.tape_core.proofs.Fronts.{here, far_on, shorter}
+use Rattle.tape_core.proofs.Aim.{Aim}
 
-module _ (set : FileSet) (l : IsLawful set) (core : State) (at : IsAt set core)
-    (sect block part k : ℕ) (w : Section) (found : section_of set core.file sect ≡ Some w)
-    (inside : block ≤ length w.blocks)
-    (within : (part ≡ 0) ⊎ (part < length (parts_at w.blocks block))) (v : Volume)
-    (vol : nth set.volumes k ≡ Some v) (good : List Bool) where
-  abbrev here : Position
-  here = Awaits sect block part
-
-  pub ahead_at : (later : List Placed) (z : List Entry) → Among set k core.file later
-      → Ahead set core.file sect block part k w v l found vol (z ++ to_come later)
-  ahead_at later z among = ahead_later set core.file sect block part k w v l found vol later z among
+module _ (aim : Aim) where
+  open aim use {set, l, core, at, sect, block, part, k, w, found, v, vol, good}
 
   -- all sections are to come
   pub all_among : Among set k core.file (on k (sections set))
@@ -77,17 +65,11 @@ module _ (set : FileSet) (l : IsLawful set) (core : State) (at : IsAt set core)
       × (Some form ≡ Some f) × FileTells set core.file f)) (sym e) (told.0, ap Some is, file_tells)
 
   pub on_it : (x : Placed) (later : List Placed) → Among set k core.file (x ∷ later) → IsOn set k x
-  on_it x later among = (among_on set core.file sect block part k w v l found vol x later among).0
+  on_it x later among = (among_on aim x later among).0
 
   pub tells_each : (x : Placed) (later : List Placed) → Among set k core.file (x ∷ later)
       → (form : FileForm) × TellsForm form x.section
   tells_each x later among = form_told set x.file l x.sect x.section (on_it x later among).found
-
-  pub there : (x : Placed) (later : List Placed) → Among set k core.file (x ∷ later)
-      → x.file ≡ core.file → x.sect ≡ sect
-      → AtIt set core.file sect block part k w v l found vol x later
-  there x later among f s =
-      wanted_here set core.file sect block part k w v l found vol x later among f s
 
   -- the next entry, good or a data block
   pub on_with : (g : Bool) (heading : Heading) (wanted : Bool) (x : Placed) (e : Entry)
@@ -104,10 +86,14 @@ module _ (set : FileSet) (l : IsLawful set) (core : State) (at : IsAt set core)
         left = left_more set k good g e (rest ++ to_come i.later) i.left t;
       }
 
+  -- the section awaited is under way
+  pub wanted_at : {heading : Heading} {x : Placed} {rest : List Entry}
+      (i : Inside set core.file sect block part k good heading true x rest) → AtIt aim x i.later
+  wanted_at {x} i = wanted_here aim x i.later i.among i.chosen.0 i.chosen.1
+
   -- before its data nothing of the section awaited is passed
   ahead_wanted : (x : Placed) (later : List Placed) (z : List Entry)
-      → AtIt set core.file sect block part k w v l found vol x later
-      → Ahead set core.file sect block part k w v l found vol
+      → AtIt aim x later → Ahead aim
       ((z ++ a_mark ∷ data_group x.section.blocks ++ trailer_group x.section) ++ to_come later)
   ahead_wanted x later z at_it on = (
     data_group w.blocks ++ trailer_group w ++ to_come later,
@@ -118,28 +104,28 @@ module _ (set : FileSet) (l : IsLawful set) (core : State) (at : IsAt set core)
   pub ahead_inside : (heading : Heading) (wanted : Bool) (x : Placed) (z : List Entry)
       (i : Inside set core.file sect block part k good heading wanted x (z
       ++ a_mark ∷ data_group x.section.blocks ++ trailer_group x.section))
-      → Ahead set core.file sect block part k w v l found vol
-      ((z ++ a_mark ∷ data_group x.section.blocks ++ trailer_group x.section) ++ to_come i.later)
-  ahead_inside heading true x z i =
-      ahead_wanted x i.later z (there x i.later i.among i.chosen.0 i.chosen.1)
-  ahead_inside heading false x z i = ahead_at i.later _ (next_among x i.later i.among i.chosen)
+      → Ahead aim ((z ++ a_mark ∷ data_group x.section.blocks ++ trailer_group x.section)
+      ++ to_come i.later)
+  ahead_inside heading true x z i = ahead_wanted x i.later z (wanted_at i)
+  ahead_inside heading false x z i =
+      ahead_later aim i.later _ (next_among x i.later i.among i.chosen)
 
   pub ahead_passed : (heading : Heading) (x : Placed) (z : List Entry)
       (i : Inside set core.file sect block part k good heading false x z)
-      → Ahead set core.file sect block part k w v l found vol (z ++ to_come i.later)
-  ahead_passed heading x z i = ahead_at i.later z (next_among x i.later i.among i.chosen)
+      → Ahead aim (z ++ to_come i.later)
+  ahead_passed heading x z i = ahead_later aim i.later z (next_among x i.later i.among i.chosen)
 
   -- where the front was read whole and well, far is as from there
   pub far_there : (more : List Bool) → w.volume ≡ k → (g : Bool) → (seen : List Bool)
       → passes good (before_data set core.file sect w) ≡ true
       → drop (length (before_data set core.file sect w)) good ≡ seen
-      → far set core.file here (reading k ((good ++ g ∷ []) ++ more))
-      ≡ moved here sect block w (seen ++ g ∷ more)
+      → far set core.file (here aim) (reading k ((good ++ g ∷ []) ++ more))
+      ≡ moved (here aim) sect block w (seen ++ g ∷ more)
   far_there more is g seen fine rest =
       rw append_assoc
-      (far_on set core.file sect block part k w v l found vol is
-      (good ++ g ∷ more) (passes_longer good (g ∷ more) _ fine)
-      ∙ ap (λ z. moved here sect block w z) (drop-append-le (length (before_data set core.file sect
+      (far_on aim is (good ++ g ∷ more) (passes_longer good (g ∷ more) _ fine)
+      ∙ ap (λ z. moved (here aim) sect block w z)
+      (drop-append-le (length (before_data set core.file sect
       w)) good (g ∷ more) (passes_length good _ fine) ∙ ap (λ z. z ++ g ∷ more) rest))
 
   pub reached_more : (s : Section) (g : Bool) (seen : List Bool)

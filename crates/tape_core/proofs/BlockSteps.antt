@@ -1,8 +1,8 @@
 -- The awaited block comes, and keeps how the state lies to the reading.
-use Rattle.std.proofs.Common.{◌≡◌, ◌<◌, ◌≤◌, ◌⊎◌, ℕ, ◌+◌, List, [], ◌∷◌, ◌++◌, length, take, drop}
-use Rattle.std.proofs.Common.{Bool, true, false, Some, refl, sym, ap, ◌∙◌, subst, inl, inr}
-use Rattle.std.proofs.Common.{append_assoc, arith, length-append}
-use Rattle.std.specs.Prelude.{slice_get, ◌==◌, ◌||◌, nat_lt}
+use Rattle.std.proofs.Common.{◌≡◌, ◌<◌, ◌⊎◌, ℕ, ◌+◌, List, [], ◌∷◌, ◌++◌, length, take, drop, Bool}
+use Rattle.std.proofs.Common.{true, false, Some, refl, sym, ap, ◌∙◌, subst, inl, inr, append_assoc}
+use Rattle.std.proofs.Common.{arith, length-append}
+use Rattle.std.specs.Prelude.{slice_get, ◌==◌, nat_lt}
 use Rattle.std.specs.List.{AllByRecursion}
 use Rattle.std.proofs.lemmas.Bool.Decides.{nat_tests}
 use Rattle.std.proofs.lemmas.List.{take-append-drop}
@@ -10,84 +10,34 @@ use Rattle.tape_blocks.specs.Block.{Portion, Holds}
 use Rattle.tape_blocks.specs.Judged.{begun_behind}
 use Rattle.tape_blocks.specs.Spans.{InOrder}
 use Rattle.tape_blocks.specs.Tight.{Filled}
-use Rattle.tape_set.specs.declared.position.Position.{Position}
 use Rattle.tape_set.specs.declared.position.Position.TheVariants.{Awaits}
 use Rattle.tape_set.specs.Position.{awaiting, next_block, block_of, part_of, is_start}
-use Rattle.tape_set.specs.Layout.{FileSet, Section, Placed, Volume, Entry, a_data_block, item_of}
-use Rattle.tape_set.specs.Layout.{is_data, nth, data_group, trailer_group, section_of}
+use Rattle.tape_set.specs.Layout.{Placed, a_data_block, item_of, data_group, trailer_group}
 use Rattle.tape_set.specs.Before.{before, parts_of, parts_at}
-use Rattle.tape_set.specs.Lawful.{FileForm, IsLawful, TellsForm, most_blocks}
+use Rattle.tape_set.specs.Lawful.{FileForm, TellsForm, most_blocks}
 use Rattle.tape_set.specs.Reach.{stopped, good_run}
 use Rattle.tape_set.proofs.Everywhere.{every_rest}
-use Rattle.tape_set.proofs.Numbering.{FileOf}
-use Rattle.tape_set.proofs.Volumes.{IsOn}
 use Rattle.tape_set.proofs.FileParts.{before_more, block_in_order, begun_behind-append, order_rest}
 use Rattle.tape_set.proofs.Forms.{one_form, blocks_held}
 use Rattle.tape_core.specs.declared.event.Heading.{Heading}
-use Rattle.tape_core.specs.State.{State}
-use Rattle.tape_core.specs.Table.{Outcome, at_awaited}
-use Rattle.tape_core.specs.Follows.{FileTells, KnownAt, IsAt, Among, Inside, Reached, InData}
+use Rattle.tape_core.specs.Table.{at_awaited}
+use Rattle.tape_core.specs.Follows.{FileTells, Inside, InData}
 use Rattle.tape_core.proofs.BlockLaws.{checked, same_front}
 use Rattle.tape_core.proofs.Files.{get_behind, before_taken}
 use Rattle.tape_core.proofs.StateLaws.{later_start}
 use Rattle.tape_core.proofs.Lists.{full_next, stopped_later, stopped_here}
-use Rattle.tape_core.proofs.Fronts.{AtIt, first_left}
-use Rattle.tape_core.proofs.HeaderSteps as headers
-use Rattle.tape_core.proofs.AwaitedSection as awaited
+use Rattle.tape_core.proofs.Fronts.{first_left, here}
+use Rattle.tape_core.proofs.Aim.{Aim}
+use Rattle.tape_core.proofs.AwaitedSection.{wanted_at, its_file, told, file_tells, known_after}
+use Rattle.tape_core.proofs.AwaitedSection.{on_it, on_with, reached_more}
+use Rattle.tape_core.proofs.HeaderSteps.{Next}
 
-module _ (set : FileSet) (l : IsLawful set) (core : State) (at : IsAt set core)
-    (sect block part k : ℕ) (w : Section) (found : section_of set core.file sect ≡ Some w)
-    (inside : block ≤ length w.blocks)
-    (within : (part ≡ 0) ⊎ (part < length (parts_at w.blocks block))) (v : Volume)
-    (vol : nth set.volumes k ≡ Some v) (good : List Bool) where
-  -- ---- what was shown before
-
-  abbrev here : Position
-  here = headers.here set l core at sect block part k w found inside within v vol good
-
-  abbrev Next : Bool → Outcome → Type 0
-  Next = headers.Next set l core at sect block part k w found inside within v vol good
-
-  abbrev its_file : FileOf set core.file sect w
-  its_file = awaited.its_file set l core at sect block part k w found inside within v vol good
-
-  abbrev told : (form : FileForm) × TellsForm form w
-  told = awaited.told set l core at sect block part k w found inside within v vol good
-
-  abbrev file_tells : FileTells set core.file told.0
-  file_tells = awaited.file_tells set l core at sect block part k w found inside within v vol good
-
-  abbrev known_after : (p : Position) → is_start p ≡ false → (form : FileForm) → form ≡ told.0
-      → KnownAt set core.file p (Some form)
-  known_after = awaited.known_after set l core at sect block part k w found inside within v vol good
-
-  abbrev on_it : (x : Placed) (later : List Placed) → Among set k core.file (x ∷ later)
-      → IsOn set k x
-  on_it = awaited.on_it set l core at sect block part k w found inside within v vol good
-
-  abbrev there : (x : Placed) (later : List Placed) → Among set k core.file (x ∷ later)
-      → x.file ≡ core.file → x.sect ≡ sect
-      → AtIt set core.file sect block part k w v l found vol x later
-  there = awaited.there set l core at sect block part k w found inside within v vol good
-
-  abbrev on_with : (g : Bool) (heading : Heading) (wanted : Bool) (x : Placed) (e : Entry)
-      (rest : List Entry)
-      → Inside set core.file sect block part k good heading wanted x (e ∷ rest)
-      → (g || is_data e) ≡ true
-      → Inside set core.file sect block part k (good ++ g ∷ []) heading wanted x rest
-  on_with = awaited.on_with set l core at sect block part k w found inside within v vol good
-
-  abbrev reached_more : (s : Section) (g : Bool) (seen : List Bool)
-      → Reached set core.file sect block part k s good seen
-      → Reached set core.file sect block part k s (good ++ g ∷ []) (seen ++ g ∷ [])
-  reached_more =
-      awaited.reached_more set l core at sect block part k w found inside within v vol good
-
-  -- ---- what is shown here
+module _ (aim : Aim) where
+  open aim use {set, l, core, at, sect, block, part, k, w, found, inside, within, good}
 
   -- the part that is awaited of the block counted: that of the start where this is the block, and
   -- else none
-  part_now : (count : ℕ) → core.position ≡ stopped here sect block count → (d : Filled)
+  part_now : (count : ℕ) → core.position ≡ stopped (here aim) sect block count → (d : Filled)
       → slice_get w.blocks count ≡ Some d
       → core.position ≡ Awaits sect count (part_of core.position) × ((part_of core.position ≡ 0)
       ⊎ (part_of core.position < length d.parts))
@@ -98,8 +48,9 @@ module _ (set : FileSet) (l : IsLawful set) (core : State) (at : IsAt set core)
           ⊎ (part_of core.position < length d.parts))
       go true e =
           let same : count ≡ block = grind (arith, nat_tests) in
-          let now : core.position ≡ here =
-          is ∙ (ap (λ z. stopped here sect block z) same ∙ stopped_here here sect block) in
+          let now : core.position ≡ here aim =
+          is ∙ (ap (λ z. stopped (here aim) sect block z) same
+          ∙ stopped_here (here aim) sect block) in
           let its : part_of core.position ≡ part = ap part_of now in
           let parts : parts_at w.blocks block ≡ d.parts =
           ap (λ z. parts_at w.blocks z) (sym same) ∙ ap parts_of at_d in (
@@ -121,15 +72,15 @@ module _ (set : FileSet) (l : IsLawful set) (core : State) (at : IsAt set core)
       (x : Placed) (d : Filled) (rest : List Filled)
       (i : InData set core.file sect block part k good heading form count core.position x)
       → i.blocks ≡ d ∷ rest → block + good_run (drop block i.seen) ≡ count
-      → Next true (at_awaited core heading form d.bytes)
+      → Next aim true (at_awaited core heading form d.bytes)
   data_awaited heading form count x d rest i e full =
-      let at_it = there x i.inside.later i.inside.among i.inside.chosen.0 i.inside.chosen.1 in
+      let at_it = wanted_at aim i.inside in
       let split : i.past ++ d ∷ rest ≡ w.blocks =
       ap (λ z. i.past ++ z) (sym e) ∙ (i.split ∙ ap (λ z. z.blocks) at_it.same) in
       let tells : TellsForm form w = subst (λ z. TellsForm form z) at_it.same i.labels in
-      let form_is : form ≡ told.0 = one_form w form told.0 tells told.1 in
-      let at_count : core.position ≡ stopped here sect block count =
-      i.awaited ∙ ap (λ z. stopped here sect block z) full in
+      let form_is : form ≡ (told aim).0 = one_form w form (told aim).0 tells (told aim).1 in
+      let at_count : core.position ≡ stopped (here aim) sect block count =
+      i.awaited ∙ ap (λ z. stopped (here aim) sect block z) full in
       let at_d : slice_get w.blocks count ≡ Some d =
       subst (λ z. slice_get z count ≡ Some d) split (get_behind i.past rest d count i.numbered) in
       let part_is = part_now count at_count d at_d in
@@ -141,10 +92,10 @@ module _ (set : FileSet) (l : IsLawful set) (core : State) (at : IsAt set core)
       (sym split) (blocks_held set core.file l sect w form found tells))).0 in
       let order : InOrder (begun_behind false front) d.parts
       (begun_behind false (before set core.file (awaiting sect (count + 1)))) =
-      block_in_order set core.file sect w its_file l i.past rest d count split i.numbered in
+      block_in_order set core.file sect w (its_file aim) l i.past rest d count split i.numbered in
       let so_far : before set core.file core.position
       ≡ front ++ take (part_of core.position) d.parts = ap (λ z. before set core.file z) now
-      ∙ before_taken set core.file sect w its_file count (part_of core.position) d at_d in
+      ∙ before_taken set core.file sect w (its_file aim) count (part_of core.position) d at_d in
       let begun_now : core.begun
       ≡ begun_behind (begun_behind false front) (take (part_of core.position) d.parts) =
       at.stands.span ∙ (ap (λ z. begun_behind false z) so_far
@@ -154,7 +105,7 @@ module _ (set : FileSet) (l : IsLawful set) (core : State) (at : IsAt set core)
       let count_is : block_of core.position ≡ count = ap block_of now in
       let next_is : next_block core.position ≡ awaiting sect (count + 1) = ap next_block now in
       let some_more : nat_lt (block_of core.position) most_blocks ≡ true =
-      (let few = (on_it x i.inside.later i.inside.among).lawful.few in
+      (let few = (on_it aim x i.inside.later i.inside.among).lawful.few in
       let n : length x.section.blocks ≡ length w.blocks = ap (λ z. length z.blocks) at_it.same in
       let lt : block_of core.position < most_blocks =
       omega (arith, lengths, i.numbered, count_is, few, n) in grind (arith, nat_tests)) in
@@ -169,7 +120,7 @@ module _ (set : FileSet) (l : IsLawful set) (core : State) (at : IsAt set core)
       let new_count : block_of core.position + 1 ≡ count + 1 = ap (λ z. z + 1) count_is in
       let parts_next : before set core.file (awaiting sect (count + 1))
       ≡ before set core.file core.position ++ drop (part_of core.position) d.parts =
-      before_more set core.file sect w its_file i.past rest d count split i.numbered
+      before_more set core.file sect w (its_file aim) i.past rest d count split i.numbered
       ∙ (ap (λ z. front ++ z) (sym (take-append-drop (part_of core.position) d.parts))
       ∙ (sym (append_assoc front (take (part_of core.position) d.parts)
       (drop (part_of core.position) d.parts))
@@ -196,7 +147,7 @@ module _ (set : FileSet) (l : IsLawful set) (core : State) (at : IsAt set core)
           stands = record {
             inside = (w, found, omega (arith, lengths, i.numbered), inl refl);
             span = refl;
-            tells = known_after (awaiting sect (count + 1)) not_first form form_is;
+            tells = known_after aim (awaiting sect (count + 1)) not_first form form_is;
           };
         };
         same = refl;
@@ -210,10 +161,10 @@ module _ (set : FileSet) (l : IsLawful set) (core : State) (at : IsAt set core)
             numbered = simp length-append (omega (arith, i.numbered));
             all_seen = simp length-append (omega (arith, i.all_seen));
             labels = i.labels;
-            inside = on_with true heading true x (a_data_block d.bytes) _ inside' refl;
-            reached = reached_more x.section true i.seen i.reached;
-            awaited = sym (ap (λ z. stopped here sect block z) next
-                ∙ stopped_later here sect block (count + 1) later);
+            inside = on_with aim true heading true x (a_data_block d.bytes) _ inside' refl;
+            reached = reached_more aim x.section true i.seen i.reached;
+            awaited = sym (ap (λ z. stopped (here aim) sect block z) next
+                ∙ stopped_later (here aim) sect block (count + 1) later);
             not_behind = omega (arith, next);
           },
         );
@@ -230,7 +181,7 @@ module _ (set : FileSet) (l : IsLawful set) (core : State) (at : IsAt set core)
           is_block =
               ap item_of (sym (first_left set k good en (a_data_block d.bytes) _ inside'.left s));
           is_known = refl;
-          tells = subst (λ z. FileTells set core.file z) (sym form_is) file_tells;
+          tells = subst (λ z. FileTells set core.file z) (sym form_is) (file_tells aim);
           holds = held;
           order = parts_order;
           behind = refl;

@@ -1,5 +1,5 @@
 -- What calls of a sink add to what a crash may bring back, one after another.
-use Rattle.std.proofs.Common.{◌⊎◌, ℕ, ◌≤◌, List, inl, inr, arith}
+use Rattle.std.proofs.Common.{◌⊎◌, List, inl, inr, arith}
 use Rattle.tape_blocks.specs.Block.{Portion}
 use Rattle.tape_core.specs.Crash.{AddsOnly, Crashes, Returns}
 use Rattle.tape_core.specs.Point.{Point}

@@ -1,5 +1,5 @@
 -- The cases of a reader's definitions and of sinks.
-use Rattle.std.proofs.Common.{◌≡◌, ◌≤◌, ◌⊎◌, ℕ, List, [], ◌∷◌, length, true, false, refl}
+use Rattle.std.proofs.Common.{◌≡◌, ◌≤◌, ℕ, List, [], ◌∷◌, length, true, false, refl}
 use Rattle.std.proofs.Common.{Option, Some, None, Ok, ap, sym, subst, inl, inr, arith}
 use Rattle.tape_label.specs.Kinds.{kind_at}
 use Rattle.tape_label.specs.Reading.{head_at, head1_at}

@@ -7,10 +7,8 @@ use Rattle.std.specs.List.{AllByRecursion}
 use Rattle.std.proofs.lemmas.Bool.Decides.{nat_tests}
 use Rattle.tape_set.specs.declared.position.Position.{Position}
 use Rattle.tape_set.specs.declared.position.Position.TheVariants.{Awaits}
-use Rattle.tape_set.specs.Layout.{FileSet, Section, Placed, Volume, Entry, a_mark, is_data, nth}
-use Rattle.tape_set.specs.Layout.{all_entries, data_group, trailer_group, entries, section_of}
-use Rattle.tape_set.specs.Layout.{sections, on}
-use Rattle.tape_set.specs.Lawful.{IsLawful}
+use Rattle.tape_set.specs.Layout.{FileSet, Placed, Entry, a_mark, is_data, nth, all_entries}
+use Rattle.tape_set.specs.Layout.{data_group, trailer_group, entries, section_of, sections, on}
 use Rattle.tape_set.specs.Reach.{passes, far, far_in, before_data, moved}
 use Rattle.tape_set.proofs.Everywhere.{every_rest}
 use Rattle.tape_set.proofs.Numbering.{placed}
@@ -19,6 +17,7 @@ use Rattle.tape_set.proofs.Volumes.{Rising, rising_behind, sections_on_rise, IsO
 use Rattle.tape_set.proofs.Volumes.{Lies, wanted_lies}
 use Rattle.tape_set.proofs.Standing.{wanted_among, all_entries-append}
 use Rattle.tape_core.specs.Follows.{reading, to_come, Left, Among}
+use Rattle.tape_core.proofs.Aim.{Aim}
 use Rattle.tape_core.proofs.Lists.{passes_push, passes_bad, split_longer}
 
 -- one more was read, good or a data block
@@ -67,9 +66,10 @@ shorter z d t c = simp length-append (omega arith)
 regrouped : (f d t c m : List Entry) → f ++ ((d ++ t) ++ (c ++ m)) ≡ ((f ++ d) ++ t) ++ (c ++ m)
 regrouped f d t c m = simp append_assoc
 
-module _ (set : FileSet) (file sect block part k : ℕ) (w : Section) (v : Volume) (l : IsLawful set)
-    (found : section_of set file sect ≡ Some w) (volume : nth set.volumes k ≡ Some v) where
-  abbrev here : Position
+module _ (aim : Aim) where
+  open aim use {set, l, core.{file}, sect, block, part, k, w, found, v, vol}
+
+  abbrev pub here : Position
   here = Awaits sect block part
 
   abbrev fr : List Entry
@@ -141,7 +141,7 @@ module _ (set : FileSet) (file sect block part k : ℕ) (w : Section) (v : Volum
       subst (λ n. (f : nth set.volumes n ≡ Some v) (a : past ++ later ≡ on n (sections
       set)) (h : Lies set file sect n w past later) → fr ++ rest_from h.post ≡ entries set n) at
       (λ f a h. regrouped fr (data_group w.blocks) (trailer_group w) (all_entries h.post) (a_mark
-      ∷ []) ∙ sym (wanted_among set file sect w v past later f a h)) volume all lies
+      ∷ []) ∙ sym (wanted_among set file sect w v past later f a h)) vol all lies
 
   longer_at : (pre post : List Placed) (z : List Entry)
       → length (rest_from post) < length (z ++ to_come (pre ++ it ∷ post))

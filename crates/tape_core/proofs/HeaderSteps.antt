@@ -1,8 +1,8 @@
 -- At the labels before a section's data each item keeps how the state lies to the reading.
-use Rattle.std.proofs.Common.{◌≡◌, ◌≢◌, ◌<◌, ◌≤◌, ◌⊎◌, ℕ, ◌+◌, List, [], ◌∷◌, ◌++◌, length, drop}
-use Rattle.std.proofs.Common.{Bool, true, false, cond, Option, Some, None, Ok, refl, sym, ap, ◌∙◌}
-use Rattle.std.proofs.Common.{subst, inl, inr, append_assoc, arith}
-use Rattle.std.specs.Prelude.{slice_get, map, ◌&&◌, ◌||◌, not, is_some, nat_lt}
+use Rattle.std.proofs.Common.{◌≡◌, ◌≢◌, ◌≤◌, ◌⊎◌, ◌+◌, List, [], ◌∷◌, ◌++◌, length, drop, Bool}
+use Rattle.std.proofs.Common.{true, false, cond, Option, Some, None, Ok, refl, sym, ap, ◌∙◌, subst}
+use Rattle.std.proofs.Common.{inl, inr, append_assoc, arith}
+use Rattle.std.specs.Prelude.{slice_get, map, not, is_some, nat_lt}
 use Rattle.std.specs.Str.{bytes_eq}
 use Rattle.std.proofs.lemmas.Bool.Decides.{nat_tests}
 use Rattle.std.proofs.lemmas.List.{drop_all, append_cancel_right}
@@ -16,22 +16,18 @@ use Rattle.tape_label.proofs.Apart.{kind_again}
 use Rattle.tape_label.proofs.First.{head1_again}
 use Rattle.tape_label.proofs.Second.{head2_again}
 use Rattle.tape_set.specs.declared.position.Position.{Position}
-use Rattle.tape_set.specs.declared.position.Position.TheVariants.{Awaits}
 use Rattle.tape_set.specs.Position.{sect_of}
-use Rattle.tape_set.specs.Layout.{FileSet, Section, Placed, Volume, Entry, a_label, a_mark, item_of}
-use Rattle.tape_set.specs.Layout.{is_data, nth, all_entries, data_group, trailer_group, entries}
-use Rattle.tape_set.specs.Layout.{section_of}
-use Rattle.tape_set.specs.Before.{parts_at}
-use Rattle.tape_set.specs.Lawful.{FileForm, IsLawful, IsHeader, TellsForm, form_of}
+use Rattle.tape_set.specs.Layout.{Placed, Entry, a_label, a_mark, item_of, is_data, all_entries}
+use Rattle.tape_set.specs.Layout.{data_group, trailer_group, entries}
+use Rattle.tape_set.specs.Lawful.{FileForm, IsHeader, TellsForm, form_of}
 use Rattle.tape_set.specs.Reach.{passes, before_data, stopped, good_run}
-use Rattle.tape_set.proofs.Volumes.{IsOn}
 use Rattle.tape_set.proofs.Forms.{head1_same}
 use Rattle.tape_core.specs.declared.event.Reason.{Reason}
 use Rattle.tape_core.specs.declared.event.Heading.{Heading}
 use Rattle.tape_core.specs.declared.event.Phase.{Phase}
 use Rattle.tape_core.specs.declared.event.Phase.TheVariants.{Over}
 use Rattle.tape_core.specs.Labels.{heading_of, form_at, other_file_id, other_shape}
-use Rattle.tape_core.specs.State.{State, is_broken}
+use Rattle.tape_core.specs.State.{is_broken}
 use Rattle.tape_core.specs.Table.{Outcome, in_phase, useless, passed, at_head1, data_phase}
 use Rattle.tape_core.specs.Table.{second_label}
 use Rattle.tape_core.specs.Follows.{IsAt, to_come, Left, Among, Tells, Inside, Follows, IsFinal}
@@ -39,55 +35,14 @@ use Rattle.tape_core.specs.Follows.{Gives}
 use Rattle.tape_core.proofs.LabelLaws.{bytes_same, same_id, no_other_shape}
 use Rattle.tape_core.proofs.Lists.{stopped_here}
 use Rattle.tape_core.proofs.StateLaws.{follows_sound}
-use Rattle.tape_core.proofs.Fronts.{left_more, over_bad, over_elsewhere, first_is, AtIt, Ahead}
-use Rattle.tape_core.proofs.Fronts.{opened}
-use Rattle.tape_core.proofs.AwaitedSection as awaited
+use Rattle.tape_core.proofs.Fronts.{left_more, over_bad, over_elsewhere, first_is, Ahead, opened}
+use Rattle.tape_core.proofs.Fronts.{here, ahead_later, wanted_here}
+use Rattle.tape_core.proofs.Aim.{Aim}
+use Rattle.tape_core.proofs.AwaitedSection.{wanted_at, told, known_cases, on_it, tells_each}
+use Rattle.tape_core.proofs.AwaitedSection.{on_with}
 
-and_false : (v : Bool) → (v && false) ≡ false
-and_false true = refl
-and_false false = refl
-
-module _ (set : FileSet) (l : IsLawful set) (core : State) (at : IsAt set core)
-    (sect block part k : ℕ) (w : Section) (found : section_of set core.file sect ≡ Some w)
-    (inside : block ≤ length w.blocks)
-    (within : (part ≡ 0) ⊎ (part < length (parts_at w.blocks block))) (v : Volume)
-    (vol : nth set.volumes k ≡ Some v) (good : List Bool) where
-  -- ---- what was shown before
-
-  abbrev ahead_at : (later : List Placed) (z : List Entry) → Among set k core.file later
-      → Ahead set core.file sect block part k w v l found vol (z ++ to_come later)
-  ahead_at = awaited.ahead_at set l core at sect block part k w found inside within v vol good
-
-  abbrev told : (form : FileForm) × TellsForm form w
-  told = awaited.told set l core at sect block part k w found inside within v vol good
-
-  abbrev known_cases : (core.known ≡ None) ⊎ (core.known ≡ Some told.0)
-  known_cases = awaited.known_cases set l core at sect block part k w found inside within v vol good
-
-  abbrev on_it : (x : Placed) (later : List Placed) → Among set k core.file (x ∷ later)
-      → IsOn set k x
-  on_it = awaited.on_it set l core at sect block part k w found inside within v vol good
-
-  abbrev tells_each : (x : Placed) (later : List Placed) → Among set k core.file (x ∷ later)
-      → (form : FileForm) × TellsForm form x.section
-  tells_each = awaited.tells_each set l core at sect block part k w found inside within v vol good
-
-  abbrev there : (x : Placed) (later : List Placed) → Among set k core.file (x ∷ later)
-      → x.file ≡ core.file → x.sect ≡ sect
-      → AtIt set core.file sect block part k w v l found vol x later
-  there = awaited.there set l core at sect block part k w found inside within v vol good
-
-  abbrev on_with : (g : Bool) (heading : Heading) (wanted : Bool) (x : Placed) (e : Entry)
-      (rest : List Entry)
-      → Inside set core.file sect block part k good heading wanted x (e ∷ rest)
-      → (g || is_data e) ≡ true
-      → Inside set core.file sect block part k (good ++ g ∷ []) heading wanted x rest
-  on_with = awaited.on_with set l core at sect block part k w found inside within v vol good
-
-  -- ---- what is shown here
-
-  abbrev pub here : Position
-  here = Awaits sect block part
+module _ (aim : Aim) where
+  open aim use {set, l, core, at, sect, block, part, k, w, found, inside, v, vol, good}
 
   abbrev pub Behind : Bool → Phase → Position → Type 0
   Behind g phase position = Follows set core.file sect block part k phase position (good ++ g ∷ [])
@@ -131,43 +86,44 @@ module _ (set : FileSet) (l : IsLawful set) (core : State) (at : IsAt set core)
   either g false x y f h = h refl
 
   -- a bad label or mark
-  pub bad_here : (why : Reason) (e : Entry) (todo : List Entry) → core.position ≡ here
+  pub bad_here : (why : Reason) (e : Entry) (todo : List Entry) → core.position ≡ here aim
       → Left set k good (e ∷ todo) → is_data e ≡ false
-      → Ahead set core.file sect block part k w v l found vol (e ∷ todo)
+      → Ahead aim (e ∷ todo)
       → Next false (useless core why)
-  bad_here why e todo wait left d ahead = useless_next false why (λ more. over_bad set core.file
-      sect block part k w v l found vol good e todo left d ahead more ∙ sym wait)
+  bad_here why e todo wait left d ahead =
+      useless_next false why (λ more. over_bad aim good e todo left d ahead more ∙ sym wait)
 
   -- the reading cannot reach the section
-  pub nothing_here : (g : Bool) (why : Reason) → core.position ≡ here → (w.volume ≡ k → ⊥)
+  pub nothing_here : (g : Bool) (why : Reason) → core.position ≡ here aim → (w.volume ≡ k → ⊥)
       → Next g (useless core why)
-  nothing_here g why wait off = useless_next g why (λ more. over_elsewhere set core.file sect block
-      part k w v l found vol off (good ++ g ∷ []) more ∙ sym wait)
+  nothing_here g why wait off =
+      useless_next g why (λ more. over_elsewhere aim off (good ++ g ∷ []) more ∙ sym wait)
 
   pub over_next : (g : Bool) (why : Reason)
       → Follows set core.file sect block part k Over core.position good → Next g (useless core why)
   over_next g why h = useless_next g why (λ more. rw append_assoc (h (g ∷ more)))
 
   -- between sections, at a bad item
-  pub bad_between : (why : Reason) (later : List Placed) → core.position ≡ here
+  pub bad_between : (why : Reason) (later : List Placed) → core.position ≡ here aim
       → Among set k core.file later → Left set k good (to_come later)
       → Next false (useless core why)
-  bad_between why [] wait among left = bad_here why a_mark [] wait left refl (ahead_at [] [] among)
+  bad_between why [] wait among left =
+      bad_here why a_mark [] wait left refl (ahead_later aim [] [] among)
   bad_between why (x ∷ later) wait among left =
-      bad_here why _ _ wait left refl (ahead_at (x ∷ later) [] among)
+      bad_here why _ _ wait left refl (ahead_later aim (x ∷ later) [] among)
 
   -- between sections, at a block
-  pub head1_next : (x : Placed) (later : List Placed) → core.position ≡ here
+  pub head1_next : (x : Placed) (later : List Placed) → core.position ≡ here aim
       → Among set k core.file (x ∷ later) → Left set k good (to_come (x ∷ later))
       → Next true (at_head1 core (head1_at x.section.hdr1))
   head1_next x later wait among left =
-      let h : Head1 = (on_it x later among).lawful.header.0 in
-      let hd : IsHeader set.set_id x h = (on_it x later among).lawful.header.1 in
+      let h : Head1 = (on_it aim x later among).lawful.header.0 in
+      let hd : IsHeader set.set_id x h = (on_it aim x later among).lawful.header.1 in
       let reads : head1_at x.section.hdr1 ≡ Ok h = head1_again x.section.hdr1 h hd.label in
       let s_is : sect_of core.position ≡ sect = ap sect_of wait in
       let set_is : bytes_eq h.set_id core.set_id ≡ true =
       subst (λ z. bytes_eq h.set_id z ≡ true) (hd.set_id ∙ sym at.of_set) (bytes_same h.set_id) in
-      let first = first_is set core.file sect block part k w v l found vol x later among in
+      let first = first_is aim x later among in
       let off : (x.file ≢ core.file) ⊎ (x.sect ≢ sect) → core.file ≤ x.file → w.volume ≡ k → ⊥ =
       λ differs le is. elim (first is) [
         | inl e ↦ elim differs [
@@ -209,12 +165,13 @@ module _ (set : FileSet) (l : IsLawful set) (core : State) (at : IsAt set core)
       (λ e3. either true (nat_lt (sect_of core.position) h.sect) _ _ (λ gt. nothing_here true _ wait
       (off (inr (grind (arith, nat_tests, hd.sect, s_is))) (omega arith)))
       (λ e4. let s : x.sect ≡ sect = grind (arith, nat_tests, hd.sect, s_is) in
-      let at_it = there x later among f s in
+      let at_it = wanted_here aim x later among f s in
       let hdr1 : IsHead1 w.hdr1 h = subst (λ z. IsHead1 z.hdr1 h) at_it.same hd.label in
-      let id : told.0.file_id ≡ h.file_id = ap (λ z. z.file_id) (sym told.1.told)
-      ∙ ap (λ z. z.file_id) (head1_same w.hdr1 told.1.head h told.1.hdr1 hdr1) in
+      let id : (told aim).0.file_id ≡ h.file_id = ap (λ z. z.file_id) (sym (told aim).1.told)
+      ∙ ap (λ z. z.file_id) (head1_same w.hdr1 (told aim).1.head h (told aim).1.hdr1 hdr1) in
       either true (other_file_id core.known h.file_id) _ _
-      (λ d. absurd (let q = sym (same_id core.known told.0 h.file_id known_cases id) ∙ d in cc))
+      (λ d. absurd (let q = sym (same_id core.known (told aim).0 h.file_id (known_cases aim) id)
+      ∙ d in cc))
       (λ e5. passed_next true _ (
         wait,
         x,
@@ -231,48 +188,49 @@ module _ (set : FileSet) (l : IsLawful set) (core : State) (at : IsAt set core)
       ))))))))
 
   -- HDR2
-  pub head2_next : (heading : Heading) (wanted : Bool) (x : Placed) → core.position ≡ here
+  pub head2_next : (heading : Heading) (wanted : Bool) (x : Placed) → core.position ≡ here aim
       → Inside set core.file sect block part k good heading wanted x
       (a_label x.section.hdr2 ∷ map a_label x.section.headers
       ++ a_mark ∷ data_group x.section.blocks ++ trailer_group x.section)
       → (h : Head1) → IsHead1 x.section.hdr1 h → heading ≡ heading_of h
       → Next true (second_label core heading wanted x.section.hdr2 (kind_at x.section.hdr2))
   head2_next heading false x wait i h e q =
-      let form = tells_each x i.later i.among in
+      let form = tells_each aim x i.later i.among in
       rw (kind_again x.section.hdr2 kinds.Hdr2 form.1.hdr2.kind)
-      (passed_next true _ (wait, x, x.section.headers, tt, on_with true heading false x _ _ i refl))
+      (passed_next true _
+      (wait, x, x.section.headers, tt, on_with aim true heading false x _ _ i refl))
   head2_next heading true x wait i h e q =
-      let at_it = there x i.later i.among i.chosen.0 i.chosen.1 in
-      let form : TellsForm told.0 x.section =
-      subst (λ z. TellsForm told.0 z) (sym at_it.same) told.1 in
+      let at_it = wanted_at aim i in
+      let form : TellsForm (told aim).0 x.section =
+      subst (λ z. TellsForm (told aim).0 z) (sym at_it.same) (told aim).1 in
       let heads : form.head ≡ h = head1_same x.section.hdr1 form.head h form.hdr1 e in
-      let same : form_at heading form.second ≡ told.0 = ap (λ z. form_at z form.second) q
+      let same : form_at heading form.second ≡ (told aim).0 = ap (λ z. form_at z form.second) q
       ∙ (ap (λ z. form_of z form.second) (sym heads) ∙ form.told) in
       rw (
         kind_again x.section.hdr2 kinds.Hdr2 form.hdr2.kind,
         head2_again x.section.hdr2 kinds.Hdr2 form.second form.hdr2,
       )
       (either true (other_shape core.known (form_at heading form.second)) _ _
-      (λ d. absurd (let n = sym (no_other_shape core.known told.0 known_cases)
+      (λ d. absurd (let n = sym (no_other_shape core.known (told aim).0 (known_cases aim))
       ∙ (ap (λ z. other_shape core.known z) (sym same) ∙ d) in cc))
       (λ e5. passed_next true _ (
         wait,
         x,
         x.section.headers,
         subst (λ z. TellsForm z x.section) (sym same) form,
-        on_with true heading true x _ _ i refl,
+        on_with aim true heading true x _ _ i refl,
       )))
 
   -- the mark behind the headers
-  pub headers_end : (heading : Heading) (form : Option FileForm) (x : Placed) → core.position ≡ here
-      → Tells form x.section
+  pub headers_end : (heading : Heading) (form : Option FileForm) (x : Placed)
+      → core.position ≡ here aim → Tells form x.section
       → Inside set core.file sect block part k good heading (is_some form) x
       (a_mark ∷ data_group x.section.blocks ++ trailer_group x.section)
       → Next true (passed core (data_phase heading form))
   headers_end heading None x wait kn i = passed_next true _
-      (wait, inr (x, x.section.blocks, on_with true heading false x a_mark _ i refl))
+      (wait, inr (x, x.section.blocks, on_with aim true heading false x a_mark _ i refl))
   headers_end heading (Some form) x wait kn i =
-      let at_it = there x i.later i.among i.chosen.0 i.chosen.1 in
+      let at_it = wanted_at aim i in
       let done : Left set k (good ++ true ∷ [])
       ((data_group x.section.blocks ++ trailer_group x.section) ++ to_come i.later) =
       left_more set k good true a_mark _ i.left refl in
@@ -307,8 +265,8 @@ module _ (set : FileSet) (l : IsLawful set) (core : State) (at : IsAt set core)
             left = done;
           };
           reached = record { fine = fine; rest = empty };
-          awaited = wait ∙ (sym (stopped_here here sect block)
-              ∙ ap (λ z. stopped here sect block z) (sym none));
+          awaited = wait ∙ (sym (stopped_here (here aim) sect block)
+              ∙ ap (λ z. stopped (here aim) sect block z) (sym none));
           not_behind = omega arith;
         },
       )

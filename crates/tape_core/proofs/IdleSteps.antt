@@ -1,6 +1,6 @@
 -- Items that change nothing, behind a whole reading.
-use Rattle.std.proofs.Common.{◌≡◌, ℕ, List, length, Bool, true, Option, Some, None, refl}
-use Rattle.std.proofs.Common.{sym, ap, ◌∙◌, subst}
+use Rattle.std.proofs.Common.{◌≡◌, ℕ, List, length, Bool, true, Option, Some, None, refl, sym, ap}
+use Rattle.std.proofs.Common.{◌∙◌, subst}
 use Rattle.std.specs.Prelude.{IsSome}
 use Rattle.std.proofs.lemmas.List.{length-map}
 use Rattle.tape_image.specs.Tape.{TapeItem, block as a_block, bad, mark}
@@ -15,6 +15,7 @@ use Rattle.tape_core.specs.declared.event.Phase.TheVariants.{Over}
 use Rattle.tape_core.specs.State.{State}
 use Rattle.tape_core.specs.Table.{Outcome, useless, at_item, unless_complete, step_of}
 use Rattle.tape_core.specs.Follows.{IsAt, Follows, IsReading, Idle}
+use Rattle.tape_core.proofs.Aim.{aim_of}
 use Rattle.tape_core.proofs.PositionSteps.{whole_over}
 
 pub idle_whole : (core : State) (set : FileSet) (p : Position) (k : ℕ) (good : List Bool)
@@ -32,8 +33,8 @@ idle_whole core set (Awaits sect block part) k good x l vol r n q = go core.posi
   where
     over_at : (o : Option Volume) → nth set.volumes k ≡ o → IsSome o → core.phase ≡ Over
     over_at None e s = absurd (cc)
-    over_at (Some v) e s = whole_over set l core r.at sect block part k r.from.0 r.from.1 r.from.2
-        r.from.3 v e good core.phase r.follows (n ∙ length-map (entries set k) item_of) q
+    over_at (Some v) e s = whole_over (aim_of set l core sect block part k v e good r) core.phase
+        r.follows (n ∙ length-map (entries set k) item_of) q
 
     over : core.phase ≡ Over
     over = over_at (nth set.volumes k) refl vol

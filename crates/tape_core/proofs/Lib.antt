@@ -4,6 +4,7 @@ pub mod StateLaws
 pub mod Ranges
 pub mod Lists
 pub mod Files
+pub mod Aim
 pub mod Fronts
 pub mod AwaitedSection
 pub mod HeaderSteps

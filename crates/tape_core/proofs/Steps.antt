@@ -1,7 +1,6 @@
 -- Each step keeps how the state lies to the reading.
 use Rattle.std.proofs.Common.{◌≡◌, ℕ, zero, suc, List, [], ◌∷◌, ◌++◌, length, Bool, true, false}
-use Rattle.std.proofs.Common.{cond, Option, Some, None, refl, sym, ap, ◌∙◌, subst}
-use Rattle.std.proofs.Common.{append_assoc}
+use Rattle.std.proofs.Common.{cond, Option, Some, None, refl, sym, ap, ◌∙◌, subst, append_assoc}
 use Rattle.std.specs.Prelude.{slice_get, map, IsSome}
 use Rattle.tape_image.specs.Tape.{TapeItem, bad}
 use Rattle.tape_set.specs.declared.position.Position.{Position}
@@ -16,10 +15,10 @@ use Rattle.tape_core.specs.declared.event.Phase.TheVariants.{VolumeLabels, Heade
 use Rattle.tape_core.specs.declared.event.Phase.TheVariants.{DataPassed, DataWanted, TrailerPassed}
 use Rattle.tape_core.specs.declared.event.Phase.TheVariants.{TrailerWanted, Trailers, NextFile}
 use Rattle.tape_core.specs.State.{State, is_broken}
-use Rattle.tape_core.specs.Table.{Outcome, at_item, unless_complete}
-use Rattle.tape_core.specs.Table.{step_of, mount_of, mounted}
+use Rattle.tape_core.specs.Table.{Outcome, at_item, unless_complete, step_of, mount_of, mounted}
 use Rattle.tape_core.specs.Follows.{IsAt, reading, Follows, FollowsFrom, IsReading, Kept}
 use Rattle.tape_core.proofs.Lists.{stopped_waits}
+use Rattle.tape_core.proofs.Aim.{aim_of}
 use Rattle.tape_core.proofs.HeaderSteps.{Next}
 use Rattle.tape_core.proofs.BadSteps.{bad_next}
 use Rattle.tape_core.proofs.GoodSteps.{good_next}
@@ -95,15 +94,13 @@ step_from : (set : FileSet) (l : IsLawful set) (core : State) (sect block part k
 step_from set l core sect block part k v vol good g e s r (Awaits a b c) q = go g (pick g)
   where
     pick : (g' : Bool)
-        → Next set l core r.at sect block part k r.from.0 r.from.1 r.from.2 r.from.3 v vol good g'
+        → Next (aim_of set l core sect block part k v vol good r) g'
         (at_item core core.phase (cond g' (item_of e) bad))
-    pick true = good_next set l core r.at sect block part k r.from.0 r.from.1 r.from.2 r.from.3 v
-        vol good core.phase r.follows e s
-    pick false = bad_next set l core r.at sect block part k r.from.0 r.from.1 r.from.2 r.from.3 v
-        vol good core.phase r.follows e s
+    pick true = good_next _ core.phase r.follows e s
+    pick false = bad_next _ core.phase r.follows e s
 
     go : (g' : Bool)
-        → Next set l core r.at sect block part k r.from.0 r.from.1 r.from.2 r.from.3 v vol good g'
+        → Next (aim_of set l core sect block part k v vol good r) g'
         (at_item core core.phase (cond g' (item_of e) bad))
         → Kept set (Awaits sect block part) k (good ++ g' ∷ []) (cond g'
         (item_of e) bad) core (at_item core core.phase (cond g' (item_of e) bad))
@@ -165,8 +162,7 @@ pub reading_position : (set : FileSet) (p : Position) (k : ℕ) (v : Volume) (go
     → core.position ≡ far set core.file p (reading k good)
 reading_position set Finished k v good core l vol r = r.follows
 reading_position set (Awaits sect block part) k v good core l vol r =
-    position_is set l core r.at sect block part k r.from.0 r.from.1 r.from.2 r.from.3 v vol good
-    core.phase r.follows
+    position_is (aim_of set l core sect block part k v vol good r) core.phase r.follows
 
 mounted_sound : (phase : Phase) (p : Position) → is_broken phase ≡ false
     → is_broken (mounted phase p) ≡ false

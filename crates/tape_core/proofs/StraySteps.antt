@@ -1,8 +1,8 @@
 -- A reading gone astray, behind a mark that was lost, stays so: it gives nothing of the section
 -- awaited.
-use Rattle.std.proofs.Common.{◌≡◌, ◌<◌, ◌≤◌, ◌⊎◌, ℕ, zero, suc, List, [], ◌∷◌, ◌++◌, length, Bool}
-use Rattle.std.proofs.Common.{true, false, cond, Some, Result, Ok, Err, refl, sym, ap, ◌∙◌, subst}
-use Rattle.std.proofs.Common.{inl, append_assoc, arith, length-append}
+use Rattle.std.proofs.Common.{◌≡◌, ◌<◌, ℕ, zero, suc, List, [], ◌∷◌, ◌++◌, length, Bool, true}
+use Rattle.std.proofs.Common.{false, Some, Result, Ok, Err, refl, sym, ap, ◌∙◌, subst, inl}
+use Rattle.std.proofs.Common.{append_assoc, arith, length-append}
 use Rattle.std.specs.Prelude.{slice_get, map, ◌==◌}
 use Rattle.std.specs.List.{AllByRecursion}
 use Rattle.std.proofs.lemmas.Bool.Decides.{nat_tests}
@@ -13,68 +13,31 @@ use Rattle.tape_label.specs.declared.values.Trail1.{Trail1}
 use Rattle.tape_label.specs.Reading.{head1_at, trail1_at}
 use Rattle.tape_label.proofs.First.{head1_found, trail1_found}
 use Rattle.tape_blocks.specs.Tight.{Filled}
-use Rattle.tape_set.specs.declared.position.Position.{Position}
-use Rattle.tape_set.specs.Layout.{FileSet, Section, Placed, Volume, Entry, a_label, a_data_block}
-use Rattle.tape_set.specs.Layout.{a_mark, item_of, nth, all_entries, section_entries, data_group}
-use Rattle.tape_set.specs.Layout.{trailer_group, entries, entries_on, section_of, sections, on}
-use Rattle.tape_set.specs.Before.{parts_at}
-use Rattle.tape_set.specs.Lawful.{IsLawful, IsSection}
+use Rattle.tape_set.specs.Layout.{Placed, Entry, a_label, a_data_block, a_mark, item_of}
+use Rattle.tape_set.specs.Layout.{all_entries, section_entries, data_group, trailer_group, entries}
+use Rattle.tape_set.specs.Layout.{entries_on, sections, on}
+use Rattle.tape_set.specs.Lawful.{IsSection}
 use Rattle.tape_set.proofs.Everywhere.{every, every_both, every_rest}
 use Rattle.tape_set.proofs.Volumes.{IsOn, sections_on_are}
 use Rattle.tape_set.proofs.Forms.{trail1_same}
 use Rattle.tape_core.specs.declared.event.Reason.{Reason}
 use Rattle.tape_core.specs.declared.event.Reason.TheVariants.{NotOnReel, SectionDiffers, BadLabel}
 use Rattle.tape_core.specs.declared.event.Heading.{Heading}
-use Rattle.tape_core.specs.declared.event.Phase.{Phase}
-use Rattle.tape_core.specs.declared.event.Phase.TheVariants.{Over, DataPassed, TrailerPassed}
-use Rattle.tape_core.specs.declared.event.Phase.TheVariants.{Trailers, NextFile}
-use Rattle.tape_core.specs.State.{State}
-use Rattle.tape_core.specs.Table.{Outcome, useless, passed, at_item, at_head1, at_passed_trailer}
+use Rattle.tape_core.specs.declared.event.Phase.TheVariants.{DataPassed, TrailerPassed, Trailers}
+use Rattle.tape_core.specs.declared.event.Phase.TheVariants.{NextFile}
+use Rattle.tape_core.specs.Table.{useless, passed, at_item, at_head1, at_passed_trailer}
 use Rattle.tape_core.specs.Table.{other_numbers}
-use Rattle.tape_core.specs.Follows.{IsAt, to_come, Left, FitsHeading, IsNoHeader, BarrenNext}
+use Rattle.tape_core.specs.Follows.{to_come, Left, FitsHeading, IsNoHeader, BarrenNext}
 use Rattle.tape_core.specs.Follows.{BarrenTrailers, BarrenTrailer, BarrenData, Inside, Astray}
 use Rattle.tape_core.proofs.LabelLaws.{trailer_no_header, header_no_trailer}
 use Rattle.tape_core.proofs.Lists.{passes_bad, passes_stays_bad}
-use Rattle.tape_core.proofs.Fronts.{over_bad, Ahead, among_on, laid_out}
-use Rattle.tape_core.proofs.HeaderSteps as headers
-use Rattle.tape_core.proofs.AwaitedSection as awaited
+use Rattle.tape_core.proofs.Fronts.{over_bad, among_on, laid_out, here}
+use Rattle.tape_core.proofs.Aim.{Aim}
+use Rattle.tape_core.proofs.AwaitedSection.{ahead_passed}
+use Rattle.tape_core.proofs.HeaderSteps.{Next, passed_next, useless_next, either}
 
-module _ (set : FileSet) (l : IsLawful set) (core : State) (at : IsAt set core)
-    (sect block part k : ℕ) (w : Section) (found : section_of set core.file sect ≡ Some w)
-    (inside : block ≤ length w.blocks)
-    (within : (part ≡ 0) ⊎ (part < length (parts_at w.blocks block))) (v : Volume)
-    (vol : nth set.volumes k ≡ Some v) (good : List Bool) where
-  -- ---- what was shown before
-
-  abbrev here : Position
-  here = headers.here set l core at sect block part k w found inside within v vol good
-
-  abbrev Behind : Bool → Phase → Position → Type 0
-  Behind = headers.Behind set l core at sect block part k w found inside within v vol good
-
-  abbrev Next : Bool → Outcome → Type 0
-  Next = headers.Next set l core at sect block part k w found inside within v vol good
-
-  abbrev passed_next : (g : Bool) (phase : Phase) → Behind g phase core.position
-      → Next g (passed core phase)
-  passed_next = headers.passed_next set l core at sect block part k w found inside within v vol good
-
-  abbrev useless_next : (g : Bool) (why : Reason) → Behind g Over core.position
-      → Next g (useless core why)
-  useless_next =
-      headers.useless_next set l core at sect block part k w found inside within v vol good
-
-  abbrev either : (g b : Bool) (x y : Outcome) → (b ≡ true → Next g x) → (b ≡ false → Next g y)
-      → Next g (cond b x y)
-  either = headers.either set l core at sect block part k w found inside within v vol good
-
-  abbrev ahead_passed : (heading : Heading) (x : Placed) (z : List Entry)
-      (i : Inside set core.file sect block part k good heading false x z)
-      → Ahead set core.file sect block part k w v l found vol (z ++ to_come i.later)
-  ahead_passed =
-      awaited.ahead_passed set l core at sect block part k w found inside within v vol good
-
-  -- ---- what is shown here
+module _ (aim : Aim) where
+  open aim use {set, l, core, sect, block, part, k, w, found, v, vol, good}
 
   abbrev pub Strays : List Bool → (List Entry → Type 0) → Type 0
   Strays gs Barren = Astray set core.file sect block part k gs Barren
@@ -94,10 +57,10 @@ module _ (set : FileSet) (l : IsLawful set) (core : State) (at : IsAt set core)
         barren = c;
       }
 
-  pub stray_over : (g : Bool) (why : Reason) (B : List Entry → Type 0) → core.position ≡ here
-      → Strays good B → Next g (useless core why)
+  pub stray_over : (g : Bool) (why : Reason) (B : List Entry → Type 0) → core.position ≡ here aim
+      → Strays good B → Next aim g (useless core why)
   stray_over g why B wait a =
-      useless_next g why (λ more. rw append_assoc (a.lost (g ∷ more)) ∙ sym wait)
+      useless_next aim g why (λ more. rw append_assoc (a.lost (g ∷ more)) ∙ sym wait)
 
   -- there is a next entry
   pub stray_first : (B : List Entry → Type 0) (a : Strays good B) (e : Entry)
@@ -118,11 +81,11 @@ module _ (set : FileSet) (l : IsLawful set) (core : State) (at : IsAt set core)
       go (d ∷ done) (suc n) c h = go done n (omega arith) h
 
   -- any entry read bad, in data passed over
-  pub stray_bad : (heading : Heading) (e : Entry) → core.position ≡ here
+  pub stray_bad : (heading : Heading) (e : Entry) → core.position ≡ here aim
       → (a : Strays good (BarrenData heading)) → (rest : List Entry) → a.todo ≡ e ∷ rest
-      → Next false (passed core (DataPassed heading))
+      → Next aim false (passed core (DataPassed heading))
   stray_bad heading e wait a rest q =
-      passed_next false _ (
+      passed_next aim false _ (
         wait,
         inl (stray_on false (BarrenData heading) (BarrenData heading) a e rest q
             (go e (subst (BarrenData heading) q a.barren))),
@@ -134,55 +97,55 @@ module _ (set : FileSet) (l : IsLawful set) (core : State) (at : IsAt set core)
       go a_mark h = h.1
 
   -- any entry read well
-  pub stray_data : (heading : Heading) (e : Entry) → core.position ≡ here
+  pub stray_data : (heading : Heading) (e : Entry) → core.position ≡ here aim
       → (a : Strays good (BarrenData heading)) → (rest : List Entry) → a.todo ≡ e ∷ rest
-      → Next true (at_item core (DataPassed heading) (item_of e))
-  stray_data heading (a_label b) wait a rest q = passed_next true _ (
+      → Next aim true (at_item core (DataPassed heading) (item_of e))
+  stray_data heading (a_label b) wait a rest q = passed_next aim true _ (
     wait,
     inl (stray_on true (BarrenData heading) (BarrenData heading) a _ rest q
         (subst (BarrenData heading) q a.barren)),
   )
-  stray_data heading (a_data_block b) wait a rest q = passed_next true _ (
+  stray_data heading (a_data_block b) wait a rest q = passed_next aim true _ (
     wait,
     inl (stray_on true (BarrenData heading) (BarrenData heading) a _ rest q
         (subst (BarrenData heading) q a.barren)),
   )
   stray_data heading a_mark wait a rest q =
-      passed_next true _ (
+      passed_next aim true _ (
         wait,
         inl (stray_on true (BarrenData heading) (BarrenTrailer heading) a _ rest q
             (subst (BarrenData heading) q a.barren).0),
       )
 
-  stray_trailer_block : (heading : Heading) (e : Entry) (b : List ℕ) → core.position ≡ here
+  stray_trailer_block : (heading : Heading) (e : Entry) (b : List ℕ) → core.position ≡ here aim
       → (a : Strays good (BarrenTrailer heading)) → (rest : List Entry) → a.todo ≡ e ∷ rest
       → (FitsHeading heading b → BarrenTrailers rest)
-      → Next true (at_passed_trailer core heading (trail1_at b))
+      → Next aim true (at_passed_trailer core heading (trail1_at b))
   stray_trailer_block heading e b wait a rest q h = go (trail1_at b) refl
     where
       go : (o : Result Trail1 LabelFault) → trail1_at b ≡ o
-          → Next true (at_passed_trailer core heading o)
+          → Next aim true (at_passed_trailer core heading o)
       go (Err fault) is = stray_over true (BadLabel fault) (BarrenTrailer heading) wait a
-      go (Ok t) is = either true (other_numbers heading t) _ _
+      go (Ok t) is = either aim true (other_numbers heading t) _ _
           (λ d. stray_over true SectionDiffers (BarrenTrailer heading) wait a)
-          (λ d. passed_next true _ (
+          (λ d. passed_next aim true _ (
             wait,
             inl (stray_on true (BarrenTrailer heading) BarrenTrailers a e rest q
                 (h (t, trail1_found b t is, d))),
           ))
 
   -- no HDR1 comes where the next file is expected
-  stray_header : (b : List ℕ) → core.position ≡ here → (a : Strays good BarrenNext) → IsNoHeader b
-      → Next true (at_head1 core (head1_at b))
+  stray_header : (b : List ℕ) → core.position ≡ here aim → (a : Strays good BarrenNext)
+      → IsNoHeader b → Next aim true (at_head1 core (head1_at b))
   stray_header b wait a none = go (head1_at b) refl
     where
-      go : (o : Result Head1 LabelFault) → head1_at b ≡ o → Next true (at_head1 core o)
+      go : (o : Result Head1 LabelFault) → head1_at b ≡ o → Next aim true (at_head1 core o)
       go (Err fault) is = stray_over true (BadLabel fault) BarrenNext wait a
       go (Ok h) is = absurd (none h (head1_found b h is))
 
-  pub stray_trailer : (heading : Heading) (e : Entry) → core.position ≡ here
+  pub stray_trailer : (heading : Heading) (e : Entry) → core.position ≡ here aim
       → (a : Strays good (BarrenTrailer heading)) → (rest : List Entry) → a.todo ≡ e ∷ rest
-      → Next true (at_item core (TrailerPassed heading) (item_of e))
+      → Next aim true (at_item core (TrailerPassed heading) (item_of e))
   stray_trailer heading (a_label b) wait a rest q = stray_trailer_block heading
       (a_label b) b wait a rest q (subst (BarrenTrailer heading) q a.barren)
   stray_trailer heading (a_data_block b) wait a rest q = stray_trailer_block heading
@@ -190,23 +153,23 @@ module _ (set : FileSet) (l : IsLawful set) (core : State) (at : IsAt set core)
   stray_trailer heading a_mark wait a rest q =
       stray_over true (BadLabel faults.Identifier) (BarrenTrailer heading) wait a
 
-  pub stray_trailers : (e : Entry) → core.position ≡ here → (a : Strays good BarrenTrailers)
-      → (rest : List Entry) → a.todo ≡ e ∷ rest → Next true (at_item core Trailers (item_of e))
-  stray_trailers (a_label b) wait a rest q = passed_next true _ (
+  pub stray_trailers : (e : Entry) → core.position ≡ here aim → (a : Strays good BarrenTrailers)
+      → (rest : List Entry) → a.todo ≡ e ∷ rest → Next aim true (at_item core Trailers (item_of e))
+  stray_trailers (a_label b) wait a rest q = passed_next aim true _ (
     wait,
     inl (stray_on true BarrenTrailers BarrenTrailers a _ rest q (subst BarrenTrailers q a.barren)),
   )
-  stray_trailers (a_data_block b) wait a rest q = passed_next true _ (
+  stray_trailers (a_data_block b) wait a rest q = passed_next aim true _ (
     wait,
     inl (stray_on true BarrenTrailers BarrenTrailers a _ rest q (subst BarrenTrailers q a.barren)),
   )
-  stray_trailers a_mark wait a rest q = passed_next true _ (
+  stray_trailers a_mark wait a rest q = passed_next aim true _ (
     wait,
     inl (stray_on true BarrenTrailers BarrenNext a _ rest q (subst BarrenTrailers q a.barren)),
   )
 
-  pub stray_next : (e : Entry) → core.position ≡ here → (a : Strays good BarrenNext)
-      → (rest : List Entry) → a.todo ≡ e ∷ rest → Next true (at_item core NextFile (item_of e))
+  pub stray_next : (e : Entry) → core.position ≡ here aim → (a : Strays good BarrenNext)
+      → (rest : List Entry) → a.todo ≡ e ∷ rest → Next aim true (at_item core NextFile (item_of e))
   stray_next (a_label b) wait a rest q = stray_header b wait a (subst BarrenNext q a.barren)
   stray_next (a_data_block b) wait a rest q = stray_header b wait a (subst BarrenNext q a.barren)
   stray_next a_mark wait a rest q = stray_over true NotOnReel BarrenNext wait a
@@ -294,14 +257,14 @@ module _ (set : FileSet) (l : IsLawful set) (core : State) (at : IsAt set core)
   at_start e = record { done = []; whole = sym entries_is; count = rw e refl; fine = refl }
 
   -- the closing mark of a section passed over was bad
-  pub data_astray : (heading : Heading) (x : Placed) → core.position ≡ here
+  pub data_astray : (heading : Heading) (x : Placed) → core.position ≡ here aim
       → Inside set core.file sect block part k good heading false x (trailer_group x.section)
-      → Next false (passed core (DataPassed heading))
+      → Next aim false (passed core (DataPassed heading))
   data_astray heading x wait i =
-      let ahead = ahead_passed heading x (trailer_group x.section) i in
+      let ahead = ahead_passed aim heading x (trailer_group x.section) i in
       let rest : List Entry = (a_label x.section.trailer ∷ map a_label x.section.trailers
       ++ a_mark ∷ []) ++ to_come i.later in
-      let apart = among_on set core.file sect block part k w v l found vol x i.later i.among in
+      let apart = among_on aim x i.later i.among in
       let lawful : AllByRecursion (IsSection set.set_id (length set.volumes)) i.later =
       every_rest (IsSection set.set_id (length set.volumes)) (i.among.past ++ x ∷ []) i.later
       (subst (λ z. AllByRecursion (IsSection set.set_id (length set.volumes)) z)
@@ -318,7 +281,7 @@ module _ (set : FileSet) (l : IsLawful set) (core : State) (at : IsAt set core)
       let flat : rest ≡ a_label x.section.trailer ∷ (map a_label x.section.trailers
       ++ (a_mark ∷ to_come i.later)) = append_assoc (a_label x.section.trailer
       ∷ map a_label x.section.trailers) (a_mark ∷ []) (to_come i.later) in
-      passed_next false _ (
+      passed_next aim false _ (
         wait,
         inl (record {
           todo = rest;
@@ -326,7 +289,7 @@ module _ (set : FileSet) (l : IsLawful set) (core : State) (at : IsAt set core)
           whole = append_assoc i.left.done (a_mark ∷ []) rest ∙ i.left.whole;
           count = simp length-append (omega (arith, i.left.count));
           bad = passes_bad good [] i.left.done [] a_mark i.left.count refl;
-          lost = over_bad set core.file sect block part k w v l found vol good a_mark rest
+          lost = over_bad aim good a_mark rest
               i.left refl ahead;
           barren =
               subst (BarrenData heading) (sym flat) (barren_labels heading x.section.trailers _ on);
