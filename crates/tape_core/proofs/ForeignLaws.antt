@@ -1,6 +1,6 @@
 -- A reel that is none of the set moves nothing.
-use Rattle.std.proofs.Common.{◌≡◌, ℕ, List, ◌∷◌, Bool, true, false, cond, Option, Some, None}
-use Rattle.std.proofs.Common.{Result, Ok, Err, refl, sym, ap, ◌∙◌, subst}
+use Rattle.std.proofs.Common.{◌≡◌, ℕ, List, ◌∷◌, Bool, true, false, cond, Option, Some, Result, Ok}
+use Rattle.std.proofs.Common.{Err, refl, sym, ap, ◌∙◌, subst}
 use Rattle.std.specs.Prelude.{◌&&◌}
 use Rattle.std.specs.Str.{bytes_eq}
 use Rattle.tape_image.specs.Tape.{TapeItem, block, bad, mark}
@@ -18,9 +18,6 @@ use Rattle.tape_core.specs.declared.event.Reason.TheVariants.{NotLabelled, Other
 use Rattle.tape_core.specs.declared.event.Reason.TheVariants.{ReelEnded, BadLabel}
 use Rattle.tape_core.specs.declared.event.Phase.{Phase}
 use Rattle.tape_core.specs.declared.event.Phase.TheVariants.{Over, Broken, Volume, VolumeLabels}
-use Rattle.tape_core.specs.declared.event.Phase.TheVariants.{Header2, Headers, DataPassed}
-use Rattle.tape_core.specs.declared.event.Phase.TheVariants.{DataWanted, TrailerPassed}
-use Rattle.tape_core.specs.declared.event.Phase.TheVariants.{TrailerWanted, Trailers, NextFile}
 use Rattle.tape_label.specs.VolumeLabels.{is_volume_label}
 use Rattle.tape_core.specs.State.{State, is_broken}
 use Rattle.tape_core.specs.Table.{Outcome, in_phase, useless, passed, at_item, at_head1}
@@ -67,25 +64,13 @@ module _ (set : FileSet) (core : State) (at : IsAt set core) (sect place part : 
 
   first_unmoved : (b : List ℕ) (o : Option Kind) → is_of_set set.set_id (head1_at b) ≡ false
       → Unmoved set rest core (first_labels core b o)
-  first_unmoved b None h = useless_unmoved NotLabelled
-  first_unmoved b (Some kinds.Vol1) h = useless_unmoved NotLabelled
   first_unmoved b (Some kinds.Hdr1) h = head_unmoved (head1_at b) h
-  first_unmoved b (Some kinds.Hdr2) h = useless_unmoved NotLabelled
-  first_unmoved b (Some kinds.Eof1) h = useless_unmoved NotLabelled
-  first_unmoved b (Some kinds.Eof2) h = useless_unmoved NotLabelled
-  first_unmoved b (Some kinds.Eov1) h = useless_unmoved NotLabelled
-  first_unmoved b (Some kinds.Eov2) h = useless_unmoved NotLabelled
+  first_unmoved b k h = useless_unmoved NotLabelled
 
   vol1_unmoved : (o : Option Kind) → (is_vol1 o && labels_of_set set.set_id rest) ≡ false
       → Unmoved set rest core (first_label core o)
-  vol1_unmoved None h = useless_unmoved NotLabelled
   vol1_unmoved (Some kinds.Vol1) h = labels_unmoved h
-  vol1_unmoved (Some kinds.Hdr1) h = useless_unmoved NotLabelled
-  vol1_unmoved (Some kinds.Hdr2) h = useless_unmoved NotLabelled
-  vol1_unmoved (Some kinds.Eof1) h = useless_unmoved NotLabelled
-  vol1_unmoved (Some kinds.Eof2) h = useless_unmoved NotLabelled
-  vol1_unmoved (Some kinds.Eov1) h = useless_unmoved NotLabelled
-  vol1_unmoved (Some kinds.Eov2) h = useless_unmoved NotLabelled
+  vol1_unmoved k h = useless_unmoved NotLabelled
 
   item_unmoved : (x : TapeItem) (phase : Phase) → IsForeignIn set.set_id (x ∷ rest) phase
       → Unmoved set rest core (at_item core phase x)
@@ -135,27 +120,6 @@ foreign_mount core new is set reel at h =
   where
     go : (phase : Phase) (p : Position) → is_broken phase ≡ false
         → IsForeignAt set.set_id reel p (mounted phase p)
-    go Over Finished n = tt
-    go Volume Finished n = tt
-    go VolumeLabels Finished n = tt
-    go (Header2 heading wanted) Finished n = tt
-    go (Headers heading form) Finished n = tt
-    go (DataPassed heading) Finished n = tt
-    go (DataWanted heading form seen) Finished n = tt
-    go (TrailerPassed heading) Finished n = tt
-    go (TrailerWanted heading form) Finished n = tt
-    go Trailers Finished n = tt
-    go NextFile Finished n = tt
-    go Broken Finished n = tt
-    go Over (Awaits sect place part) n = h
-    go Volume (Awaits sect place part) n = h
-    go VolumeLabels (Awaits sect place part) n = h
     go Broken (Awaits sect place part) n = absurd (cc)
-    go (Header2 heading wanted) (Awaits sect place part) n = h
-    go (Headers heading form) (Awaits sect place part) n = h
-    go (DataPassed heading) (Awaits sect place part) n = h
-    go (DataWanted heading form seen) (Awaits sect place part) n = h
-    go (TrailerPassed heading) (Awaits sect place part) n = h
-    go (TrailerWanted heading form) (Awaits sect place part) n = h
-    go Trailers (Awaits sect place part) n = h
-    go NextFile (Awaits sect place part) n = h
+    go phase (Awaits sect place part) n = h
+    go phase Finished n = tt

@@ -20,10 +20,9 @@ use Rattle.tape_set.specs.Position.{sect_of, block_of, part_of}
 use Rattle.tape_set.specs.Lawful.{FileForm, label_count, most_blocks}
 use Rattle.tape_core.specs.declared.event.Heading.{Heading}
 use Rattle.tape_core.specs.declared.event.Phase.{Phase}
-use Rattle.tape_core.specs.declared.event.Phase.TheVariants.{Over, Broken, Volume, VolumeLabels}
-use Rattle.tape_core.specs.declared.event.Phase.TheVariants.{Header2, Headers, DataPassed}
+use Rattle.tape_core.specs.declared.event.Phase.TheVariants.{Broken, Volume, VolumeLabels, Header2}
 use Rattle.tape_core.specs.declared.event.Phase.TheVariants.{DataWanted, TrailerPassed}
-use Rattle.tape_core.specs.declared.event.Phase.TheVariants.{TrailerWanted, Trailers, NextFile}
+use Rattle.tape_core.specs.declared.event.Phase.TheVariants.{TrailerWanted, NextFile}
 use Rattle.tape_label.specs.VolumeLabels.{is_volume_label}
 use Rattle.tape_core.specs.Labels.{form_at, other_file_id, other_shape}
 use Rattle.tape_core.specs.Parts.{begun_before, other_front}
@@ -99,105 +98,46 @@ same_awaited core heading form bytes =
 
 same_labels : (core : State) (bytes : List ℕ) (k : Option Kind)
     → Same core (first_labels core bytes k)
-same_labels core bytes None = same core _ refl refl
 same_labels core bytes (Some kinds.Hdr1) = same_head1 core (head1_at bytes)
-same_labels core bytes (Some kinds.Vol1) = same core _ refl refl
-same_labels core bytes (Some kinds.Hdr2) = same core _ refl refl
-same_labels core bytes (Some kinds.Eof1) = same core _ refl refl
-same_labels core bytes (Some kinds.Eof2) = same core _ refl refl
-same_labels core bytes (Some kinds.Eov1) = same core _ refl refl
-same_labels core bytes (Some kinds.Eov2) = same core _ refl refl
+same_labels core bytes k = same core _ refl refl
 
 same_first : (core : State) (k : Option Kind) → Same core (first_label core k)
-same_first core None = same core _ refl refl
 same_first core (Some kinds.Vol1) = same core _ refl refl
-same_first core (Some kinds.Hdr1) = same core _ refl refl
-same_first core (Some kinds.Hdr2) = same core _ refl refl
-same_first core (Some kinds.Eof1) = same core _ refl refl
-same_first core (Some kinds.Eof2) = same core _ refl refl
-same_first core (Some kinds.Eov1) = same core _ refl refl
-same_first core (Some kinds.Eov2) = same core _ refl refl
+same_first core k = same core _ refl refl
 
 same_second : (core : State) (heading : Heading) (wanted : Bool) (bytes : List ℕ) (k : Option Kind)
     → Same core (second_label core heading wanted bytes k)
-same_second core heading true bytes None = same core _ refl refl
-same_second core heading true bytes (Some kinds.Vol1) = same core _ refl refl
-same_second core heading true bytes (Some kinds.Hdr1) = same core _ refl refl
 same_second core heading true bytes (Some kinds.Hdr2) = same_head2 core heading (head2_at bytes)
-same_second core heading true bytes (Some kinds.Eof1) = same core _ refl refl
-same_second core heading true bytes (Some kinds.Eof2) = same core _ refl refl
-same_second core heading true bytes (Some kinds.Eov1) = same core _ refl refl
-same_second core heading true bytes (Some kinds.Eov2) = same core _ refl refl
-same_second core heading false bytes None = same core _ refl refl
-same_second core heading false bytes (Some kinds.Vol1) = same core _ refl refl
-same_second core heading false bytes (Some kinds.Hdr1) = same core _ refl refl
 same_second core heading false bytes (Some kinds.Hdr2) = same core _ refl refl
-same_second core heading false bytes (Some kinds.Eof1) = same core _ refl refl
-same_second core heading false bytes (Some kinds.Eof2) = same core _ refl refl
-same_second core heading false bytes (Some kinds.Eov1) = same core _ refl refl
-same_second core heading false bytes (Some kinds.Eov2) = same core _ refl refl
+same_second core heading wanted bytes k = same core _ refl refl
 
 same_block : (core : State) (phase : Phase) (bytes : List ℕ) → Same core (at_block core phase bytes)
-same_block core Over bytes = same core _ refl refl
-same_block core Broken bytes = same core _ refl refl
 same_block core Volume bytes = same_first core (kind_at bytes)
 same_block core VolumeLabels bytes = pick core (is_volume_label bytes) _ _ (same core _ refl refl)
     (same_labels core bytes (kind_at bytes))
 same_block core (Header2 heading wanted) bytes =
     same_second core heading wanted bytes (kind_at bytes)
-same_block core (Headers heading wanted) bytes = same core _ refl refl
-same_block core (DataPassed heading) bytes = same core _ refl refl
 same_block core (DataWanted heading form seen) bytes = pick core (nat_lt seen
     (block_of core.position)) _ _ (same core _ refl refl) (same_awaited core heading form bytes)
 same_block core (TrailerPassed heading) bytes = same_passed core heading (trail1_at bytes)
 same_block core (TrailerWanted heading form) bytes =
     same_trailer core heading form (trail1_at bytes)
-same_block core Trailers bytes = same core _ refl refl
 same_block core NextFile bytes = same_head1 core (head1_at bytes)
+same_block core phase bytes = same core _ refl refl
 
 same_mark : (core : State) (phase : Phase) → Same core (at_mark core phase)
-same_mark core Over = same core _ refl refl
-same_mark core Broken = same core _ refl refl
-same_mark core Volume = same core _ refl refl
-same_mark core VolumeLabels = same core _ refl refl
-same_mark core (Header2 heading wanted) = same core _ refl refl
-same_mark core (Headers heading wanted) = same core _ refl refl
-same_mark core (DataPassed heading) = same core _ refl refl
 same_mark core (DataWanted heading form seen) = pick core (nat_lt seen (block_of core.position)) _ _
     (same core _ refl refl) (same core _ refl refl)
-same_mark core (TrailerPassed heading) = same core _ refl refl
-same_mark core (TrailerWanted heading form) = same core _ refl refl
-same_mark core Trailers = same core _ refl refl
-same_mark core NextFile = same core _ refl refl
+same_mark core phase = same core _ refl refl
 
 same_bad : (core : State) (phase : Phase) → Same core (at_bad core phase)
-same_bad core Over = same core _ refl refl
-same_bad core Broken = same core _ refl refl
-same_bad core Volume = same core _ refl refl
-same_bad core VolumeLabels = same core _ refl refl
-same_bad core (Header2 heading wanted) = same core _ refl refl
-same_bad core (Headers heading wanted) = same core _ refl refl
-same_bad core (DataPassed heading) = same core _ refl refl
 same_bad core (DataWanted heading form seen) = pick core (nat_lt seen (block_of core.position)) _ _
     (same core _ refl refl) (same core _ refl refl)
-same_bad core (TrailerPassed heading) = same core _ refl refl
-same_bad core (TrailerWanted heading form) = same core _ refl refl
-same_bad core Trailers = same core _ refl refl
-same_bad core NextFile = same core _ refl refl
+same_bad core phase = same core _ refl refl
 
 same_reel_end : (core : State) (phase : Phase) → Same core (at_reel_end core phase)
-same_reel_end core Over = same core _ refl refl
 same_reel_end core Broken = same core _ refl refl
-same_reel_end core Volume = same core _ refl refl
-same_reel_end core VolumeLabels = same core _ refl refl
-same_reel_end core (Header2 heading wanted) = same core _ refl refl
-same_reel_end core (Headers heading wanted) = same core _ refl refl
-same_reel_end core (DataPassed heading) = same core _ refl refl
-same_reel_end core (DataWanted heading form seen) = same core _ refl refl
-same_reel_end core (TrailerPassed heading) = same core _ refl refl
-same_reel_end core (TrailerWanted heading form) = same core _ refl refl
-same_reel_end core Trailers = same core _ refl refl
-same_reel_end core NextFile = same core _ refl refl
+same_reel_end core phase = same core _ refl refl
 
 same_arrival : (core : State) (phase : Phase) (arrived : Option TapeItem)
     → Same core (at_arrival core phase arrived)

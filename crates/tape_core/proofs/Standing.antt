@@ -9,10 +9,7 @@ use Rattle.tape_image.specs.Tape.{TapeItem}
 use Rattle.tape_set.specs.declared.position.Position.{Position}
 use Rattle.tape_set.specs.declared.position.Position.TheVariants.{Awaits, Finished}
 use Rattle.tape_core.specs.declared.event.Phase.{Phase}
-use Rattle.tape_core.specs.declared.event.Phase.TheVariants.{Over, Broken, Volume, VolumeLabels}
-use Rattle.tape_core.specs.declared.event.Phase.TheVariants.{Header2, Headers, DataPassed}
-use Rattle.tape_core.specs.declared.event.Phase.TheVariants.{DataWanted, TrailerPassed}
-use Rattle.tape_core.specs.declared.event.Phase.TheVariants.{TrailerWanted, Trailers, NextFile}
+use Rattle.tape_core.specs.declared.event.Phase.TheVariants.{Over, Broken}
 use Rattle.tape_core.specs.declared.event.CoreFault.{CoreFault}
 use Rattle.tape_core.specs.declared.event.CoreFault.TheVariants.{OtherFile}
 use Rattle.tape_core.specs.Point.{Point}
@@ -38,23 +35,7 @@ rest_as core phase e = ap (λ z. in_phase core (resting z)) (sym e)
 
 left_at : (core : State) (phase : Phase) → core.phase ≡ phase → Left core (at_reel_end core phase)
 left_at core Over e = record { stand = rest_as core Over e; final = tt }
-left_at core Broken e = record { stand = rest_as core Broken e; final = tt }
-left_at core Volume e = record { stand = rest_as core Volume e; final = tt }
-left_at core VolumeLabels e = record { stand = rest_as core VolumeLabels e; final = tt }
-left_at core (Header2 heading wanted) e =
-    record { stand = rest_as core (Header2 heading wanted) e; final = tt }
-left_at core (Headers heading wanted) e =
-    record { stand = rest_as core (Headers heading wanted) e; final = tt }
-left_at core (DataPassed heading) e =
-    record { stand = rest_as core (DataPassed heading) e; final = tt }
-left_at core (DataWanted heading form seen) e =
-    record { stand = rest_as core (DataWanted heading form seen) e; final = tt }
-left_at core (TrailerPassed heading) e =
-    record { stand = rest_as core (TrailerPassed heading) e; final = tt }
-left_at core (TrailerWanted heading form) e =
-    record { stand = rest_as core (TrailerWanted heading form) e; final = tt }
-left_at core Trailers e = record { stand = rest_as core Trailers e; final = tt }
-left_at core NextFile e = record { stand = rest_as core NextFile e; final = tt }
+left_at core phase e = record { stand = rest_as core phase e; final = tt }
 
 left_unless : (core : State) (p : Position) (out : Outcome) → Left core out
     → Left core (unless_complete core p out)
@@ -72,37 +53,9 @@ reel_left core out arrived is e =
 
 mounted_stand : (core : State) (phase : Phase) (p : Position) → core.phase ≡ phase
     → rest_of (in_phase core (mounted phase p)) ≡ rest_of core
-mounted_stand core Over Finished e = rest_as core Over e
-mounted_stand core Over (Awaits sect b part) e = rest_as core Over e
-mounted_stand core Broken Finished e = rest_as core Broken e
-mounted_stand core Broken (Awaits sect b part) e = rest_as core Broken e
-mounted_stand core Volume Finished e = rest_as core Volume e
-mounted_stand core Volume (Awaits sect b part) e = rest_as core Volume e
-mounted_stand core VolumeLabels Finished e = rest_as core VolumeLabels e
-mounted_stand core VolumeLabels (Awaits sect b part) e = rest_as core VolumeLabels e
-mounted_stand core (Header2 heading wanted) Finished e = rest_as core (Header2 heading wanted) e
-mounted_stand core (Header2 heading wanted) (Awaits sect b part) e =
-    rest_as core (Header2 heading wanted) e
-mounted_stand core (Headers heading wanted) Finished e = rest_as core (Headers heading wanted) e
-mounted_stand core (Headers heading wanted) (Awaits sect b part) e =
-    rest_as core (Headers heading wanted) e
-mounted_stand core (DataPassed heading) Finished e = rest_as core (DataPassed heading) e
-mounted_stand core (DataPassed heading) (Awaits sect b part) e = rest_as core (DataPassed heading) e
-mounted_stand core (DataWanted heading form seen) Finished e =
-    rest_as core (DataWanted heading form seen) e
-mounted_stand core (DataWanted heading form seen) (Awaits sect b part) e =
-    rest_as core (DataWanted heading form seen) e
-mounted_stand core (TrailerPassed heading) Finished e = rest_as core (TrailerPassed heading) e
-mounted_stand core (TrailerPassed heading) (Awaits sect b part) e =
-    rest_as core (TrailerPassed heading) e
-mounted_stand core (TrailerWanted heading form) Finished e =
-    rest_as core (TrailerWanted heading form) e
-mounted_stand core (TrailerWanted heading form) (Awaits sect b part) e =
-    rest_as core (TrailerWanted heading form) e
-mounted_stand core Trailers Finished e = rest_as core Trailers e
-mounted_stand core Trailers (Awaits sect b part) e = rest_as core Trailers e
-mounted_stand core NextFile Finished e = rest_as core NextFile e
-mounted_stand core NextFile (Awaits sect b part) e = rest_as core NextFile e
+mounted_stand core Broken p e = rest_as core Broken e
+mounted_stand core phase Finished e = rest_as core phase e
+mounted_stand core phase (Awaits sect b part) e = rest_as core phase e
 
 pub mount_stand : (core new : State) → new ≡ mount_of core → rest_of new ≡ rest_of core
 mount_stand core new is = ap rest_of is ∙ mounted_stand core core.phase core.position refl
@@ -162,32 +115,12 @@ stayed core point out is = subst (λ z. OnErr z.0 (z.1 ≡ core)) (sym is) (go (
 -- ---- a reader with no reading under way
 
 resting_sound : (phase : Phase) → is_broken phase ≡ false → is_broken (resting phase) ≡ false
-resting_sound Over e = refl
 resting_sound Broken e = e
-resting_sound Volume e = refl
-resting_sound VolumeLabels e = refl
-resting_sound (Header2 heading wanted) e = refl
-resting_sound (Headers heading wanted) e = refl
-resting_sound (DataPassed heading) e = refl
-resting_sound (DataWanted heading form seen) e = refl
-resting_sound (TrailerPassed heading) e = refl
-resting_sound (TrailerWanted heading form) e = refl
-resting_sound Trailers e = refl
-resting_sound NextFile e = refl
+resting_sound phase e = refl
 
 sound_again : (phase : Phase) → is_broken (resting phase) ≡ false → is_broken phase ≡ false
-sound_again Over e = refl
 sound_again Broken e = e
-sound_again Volume e = refl
-sound_again VolumeLabels e = refl
-sound_again (Header2 heading wanted) e = refl
-sound_again (Headers heading wanted) e = refl
-sound_again (DataPassed heading) e = refl
-sound_again (DataWanted heading form seen) e = refl
-sound_again (TrailerPassed heading) e = refl
-sound_again (TrailerWanted heading form) e = refl
-sound_again Trailers e = refl
-sound_again NextFile e = refl
+sound_again phase e = refl
 
 pub rests : (set : FileSet) (core : State) → IsAt set core → IsAt set (rest_of core)
 rests set core a =

@@ -1,7 +1,7 @@
 -- What is true of every reader stays so.
 use Rattle.std.proofs.Common.{◌≡◌, ◌<◌, ◌≤◌, ◌⊎◌, inl, inr, ℕ, zero, suc, ◌+◌, List, [], ◌∷◌, ◌++◌}
-use Rattle.std.proofs.Common.{length, take, Bool, true, false, Some, refl, sym, ap, ◌∙◌}
-use Rattle.std.proofs.Common.{arith, length-append}
+use Rattle.std.proofs.Common.{length, take, Bool, true, false, Some, refl, sym, ap, ◌∙◌, arith}
+use Rattle.std.proofs.Common.{length-append}
 use Rattle.std.specs.Prelude.{◌==◌, ◌&&◌, ◌||◌, not, nat_le}
 use Rattle.std.proofs.lemmas.Bool.Decides.{nat_tests}
 use Rattle.std.specs.List.{AllByRecursion}
@@ -17,11 +17,7 @@ use Rattle.tape_set.specs.Position.{is_start, awaiting}
 use Rattle.tape_set.specs.Lawful.{FileForm}
 use Rattle.tape_set.proofs.FileParts.{begun_behind-append}
 use Rattle.tape_core.specs.declared.event.Phase.{Phase}
-use Rattle.tape_core.specs.declared.event.Phase.TheVariants.{DataWanted, Over, Broken}
-use Rattle.tape_core.specs.declared.event.Phase.TheVariants.{Volume as AtVolume, VolumeLabels}
-use Rattle.tape_core.specs.declared.event.Phase.TheVariants.{Header2, Headers, DataPassed}
-use Rattle.tape_core.specs.declared.event.Phase.TheVariants.{TrailerPassed, TrailerWanted, Trailers}
-use Rattle.tape_core.specs.declared.event.Phase.TheVariants.{NextFile}
+use Rattle.tape_core.specs.declared.event.Phase.TheVariants.{Broken}
 use Rattle.tape_core.specs.Known.{is_spanned}
 use Rattle.tape_core.specs.Parts.{parts_in, goes_on_at, begun_before, other_front}
 use Rattle.tape_core.specs.State.{ToldFits, is_broken}
@@ -132,15 +128,5 @@ pub follows_sound : (set : FileSet) (file sect block part k : ℕ) (phase : Phas
     (position : Position)
     (good : List Bool)
     → Follows set file sect block part k phase position good → is_broken phase ≡ false
-follows_sound set file sect block part k Over position good h = refl
 follows_sound set file sect block part k Broken position good h = absurd h
-follows_sound set file sect block part k AtVolume position good h = refl
-follows_sound set file sect block part k VolumeLabels position good h = refl
-follows_sound set file sect block part k (Header2 heading wanted) position good h = refl
-follows_sound set file sect block part k (Headers heading form) position good h = refl
-follows_sound set file sect block part k (DataPassed heading) position good h = refl
-follows_sound set file sect block part k (DataWanted heading form seen) position good h = refl
-follows_sound set file sect block part k (TrailerPassed heading) position good h = refl
-follows_sound set file sect block part k (TrailerWanted heading form) position good h = refl
-follows_sound set file sect block part k Trailers position good h = refl
-follows_sound set file sect block part k NextFile position good h = refl
+follows_sound set file sect block part k phase position good h = refl

@@ -10,10 +10,8 @@ use Rattle.tape_set.specs.Before.{IsIn}
 use Rattle.tape_set.specs.Lawful.{IsLawful}
 use Rattle.tape_set.specs.Reach.{far}
 use Rattle.tape_core.specs.declared.event.Phase.{Phase}
-use Rattle.tape_core.specs.declared.event.Phase.TheVariants.{Over, Broken, Volume as AtVolume}
-use Rattle.tape_core.specs.declared.event.Phase.TheVariants.{VolumeLabels, Header2, Headers}
-use Rattle.tape_core.specs.declared.event.Phase.TheVariants.{DataPassed, DataWanted, TrailerPassed}
-use Rattle.tape_core.specs.declared.event.Phase.TheVariants.{TrailerWanted, Trailers, NextFile}
+use Rattle.tape_core.specs.declared.event.Phase.TheVariants.{Over, Broken, DataWanted}
+use Rattle.tape_core.specs.declared.event.Phase.TheVariants.{TrailerWanted}
 use Rattle.tape_core.specs.State.{State, is_broken}
 use Rattle.tape_core.specs.Table.{Outcome, at_item, unless_complete, step_of, mount_of, mounted}
 use Rattle.tape_core.specs.Follows.{IsAt, reading, Follows, FollowsFrom, IsReading, Kept}
@@ -24,64 +22,40 @@ use Rattle.tape_core.proofs.BadSteps.{bad_next}
 use Rattle.tape_core.proofs.GoodSteps.{good_next}
 use Rattle.tape_core.proofs.PositionSteps.{position_is}
 
--- a complete file stays so
-stays_complete : (set : FileSet) (file sect block part k : ℕ) (good : List Bool)
-    (g : Bool) (phase : Phase) (position : Position)
-    → position ≡ Finished → Follows set file sect block part k phase position good
-    → Follows set file sect block part k phase position (good ++ g ∷ [])
-stays_complete set file sect block part k good g Over position q h =
-    λ more. rw append_assoc (h (g ∷ more))
-stays_complete set file sect block part k good g Broken position q h = absurd h
-stays_complete set file sect block part k good g AtVolume position q h =
-    absurd (let d = sym q ∙ h.0 in cc)
-stays_complete set file sect block part k good g VolumeLabels position q h =
-    absurd (let d = sym q ∙ h.0 in cc)
-stays_complete set file sect block part k good g (Header2 heading wanted) position q h =
-    absurd (let d = sym q ∙ h.0 in cc)
-stays_complete set file sect block part k good g (Headers heading known) position q h =
-    absurd (let d = sym q ∙ h.0 in cc)
-stays_complete set file sect block part k good g (DataPassed heading) position q h =
-    absurd (let d = sym q ∙ h.0 in cc)
-stays_complete set file sect block part k good g (DataWanted heading known count) position q h =
+-- at the end of the file no reading is under way
+complete_over : (set : FileSet) (file sect block part k : ℕ) (good : List Bool)
+    (phase : Phase) (position : Position)
+    → position ≡ Finished → Follows set file sect block part k phase position good → phase ≡ Over
+complete_over set file sect block part k good Over position q h = refl
+complete_over set file sect block part k good Broken position q h = absurd h
+complete_over set file sect block part k good (DataWanted heading known count) position q h =
     absurd (stopped_waits sect block part _ (sym q ∙ h.1.awaited))
-stays_complete set file sect block part k good g (TrailerPassed heading) position q h =
-    absurd (let d = sym q ∙ h.0 in cc)
-stays_complete set file sect block part k good g (TrailerWanted heading known) position q h =
+complete_over set file sect block part k good (TrailerWanted heading known) position q h =
     absurd (stopped_waits sect block part _ (sym q ∙ h.1.awaited))
-stays_complete set file sect block part k good g Trailers position q h =
-    absurd (let d = sym q ∙ h.0 in cc)
-stays_complete set file sect block part k good g NextFile position q h =
+complete_over set file sect block part k good phase position q h =
     absurd (let d = sym q ∙ h.0 in cc)
 
--- and no more of the reading matters
+-- so no more of the reading matters
 over_complete : (set : FileSet) (file sect block part k : ℕ) (good : List Bool)
     (phase : Phase) (position : Position)
     → position ≡ Finished → Follows set file sect block part k phase position good
     → (gs more : List Bool)
     → far set file (Awaits sect block part) (reading k ((good ++ gs) ++ more)) ≡ position
-over_complete set file sect block part k good Over position q h gs more =
-    rw append_assoc (h (gs ++ more))
-over_complete set file sect block part k good Broken position q h gs more = absurd h
-over_complete set file sect block part k good AtVolume position q h gs more =
-    absurd (let d = sym q ∙ h.0 in cc)
-over_complete set file sect block part k good VolumeLabels position q h gs more =
-    absurd (let d = sym q ∙ h.0 in cc)
-over_complete set file sect block part k good (Header2 heading wanted) position q h gs more =
-    absurd (let d = sym q ∙ h.0 in cc)
-over_complete set file sect block part k good (Headers heading known) position q h gs more =
-    absurd (let d = sym q ∙ h.0 in cc)
-over_complete set file sect block part k good (DataPassed heading) position q h gs more =
-    absurd (let d = sym q ∙ h.0 in cc)
-over_complete set file sect block part k good (DataWanted heading known count) position q h gs
-    more = absurd (stopped_waits sect block part _ (sym q ∙ h.1.awaited))
-over_complete set file sect block part k good (TrailerPassed heading) position q h gs more =
-    absurd (let d = sym q ∙ h.0 in cc)
-over_complete set file sect block part k good (TrailerWanted heading known) position q h gs more =
-    absurd (stopped_waits sect block part _ (sym q ∙ h.1.awaited))
-over_complete set file sect block part k good Trailers position q h gs more =
-    absurd (let d = sym q ∙ h.0 in cc)
-over_complete set file sect block part k good NextFile position q h gs more =
-    absurd (let d = sym q ∙ h.0 in cc)
+over_complete set file sect block part k good phase position q h gs more =
+    let over : Follows set file sect block part k Over position good =
+    subst (λ z. Follows set file sect block part k z position good)
+    (complete_over set file sect block part k good phase position q h) h in
+    rw append_assoc (over (gs ++ more))
+
+-- and a complete file stays so
+stays_complete : (set : FileSet) (file sect block part k : ℕ) (good : List Bool)
+    (g : Bool) (phase : Phase) (position : Position)
+    → position ≡ Finished → Follows set file sect block part k phase position good
+    → Follows set file sect block part k phase position (good ++ g ∷ [])
+stays_complete set file sect block part k good g phase position q h =
+    subst (λ z. Follows set file sect block part k z position (good ++ g ∷ []))
+    (sym (complete_over set file sect block part k good phase position q h))
+    (over_complete set file sect block part k good phase position q h (g ∷ []))
 
 -- The whole law of a step.
 step_from : (set : FileSet) (l : IsLawful set) (core : State) (sect block part k : ℕ) (v : Volume)
@@ -166,57 +140,16 @@ reading_position set (Awaits sect block part) k v good core l vol r =
 
 mounted_sound : (phase : Phase) (p : Position) → is_broken phase ≡ false
     → is_broken (mounted phase p) ≡ false
-mounted_sound Broken Finished n = n
-mounted_sound Over Finished n = refl
-mounted_sound AtVolume Finished n = refl
-mounted_sound VolumeLabels Finished n = refl
-mounted_sound (Header2 heading wanted) Finished n = refl
-mounted_sound (Headers heading form) Finished n = refl
-mounted_sound (DataPassed heading) Finished n = refl
-mounted_sound (DataWanted heading form seen) Finished n = refl
-mounted_sound (TrailerPassed heading) Finished n = refl
-mounted_sound (TrailerWanted heading form) Finished n = refl
-mounted_sound Trailers Finished n = refl
-mounted_sound NextFile Finished n = refl
-mounted_sound Over (Awaits s b c) n = refl
-mounted_sound Broken (Awaits s b c) n = n
-mounted_sound AtVolume (Awaits s b c) n = refl
-mounted_sound VolumeLabels (Awaits s b c) n = refl
-mounted_sound (Header2 heading wanted) (Awaits s b c) n = refl
-mounted_sound (Headers heading form) (Awaits s b c) n = refl
-mounted_sound (DataPassed heading) (Awaits s b c) n = refl
-mounted_sound (DataWanted heading form seen) (Awaits s b c) n = refl
-mounted_sound (TrailerPassed heading) (Awaits s b c) n = refl
-mounted_sound (TrailerWanted heading form) (Awaits s b c) n = refl
-mounted_sound Trailers (Awaits s b c) n = refl
-mounted_sound NextFile (Awaits s b c) n = refl
+mounted_sound Broken p n = n
+mounted_sound phase Finished n = refl
+mounted_sound phase (Awaits s b c) n = refl
 
 mounted_follows : (set : FileSet) (file k : ℕ) (phase : Phase) (p : Position)
     → is_broken phase ≡ false → FollowsFrom set file p k [] (mounted phase p) p
 mounted_follows set file k Broken Finished n = absurd (cc)
-mounted_follows set file k Over Finished n = refl
-mounted_follows set file k AtVolume Finished n = refl
-mounted_follows set file k VolumeLabels Finished n = refl
-mounted_follows set file k (Header2 heading wanted) Finished n = refl
-mounted_follows set file k (Headers heading form) Finished n = refl
-mounted_follows set file k (DataPassed heading) Finished n = refl
-mounted_follows set file k (DataWanted heading form seen) Finished n = refl
-mounted_follows set file k (TrailerPassed heading) Finished n = refl
-mounted_follows set file k (TrailerWanted heading form) Finished n = refl
-mounted_follows set file k Trailers Finished n = refl
-mounted_follows set file k NextFile Finished n = refl
-mounted_follows set file k Over (Awaits s b c) n = (refl, refl)
+mounted_follows set file k phase Finished n = refl
 mounted_follows set file k Broken (Awaits s b c) n = absurd (cc)
-mounted_follows set file k AtVolume (Awaits s b c) n = (refl, refl)
-mounted_follows set file k VolumeLabels (Awaits s b c) n = (refl, refl)
-mounted_follows set file k (Header2 heading wanted) (Awaits s b c) n = (refl, refl)
-mounted_follows set file k (Headers heading form) (Awaits s b c) n = (refl, refl)
-mounted_follows set file k (DataPassed heading) (Awaits s b c) n = (refl, refl)
-mounted_follows set file k (DataWanted heading form seen) (Awaits s b c) n = (refl, refl)
-mounted_follows set file k (TrailerPassed heading) (Awaits s b c) n = (refl, refl)
-mounted_follows set file k (TrailerWanted heading form) (Awaits s b c) n = (refl, refl)
-mounted_follows set file k Trailers (Awaits s b c) n = (refl, refl)
-mounted_follows set file k NextFile (Awaits s b c) n = (refl, refl)
+mounted_follows set file k phase (Awaits s b c) n = (refl, refl)
 
 pub mount_reads : (set : FileSet) (k : ℕ) (core : State) → IsAt set core
     → IsReading set core.position k [] (mount_of core)
