@@ -17,13 +17,14 @@ use Rattle.tape_set.specs.Before.{before, parts_of, parts_at}
 use Rattle.tape_set.specs.Lawful.{FileForm, TellsForm, most_blocks}
 use Rattle.tape_set.specs.Reach.{stopped, good_run}
 use Rattle.tape_set.proofs.Everywhere.{every_rest}
-use Rattle.tape_set.proofs.FileParts.{before_more, block_in_order, begun_behind-append, order_rest}
+use Rattle.tape_set.proofs.FileParts.{before_taken, before_more, block_in_order}
+use Rattle.tape_set.proofs.FileParts.{begun_behind-append, order_rest}
 use Rattle.tape_set.proofs.Forms.{one_form, blocks_held}
 use Rattle.tape_core.specs.declared.event.Heading.{Heading}
 use Rattle.tape_core.specs.Table.{at_awaited}
 use Rattle.tape_core.specs.Follows.{FileTells, Inside, InData}
 use Rattle.tape_core.proofs.BlockLaws.{checked, same_front}
-use Rattle.tape_core.proofs.Files.{get_behind, before_taken}
+use Rattle.tape_core.proofs.Files.{get_behind}
 use Rattle.tape_core.proofs.StateLaws.{later_start}
 use Rattle.tape_core.proofs.Lists.{full_next, stopped_later, stopped_here}
 use Rattle.tape_core.proofs.Fronts.{first_left, here}

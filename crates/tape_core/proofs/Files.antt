@@ -1,23 +1,20 @@
 -- More of a file's sections, blocks and parts.
-use Rattle.std.proofs.Common.{◌≡◌, ◌<◌, ◌≤◌, ℕ, zero, suc, ◌+◌, List, [], ◌∷◌, ◌++◌, length, take}
-use Rattle.std.proofs.Common.{Bool, true, false, Some, None, refl, sym, ap, ◌∙◌, append_assoc}
-use Rattle.std.proofs.Common.{arith}
-use Rattle.std.specs.Prelude.{slice_get, unwrap_or, option_and_then}
+use Rattle.std.proofs.Common.{◌≡◌, ◌≤◌, ℕ, zero, suc, List, [], ◌∷◌, ◌++◌, length, Bool, true}
+use Rattle.std.proofs.Common.{false, Some, None, refl, ap, ◌∙◌, arith}
+use Rattle.std.specs.Prelude.{slice_get, unwrap_or}
 use Rattle.tape_label.specs.declared.values.Trail1.{Trail1}
 use Rattle.tape_label.specs.Kinds.{identifier, trailer}
 use Rattle.tape_label.specs.Positions.{positions}
 use Rattle.tape_label.specs.Trail1.{IsTrail1}
-use Rattle.tape_blocks.specs.Block.{Portion}
 use Rattle.tape_blocks.specs.Judged.{begun_behind}
-use Rattle.tape_blocks.specs.Tight.{Filled, parts_of_all}
-use Rattle.tape_set.specs.declared.position.Position.TheVariants.{Awaits, Finished}
-use Rattle.tape_set.specs.Position.{awaiting}
-use Rattle.tape_set.specs.Layout.{FileSet, Section, nth, section_of, sections, ends_file}
+use Rattle.tape_blocks.specs.Tight.{Filled}
+use Rattle.tape_set.specs.declared.position.Position.TheVariants.{Finished}
+use Rattle.tape_set.specs.Layout.{FileSet, Section, section_of, sections, ends_file}
 use Rattle.tape_set.specs.Before.{section_parts, parts_of, parts_at, parts_before, before}
 use Rattle.tape_set.specs.Lawful.{IsLawful}
 use Rattle.tape_set.proofs.Everywhere.{every_stands}
 use Rattle.tape_set.proofs.Numbering.{FileOf, placed, section_stands}
-use Rattle.tape_set.proofs.FileParts.{file_is, file_lawful, before_part, before_is, order_end}
+use Rattle.tape_set.proofs.FileParts.{file_is, file_lawful, order_end}
 use Rattle.tape_set.proofs.Forms.{all_four_digits}
 
 pub get_behind : {A : Type 0} (past rest : List A) (d : A) (n : ℕ) → length past ≡ n
@@ -26,12 +23,6 @@ get_behind [] rest d zero h = refl
 get_behind [] rest d (suc n) h = absurd (omega arith)
 get_behind (x ∷ past) rest d zero h = absurd (omega arith)
 get_behind (x ∷ past) rest d (suc n) h = get_behind past rest d n (omega arith)
-
-pub get_inside : {A : Type 0} (xs : List A) (n : ℕ) (x : A) → slice_get xs n ≡ Some x
-    → n < length xs
-get_inside [] n x h = absurd (cc)
-get_inside (y ∷ xs) zero x h = omega arith
-get_inside (y ∷ xs) (suc n) x h = let ih = get_inside xs n x h in omega (arith, ih)
 
 none_at : {A : Type 0} (xs : List A) → slice_get xs (length xs) ≡ None
 none_at [] = refl
@@ -64,24 +55,3 @@ module _ (set : FileSet) (file sect : ℕ) (w : Section) where
       ap (λ o. parts_before (unwrap_or o []) Finished) (file_is set file sect w f) in
       ap (λ z. begun_behind false z) is
       ∙ order_end false false (section_parts f.sections) (file_lawful set file sect w l f).order
-
-  -- the next section of the file
-  pub next_found : (f : FileOf set file sect w) (w' : Section)
-      → slice_get f.sections (f.sect_at.place + 1) ≡ Some w'
-      → section_of set file (sect + 1) ≡ Some w'
-  next_found f w' at =
-      let n : sect + 1 ≡ suc (f.sect_at.place + 1) = omega (arith, f.sect_at.number) in
-      ap (λ o. option_and_then (λ ss. nth ss (sect + 1)) o) (file_is set file sect w f)
-      ∙ (ap (λ m. nth f.sections m) n ∙ at)
-
-  -- what is before a part of a block
-  pub before_taken : (f : FileOf set file sect w) (b k : ℕ) (d : Filled)
-      → slice_get w.blocks b ≡ Some d
-      → before set file (Awaits sect b k) ≡ before set file (awaiting sect b) ++ take k d.parts
-  before_taken f b k d this =
-      let front : List Portion = section_parts (take f.sect_at.place f.sections) in
-      let parts : parts_at w.blocks b ≡ d.parts = ap parts_of this in
-      before_part set file sect w f b k
-      ∙ (ap (λ z. front ++ (parts_of_all (take b w.blocks) ++ take k z)) parts
-      ∙ (sym (append_assoc front (parts_of_all (take b w.blocks)) (take k d.parts))
-      ∙ ap (λ z. z ++ take k d.parts) (sym (before_is set file sect w f b))))

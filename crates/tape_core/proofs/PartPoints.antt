@@ -6,6 +6,7 @@ use Rattle.std.specs.Prelude.{◌==◌, ◌&&◌, MatchBool}
 use Rattle.std.specs.List.{AllByRecursion}
 use Rattle.std.proofs.lemmas.Bool.Decides.{nat_tests}
 use Rattle.std.proofs.Math.Seq.{take-nil}
+use Rattle.std.proofs.lemmas.Option.{slice_get_within}
 use Rattle.tape_image.specs.Tape.{TapeItem}
 use Rattle.tape_label.specs.declared.values.Format.{Format}
 use Rattle.tape_label.specs.declared.values.Format.TheVariants.{Fixed, Counted, Spanned}
@@ -19,14 +20,13 @@ use Rattle.tape_set.specs.Layout.{FileSet}
 use Rattle.tape_set.specs.Lawful.{FileForm}
 use Rattle.tape_set.specs.Before.{before, parts_of, IsIn}
 use Rattle.tape_set.proofs.Numbering.{FileOf, section_found}
-use Rattle.tape_set.proofs.FileParts.{begun_behind-append}
+use Rattle.tape_set.proofs.FileParts.{before_taken, begun_behind-append}
 use Rattle.tape_core.specs.Known.{is_spanned, may_span}
 use Rattle.tape_core.specs.State.{State}
 use Rattle.tape_core.specs.Point.{Point}
 use Rattle.tape_core.specs.Follows.{IsAt, FileTells, Delivers}
 use Rattle.tape_core.specs.Stands.{weight_of, Stands, inside_block}
 use Rattle.tape_core.specs.Table.{saved}
-use Rattle.tape_core.proofs.Files.{before_taken, get_inside}
 
 take_split : (k n : ℕ) (xs : List Portion) → k ≤ n
     → take n xs ≡ take k xs ++ take (n - k) (drop k xs)
@@ -119,7 +119,7 @@ part_stands set old new item staged part begun n at of_set same d lt le is weigh
     place_is = ap (at_part part) d.awaited
 
     within : d.place ≤ length d.section.blocks
-    within = let h = get_inside d.section.blocks d.place d.filled d.its in omega (arith, h)
+    within = let h = slice_get_within d.section.blocks d.place d.filled d.its in omega (arith, h)
 
     old_parts : before set old.file old.position
         ≡ before set old.file (Awaits d.sect d.place 0) ++ take d.part d.filled.parts

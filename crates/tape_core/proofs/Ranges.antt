@@ -1,6 +1,7 @@
 -- What the tests of a checkpoint's range tell.
 use Rattle.std.proofs.Common.{◌≡◌, ◌≤◌, ◌&&◌, ◌||◌, not, nat_le, Bool, true, false, Option, Some}
 use Rattle.std.proofs.Common.{None, is_some, refl, sym, arith, rules}
+use Rattle.std.proofs.lemmas.Bool.{and_parts}
 use Rattle.std.proofs.lemmas.Bool.Decides.{nat_tests}
 use Rattle.tape_set.specs.declared.position.Position.{Position}
 use Rattle.tape_set.specs.declared.position.Position.TheVariants.{Awaits, Finished}
@@ -52,11 +53,6 @@ begun_passes true span true spans whole = absurd (let q = whole refl in cc)
 begun_passes true span false spans whole = rw (spans refl) refl
 begun_passes false span done spans whole = refl
 
-both : (a b : Bool) → (a && b) ≡ true → (a ≡ true) × (b ≡ true)
-both true true h = (refl, refl)
-both true false h = absurd (cc)
-both false b h = absurd (cc)
-
 -- the rules of a range, one by one
 record Rules (a b c d e f : Bool) : Type 0 where
   least : a ≡ true
@@ -68,11 +64,11 @@ record Rules (a b c d e f : Bool) : Type 0 where
 
 rules_of : (a b c d e f : Bool) → (a && b && c && d && e && f) ≡ true → Rules a b c d e f
 rules_of a b c d e f h =
-    let five = both (a && b && c && d && e) f h in
-    let four = both (a && b && c && d) e five.0 in
-    let three = both (a && b && c) d four.0 in
-    let two = both (a && b) c three.0 in
-    let one = both a b two.0 in
+    let five = and_parts (a && b && c && d && e) f h in
+    let four = and_parts (a && b && c && d) e five.0 in
+    let three = and_parts (a && b && c) d four.0 in
+    let two = and_parts (a && b) c three.0 in
+    let one = and_parts a b two.0 in
     record {
       least = one.0;
       greatest = one.1;

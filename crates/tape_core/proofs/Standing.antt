@@ -1,8 +1,9 @@
 -- What the end of a reel, a mount and the way to a checkpoint leave, whatever was read.
 use Rattle.std.proofs.Common.{◌≡◌, ℕ, List, Bool, true, false, cond, Option, None, Result, Ok, Err}
 use Rattle.std.proofs.Common.{refl, sym, ap, ◌∙◌, subst, eq-eqb, arith}
-use Rattle.std.specs.Prelude.{◌==◌, ◌&&◌, OnOk, OnErr}
+use Rattle.std.specs.Prelude.{◌==◌, OnOk, OnErr}
 use Rattle.std.specs.Str.{bytes_eq}
+use Rattle.std.proofs.lemmas.Bool.{and_parts}
 use Rattle.std.proofs.lemmas.Bool.Decides.{nat_tests}
 use Rattle.std.proofs.lemmas.Slice.Eq.{bytes_eq-Decides}
 use Rattle.tape_image.specs.Tape.{TapeItem}
@@ -81,15 +82,10 @@ takes_own core point out is a b = ap (λ z. z.0) is ∙ go (is_of_file core poin
     go true e = refl
     go false e = absurd (cc)
 
-of_both : (a b : Bool) → (a && b) ≡ true → (a ≡ true) × (b ≡ true)
-of_both true true e = (refl, refl)
-of_both true false e = absurd (cc)
-of_both false b e = absurd (cc)
-
 own_point : (core : State) (point : Point) → is_of_file core point ≡ true
     → rest_of (restarted core point) ≡ place_of point
 own_point core point e =
-    let both = of_both (bytes_eq core.set_id point.set_id) (core.file == point.file) e in
+    let both = and_parts (bytes_eq core.set_id point.set_id) (core.file == point.file) e in
     let a : core.set_id ≡ point.set_id = (bytes_eq-Decides core.set_id point.set_id).0 both.0 in
     let b : core.file ≡ point.file = (let q = both.1 in grind (arith, nat_tests, q)) in
     rw (a, b) refl

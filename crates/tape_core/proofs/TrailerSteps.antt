@@ -15,14 +15,15 @@ use Rattle.tape_set.specs.Before.{before, parts_at}
 use Rattle.tape_set.specs.Lawful.{FileForm, IsTrailer, TellsForm, label_count}
 use Rattle.tape_set.specs.Reach.{far, moved, stopped, behind}
 use Rattle.tape_set.proofs.Numbering.{FileOf}
-use Rattle.tape_set.proofs.FileParts.{file_is, file_lawful, ends_at, before_next, before_end}
+use Rattle.tape_set.proofs.FileParts.{next_found, file_is, file_lawful, ends_at, before_next}
+use Rattle.tape_set.proofs.FileParts.{before_end}
 use Rattle.tape_set.proofs.Forms.{one_form}
 use Rattle.tape_core.specs.declared.event.Reason.TheVariants.{BadItem}
 use Rattle.tape_core.specs.declared.event.Heading.{Heading}
 use Rattle.tape_core.specs.Table.{useless, at_passed_trailer, at_wanted_trailer, at_end}
 use Rattle.tape_core.specs.Table.{other_numbers}
 use Rattle.tape_core.specs.Follows.{reading, Inside, Reached, AtTrailer}
-use Rattle.tape_core.proofs.Files.{no_parts_at, ends_as, few_sections, whole_begun, next_found}
+use Rattle.tape_core.proofs.Files.{no_parts_at, ends_as, few_sections, whole_begun}
 use Rattle.tape_core.proofs.Lists.{Full, moved_all, stopped_here}
 use Rattle.tape_core.proofs.Aim.{Aim}
 use Rattle.tape_core.proofs.Fronts.{here}

@@ -1,6 +1,18 @@
-use Rattle.std.proofs.Common.{length, arith}
+use Rattle.std.proofs.Common.{◌≡◌, ◌≤◌, ◌+◌, ◌*◌, ℕ, length, take, arith}
+use Rattle.tape_core.specs.declared.memory.MemorySink.{MemorySink}
+use Rattle.tape_core.specs.Entries.{end_from}
+use Rattle.tape_core.specs.Known.{most_staged}
+use Rattle.tape_core.specs.Memory.{portions}
 use Rattle.tape_core.proofs.Laid.{parts_length, weight_front, end_front}
 use Rattle.tape_core.proofs.memory.MemorySink.weight_to.Goals as goal
+
+-- the first parts weigh no more than a sink holds
+few : (sink : MemorySink) (n end : ℕ) → n ≤ length (portions sink)
+    → end ≡ end_from 0 (take n sink.entries.items) → 5 * n + end ≤ most_staged
+few sink n end within is =
+    let es = sink.entries.items in
+    let below = end_front n 0 es (length sink.bytes.items) sink.laid in
+    omega (arith, within, sink.light, is, below, parts_length 0 es sink.bytes.items)
 
 pub overflow_mul-result : goal.overflow_mul-result
 overflow_mul-result c =
@@ -9,17 +21,7 @@ overflow_mul-result c =
 
 pub overflow_add-result : goal.overflow_add-result
 overflow_add-result c =
-    let sink = c.args.self.now in
-    let es = sink.entries.items in
-    let below = end_front c.args.number 0 es (length sink.bytes.items) sink.laid in
-    omega (
-      arith,
-      c.requires,
-      sink.light,
-      c.end_of.ensures,
-      below,
-      parts_length 0 es sink.bytes.items,
-    )
+    omega (arith, few c.args.self.now c.args.number c.end_of.result c.requires c.end_of.ensures)
 
 pub returns-clause-value : goal.returns-clause-value
 returns-clause-value c =
@@ -32,14 +34,4 @@ returns-clause-value c =
 
 pub returns-clause-limit : goal.returns-clause-limit
 returns-clause-limit c =
-    let sink = c.args.self.now in
-    let es = sink.entries.items in
-    let below = end_front c.args.number 0 es (length sink.bytes.items) sink.laid in
-    omega (
-      arith,
-      c.requires,
-      sink.light,
-      c.end_of.ensures,
-      below,
-      parts_length 0 es sink.bytes.items,
-    )
+    omega (arith, few c.args.self.now c.args.number c.end_of.result c.requires c.end_of.ensures)
