@@ -1,5 +1,6 @@
 -- What is known of a file by its labels, and the numbers that fit a checkpoint.
-use Rattle.std.specs.Prelude.{◌≡◌, ℕ, ◌≤◌, Bool, true, false, not, Option, Some, None, is_some}
+use Rattle.std.specs.Prelude.{◌≡◌, ℕ, ◌≤◌, List, Bool, true, false, not, Option}
+use Rattle.std.specs.Prelude.{Some, None, is_some}
 use Rattle.tape_label.specs.declared.values.Format.{Format}
 use Rattle.tape_label.specs.declared.values.Format.TheVariants.{Fixed, Counted, Spanned}
 use Rattle.tape_label.specs.Formats.{least_record}
@@ -16,6 +17,11 @@ pub record IsForm (format : Format) (rec_len offset : ℕ) : Type 0 where
   pub binding : binding_len format rec_len ≡ rec_len
   pub len_fits : rec_len ≤ longest_block
   pub offset_fits : offset ≤ 99
+
+-- what is known of a file by these
+abbrev pub known_of : Format → ℕ → ℕ → List ℕ → FileForm
+known_of format rec_len offset file_id =
+    record { file_id = file_id; format = format; rec_len = rec_len; offset = offset }
 
 -- whether records may run on from block to block
 abbrev pub is_spanned : Format → Bool

@@ -9,6 +9,8 @@ ghost use Rattle.tape_set.specs.Layout.{FileSet};
 ghost use Rattle.tape_set.specs.Before.{before};
 ghost use Rattle.tape_core.specs.Known.{PositionFits, StandFits, IsFileNumber, is_finished};
 ghost use Rattle.tape_core.specs.Known.{most_staged, IsForm, may_span};
+ghost use Rattle.tape_core.specs.Known.{known_of};
+ghost use Rattle.tape_core.specs.Point.{point_of};
 ghost use Rattle.tape_core.specs.Range.{in_range, length_in_range, form_in_range};
 ghost use Rattle.tape_core.specs.Range.{position_in_range, known_where_due, may_begin};
 
@@ -40,27 +42,14 @@ pub struct Checkpoint {
 
 // In contracts it is the record of these six.
 impl Model for Checkpoint {
-    ghost use Rattle.tape_core.specs.Point.{Point, IsPoint};
+    ghost use Rattle.tape_core.specs.Point.{Point, IsPoint, point_of};
 
     ghost Value = { Point };
 
-    ghost view = { λ c. record {
-      set_id = c.set_id;
-      file = c.file;
-      position = c.position;
-      begun = c.begun;
-      known = c.known;
-      staged = c.staged;
-    } };
+    ghost view = { λ c. point_of c.set_id c.file c.position c.begun c.known c.staged };
 
-    ghost invariant = { λ c. IsPoint (record {
-      set_id = c.set_id;
-      file = c.file;
-      position = c.position;
-      begun = c.begun;
-      known = c.known;
-      staged = c.staged;
-    }) };
+    ghost invariant = { λ c. IsPoint
+        (point_of c.set_id c.file c.position c.begun c.known c.staged) };
 
     ghost inverse = { λ p. record {
       set_id = p.set_id;
@@ -88,31 +77,13 @@ impl Checkpoint {
         known: Option<Known>,
         staged: u64,
     ) -> Option<Checkpoint>
-        ensures value { IfSome result (λ point. point ≡ record {
-          set_id = set_id;
-          file = file;
-          position = position;
-          begun = begun;
-          known = known;
-          staged = staged;
-        }) }
-        ensures rules { IsSome result ↔ IsPoint (record {
-          set_id = set_id;
-          file = file;
-          position = position;
-          begun = begun;
-          known = known;
-          staged = staged;
-        }) }
+        ensures value { IfSome result (λ point. point
+            ≡ point_of set_id file position begun known staged) }
+        ensures rules { IsSome result
+            ↔ IsPoint (point_of set_id file position begun known staged) }
         // The same as a function of what was given.
-        ensures range { is_some result ≡ in_range (record {
-          set_id = set_id;
-          file = file;
-          position = position;
-          begun = begun;
-          known = known;
-          staged = staged;
-        }) }
+        ensures range { is_some result
+            ≡ in_range (point_of set_id file position begun known staged) }
     {
         if !is_in_range(file, position, begun, &known, staged) {
             return None;
@@ -132,14 +103,7 @@ impl Checkpoint {
         requires numbered { IsFileNumber file }
         requires stands { StandFits position begun known }
         requires light { staged ≤ most_staged }
-        ensures { result ≡ record {
-          set_id = set_id;
-          file = file;
-          position = position;
-          begun = begun;
-          known = known;
-          staged = staged;
-        } }
+        ensures { result ≡ point_of set_id file position begun known staged }
     {
         Checkpoint {
             file,
@@ -242,20 +206,12 @@ impl Known {
     /// What is known of a file by these; `None` where they are out of range: a record length of
     /// format F is 1 to 99,999, that of the others 0, and an offset is at most 99.
     pub fn from_parts(format: Format, rec_len: u32, offset: u8, file_id: Field<17>) -> Option<Known>
-        ensures value { IfSome result (λ known. known ≡ record {
-          file_id = file_id;
-          format = format;
-          rec_len = rec_len;
-          offset = offset;
-        }) }
+        ensures value { IfSome result (λ known. known
+            ≡ known_of format rec_len offset file_id) }
         ensures rules { IsSome result ↔ IsForm format rec_len offset }
         // The same as a function of what was given.
-        ensures range { is_some result ≡ form_in_range (record {
-          file_id = file_id;
-          format = format;
-          rec_len = rec_len;
-          offset = offset;
-        }) }
+        ensures range { is_some result
+            ≡ form_in_range (known_of format rec_len offset file_id) }
     {
         if !(length_in_range(format, rec_len) && offset <= 99) {
             return None;
@@ -290,14 +246,8 @@ pub(crate) fn is_in_range(
     known: &Option<Known>,
     staged: u64,
 ) -> bool
-    ensures { (set_id : List ℕ) → result ≡ in_range (record {
-      set_id = set_id;
-      file = file;
-      position = position;
-      begun = begun;
-      known = known.now;
-      staged = staged;
-    }) }
+    ensures { (set_id : List ℕ) → result
+        ≡ in_range (point_of set_id file position begun known.now staged) }
 {
     1 <= file
         && file <= 9_999
