@@ -17,7 +17,7 @@ use Rattle.tape_blocks.specs.Packed.{body_of, parts_in, Keeps}
 use Rattle.tape_blocks.specs.Packing.{IsWritable, HasWritableRecords, size_of, written, padded_by}
 use Rattle.tape_blocks.specs.Packing.{padded_len}
 use Rattle.tape_blocks.proofs.FrontLaws.{all_append, spellings_push}
-use Rattle.tape_blocks.proofs.PartsLaws.{parts_are}
+use Rattle.tape_blocks.proofs.PartsLaws.{parts_are, unit_size}
 use Rattle.tape_blocks.proofs.UnitLaws.{length-spelling}
 
 -- ---- the block under way
@@ -126,12 +126,6 @@ keeps_none shape items front inside within = record {
 }
 
 -- ---- parts and their size
-
-unit_size : (format : Format) (rec_len : ℕ) (p : Portion) → (format ≡ Fixed → 1 ≤ rec_len)
-    → IsUnit format rec_len p → 1 ≤ head_len format + length p.bytes
-unit_size Fixed rec_len p some is = omega (arith, is.1, some refl)
-unit_size Counted rec_len p some is = omega arith
-unit_size Spanned rec_len p some is = omega arith
 
 pub some_size : (shape : Shape) (parts : List Portion)
     → AllByRecursion (IsUnit shape.format shape.rec_len) parts → parts ≢ []

@@ -21,11 +21,8 @@ use Rattle.tape_blocks.proofs.UnitLaws.{some, none}
 
 never_none : (a b c d : Bool) (e f : BlockFault) (x : Found)
     → cond a (Err e) (cond (not b) (Err e) (cond c (Err e) (cond d (Err f) (some x)))) ≡ none → ⊥
-never_none true b c d e f x h = cc
-never_none false false c d e f x h = cc
-never_none false true true d e f x h = cc
-never_none false true false true e f x h = cc
 never_none false true false false e f x h = cc
+never_none a b c d e f x h = cc
 
 counted_never : (span : Span) (h : ℕ) (bytes : List ℕ) → counted span h bytes ≡ none → ⊥
 counted_never span h bytes e =

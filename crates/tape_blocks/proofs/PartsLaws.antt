@@ -14,9 +14,9 @@ use Rattle.tape_blocks.specs.declared.check.Found.{Found}
 use Rattle.tape_blocks.specs.Block.{Portion, head_len, spelling, spellings, IsUnit, IsPadding}
 use Rattle.tape_blocks.specs.Parts.{portion, unit_len, with_unit, parts_by, parts_of}
 use Rattle.tape_blocks.specs.Units.{unit_at}
-use Rattle.tape_blocks.proofs.UnitLaws.{found_of, unit_found, unit_again, portion_of}
+use Rattle.tape_blocks.proofs.UnitLaws.{found_of, unit_found, unit_again, portion_of, rest_of}
+use Rattle.tape_blocks.proofs.UnitLaws.{length-spelling}
 use Rattle.tape_blocks.proofs.PaddingLaws.{padding_again}
-use Rattle.tape_blocks.proofs.UnitLaws.{rest_of, length-spelling}
 
 abbrev unit_of : Found → Result (Option Found) BlockFault
 unit_of found = Ok (Some found)
@@ -24,7 +24,7 @@ unit_of found = Ok (Some found)
 some_is : (x y : Found) → unit_of x ≡ unit_of y → x ≡ y
 some_is x y e = cc
 
-unit_size : (format : Format) (rec_len : ℕ) (p : Portion) → (format ≡ Fixed → 1 ≤ rec_len)
+pub unit_size : (format : Format) (rec_len : ℕ) (p : Portion) → (format ≡ Fixed → 1 ≤ rec_len)
     → IsUnit format rec_len p → 1 ≤ head_len format + length p.bytes
 unit_size Fixed rec_len p some is = omega (arith, is.1, some refl)
 unit_size Counted rec_len p some is = omega arith

@@ -67,12 +67,9 @@ last_case false at = let z : at + 0 ≡ at = omega arith in rw z refl
 counted_cases : (a b c d begun : Bool) (found : Found) (at : ℕ)
     → first_fault (counted_tests a b c d (bool_eq (continues found.span) begun) at)
     ≡ moved at (stop_by begun (counted_step a b c d found))
-counted_cases true b c d begun found at = let z : at + 0 ≡ at = omega arith in rw z refl
-counted_cases false false c d begun found at = let z : at + 0 ≡ at = omega arith in rw z refl
-counted_cases false true true d begun found at = let z : at + 0 ≡ at = omega arith in rw z refl
-counted_cases false true false true begun found at = let z : at + 0 ≡ at = omega arith in rw z refl
 counted_cases false true false false begun found at =
     last_case (bool_eq (continues found.span) begun) at
+counted_cases a b c d begun found at = let z : at + 0 ≡ at = omega arith in rw z refl
 
 counted_are : (span : Span) (head at : ℕ) (begun : Bool) (rest : List ℕ)
     → first_fault (count_tests head at rest ++ test (bool_eq (continues span) begun) at SpanBroken

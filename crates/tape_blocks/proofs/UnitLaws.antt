@@ -48,11 +48,8 @@ record CountedCases (span : Span) (h : ℕ) (bytes : List ℕ) (found : Found) :
 tests_passed : (a b c d : Bool) (e f : BlockFault) (x y : Found)
     → cond a (Err e) (cond (not b) (Err e) (cond c (Err e) (cond d (Err f) (some x)))) ≡ some y
     → (a ≡ false) × (b ≡ true) × (c ≡ false) × (d ≡ false) × (x ≡ y)
-tests_passed true b c d e f x y h = absurd cc
-tests_passed false false c d e f x y h = absurd cc
-tests_passed false true true d e f x y h = absurd cc
-tests_passed false true false true e f x y h = absurd cc
 tests_passed false true false false e f x y h = (refl, refl, refl, refl, some_is x y h)
+tests_passed a b c d e f x y h = absurd cc
 
 counted_cases : (span : Span) (h : ℕ) (bytes : List ℕ) (found : Found)
     → counted span h bytes ≡ some found → CountedCases span h bytes found
