@@ -8,8 +8,7 @@ ghost use Rattle.tape_blocks.specs.Packing.{longest_block};
 ghost use Rattle.tape_set.specs.Layout.{FileSet};
 ghost use Rattle.tape_set.specs.Before.{before};
 ghost use Rattle.tape_core.specs.Known.{PositionFits, StandFits, IsFileNumber, is_finished};
-ghost use Rattle.tape_core.specs.Known.{most_staged, IsForm, may_span};
-ghost use Rattle.tape_core.specs.Known.{known_of};
+ghost use Rattle.tape_core.specs.Known.{most_staged, IsForm, may_span, known_of};
 ghost use Rattle.tape_core.specs.Point.{point_of};
 ghost use Rattle.tape_core.specs.Range.{in_range, length_in_range, form_in_range};
 ghost use Rattle.tape_core.specs.Range.{position_in_range, known_where_due, may_begin};
@@ -79,8 +78,7 @@ impl Checkpoint {
     ) -> Option<Checkpoint>
         ensures value { IfSome result (λ point. point
             ≡ point_of set_id file position begun known staged) }
-        ensures rules { IsSome result
-            ↔ IsPoint (point_of set_id file position begun known staged) }
+        ensures rules { IsSome result ↔ IsPoint (point_of set_id file position begun known staged) }
         // The same as a function of what was given.
         ensures range { is_some result
             ≡ in_range (point_of set_id file position begun known staged) }
@@ -206,12 +204,10 @@ impl Known {
     /// What is known of a file by these; `None` where they are out of range: a record length of
     /// format F is 1 to 99,999, that of the others 0, and an offset is at most 99.
     pub fn from_parts(format: Format, rec_len: u32, offset: u8, file_id: Field<17>) -> Option<Known>
-        ensures value { IfSome result (λ known. known
-            ≡ known_of format rec_len offset file_id) }
+        ensures value { IfSome result (λ known. known ≡ known_of format rec_len offset file_id) }
         ensures rules { IsSome result ↔ IsForm format rec_len offset }
         // The same as a function of what was given.
-        ensures range { is_some result
-            ≡ form_in_range (known_of format rec_len offset file_id) }
+        ensures range { is_some result ≡ form_in_range (known_of format rec_len offset file_id) }
     {
         if !(length_in_range(format, rec_len) && offset <= 99) {
             return None;
