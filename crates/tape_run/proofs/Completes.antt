@@ -10,9 +10,7 @@ use Rattle.tape_image.specs.Tape.{TapeItem, block, bad, mark}
 use Rattle.tape_label.specs.declared.label.LabelFault.{LabelFault}
 use Rattle.tape_label.specs.declared.values.Kind.{Kind}
 use Rattle.tape_label.specs.declared.values.Kind.TheVariants.{Vol1 as AVol1, Hdr1 as AHdr1}
-use Rattle.tape_label.specs.declared.values.Kind.TheVariants.{Hdr2 as AHdr2, Eof1 as AEof1}
-use Rattle.tape_label.specs.declared.values.Kind.TheVariants.{Eof2 as AEof2, Eov1 as AEov1}
-use Rattle.tape_label.specs.declared.values.Kind.TheVariants.{Eov2 as AEov2}
+use Rattle.tape_label.specs.declared.values.Kind.TheVariants.{Hdr2 as AHdr2}
 use Rattle.tape_label.specs.declared.values.Head1.{Head1}
 use Rattle.tape_label.specs.declared.values.Head2.{Head2}
 use Rattle.tape_label.specs.declared.values.Trail1.{Trail1}
@@ -27,10 +25,9 @@ use Rattle.tape_set.specs.Lawful.{FileForm, label_count, most_blocks}
 use Rattle.tape_core.specs.declared.event.Answer.TheVariants.{Complete}
 use Rattle.tape_core.specs.declared.event.Heading.{Heading}
 use Rattle.tape_core.specs.declared.event.Phase.{Phase}
-use Rattle.tape_core.specs.declared.event.Phase.TheVariants.{Over, Broken, Volume, VolumeLabels}
-use Rattle.tape_core.specs.declared.event.Phase.TheVariants.{Header2, Headers, DataPassed}
+use Rattle.tape_core.specs.declared.event.Phase.TheVariants.{Over, Volume, VolumeLabels, Header2}
 use Rattle.tape_core.specs.declared.event.Phase.TheVariants.{DataWanted, TrailerPassed}
-use Rattle.tape_core.specs.declared.event.Phase.TheVariants.{TrailerWanted, Trailers, NextFile}
+use Rattle.tape_core.specs.declared.event.Phase.TheVariants.{TrailerWanted, NextFile}
 use Rattle.tape_core.specs.State.{State}
 use Rattle.tape_core.specs.Parts.{begun_before, other_front}
 use Rattle.tape_core.specs.Table.{Outcome, first_label, at_head1, first_labels, at_head2}
@@ -76,24 +73,12 @@ module _ (core : State) (sect b part : ℕ) (waits : core.position ≡ Awaits se
       (choose (other_file_id core.known h.file_id) _ _ (no refl) (no refl))))))
 
   first_tells : (kind : Option Kind) → Tells (first_label core kind)
-  first_tells None = (no refl)
   first_tells (Some AVol1) = (no refl)
-  first_tells (Some AHdr1) = (no refl)
-  first_tells (Some AHdr2) = (no refl)
-  first_tells (Some AEof1) = (no refl)
-  first_tells (Some AEof2) = (no refl)
-  first_tells (Some AEov1) = (no refl)
-  first_tells (Some AEov2) = (no refl)
+  first_tells _ = (no refl)
 
   labels_tell : (bytes : List ℕ) (kind : Option Kind) → Tells (first_labels core bytes kind)
-  labels_tell bytes None = (no refl)
-  labels_tell bytes (Some AVol1) = (no refl)
   labels_tell bytes (Some AHdr1) = head1_tells (head1_at bytes)
-  labels_tell bytes (Some AHdr2) = (no refl)
-  labels_tell bytes (Some AEof1) = (no refl)
-  labels_tell bytes (Some AEof2) = (no refl)
-  labels_tell bytes (Some AEov1) = (no refl)
-  labels_tell bytes (Some AEov2) = (no refl)
+  labels_tell bytes _ = (no refl)
 
   head2_tells : (heading : Heading) (g : Result Head2 LabelFault) → Tells (at_head2 core heading g)
   head2_tells heading (Err fault) = (no refl)
@@ -104,20 +89,7 @@ module _ (core : State) (sect b part : ℕ) (waits : core.position ≡ Awaits se
       → Tells (second_label core heading wanted bytes kind)
   second_tells heading false bytes (Some AHdr2) = (no refl)
   second_tells heading true bytes (Some AHdr2) = head2_tells heading (head2_at bytes)
-  second_tells heading true bytes None = (no refl)
-  second_tells heading true bytes (Some AVol1) = (no refl)
-  second_tells heading true bytes (Some AHdr1) = (no refl)
-  second_tells heading true bytes (Some AEof1) = (no refl)
-  second_tells heading true bytes (Some AEof2) = (no refl)
-  second_tells heading true bytes (Some AEov1) = (no refl)
-  second_tells heading true bytes (Some AEov2) = (no refl)
-  second_tells heading false bytes None = (no refl)
-  second_tells heading false bytes (Some AVol1) = (no refl)
-  second_tells heading false bytes (Some AHdr1) = (no refl)
-  second_tells heading false bytes (Some AEof1) = (no refl)
-  second_tells heading false bytes (Some AEof2) = (no refl)
-  second_tells heading false bytes (Some AEov1) = (no refl)
-  second_tells heading false bytes (Some AEov2) = (no refl)
+  second_tells heading wanted bytes _ = (no refl)
 
   judged_tells : (heading : Heading) (form : FileForm) (bytes : List ℕ) (r : Result Bool BlockFault)
       → Tells (at_judged core heading form bytes r)
@@ -152,63 +124,29 @@ module _ (core : State) (sect b part : ℕ) (waits : core.position ≡ Awaits se
       (end_tells form t.eof))
 
   block_tells : (phase : Phase) (bytes : List ℕ) → Tells (at_block core phase bytes)
-  block_tells Over bytes = (no refl)
-  block_tells Broken bytes = (no refl)
   block_tells Volume bytes = first_tells (kind_at bytes)
   block_tells VolumeLabels bytes = choose (is_volume_label bytes) _ _ (no refl)
       (labels_tell bytes (kind_at bytes))
   block_tells (Header2 heading wanted) bytes = second_tells heading wanted bytes (kind_at bytes)
-  block_tells (Headers heading wanted) bytes = (no refl)
-  block_tells (DataPassed heading) bytes = (no refl)
   block_tells (DataWanted heading form seen) bytes = data_tells heading form seen bytes
   block_tells (TrailerPassed heading) bytes = passed_tells heading (trail1_at bytes)
   block_tells (TrailerWanted heading form) bytes = wanted_tells heading form (trail1_at bytes)
-  block_tells Trailers bytes = (no refl)
   block_tells NextFile bytes = head1_tells (head1_at bytes)
+  block_tells _ bytes = (no refl)
 
   mark_tells : (phase : Phase) → Tells (at_mark core phase)
-  mark_tells Over = (no refl)
-  mark_tells Broken = (no refl)
-  mark_tells Volume = (no refl)
-  mark_tells VolumeLabels = (no refl)
-  mark_tells (Header2 heading wanted) = (no refl)
-  mark_tells (Headers heading wanted) = (no refl)
-  mark_tells (DataPassed heading) = (no refl)
   mark_tells (DataWanted heading form seen) = choose (nat_lt seen (block_of core.position)) _ _
       (no refl) (no refl)
-  mark_tells (TrailerPassed heading) = (no refl)
-  mark_tells (TrailerWanted heading form) = (no refl)
-  mark_tells Trailers = (no refl)
-  mark_tells NextFile = (no refl)
+  mark_tells _ = (no refl)
 
   bad_tells : (phase : Phase) → Tells (at_bad core phase)
-  bad_tells Over = (no refl)
-  bad_tells Broken = (no refl)
-  bad_tells Volume = (no refl)
-  bad_tells VolumeLabels = (no refl)
-  bad_tells (Header2 heading wanted) = (no refl)
-  bad_tells (Headers heading wanted) = (no refl)
-  bad_tells (DataPassed heading) = (no refl)
   bad_tells (DataWanted heading form seen) = choose (nat_lt seen (block_of core.position)) _ _
       (no refl) (no refl)
-  bad_tells (TrailerPassed heading) = (no refl)
-  bad_tells (TrailerWanted heading form) = (no refl)
-  bad_tells Trailers = (no refl)
-  bad_tells NextFile = (no refl)
+  bad_tells _ = (no refl)
 
   end_of_reel_tells : (phase : Phase) → Tells (at_reel_end core phase)
   end_of_reel_tells Over = (no refl)
-  end_of_reel_tells Broken = (no refl)
-  end_of_reel_tells Volume = (no refl)
-  end_of_reel_tells VolumeLabels = (no refl)
-  end_of_reel_tells (Header2 heading wanted) = (no refl)
-  end_of_reel_tells (Headers heading wanted) = (no refl)
-  end_of_reel_tells (DataPassed heading) = (no refl)
-  end_of_reel_tells (DataWanted heading form seen) = (no refl)
-  end_of_reel_tells (TrailerPassed heading) = (no refl)
-  end_of_reel_tells (TrailerWanted heading form) = (no refl)
-  end_of_reel_tells Trailers = (no refl)
-  end_of_reel_tells NextFile = (no refl)
+  end_of_reel_tells _ = (no refl)
 
   arrival_tells : (phase : Phase) (came : Option TapeItem) → Tells (at_arrival core phase came)
   arrival_tells phase None = end_of_reel_tells phase

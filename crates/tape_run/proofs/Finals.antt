@@ -142,27 +142,19 @@ module _ (core : State) where
   block_ends VolumeLabels bytes = choose (is_volume_label bytes) _ _ ps
       (labels_end bytes (kind_at bytes))
   block_ends (Header2 heading wanted) bytes = second_ends heading wanted bytes (kind_at bytes)
-  block_ends (Headers heading wanted) bytes = ps
-  block_ends (DataPassed heading) bytes = ps
   block_ends (DataWanted heading form seen) bytes = data_ends heading form seen bytes
   block_ends (TrailerPassed heading) bytes = passed_ends heading (trail1_at bytes)
   block_ends (TrailerWanted heading form) bytes = wanted_ends heading form (trail1_at bytes)
-  block_ends Trailers bytes = ps
   block_ends NextFile bytes = head1_ends (head1_at bytes)
+  block_ends _ bytes = ps
 
   mark_ends : (phase : Phase) → Ends (at_mark core phase)
-  mark_ends Over = us
   mark_ends Broken = br
-  mark_ends Volume = us
-  mark_ends VolumeLabels = us
-  mark_ends (Header2 heading wanted) = us
   mark_ends (Headers heading wanted) = ps
   mark_ends (DataPassed heading) = ps
   mark_ends (DataWanted heading form seen) = choose (nat_lt seen (block_of core.position)) _ _ us ps
-  mark_ends (TrailerPassed heading) = us
-  mark_ends (TrailerWanted heading form) = us
   mark_ends Trailers = ps
-  mark_ends NextFile = us
+  mark_ends _ = us
 
   bad_ends : (phase : Phase) → Ends (at_bad core phase)
   bad_ends Broken = br
@@ -206,15 +198,11 @@ idle_at set_id file Finished begun known phase x h =
     record { rest = refl; idle = tt; none = refl }
 idle_at set_id file (Awaits sect b part) begun known Over (block bytes) h =
     record { rest = refl; idle = tt; none = refl }
-idle_at set_id file (Awaits sect b part) begun known Over mark h =
-    record { rest = refl; idle = tt; none = refl }
-idle_at set_id file (Awaits sect b part) begun known Over bad h =
+idle_at set_id file (Awaits sect b part) begun known Over x h =
     record { rest = refl; idle = tt; none = refl }
 idle_at set_id file (Awaits sect b part) begun known Broken (block bytes) h =
     record { rest = refl; idle = tt; none = refl }
-idle_at set_id file (Awaits sect b part) begun known Broken mark h =
-    record { rest = refl; idle = tt; none = refl }
-idle_at set_id file (Awaits sect b part) begun known Broken bad h =
+idle_at set_id file (Awaits sect b part) begun known Broken x h =
     record { rest = refl; idle = tt; none = refl }
 idle_at set_id file (Awaits sect b part) begun known _ x h = absurd h
 

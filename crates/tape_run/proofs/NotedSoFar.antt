@@ -197,14 +197,8 @@ one_labels v true r = omega arith
 one_labels v false r = one_header v r
 
 one_second : (met : Met) (k : Option Kind) → blocks_of (second_with met k) ≤ met.blocks + 1
-one_second met None = omega arith
 one_second met (Some kinds.Hdr2) = omega arith
-one_second met (Some kinds.Vol1) = omega arith
-one_second met (Some kinds.Hdr1) = omega arith
-one_second met (Some kinds.Eof1) = omega arith
-one_second met (Some kinds.Eof2) = omega arith
-one_second met (Some kinds.Eov1) = omega arith
-one_second met (Some kinds.Eov2) = omega arith
+one_second met _ = omega arith
 
 one_closed : (met : Met) (trail : Trail1) (c : Bool)
     → blocks_of (told_if met trail c).0 ≤ met.blocks + 1
@@ -219,30 +213,14 @@ one_told met (Err _) = omega arith
 -- a step meets one data block at most
 pub one_block : (p : Phase) (x : TapeItem) → blocks_of (step p x).0 ≤ blocks_of p + 1
 one_block Volume (block b) = one_volume (vol1_at b)
-one_block Volume bad = omega arith
-one_block Volume mark = omega arith
 one_block (Labels v) (block b) = one_labels v (is_volume_label b) (head1_at b)
-one_block (Labels v) bad = omega arith
-one_block (Labels v) mark = omega arith
 one_block (Second met) (block b) = one_second met (kind_at b)
-one_block (Second met) bad = omega arith
-one_block (Second met) mark = omega arith
 one_block (Headers met) (block b) = omega arith
-one_block (Headers met) bad = omega arith
-one_block (Headers met) mark = omega arith
 one_block (Data met) (block b) = omega arith
-one_block (Data met) bad = omega arith
-one_block (Data met) mark = omega arith
 one_block (Trailer met) (block b) = one_told met (trail1_at b)
-one_block (Trailer met) bad = omega arith
-one_block (Trailer met) mark = omega arith
 one_block (Trailers v) (block b) = omega arith
-one_block (Trailers v) bad = omega arith
-one_block (Trailers v) mark = omega arith
 one_block (Next v) (block b) = one_header v (head1_at b)
-one_block (Next v) bad = omega arith
-one_block (Next v) mark = omega arith
-one_block Over x = omega arith
+one_block _ _ = omega arith
 
 -- what an `if let` binds is what stands there
 pub same_some : {A : Type 0} (x y : A) (r : Option A) → r ≡ Some x → r ≡ Some y → x ≡ y

@@ -53,16 +53,9 @@ stands_on Volume items (block b) h = (
       (begun b (vol1_at b) refl),
   tt,
 )
-stands_on Volume items bad h = (tt, tt)
-stands_on Volume items mark h = (tt, tt)
 stands_on (Labels v) items (block b) h = (labels_or items v b (is_volume_label b) h, tt)
-stands_on (Labels v) items bad h = (tt, tt)
-stands_on (Labels v) items mark h = (tt, tt)
 stands_on (Second met) items (block b) h = (seconded items met b (kind_at b) refl h, tt)
-stands_on (Second met) items bad h = (tt, tt)
-stands_on (Second met) items mark h = (tt, tt)
 stands_on (Headers met) items (block b) h = (labelled_more items met b h, tt)
-stands_on (Headers met) items bad h = (tt, tt)
 stands_on (Headers met) items mark h = (filled_first items met h, tt)
 stands_on (Data met) items (block b) h =
     (filled_more items met (block b) false (λ _. (b, refl)) h, tt)
@@ -77,12 +70,9 @@ stands_on (Trailer met) items (block b) h = told_stands items met b (trail1_at b
 stands_on (Trailer met) items bad h = (tt, λ good. absurd (cc good))
 stands_on (Trailer met) items mark h = (tt, λ good. absurd (cc good))
 stands_on (Trailers v) items (block b) h = (begins_more items v (block b ∷ []) h, tt)
-stands_on (Trailers v) items bad h = (tt, tt)
 stands_on (Trailers v) items mark h = (begins_more items v (mark ∷ []) h, tt)
 stands_on (Next v) items (block b) h = (headed items v b (head1_at b) refl h, tt)
-stands_on (Next v) items bad h = (tt, tt)
-stands_on (Next v) items mark h = (tt, tt)
-stands_on Over items x h = (tt, tt)
+stands_on _ items x h = (tt, tt)
 
 -- ---- over all items
 
@@ -120,15 +110,9 @@ told_shown p past (x ∷ items) h =
     (told_shown (step p x).0 (past ++ x ∷ []) items on))
 
 left_shown : (p : Phase) (items : List TapeItem) → AllShown items (in_list (under_way p))
-left_shown Volume items = tt
-left_shown (Labels v) items = tt
-left_shown (Second met) items = tt
-left_shown (Headers met) items = tt
 left_shown (Data met) items = (λ good. absurd (cc good), tt)
 left_shown (Trailer met) items = (λ good. absurd (cc good), tt)
-left_shown (Trailers v) items = tt
-left_shown (Next v) items = tt
-left_shown Over items = tt
+left_shown _ items = tt
 
 pub good_are_shown : GoodAreShown
 good_are_shown items =

@@ -18,7 +18,7 @@ use Rattle.tape_run.specs.declared.passing.Phase.{Phase}
 use Rattle.tape_run.specs.declared.passing.Phase.TheVariants.{Volume, Labels, Second, Headers, Data}
 use Rattle.tape_run.specs.declared.passing.Phase.TheVariants.{Trailer, Trailers, Next, Over}
 use Rattle.tape_run.specs.declared.survey.course.Course.{Course}
-use Rattle.tape_run.specs.declared.survey.course.Course.TheVariants.{Follows, Blank, Ended, Leaves}
+use Rattle.tape_run.specs.declared.survey.course.Course.TheVariants.{Follows, Blank, Ended}
 use Rattle.tape_run.specs.declared.survey.glance.Glance.{Glance}
 use Rattle.tape_run.specs.Passing.{step, volume_with, header_with, told_with, closes}
 use Rattle.tape_run.specs.SurveyGlance.{blank_glance, look_to, look_all, left_by, course_with}
@@ -237,17 +237,11 @@ follows_on Volume items (block b) number e =
     subst (λ (r : List TapeItem). At (volume_with (vol1_at b))
     (left_by number Volume (volume_with (vol1_at b))) (r ++ block b ∷ [])) (sym e)
     (first_label b number (vol1_at b) refl)
-follows_on Volume items bad number e = tt
-follows_on Volume items mark number e = tt
 follows_on (Labels v) items (block b) number h =
     label_read items number v b (is_volume_label b) refl h
-follows_on (Labels v) items bad number h = tt
 follows_on (Labels v) items mark number h = record { before = items; begun = h; stands = refl }
 follows_on (Second met) items (block b) number h = second_read items met number b (kind_at b) refl h
-follows_on (Second met) items bad number h = tt
-follows_on (Second met) items mark number h = tt
 follows_on (Headers met) items (block b) number h = heads_more items met b h
-follows_on (Headers met) items bad number h = tt
 follows_on (Headers met) items mark number h = fills_none items met h
 follows_on (Data met) items (block b) number h =
     fills_more items met (Rattle.tape_run.specs.Passing.with_block met false) (block b) refl
@@ -257,33 +251,21 @@ follows_on (Data met) items bad number h =
 follows_on (Data met) items mark number h = fills_closed items met h
 follows_on (Trailer met) items (block b) number h =
     trailer_read items met number b (trail1_at b) refl h
-follows_on (Trailer met) items bad number h = tt
-follows_on (Trailer met) items mark number h = tt
 follows_on (Trailers v) items (block b) number h = closes_more items b h
-follows_on (Trailers v) items bad number h = tt
 follows_on (Trailers v) items mark number h = section_ends items h
 follows_on (Next v) items (block b) number h = next_read items number v b h
-follows_on (Next v) items bad number h = tt
 follows_on (Next v) items mark number h = volume_ends items h
 follows_on Over items x number h = absurd h
+follows_on _ items x number h = tt
 
 -- whatever the course is
 goes_on : (p : Phase) (c : Course) (items : List TapeItem) (x : TapeItem) (number : ℕ)
     → At p c items → At (step p x).0 (course_with c number p x (step p x).0) (items ++ x ∷ [])
 goes_on p Follows items x number h = follows_on p items x number h
 goes_on Over Blank items mark number h = blank_ends items h
-goes_on Over Blank items bad number h = tt
-goes_on Over Blank items (block b) number h = tt
-goes_on Volume Blank items x number h = absurd h
-goes_on (Labels v) Blank items x number h = absurd h
-goes_on (Second met) Blank items x number h = absurd h
-goes_on (Headers met) Blank items x number h = absurd h
-goes_on (Data met) Blank items x number h = absurd h
-goes_on (Trailer met) Blank items x number h = absurd h
-goes_on (Trailers v) Blank items x number h = absurd h
-goes_on (Next v) Blank items x number h = absurd h
-goes_on p Ended items x number h = tt
-goes_on p (Leaves n w) items x number h = tt
+goes_on Over Blank items x number h = tt
+goes_on p Blank items x number h = absurd h
+goes_on p c items x number h = tt
 
 all_stand : (g : Glance) (p : Phase) (before rest : List TapeItem) → At p g.course before
     → (q : Phase) × At q (look_all g p rest).course (before ++ rest)
@@ -301,14 +283,7 @@ all_stand g p before (x ∷ xs) h =
 -- where the course is Ended the items are a volume
 ended_at : (p : Phase) (items : List TapeItem) → At p Ended items → IsVolumeInOrder items
 ended_at Over items h = h
-ended_at Volume items h = absurd h
-ended_at (Labels v) items h = absurd h
-ended_at (Second met) items h = absurd h
-ended_at (Headers met) items h = absurd h
-ended_at (Data met) items h = absurd h
-ended_at (Trailer met) items h = absurd h
-ended_at (Trailers v) items h = absurd h
-ended_at (Next v) items h = absurd h
+ended_at _ items h = absurd h
 
 pub ended_is_volume : EndedIsVolume
 ended_is_volume items e =
