@@ -1,15 +1,11 @@
 -- Noting sections, as the map does it.
 use Rattle.std.proofs.Common.{◌≡◌, Bool, true, false, List, [], ◌∷◌, refl}
-use Rattle.std.specs.Prelude.{if◌then◌else◌}
 use Rattle.std.specs.Map.{lookup}
 use Rattle.indexmap.specs.IndexMap.{insert_entry}
 use Rattle.tape_run.specs.declared.section.SectionKey.{SectionKey}
 use Rattle.tape_run.specs.declared.section.Entry.{Entry}
 use Rattle.tape_run.specs.Passing.{Told}
 use Rattle.tape_run.specs.Noted.{same_key, kept, noted}
-
-abbrev put_at : Bool → Told → List Told → SectionKey → Entry → List Told → List Told
-put_at b x es key e others = if b then (x.0, e) ∷ es else x ∷ others
 
 inserted_here : (x : Told) (es : List Told) (key : SectionKey) (entry : Entry) (b : Bool)
     → same_key key x.0 ≡ b

@@ -146,20 +146,6 @@ front_refused form ahead count old new parts f = (
   ap (output_of form) f.are ∙ front_text form f.first f.rest f.each,
 )
 
-pub front_is : (form : Form) (ahead : List Portion → Type 0) (count : ℕ) (all : Bool)
-    (old new : Option (List ℕ)) (parts : List Portion) (f : Fronts form ahead count old new parts)
-    → (all ≡ true → f.rest ≡ []) → WritesFront form count all old new parts
-front_is form ahead count all old new parts f none =
-    record {
-      first = f.first;
-      rest = f.rest;
-      are = f.are;
-      each = f.each;
-      counted = f.counted;
-      wrote = f.wrote;
-      none = none;
-    }
-
 -- they are all
 pub front_all : (form : Form) (count : ℕ) (old new : Option (List ℕ)) (parts : List Portion)
     → WritesFront form count true old new parts

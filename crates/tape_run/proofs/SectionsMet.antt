@@ -195,11 +195,6 @@ labelled_more items met b h = record {
 }
 
 -- lists put together again
-regroup : (before a middle behind more : List TapeItem)
-    → (before ++ a ++ mark ∷ middle ++ behind) ++ more
-    ≡ before ++ a ++ mark ∷ middle ++ behind ++ more
-regroup before a middle behind more = simp (append_assoc, append-nil)
-
 regroup_first : (before a : List TapeItem)
     → (before ++ a) ++ mark ∷ [] ≡ before ++ a ++ mark ∷ [] ++ []
 regroup_first before a = simp (append_assoc, append-nil)
