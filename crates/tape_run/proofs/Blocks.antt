@@ -13,6 +13,7 @@ use Rattle.tape_blocks.proofs.YieldLaws.{yielded_parts}
 use Rattle.tape_blocks.specs.Judged.{begun_behind}
 use Rattle.tape_core.specs.declared.sink.PartSink.{Ghosts}
 use Rattle.tape_core.proofs.Crashes.{only_same}
+use Rattle.tape_core.proofs.StateLaws.{one_more}
 use Rattle.tape_run.specs.Crash.{BringsNoMore}
 use Rattle.tape_run.proofs.Crashes.{adds_then}
 
@@ -29,11 +30,6 @@ drop_push : (n : ℕ) (ys : List Portion) (p : Portion) → n ≤ length ys
 drop_push zero ys p h = refl
 drop_push (suc n) [] p h = absurd (omega (arith, h))
 drop_push (suc n) (y ∷ ys) p h = drop_push n ys p (omega (arith, h))
-
-begun_push : (begun : Bool) (ys : List Portion) (p : Portion)
-    → begun_behind begun (ys ++ p ∷ []) ≡ leaves p.span
-begun_push begun [] p = refl
-begun_push begun (y ∷ ys) p = begun_push (leaves y.span) ys p
 
 -- Of the parts that came of a block those from the first on were put.
 pub record PutSoFar {S : Type 0} (g : Ghosts S) (old new : S) (first seen : ℕ) (begun going : Bool)
@@ -88,7 +84,7 @@ module _ {S : Type 0} (g : Ghosts S) (old : S) (first : ℕ) (begun : Bool) wher
       let next = drop_push first came p (omega (arith, le, s.count)) in
       record {
         count = omega (arith, s.count, length-append came (p ∷ []));
-        behind = sym (ap (begun_behind begun) next ∙ begun_push begun (drop first came) p);
+        behind = sym (ap (begun_behind begun) next ∙ one_more begun (drop first came) p);
         calm = calm ∙ s.calm;
         held_now = λ held was. subst (g.holds new)
             (append_assoc held (drop first came) (p ∷ []) ∙ ap (λ l. held ++ l) (sym next))

@@ -4,6 +4,7 @@ use Rattle.std.proofs.Common.{sym, ap, subst, ◌∙◌, append_assoc, append-ni
 use Rattle.std.specs.Prelude.{map, if◌then◌else◌, ◌==◌, ◌&&◌, not}
 use Rattle.std.specs.List.{AllByRecursion}
 use Rattle.std.specs.Str.{bytes_eq}
+use Rattle.std.proofs.lemmas.Bool.{and_parts}
 use Rattle.std.proofs.lemmas.Slice.Eq.{bytes_eq-Decides}
 use Rattle.std.proofs.lemmas.Bool.Decides.{nat_tests}
 use Rattle.tape_image.specs.Tape.{TapeItem}
@@ -46,10 +47,6 @@ keeps_places old (t ∷ ts) =
 
 -- ---- what is good
 
-both : (p q : Bool) → (p && q) ≡ true → (p ≡ true) × (q ≡ true)
-both true q e = (refl, e)
-both false q e = absurd (cc e)
-
 same_nat : (m n : ℕ) → (m == n) ≡ true → m ≡ n
 same_nat m n e = grind (arith, nat_tests, e)
 
@@ -57,8 +54,8 @@ same_nat m n e = grind (arith, nat_tests, e)
 pub one_key : (a b : SectionKey) → same_key a b ≡ true → a ≡ b
 one_key a b e =
     let (ids, numbers) =
-    both (bytes_eq a.set_id b.set_id) ((a.file == b.file) && (a.sect == b.sect)) e in
-    let (files, sects) = both (a.file == b.file) (a.sect == b.sect) numbers in
+    and_parts (bytes_eq a.set_id b.set_id) ((a.file == b.file) && (a.sect == b.sect)) e in
+    let (files, sects) = and_parts (a.file == b.file) (a.sect == b.sect) numbers in
     let key : List ℕ → ℕ → ℕ → SectionKey = λ i f s. record { set_id = i; file = f; sect = s } in
     ap (λ (i : List ℕ). key i a.file a.sect) ((bytes_eq-Decides a.set_id b.set_id).0 ids)
     ∙ ap (λ (f : ℕ). key b.set_id f a.sect) (same_nat a.file b.file files)
@@ -72,7 +69,7 @@ split : (x : Told) (xs : List Told) (t : Told) → StandsIn (x ∷ xs) t → (x 
 split x xs t ([], rest, e) = inl cc
 split x xs t (y ∷ front, rest, e) = inr (front, rest, cc)
 
-none_stands : (t : Told) → StandsIn [] t → ⊥
+pub none_stands : (t : Told) → StandsIn [] t → ⊥
 none_stands t ([], rest, e) = cc e
 none_stands t (y ∷ front, rest, e) = cc e
 

@@ -1,5 +1,5 @@
 -- What `list` has done behind some items, and what it leaves from there.
-use Rattle.std.proofs.Common.{◌≡◌, ◌≢◌, ℕ, ◌+◌, ◌≤◌, List, [], ◌∷◌, ◌++◌, length, Option, Some}
+use Rattle.std.proofs.Common.{◌≡◌, ◌≢◌, ℕ, ◌+◌, List, [], ◌∷◌, ◌++◌, length, Option}
 use Rattle.std.proofs.Common.{Result, Err, IfErr, refl, sym, ap, subst, ◌∙◌, arith}
 use Rattle.std.proofs.Common.{append-nil, length-append}
 use Rattle.std.specs.Io.KnownBytes.{Appends, Keeps}
@@ -10,10 +10,10 @@ use Rattle.tape_image.specs.declared.item.ImageCause.TheVariants.{Truncated, Len
 use Rattle.tape_image.specs.declared.item.ImageCause.TheVariants.{Reserved, TooLong, Device}
 use Rattle.tape_image.specs.declared.item.ImageCause.TheVariants.{OutOfMemory}
 use Rattle.tape_image.specs.declared.item.ImageFault.{ImageFault}
-use Rattle.tape_image.specs.Tape.{TapeItem, block, bad, mark}
+use Rattle.tape_image.specs.Tape.{TapeItem}
 use Rattle.tape_image.specs.Begins.{ends, faults, Walks}
 use Rattle.tape_image.specs.Reader.{IfKnown}
-use Rattle.tape_image.specs.Step.{least_extent, TakesItem, TakesEnd, TakesFault}
+use Rattle.tape_image.specs.Step.{TakesItem, TakesEnd, TakesFault}
 use Rattle.tape_image.proofs.Walks.{known_start, known_item, known_end, known_fault}
 use Rattle.tape_image.proofs.Walks.{TakesFault-begins, IfKnown-map}
 use Rattle.tape_run.specs.ListLine.{line_of}
@@ -124,16 +124,6 @@ fits_cause LengthsDiffer fault before after old new other h = h
 fits_cause (Reserved w) fault before after old new other h = h
 fits_cause TooLong fault before after old new other h = h
 fits_cause Device fault before after old new other h = h
-
--- what an `if let` binds is what stands there
-pub same_some : {A : Type 0} (x y : A) (r : Option A) → r ≡ Some x → r ≡ Some y → x ≡ y
-same_some x y r a b = cc
-
--- an item takes a word at least
-pub least_four : (item : TapeItem) → 4 ≤ least_extent item
-least_four (block bytes) = omega arith
-least_four bad = omega arith
-least_four mark = omega arith
 
 -- more was written behind what was written
 pub into : (old mid new : Option (List ℕ)) (all part : List ℕ) → Appends old mid all

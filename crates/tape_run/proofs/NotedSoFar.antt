@@ -6,10 +6,10 @@ use Rattle.std.specs.Prelude.{IfSome, if◌then◌else◌}
 use Rattle.tape_image.specs.declared.item.Ending.{Ending}
 use Rattle.tape_image.specs.declared.item.Ending.TheVariants as endings
 use Rattle.tape_image.specs.declared.item.ImageFault.{ImageFault}
-use Rattle.tape_image.specs.Tape.{TapeItem, block, bad, mark}
+use Rattle.tape_image.specs.Tape.{TapeItem, block}
 use Rattle.tape_image.specs.Begins.{Walks}
 use Rattle.tape_image.specs.Reader.{IfKnown}
-use Rattle.tape_image.specs.Step.{least_extent, TakesItem, TakesEnd, TakesFault}
+use Rattle.tape_image.specs.Step.{TakesItem, TakesEnd, TakesFault}
 use Rattle.tape_image.proofs.Walks.{known_start, known_item, known_end, known_fault, IfKnown-map}
 use Rattle.tape_image.proofs.Walks.{IfKnown-some}
 use Rattle.tape_label.specs.declared.label.LabelFault.{LabelFault}
@@ -177,12 +177,6 @@ in_part all left p count old phase mid new s same = record {
   noted = same ∙ s.noted;
 }
 
--- an item takes a word at least
-pub least_four : (item : TapeItem) → 4 ≤ least_extent item
-least_four (block bytes) = omega arith
-least_four bad = omega arith
-least_four mark = omega arith
-
 one_volume : (r : Result Vol1 LabelFault) → blocks_of (volume_with r) ≤ 0 + 1
 one_volume (Ok label) = omega arith
 one_volume (Err _) = omega arith
@@ -221,7 +215,3 @@ one_block (Trailer met) (block b) = one_told met (trail1_at b)
 one_block (Trailers v) (block b) = omega arith
 one_block (Next v) (block b) = one_header v (head1_at b)
 one_block _ _ = omega arith
-
--- what an `if let` binds is what stands there
-pub same_some : {A : Type 0} (x y : A) (r : Option A) → r ≡ Some x → r ≡ Some y → x ≡ y
-same_some x y r a b = cc

@@ -8,6 +8,7 @@ use Rattle.tape_blocks.specs.Block.{Portion}
 use Rattle.tape_blocks.specs.Spans.{leaves, join, content_after, Joined}
 use Rattle.tape_blocks.proofs.JoinLaws.{join_ends, join_goes_on}
 use Rattle.tape_core.specs.Stands.{weight_of}
+use Rattle.tape_image.proofs.WrittenItems.{known_after}
 use Rattle.tape_core.proofs.Weights.{weight_of-one_more, front_of_all}
 use Rattle.tape_blocks.specs.declared.parts.Form.{Form}
 use Rattle.tape_run.specs.RecordText.{record_end, records_text, part_text}
@@ -95,14 +96,6 @@ grows form ps p = grows_by form ps p (leaves p.span) refl
 
 -- ---- known bytes
 
-some_appended : (old new : Option (List ℕ)) (has more : List ℕ) → old ≡ Some has
-    → Appends old new more → new ≡ Some (has ++ more)
-some_appended None new has more e a = absurd (cc)
-some_appended (Some xs) None has more e a = absurd a
-some_appended (Some xs) (Some ys) has more e a =
-    let same : xs ≡ has = cc in
-    ap Some (a ∙ ap (λ l. l ++ more) same)
-
 text_alone : (failed : Bool) (text : List ℕ) (known : Option (List ℕ)) → failed ≡ false
     → IsText failed text known → known ≡ Some text
 text_alone failed text known works (more, is, none) =
@@ -121,7 +114,7 @@ put_done contents form out new weight heavier records more begun begins failed p
     heavy counts is h =
     let g = grows form parts p in
     let all = weight_of-one_more parts (parts ++ p ∷ []) p refl in
-    let known = λ (tells : TellsAlways contents). some_appended (contents out) (contents new)
+    let known = λ (tells : TellsAlways contents). known_after (contents out) (contents new)
     (text_so_far form parts) (part_text form p)
     (text_alone failed (text_so_far form parts) (contents out) works (h.text tells)) wrote in
     record {

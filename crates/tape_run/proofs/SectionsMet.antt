@@ -167,7 +167,7 @@ seconded items met b (Some kinds.Eof2) e h = tt
 seconded items met b (Some kinds.Eov1) e h = tt
 seconded items met b (Some kinds.Eov2) e h = tt
 
-map_push : (xs : List (List ℕ)) (b : List ℕ)
+pub map_push : (xs : List (List ℕ)) (b : List ℕ)
     → map block xs ++ block b ∷ [] ≡ map block (xs ++ b ∷ [])
 map_push [] b = refl
 map_push (x ∷ xs) b = ap (λ (r : List TapeItem). block x ∷ r) (map_push xs b)

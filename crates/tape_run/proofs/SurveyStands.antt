@@ -27,6 +27,7 @@ use Rattle.tape_run.specs.Passing.{volume_with, header_with, second_with}
 use Rattle.tape_run.specs.SurveyGlance.{left_by}
 use Rattle.tape_run.specs.SurveyLaws.{IsSectionInOrder, IsBegun, IsVolumeInOrder}
 use Rattle.tape_run.specs.SurveyLaws.{end_marks}
+use Rattle.tape_run.proofs.SectionsMet.{map_push}
 
 -- ---- what stands before each item
 
@@ -107,11 +108,6 @@ pub all_more : {A : Type 0} (P : A → Type 0) (xs : List A) (x : A) → AllByRe
     → AllByRecursion P (xs ++ x ∷ [])
 all_more P [] x a p = (p, tt)
 all_more P (y ∷ ys) x (q, a) p = (q, all_more P ys x a p)
-
-pub map_push : (xs : List (List ℕ)) (b : List ℕ)
-    → map block xs ++ block b ∷ [] ≡ map block (xs ++ b ∷ [])
-map_push [] b = refl
-map_push (x ∷ xs) b = ap (λ (r : List TapeItem). block x ∷ r) (map_push xs b)
 
 pub joined_push : (ss : List (List TapeItem)) (s : List TapeItem)
     → flat_map (λ x. x) (ss ++ s ∷ []) ≡ flat_map (λ x. x) ss ++ s

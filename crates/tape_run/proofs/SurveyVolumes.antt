@@ -25,7 +25,8 @@ use Rattle.tape_run.specs.SurveyGlance.{blank_glance, look_to, look_all, left_by
 use Rattle.tape_run.proofs.ShownSections.{told_if}
 use Rattle.tape_run.specs.SurveyLaws.{IsSectionInOrder, IsVolumeInOrder, EndedIsVolume}
 use Rattle.tape_run.proofs.SurveyStands.{Heads, Fills, Closes, Follow, Marked, At, all_more}
-use Rattle.tape_run.proofs.SurveyStands.{map_push, joined_push, one_mark, first_label}
+use Rattle.tape_run.proofs.SectionsMet.{map_push}
+use Rattle.tape_run.proofs.SurveyStands.{joined_push, one_mark, first_label}
 use Rattle.tape_run.proofs.SurveyStands.{head_read, label_read, second_read}
 
 -- the same labels, and something else behind them

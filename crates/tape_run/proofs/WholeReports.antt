@@ -21,6 +21,7 @@ use Rattle.tape_run.specs.CheckLine.{image_lines, section_line, found_line}
 use Rattle.tape_run.specs.Checked.{Reel, AreRead, summary_of}
 use Rattle.tape_run.specs.WholeReels.{AreWholeCopies, IsListedGood, WholeSetIsTold}
 use Rattle.tape_run.specs.WholeReels.{IsShownOn, GoodWasSeen}
+use Rattle.tape_run.proofs.KeepingPlaces.{none_stands}
 
 -- behind whole copies the catalogue is the one that they make
 copies_read : (set : FileSet) (reels : List Reel) (lines : List (Option ImageLine)) (ks : List ℕ)
@@ -171,10 +172,6 @@ seen (Some before ∷ reels) (Some line ∷ lines) c d told read stands good =
       ]
       | inr shown ↦ inr (shown_behind (Some before) reels told shown)
     ]
-
-none_stands : (told : Told) → StandsIn [] told → ⊥
-none_stands told ([], rest, is) = cc is
-none_stands told (x ∷ front, rest, is) = cc is
 
 pub good_was_seen : GoodWasSeen
 good_was_seen reels text found report told stands good =

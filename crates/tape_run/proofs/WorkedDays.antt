@@ -34,7 +34,8 @@ use Rattle.tape_run.specs.Back.{reels_of}
 use Rattle.tape_run.proofs.Back.{none_of}
 use Rattle.tape_run.proofs.Lives.{goes_on}
 use Rattle.tape_run.proofs.Fronts.{fronts_are_mounts}
-use Rattle.tape_run.proofs.WorkedHistory.{is_lawful, fit_of}
+use Rattle.tape_set.proofs.WorkedFile.{fit_of}
+use Rattle.tape_run.proofs.WorkedHistory.{is_lawful}
 use Rattle.tape_run.proofs.WorkedReels.{whole_1, whole_2}
 
 -- ---- wherever volume 1, or volume 2, broke off

@@ -1,11 +1,12 @@
 -- The worked history, by computation: its set is lawful, and it meets the headline's premises.
-use Rattle.std.proofs.Common.{◌≡◌, ◌≤◌, ℕ, [], ◌∷◌, true, false, refl, sym, ap}
+use Rattle.std.proofs.Common.{◌≡◌, [], ◌∷◌, true, false, refl, sym, ap}
 use Rattle.std.proofs.Common.{◌∙◌, subst, codes, lit≤, lit<, None, replicate}
 use Rattle.tape_set.proofs.Worked as w
-use Rattle.tape_set.proofs.Worked.{Fit, made_section, made_form}
+use Rattle.tape_set.proofs.Worked.{made_section, made_form}
+use Rattle.tape_set.proofs.WorkedFile.{fit_of}
 use Rattle.tape_set.proofs.WorkedSpan as sp
 use Rattle.tape_set.specs.Layout.{FileSet}
-use Rattle.tape_set.specs.Lawful.{IsLawful, most_blocks}
+use Rattle.tape_set.specs.Lawful.{IsLawful}
 use Rattle.tape_set.specs.Position.{want_at}
 use Rattle.tape_run.specs.History.{Course, IsHistory}
 use Rattle.tape_run.specs.Given.{AreGivenBy, failed_of}
@@ -31,15 +32,6 @@ made = record {
 
 is_made : made ≡ worked_set
 is_made = refl
-
-pub fit_of : (sect n : ℕ) → 1 ≤ sect → sect ≤ 9999 → n ≤ most_blocks → Fit 1 sect n
-fit_of sect n a b c = record {
-  file_least = lit≤ tt;
-  file_most = lit≤ tt;
-  sect_least = a;
-  sect_most = b;
-  count_most = c;
-}
 
 made_lawful : IsLawful made
 made_lawful = record {
