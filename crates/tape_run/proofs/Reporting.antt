@@ -239,7 +239,7 @@ reported_in_part size gives remaining shelf left d old mid new told part =
     }
 
 -- the texts of the elements up to a place and of the next
-pub one_text : (X : Type 0) (f : X → List ℕ) (xs : List X) (place : ℕ) (x z : X) → place < length xs
+one_text : (X : Type 0) (f : X → List ℕ) (xs : List X) (place : ℕ) (x z : X) → place < length xs
     → x ≡ get_or xs place z → flat_map f (take (place + 1) xs) ≡ flat_map f (take place xs) ++ f x
 one_text X f xs place x z within is =
     ap (flat_map f) (take_more xs place z within ∙ ap (λ y. take place xs ++ y ∷ []) (sym is))
@@ -247,13 +247,33 @@ one_text X f xs place x z within is =
     ∙ ap (λ l. flat_map f (take place xs) ++ l) (append-nil (f x))
 
 -- all texts are those up to a place, the next, and more
-pub all_texts : (X : Type 0) (f : X → List ℕ) (xs : List X) (place : ℕ) (x z : X)
+all_texts : (X : Type 0) (f : X → List ℕ) (xs : List X) (place : ℕ) (x z : X)
     → place < length xs → x ≡ get_or xs place z
     → flat_map f xs ≡ (flat_map f (take place xs) ++ f x) ++ flat_map f (drop (place + 1) xs)
 all_texts X f xs place x z within is =
     ap (flat_map f) (sym (take-append-drop (place + 1) xs))
     ∙ flat_map-append f (take (place + 1) xs) (drop (place + 1) xs)
     ∙ ap (λ l. l ++ flat_map f (drop (place + 1) xs)) (one_text X f xs place x z within is)
+
+-- behind them the text of the element at the place was written
+pub text_more : {X : Type 0} (f : X → List ℕ) (xs : List X) (place : ℕ) (x : X) (text : List ℕ)
+    (old mid new : Option (List ℕ)) → place < length xs → x ≡ get_or xs place x → text ≡ f x
+    → Appends old mid (flat_map f (take place xs)) → Appends mid new text
+    → Appends old new (flat_map f (take (place + 1) xs))
+text_more {X} f xs place x text old mid new within is same before wrote =
+    subst (Appends old new) (sym (one_text X f xs place x x within is))
+    (Appends-trans old mid new (flat_map f (take place xs)) (f x) before
+    (subst (Appends mid new) same wrote))
+
+-- a front of it was
+pub text_front : {X : Type 0} (f : X → List ℕ) (xs : List X) (place : ℕ) (x : X) (text : List ℕ)
+    (old mid new : Option (List ℕ)) → place < length xs → x ≡ get_or xs place x → text ≡ f x
+    → Appends old mid (flat_map f (take place xs)) → AppendsFront mid new text
+    → AppendsFront old new (flat_map f xs)
+text_front {X} f xs place x text old mid new within is same before part =
+    front_then old mid new (flat_map f (take place xs)) (f x) (flat_map f (drop (place + 1) xs))
+    (flat_map f xs) before (subst (AppendsFront mid new) same part)
+    (all_texts X f xs place x x within is)
 
 -- a front of a summary, whose parts are these
 pub in_first : (old new : Option (List ℕ)) (a b c : List ℕ) → AppendsFront old new a

@@ -1,37 +1,21 @@
-use Rattle.std.proofs.Common.{◌≡◌, ◌+◌, rules, sym, subst, take, drop}
-use Rattle.std.specs.List.{flat_map}
-use Rattle.std.specs.Io.KnownBytes.{Appends}
-use Rattle.std.proofs.KnownBytes.{Appends-trans}
-use Rattle.tape_run.specs.CheckLine.{section_line}
-use Rattle.tape_image.specs.Written.{AppendsFront}
+use Rattle.std.proofs.Common.{rules}
 use Rattle.tape_image.proofs.Pieces.{on_err}
-use Rattle.tape_run.proofs.Reporting.{front_then, one_text, all_texts}
+use Rattle.tape_run.specs.CheckLine.{section_line}
+use Rattle.tape_run.proofs.Reporting.{text_front, text_more}
 use Rattle.tape_run.proofs.check.write_sections.Goals as goal
 
 pub returns-in_err-write_text-clause-front : goal.returns-in_err-write_text-clause-front
 returns-in_err-write_text-clause-front g c =
-    let xs = c.args.listed.now in
-    let place = c.loop-section.section-index in
-    let x = c.section-item.result in
-    let text : c.deref.result.now ≡ section_line x = search rules in
-    let part = subst (AppendsFront (g.P.Write.contents c.loop-section.report)
-    (g.P.Write.contents c.write_text.new.writer)) text c.in_err-write_text.ensures.err in
-    on_err c.from_residual.result _
-    (front_then _ _ _ (flat_map section_line (take place xs)) (section_line x)
-    (flat_map section_line (drop (place + 1) xs))
-    (flat_map section_line xs) c.loop-section.invariant part
-    (all_texts _ section_line xs place x x (search rules) c.section-item.is))
+    on_err c.from_residual.result _ (text_front section_line c.args.listed.now
+    c.loop-section.section-index c.section-item.result c.deref.result.now
+    (g.P.Write.contents c.args.report.now) (g.P.Write.contents c.loop-section.report)
+    (g.P.Write.contents c.write_text.new.writer) (search rules) c.section-item.is (search rules)
+    c.loop-section.invariant c.in_err-write_text.ensures.err)
 
 pub loop-section-preserved : goal.loop-section-preserved
 loop-section-preserved g c =
-    let xs = c.args.listed.now in
-    let place = c.loop-section.section-index in
-    let x = c.section-item.result in
-    let text : c.deref.result.now ≡ section_line x = search rules in
-    let wrote = subst (Appends (g.P.Write.contents c.loop-section.report)
-    (g.P.Write.contents c.write_text.new.writer)) text c.in_ok-write_text.ensures.ok in
-    subst (Appends (g.P.Write.contents c.args.report.now)
-    (g.P.Write.contents c.write_text.new.writer))
-    (sym (one_text _ section_line xs place x x (search rules) c.section-item.is))
-    (Appends-trans _ _ _ (flat_map section_line (take place xs))
-    (section_line x) c.loop-section.invariant wrote)
+    text_more section_line c.args.listed.now c.loop-section.section-index c.section-item.result
+    c.deref.result.now (g.P.Write.contents c.args.report.now)
+    (g.P.Write.contents c.loop-section.report) (g.P.Write.contents c.write_text.new.writer)
+    (search rules) c.section-item.is (search rules) c.loop-section.invariant
+    c.in_ok-write_text.ensures.ok
