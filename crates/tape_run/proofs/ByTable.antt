@@ -14,13 +14,12 @@ use Rattle.tape_core.specs.declared.event.Answer.TheVariants.{Passed, Deliver, S
 use Rattle.tape_core.specs.declared.event.Answer.TheVariants.{Complete, Useless}
 use Rattle.tape_core.specs.State.{State}
 use Rattle.tape_core.specs.Parts.{parts_in}
-use Rattle.tape_core.specs.Place.{rest_of, place_of}
-use Rattle.tape_core.specs.Table.{step_of, saved}
+use Rattle.tape_core.specs.Place.{rest_of, place_of, resting}
+use Rattle.tape_core.specs.Table.{step_of, saved, mount_of, mounted}
 use Rattle.tape_core.specs.Follows.{IsFinal}
 use Rattle.tape_core.proofs.BlockLaws.{parts_in_it}
 use Rattle.tape_run.specs.Reels.{behind_items}
-use Rattle.tape_run.specs.ByTable.{parts_by, parts_at, parts_of_arrival}
-use Rattle.tape_run.specs.ByTable.{delivered_parts}
+use Rattle.tape_run.specs.ByTable.{parts_by, parts_at, parts_of_arrival, delivered_parts}
 use Rattle.tape_run.specs.ByTable.{IsLed, StopsInside}
 use Rattle.tape_run.specs.Puts.{refused_point}
 use Rattle.tape_run.proofs.Places.{refused_position}
@@ -28,8 +27,6 @@ use Rattle.tape_run.proofs.Finals.{IsIdle, behind_final, idle_items}
 use Rattle.tape_core.specs.declared.event.Phase.{Phase}
 use Rattle.tape_core.specs.declared.event.Phase.TheVariants.{Broken}
 use Rattle.tape_set.specs.declared.position.Position.TheVariants.{Awaits, Finished}
-use Rattle.tape_core.specs.Place.{resting}
-use Rattle.tape_core.specs.Table.{mount_of, mounted}
 
 -- ---- one item
 

@@ -1,7 +1,6 @@
 -- A step that ends at the file's end answers Complete.
 use Rattle.std.proofs.Common.{◌≡◌, ℕ, ◌+◌, Bool, true, false, List, Option, Some, None, Result, Ok}
-use Rattle.std.proofs.Common.{Err}
-use Rattle.std.proofs.Common.{refl, sym, ap, ◌∙◌}
+use Rattle.std.proofs.Common.{Err, refl, sym, ap, ◌∙◌}
 use Rattle.std.specs.Prelude.{if◌then◌else◌, not, nat_lt, ◌==◌}
 use Rattle.std.specs.Str.{bytes_eq}
 use Rattle.tape_label.specs.VolumeLabels.{is_volume_label}
@@ -30,10 +29,9 @@ use Rattle.tape_core.specs.declared.event.Phase.TheVariants.{DataWanted, Trailer
 use Rattle.tape_core.specs.declared.event.Phase.TheVariants.{TrailerWanted, NextFile}
 use Rattle.tape_core.specs.State.{State}
 use Rattle.tape_core.specs.Parts.{begun_before, other_front}
-use Rattle.tape_core.specs.Table.{Outcome, first_label, at_head1, first_labels, at_head2}
+use Rattle.tape_core.specs.Table.{Outcome, first_label, at_head1, first_labels, at_head2, at_block}
 use Rattle.tape_core.specs.Table.{second_label, at_judged, at_data}
 use Rattle.tape_core.specs.Table.{at_passed_trailer, at_end, at_wanted_trailer}
-use Rattle.tape_core.specs.Table.{at_block}
 use Rattle.tape_core.specs.Table.{at_mark, at_bad, at_reel_end, at_arrival}
 use Rattle.tape_core.specs.Table.{unless_complete, step_of, other_numbers}
 

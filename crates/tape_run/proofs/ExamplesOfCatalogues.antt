@@ -12,8 +12,7 @@ use Rattle.tape_run.specs.Checked.{IsCheckFault, IsReel, Reel}
 use Rattle.tape_run.specs.Lacks.{IsFirstLack, lack_of}
 use Rattle.tape_run.specs.Noted.{KeepsPlaces, GoodIsShown}
 use Rattle.tape_run.specs.Passing.{Told}
-use Rattle.tape_run.specs.Reeling.{Took}
-use Rattle.tape_run.specs.Reeling.{AreMounted}
+use Rattle.tape_run.specs.Reeling.{Took, AreMounted}
 use Rattle.tape_run.specs.Shown.{Shown}
 use Rattle.tape_run.specs.WholeSet.{HasEach}
 use Rattle.tape_run.specs.CasesOfCatalogues.{CasesOfCatalogues, CasesOfImages, CasesOfCopies}

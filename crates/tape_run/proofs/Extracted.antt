@@ -1,7 +1,6 @@
 -- What is left where all images were read, or a fault ended that.
-use Rattle.std.proofs.Common.{◌≡◌, Bool, ℕ, ◌⊎◌, List, [], map, Option}
+use Rattle.std.proofs.Common.{◌≡◌, Bool, ℕ, ◌⊎◌, List, [], map, Option, arith, append-nil}
 use Rattle.std.proofs.Common.{None, refl, sym, ap, subst, ◌∙◌, inl, inr, false}
-use Rattle.std.proofs.Common.{arith, append-nil}
 use Rattle.std.specs.Io.KnownBytes.{Appends}
 use Rattle.std.proofs.KnownBytes.{Appends-trans, Appends-nil}
 use Rattle.tape_blocks.specs.Block.{Portion}

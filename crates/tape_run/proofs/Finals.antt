@@ -34,13 +34,10 @@ use Rattle.tape_core.specs.State.{State}
 use Rattle.tape_core.specs.Parts.{begun_before, other_front}
 use Rattle.tape_core.specs.Follows.{IsFinal}
 use Rattle.tape_core.specs.Place.{rest_of}
-use Rattle.tape_core.specs.Table.{Outcome, passed, useless, broken, first_label, at_head1}
-use Rattle.tape_core.specs.Table.{first_labels}
-use Rattle.tape_core.specs.Table.{at_head2, second_label, at_judged, at_data}
+use Rattle.tape_core.specs.Table.{Outcome, passed, useless, broken, first_label, at_head1, at_block}
+use Rattle.tape_core.specs.Table.{first_labels, at_head2, second_label, at_judged, at_data}
 use Rattle.tape_core.specs.Table.{at_passed_trailer, at_end, at_wanted_trailer}
-use Rattle.tape_core.specs.Table.{at_block}
-use Rattle.tape_core.specs.Table.{at_mark, at_bad, at_item}
-use Rattle.tape_core.specs.Table.{unless_complete, step_of, other_numbers}
+use Rattle.tape_core.specs.Table.{at_mark, at_bad, at_item, unless_complete, step_of, other_numbers}
 use Rattle.tape_run.specs.Reels.{behind_items}
 use Rattle.tape_run.specs.ByTable.{parts_at, delivered_parts}
 

@@ -10,11 +10,10 @@ use Rattle.tape_set.specs.Lawful.{IsLawful}
 use Rattle.tape_set.specs.declared.position.Position.{Position}
 use Rattle.tape_core.specs.Point.{Point}
 use Rattle.tape_core.specs.State.{State}
-use Rattle.tape_core.specs.Stands.{Stands}
+use Rattle.tape_core.specs.Stands.{Stands, weight_of}
 use Rattle.tape_core.specs.Table.{saved}
 use Rattle.tape_run.specs.Mount.{Happening, reads, foreign_reel, saves, restarts, IsMountOf}
 use Rattle.tape_run.specs.Mount.{after_mount}
-use Rattle.tape_core.specs.Stands.{weight_of}
 use Rattle.tape_run.specs.declared.script.Step.{Step}
 use Rattle.tape_run.specs.declared.script.Step.TheVariants.{Reel, Save, Restart}
 use Rattle.tape_run.specs.Given.{failed_of, counted, counted_up}

@@ -1,8 +1,7 @@
 -- The items of an image, taken one after another.
-use Rattle.std.proofs.Common.{◌≡◌, ◌≢◌, ◌⊎◌, ℕ, ◌<◌, ◌≤◌, false, List, [], ◌∷◌}
+use Rattle.std.proofs.Common.{◌≡◌, ◌≢◌, ◌⊎◌, ℕ, ◌<◌, ◌≤◌, false, List, [], ◌∷◌, length-append}
 use Rattle.std.proofs.Common.{◌++◌, length, Option, Some, None, IfSome, Result, Ok, Err, refl}
 use Rattle.std.proofs.Common.{sym, ap, subst, ◌∙◌, inl, inr, arith, append_assoc, append-nil}
-use Rattle.std.proofs.Common.{length-append}
 use Rattle.std.specs.List.{slice_get}
 use Rattle.tape_blocks.specs.Block.{Portion}
 use Rattle.tape_image.specs.declared.item.Ending.{Ending}
@@ -18,23 +17,20 @@ use Rattle.tape_image.specs.Step as image
 use Rattle.tape_image.specs.Step.{TakesEnd, TakesFault, Meets, GivesItem}
 use Rattle.tape_image.proofs.Callers.{front_of_image}
 use Rattle.tape_image.proofs.Uniqueness.{Begins-one}
-use Rattle.tape_image.proofs.Walks.{Walks-nil, TakesEnd-behind, TakesFault-behind}
+use Rattle.tape_image.proofs.Walks.{Walks-nil, TakesEnd-behind, TakesFault-behind, known_same}
 use Rattle.tape_image.proofs.Walks.{TakesFault-begins, TakesFault-device, known_then, known_all}
-use Rattle.tape_image.proofs.Walks.{known_same}
 use Rattle.tape_set.specs.Layout.{FileSet}
 use Rattle.tape_set.specs.Lawful.{IsLawful}
 use Rattle.tape_set.specs.declared.position.Position.{Position}
 use Rattle.tape_core.specs.declared.event.Answer.{Answer}
 use Rattle.tape_core.specs.State.{State}
-use Rattle.tape_core.specs.Place.{IsPlaced}
-use Rattle.tape_run.specs.Mount.{Happening, IsMount, cut}
-use Rattle.tape_run.specs.Mount.{after_mount}
+use Rattle.tape_core.specs.Place.{IsPlaced, rest_of}
+use Rattle.tape_run.specs.Mount.{Happening, IsMount, cut, after_mount}
 use Rattle.tape_core.specs.Follows.{IsFinal}
 use Rattle.tape_run.specs.Under.{is_under}
 use Rattle.tape_run.specs.Taking.{Taken, TakesItem, RefusesItem, ReadsItems, ReadsImage}
 use Rattle.tape_run.specs.Taking.{RefusesImage, CutsTable, came_of, fault_of}
 use Rattle.tape_core.specs.Table.{step_of}
-use Rattle.tape_core.specs.Place.{rest_of}
 use Rattle.tape_run.specs.ByTable.{parts_of_arrival, delivered_parts, StopsInside}
 use Rattle.tape_run.proofs.ByTable.{core_more, parts_more, led_by_final, led_to_end}
 use Rattle.tape_run.specs.Given.{is_device_cause, is_device}

@@ -17,8 +17,7 @@ use Rattle.tape_run.specs.Reels.{behind_items}
 use Rattle.tape_run.specs.ByTable.{delivered_parts}
 use Rattle.tape_run.specs.Seen.{Seen}
 use Rattle.tape_run.specs.Steps.{Reeled, Saved, WentBack}
-use Rattle.tape_run.specs.Lead.{Noted, Lead, over_reel, over_save, back_to, AreItems}
-use Rattle.tape_run.specs.Lead.{AreNoted}
+use Rattle.tape_run.specs.Lead.{Noted, Lead, over_reel, over_save, back_to, AreItems, AreNoted}
 use Rattle.tape_run.specs.Lead.{StandsThere, LeadsBy, ItemsAreThere}
 use Rattle.tape_image.proofs.Existence.{Begins-some}
 use Rattle.tape_image.proofs.Uniqueness.{Begins-one}

@@ -2,9 +2,8 @@
 use Rattle.std.proofs.Common.{◌≡◌, ℕ, zero, suc, ◌+◌, Bool, true, false, List, [], ◌∷◌, drop}
 use Rattle.std.proofs.Common.{Option, Some, None, ◌≤◌, length, take, IfSome, refl, sym, ap, ◌∙◌}
 use Rattle.std.proofs.Common.{subst, inr, ◌<◌, arith, append-nil, ◌++◌, slice_set}
-use Rattle.std.proofs.lemmas.List.{append_assoc, take-append-drop}
+use Rattle.std.proofs.lemmas.List.{append_assoc, take-append-drop, drop_all}
 use Rattle.std.specs.List.{slice_get}
-use Rattle.std.proofs.lemmas.List.{drop_all}
 use Rattle.tape_core.specs.Crash.{AddsNothing, Crashes}
 use Rattle.tape_core.specs.Weight.{IsFront}
 use Rattle.tape_run.specs.Crash.{LastAlone}

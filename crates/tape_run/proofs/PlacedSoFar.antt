@@ -20,9 +20,8 @@ use Rattle.tape_run.specs.declared.fault.ListFault.TheVariants.{WriteFailed}
 use Rattle.tape_image.specs.Written.{AppendsFront}
 use Rattle.tape_run.specs.ListLine.{line_of}
 use Rattle.tape_run.specs.Placed.{PlacedItem, Places, item_extent, told_at, placed_line}
-use Rattle.tape_run.specs.Placed.{placed_lines, placed_end}
+use Rattle.tape_run.specs.Placed.{placed_lines, placed_end, at_fault, FitsPlacesCause, FitsPlaces}
 use Rattle.tape_run.specs.Placed.{PlacesToEnd, PlacesToFault, StopsPlacing, at_item, at_end}
-use Rattle.tape_run.specs.Placed.{at_fault, FitsPlacesCause, FitsPlaces}
 use Rattle.tape_run.proofs.Fitting.{kept}
 use Rattle.tape_run.proofs.ListedSoFar.{into}
 

@@ -26,8 +26,7 @@ use Rattle.tape_run.specs.Under.{is_under}
 use Rattle.tape_run.specs.Taking.{ReadsImage, RefusesImage, CutsTable}
 use Rattle.tape_run.specs.Given.{counted}
 use Rattle.tape_run.specs.Seen.{Seen, IsNote, KeepsNotes, IsKept}
-use Rattle.tape_run.specs.Steps.{Reeled, CutShort, Saved, WentBack}
-use Rattle.tape_run.specs.Steps.{ReadBy, StoppedBy}
+use Rattle.tape_run.specs.Steps.{Reeled, CutShort, Saved, WentBack, ReadBy, StoppedBy}
 use Rattle.tape_run.proofs.Notes.{front_self, front_trans, same_front}
 
 pub some_map : (o : Option (List ℕ)) (P Q : List ℕ → Type 0) → ((xs : List ℕ) → P xs → Q xs)

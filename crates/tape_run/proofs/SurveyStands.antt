@@ -1,7 +1,6 @@
 -- What the items of an image are, by how far they follow the order of a volume.
 use Rattle.std.proofs.Common.{◌≡◌, ℕ, Bool, true, false, List, [], ◌∷◌, ◌++◌, Option, Some}
-use Rattle.std.proofs.Common.{None, Result, Ok, Err, refl, sym, ap, ◌∙◌, append_assoc}
-use Rattle.std.proofs.Common.{append-nil}
+use Rattle.std.proofs.Common.{None, Result, Ok, Err, refl, sym, ap, ◌∙◌, append_assoc, append-nil}
 use Rattle.std.specs.Prelude.{⊤, ◌≢◌, map, if◌then◌else◌}
 use Rattle.std.specs.List.{AllByRecursion, flat_map}
 use Rattle.std.proofs.lemmas.Grind.{flat_map-append}
@@ -25,8 +24,7 @@ use Rattle.tape_run.specs.declared.survey.course.Course.{Course}
 use Rattle.tape_run.specs.declared.survey.course.Course.TheVariants.{Follows, Blank, Ended, Leaves}
 use Rattle.tape_run.specs.Passing.{volume_with, header_with, second_with}
 use Rattle.tape_run.specs.SurveyGlance.{left_by}
-use Rattle.tape_run.specs.SurveyLaws.{IsSectionInOrder, IsBegun, IsVolumeInOrder}
-use Rattle.tape_run.specs.SurveyLaws.{end_marks}
+use Rattle.tape_run.specs.SurveyLaws.{IsSectionInOrder, IsBegun, IsVolumeInOrder, end_marks}
 use Rattle.tape_run.proofs.SectionsMet.{map_push}
 
 -- ---- what stands before each item

@@ -1,8 +1,7 @@
 -- What was done with images is a run of steps.
-use Rattle.std.proofs.Common.{◌≡◌, Bool, ℕ, suc, ◌+◌, List, [], ◌∷◌, ◌++◌}
+use Rattle.std.proofs.Common.{◌≡◌, Bool, ℕ, suc, ◌+◌, List, [], ◌∷◌, ◌++◌, length-append}
 use Rattle.std.proofs.Common.{length, map, Some, None, IfSome, refl, sym}
 use Rattle.std.proofs.Common.{ap, subst, ◌∙◌, arith, true, false}
-use Rattle.std.proofs.Common.{length-append}
 use Rattle.tape_core.specs.State.{State}
 use Rattle.tape_run.specs.Given.{is_device}
 use Rattle.tape_run.specs.Seen.{Seen}
@@ -11,9 +10,8 @@ use Rattle.tape_run.specs.declared.script.Step.{Step}
 use Rattle.tape_run.specs.declared.script.Step.TheVariants.{Reel}
 use Rattle.tape_run.proofs.Headline.{headline, took_so_many}
 use Rattle.tape_run.specs.Steps.{Reeled}
-use Rattle.tape_run.specs.Reeling.{is_doubtful, IsNoted, step_behind, notes_behind}
+use Rattle.tape_run.specs.Reeling.{is_doubtful, IsNoted, step_behind, notes_behind, Turn, Follows}
 use Rattle.tape_run.specs.Reeling.{steps_of, AreTold, AreSteps, failed_in}
-use Rattle.tape_run.specs.Reeling.{Turn, Follows}
 
 -- one reel, and what was done behind it
 pub step_made : (back doubtful failed : Bool) (which : List Bool) (old mid behind new : Seen)

@@ -14,14 +14,13 @@ use Rattle.tape_run.specs.Passing.{Told}
 use Rattle.tape_run.specs.Noted.{same_key, StandsIn}
 use Rattle.tape_run.specs.Lacks.{entry_at, IsGoodAt, line_of, lacks, is_none_lacking, found_all}
 use Rattle.tape_run.specs.WholeSet.{key_in, behind_copies}
-use Rattle.tape_run.proofs.KeepingPlaces.{one_key}
+use Rattle.tape_run.proofs.KeepingPlaces.{one_key, none_stands}
 use Rattle.tape_run.proofs.WholeCopies.{whole_copies}
 use Rattle.tape_run.proofs.WholeSets.{whole_set, all_found}
 use Rattle.tape_run.specs.CheckLine.{image_lines, section_line, found_line}
 use Rattle.tape_run.specs.Checked.{Reel, AreRead, summary_of}
 use Rattle.tape_run.specs.WholeReels.{AreWholeCopies, IsListedGood, WholeSetIsTold}
 use Rattle.tape_run.specs.WholeReels.{IsShownOn, GoodWasSeen}
-use Rattle.tape_run.proofs.KeepingPlaces.{none_stands}
 
 -- behind whole copies the catalogue is the one that they make
 copies_read : (set : FileSet) (reels : List Reel) (lines : List (Option ImageLine)) (ks : List ℕ)

@@ -11,13 +11,12 @@ use Rattle.tape_set.specs.Lawful.{IsLawful, IsSection, IsFile, Ends}
 use Rattle.tape_set.specs.Laws.{StandsIn}
 use Rattle.tape_set.proofs.Everywhere.{every, every_at, every_stands, nth_found}
 use Rattle.tape_set.proofs.Forms.{all_four_digits}
-use Rattle.tape_set.proofs.Numbering.{section_stands}
-use Rattle.tape_set.proofs.Volumes.{IsOn, sections_on_are}
+use Rattle.tape_set.proofs.Numbering.{section_stands, section_found}
+use Rattle.tape_set.proofs.Volumes.{IsOn, sections_on_are, over_volumes}
 use Rattle.tape_run.specs.declared.section.SectionKey.{SectionKey}
 use Rattle.tape_run.specs.Passing.{Told, met_in}
 use Rattle.tape_run.specs.Noted.{same_key, better, noted, noted_all}
 use Rattle.std.proofs.lemmas.Option.{slice_get_within}
-use Rattle.tape_set.proofs.Numbering.{section_found}
 use Rattle.tape_run.specs.declared.section.Lack.{Lack}
 use Rattle.tape_run.specs.Lacks.{IsGoodAt, key_at, SetFiles, with_file, sets_from, lack_of}
 use Rattle.tape_run.specs.Lacks.{one_lack, file_lacks, set_lacks, lacks, is_none_lacking, found_all}
@@ -27,7 +26,6 @@ use Rattle.tape_run.proofs.NothingLacks.{KindIs, noted_all_kind, GoodAs, FileGoo
 use Rattle.tape_run.proofs.StayingGood.{stays_good}
 use Rattle.tape_set.proofs.Everywhere.{nth_there, is_there}
 use Rattle.tape_set.proofs.AllVolumes.{has_start}
-use Rattle.tape_set.proofs.Volumes.{over_volumes}
 use Rattle.tape_run.proofs.WholeVolumes.{AreGood, some_of, volume_tells, whole_volume}
 
 -- ---- all volumes

@@ -26,8 +26,7 @@ use Rattle.tape_run.specs.Given.{AreGivenBy, failed_of, counted_up}
 use Rattle.tape_run.specs.Headline.{begins, IsStart, IsRead, HasRun, HasStopped, Stops}
 use Rattle.tape_run.specs.Lives.{IsResumed}
 use Rattle.tape_run.specs.Seen.{Seen, IsSession}
-use Rattle.tape_run.specs.WorkedHistory.{worked_set, section_1, section_2, first}
-use Rattle.tape_run.specs.WorkedHistory.{reel_1, reading}
+use Rattle.tape_run.specs.WorkedHistory.{worked_set, section_1, section_2, first, reel_1, reading}
 use Rattle.tape_run.specs.WorkedDays.{DaysAreWorked, IsWhole, once, twice, two_reels, four_reels}
 use Rattle.tape_run.specs.WorkedDays.{behind_one}
 use Rattle.tape_run.specs.Back.{reels_of}

@@ -15,8 +15,7 @@ use Rattle.tape_run.specs.Headline.{IsRead}
 use Rattle.tape_run.proofs.Back.{none_failed, none_of}
 use Rattle.tape_run.proofs.WorkedReels.{whole_1, whole_2, cut_1, bad_0, bad_1, short_2, blank}
 use Rattle.tape_run.proofs.WorkedReels.{other}
-use Rattle.tape_run.specs.WorkedHistory.{worked_set}
-use Rattle.tape_run.specs.WorkedHistory.{worked_steps, worked_reels, worked_history}
+use Rattle.tape_run.specs.WorkedHistory.{worked_set, worked_steps, worked_reels, worked_history}
 use Rattle.tape_run.specs.WorkedHistory.{HistoryIsWorked, first, middle, last}
 
 -- ---- the set is lawful

@@ -21,8 +21,7 @@ use Rattle.tape_run.specs.Mount.{IsMount, IsMountOf, reads, foreign_reel}
 use Rattle.tape_run.specs.WorkedHistory.{worked_set, vol1, hdr1, hdr1_of_2, hdr2, eov1, eov2, eof1}
 use Rattle.tape_run.specs.WorkedHistory.{eof2, block_0, block_1, block_2, a_mark, an_end, label}
 use Rattle.tape_run.specs.WorkedHistory.{data_block, bad_data, reel_1, reel_2, cut_reel, bad_0_reel}
-use Rattle.tape_run.specs.WorkedHistory.{bad_1_reel, short_reel, blank_reel, other_reel}
-use Rattle.tape_run.specs.WorkedHistory.{reading}
+use Rattle.tape_run.specs.WorkedHistory.{bad_1_reel, short_reel, blank_reel, other_reel, reading}
 
 -- ---- the bytes begin with these items
 

@@ -1,10 +1,8 @@
 -- What the definitions of a session and of its history say of cases, so that none of them says
 -- less, or asks more, than it should. The call `laws::cases` has them as its contract.
-use Rattle.std.specs.Prelude.{◌≡◌, ◌≤◌, ℕ, ◌+◌, Bool, true, false, List, [], ◌∷◌, ◌++◌}
+use Rattle.std.specs.Prelude.{◌≡◌, ◌≤◌, ℕ, ◌+◌, Bool, true, false, List, [], ◌∷◌, ◌++◌, Option}
 use Rattle.std.specs.Prelude.{length, take, slice_get, Some, None, IsSome}
-use Rattle.std.specs.Prelude.{Option}
-use Rattle.tape_image.specs.declared.item.ImageCause.TheVariants.{Truncated}
-use Rattle.tape_image.specs.declared.item.ImageCause.TheVariants.{Device}
+use Rattle.tape_image.specs.declared.item.ImageCause.TheVariants.{Truncated, Device}
 use Rattle.tape_image.specs.declared.item.ImageCause.TheVariants.{OutOfMemory as NoMemory}
 use Rattle.tape_image.specs.Tape.{TapeItem, block, mark}
 use Rattle.tape_image.specs.Begins.{Stop, Begins}
@@ -33,8 +31,7 @@ use Rattle.tape_run.specs.CasesOfSaves.{brings, comes_now}
 use Rattle.tape_run.specs.Crash.{IsOf, LastAlone, StoodAt}
 use Rattle.tape_run.specs.Given.{is_device, IsGiven, AreGivenBy, counted, counted_up}
 use Rattle.tape_run.specs.Given.{failed_of, written}
-use Rattle.tape_run.specs.Headline.{Ran, HasRun, IsStart, IsRead}
-use Rattle.tape_run.specs.Headline.{begins}
+use Rattle.tape_run.specs.Headline.{Ran, HasRun, IsStart, IsRead, begins}
 use Rattle.tape_run.specs.History.{Course, IsHistory, course, course_of}
 use Rattle.tape_run.specs.Lives.{IsPlaceOf, ComesBack, IsResumed, AreHistories}
 use Rattle.tape_run.specs.Mount.{Happening, reads, foreign_reel, saves, restarts, IsMount}

@@ -33,8 +33,7 @@ use Rattle.tape_run.specs.Lacks.{IsFirstLack, IsFoundWhole, IsGoodAt, lacks, fou
 use Rattle.tape_run.specs.Lacks.{line_of, good_end, entry_at}
 use Rattle.tape_run.specs.Noted.{noted, noted_all, KeepsPlaces, GoodIsShown}
 use Rattle.tape_run.specs.Passing.{Told, met_in}
-use Rattle.tape_run.specs.Reeling.{Took}
-use Rattle.tape_run.specs.Reeling.{AreMounted}
+use Rattle.tape_run.specs.Reeling.{Took, AreMounted}
 use Rattle.tape_run.specs.Shown.{Shown, BeginsVolume, HeadsSection, EndsSection}
 use Rattle.tape_run.specs.WholeReels.{AreWholeCopies, IsToldWhole, IsShownOn, IsListedGood}
 use Rattle.tape_run.specs.WholeSet.{HasEach, IsWholeCopy, IsNoDevice, key_in}

@@ -43,8 +43,7 @@ use Rattle.tape_run.specs.ReelLine.{reel_lines, last_line}
 use Rattle.tape_run.specs.Reeling.{Opened, Turn, answer_of, AreTurns, IsTurn, Follows, AreGiven}
 use Rattle.tape_run.specs.Reeling.{AreMounts, AreTapes, over_tapes, IsThere, Gathers}
 use Rattle.tape_run.specs.Reeling.{reached, is_doubtful, IsNoted, ReadsAndNotes}
-use Rattle.tape_run.specs.Reeling.{goes_back, IsKeptFor, AreSure}
-use Rattle.tape_run.specs.Reeling.{AreFirstTurns, Took}
+use Rattle.tape_run.specs.Reeling.{goes_back, IsKeptFor, AreSure, AreFirstTurns, Took}
 use Rattle.tape_run.specs.Reeling.{step_behind, notes_behind, steps_of, AreTold, AreSteps}
 use Rattle.tape_run.specs.Reels.{Reads}
 use Rattle.tape_run.specs.Seen.{Seen, IsKept}

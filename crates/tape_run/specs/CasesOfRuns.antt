@@ -1,6 +1,5 @@
 -- What the definitions of runs that stopped say of cases: as in Cases.
-use Rattle.std.specs.Prelude.{◌≡◌, ◌≤◌, ℕ, ◌+◌, List, [], ◌∷◌}
-use Rattle.std.specs.Prelude.{length, slice_get, Some}
+use Rattle.std.specs.Prelude.{◌≡◌, ◌≤◌, ℕ, ◌+◌, List, [], ◌∷◌, length, slice_get, Some}
 use Rattle.tape_image.specs.Tape.{TapeItem, block}
 use Rattle.tape_set.specs.Position.{at_part, next_block}
 use Rattle.tape_set.specs.Layout.{FileSet}
@@ -13,11 +12,9 @@ use Rattle.tape_run.specs.declared.fault.RunFault.TheVariants.{Sink, NoSuchPoint
 use Rattle.tape_run.specs.declared.fault.RunFault.TheVariants.{OutOfMemory, OtherFile}
 use Rattle.tape_run.specs.declared.script.Step.TheVariants.{Reel, Save, Restart}
 use Rattle.tape_run.specs.Given.{AreGivenBy, counted_up, failed_of}
-use Rattle.tape_run.specs.Headline.{Ran, PutRefused, Stops}
-use Rattle.tape_run.specs.Headline.{HasStopped, LosesParts, reels_in}
+use Rattle.tape_run.specs.Headline.{Ran, PutRefused, Stops, HasStopped, LosesParts, reels_in}
 use Rattle.tape_run.specs.History.{IsHistory, course, course_of}
-use Rattle.tape_run.specs.Mount.{Happening}
-use Rattle.tape_run.specs.Mount.{after_mount, cut}
+use Rattle.tape_run.specs.Mount.{Happening, after_mount, cut}
 use Rattle.tape_run.specs.Seen.{Seen, IsSession}
 
 -- of runs that a fault ended

@@ -1,9 +1,7 @@
 -- What the definitions of surveys say of cases. The call `laws::cases` has them as its
 -- contract.
 use Rattle.std.specs.Prelude.{◌≡◌, ◌≢◌, ◌++◌, ◌+◌, ◌==◌, ◌≤◌, ◌&&◌, length, ℕ, Bool, true, false}
-use Rattle.std.specs.Prelude.{List, [], ◌∷◌, replicate, Option}
-use Rattle.std.specs.Prelude.{Some}
-use Rattle.std.specs.Prelude.{None, Ok, Err, codes, decimal}
+use Rattle.std.specs.Prelude.{List, [], ◌∷◌, replicate, Option, Some, None, Ok, Err, codes, decimal}
 use Rattle.std.specs.List.{AllByRecursion}
 use Rattle.std.specs.Io.KnownBytes.{Appends}
 use Rattle.tape_image.specs.declared.item.ImageFault.{ImageFault}
@@ -49,8 +47,7 @@ use Rattle.tape_run.specs.SurveyWording.{image_text, summary, sections_text, end
 use Rattle.tape_run.specs.SurveyLine.{trimmed_text, named}
 use Rattle.tape_run.specs.SurveyRows.{section_row, sight_cells, eof_cell, standing_cells}
 use Rattle.tape_run.specs.SurveyRows.{mixed_cell}
-use Rattle.tape_run.specs.SurveyRead.{Found, nothing_found, is_whole_sight, IsViewed}
-use Rattle.tape_run.specs.SurveyRead.{AreViewed}
+use Rattle.tape_run.specs.SurveyRead.{Found, nothing_found, is_whole_sight, IsViewed, AreViewed}
 use Rattle.tape_run.specs.SurveySets.{standing_of, is_all}
 use Rattle.tape_run.specs.Survey.{image_texts, Tells, Surveys, SurveysInPart, summary_at}
 

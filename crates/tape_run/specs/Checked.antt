@@ -14,8 +14,7 @@ use Rattle.tape_run.specs.declared.fault.EngineFault.{EngineFault}
 use Rattle.tape_run.specs.declared.fault.EngineFault.TheVariants.{Run, WriteFailed}
 use Rattle.tape_run.specs.CheckLine.{image_line, image_lines, section_line, lack_line, found_line}
 use Rattle.tape_image.specs.Written.{AppendsFront}
-use Rattle.tape_run.specs.Reeling.{Mounting}
-use Rattle.tape_run.specs.Reeling.{AreMounted}
+use Rattle.tape_run.specs.Reeling.{Mounting, AreMounted}
 
 -- an image: none where it was not opened, or else the bytes that its reader has, where it tells
 -- them

@@ -1,6 +1,5 @@
 -- Laws of what `check` reports, in the words of reels and sections.
-use Rattle.std.specs.Prelude.{◌≡◌, ⊤, ℕ, Bool, true, List, [], ◌∷◌, ◌++◌, Option, Some}
-use Rattle.std.specs.Prelude.{IsSome}
+use Rattle.std.specs.Prelude.{◌≡◌, ⊤, ℕ, Bool, true, List, [], ◌∷◌, ◌++◌, Option, Some, IsSome}
 use Rattle.std.specs.List.{AllByRecursion, flat_map}
 use Rattle.tape_image.specs.Tape.{TapeItem}
 use Rattle.tape_image.specs.Reader.{IfKnown}

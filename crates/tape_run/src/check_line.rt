@@ -1,9 +1,8 @@
 //! The lines of `check`, built without taking memory.
 ghost use Rattle.std.specs.Prelude.{◌≡◌, ◌≤◌, ◌++◌, length};
 ghost use Rattle.arrayvec.specs.ArrayVec.{array_vec_len};
-ghost use Rattle.tape_run.specs.CheckLine.{stop_fault, stop_text, items_text, met_text};
+ghost use Rattle.tape_run.specs.CheckLine.{stop_fault, stop_text, items_text, met_text, lack_line};
 ghost use Rattle.tape_run.specs.CheckLine.{image_line, state_text, section_text, section_line};
-ghost use Rattle.tape_run.specs.CheckLine.{lack_line};
 
 use crate::section::{ImageLine, ImageStop, Lack, SectionLine, SectionState};
 use crate::text::{put, put_decimal, put_identifier};

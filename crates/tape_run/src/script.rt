@@ -1,8 +1,7 @@
 //! Scripts: steps of a session, one after another.
 
 ghost use Rattle.std.specs.Prelude.{◌≡◌, ◌+◌, [], ◌∷◌, ℕ, Bool, List, Some, None, OnOk};
-ghost use Rattle.std.specs.Prelude.{OnErr, IfOk, IfErr};
-ghost use Rattle.std.specs.Prelude.{map, drop, true, false};
+ghost use Rattle.std.specs.Prelude.{OnErr, IfOk, IfErr, map, drop, true, false};
 ghost use Rattle.tape_blocks.specs.Spans.{join};
 ghost use Rattle.tape_set.specs.declared.position.Position.TheVariants.{Finished};
 ghost use Rattle.tape_set.specs.Layout.{FileSet, Section, file_of};

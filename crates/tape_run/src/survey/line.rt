@@ -4,9 +4,8 @@ ghost use Rattle.arrayvec.specs.ArrayVec.{array_vec_len};
 ghost use Rattle.tape_run.specs.SurveyLine.{first_text, late_text, system_text, files_text};
 ghost use Rattle.tape_run.specs.SurveyLine.{bad_text, unread_text, wanted_text, left_text};
 ghost use Rattle.tape_run.specs.SurveyLine.{course_text, stop_text, guess_text, glance_text};
-ghost use Rattle.tape_run.specs.SurveyLine.{seen_text, met_text};
+ghost use Rattle.tape_run.specs.SurveyLine.{seen_text, met_text, is_no_image, fault_text};
 ghost use Rattle.tape_run.specs.SurveyLine.{sight_text, written_text, early_text, is_told};
-ghost use Rattle.tape_run.specs.SurveyLine.{is_no_image, fault_text};
 
 use super::course::{Course, Wanted};
 use super::glance::{First, Glance};

@@ -1,6 +1,5 @@
 //! The rows of a survey, for scripts: columns a tab apart.
-ghost use Rattle.std.specs.Prelude.{◌≡◌, ◌≤◌, ◌+◌, ◌++◌, length, decimal, codes};
-ghost use Rattle.std.specs.Prelude.{option_map};
+ghost use Rattle.std.specs.Prelude.{◌≡◌, ◌≤◌, ◌+◌, ◌++◌, length, decimal, codes, option_map};
 ghost use Rattle.arrayvec.specs.ArrayVec.{array_vec_len};
 ghost use Rattle.tape_run.specs.SurveyRows.{whole_cell, volume_cell, head_cells, count_cells};
 ghost use Rattle.tape_run.specs.SurveyRows.{seen_cells, middle_cells, sight_cells, words_cell};

@@ -1,6 +1,5 @@
 //! What a survey says of sets and their files.
-ghost use Rattle.std.specs.Prelude.{◌≡◌, ◌≤◌, ◌++◌, length, IfOk};
-ghost use Rattle.std.specs.Prelude.{option_map};
+ghost use Rattle.std.specs.Prelude.{◌≡◌, ◌≤◌, ◌++◌, length, IfOk, option_map};
 ghost use Rattle.arrayvec.specs.ArrayVec.{array_vec_len};
 ghost use Rattle.tape_run.specs.Lacks.{entry_at, found_all};
 ghost use Rattle.tape_run.specs.SurveySets.{wanted_at, standing_of, known_text, standing_text};

@@ -1,11 +1,10 @@
 use Rattle.std.proofs.Common.{Ok, ap, ◌∙◌, arith, refl}
 use Rattle.tape_image.specs.Reader.{tape_item, ending_of}
-use Rattle.tape_image.proofs.Callers.{gave, met_end, met_fault}
+use Rattle.tape_image.proofs.Callers.{gave, met_end, met_fault, same_some}
 use Rattle.tape_run.specs.Added.{stop_at}
 use Rattle.tape_run.specs.Passing.{blocks_of}
 use Rattle.tape_run.proofs.NotedSoFar.{one_more, at_end, at_fault, one_block}
 use Rattle.tape_image.proofs.Steps.{least_four}
-use Rattle.tape_image.proofs.Callers.{same_some}
 use Rattle.tape_run.proofs.catalogue.add_items.Goals as goal
 
 pub items-preserved : goal.items-preserved

@@ -1,14 +1,13 @@
 use Rattle.std.proofs.Common.{◌≡◌, ◌+◌, [], Ok, ap, subst, ◌∙◌, arith, rules}
 use Rattle.std.specs.Io.KnownBytes.{Appends}
 use Rattle.tape_image.specs.Reader.{tape_item, ending_of}
-use Rattle.tape_image.proofs.Callers.{gave, met_end, met_fault}
+use Rattle.tape_image.proofs.Callers.{gave, met_end, met_fault, same_some}
 use Rattle.tape_run.specs.ListLine.{line_of}
 use Rattle.tape_run.specs.Listing.{end_line}
 use Rattle.tape_image.specs.Written.{AppendsFront}
 use Rattle.tape_run.proofs.ListedSoFar.{write_failed, one_more, ends_at, fails_at, stops_at_item}
 use Rattle.tape_run.proofs.ListedSoFar.{stops_at_end, stops_at_fault, fits_cause}
 use Rattle.tape_image.proofs.Steps.{least_four}
-use Rattle.tape_image.proofs.Callers.{same_some}
 use Rattle.tape_run.proofs.Fitting.{no_front}
 use Rattle.tape_image.proofs.Pieces.{on_err}
 use Rattle.tape_run.proofs.ListFronts.{in_part, after_none, after_item, after_end}

@@ -1,12 +1,11 @@
 use Rattle.std.proofs.Common.{◌≡◌, ◌+◌, Ok, Err, ap, subst, ◌∙◌, arith, rules}
 use Rattle.std.specs.Io.KnownBytes.{Appends}
 use Rattle.tape_image.specs.Reader.{tape_item, ending_of}
-use Rattle.tape_image.proofs.Callers.{gave, met_end, met_fault}
+use Rattle.tape_image.proofs.Callers.{gave, met_end, met_fault, same_some}
 use Rattle.tape_run.specs.Placed.{placed_end}
 use Rattle.tape_image.specs.Written.{AppendsFront}
 use Rattle.tape_run.specs.declared.fault.ListFault.TheVariants.{WriteFailed}
 use Rattle.tape_image.proofs.Steps.{least_four}
-use Rattle.tape_image.proofs.Callers.{same_some}
 use Rattle.tape_run.proofs.PlacedSoFar.{line_is, placed_more, placed_to_end}
 use Rattle.tape_run.proofs.PlacedSoFar.{placed_stop_item, placed_stop_end, placed_stop_fault}
 use Rattle.tape_run.proofs.PlacedSoFar.{places_not_written, places_cause, placed_to_fault}

@@ -7,8 +7,7 @@ use Rattle.tape_run.specs.Reeling.{answer_of, IsTurn}
 use Rattle.tape_run.specs.Seen.{seen}
 use Rattle.tape_run.proofs.Extracted.{all_of_it}
 use Rattle.tape_image.proofs.Pieces.{on_err}
-use Rattle.tape_run.proofs.Turns.{front_behind, line_behind, one_mounted}
-use Rattle.tape_run.proofs.Turns.{follows_then}
+use Rattle.tape_run.proofs.Turns.{front_behind, line_behind, one_mounted, follows_then}
 use Rattle.tape_run.proofs.Lasting.{last_same, last_then}
 use Rattle.tape_run.proofs.Left.{left_saved, same_left}
 use Rattle.tape_run.proofs.extract.images.read_round.Goals as goal

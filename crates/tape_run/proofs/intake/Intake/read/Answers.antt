@@ -6,8 +6,7 @@ use Rattle.tape_core.specs.Arrive.{arrival}
 use Rattle.tape_core.specs.Table.{step_of}
 use Rattle.tape_core.proofs.Crashes.{only_same}
 use Rattle.tape_run.proofs.Growing.{Grows, grows_then, adds_on}
-use Rattle.tape_run.proofs.Images.{IsTaken, none_taken, taken_on, reads_image}
-use Rattle.tape_run.proofs.Images.{refuses_image}
+use Rattle.tape_run.proofs.Images.{IsTaken, none_taken, taken_on, reads_image, refuses_image}
 use Rattle.tape_run.proofs.Notes.{front_self, front_trans}
 use Rattle.tape_image.proofs.Pieces.{on_err}
 use Rattle.tape_run.proofs.Reels.{item_came, item_given, block_given, none_read, read_on}

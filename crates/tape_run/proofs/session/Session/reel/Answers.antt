@@ -9,8 +9,7 @@ use Rattle.tape_run.specs.Seen.{seen, IsKept, IfSeen, IsSeen}
 use Rattle.tape_run.specs.Steps.{Reeled, ReelFails}
 use Rattle.tape_run.specs.declared.fault.RunFault.TheVariants.{Sink}
 use Rattle.tape_run.proofs.Sessions.{some_at, some_both, some_all, want_none, not_read, reeled}
-use Rattle.tape_run.proofs.Sessions.{cut_short}
-use Rattle.tape_run.proofs.Sessions.{kept_grow, kept_place}
+use Rattle.tape_run.proofs.Sessions.{cut_short, kept_grow, kept_place}
 use Rattle.tape_run.proofs.ByTable.{mount_rest}
 use Rattle.tape_run.proofs.Mounts.{begins}
 use Rattle.tape_run.proofs.Notes.{front_self}

@@ -1,6 +1,6 @@
 use Rattle.std.proofs.Common.{◌≡◌, ◌+◌, Ok, ap, ◌∙◌, arith, refl, Option}
 use Rattle.tape_image.specs.Reader.{tape_item, ending_of}
-use Rattle.tape_image.proofs.Callers.{gave, met_end, met_fault}
+use Rattle.tape_image.proofs.Callers.{gave, met_end, met_fault, same_some}
 use Rattle.tape_label.specs.declared.values.Head1.{Head1}
 use Rattle.tape_run.specs.declared.survey.glance.Glance.{Glance}
 use Rattle.tape_run.specs.Added.{stop_at}
@@ -8,7 +8,6 @@ use Rattle.tape_run.specs.Passing.{blocks_of}
 use Rattle.tape_run.specs.SurveyFiles.{with_met}
 use Rattle.tape_run.proofs.NotedSoFar.{one_block}
 use Rattle.tape_image.proofs.Steps.{least_four}
-use Rattle.tape_image.proofs.Callers.{same_some}
 use Rattle.tape_run.proofs.SurveyLooks.{looks_start, looks_more, viewed_end, viewed_fault}
 use Rattle.tape_run.proofs.survey.view.view_items.Goals as goal
 
