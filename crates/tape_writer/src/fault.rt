@@ -23,7 +23,7 @@ pub enum WriteFault {
     BadField,
     /// Blocks of this shape are not written.
     BadShape,
-    /// The capacity is less than 1,024 bytes and the block length.
+    /// The capacity is less than the block length and 1,024 bytes together.
     CapacityTooSmall,
     /// The record's length is none of its file's shape.
     RecordLength,

@@ -40,9 +40,9 @@ impl<T: TapeOut + Drop> SetWriter<T> {
     ///
     /// `Failed` and `Finished`, `FileBegun` inside a file; `BadField` where a field of the head but
     /// its set identifier holds a byte that is no a-character; `BadShape` where blocks of this
-    /// shape are not written; `CapacityTooSmall` where the capacity is less than 1,024 bytes and
-    /// the block length; `TooMany` for the 10,000th file; these leave all as it was. Then, as they
-    /// come, `OutOfMemory` and `Device`.
+    /// shape are not written; `CapacityTooSmall` where the capacity is less than the block length
+    /// and 1,024 bytes together; `TooMany` for the 10,000th file; these leave all as it was. Then,
+    /// as they come, `OutOfMemory` and `Device`.
     #[tactic(auto, using(crate::proofs::Last::lasting_self, crate::proofs::Calls::leaves_failed))]
     pub fn begin_file(&mut self, head: Head1, shape: Shape) -> Result<(), WriteFault>
         ensures same { SameSet self.old self.new }
