@@ -17,7 +17,7 @@ use Rattle.tape_run.specs.declared.fault.RunFault.TheVariants.{Sink, NoSuchPoint
 use Rattle.tape_run.specs.declared.fault.RunFault.TheVariants.{OutOfMemory, OtherFile}
 use Rattle.tape_run.specs.Seen.{Seen, AreNotes, IsKept}
 use Rattle.tape_run.specs.History.{Course, course, course_of}
-use Rattle.tape_run.specs.Headline.{Ran, HasStopped, Stops, PutRefused, reels_in}
+use Rattle.tape_run.specs.Headline.{Ran, HasStopped, StopsStep, PutRefused, reels_in}
 use Rattle.tape_run.specs.Steps.{StoppedBy, CutShort, Unmoved, ReelFails, SaveFails, RestartFails}
 use Rattle.tape_run.specs.Runs.{RunsUpTo, Fails}
 use Rattle.tape_blocks.specs.Block.{Portion}
@@ -82,7 +82,7 @@ put_refused set old mid new hs bytes c l r xs end stop h b m =
 reel_stops : (set : FileSet) (old mid new : Seen) (hs : List Happening) (b : List ℕ)
     (bs : List (List ℕ)) (fault : RunFault)
     → ReelFails b fault mid new → IsLawful set → Ran set old hs mid
-    → Stops set old hs Reel (b ∷ bs) fault new
+    → StopsStep set old hs Reel (b ∷ bs) fault new
 reel_stops set old mid new hs b bs (Sink cause) h l r = put_refused set old mid new hs b h l r
 reel_stops set old mid new hs b bs NoSuchPoint h l r = absurd h
 reel_stops set old mid new hs b bs TooFewReels h l r = absurd h
@@ -91,7 +91,7 @@ reel_stops set old mid new hs b bs OtherFile h l r = absurd h
 
 save_stops : (set : FileSet) (old mid new : Seen) (hs : List Happening) (bs : List (List ℕ))
     (fault : RunFault)
-    → SaveFails fault mid new → Ran set old hs mid → Stops set old hs Save bs fault new
+    → SaveFails fault mid new → Ran set old hs mid → StopsStep set old hs Save bs fault new
 save_stops set old mid new hs bs (Sink cause) h r = stayed set old mid new hs h.0 r
 save_stops set old mid new hs bs NoSuchPoint h r = absurd h
 save_stops set old mid new hs bs TooFewReels h r = absurd h
@@ -112,7 +112,7 @@ noted_positions set old mid hs n le r =
 
 restart_stops : (set : FileSet) (old mid new : Seen) (hs : List Happening)
     (n : ℕ) (bs : List (List ℕ)) (fault : RunFault)
-    → RestartFails n fault mid new → Ran set old hs mid → Stops set old hs (Restart n) bs fault new
+    → RestartFails n fault mid new → Ran set old hs mid → StopsStep set old hs (Restart n) bs fault new
 restart_stops set old mid new hs n bs (Sink cause) h r = stayed set old mid new hs h.0 r
 restart_stops set old mid new hs n bs NoSuchPoint (le, e) r =
     (noted_positions set old mid hs n le r, same_there set old mid new hs e r)
@@ -207,9 +207,9 @@ fails_count (Restart n) bs fault mid new h = restart_count n fault mid new h
 
 fails_stops : (step : Step) (bs : List (List ℕ)) (fault : RunFault) (set : FileSet)
     (old mid new : Seen) (hs : List Happening) → Fails step (map Some bs) fault mid new
-    → IsLawful set → Ran set old hs mid → Stops set old hs step bs fault new
+    → IsLawful set → Ran set old hs mid → StopsStep set old hs step bs fault new
 fails_stops Reel [] fault set old mid new hs (is, same) l r =
-    subst (λ (z : RunFault). Stops set old hs Reel [] z new) (sym is)
+    subst (λ (z : RunFault). StopsStep set old hs Reel [] z new) (sym is)
     (same_there set old mid new hs same r)
 fails_stops Reel (b ∷ bs) fault set old mid new hs h l r =
     reel_stops set old mid new hs b bs fault h l r

@@ -26,7 +26,7 @@ use Rattle.tape_run.specs.declared.script.Step.TheVariants.{Reel, Save, Restart}
 use Rattle.tape_run.specs.Crash.{IsOf, LastAlone}
 use Rattle.tape_run.specs.Given.{IsGiven}
 use Rattle.tape_run.specs.History.{course_of, IsHistory}
-use Rattle.tape_run.specs.Headline.{HasStopped, Stops}
+use Rattle.tape_run.specs.Headline.{HasStopped, StopsStep}
 use Rattle.tape_run.specs.Lives.{IsPlaceOf}
 use Rattle.tape_run.specs.Mount.{Happening, foreign_reel, reads, IsMount}
 use Rattle.tape_run.specs.Runs.{Runs, RunsUpTo, Fails}
@@ -234,9 +234,9 @@ stopped_so : (old new : Seen) (a b c : List ℕ) (fault : RunFault) (set : FileS
     (hs : List Happening)
     (s : HasStopped old (Reel ∷ Reel ∷ Save ∷ Reel ∷ []) (a ∷ b ∷ c ∷ []) 2 fault new)
     → IsLawful set → IsHistory set (length old.notes) (Reel ∷ Reel ∷ []) s.given hs
-    → IsSession set old → Stops set old hs Save (c ∷ []) fault new
+    → IsSession set old → StopsStep set old hs Save (c ∷ []) fault new
 stopped_so old new a b c fault set hs s lawful history is =
-    subst (λ z. Stops set old hs z (c ∷ []) fault new) (step_is Save s.step s.at)
+    subst (λ z. StopsStep set old hs z (c ∷ []) fault new) (step_is Save s.step s.at)
     (s.stops set hs lawful history is)
 
 pub cases_of_stops : CasesOfStops

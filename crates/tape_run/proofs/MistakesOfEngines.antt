@@ -14,7 +14,7 @@ use Rattle.tape_run.specs.declared.section.ImageLine.{ImageLine}
 use Rattle.tape_run.specs.Lacks.{found_all}
 use Rattle.tape_run.specs.Passing.{Told}
 use Rattle.tape_run.specs.CheckLine.{image_lines}
-use Rattle.tape_run.specs.Checked.{Reel, IsReel, AreRead, Reports, IsReport, summary}
+use Rattle.tape_run.specs.Checked.{Reel, IsReel, AddsImages, Reports, IsReport, summary}
 use Rattle.tape_run.specs.ReelLine.{reel_lines, last_line}
 use Rattle.tape_run.specs.Reeling.{Turn, answer_of, AreTurns, Follows, IsKeptFor, goes_back}
 use Rattle.tape_run.specs.Reeling.{Mounting, IsTurn}
@@ -160,7 +160,7 @@ session_taken_back_at_the_end S R L W P LS LR LL LW LP g d g' d' h e m n w f p i
 
 -- the report of an image that was not opened
 report_of_none : (lines : List (Option ImageLine)) (sections : List Told)
-    → AreRead (None ∷ []) lines [] sections → (lines ≡ None ∷ []) × (sections ≡ [])
+    → AddsImages (None ∷ []) lines [] sections → (lines ≡ None ∷ []) × (sections ≡ [])
 report_of_none [] sections h = absurd h
 report_of_none (None ∷ []) sections h = (refl, h.2 ∙ h.1)
 report_of_none (None ∷ line ∷ lines) sections h = absurd h.2

@@ -5,7 +5,7 @@ use Rattle.tape_run.specs.declared.section.ImageLine.{ImageLine}
 use Rattle.tape_run.specs.declared.section.SectionKey.{SectionKey}
 use Rattle.tape_run.specs.declared.passing.Phase.TheVariants.{Volume}
 use Rattle.tape_run.specs.Added.{Adds, AddsInPart}
-use Rattle.tape_run.specs.Checked.{Reel, IsRead, AreRead}
+use Rattle.tape_run.specs.Checked.{Reel, AddsImage, AddsImages}
 use Rattle.tape_run.specs.Noted.{same_key, better, noted, noted_all}
 use Rattle.tape_run.specs.OneEntry.{AreOthers, HasOneEach, OneEntryASection}
 use Rattle.tape_run.specs.Passing.{Told, told_from, met_in}
@@ -58,7 +58,7 @@ in_part before old new one a =
     subst HasOneEach (sym a.noted) (all_noted old (told_from Volume a.items) one)
 
 one_read : (reel : Reel) (line : Option ImageLine) (c d : List Told) → HasOneEach c
-    → IsRead reel line c d
+    → AddsImage reel line c d
     → HasOneEach d
 one_read None None c d one is = subst HasOneEach (sym is) one
 one_read None (Some line) c d one is = absurd is
@@ -66,7 +66,7 @@ one_read (Some before) None c d one is = absurd is
 one_read (Some before) (Some line) c d one (after, adds) = added before after c d line one adds
 
 all_read : (reels : List Reel) (lines : List (Option ImageLine)) (c d : List Told) → HasOneEach c
-    → AreRead reels lines c d
+    → AddsImages reels lines c d
     → HasOneEach d
 all_read [] [] c d one are = subst HasOneEach (sym are) one
 all_read [] (line ∷ lines) c d one are = absurd are

@@ -14,8 +14,8 @@ use Rattle.tape_run.specs.declared.section.Lack.{Lack}
 use Rattle.tape_run.specs.Passing.{Told}
 use Rattle.tape_run.specs.Lacks.{line_of, lacks, found_all}
 use Rattle.tape_run.specs.CheckLine.{image_line, image_lines}
-use Rattle.tape_run.specs.Checked.{Reel, IsReel, IsRead, AreRead, summary, summary_of, Reports}
-use Rattle.tape_run.specs.Checked.{summary_behind, ReportsInPart, Tells, TellsAll, StopsAt}
+use Rattle.tape_run.specs.Checked.{Reel, IsReel, AddsImage, AddsImages, summary, summary_of, Reports}
+use Rattle.tape_run.specs.Checked.{summary_behind, ReportsInPart, TellsImage, TellsImages, StopsAtImage}
 use Rattle.tape_image.specs.Written.{AppendsFront}
 use Rattle.tape_run.specs.Reeling.{Mounting, AreMounted}
 use Rattle.tape_run.proofs.Turns.{one_mounted}
@@ -44,9 +44,9 @@ image_lines-more n (l ∷ lines) line =
 
 -- one more image was read
 read_more : (reels : List Reel) (lines : List (Option ImageLine)) (c mid d : List Told)
-    (reel : Reel) (line : Option ImageLine) → AreRead reels lines c mid → IsRead reel line mid d
-    → AreRead (reels ++ reel ∷ []) (lines ++ line ∷ []) c d
-read_more [] [] c mid d reel line read one = (d, subst (λ m. IsRead reel line m d) read one, refl)
+    (reel : Reel) (line : Option ImageLine) → AddsImages reels lines c mid → AddsImage reel line mid d
+    → AddsImages (reels ++ reel ∷ []) (lines ++ line ∷ []) c d
+read_more [] [] c mid d reel line read one = (d, subst (λ m. AddsImage reel line m d) read one, refl)
 read_more [] (l ∷ lines) c mid d reel line read one = absurd read
 read_more (r ∷ reels) [] c mid d reel line read one = absurd read
 read_more (r ∷ reels) (l ∷ lines) c mid d reel line read one =
@@ -54,7 +54,7 @@ read_more (r ∷ reels) (l ∷ lines) c mid d reel line read one =
 
 -- each image has a line
 as_many : (reels : List Reel) (lines : List (Option ImageLine)) (c d : List Told)
-    → AreRead reels lines c d → length lines ≡ length reels
+    → AddsImages reels lines c d → length lines ≡ length reels
 as_many [] [] c d read = refl
 as_many [] (l ∷ lines) c d read = absurd read
 as_many (r ∷ reels) [] c d read = absurd read
@@ -67,7 +67,7 @@ pub record ReadSoFar {L R : Type 0} (gives : Mounting L R) (remaining : R → Op
   pub counted : length reels ≡ number
   pub mounted : AreMounted gives (IsReel remaining) shelf 0 reels now
   pub lines : List (Option ImageLine)
-  pub read : AreRead reels lines [] d
+  pub read : AddsImages reels lines [] d
   pub wrote : Appends old new (image_lines 1 lines)
 
 pub starts : {L R : Type 0} (gives : Mounting L R) (remaining : R → Option (List ℕ)) (shelf : L)
@@ -83,7 +83,7 @@ starts gives remaining shelf d w none = record {
 
 -- the lines of the images up to a place and of the next
 one_line : (reels : List Reel) (lines : List (Option ImageLine)) (line : Option ImageLine)
-    (place : ℕ) (d : List Told) → AreRead reels lines [] d → length reels ≡ place
+    (place : ℕ) (d : List Told) → AddsImages reels lines [] d → length reels ≡ place
     → image_lines 1 (lines ++ line ∷ []) ≡ image_lines 1 lines ++ image_line (place + 1) line
 one_line reels lines line place d read counted =
     let number : 1 + length lines ≡ place + 1 =
@@ -104,7 +104,7 @@ mounted_next gives remaining shelf now next number reels image are counted gave 
 pub one_more : {L R : Type 0} (gives : Mounting L R) (remaining : R → Option (List ℕ))
     (shelf now next : L) (number : ℕ) (mid d : List Told) (old w new : Option (List ℕ))
     (image : Option R) → ReadSoFar gives remaining shelf now number mid old w
-    → gives now number image next → Tells (option_map remaining image) (number + 1) mid d w new
+    → gives now number image next → TellsImage (option_map remaining image) (number + 1) mid d w new
     → ReadSoFar gives remaining shelf next (number + 1) d old new
 one_more gives remaining shelf now next number mid d old w new image s gave told =
     let line = told.0 in
@@ -149,7 +149,7 @@ pub stops_at : {L R : Type 0} (size : L → ℕ) (gives : Mounting L R)
     (remaining : R → Option (List ℕ)) (shelf now next : L) (number : ℕ) (mid : List Told)
     (old w new : Option (List ℕ)) (image : Option R) → number < size shelf
     → ReadSoFar gives remaining shelf now number mid old w → gives now number image next
-    → StopsAt (option_map remaining image) (number + 1) mid w new
+    → StopsAtImage (option_map remaining image) (number + 1) mid w new
     → ReportsInPart size gives remaining shelf next old new
 stops_at size gives remaining shelf now next number mid old w new image within s gave (inl none) =
     let lines = image_lines 1 s.lines in
@@ -204,7 +204,7 @@ stops_at size gives remaining shelf now next number mid old w new image within s
 pub reported : {L R : Type 0} (size : L → ℕ) (gives : Mounting L R)
     (remaining : R → Option (List ℕ)) (shelf left : L) (d : List Told)
     (old mid new : Option (List ℕ)) (found : Bool)
-    → TellsAll size gives remaining shelf left d old mid → found ≡ found_all d
+    → TellsImages size gives remaining shelf left d old mid → found ≡ found_all d
     → Appends mid new (summary d) → Reports size gives remaining shelf left old new found
 reported size gives remaining shelf left d old mid new found told is wrote = record {
   reels = told.reels;
@@ -219,7 +219,7 @@ reported size gives remaining shelf left d old mid new found told is wrote = rec
 -- a front of the summary was
 pub reported_in_part : {L R : Type 0} (size : L → ℕ) (gives : Mounting L R)
     (remaining : R → Option (List ℕ)) (shelf left : L) (d : List Told)
-    (old mid new : Option (List ℕ)) → TellsAll size gives remaining shelf left d old mid
+    (old mid new : Option (List ℕ)) → TellsImages size gives remaining shelf left d old mid
     → AppendsFront mid new (summary d) → ReportsInPart size gives remaining shelf left old new
 reported_in_part size gives remaining shelf left d old mid new told part =
     let lines = image_lines 1 told.lines in

@@ -15,7 +15,7 @@ use Rattle.tape_run.specs.declared.survey.view.Sight.{Sight}
 use Rattle.tape_run.specs.Lacks.{SetFiles}
 use Rattle.tape_image.specs.Written.{AppendsFront}
 use Rattle.tape_run.specs.Reeling.{Mounting}
-use Rattle.tape_run.specs.Survey.{image_texts, Tells, TellsAll, StopsAt, Surveys, SurveysInPart}
+use Rattle.tape_run.specs.Survey.{image_texts, TellsSight, TellsSights, StopsAtSight, Surveys, SurveysInPart}
 use Rattle.tape_run.specs.Survey.{summary_at}
 use Rattle.tape_run.specs.SurveyFiles.{Filed, any_differs}
 use Rattle.tape_run.specs.SurveyWording.{image_text, file_text, file_texts, set_text, set_texts}
@@ -182,7 +182,7 @@ pub tells_more : {L R : Type 0} (y : Wording) (gives : Mounting L R)
     → number < length names → name ≡ get_or names number []
     → ToldSoFar y gives remaining names shelf left number mid old w
     → gives left number image next
-    → Tells y (Rattle.std.specs.Prelude.option_map remaining image) name mid d w new
+    → TellsSight y (Rattle.std.specs.Prelude.option_map remaining image) name mid d w new
     → ToldSoFar y gives remaining names shelf next (number + 1) d old new
 tells_more y gives remaining names shelf left next number mid d old w new image name within is s g
     (sight, viewed, wrote) =
@@ -242,7 +242,7 @@ pub stops_at : {L R : Type 0} (y : Wording) (gives : Mounting L R)
     → number < length names → name ≡ get_or names number []
     → ToldSoFar y gives remaining names shelf left number mid old w
     → gives left number image next
-    → StopsAt y (Rattle.std.specs.Prelude.option_map remaining image) name mid w new
+    → StopsAtSight y (Rattle.std.specs.Prelude.option_map remaining image) name mid w new
     → SurveysInPart y gives remaining names shelf old new
 stops_at y gives remaining names shelf left next number mid old w new image name within is s g
     (inl none) =
@@ -269,7 +269,7 @@ pub tells_all : {L R : Type 0} (y : Wording) (gives : Mounting L R)
     (remaining : R → Option (List ℕ))
     (names : List (List ℕ)) (shelf left : L) (number : ℕ) (d : Found) (old new : Option (List ℕ))
     → number ≡ length names → ToldSoFar y gives remaining names shelf left number d old new
-    → TellsAll y gives remaining names shelf left d old new
+    → TellsSights y gives remaining names shelf left d old new
 tells_all y gives remaining names shelf left number d old new all s = record {
   sights = s.sights;
   each = s.counted ∙ all;
@@ -281,7 +281,7 @@ tells_all y gives remaining names shelf left number d old new all s = record {
 pub surveyed : {L R : Type 0} (y : Wording) (gives : Mounting L R)
     (remaining : R → Option (List ℕ))
     (names : List (List ℕ)) (shelf left : L) (d : Found) (old w new : Option (List ℕ)) (all : Bool)
-    → TellsAll y gives remaining names shelf left d old w → all ≡ is_all d
+    → TellsSights y gives remaining names shelf left d old w → all ≡ is_all d
     → Appends w new (summary y d) → Surveys y gives remaining names shelf left old new all
 surveyed y gives remaining names shelf left d old w new all s is wrote = record {
   sights = s.sights;
@@ -296,7 +296,7 @@ surveyed y gives remaining names shelf left d old w new all s is wrote = record 
 pub surveyed_in_part : {L R : Type 0} (y : Wording) (gives : Mounting L R)
     (remaining : R → Option (List ℕ))
     (names : List (List ℕ)) (shelf left : L) (d : Found) (old w new : Option (List ℕ))
-    → TellsAll y gives remaining names shelf left d old w → AppendsFront w new (summary y d)
+    → TellsSights y gives remaining names shelf left d old w → AppendsFront w new (summary y d)
     → SurveysInPart y gives remaining names shelf old new
 surveyed_in_part y gives remaining names shelf left d old w new s part = record {
   sights = s.sights;

@@ -18,13 +18,13 @@ use Rattle.tape_run.proofs.KeepingPlaces.{one_key, none_stands}
 use Rattle.tape_run.proofs.WholeCopies.{whole_copies}
 use Rattle.tape_run.proofs.WholeSets.{whole_set, all_found}
 use Rattle.tape_run.specs.CheckLine.{image_lines, section_line, found_line}
-use Rattle.tape_run.specs.Checked.{Reel, AreRead, summary_of}
+use Rattle.tape_run.specs.Checked.{Reel, AddsImages, summary_of}
 use Rattle.tape_run.specs.WholeReels.{AreWholeCopies, IsListedGood, WholeSetIsTold}
 use Rattle.tape_run.specs.WholeReels.{IsShownOn, GoodWasSeen}
 
 -- behind whole copies the catalogue is the one that they make
 copies_read : (set : FileSet) (reels : List Reel) (lines : List (Option ImageLine)) (ks : List ℕ)
-    (c d : List Told) → AreRead reels lines c d → AreWholeCopies set reels lines ks
+    (c d : List Told) → AddsImages reels lines c d → AreWholeCopies set reels lines ks
     → d ≡ behind_copies set c ks
 copies_read set [] [] [] c d read whole = read
 copies_read set [] [] (k ∷ ks) c d read whole = absurd whole
@@ -139,7 +139,7 @@ shown_behind reel reels told s = record {
 
 -- what is good behind images was so before, or one of them shows it
 seen : (reels : List Reel) (lines : List (Option ImageLine)) (c d : List Told) (told : Told)
-    → AreRead reels lines c d → StandsIn d told → told.1.state ≡ Good
+    → AddsImages reels lines c d → StandsIn d told → told.1.state ≡ Good
     → StandsIn c told ⊎ IsShownOn reels told
 seen [] [] c d told read stands good = inl (subst (λ l. StandsIn l told) read stands)
 seen [] (l ∷ lines) c d told read stands good = absurd read

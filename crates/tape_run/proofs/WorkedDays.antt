@@ -23,7 +23,7 @@ use Rattle.tape_run.specs.declared.script.Step.TheVariants.{Reel}
 use Rattle.tape_run.specs.Mount.{Happening, IsMountOf, reads, cut}
 use Rattle.tape_run.specs.History.{Course, course, course_of, IsHistory}
 use Rattle.tape_run.specs.Given.{AreGivenBy, failed_of, counted_up}
-use Rattle.tape_run.specs.Headline.{begins, IsStart, IsRead, HasRun, HasStopped, Stops}
+use Rattle.tape_run.specs.Headline.{begins, IsStart, IsRead, HasRun, HasStopped, StopsStep}
 use Rattle.tape_run.specs.Lives.{IsResumed}
 use Rattle.tape_run.specs.Seen.{Seen, IsSession}
 use Rattle.tape_run.specs.WorkedHistory.{worked_set, section_1, section_2, first, reel_1, reading}
@@ -169,9 +169,9 @@ step_is step e = cc
 -- the one step was not made
 at_first : (old mid : Seen) (n : ℕ) (cause : SinkFault)
     → HasStopped old (Reel ∷ []) (reel_1 ∷ []) n (Sink cause) mid → IsSession worked_set old
-    → Stops worked_set old [] Reel (reel_1 ∷ []) (Sink cause) mid
+    → StopsStep worked_set old [] Reel (reel_1 ∷ []) (Sink cause) mid
 at_first old mid zero cause halt fresh =
-    subst (λ z. Stops worked_set old [] z (reel_1 ∷ []) (Sink cause) mid)
+    subst (λ z. StopsStep worked_set old [] z (reel_1 ∷ []) (Sink cause) mid)
     (sym (step_is halt.step halt.at)) (halt.stops worked_set [] is_lawful tt fresh)
 at_first old mid (suc n) cause halt fresh =
     absurd (omega (arith, slice_get_within (Reel ∷ []) (suc n) halt.step halt.at))

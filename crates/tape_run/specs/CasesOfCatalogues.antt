@@ -27,8 +27,8 @@ use Rattle.tape_run.specs.declared.section.SectionState.TheVariants.{Good, Bad, 
 use Rattle.tape_run.specs.Added.{Adds, StopsBehind}
 use Rattle.tape_run.specs.Cases.{on_one_volume}
 use Rattle.tape_run.specs.CheckLine.{image_line, image_lines, section_line, found_line}
-use Rattle.tape_run.specs.Checked.{Reel, IsReel, IsRead, AreRead, IsReport, ReportsInPart}
-use Rattle.tape_run.specs.Checked.{IsCheckFault, summary, summary_behind, Tells, Reports}
+use Rattle.tape_run.specs.Checked.{Reel, IsReel, AddsImage, AddsImages, IsReport, ReportsInPart}
+use Rattle.tape_run.specs.Checked.{IsCheckFault, summary, summary_behind, TellsImage, Reports}
 use Rattle.tape_run.specs.Lacks.{IsFirstLack, IsFoundWhole, IsGoodAt, lacks, found_all, key_at}
 use Rattle.tape_run.specs.Lacks.{line_of, good_end, entry_at}
 use Rattle.tape_run.specs.Noted.{noted, noted_all, KeepsPlaces, GoodIsShown}
@@ -160,16 +160,16 @@ pub record CasesOfCopies : Type 0 where
 pub record CasesOfReports : Type 0 where
   -- what is reported is what was read, and found is what the sections tell
   pub report : (reels : List Reel) (text : List ℕ) (found : Bool) (r : IsReport reels text found)
-      → AreRead reels r.lines [] r.sections
+      → AddsImages reels r.lines [] r.sections
       × (text ≡ image_lines 1 r.lines ++ summary r.sections) × (found ≡ found_all r.sections)
   -- each image has a line, and one that was not opened another than one that was
-  pub a_line_each : (reel : Reel) (c d : List Told) → AreRead (reel ∷ []) [] c d → ⊥
-  pub no_more_lines : (line : Option ImageLine) (c d : List Told) → AreRead [] (line ∷ []) c d → ⊥
-  pub not_opened : (line : ImageLine) (c d : List Told) → IsRead None (Some line) c d → ⊥
-  pub opened : (before : Option (List ℕ)) (c d : List Told) → IsRead (Some before) None c d → ⊥
-  pub unopened_adds_none : (c d : List Told) → IsRead None None c d → d ≡ c
+  pub a_line_each : (reel : Reel) (c d : List Told) → AddsImages (reel ∷ []) [] c d → ⊥
+  pub no_more_lines : (line : Option ImageLine) (c d : List Told) → AddsImages [] (line ∷ []) c d → ⊥
+  pub not_opened : (line : ImageLine) (c d : List Told) → AddsImage None (Some line) c d → ⊥
+  pub opened : (before : Option (List ℕ)) (c d : List Told) → AddsImage (Some before) None c d → ⊥
+  pub unopened_adds_none : (c d : List Told) → AddsImage None None c d → d ≡ c
   pub tells : (reel : Reel) (c d : List Told) (old new : Option (List ℕ))
-      (t : Tells reel 2 c d old new) → IsRead reel t.0 c d × Appends old new (image_line 2 t.0)
+      (t : TellsImage reel 2 c d old new) → AddsImage reel t.0 c d × Appends old new (image_line 2 t.0)
   -- readers in a list are the images, each in its place
   pub all_mounted : (a b : Option (Option (List ℕ))) (left : List (Option (Option (List ℕ))))
       (old new : Option (List ℕ)) (found : Bool)
@@ -183,7 +183,7 @@ pub record CasesOfReports : Type 0 where
       (old new : Option (List ℕ))
       (r : ReportsInPart length Took (λ x. x) (a ∷ b ∷ []) left old new)
       → (length r.first + r.unread ≡ 2) × (length r.more ≤ 1) × (length r.more ≤ r.unread)
-      × AreRead r.first r.lines [] r.sections
+      × AddsImages r.first r.lines [] r.sections
   pub first_mounted : (a b : Option (Option (List ℕ))) (left : List (Option (Option (List ℕ))))
       → AreMounted Took (IsReel (λ x. x)) (a ∷ b ∷ []) 0 (a ∷ []) left → left ≡ None ∷ b ∷ []
   -- no other fault than a failed write, or want of memory

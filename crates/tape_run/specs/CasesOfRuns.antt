@@ -12,7 +12,7 @@ use Rattle.tape_run.specs.declared.fault.RunFault.TheVariants.{Sink, NoSuchPoint
 use Rattle.tape_run.specs.declared.fault.RunFault.TheVariants.{OutOfMemory, OtherFile}
 use Rattle.tape_run.specs.declared.script.Step.TheVariants.{Reel, Save, Restart}
 use Rattle.tape_run.specs.Given.{AreGivenBy, counted_up, failed_of}
-use Rattle.tape_run.specs.Headline.{Ran, PutRefused, Stops, HasStopped, LosesParts, reels_in}
+use Rattle.tape_run.specs.Headline.{Ran, PutRefused, StopsStep, HasStopped, LosesParts, reels_in}
 use Rattle.tape_run.specs.History.{IsHistory, course, course_of}
 use Rattle.tape_run.specs.Mount.{Happening, after_mount, cut}
 use Rattle.tape_run.specs.Seen.{Seen, IsSession}
@@ -21,28 +21,28 @@ use Rattle.tape_run.specs.Seen.{Seen, IsSession}
 pub record CasesOfStops : Type 0 where
   -- a step is not made for no other reason than it can have
   pub saves_stop : (set : FileSet) (old new : Seen) (hs : List Happening)
-      (readers : List (List ℕ)) → (Stops set old hs Save readers NoSuchPoint new → ⊥)
-      × (Stops set old hs Save readers TooFewReels new → ⊥)
-      × (Stops set old hs Save readers OtherFile new → ⊥)
-      × (Stops set old hs Save readers OutOfMemory new → Ran set old hs new)
+      (readers : List (List ℕ)) → (StopsStep set old hs Save readers NoSuchPoint new → ⊥)
+      × (StopsStep set old hs Save readers TooFewReels new → ⊥)
+      × (StopsStep set old hs Save readers OtherFile new → ⊥)
+      × (StopsStep set old hs Save readers OutOfMemory new → Ran set old hs new)
   pub reels_stop : (set : FileSet) (old new : Seen) (hs : List Happening) (b : List ℕ)
-      (readers : List (List ℕ)) → (Stops set old hs Reel (b ∷ readers) TooFewReels new → ⊥)
-      × (Stops set old hs Reel (b ∷ readers) NoSuchPoint new → ⊥)
-      × (Stops set old hs Reel (b ∷ readers) OtherFile new → ⊥)
-      × (Stops set old hs Reel (b ∷ readers) OutOfMemory new → Ran set old hs new)
+      (readers : List (List ℕ)) → (StopsStep set old hs Reel (b ∷ readers) TooFewReels new → ⊥)
+      × (StopsStep set old hs Reel (b ∷ readers) NoSuchPoint new → ⊥)
+      × (StopsStep set old hs Reel (b ∷ readers) OtherFile new → ⊥)
+      × (StopsStep set old hs Reel (b ∷ readers) OutOfMemory new → Ran set old hs new)
   pub no_reels_stop : (set : FileSet) (old new : Seen) (hs : List Happening) (cause : SinkFault)
-      → (Stops set old hs Reel [] OutOfMemory new → ⊥)
-      × (Stops set old hs Reel [] (Sink cause) new → ⊥)
-      × (Stops set old hs Reel [] TooFewReels new → Ran set old hs new)
+      → (StopsStep set old hs Reel [] OutOfMemory new → ⊥)
+      × (StopsStep set old hs Reel [] (Sink cause) new → ⊥)
+      × (StopsStep set old hs Reel [] TooFewReels new → Ran set old hs new)
   pub restarts_stop : (set : FileSet) (old new : Seen) (hs : List Happening)
-      (readers : List (List ℕ)) (n : ℕ) → (Stops set old hs (Restart n) readers NoSuchPoint new
+      (readers : List (List ℕ)) (n : ℕ) → (StopsStep set old hs (Restart n) readers NoSuchPoint new
       → (length (course set old.place.file (course_of old) hs).notes ≤ n) × Ran set old hs new)
-      × (Stops set old hs (Restart n) readers OutOfMemory new → ⊥)
-      × (Stops set old hs (Restart n) readers TooFewReels new → ⊥)
+      × (StopsStep set old hs (Restart n) readers OutOfMemory new → ⊥)
+      × (StopsStep set old hs (Restart n) readers TooFewReels new → ⊥)
   pub sinks_stop : (set : FileSet) (old new : Seen) (hs : List Happening)
       (readers : List (List ℕ)) (cause : SinkFault)
-      → (Stops set old hs Save readers (Sink cause) new → Ran set old hs new)
-      × (Stops set old hs (Restart 0) readers (Sink cause) new → Ran set old hs new)
+      → (StopsStep set old hs Save readers (Sink cause) new → Ran set old hs new)
+      × (StopsStep set old hs (Restart 0) readers (Sink cause) new → Ran set old hs new)
   -- a refused part: the sink holds just what lies before it, in a block that stands where the items
   -- before it lead
   pub part_refused : (set : FileSet) (old new : Seen) (hs : List Happening) (xs : List TapeItem)
@@ -65,7 +65,7 @@ pub record CasesOfStops : Type 0 where
       (set : FileSet) (hs : List Happening)
       (s : HasStopped old (Reel ∷ Reel ∷ Save ∷ Reel ∷ []) (a ∷ b ∷ c ∷ []) 2 fault new)
       → IsLawful set → IsHistory set (length old.notes) (Reel ∷ Reel ∷ []) s.given hs
-      → IsSession set old → Stops set old hs Save (c ∷ []) fault new
+      → IsSession set old → StopsStep set old hs Save (c ∷ []) fault new
   pub nothing_stops_none : (old new : Seen) (bytes : List (List ℕ)) (n : ℕ) (fault : RunFault)
       → HasStopped old [] bytes n fault new → ⊥
   -- readers are counted

@@ -49,7 +49,7 @@ use Rattle.tape_run.specs.SurveyRows.{section_row, sight_cells, eof_cell, standi
 use Rattle.tape_run.specs.SurveyRows.{mixed_cell}
 use Rattle.tape_run.specs.SurveyRead.{Found, nothing_found, is_whole_sight, IsViewed, AreViewed}
 use Rattle.tape_run.specs.SurveySets.{standing_of, is_all}
-use Rattle.tape_run.specs.Survey.{image_texts, Tells, Surveys, SurveysInPart, summary_at}
+use Rattle.tape_run.specs.Survey.{image_texts, TellsSight, Surveys, SurveysInPart, summary_at}
 
 -- an image that went so far and stopped so, with a file that is not read or without one
 abbrev pub sight : Course → Option ℕ → ImageStop → Sight
@@ -196,7 +196,7 @@ pub record CasesOfSurveys : Type 0 where
       × (d.sections ≡ noted_all c.sections (met_in v.1.items))
       × (d.files ≡ filed_in c.files v.1.items) × (d.whole ≡ (c.whole && is_whole_sight s))
   pub tells : (y : Wording) (reel : Reel) (name : List ℕ) (c d : Found)
-      (old new : Option (List ℕ)) (t : Tells y reel name c d old new) → IsViewed reel t.0 c d
+      (old new : Option (List ℕ)) (t : TellsSight y reel name c d old new) → IsViewed reel t.0 c d
       × Appends old new (image_text y name t.0)
   -- what stands behind the images follows where none is left
   pub summary_last : (y : Wording) (d : Found) → summary_at y true d ≡ summary y d

@@ -27,17 +27,17 @@ IsReel remaining image reel = reel ≡ option_map remaining image
 
 -- An image was read to its end, or to a fault, and its sections were noted in a catalogue; or it
 -- was not opened.
-abbrev pub IsRead : Reel → Option ImageLine → List Told → List Told → Type 0
-IsRead None None c d = d ≡ c
-IsRead (Some before) (Some line) c d = (after : Option (List ℕ)) × Adds before after c line d
-IsRead _ _ c d = ⊥
+abbrev pub AddsImage : Reel → Option ImageLine → List Told → List Told → Type 0
+AddsImage None None c d = d ≡ c
+AddsImage (Some before) (Some line) c d = (after : Option (List ℕ)) × Adds before after c line d
+AddsImage _ _ c d = ⊥
 
 -- the same of images one after another
-abbrev pub AreRead : List Reel → List (Option ImageLine) → List Told → List Told → Type 0
-AreRead [] [] c d = d ≡ c
-AreRead (reel ∷ reels) (line ∷ lines) c d =
-    (mid : List Told) × IsRead reel line c mid × AreRead reels lines mid d
-AreRead _ _ c d = ⊥
+abbrev pub AddsImages : List Reel → List (Option ImageLine) → List Told → List Told → Type 0
+AddsImages [] [] c d = d ≡ c
+AddsImages (reel ∷ reels) (line ∷ lines) c d =
+    (mid : List Told) × AddsImage reel line c mid × AddsImages reels lines mid d
+AddsImages _ _ c d = ⊥
 
 -- the last line, which there is where all was found
 abbrev pub last_line : Bool → List ℕ
@@ -54,34 +54,34 @@ abbrev pub summary : List Told → List ℕ
 summary d = summary_of (map line_of d) (lacks d) (found_all d)
 
 -- the image with this number was read, and its line was written
-abbrev pub Tells : Reel → ℕ → List Told → List Told → Option (List ℕ) → Option (List ℕ) → Type 0
-Tells reel n c d old new =
-    (line : Option ImageLine) × IsRead reel line c d × Appends old new (image_line n line)
+abbrev pub TellsImage : Reel → ℕ → List Told → List Told → Option (List ℕ) → Option (List ℕ) → Type 0
+TellsImage reel n c d old new =
+    (line : Option ImageLine) × AddsImage reel line c d × Appends old new (image_line n line)
 
 -- All images of a shelf were mounted and read, one after another, and their lines were written.
 -- Behind them the catalogue has these sections.
-pub record TellsAll {L R : Type 0} (size : L → ℕ) (gives : Mounting L R)
+pub record TellsImages {L R : Type 0} (size : L → ℕ) (gives : Mounting L R)
     (remaining : R → Option (List ℕ)) (shelf left : L) (sections : List Told)
     (old new : Option (List ℕ)) : Type 0 where
   pub reels : List Reel
   pub mounted : AreMounted gives (IsReel remaining) shelf 0 reels left
   pub all : length reels ≡ size shelf
   pub lines : List (Option ImageLine)
-  pub read : AreRead reels lines [] sections
+  pub read : AddsImages reels lines [] sections
   pub wrote : Appends old new (image_lines 1 lines)
 
 -- At the image with this number a fault came: nothing more was written, or the image was read and a
 -- front of its line was written.
-abbrev pub StopsAt : Reel → ℕ → List Told → Option (List ℕ) → Option (List ℕ) → Type 0
-StopsAt reel n c old new = Appends old new [] ⊎ ((line : Option ImageLine) × (d : List Told)
-    × IsRead reel line c d × AppendsFront old new (image_line n line))
+abbrev pub StopsAtImage : Reel → ℕ → List Told → Option (List ℕ) → Option (List ℕ) → Type 0
+StopsAtImage reel n c old new = Appends old new [] ⊎ ((line : Option ImageLine) × (d : List Told)
+    × AddsImage reel line c d × AppendsFront old new (image_line n line))
 
 -- The text is the report of these images, and tells so whether all was found. Behind the images the
 -- catalogue has these sections.
 pub record IsReport (reels : List Reel) (text : List ℕ) (found : Bool) : Type 0 where
   pub lines : List (Option ImageLine)
   pub sections : List Told
-  pub read : AreRead reels lines [] sections
+  pub read : AddsImages reels lines [] sections
   pub told : text ≡ image_lines 1 lines ++ summary sections
   pub all : found ≡ found_all sections
 
@@ -114,7 +114,7 @@ pub record ReportsInPart {L R : Type 0} (size : L → ℕ) (gives : Mounting L R
   pub few : (length more ≤ 1) × (length more ≤ unread)
   pub lines : List (Option ImageLine)
   pub sections : List Told
-  pub read : AreRead first lines [] sections
+  pub read : AddsImages first lines [] sections
   pub wrote : AppendsFront old new (image_lines 1 lines ++ summary_behind unread sections)
 
 -- a write failed, or there was no memory

@@ -116,18 +116,18 @@ pub record PutRefused (set : FileSet) (old : Seen) (hs : List Happening) (xs : L
 
 -- The step was not made, for this reason, by a session that these happenings brought where it was,
 -- with these readers left: the session is there still, or at a part that the sink refused.
-abbrev pub Stops : FileSet → Seen → List Happening → Step → List (List ℕ) → RunFault → Seen → Type 0
-Stops set old hs Reel [] TooFewReels new = Ran set old hs new
-Stops set old hs Reel (bytes ∷ readers) OutOfMemory new = Ran set old hs new
-Stops set old hs Reel (bytes ∷ readers) (Sink cause) new = (xs : List TapeItem) (end : ℕ)
+abbrev pub StopsStep : FileSet → Seen → List Happening → Step → List (List ℕ) → RunFault → Seen → Type 0
+StopsStep set old hs Reel [] TooFewReels new = Ran set old hs new
+StopsStep set old hs Reel (bytes ∷ readers) OutOfMemory new = Ran set old hs new
+StopsStep set old hs Reel (bytes ∷ readers) (Sink cause) new = (xs : List TapeItem) (end : ℕ)
     (stop : Stop) (h : Happening)
     → Begins 0 bytes xs end stop → IsMount set xs h → PutRefused set old hs xs h new
-Stops set old hs Save readers OutOfMemory new = Ran set old hs new
-Stops set old hs Save readers (Sink cause) new = Ran set old hs new
-Stops set old hs (Restart n) readers NoSuchPoint new =
+StopsStep set old hs Save readers OutOfMemory new = Ran set old hs new
+StopsStep set old hs Save readers (Sink cause) new = Ran set old hs new
+StopsStep set old hs (Restart n) readers NoSuchPoint new =
     (length (course set old.place.file (course_of old) hs).notes ≤ n) × Ran set old hs new
-Stops set old hs (Restart n) readers (Sink cause) new = Ran set old hs new
-Stops set old hs step readers fault new = ⊥
+StopsStep set old hs (Restart n) readers (Sink cause) new = Ran set old hs new
+StopsStep set old hs step readers fault new = ⊥
 
 -- The first n steps were made, and the next one was not: of every lawful set and every history that
 -- the steps made and the bytes given are, the session is where this leads, or at a part that the
@@ -143,6 +143,6 @@ pub record HasStopped (old : Seen) (steps : List Step) (bytes : List (List ℕ))
   pub stops : (set : FileSet) (hs : List Happening) → IsLawful set
       → IsHistory set (length old.notes) (take n steps) given hs
       → IsSession set old
-      → Stops set old hs step (drop (reels_in (take n steps)) bytes) fault new
+      → StopsStep set old hs step (drop (reels_in (take n steps)) bytes) fault new
   pub led : (t : Lead) (reels : List (List TapeItem)) → AreItems given reels → StandsThere t old
       → StopsBy (lead t (take n steps) reels) step (drop (reels_in (take n steps)) bytes) fault new

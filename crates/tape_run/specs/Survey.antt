@@ -19,19 +19,19 @@ image_texts y (name ∷ names) (sight ∷ sights) =
     image_text y name sight ++ image_texts y names sights
 
 -- an image was read, and its line was written
-abbrev pub Tells : Wording → Reel → List ℕ → Found → Found → Option (List ℕ)
+abbrev pub TellsSight : Wording → Reel → List ℕ → Found → Found → Option (List ℕ)
     → Option (List ℕ) → Type 0
-Tells y reel name c d old new =
+TellsSight y reel name c d old new =
     (sight : Option Sight) × IsViewed reel sight c d × Appends old new (image_text y name sight)
 
 -- A fault came at an image: nothing more was written, or the image was read and a front of its line
 -- was written.
-abbrev pub StopsAt : Wording → Reel → List ℕ → Found → Option (List ℕ) → Option (List ℕ) → Type 0
-StopsAt y reel name c old new = Appends old new [] ⊎ ((sight : Option Sight) × (d : Found)
+abbrev pub StopsAtSight : Wording → Reel → List ℕ → Found → Option (List ℕ) → Option (List ℕ) → Type 0
+StopsAtSight y reel name c old new = Appends old new [] ⊎ ((sight : Option Sight) × (d : Found)
     × IsViewed reel sight c d × AppendsFront old new (image_text y name sight))
 
 -- the images of these names were read, and their lines were written
-pub record TellsAll {L R : Type 0} (y : Wording) (gives : Mounting L R)
+pub record TellsSights {L R : Type 0} (y : Wording) (gives : Mounting L R)
     (remaining : R → Option (List ℕ))
     (names : List (List ℕ)) (shelf left : L) (d : Found) (old new : Option (List ℕ)) : Type 0 where
   pub sights : List (Option Sight)

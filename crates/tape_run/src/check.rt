@@ -6,7 +6,7 @@ ghost use Rattle.std.specs.Io.KnownBytes.{Appends};
 ghost use Rattle.tape_run.specs.Passing.{Told};
 ghost use Rattle.tape_run.specs.Lacks.{line_of, lacks, found_all};
 ghost use Rattle.tape_run.specs.CheckLine.{section_line, lack_line};
-ghost use Rattle.tape_run.specs.Checked.{IsRead, Tells, TellsAll, StopsAt, last_line, summary_of};
+ghost use Rattle.tape_run.specs.Checked.{AddsImage, TellsImage, TellsImages, StopsAtImage, last_line, summary_of};
 ghost use Rattle.tape_run.specs.Checked.{summary, Reports, ReportsInPart, IsCheckFault};
 ghost use Rattle.tape_image.specs.Written.{AppendsFront};
 
@@ -58,7 +58,7 @@ fn check_images<R: Read + Drop, L: Shelf<R>, P: Write>(
     report: &mut P,
 ) -> Result<(), EngineFault>
     requires { catalogue.old ≡ [] }
-    ensures ok { OnOk result (TellsAll L.size L.gives R.remaining images.old images.new
+    ensures ok { OnOk result (TellsImages L.size L.gives R.remaining images.old images.new
         catalogue.new (P.contents report.old) (P.contents report.new)) }
     ensures front { OnErr result (ReportsInPart L.size L.gives R.remaining images.old images.new
         (P.contents report.old) (P.contents report.new)) }
@@ -80,9 +80,9 @@ fn check_image<R: Read + Drop, P: Write>(
     number: usize,
     report: &mut P,
 ) -> Result<(), EngineFault>
-    ensures ok { OnOk result (Tells (option_map R.remaining image) number
+    ensures ok { OnOk result (TellsImage (option_map R.remaining image) number
         catalogue.old catalogue.new (P.contents report.old) (P.contents report.new)) }
-    ensures front { OnErr result (StopsAt (option_map R.remaining image) number
+    ensures front { OnErr result (StopsAtImage (option_map R.remaining image) number
         catalogue.old (P.contents report.old) (P.contents report.new)) }
     ensures fault { IfErr result IsCheckFault }
 {
@@ -99,7 +99,7 @@ fn read_image<R: Read + Drop>(
     image: Option<R>,
 ) -> Result<Option<ImageLine>, AllocError>
     ensures { IfOk result (λ met.
-        IsRead (option_map R.remaining image) met catalogue.old catalogue.new) }
+        AddsImage (option_map R.remaining image) met catalogue.old catalogue.new) }
 {
     let Some(mut device) = image else {
         return Ok(None);

@@ -8,7 +8,7 @@ ghost use Rattle.tape_run.specs.SurveyLine.{named, name_text, image_line};
 ghost use Rattle.tape_run.specs.SurveyRead.{nothing_found};
 ghost use Rattle.tape_run.specs.SurveyRows.{image_row};
 ghost use Rattle.tape_run.specs.SurveySets.{is_all, last_text};
-ghost use Rattle.tape_run.specs.Survey.{Tells, TellsAll, StopsAt, Surveys, SurveysInPart};
+ghost use Rattle.tape_run.specs.Survey.{TellsSight, TellsSights, StopsAtSight, Surveys, SurveysInPart};
 
 mod course;
 pub(crate) mod files;
@@ -81,7 +81,7 @@ fn survey_images<R: Read + Drop, L: Shelf<R>, P: Write>(
     report: &mut P,
 ) -> Result<(), EngineFault>
     requires { findings.old ≡ nothing_found }
-    ensures ok { OnOk result (TellsAll wording L.gives R.remaining (map (λ n. n.now) names.now)
+    ensures ok { OnOk result (TellsSights wording L.gives R.remaining (map (λ n. n.now) names.now)
         images.old images.new findings.new (P.contents report.old) (P.contents report.new)) }
     ensures front { OnErr result (SurveysInPart wording L.gives R.remaining
         (map (λ n. n.now) names.now) images.old (P.contents report.old) (P.contents report.new)) }
@@ -105,9 +105,9 @@ fn survey_image<R: Read + Drop, P: Write>(
     wording: Wording,
     report: &mut P,
 ) -> Result<(), EngineFault>
-    ensures ok { OnOk result (Tells wording (option_map R.remaining image) name.now
+    ensures ok { OnOk result (TellsSight wording (option_map R.remaining image) name.now
         findings.old findings.new (P.contents report.old) (P.contents report.new)) }
-    ensures front { OnErr result (StopsAt wording (option_map R.remaining image) name.now
+    ensures front { OnErr result (StopsAtSight wording (option_map R.remaining image) name.now
         findings.old (P.contents report.old) (P.contents report.new)) }
     ensures fault { IfErr result IsCheckFault }
 {
