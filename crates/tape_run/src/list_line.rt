@@ -9,6 +9,7 @@ ghost use Rattle.tape_label.specs.Digits.{digits};
 ghost use Rattle.tape_label.specs.Head1.{HeadFits};
 ghost use Rattle.tape_label.specs.Head2.{Head2Fits};
 ghost use Rattle.tape_label.specs.Trail1.{TrailFits};
+ghost use Rattle.tape_label.specs.Kinds.{identifier};
 ghost use Rattle.tape_label.specs.Labels.{IsLabel};
 ghost use Rattle.tape_blocks.specs.Packing.{longest_block};
 ghost use Rattle.tape_run.specs.ListLine.{item_number, vol1_text, head_text, head1_text};
@@ -163,7 +164,7 @@ fn put_head2(line: &mut Line, kind: Kind, label: &Head2)
     ensures items { line.new.items ≡ line.old.items ++ head2_text kind label.now }
     ensures len { array_vec_len line.new ≤ 63 }
 {
-    put(line, kind.identifier());
+    put(line, identifier(kind));
     put(line, b" ");
     line.push(label.format.letter());
     put(line, b" ");
@@ -172,6 +173,21 @@ fn put_head2(line: &mut Line, kind: Kind, label: &Head2)
     put_number::<5>(line, u64::from(label.rec_len));
     put(line, b" ");
     put_number::<2>(line, u64::from(label.offset));
+}
+
+/// The four characters that name a kind of label.
+fn identifier(kind: Kind) -> &'static [u8; 4]
+    ensures { result.now ≡ identifier kind }
+{
+    match kind {
+        Kind::Vol1 => b"VOL1",
+        Kind::Hdr1 => b"HDR1",
+        Kind::Hdr2 => b"HDR2",
+        Kind::Eof1 => b"EOF1",
+        Kind::Eof2 => b"EOF2",
+        Kind::Eov1 => b"EOV1",
+        Kind::Eov2 => b"EOV2",
+    }
 }
 
 /// A number in exactly W digits.
