@@ -1,7 +1,7 @@
 -- The cases of the words of a command line.
 use Rattle.std.proofs.Common.{◌≡◌, ◌≢◌, ◌≤◌, ◌<◌, ℕ, Bool, true, false, List, [], ◌∷◌, length}
 use Rattle.std.proofs.Common.{Bor, Option, Some, None, refl, sym, ap, ◌∙◌, subst, inl, inr, arith}
-use Rattle.std.proofs.Common.{codes, get_or, lit<, zero, suc, ◌^◌, cond, drop, ne_eqb}
+use Rattle.std.proofs.Common.{codes, get_or, lit<, zero, suc, cond, drop, ne_eqb}
 use Rattle.std.proofs.lemmas.List.Elements.{All-cons, All-nil}
 use Rattle.std.specs.List.{Contains}
 use Rattle.std.specs.Char.{digit_value}
@@ -9,7 +9,7 @@ use Rattle.std.specs.Str.Parse.{IsNumeral, digits_value, without_leading_plus}
 use Rattle.std.proofs.lemmas.Fmt.{decimal_is_IsNumeral}
 use Rattle.std.specs.Prelude.{option_map, IfSome, decimal}
 use Rattle.std.specs.Fmt.{digits}
-use Rattle.clap.specs.Words.{Row, kind_of, one_of}
+use Rattle.clap.specs.Words.{Row, kind_of}
 use Rattle.clap.specs.declared.error.Error.{Error}
 use Rattle.clap.specs.declared.error.kind.ErrorKind.{ErrorKind}
 use Rattle.clap.specs.declared.error.kind.ErrorKind.TheVariants.{OutOfMemory, ValueValidation}
@@ -24,7 +24,7 @@ use Rattle.tape_tool.specs.declared.words.Order.TheVariants as orders
 use Rattle.tape_tool.specs.CasesOfWords.{CasesOfWords, CasesOfOrders, shelf}
 use Rattle.tape_tool.specs.Words.{AsksToExtract, AsksToInit, AsksToUnpack, IsDashOrMore, IsFlag}
 use Rattle.tape_tool.specs.Words.{IsNoExtract, IsNoInit, IsNoSet, IsNoUnpack, IsOrderIn}
-use Rattle.tape_tool.specs.Words.{IsNumber, NamesImages}
+use Rattle.tape_tool.specs.Words.{NamesImages}
 use Rattle.tape_tool.specs.Words.{RefusedFor, is_in_rows, texts_of_one}
 
 abbrev bit : Bool → ℕ
@@ -118,19 +118,6 @@ no_plus (c ∷ text) numeral = ap (λ (b : Bool). drop (cond b 1 0) (c ∷ text)
     (ne_eqb c 43 (λ e. absurd (let d : 36 < 10
     = subst (λ (x : ℕ). digit_value x < 10) e numeral.1.0 in omega (arith, d))))
 
--- a number in its plain digits is one
-plain : (bits n : ℕ) (rows : List Row) (word : List ℕ) → n < 2 ^ bits → n < 2 ^ 64
-    → one_of word rows ≡ Some (decimal n) → IsNumber bits rows word n
-plain bits n rows word fits short is =
-    let numeral = decimal_is_IsNumeral n short in
-    let same = no_plus (decimal n) numeral.0 in (
-      decimal n,
-      is,
-      subst (IsNumeral 10) (sym same) numeral.0,
-      ap (digits_value 10) same ∙ numeral.1,
-      fits,
-    )
-
 pub cases_of_words : CasesOfWords
 unfolding digits
 cases_of_words = record {
@@ -142,7 +129,15 @@ cases_of_words = record {
   plus = (codes "+80", refl, (lit< tt, (lit< tt, (lit< tt, tt))), refl, lit< tt);
   plus_alone = λ n h. sym h.3 ∙ ap value_of (sym (text_is h.1));
   zeros = λ n h. sym h.3 ∙ ap value_of (sym (text_is h.1));
-  plain = plain;
+  plain = λ bits n rows word fits short is.
+      let numeral = decimal_is_IsNumeral n short in
+      let same = no_plus (decimal n) numeral.0 in (
+        decimal n,
+        is,
+        subst (IsNumeral 10) (sym same) numeral.0,
+        ap (digits_value 10) same ∙ numeral.1,
+        fits,
+      );
   given = λ is_given f. f.given refl;
   left_out = λ is_given f. f.left_out refl;
   not_there = λ is_given f. f.none refl;
