@@ -21,7 +21,7 @@ use Rattle.tape_core.proofs.Fronts.{here, far_on, shorter}
 use Rattle.tape_core.proofs.Aim.{Aim}
 
 module _ (aim : Aim) where
-  open aim use {set, l, core, at, sect, block, part, k, w, found, v, vol, good}
+  open aim use {set, l, core, at, sect, block, part, k, w, found, good}
 
   -- all sections are to come
   pub all_among : Among set k core.file (on k (sections set))

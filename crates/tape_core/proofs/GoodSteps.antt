@@ -35,7 +35,7 @@ use Rattle.tape_core.proofs.StraySteps.{stray_first, stray_data, stray_trailer, 
 use Rattle.tape_core.proofs.StraySteps.{stray_next, at_start}
 
 module _ (aim : Aim) where
-  open aim use {set, l, core, sect, block, part, k, w, found, v, vol, good}
+  open aim use {set, l, core, sect, block, part, k, v, vol, good}
 
   -- a good item is what stands next
   as_entry : (e e' : Entry) (phase : Phase) (todo : List Entry) → Left set k good (e' ∷ todo)
@@ -48,8 +48,7 @@ module _ (aim : Aim) where
   -- no section is left
   none_left : (why : Reason) → core.position ≡ here aim → Among set k core.file []
       → Next aim true (useless core why)
-  none_left why wait among = nothing_here aim true why wait
-      (none_to_come aim among)
+  none_left why wait among = nothing_here aim true why wait (none_to_come aim among)
 
   is_volume : IsVolume v
   is_volume =

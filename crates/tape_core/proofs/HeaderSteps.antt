@@ -42,7 +42,7 @@ use Rattle.tape_core.proofs.AwaitedSection.{wanted_at, told, known_cases, on_it,
 use Rattle.tape_core.proofs.AwaitedSection.{on_with}
 
 module _ (aim : Aim) where
-  open aim use {set, l, core, at, sect, block, part, k, w, found, inside, v, vol, good}
+  open aim use {set, core, at, sect, block, part, k, w, inside, good}
 
   abbrev pub Behind : Bool → Phase → Position → Type 0
   Behind g phase position = Follows set core.file sect block part k phase position (good ++ g ∷ [])

@@ -21,7 +21,7 @@ use Rattle.tape_core.proofs.AwaitedSection.{wanted_at, all_among, ahead_inside, 
 use Rattle.tape_core.proofs.StraySteps.{Strays, at_start}
 
 module _ (aim : Aim) where
-  open aim use {set, l, core, sect, block, part, k, w, found, inside, v, vol, good}
+  open aim use {set, core, sect, block, part, k, w, inside, v, good}
 
   ahead_pos : (todo : List Entry) → core.position ≡ here aim → Left set k good todo
       → Ahead aim todo

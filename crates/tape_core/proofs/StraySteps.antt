@@ -37,7 +37,7 @@ use Rattle.tape_core.proofs.AwaitedSection.{ahead_passed}
 use Rattle.tape_core.proofs.HeaderSteps.{Next, passed_next, useless_next, either}
 
 module _ (aim : Aim) where
-  open aim use {set, l, core, sect, block, part, k, w, found, v, vol, good}
+  open aim use {set, l, core, sect, block, part, k, v, vol, good}
 
   abbrev pub Strays : List Bool → (List Entry → Type 0) → Type 0
   Strays gs Barren = Astray set core.file sect block part k gs Barren
@@ -289,8 +289,7 @@ module _ (aim : Aim) where
           whole = append_assoc i.left.done (a_mark ∷ []) rest ∙ i.left.whole;
           count = simp length-append (omega (arith, i.left.count));
           bad = passes_bad good [] i.left.done [] a_mark i.left.count refl;
-          lost = over_bad aim good a_mark rest
-              i.left refl ahead;
+          lost = over_bad aim good a_mark rest i.left refl ahead;
           barren =
               subst (BarrenData heading) (sym flat) (barren_labels heading x.section.trailers _ on);
         }),
