@@ -112,7 +112,8 @@ noted_positions set old mid hs n le r =
 
 restart_stops : (set : FileSet) (old mid new : Seen) (hs : List Happening)
     (n : ℕ) (bs : List (List ℕ)) (fault : RunFault)
-    → RestartFails n fault mid new → Ran set old hs mid → StopsStep set old hs (Restart n) bs fault new
+    → RestartFails n fault mid new → Ran set old hs mid
+    → StopsStep set old hs (Restart n) bs fault new
 restart_stops set old mid new hs n bs (Sink cause) h r = stayed set old mid new hs h.0 r
 restart_stops set old mid new hs n bs NoSuchPoint (le, e) r =
     (noted_positions set old mid hs n le r, same_there set old mid new hs e r)

@@ -14,8 +14,9 @@ use Rattle.tape_run.specs.declared.section.Lack.{Lack}
 use Rattle.tape_run.specs.Passing.{Told}
 use Rattle.tape_run.specs.Lacks.{line_of, lacks, found_all}
 use Rattle.tape_run.specs.CheckLine.{image_line, image_lines}
-use Rattle.tape_run.specs.Checked.{Reel, IsReel, AddsImage, AddsImages, summary, summary_of, Reports}
-use Rattle.tape_run.specs.Checked.{summary_behind, ReportsInPart, TellsImage, TellsImages, StopsAtImage}
+use Rattle.tape_run.specs.Checked.{Reel, IsReel, AddsImage, AddsImages, summary, summary_of}
+use Rattle.tape_run.specs.Checked.{summary_behind, Reports, ReportsInPart, TellsImage}
+use Rattle.tape_run.specs.Checked.{TellsImages, StopsAtImage}
 use Rattle.tape_image.specs.Written.{AppendsFront}
 use Rattle.tape_run.specs.Reeling.{Mounting, AreMounted}
 use Rattle.tape_run.proofs.Turns.{one_mounted}
@@ -44,9 +45,11 @@ image_lines-more n (l ∷ lines) line =
 
 -- one more image was read
 read_more : (reels : List Reel) (lines : List (Option ImageLine)) (c mid d : List Told)
-    (reel : Reel) (line : Option ImageLine) → AddsImages reels lines c mid → AddsImage reel line mid d
+    (reel : Reel) (line : Option ImageLine) → AddsImages reels lines c mid
+    → AddsImage reel line mid d
     → AddsImages (reels ++ reel ∷ []) (lines ++ line ∷ []) c d
-read_more [] [] c mid d reel line read one = (d, subst (λ m. AddsImage reel line m d) read one, refl)
+read_more [] [] c mid d reel line read one =
+    (d, subst (λ m. AddsImage reel line m d) read one, refl)
 read_more [] (l ∷ lines) c mid d reel line read one = absurd read
 read_more (r ∷ reels) [] c mid d reel line read one = absurd read
 read_more (r ∷ reels) (l ∷ lines) c mid d reel line read one =

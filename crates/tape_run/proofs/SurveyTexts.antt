@@ -15,8 +15,8 @@ use Rattle.tape_run.specs.declared.survey.view.Sight.{Sight}
 use Rattle.tape_run.specs.Lacks.{SetFiles}
 use Rattle.tape_image.specs.Written.{AppendsFront}
 use Rattle.tape_run.specs.Reeling.{Mounting}
-use Rattle.tape_run.specs.Survey.{image_texts, TellsSight, TellsSights, StopsAtSight, Surveys, SurveysInPart}
-use Rattle.tape_run.specs.Survey.{summary_at}
+use Rattle.tape_run.specs.Survey.{image_texts, TellsSight, TellsSights, StopsAtSight, Surveys}
+use Rattle.tape_run.specs.Survey.{SurveysInPart, summary_at}
 use Rattle.tape_run.specs.SurveyFiles.{Filed, any_differs}
 use Rattle.tape_run.specs.SurveyWording.{image_text, file_text, file_texts, set_text, set_texts}
 use Rattle.tape_run.specs.SurveyWording.{summary}

@@ -164,12 +164,14 @@ pub record CasesOfReports : Type 0 where
       × (text ≡ image_lines 1 r.lines ++ summary r.sections) × (found ≡ found_all r.sections)
   -- each image has a line, and one that was not opened another than one that was
   pub a_line_each : (reel : Reel) (c d : List Told) → AddsImages (reel ∷ []) [] c d → ⊥
-  pub no_more_lines : (line : Option ImageLine) (c d : List Told) → AddsImages [] (line ∷ []) c d → ⊥
+  pub no_more_lines : (line : Option ImageLine) (c d : List Told)
+      → AddsImages [] (line ∷ []) c d → ⊥
   pub not_opened : (line : ImageLine) (c d : List Told) → AddsImage None (Some line) c d → ⊥
   pub opened : (before : Option (List ℕ)) (c d : List Told) → AddsImage (Some before) None c d → ⊥
   pub unopened_adds_none : (c d : List Told) → AddsImage None None c d → d ≡ c
   pub tells : (reel : Reel) (c d : List Told) (old new : Option (List ℕ))
-      (t : TellsImage reel 2 c d old new) → AddsImage reel t.0 c d × Appends old new (image_line 2 t.0)
+      (t : TellsImage reel 2 c d old new)
+      → AddsImage reel t.0 c d × Appends old new (image_line 2 t.0)
   -- readers in a list are the images, each in its place
   pub all_mounted : (a b : Option (Option (List ℕ))) (left : List (Option (Option (List ℕ))))
       (old new : Option (List ℕ)) (found : Bool)

@@ -54,7 +54,8 @@ abbrev pub summary : List Told → List ℕ
 summary d = summary_of (map line_of d) (lacks d) (found_all d)
 
 -- the image with this number was read, and its line was written
-abbrev pub TellsImage : Reel → ℕ → List Told → List Told → Option (List ℕ) → Option (List ℕ) → Type 0
+abbrev pub TellsImage : Reel → ℕ → List Told → List Told → Option (List ℕ) → Option (List ℕ)
+    → Type 0
 TellsImage reel n c d old new =
     (line : Option ImageLine) × AddsImage reel line c d × Appends old new (image_line n line)
 

@@ -116,7 +116,8 @@ pub record PutRefused (set : FileSet) (old : Seen) (hs : List Happening) (xs : L
 
 -- The step was not made, for this reason, by a session that these happenings brought where it was,
 -- with these readers left: the session is there still, or at a part that the sink refused.
-abbrev pub StopsStep : FileSet → Seen → List Happening → Step → List (List ℕ) → RunFault → Seen → Type 0
+abbrev pub StopsStep : FileSet → Seen → List Happening → Step → List (List ℕ) → RunFault → Seen
+    → Type 0
 StopsStep set old hs Reel [] TooFewReels new = Ran set old hs new
 StopsStep set old hs Reel (bytes ∷ readers) OutOfMemory new = Ran set old hs new
 StopsStep set old hs Reel (bytes ∷ readers) (Sink cause) new = (xs : List TapeItem) (end : ℕ)

@@ -26,7 +26,8 @@ TellsSight y reel name c d old new =
 
 -- A fault came at an image: nothing more was written, or the image was read and a front of its line
 -- was written.
-abbrev pub StopsAtSight : Wording → Reel → List ℕ → Found → Option (List ℕ) → Option (List ℕ) → Type 0
+abbrev pub StopsAtSight : Wording → Reel → List ℕ → Found → Option (List ℕ) → Option (List ℕ)
+    → Type 0
 StopsAtSight y reel name c old new = Appends old new [] ⊎ ((sight : Option Sight) × (d : Found)
     × IsViewed reel sight c d × AppendsFront old new (image_text y name sight))
 

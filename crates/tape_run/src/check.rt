@@ -6,8 +6,9 @@ ghost use Rattle.std.specs.Io.KnownBytes.{Appends};
 ghost use Rattle.tape_run.specs.Passing.{Told};
 ghost use Rattle.tape_run.specs.Lacks.{line_of, lacks, found_all};
 ghost use Rattle.tape_run.specs.CheckLine.{section_line, lack_line};
-ghost use Rattle.tape_run.specs.Checked.{AddsImage, TellsImage, TellsImages, StopsAtImage, last_line, summary_of};
-ghost use Rattle.tape_run.specs.Checked.{summary, Reports, ReportsInPart, IsCheckFault};
+ghost use Rattle.tape_run.specs.Checked.{AddsImage, TellsImage, TellsImages, StopsAtImage};
+ghost use Rattle.tape_run.specs.Checked.{last_line, summary_of, summary, Reports};
+ghost use Rattle.tape_run.specs.Checked.{ReportsInPart, IsCheckFault};
 ghost use Rattle.tape_image.specs.Written.{AppendsFront};
 
 use crate::catalogue::Catalogue;

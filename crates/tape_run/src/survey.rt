@@ -8,7 +8,8 @@ ghost use Rattle.tape_run.specs.SurveyLine.{named, name_text, image_line};
 ghost use Rattle.tape_run.specs.SurveyRead.{nothing_found};
 ghost use Rattle.tape_run.specs.SurveyRows.{image_row};
 ghost use Rattle.tape_run.specs.SurveySets.{is_all, last_text};
-ghost use Rattle.tape_run.specs.Survey.{TellsSight, TellsSights, StopsAtSight, Surveys, SurveysInPart};
+ghost use Rattle.tape_run.specs.Survey.{TellsSight, TellsSights, StopsAtSight, Surveys};
+ghost use Rattle.tape_run.specs.Survey.{SurveysInPart};
 
 mod course;
 pub(crate) mod files;
