@@ -1,4 +1,5 @@
 pub mod LabelLaws
+pub mod Behind
 pub mod BlockLaws
 pub mod StateLaws
 pub mod Ranges

@@ -20,6 +20,7 @@ pub mod Arrive
 pub mod Labels
 pub mod Parts
 pub mod Table
+pub mod Behind
 pub mod Faults
 -- Cases, which hold the definitions from below.
 pub mod Cases

@@ -156,7 +156,9 @@ impl MemorySink {
 }
 
 impl PartSink for MemorySink {
-    ghost use Rattle.tape_core.specs.Crash.{lost};
+    ghost use Rattle.tape_core.specs.Crash.{lost, AddsNothing};
+    ghost use Rattle.tape_core.specs.Weight.{Rose};
+    ghost use Rattle.std.specs.Prelude.{OnOk, OnErr, IfErr, Err, Ok, ◌⊎◌};
     ghost use Rattle.tape_core.specs.Memory.{portions};
 
     ghost holds = { λ sink parts. parts ≡ portions sink };
@@ -172,7 +174,25 @@ impl PartSink for MemorySink {
     ghost survived_now = { λ sink t none. none };
 
     #[inline(always)]
-    fn put(&mut self, part: Part<'_>) -> Result<(), SinkFault> {
+    fn put(&mut self, part: Part<'_>) -> Result<(), SinkFault>
+        requires { length part.bytes.now ≤ longest_block }
+        ensures ok { OnOk result ((parts : List Portion) → parts ≡ portions self.old
+            → parts ++ view part.entry ∷ [] ≡ portions self.new) }
+        ensures err { OnErr result ((parts : List Portion) → parts ≡ portions self.old
+            → parts ≡ portions self.new) }
+        ensures weight { OnOk result (weight_of (portions self.new)
+            ≡ weight_of (portions self.old) + (5 + length part.entry.bytes.now)) }
+        ensures same_weight { OnErr result
+            (weight_of (portions self.new) ≡ weight_of (portions self.old)) }
+        ensures full { result ≡ Err SinkFault.Full → most_staged
+            < weight_of (portions self.old) + (5 + length part.entry.bytes.now) }
+        ensures cause { OnErr result (Rose self.old.refused self.new.refused) }
+        ensures calm { OnOk result (self.new.refused ≡ self.old.refused) }
+        ensures crash { (parts : List Portion) → parts ≡ portions self.old
+            → AddsNothing lost lost }
+        ensures refused { IfErr result (λ f.
+            (f ≡ SinkFault.Full) ⊎ (f ≡ SinkFault.OutOfMemory)) }
+    {
         let heavy = 5 + part.bytes.len() as u64;
         if heavy > MOST_STAGED - self.weight() {
             return Err(self.refuse(SinkFault::Full));
@@ -195,7 +215,10 @@ impl PartSink for MemorySink {
         Ok(())
     }
 
-    fn keep(&mut self, _point: &Checkpoint) -> Result<(), SinkFault> {
+    fn keep(&mut self, _point: &Checkpoint) -> Result<(), SinkFault>
+        ensures taken { result ≡ Ok tt }
+        ensures same { self.new ≡ self.old }
+    {
         Ok(())
     }
 

@@ -63,6 +63,7 @@ impl Model for ReaderCore {
 impl ReaderCore {
     ghost use Rattle.tape_core.specs.Table as Table;
     ghost use Rattle.tape_core.specs.Arrive.{arrival};
+    ghost use Rattle.tape_core.specs.Behind.{behind_of};
     ghost use Rattle.tape_core.specs.Follows.{reading, IsAt, IsReading, Kept, Idle, Checked};
     ghost use Rattle.tape_core.specs.Follows.{IsFinal};
     ghost use Rattle.tape_core.specs.Place.{rest_of, place_of};
@@ -111,6 +112,27 @@ impl ReaderCore {
         ensures same { rest_of self.new ≡ rest_of self.old }
     {
         self.begin()
+    }
+
+    /// A reading goes on behind a trailer label, where a reader of an earlier file of the set ended
+    /// a section well: of what was read before nothing is missed. A reader that is broken stays so,
+    /// and one whose file is complete wants no reel.
+    pub fn mount_behind(&mut self)
+        ensures table { self.new ≡ behind_of self.old }
+        ensures same { rest_of self.new ≡ rest_of self.old }
+    {
+        self.begin_behind()
+    }
+
+    /// A reading goes on behind a trailer label.
+    fn begin_behind(&mut self)
+        ensures table { self.new ≡ behind_of self.old }
+    {
+        self.phase = match (self.phase, self.position) {
+            (Phase::Broken, _) => Phase::Broken,
+            (_, Position::Finished) => Phase::Over,
+            _ => Phase::Trailers,
+        };
     }
 
     /// Takes what comes next from the reel, and answers what it is for the file.

@@ -1,6 +1,6 @@
 -- A script that names what exists is refused only by a sink or by want of memory.
 use Rattle.std.proofs.Common.{Bool, ◌≡◌, ℕ, zero, suc, ◌+◌, ◌<◌, List, [], ◌∷◌, length, map}
-use Rattle.std.proofs.Common.{take, drop, Some, ap, subst, ◌∙◌, arith, length-append}
+use Rattle.std.proofs.Common.{take, drop, Option, Some, ap, subst, ◌∙◌, arith, length-append}
 use Rattle.std.specs.List.{slice_get}
 use Rattle.std.proofs.lemmas.Option.{slice_get_within}
 use Rattle.tape_set.specs.Layout.{FileSet}
@@ -57,41 +57,46 @@ same_step : (step other : Step) → Some step ≡ Some other → other ≡ step
 same_step step other e = cc
 
 at_step : (n : ℕ) (step : Step) (which : List Bool) (old mid new : Seen) (steps : List Step)
-    (bytes given : List (List ℕ)) (fault : RunFault) (set : FileSet) (hs : List Happening)
+    (bytes given : List (List ℕ)) (left : List (Option (List ℕ))) (fault : RunFault)
+    (set : FileSet) (hs : List Happening)
     → length given ≡ length bytes → slice_get steps n ≡ Some step
-    → Runs which old (take n steps) (map Some bytes) mid
+    → Runs which old (take n steps) (map Some bytes) left mid
     → Fails step (drop (reels_in (take n steps)) (map Some bytes)) fault mid new
     → IsHistory set (length old.notes) steps given hs → IsRefusal fault
-at_step n step which old mid new [] bytes given fault set hs m is r f h =
+at_step n step which old mid new [] bytes given left fault set hs m is r f h =
     absurd (omega (arith, slice_get_within [] n step is))
-at_step n step which old mid new (s ∷ steps) bytes given fault set [] m is r f h = absurd h
-at_step zero step which old mid new (s ∷ steps) bytes given fault set (x ∷ hs) m is r f h =
+at_step n step which old mid new (s ∷ steps) bytes given left fault set [] m is r f h = absurd h
+at_step zero step which old mid new (s ∷ steps) bytes given left fault set (x ∷ hs) m is r f h =
     first_refusal s steps bytes given fault old new set x hs m
     (subst (λ (z : Step). Fails z (map Some bytes) fault old new) (same_step s step is)
     (subst (λ (z : Seen). Fails step (map Some bytes) fault z new) r.1 f)) h
-at_step (suc n) step which old mid new (Reel ∷ steps) bytes [] fault set (x ∷ hs) m is r f h =
+at_step (suc n) step which old mid new (Reel ∷ steps) bytes [] left fault set (x ∷ hs) m is r f h =
     absurd h
-at_step (suc n) step which old mid new (Reel ∷ steps) [] (g ∷ given) fault set (x ∷ hs) m is r f h
-    = absurd (omega (arith, m))
-at_step (suc n) step [] old mid new (Reel ∷ steps) (b ∷ bs) (g ∷ given) fault set (x ∷ hs) m is r
-    f h = absurd r
-at_step (suc n) step (failed ∷ which) old mid new (Reel ∷ steps) (b ∷ bs) (g ∷ given) fault set
-    (x ∷ hs) m is (first, reeled, r) f (mount, h) =
-    at_step n step which first mid new steps bs given fault set hs (omega (arith, m)) is r f
+at_step (suc n) step which old mid new (Reel ∷ steps) [] (g ∷ given) left fault set (x ∷ hs) m is r
+    f h = absurd (omega (arith, m))
+at_step (suc n) step [] old mid new (Reel ∷ steps) (b ∷ bs) (g ∷ given) left fault set (x ∷ hs) m is
+    r f h = absurd r
+at_step (suc n) step (failed ∷ which) old mid new (Reel ∷ steps) (b ∷ bs) (g ∷ given) [] fault set
+    (x ∷ hs) m is r f h = absurd r
+at_step (suc n) step (failed ∷ which) old mid new (Reel ∷ steps) (b ∷ bs) (g ∷ given) (l ∷ left)
+    fault set (x ∷ hs) m is (first, reeled, r) f (mount, h) =
+    at_step n step which first mid new steps bs given left fault set hs (omega (arith, m)) is r f
     (rw reeled.notes h)
-at_step (suc n) step which old mid new (Save ∷ steps) bytes given fault set (x ∷ hs) m is
+at_step (suc n) step which old mid new (Save ∷ steps) bytes given left fault set (x ∷ hs) m is
     (first, v, r) f (e, h) =
     let count : length first.notes ≡ length old.notes + 1 =
     ap length v.notes ∙ length-append old.notes _ in
-    at_step n step which first mid new steps bytes given fault set hs m is r f (rw count h)
-at_step (suc n) step which old mid new (Restart k ∷ steps) bytes given fault set (x ∷ hs) m is
+    at_step n step which first mid new steps bytes given left fault set hs m is r f (rw count h)
+at_step (suc n) step which old mid new (Restart k ∷ steps) bytes given left fault set (x ∷ hs) m is
     (first, w, r) f (e, less, h) =
     let count : length first.notes ≡ k + 1 = ap length w.notes ∙ took_so_many k old.notes less in
-    at_step n step which first mid new steps bytes given fault set hs m is r f (rw count h)
+    at_step n step which first mid new steps bytes given left fault set hs m is r f (rw count h)
 
 pub answered : (which : List Bool) (old new : Seen) (steps : List Step)
-    (bytes given : List (List ℕ)) (n : ℕ) (fault : RunFault) (set : FileSet) (hs : List Happening)
-    → length given ≡ length bytes → RunsUpTo which old steps (map Some bytes) n fault new
+    (bytes given : List (List ℕ)) (left : List (Option (List ℕ))) (n : ℕ) (fault : RunFault)
+    (set : FileSet) (hs : List Happening)
+    → length given ≡ length bytes → RunsUpTo which old steps (map Some bytes) left n fault new
     → IsHistory set (length old.notes) steps given hs → IsRefusal fault
-answered which old new steps bytes given n fault set hs m r h =
-    at_step n r.step which old r.mid new steps bytes given fault set hs m r.at r.runs r.fails h
+answered which old new steps bytes given left n fault set hs m r h =
+    at_step n r.step which old r.mid new steps bytes given left fault set hs m r.at r.runs r.fails
+    h

@@ -83,23 +83,25 @@ none_failed zero e = refl
 none_failed (suc n) e = absurd
     (let h = least_up n (min (0 + 1) 18446744073709551615) (omega arith) in omega (arith, e, h))
 
-pub none_of : (which : List Bool) (bytes given : List (List ℕ)) → failed_of which ≡ 0
-    → AreGivenBy which bytes given → given ≡ bytes
-none_of [] bytes given none a = a
-none_of (f ∷ which) [] given none a = absurd a
-none_of (f ∷ which) (b ∷ bytes) [] none a = absurd a
-none_of (true ∷ which) (b ∷ bytes) (g ∷ given) none a = absurd (omega (arith, none))
-none_of (false ∷ which) (b ∷ bytes) (g ∷ given) none (is, rest) =
-    ap (λ z. z ∷ given) is ∙ ap (λ z. b ∷ z) (none_of which bytes given none rest)
+pub none_of : (which : List Bool) (bytes given : List (List ℕ)) (left : List (Option (List ℕ)))
+    → failed_of which ≡ 0 → AreGivenBy which bytes left given → given ≡ bytes
+none_of [] bytes given left none a = a
+none_of (f ∷ which) [] given left none a = absurd a
+none_of (f ∷ which) (b ∷ bytes) given [] none a = absurd a
+none_of (f ∷ which) (b ∷ bytes) [] (l ∷ left) none a = absurd a
+none_of (true ∷ which) (b ∷ bytes) (g ∷ given) (l ∷ left) none a = absurd (omega (arith, none))
+none_of (false ∷ which) (b ∷ bytes) (g ∷ given) (l ∷ left) none (is, rest) =
+    ap (λ z. z ∷ given) is ∙ ap (λ z. b ∷ z) (none_of which bytes given left none rest)
 
 -- All images of the set, none of a failed reader, and the file is whole.
-pub came_back : (set : FileSet) (file : ℕ) (f : List Section) (bytes : List (List ℕ)) (s : Seen)
+pub came_back : (set : FileSet) (file : ℕ) (f : List Section) (bytes : List (List ℕ))
+    (left : List (Option (List ℕ))) (s : Seen)
     → IsLawful set → file_of set file ≡ Some f → AreVolumes set 0 bytes → s.failures ≡ 0
-    → IsRead set.set_id file (reels_of bytes) bytes s
+    → IsRead set.set_id file (reels_of bytes) bytes left s
     → (s.place.position ≡ Finished) × (s.parts ≡ section_parts f)
-came_back set file f bytes s l e v none r =
+came_back set file f bytes left s l e v none r =
     let no_failure : failed_of r.which ≡ 0 = none_failed (failed_of r.which) (sym r.count ∙ none) in
-    let given : r.given ≡ bytes = none_of r.which bytes r.given no_failure r.are_given in
+    let given : r.given ≡ bytes = none_of r.which bytes r.given left no_failure r.are_given in
     let (all, hist) = volumes_history set 0 bytes v in
     let has : IsSome (file_of set file) = rw e refl in
     let (there, parts) = r.reads set (map reads (whole_readings set 0 (length bytes))) l refl has

@@ -1,5 +1,5 @@
 -- Sessions that begin.
-use Rattle.std.proofs.Common.{◌≡◌, ℕ, List, [], refl, sym, ap, subst, ◌∙◌, length}
+use Rattle.std.proofs.Common.{◌≡◌, ℕ, List, [], Option, refl, sym, ap, subst, ◌∙◌, length}
 use Rattle.tape_blocks.specs.Block.{Portion}
 use Rattle.tape_set.specs.Position.{start}
 use Rattle.tape_set.specs.Layout.{FileSet}
@@ -78,9 +78,10 @@ pub kept_new : (set_id : List ℕ) (file : ℕ) (s : Seen) → IsStart set_id fi
 kept_new set_id file s st = rw (st.no_notes) ((s.parts, refl))
 
 pub is_read : (set_id : List ℕ) (file : ℕ) (steps : List Step) (bytes : List (List ℕ))
-    (old new : Seen) → IsStart set_id file old → (h : HasRun old steps bytes new)
-    → (read : IsRead set_id file steps bytes new) × (read.which ≡ h.which)
-is_read set_id file steps bytes old new st h = (
+    (left : List (Option (List ℕ)))
+    (old new : Seen) → IsStart set_id file old → (h : HasRun old steps bytes left new)
+    → (read : IsRead set_id file steps bytes left new) × (read.which ≡ h.which)
+is_read set_id file steps bytes left old new st h = (
   record {
     given = h.given;
     which = h.which;

@@ -21,15 +21,16 @@ only_nothing these a b =
     only_among (λ back there. ⊥) these a b (λ back there h. absurd h)
 
 -- it is of the session that makes the steps
-pub stood_here : (s : Seen) (steps : List Step) (reels : List (Option (List ℕ)))
+pub stood_here : (s : Seen) (steps : List Step) (reels left : List (Option (List ℕ)))
     (back : Point) (there : List Portion)
-    → IsOf s back there → StoodAt s steps reels back there
-stood_here s [] reels back there h = h
-stood_here s (Reel ∷ steps) [] back there h = h
-stood_here s (Reel ∷ steps) (None ∷ reels) back there h = tt
-stood_here s (Reel ∷ steps) (Some bytes ∷ reels) back there h = inl h
-stood_here s (Save ∷ steps) reels back there h = inl h
-stood_here s (Restart n ∷ steps) reels back there h = inl h
+    → IsOf s back there → StoodAt s steps reels left back there
+stood_here s [] reels left back there h = h
+stood_here s (Reel ∷ steps) [] left back there h = h
+stood_here s (Reel ∷ steps) (None ∷ reels) left back there h = tt
+stood_here s (Reel ∷ steps) (Some bytes ∷ reels) [] back there h = h
+stood_here s (Reel ∷ steps) (Some bytes ∷ reels) (l ∷ left) back there h = inl h
+stood_here s (Save ∷ steps) reels left back there h = inl h
+stood_here s (Restart n ∷ steps) reels left back there h = inl h
 
 -- the sink may come back with a note
 pub noted_only : (s : Seen) (c : Point) (n : ℕ) (ps : List Portion) (a b : Crashes)

@@ -227,20 +227,22 @@ fails_led Save bs fault t mid new h s = save_led t mid new bs fault h s
 fails_led (Restart n) bs fault t mid new h s = restart_led t mid new n bs fault h s
 
 -- A step was not made, and these readers failed before.
-abbrev pub StoppedSo : List Bool → Seen → List Step → List (List ℕ) → ℕ → RunFault → Seen → Type 0
-StoppedSo which old steps bytes n fault new =
-    (end : HasStopped old steps bytes n fault new) × (end.which ≡ which)
+abbrev pub StoppedSo : List Bool → Seen → List Step → List (List ℕ) → List (Option (List ℕ)) → ℕ
+    → RunFault → Seen → Type 0
+StoppedSo which old steps bytes left n fault new =
+    (end : HasStopped old steps bytes left n fault new) × (end.which ≡ which)
 
 -- Where the steps before the one that was not made lead, and why it was not.
-stopped : (which : List Bool) (old new : Seen) (steps : List Step) (bytes : List (List ℕ)) (n : ℕ)
-    (fault : RunFault) → RunsUpTo which old steps (map Some bytes) n fault new
-    → StoppedSo which old steps bytes n fault new
-stopped which old new steps bytes n fault r =
+stopped : (which : List Bool) (old new : Seen) (steps : List Step) (bytes : List (List ℕ))
+    (unread : List (Option (List ℕ))) (n : ℕ)
+    (fault : RunFault) → RunsUpTo which old steps (map Some bytes) unread n fault new
+    → StoppedSo which old steps bytes unread n fault new
+stopped which old new steps bytes unread n fault r =
     let left = drop (reels_in (take n steps)) bytes in
     let fails : Fails r.step (map Some left) fault r.mid new =
     subst (λ (z : List (Option (List ℕ))). Fails r.step z fault r.mid new)
     (drop-map Some (reels_in (take n steps)) bytes) r.fails in
-    let (run, same) = headline which old r.mid (take n steps) bytes r.runs in (
+    let (run, same) = headline which old r.mid (take n steps) bytes unread r.runs in (
       record {
         step = r.step;
         at = r.at;
@@ -279,9 +281,9 @@ kept_restart_fails n OtherFile old new h k = absurd h
 
 -- over readers that tell their bytes
 pub stopped_so : (which : List Bool) (old new : Seen) (steps : List Step)
-    (reels : List (Option (List ℕ))) (n : ℕ) (fault : RunFault)
-    → RunsUpTo which old steps reels n fault new → (bytes : List (List ℕ))
-    → reels ≡ map Some bytes → StoppedSo which old steps bytes n fault new
-stopped_so which old new steps reels n fault runs bytes e =
-    stopped which old new steps bytes n fault
-    (subst (λ (z : List (Option (List ℕ))). RunsUpTo which old steps z n fault new) e runs)
+    (reels left : List (Option (List ℕ))) (n : ℕ) (fault : RunFault)
+    → RunsUpTo which old steps reels left n fault new → (bytes : List (List ℕ))
+    → reels ≡ map Some bytes → StoppedSo which old steps bytes left n fault new
+stopped_so which old new steps reels left n fault runs bytes e =
+    stopped which old new steps bytes left n fault
+    (subst (λ (z : List (Option (List ℕ))). RunsUpTo which old steps z left n fault new) e runs)

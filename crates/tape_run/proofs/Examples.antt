@@ -1,6 +1,7 @@
 -- The cases of a session and of its history.
 use Rattle.std.proofs.Common.{◌≡◌, ℕ, zero, suc, List, [], ◌∷◌, ◌++◌, ◌∙◌, inr, arith, append-nil}
-use Rattle.std.proofs.Common.{length, true, false, Some, refl, sym, ap, subst, inl}
+use Rattle.std.proofs.Common.{length, true, false, Option, Some, None, refl, sym, ap, subst, inl}
+use Rattle.std.proofs.Common.{◌+◌, length-append}
 use Rattle.std.specs.Prelude.{slice_get, slice_index}
 use Rattle.std.proofs.lemmas.Option.{slice_get_within}
 use Rattle.tape_image.specs.declared.item.Ending.TheVariants as endings
@@ -24,7 +25,7 @@ use Rattle.tape_run.specs.declared.fault.RunFault.TheVariants.{TooFewReels}
 use Rattle.tape_run.specs.declared.script.Step.{Step}
 use Rattle.tape_run.specs.declared.script.Step.TheVariants.{Reel, Save, Restart}
 use Rattle.tape_run.specs.Crash.{IsOf, LastAlone}
-use Rattle.tape_run.specs.Given.{IsGiven}
+use Rattle.tape_run.specs.Given.{IsGiven, AreGivenBy}
 use Rattle.tape_run.specs.History.{course_of, IsHistory}
 use Rattle.tape_run.specs.Headline.{HasStopped, StopsStep}
 use Rattle.tape_run.specs.Lives.{IsPlaceOf}
@@ -104,23 +105,36 @@ cases_of_histories = record {
 
 -- ---- what readers gave
 
-no_other : IsGiven true (1 ∷ 2 ∷ []) (2 ∷ []) → ⊥
-no_other (rest, e) =
+no_other : (left : Option (List ℕ)) → IsGiven true (1 ∷ 2 ∷ []) left (2 ∷ []) → ⊥
+no_other left (rest, is, e) =
     let two : 1 ≡ 2 = ap (λ l. slice_index l 0) e in
     absurd (omega (arith, two))
+
+no_less : (given : List ℕ) → IsGiven true (1 ∷ 2 ∷ []) (Some (2 ∷ [])) given → length given ≡ 1
+no_less given (rest, is, e) =
+    let one : rest ≡ 2 ∷ [] = cc is in
+    let sum : 2 ≡ length given + length rest = ap length e ∙ length-append given rest in
+    omega (arith, sum, ap length one)
+
+second_of_two : (b c d e l : List ℕ) → AreGivenBy (false ∷ true ∷ []) (b ∷ c ∷ [])
+    (None ∷ Some l ∷ []) (d ∷ e ∷ []) → (d ≡ b) × (c ≡ e ++ l)
+second_of_two b c d e l (first, ((rest, is, whole), none)) =
+    let same : rest ≡ l = cc is in (first, whole ∙ ap (λ r. e ++ r) same)
 
 pub cases_of_given : CasesOfGiven
 cases_of_given = record {
   no_other = no_other;
-  front = (2 ∷ [], refl);
+  front = (2 ∷ [], refl, refl);
+  no_less = no_less;
+  untold = λ bytes given a. absurd (let none = a.1 in cc);
   calm = refl;
   one = refl;
   greatest = refl;
   two = refl;
-  second_failed = λ b c d. (refl, ((c, refl), refl));
-  just_the_second = λ b c d e a. (a.0, a.1.0);
-  not_taken = λ bytes given e. e;
-  none_there = λ bytes. (λ a. a, λ a. a);
+  second_failed = λ b c d. (refl, ((c, refl, refl), refl));
+  just_the_second = second_of_two;
+  not_taken = λ bytes given left e. e;
+  none_there = λ bytes l. (λ a. a, λ a. a, λ a. a);
   two_of_three = refl;
   as_far_as_it_reaches = refl;
   the_rest_stays = refl;
@@ -161,12 +175,12 @@ cases_of_sessions = record {
   note_stands = λ set c parts n. (n.2, n.3);
   kept_note = kept_note;
   ran = λ set old new hs r. (r.session, r.same_file, r.reached);
-  has_run = λ old new steps bytes set hs r lawful history is.
+  has_run = λ old new steps bytes left set hs r lawful history is.
       (r.ran set hs lawful history is, r.are_given, r.count);
   starts = λ id file s is. (is.place, is.no_notes, is.no_failures, is.no_parts);
   begins_file = λ set file s is lawful some.
       let new = is.each set lawful refl some in (new.session, new.its_file, new.course);
-  was_read = λ set file steps bytes s hs r lawful some history.
+  was_read = λ set file steps bytes left s hs r lawful some history.
       let led = r.reads set hs lawful refl some history in
       (led.0, led.1, r.are_given, r.count);
 }
@@ -177,27 +191,27 @@ cases_of_sessions = record {
 step_is : (step told : Step) → Some step ≡ Some told → told ≡ step
 step_is step told e = cc
 
-two_were_made : (old new : Seen) (bytes : List ℕ)
-    → Runs (true ∷ []) old (Save ∷ Reel ∷ Restart 1 ∷ []) (Some bytes ∷ []) new
+two_were_made : (old new : Seen) (bytes : List ℕ) (l : Option (List ℕ))
+    → Runs (true ∷ []) old (Save ∷ Reel ∷ Restart 1 ∷ []) (Some bytes ∷ []) (l ∷ []) new
     → (first : Seen) × (second : Seen) × Saved old first
-    × Reeled bytes true first second × WentBack 1 second new
-two_were_made old new bytes (first, saved, (second, reeled, (last, went, (none, same)))) =
+    × Reeled bytes l true first second × WentBack 1 second new
+two_were_made old new bytes l (first, saved, (second, reeled, (last, went, (none, same)))) =
     (first, second, saved, reeled, rw same went)
 
-second_was_not : (old new : Seen) (fault : RunFault) (bytes : List ℕ)
-    → RunsUpTo (true ∷ []) old (Reel ∷ Reel ∷ Save ∷ []) (Some bytes ∷ []) 1 fault new
-    → (mid : Seen) × Reeled bytes true old mid
+second_was_not : (old new : Seen) (fault : RunFault) (bytes : List ℕ) (l : Option (List ℕ))
+    → RunsUpTo (true ∷ []) old (Reel ∷ Reel ∷ Save ∷ []) (Some bytes ∷ []) (l ∷ []) 1 fault new
+    → (mid : Seen) × Reeled bytes l true old mid
     × (fault ≡ TooFewReels) × (new ≡ mid)
-second_was_not old new fault bytes r =
+second_was_not old new fault bytes l r =
     let (mid, reeled, (none, same)) = r.runs in
     let f = subst (λ z. Fails z [] fault r.mid new) (step_is Reel r.step r.at) r.fails in
     (mid, reeled, f.0, f.1 ∙ same)
 
-third_was_not : (old new : Seen) (fault : RunFault) (bytes other : List ℕ)
-    → RunsUpTo (false ∷ []) old (Save ∷ Reel ∷ Reel ∷ []) (Some bytes ∷ Some other ∷ []) 2 fault new
-    → (first : Seen) × (mid : Seen) × Saved old first
-    × Reeled bytes false first mid × ReelFails other fault mid new
-third_was_not old new fault bytes other r =
+third_was_not : (old new : Seen) (fault : RunFault) (bytes other : List ℕ) (l m : Option (List ℕ))
+    → RunsUpTo (false ∷ []) old (Save ∷ Reel ∷ Reel ∷ []) (Some bytes ∷ Some other ∷ [])
+    (l ∷ m ∷ []) 2 fault new → (first : Seen) × (mid : Seen) × Saved old first
+    × Reeled bytes l false first mid × ReelFails other fault mid new
+third_was_not old new fault bytes other l m r =
     let (first, saved, (mid, reeled, (none, same))) = r.runs in
     let f = subst (λ z. Fails z (Some other ∷ []) fault r.mid new) (step_is Reel r.step r.at)
     r.fails in
@@ -205,13 +219,14 @@ third_was_not old new fault bytes other r =
 
 pub cases_of_made : CasesOfMade
 cases_of_made = record {
-  was_reeled = λ bytes failed old new r. (r.is_given, r.count, r.notes, r.calm, r.grows);
-  same_reader = λ bytes failed old new r. (r.same_set, r.same_file);
-  mount_was_read = λ bytes failed old new set h r lawful mount placed.
+  was_reeled = λ bytes left failed old new r. (r.is_given, r.count, r.notes, r.calm, r.grows);
+  same_reader = λ bytes left failed old new r. (r.same_set, r.same_file);
+  mount_was_read = λ bytes left failed old new set h r lawful mount placed.
       let by = r.reads set h lawful mount placed in (by.at, by.position);
   nothing_was_made = λ which old new r. r;
-  no_reel_was_there = λ failed other old new bytes r. r.2;
-  none_is_told = λ old new bytes r. r;
+  no_reel_was_there = λ failed other old new bytes l r. r.2;
+  none_is_told = λ old new bytes l r. r;
+  none_is_left = λ failed old new bytes r. r;
   two_were_made = two_were_made;
   second_was_not = second_was_not;
   third_was_not = third_was_not;
@@ -230,12 +245,12 @@ cases_of_made = record {
   reel_fails = λ bytes old new. (λ x. x, λ x. x, λ x. x, λ e. e);
 }
 
-stopped_so : (old new : Seen) (a b c : List ℕ) (fault : RunFault) (set : FileSet)
-    (hs : List Happening)
-    (s : HasStopped old (Reel ∷ Reel ∷ Save ∷ Reel ∷ []) (a ∷ b ∷ c ∷ []) 2 fault new)
+stopped_so : (old new : Seen) (a b c : List ℕ) (left : List (Option (List ℕ))) (fault : RunFault)
+    (set : FileSet) (hs : List Happening)
+    (s : HasStopped old (Reel ∷ Reel ∷ Save ∷ Reel ∷ []) (a ∷ b ∷ c ∷ []) left 2 fault new)
     → IsLawful set → IsHistory set (length old.notes) (Reel ∷ Reel ∷ []) s.given hs
     → IsSession set old → StopsStep set old hs Save (c ∷ []) fault new
-stopped_so old new a b c fault set hs s lawful history is =
+stopped_so old new a b c left fault set hs s lawful history is =
     subst (λ z. StopsStep set old hs z (c ∷ []) fault new) (step_is Save s.step s.at)
     (s.stops set hs lawful history is)
 
@@ -248,9 +263,9 @@ cases_of_stops = record {
   sinks_stop = λ set old new hs readers cause. (λ r. r, λ r. r);
   part_refused = λ set old new hs xs h r.
       (r.session.at.all, r.same_file, r.by.refused, r.by.awaited, r.by.position, r.notes);
-  stopped_at = λ old new bytes fault s. (step_is Save s.step s.at, s.are_given, s.count);
+  stopped_at = λ old new bytes left fault s. (step_is Save s.step s.at, s.are_given, s.count);
   stopped_so = stopped_so;
-  nothing_stops_none = λ old new bytes n fault s.
+  nothing_stops_none = λ old new bytes left n fault s.
       absurd (omega (arith, slice_get_within [] n s.step s.at));
   two_reels = refl;
   loses = ((4, refl), refl);
@@ -299,8 +314,9 @@ cases_of_crashes = record {
   noted_place = inr (1, refl);
   of_session = of_session;
   of_no_step = λ s back there stood. stood;
-  of_no_reel = λ s back there stood. stood;
-  came_back = λ old steps done bytes given back there set hs c lawful history is.
+  of_no_reel = λ s left back there stood. stood;
+  of_none_left = λ s bytes back there stood. stood;
+  came_back = λ old steps done bytes left given back there set hs c lawful history is.
       let stands = c.stands set hs lawful history is in (stands.0, stands.1, c.all, c.are_given);
   resumed = λ c ps s r. (r.place, r.parts, r.notes, r.failures);
   saved_life = λ set s. ((refl, tt), refl);

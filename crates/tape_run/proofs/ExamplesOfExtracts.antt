@@ -1,7 +1,8 @@
 -- The cases of files got back.
 use Rattle.std.proofs.Common.{◌≡◌, ◌⊎◌, inl, inr, ℕ, List, [], ◌∷◌, Some, None}
 use Rattle.std.proofs.Common.{refl, sym, ap, subst, ◌∙◌, false, true, length, arith}
-use Rattle.std.specs.Prelude.{IfSome, Option, get_or, map, set, ◌++◌}
+use Rattle.std.specs.Prelude.{IfSome, Option, get_or, map, set, ◌++◌, slice_get, ◌-◌}
+use Rattle.std.proofs.Common.{Bool}
 use Rattle.tape_set.specs.Layout.{FileSet}
 use Rattle.tape_set.specs.Lawful.{IsLawful}
 use Rattle.tape_core.specs.Place.{IsPlaced}
@@ -13,6 +14,9 @@ use Rattle.tape_run.specs.Reeling.{IsKeptFor, AreSure, is_doubtful, Turn, IsTurn
 use Rattle.tape_run.specs.Reeling.{AreTurns, AreFirstTurns, answer_of}
 use Rattle.tape_run.specs.Seen.{Seen, seen}
 use Rattle.tape_run.specs.Steps.{WentBack}
+use Rattle.tape_core.specs.Stands.{weight_of}
+use Rattle.tape_core.specs.Table.{saved}
+use Rattle.tape_run.proofs.Noting.{noted_here}
 use Rattle.tape_core.specs.Point.{Point}
 use Rattle.tape_blocks.specs.Spans.{join}
 use Rattle.tape_image.specs.Written.{AppendsFront}
@@ -41,8 +45,9 @@ foreign_turn set o bytes e m = ((rw e refl), m, tt)
 given_of : (o : Opened) (bytes given : List ℕ) → o.had ≡ Some bytes → o.answer.fault ≡ None
     → AreGiven (None ∷ Some o ∷ []) (given ∷ []) → given ≡ bytes
 given_of o bytes given had calm are =
-    subst (λ fault. IsGiven (is_device fault) bytes given) calm
-    (subst (λ before. IfSome before (λ xs. IsGiven (is_device o.answer.fault) xs given)) had are.0)
+    subst (λ fault. IsGiven (is_device fault) bytes o.left given) calm
+    (subst (λ before. IfSome before (λ xs. IsGiven (is_device o.answer.fault) xs o.left given)) had
+    are.0)
 
 no_turns : (old new : Seen) (set : FileSet) → Gathers [] old new → IsLawful set
     → IsPlaced set old.place old.parts
@@ -53,11 +58,27 @@ no_turns old new set g lawful placed = elim (g.given) as (λ gs. AreGiven [] gs 
 ] g.are_given
 
 -- the last of two notes is the second
-went_to_last : (old new : Seen) (c d : Point) → old.notes ≡ c ∷ d ∷ [] → IsNoted true true old new
+went_to_last : (old new : Seen) (c d : Point) → old.notes ≡ c ∷ d ∷ []
+    → IsNoted true true false old new
     → WentBack 1 old new
 went_to_last old new c d two (n, many, went) =
     let one : n ≡ 1 = omega (arith, many, ap length two) in
     subst (λ m. WentBack m old new) one went
+
+noted_before : (back : Bool) (old new : Seen) (c : Point) → old.notes ≡ c ∷ []
+    → IsNoted back false false old new
+    → (new ≡ old) × (c ≡ saved old.place (weight_of old.parts))
+noted_before back old new c one ((n, count, (is, front, weighs)), same) =
+    let first : n ≡ 0 = omega (arith, count, ap length one) in
+    let at : Some c ≡ Some (saved old.place (weight_of old.parts)) =
+    ap (λ l. slice_get l 0) (sym one) ∙ (ap (λ m. slice_get old.notes m) (sym first) ∙ is) in
+    (same, (let e = at in cc))
+
+noted_anew : (back : Bool) (old new : Seen) (c : Point) → old.notes ≡ c ∷ []
+    → c ≡ saved old.place (weight_of old.parts) → IsNoted back false true old new → ⊥
+noted_anew back old new c one is (elsewhere, saved) = elsewhere (noted_here old c
+    (omega (arith, ap length one)) (subst (λ l. slice_get l (length l - 1) ≡ Some c) (sym one) refl)
+    is)
 
 each_is_sure : (o p : Opened) → AreSure (Some o ∷ Some p ∷ [])
     → (is_doubtful o.answer.answer ≡ false) × (is_doubtful p.answer.answer ≡ false)
@@ -121,13 +142,15 @@ cases_of_turns = record {
   sure = (refl, refl);
   each_is_sure = each_is_sure;
   sure_turns = λ o sure. (sure, tt);
-  not_noted = λ old new n. n;
-  is_noted = λ back old new n. n;
+  not_noted = λ noted old new n. n;
+  is_noted = λ back old new n. n.1;
+  noted_before = noted_before;
+  noted_anew = noted_anew;
   has_note = λ c. (refl, refl);
   went_to_last = went_to_last;
   its_own_notes = λ s k. k;
-  steps_behind = (refl, refl, refl, refl);
-  counted = (refl, refl);
+  steps_behind = (refl, refl, refl, refl, refl);
+  counted = (refl, refl, refl);
   steps = λ o p. refl;
   by_its_line = λ back o b old new had are. are (b ∷ []) (had, refl);
   told = λ o b are. are.0;

@@ -1,7 +1,7 @@
 -- The cases of the laws.
 use Rattle.std.proofs.Common.{◌≡◌, ◌≢◌, ℕ, List, [], ◌∷◌, Some, None, refl, ap, sym, ◌∙◌}
 use Rattle.std.proofs.Common.{subst, arith, true, false, inr}
-use Rattle.std.specs.Prelude.{MatchOption}
+use Rattle.std.specs.Prelude.{MatchOption, Option}
 use Rattle.tape_blocks.specs.Block.{Portion}
 use Rattle.tape_set.specs.Before.{before}
 use Rattle.tape_set.specs.Layout.{FileSet}
@@ -25,26 +25,28 @@ use Rattle.tape_run.specs.CasesOfCatalogues.{met}
 use Rattle.tape_run.specs.CasesOfLaws.{CasesOfRunLaws, CasesOfCatalogueLaws}
 
 went_on : ResumedGoesOn → (set : FileSet) (c : Point) (ps : List Portion) (began new : Seen)
-    (bytes : List ℕ) (r : Reading) → IsLawful set → Stands set c.file c ps
-    → IsResumed c ps began → (run : HasRun began (Reel ∷ []) (bytes ∷ []) new)
+    (bytes : List ℕ) (left : List (Option (List ℕ))) (r : Reading) → IsLawful set
+    → Stands set c.file c ps
+    → IsResumed c ps began → (run : HasRun began (Reel ∷ []) (bytes ∷ []) left new)
     → IsHistory set 0 (Reel ∷ []) run.given (reads r ∷ [])
     → (new.place.position ≡ far set c.file c.position r)
     × (new.parts ≡ before set c.file new.place.position)
-went_on law set c ps began new bytes r lawful stands from run history =
-    let (there, parts) = law set c ps began new (Reel ∷ []) (bytes ∷ []) (reads r ∷ [])
+went_on law set c ps began new bytes left r lawful stands from run history =
+    let (there, parts) = law set c ps began new (Reel ∷ []) (bytes ∷ []) left (reads r ∷ [])
     lawful stands from run history in
     (sym (ap (λ (z : Course). z.at) there), parts)
 
 pub cases_of_run_laws : CasesOfRunLaws
 cases_of_run_laws = record {
   a_front = λ law set front rest h m. law set front rest h m;
-  what_was_given = λ law set steps bytes given hs history are.
-      law set 0 (true ∷ false ∷ true ∷ []) steps bytes given hs history are;
-  a_refusal = λ law which old new steps bytes n fault set hs runs history.
-      law which old new steps bytes bytes n fault set hs refl runs history;
+  what_was_given = λ law set steps bytes given left hs history are.
+      law set 0 (true ∷ false ∷ true ∷ []) steps bytes given left hs history are;
+  a_refusal = λ law which old new steps bytes left n fault set hs runs history.
+      law which old new steps bytes bytes left n fault set hs refl runs history;
   refusals = λ cause. (tt, tt);
   no_refusals = (λ x. x, λ x. x, λ x. x);
-  came_back = λ law old steps bytes back there stood. law old steps bytes back there stood;
+  came_back = λ law old steps bytes left back there stood.
+      law old steps bytes left back there stood;
   one_crash = λ law set c back ps there life hs lawful stands outlives are.
       law set c ps (life ∷ []) (hs ∷ []) back there lawful stands outlives are;
   went_on = went_on;

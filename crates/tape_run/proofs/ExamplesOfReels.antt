@@ -81,9 +81,9 @@ cases_of_leads = record {
   each_noted = λ n c parts. (λ x. x, λ x. x);
   save_stops = λ t readers fault new s. s;
   reel_stops = λ t bytes cause new xs end stop s b. (s.1 xs end stop b, s.0);
-  run_led = λ old new steps bytes t tapes r are st. r.led t tapes are st;
-  read_led = λ id file steps bytes s tapes r are. r.led tapes are;
-  stopped_led = λ old new steps bytes n fault t tapes s are st. s.led t tapes are st;
-  reel_led = λ bytes old new xs end stop r b. r.table xs end stop b;
+  run_led = λ old new steps bytes left t tapes r are st. r.led t tapes are st;
+  read_led = λ id file steps bytes left s tapes r are. r.led tapes are;
+  stopped_led = λ old new steps bytes left n fault t tapes s are st. s.led t tapes are st;
+  reel_led = λ bytes left old new xs end stop r b. r.table xs end stop b;
   cut_led = λ bytes old new xs end stop c b. c.table xs end stop b;
 }

@@ -1,5 +1,6 @@
 -- The cases of what is seen of a session, and of readers that tell their bytes.
 use Rattle.std.proofs.Common.{◌≡◌, ℕ, List, [], ◌∷◌, length, Some, None, refl, sym, ap, arith}
+use Rattle.std.proofs.Common.{◌∙◌}
 use Rattle.tape_blocks.specs.Block.{Portion}
 use Rattle.tape_core.specs.Point.{Point}
 use Rattle.tape_core.proofs.Crashes.{or_nothing}
@@ -58,6 +59,21 @@ cases_of_seen = record {
   reel_refused = λ cause old new r. r;
   no_memory = λ old new r. r;
   no_other_fault = λ old new. (λ r. r, λ r. r, λ r. r);
+  back_refused = λ cause n old new r. r;
+  no_note = λ n old new r. r;
+  no_other_way = λ n old new. (λ r. r, λ r. r, λ r. r);
+  reel_not_made = λ fault old new r. r;
+  save_not_made = λ fault old new r. r;
+  back_not_made = λ n fault old new r. r;
+  second_not_made = λ fault old new s. (let e = s.at in cc, s.calm.calm, s.refuses);
+  not_extracted = λ back cause old new r. r;
+  no_memory_to_extract = λ back old new. (λ r. r, λ r. r);
+  noted = λ back c old new one r. absurd (let e = sym one ∙ r.1 in cc);
+  goes_on = λ old new r. absurd (let e = r.0 in cc);
+  no_other_end = λ back old new. (λ r. r, λ r. r);
+  extract_faults = λ cause. (tt, tt, tt);
+  no_extract_faults = (λ r. r, λ r. r, λ r. r);
+  none_refused = λ old new c. (c.calm, c.notes, λ held was kept. c.kept held was kept);
   walked = λ old new ps none w.
       let back = (w.crash [] none).now new.sink ps (refl, refl) in
       (w.core, w.notes, w.failures, (or_nothing back).0);

@@ -1,7 +1,7 @@
 -- A front of a mount is a mount.
 use Rattle.std.proofs.Common.{◌≡◌, ◌≢◌, ◌≤◌, ℕ, zero, suc, ◌+◌, List, [], ◌∷◌, ◌++◌, Bool, true}
 use Rattle.std.proofs.Common.{false, length, take, refl, sym, ap, subst, ◌∙◌, arith, length-append}
-use Rattle.std.specs.Prelude.{if◌then◌else◌, drop, ◌&&◌}
+use Rattle.std.specs.Prelude.{if◌then◌else◌, drop, ◌&&◌, Option}
 use Rattle.tape_image.specs.Tape.{TapeItem, block, bad, mark}
 use Rattle.tape_image.specs.Begins.{Walks}
 use Rattle.tape_image.proofs.Leads.{Leads-before}
@@ -157,28 +157,31 @@ fronts_are_mounts set front rest h (xs, end, stop, b, m) =
 -- ---- histories
 
 mount_given : (set : FileSet) (b g : List ℕ) (h : Happening) → IsMountOf set b h
-    → (failed : Bool) → IsGiven failed b g → (h' : Happening) × IsMountOf set g h'
-mount_given set b g h m false same = (h, subst (λ z. IsMountOf set z h) (sym same) m)
-mount_given set b g h m true (rest, whole) =
+    → (failed : Bool) (left : Option (List ℕ)) → IsGiven failed b left g
+    → (h' : Happening) × IsMountOf set g h'
+mount_given set b g h m false left same = (h, subst (λ z. IsMountOf set z h) (sym same) m)
+mount_given set b g h m true left (rest, is, whole) =
     let (n, front) = fronts_are_mounts set g rest h (subst (λ z. IsMountOf set z h) whole m) in
     (cut n h, front)
 
 pub given_is_history : GivenIsHistory
-given_is_history set notes which [] bytes given [] h a = ([], tt)
-given_is_history set notes which [] bytes given (x ∷ hs) h a = absurd h
-given_is_history set notes which (s ∷ steps) bytes given [] h a = absurd h
-given_is_history set notes which (Reel ∷ steps) [] given (x ∷ hs) h a = absurd h
-given_is_history set notes [] (Reel ∷ steps) (b ∷ bytes) given (x ∷ hs) h a =
+given_is_history set notes which [] bytes given left [] h a = ([], tt)
+given_is_history set notes which [] bytes given left (x ∷ hs) h a = absurd h
+given_is_history set notes which (s ∷ steps) bytes given left [] h a = absurd h
+given_is_history set notes which (Reel ∷ steps) [] given left (x ∷ hs) h a = absurd h
+given_is_history set notes [] (Reel ∷ steps) (b ∷ bytes) given left (x ∷ hs) h a =
     (x ∷ hs, subst (λ z. IsHistory set notes (Reel ∷ steps) z (x ∷ hs)) (sym a) h)
-given_is_history set notes (f ∷ which) (Reel ∷ steps) (b ∷ bytes) [] (x ∷ hs) h a = absurd a
-given_is_history set notes (f ∷ which) (Reel ∷ steps) (b ∷ bytes) (g ∷ given) (x ∷ hs) (m, h)
-    (is, a) =
-    let (x', m') = mount_given set b g x m f is in
-    let (hs', h') = given_is_history set notes which steps bytes given hs h a in
+given_is_history set notes (f ∷ which) (Reel ∷ steps) (b ∷ bytes) given [] (x ∷ hs) h a = absurd a
+given_is_history set notes (f ∷ which) (Reel ∷ steps) (b ∷ bytes) [] (l ∷ left) (x ∷ hs) h a =
+    absurd a
+given_is_history set notes (f ∷ which) (Reel ∷ steps) (b ∷ bytes) (g ∷ given) (l ∷ left) (x ∷ hs)
+    (m, h) (is, a) =
+    let (x', m') = mount_given set b g x m f l is in
+    let (hs', h') = given_is_history set notes which steps bytes given left hs h a in
     (x' ∷ hs', (m', h'))
-given_is_history set notes which (Save ∷ steps) bytes given (x ∷ hs) (e, h) a =
-    let (hs', h') = given_is_history set (notes + 1) which steps bytes given hs h a in
+given_is_history set notes which (Save ∷ steps) bytes given left (x ∷ hs) (e, h) a =
+    let (hs', h') = given_is_history set (notes + 1) which steps bytes given left hs h a in
     (saves ∷ hs', (refl, h'))
-given_is_history set notes which (Restart n ∷ steps) bytes given (x ∷ hs) (e, less, h) a =
-    let (hs', h') = given_is_history set (n + 1) which steps bytes given hs h a in
+given_is_history set notes which (Restart n ∷ steps) bytes given left (x ∷ hs) (e, less, h) a =
+    let (hs', h') = given_is_history set (n + 1) which steps bytes given left hs h a in
     (restarts n ∷ hs', (refl, less, h'))

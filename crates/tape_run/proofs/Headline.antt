@@ -49,8 +49,8 @@ after_reel set old new given saves (xs, end, stop, b, m) e f = absurd m
 after_reel set old new given (restarts n) (xs, end, stop, b, m) e f = absurd m
 
 pub reel_steps : (set : FileSet) (old new : Seen) (bytes : List ℕ) (failed : Bool) (h : Happening)
-    → (r : Reeled bytes failed old new) → IsLawful set → IsMountOf set r.given h → IsSession set old
-    → Stepped set old h new
+    {left : Option (List ℕ)} → (r : Reeled bytes left failed old new) → IsLawful set
+    → IsMountOf set r.given h → IsSession set old → Stepped set old h new
 reel_steps set old new bytes failed h r l m s =
     let read = r.reads set h l m s.at in
     let notes : AreNotes set old.place.file [] old.notes new.parts =
@@ -114,7 +114,8 @@ nothing_ran set old new bytes [] e h s =
 nothing_ran set old new bytes (h' ∷ hs) e h s = absurd h
 
 reel_then : (old mid new : Seen) (steps : List Step) (b : List ℕ) (bs : List (List ℕ))
-    (failed : Bool) (r : Reeled b failed old mid) (given : List (List ℕ))
+    (failed : Bool) {left : Option (List ℕ)} (r : Reeled b left failed old mid)
+    (given : List (List ℕ))
     → ((set : FileSet) (hs : List Happening) → IsLawful set
     → IsHistory set (length mid.notes) steps given hs → IsSession set mid → Ran set mid hs new)
     → (set : FileSet) (hs : List Happening) → IsLawful set
@@ -127,8 +128,10 @@ reel_then old mid new steps b bs failed r given rest set (x ∷ hs) l (m, h) s =
     step_then_run set old mid new x hs step (rest set hs l left step.session)
 
 -- All steps were made, and these readers failed.
-abbrev pub RanSo : List Bool → Seen → List Step → List (List ℕ) → Seen → Type 0
-RanSo which old steps bytes new = (run : HasRun old steps bytes new) × (run.which ≡ which)
+abbrev pub RanSo : List Bool → Seen → List Step → List (List ℕ) → List (Option (List ℕ)) → Seen
+    → Type 0
+RanSo which old steps bytes left new = (run : HasRun old steps bytes left new)
+    × (run.which ≡ which)
 
 counted_more : (failed : Bool) (which : List Bool) (a b c : ℕ) → b ≡ counted failed a
     → c ≡ counted_up (failed_of which) b → c ≡ counted_up (failed_of (failed ∷ which)) a
@@ -136,9 +139,10 @@ counted_more true which a b c e f = f ∙ ap (counted_up (failed_of which)) e
 counted_more false which a b c e f = f ∙ ap (counted_up (failed_of which)) e
 
 reel_given : (which : List Bool) (old mid new : Seen) (steps : List Step) (b : List ℕ)
-    (bs : List (List ℕ)) (failed : Bool) → Reeled b failed old mid → RanSo which mid steps bs new
-    → RanSo (failed ∷ which) old (Reel ∷ steps) (b ∷ bs) new
-reel_given which old mid new steps b bs failed r (rest, same) = (
+    (bs : List (List ℕ)) (l : Option (List ℕ)) (left : List (Option (List ℕ))) (failed : Bool)
+    → Reeled b l failed old mid → RanSo which mid steps bs left new
+    → RanSo (failed ∷ which) old (Reel ∷ steps) (b ∷ bs) (l ∷ left) new
+reel_given which old mid new steps b bs l left failed r (rest, same) = (
   record {
     given = r.given ∷ rest.given;
     which = failed ∷ rest.which;
@@ -190,8 +194,9 @@ restart_then old mid new n steps given w rest set (x ∷ hs) l (e, less, h) s =
 
 -- All steps of a run that answered Ok were made.
 pub headline : (which : List Bool) (old new : Seen) (steps : List Step) (bytes : List (List ℕ))
-    → Runs which old steps (map Some bytes) new → RanSo which old steps bytes new
-headline which old new [] bytes (none, same) = (
+    (left : List (Option (List ℕ)))
+    → Runs which old steps (map Some bytes) left new → RanSo which old steps bytes left new
+headline which old new [] bytes left (none, same) = (
   record {
     given = bytes;
     which = [];
@@ -202,12 +207,14 @@ headline which old new [] bytes (none, same) = (
   },
   sym none,
 )
-headline [] old new (Reel ∷ steps) bytes none = absurd none
-headline (failed ∷ which) old new (Reel ∷ steps) [] none = absurd none
-headline (failed ∷ which) old new (Reel ∷ steps) (b ∷ bs) (mid, r, runs) =
-    reel_given which old mid new steps b bs failed r (headline which mid new steps bs runs)
-headline which old new (Save ∷ steps) bytes (mid, v, runs) =
-    let (rest, same) = headline which mid new steps bytes runs in (
+headline [] old new (Reel ∷ steps) bytes left none = absurd none
+headline (failed ∷ which) old new (Reel ∷ steps) [] left none = absurd none
+headline (failed ∷ which) old new (Reel ∷ steps) (b ∷ bs) [] none = absurd none
+headline (failed ∷ which) old new (Reel ∷ steps) (b ∷ bs) (l ∷ left) (mid, r, runs) =
+    reel_given which old mid new steps b bs l left failed r
+    (headline which mid new steps bs left runs)
+headline which old new (Save ∷ steps) bytes left (mid, v, runs) =
+    let (rest, same) = headline which mid new steps bytes left runs in (
       record {
         given = rest.given;
         which = rest.which;
@@ -218,8 +225,8 @@ headline which old new (Save ∷ steps) bytes (mid, v, runs) =
       },
       same,
     )
-headline which old new (Restart n ∷ steps) bytes (mid, w, runs) =
-    let (rest, same) = headline which mid new steps bytes runs in (
+headline which old new (Restart n ∷ steps) bytes left (mid, w, runs) =
+    let (rest, same) = headline which mid new steps bytes left runs in (
       record {
         given = rest.given;
         which = rest.which;
@@ -233,8 +240,8 @@ headline which old new (Restart n ∷ steps) bytes (mid, w, runs) =
 
 -- over readers that tell their bytes
 pub ran_so : (which : List Bool) (old new : Seen) (steps : List Step)
-    (reels : List (Option (List ℕ))) → Runs which old steps reels new → (bytes : List (List ℕ))
-    → reels ≡ map Some bytes → RanSo which old steps bytes new
-ran_so which old new steps reels runs bytes e =
-    headline which old new steps bytes
-    (subst (λ (z : List (Option (List ℕ))). Runs which old steps z new) e runs)
+    (reels left : List (Option (List ℕ))) → Runs which old steps reels left new
+    → (bytes : List (List ℕ)) → reels ≡ map Some bytes → RanSo which old steps bytes left new
+ran_so which old new steps reels left runs bytes e =
+    headline which old new steps bytes left
+    (subst (λ (z : List (Option (List ℕ))). Runs which old steps z left new) e runs)

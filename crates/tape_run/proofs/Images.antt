@@ -157,7 +157,7 @@ ends_early : (old mid new : State) (held now then : List Portion) (p q : ℕ)
     (bytes ys zs : List ℕ) (item : TapeItem) (answer : Answer)
     → IsFinal answer → q ≤ image_limit → IsTaken (Some item) answer mid new now then
     → SoFar old mid held now p bytes ys → image.TakesItem p item q ys zs
-    → ReadsImage false old new held then bytes
+    → ReadsImage false old new held then (Some zs) bytes
 unfolding one_more
 ends_early old mid new held now then p q bytes ys zs item answer final le t s k =
     let up = one_more old mid new held now then p q bytes ys zs item answer t s k in
@@ -198,7 +198,7 @@ ends_there : (old mid new : State) (held now : List Portion) (p q : ℕ) (bytes 
     (ending : Ending)
     → rest_of new ≡ rest_of mid
     → SoFar old mid held now p bytes ys → TakesEnd p [] ending q ys zs
-    → ReadsImage false old new held now bytes
+    → ReadsImage false old new held now (Some zs) bytes
 ends_there old mid new held now p q bytes ys zs ending same s t =
     let all = TakesEnd-behind 0 p q bytes ys zs s.items ending s.walks t in
     record {
@@ -223,18 +223,18 @@ faults_there : (old mid new : State) (held now : List Portion) (p : ℕ) (bytes 
     (fault : ImageFault)
     → rest_of new ≡ rest_of mid
     → SoFar old mid held now p bytes ys → TakesFault p [] fault ys zs
-    → ReadsImage (is_device (Some fault)) old new held now bytes
+    → ReadsImage (is_device (Some fault)) old new held now (Some zs) bytes
 faults_there old mid new held now p bytes ys zs fault same s t =
     go (device_or_not fault.cause)
   where
     go : (fault.cause ≡ Device) ⊎ ((fault.cause ≢ Device) × (is_device_cause fault.cause ≡ false))
-        → ReadsImage (is_device (Some fault)) old new held now bytes
+        → ReadsImage (is_device (Some fault)) old new held now (Some zs) bytes
     go (inl e) =
         let all = TakesFault-behind 0 p bytes ys zs s.items fault s.walks t in
         let (stop, begins, cut_off) = TakesFault-device 0 s.items fault bytes zs all e in
         rw e (record {
           given = all.given;
-          is_given = (zs, all.whole);
+          is_given = (zs, refl, all.whole);
           reads = all_taken old mid new held now p bytes ys all.given s
               fault.place
               stop begins same;
@@ -263,27 +263,37 @@ known_so all left next P Q R f a b =
     known_all all next (λ xs zs. R xs) R (λ xs zs r. r)
     (known_then all left next P Q (λ xs zs. R xs) f a b)
 
+-- The same of what is known of the bytes by those that are left.
+known_by : (all left next : Option (List ℕ)) (P Q : List ℕ → List ℕ → Type 0)
+    (R : Option (List ℕ) → List ℕ → Type 0)
+    → ((xs ys zs : List ℕ) → P xs ys → Q ys zs → R (Some zs) xs)
+    → IfKnown all left P → IfKnown left next Q → IfSome all (R next)
+known_by None left next P Q R f a b = tt
+known_by (Some xs) None next P Q R f a b = absurd a
+known_by (Some xs) (Some ys) None P Q R f a b = absurd b
+known_by (Some xs) (Some ys) (Some zs) P Q R f a b = f xs ys zs a b
+
 -- The reading ended behind what the reader told.
 pub reads_image : (core : State) (held : List Portion) (all : Option (List ℕ))
     (old next : Reader) (told : Result (Option TapeItem) ImageFault) {mid new : State}
     {now then : List Portion} {answer : Answer} {fault : Option ImageFault}
     → IfKnown all old.left (SoFar core mid held now old.place) → Meets old told next
     → IsTaken (came_of told) answer mid new now then → IsFinal answer → fault ≡ fault_of told
-    → IfSome all (ReadsImage (is_device fault) core new held then)
+    → IfSome all (ReadsImage (is_device fault) core new held then next.left)
 reads_image core held all old next (Ok (Some item)) {mid} {new} {now} {then} {answer} {fault} known
     m t final is =
-    known_so all old.left next.left _ _ (ReadsImage (is_device fault) core new held then)
+    known_by all old.left next.left _ _ (ReadsImage (is_device fault) core new held then)
     (λ xs ys zs s k. rw is (ends_early core mid new held now then old.place next.place xs ys zs item
     answer final m.within t s k)) known m.takes
 reads_image core held all old next (Ok None) {mid} {new} {now} {then} {answer} {fault} known m
     t final is =
-    known_so all old.left next.left _ _ (ReadsImage (is_device fault) core new held then)
+    known_by all old.left next.left _ _ (ReadsImage (is_device fault) core new held then)
     (λ xs ys zs s k. rw is (ends_there core mid new held then old.place next.place xs ys zs m.ending
     (t.left refl).0 (nothing_more core mid new held now then old.place xs ys answer t s) k)) known
     m.takes
 reads_image core held all old next (Err met) {mid} {new} {now} {then} {answer} {fault} known m
     t final is =
-    known_so all old.left next.left _ _ (ReadsImage (is_device fault) core new held then)
+    known_by all old.left next.left _ _ (ReadsImage (is_device fault) core new held then)
     (λ xs ys zs s k. rw is (faults_there core mid new held then old.place xs ys zs met
     (t.left refl).0 (nothing_more core mid new held now then old.place xs ys answer t s) k)) known
     m.takes

@@ -1,6 +1,6 @@
 -- A run is where the table leads it.
 use Rattle.std.proofs.Common.{◌≡◌, ℕ, zero, suc, ◌+◌, List, [], ◌∷◌, ◌++◌, take, Some, refl, sym}
-use Rattle.std.proofs.Common.{ap, ◌∙◌, arith, Bool}
+use Rattle.std.proofs.Common.{ap, ◌∙◌, arith, Bool, Option}
 use Rattle.std.specs.List.{slice_get}
 use Rattle.tape_blocks.specs.Block.{Portion}
 use Rattle.tape_image.specs.Tape.{TapeItem}
@@ -88,7 +88,8 @@ noted_at front (n ∷ ns) (d ∷ ds) (suc i) c parts e (a, f, rest) =
 
 -- ---- one step
 
-there_reel : (old new : Seen) (bytes : List ℕ) (failed : Bool) (r : Reeled bytes failed old new)
+there_reel : (old new : Seen) (bytes : List ℕ) (failed : Bool) {left : Option (List ℕ)}
+    (r : Reeled bytes left failed old new)
     (xs : List TapeItem) (end : ℕ) (stop : Stop) → Begins 0 r.given xs end stop
     → (t : Lead) → StandsThere t old → StandsThere (over_reel t xs) new
 there_reel old new bytes failed r xs end stop b t s =
@@ -130,7 +131,8 @@ pub led_nothing : (old new : Seen) (given : List (List ℕ)) → new ≡ old →
 led_nothing old new given e = λ t reels a s. rw e s
 
 pub led_reel : (old mid new : Seen) (steps : List Step) (bytes : List ℕ) (failed : Bool)
-    (r : Reeled bytes failed old mid) (given : List (List ℕ)) → LeadsBy mid steps given new
+    {left : Option (List ℕ)} (r : Reeled bytes left failed old mid) (given : List (List ℕ))
+    → LeadsBy mid steps given new
     → LeadsBy old (Reel ∷ steps) (r.given ∷ given) new
 led_reel old mid new steps bytes failed r given rest t [] a s = absurd a
 led_reel old mid new steps bytes failed r given rest t (xs ∷ reels) ((end, stop, b), a) s =

@@ -24,6 +24,9 @@ pub mod ShownSections
 pub mod Inserting
 pub mod KeepingPlaces
 pub mod NotedSoFar
+pub mod Noting
+pub mod GoesBehind
+pub mod BehindReads
 pub mod SectionRuns
 pub mod StayingGood
 pub mod NothingLacks

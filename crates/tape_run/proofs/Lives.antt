@@ -39,20 +39,20 @@ of_stands set s back there is (inr (n, (e, f, w))) =
     (rw same note.stands, inr ((n, found)))
 
 -- some of the steps were made, and it is of the session behind them
-record Behind (old : Seen) (steps : List Step) (reels : List (Option (List ℕ)))
+record Behind (old : Seen) (steps : List Step) (reels left : List (Option (List ℕ)))
     (back : Point) (there : List Portion) : Type 0 where
   done : List Step
   rest : List Step
   all : steps ≡ done ++ rest
   mid : Seen
   which : List Bool
-  runs : Runs which old done reels mid
+  runs : Runs which old done reels left mid
   is_of : IsOf mid back there
 
-none_made : (old : Seen) (steps : List Step) (reels : List (Option (List ℕ)))
+none_made : (old : Seen) (steps : List Step) (reels left : List (Option (List ℕ)))
     (back : Point) (there : List Portion)
-    → IsOf old back there → Behind old steps reels back there
-none_made old steps reels back there h =
+    → IsOf old back there → Behind old steps reels left back there
+none_made old steps reels left back there h =
     record {
       done = [];
       rest = steps;
@@ -64,13 +64,17 @@ none_made old steps reels back there h =
     }
 
 behind : (old : Seen) (steps : List Step) (bytes : List (List ℕ))
-    (back : Point) (there : List Portion)
-    → StoodAt old steps (map Some bytes) back there → Behind old steps (map Some bytes) back there
-behind old [] bytes back there h = none_made old [] _ back there h
-behind old (Reel ∷ steps) [] back there h = none_made old (Reel ∷ steps) _ back there h
-behind old (Reel ∷ steps) (b ∷ bs) back there (inl h) = none_made old (Reel ∷ steps) _ back there h
-behind old (Reel ∷ steps) (b ∷ bs) back there (inr (failed, mid, r, h)) =
-    let n = behind mid steps bs back there h in
+    (left : List (Option (List ℕ))) (back : Point) (there : List Portion)
+    → StoodAt old steps (map Some bytes) left back there
+    → Behind old steps (map Some bytes) left back there
+behind old [] bytes left back there h = none_made old [] _ left back there h
+behind old (Reel ∷ steps) [] left back there h = none_made old (Reel ∷ steps) _ left back there h
+behind old (Reel ∷ steps) (b ∷ bs) [] back there h =
+    none_made old (Reel ∷ steps) _ [] back there h
+behind old (Reel ∷ steps) (b ∷ bs) (l ∷ left) back there (inl h) =
+    none_made old (Reel ∷ steps) _ (l ∷ left) back there h
+behind old (Reel ∷ steps) (b ∷ bs) (l ∷ left) back there (inr (failed, mid, r, h)) =
+    let n = behind mid steps bs left back there h in
     record {
       done = Reel ∷ n.done;
       rest = n.rest;
@@ -80,9 +84,10 @@ behind old (Reel ∷ steps) (b ∷ bs) back there (inr (failed, mid, r, h)) =
       runs = (mid, r, n.runs);
       is_of = n.is_of;
     }
-behind old (Save ∷ steps) bytes back there (inl h) = none_made old (Save ∷ steps) _ back there h
-behind old (Save ∷ steps) bytes back there (inr (mid, v, h)) =
-    let n = behind mid steps bytes back there h in
+behind old (Save ∷ steps) bytes left back there (inl h) =
+    none_made old (Save ∷ steps) _ left back there h
+behind old (Save ∷ steps) bytes left back there (inr (mid, v, h)) =
+    let n = behind mid steps bytes left back there h in
     record {
       done = Save ∷ n.done;
       rest = n.rest;
@@ -92,10 +97,10 @@ behind old (Save ∷ steps) bytes back there (inr (mid, v, h)) =
       runs = (mid, v, n.runs);
       is_of = n.is_of;
     }
-behind old (Restart k ∷ steps) bytes back there (inl h) =
-    none_made old (Restart k ∷ steps) _ back there h
-behind old (Restart k ∷ steps) bytes back there (inr (mid, w, h)) =
-    let n = behind mid steps bytes back there h in
+behind old (Restart k ∷ steps) bytes left back there (inl h) =
+    none_made old (Restart k ∷ steps) _ left back there h
+behind old (Restart k ∷ steps) bytes left back there (inr (mid, w, h)) =
+    let n = behind mid steps bytes left back there h in
     record {
       done = Restart k ∷ n.done;
       rest = n.rest;
@@ -107,12 +112,13 @@ behind old (Restart k ∷ steps) bytes back there (inr (mid, w, h)) =
     }
 
 pub comes_back : (old : Seen) (steps : List Step) (bytes : List (List ℕ))
-    (back : Point) (there : List Portion)
-    → StoodAt old steps (map Some bytes) back there
-    → (done : List Step) × (given : List (List ℕ)) × ComesBack old steps done bytes given back there
-comes_back old steps bytes back there h =
-    let b = behind old steps bytes back there h in
-    let run = (headline b.which old b.mid b.done bytes b.runs).0 in (
+    (left : List (Option (List ℕ))) (back : Point) (there : List Portion)
+    → StoodAt old steps (map Some bytes) left back there
+    → (done : List Step) × (given : List (List ℕ))
+    × ComesBack old steps done bytes left given back there
+comes_back old steps bytes left back there h =
+    let b = behind old steps bytes left back there h in
+    let run = (headline b.which old b.mid b.done bytes left b.runs).0 in (
       b.done,
       run.given,
       record {
@@ -147,7 +153,7 @@ one_life : (set : FileSet) (c : Point) (ps : List Portion) (life : Life) (hs : L
     → IsLawful set → Stands set c.file c ps → IsResumed c ps life.began
     → IsHistory set 0 life.done life.given hs
     → ((back ≡ c) × (there ≡ ps))
-    ⊎ ComesBack life.began life.steps life.done life.bytes life.given back there
+    ⊎ ComesBack life.began life.steps life.done life.bytes life.left life.given back there
     → Stands set c.file back there
 one_life set c ps life hs back there l st r h (inl (e, f)) = rw (e, f) st
 one_life set c ps life hs back there l st r h (inr b) =
@@ -173,23 +179,23 @@ across set c ps (life ∷ lives) (hs ∷ hss) back there l st (r, (mid, front, h
 
 -- one life, up to what a crash brought back
 one_more_life : (c : Point) (ps : List Portion) (s : Seen) (steps : List Step)
-    (reels : List (Option (List ℕ))) (bytes : List (List ℕ)) (old : Point → List Portion → Type 0)
-    (back : Point) (there : List Portion)
+    (reels left : List (Option (List ℕ))) (bytes : List (List ℕ))
+    (old : Point → List Portion → Type 0) (back : Point) (there : List Portion)
     → IsResumed c ps s → reels ≡ map Some bytes
-    → OnlyThis c ps old → old back there ⊎ StoodAt s steps reels back there
-    → (life : Life) × (life.began ≡ s) × (life.steps ≡ steps) × (life.bytes ≡ bytes)
+    → OnlyThis c ps old → old back there ⊎ StoodAt s steps reels left back there
+    → (life : Life) × (life.steps ≡ steps) × (life.bytes ≡ bytes) × (life.left ≡ left)
     × Outlives c ps (life ∷ []) back there
-one_more_life c ps s steps reels bytes old back there r e only (inl h) = (
-  record { began = s; steps = steps; bytes = bytes; done = []; given = bytes },
+one_more_life c ps s steps reels left bytes old back there r e only (inl h) = (
+  record { began = s; steps = steps; bytes = bytes; left = left; done = []; given = bytes },
   refl,
   refl,
   refl,
   (r, (back, there, inl (only back there h), (refl, refl))),
 )
-one_more_life c ps s steps reels bytes old back there r e only (inr h) =
-    let (done, given, b) = comes_back s steps bytes back there
-    (subst (λ (z : List (Option (List ℕ))). StoodAt s steps z back there) e h) in (
-      record { began = s; steps = steps; bytes = bytes; done = done; given = given },
+one_more_life c ps s steps reels left bytes old back there r e only (inr h) =
+    let (done, given, b) = comes_back s steps bytes left back there
+    (subst (λ (z : List (Option (List ℕ))). StoodAt s steps z left back there) e h) in (
+      record { began = s; steps = steps; bytes = bytes; left = left; done = done; given = given },
       refl,
       refl,
       refl,
@@ -197,17 +203,16 @@ one_more_life c ps s steps reels bytes old back there r e only (inr h) =
     )
 
 pub lives_on : (c : Point) (ps : List Portion) (s : Seen) (steps : List Step)
-    (reels : List (Option (List ℕ))) (bytes : List (List ℕ)) (old new : Returns)
+    (reels left : List (Option (List ℕ))) (bytes : List (List ℕ)) (old new : Returns)
     → IsResumed c ps s → reels ≡ map Some bytes
     → ((back : Point) (there : List Portion) → new back there
-    → old back there ⊎ StoodAt s steps reels back there) → LivesOn c ps steps bytes old new
-lives_on c ps s steps reels bytes old new r e adds only back there h =
-    let (life, began, of_steps, of_bytes, outlives) =
-    one_more_life c ps s steps reels bytes old back there r e only (adds back there h) in
-    (life, of_steps, of_bytes, outlives)
+    → old back there ⊎ StoodAt s steps reels left back there)
+    → LivesOn c ps steps bytes left old new
+lives_on c ps s steps reels left bytes old new r e adds only back there h =
+    one_more_life c ps s steps reels left bytes old back there r e only (adds back there h)
 
 pub goes_on : ResumedGoesOn
-goes_on set c ps s new steps bytes hs l st r h hist =
+goes_on set c ps s new steps bytes left hs l st r h hist =
     let none : length s.notes ≡ 0 = ap length r.notes in
     let file : s.place.file ≡ c.file = ap (λ (p : State). p.file) r.place in
     let from : course_of s ≡ record { at = c.position; notes = [] } =

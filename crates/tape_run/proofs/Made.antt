@@ -6,7 +6,7 @@ use Rattle.std.proofs.lemmas.List.{append_assoc, take-append-drop, drop_all}
 use Rattle.std.specs.List.{slice_get}
 use Rattle.tape_core.specs.Crash.{AddsNothing, Crashes}
 use Rattle.tape_core.specs.Weight.{IsFront}
-use Rattle.tape_run.specs.Crash.{LastAlone}
+use Rattle.tape_run.specs.Crash.{LastAlone, StoodAt}
 use Rattle.tape_run.specs.declared.fault.RunFault.{RunFault}
 use Rattle.tape_run.specs.declared.script.Step.{Step}
 use Rattle.tape_run.specs.declared.script.Step.TheVariants.{Reel, Save, Restart}
@@ -21,76 +21,79 @@ use Rattle.tape_run.proofs.Lasting.{alone_still}
 -- ---- one step
 
 -- one step later
-later : (which : List Bool) (old : Seen) (steps : List Step) (readers : List (Option (List ℕ)))
-    (n : ℕ) (fault : RunFault) (end : Seen) → RunsUpTo which old steps readers (suc n) fault end
-    → RunsUpTo which old steps readers (1 + n) fault end
-later which old steps readers n fault end h =
+later : (which : List Bool) (old : Seen) (steps : List Step)
+    (readers left : List (Option (List ℕ)))
+    (n : ℕ) (fault : RunFault) (end : Seen)
+    → RunsUpTo which old steps readers left (suc n) fault end
+    → RunsUpTo which old steps readers left (1 + n) fault end
+later which old steps readers left n fault end h =
     let same : suc n ≡ 1 + n = omega arith in
-    subst (λ k. RunsUpTo which old steps readers k fault end) same h
+    subst (λ k. RunsUpTo which old steps readers left k fault end) same h
 
-reel_makes : (old mid : Seen) (o : Option (List ℕ)) (failed : Bool)
-    → IfSome o (λ bytes. Reeled bytes failed old mid) → (readers : List (Option (List ℕ)))
+reel_makes : (old mid : Seen) (o l : Option (List ℕ)) (failed : Bool)
+    → IfSome o (λ bytes. Reeled bytes l failed old mid) → (readers : List (Option (List ℕ)))
     (steps : List Step)
-    → HasMade 1 (failed ∷ []) old (Reel ∷ steps) (o ∷ readers) mid steps readers
-reel_makes old mid None failed r readers steps = record {
-  runs = λ more end h. tt;
-  stops = λ more n fault end h. later _ _ _ _ n fault end (record {
+    → HasMade 1 (failed ∷ []) old (Reel ∷ steps) (o ∷ readers) (l ∷ []) mid steps readers
+reel_makes old mid None l failed r readers steps = record {
+  runs = λ more behind end h. tt;
+  stops = λ more behind n fault end h. later _ _ _ _ _ n fault end (record {
     step = h.step;
     at = h.at;
     mid = h.mid;
     runs = tt;
     fails = h.fails;
   });
-  stood = λ back there h. tt;
+  stood = λ behind back there h. tt;
 }
-reel_makes old mid (Some bytes) failed r readers steps = record {
-  runs = λ more end h. (mid, r, h);
-  stops = λ more n fault end h. later _ _ _ _ n fault end (record {
+reel_makes old mid (Some bytes) l failed r readers steps = record {
+  runs = λ more behind end h. (mid, r, h);
+  stops = λ more behind n fault end h. later _ _ _ _ _ n fault end (record {
     step = h.step;
     at = h.at;
     mid = h.mid;
     runs = (mid, r, h.runs);
     fails = h.fails;
   });
-  stood = λ back there h. inr ((failed, mid, r, h));
+  stood = λ behind back there h. inr ((failed, mid, r, h));
 }
 
 save_makes : (old mid : Seen) → Saved old mid → (readers : List (Option (List ℕ)))
-    (steps : List Step) → HasMade 1 [] old (Save ∷ steps) readers mid steps readers
+    (steps : List Step) → HasMade 1 [] old (Save ∷ steps) readers [] mid steps readers
 save_makes old mid v readers steps = record {
-  runs = λ more end h. (mid, v, h);
-  stops = λ more n fault end h. later _ _ _ _ n fault end (record {
+  runs = λ more behind end h. (mid, v, h);
+  stops = λ more behind n fault end h. later _ _ _ _ _ n fault end (record {
     step = h.step;
     at = h.at;
     mid = h.mid;
     runs = (mid, v, h.runs);
     fails = h.fails;
   });
-  stood = λ back there h. inr ((mid, v, h));
+  stood = λ behind back there h. inr ((mid, v, h));
 }
 
 restart_makes : (old mid : Seen) (k : ℕ) → WentBack k old mid
     → (readers : List (Option (List ℕ))) (steps : List Step)
-    → HasMade 1 [] old (Restart k ∷ steps) readers mid steps readers
+    → HasMade 1 [] old (Restart k ∷ steps) readers [] mid steps readers
 restart_makes old mid k w readers steps = record {
-  runs = λ more end h. (mid, w, h);
-  stops = λ more n fault end h. later _ _ _ _ n fault end (record {
+  runs = λ more behind end h. (mid, w, h);
+  stops = λ more behind n fault end h. later _ _ _ _ _ n fault end (record {
     step = h.step;
     at = h.at;
     mid = h.mid;
     runs = (mid, w, h.runs);
     fails = h.fails;
   });
-  stood = λ back there h. inr ((mid, w, h));
+  stood = λ behind back there h. inr ((mid, w, h));
 }
 
 -- a reel was read: the notes are as they were, and no part went
-pub reel_made : (old mid : Seen) (o : Option (List ℕ)) (failed : Bool)
-    → IfSome o (λ bytes. Reeled bytes failed old mid) → (readers : List (Option (List ℕ)))
+pub reel_made : (old mid : Seen) (o l : Option (List ℕ)) (failed : Bool)
+    → IfSome o (λ bytes. Reeled bytes l failed old mid) → (readers : List (Option (List ℕ)))
     (was now : Crashes) → mid.notes ≡ old.notes → IsFront old.parts mid.parts
-    → AddsNothing was now → IsMade (failed ∷ []) Reel (o ∷ readers) readers was now old mid
-reel_made old mid o failed r readers was now notes front none = record {
-  makes = reel_makes old mid o failed r readers;
+    → AddsNothing was now
+    → IsMade (failed ∷ []) Reel (o ∷ readers) (l ∷ []) readers was now old mid
+reel_made old mid o l failed r readers was now notes front none = record {
+  makes = reel_makes old mid o l failed r readers;
   stays = λ saved before. (
     saved,
     λ rest. refl,
@@ -100,7 +103,7 @@ reel_made old mid o failed r readers was now notes front none = record {
 
 -- it was noted where the session stands, and that comes back alone
 pub save_made : (old mid : Seen) → Saved old mid → (readers : List (Option (List ℕ)))
-    (was now : Crashes) → LastAlone now mid → IsMade [] Save readers readers was now old mid
+    (was now : Crashes) → LastAlone now mid → IsMade [] Save readers [] readers was now old mid
 save_made old mid v readers was now last = record {
   makes = save_makes old mid v readers;
   stays = λ saved before. (true, λ rest. refl, λ is. last);
@@ -109,7 +112,7 @@ save_made old mid v readers was now last = record {
 -- the session went back to a note
 pub restart_made : (old mid : Seen) (k : ℕ) → WentBack k old mid
     → (readers : List (Option (List ℕ))) (was now : Crashes)
-    → IsMade [] (Restart k) readers readers was now old mid
+    → IsMade [] (Restart k) readers [] readers was now old mid
 restart_made old mid k w readers was now = record {
   makes = restart_makes old mid k w readers;
   stays = λ saved before. (false, λ rest. refl, λ is. absurd (cc));
@@ -125,54 +128,69 @@ reel_failed old new (Some bytes) readers fault h = h
 -- ---- one behind another
 
 pub made_none : (s : Seen) (steps : List Step) (readers : List (Option (List ℕ)))
-    → HasMade 0 [] s steps readers s steps readers
+    → HasMade 0 [] s steps readers [] s steps readers
 made_none s steps readers = record {
-  runs = λ more end h. h;
-  stops = λ more n fault end h.
+  runs = λ more behind end h. h;
+  stops = λ more behind n fault end h.
       let same : n ≡ 0 + n = omega arith in
-      subst (λ k. RunsUpTo more s steps readers k fault end) same h;
-  stood = λ back there h. h;
+      subst (λ k. RunsUpTo more s steps readers behind k fault end) same h;
+  stood = λ behind back there h. h;
 }
 
 pub made_more : (made : ℕ) (which one : List Bool) (old mid new : Seen)
-    (steps left rest : List Step) (step : Step) (readers others last : List (Option (List ℕ)))
-    → left ≡ step ∷ rest → HasMade made which old steps readers mid left others
-    → HasMade 1 one mid (step ∷ rest) others new rest last
-    → HasMade (made + 1) (which ++ one) old steps readers new rest last
-made_more made which one old mid new steps left rest step readers others last e f g = record {
-  runs = λ more end h. subst (λ w. Runs w old steps readers end)
-      (sym (append_assoc which one more))
-      (f.runs (one ++ more) end (rw e (g.runs more end h)));
-  stops = λ more n fault end h.
-      let same : made + (1 + n) ≡ made + 1 + n = omega arith in
-      subst (λ k. RunsUpTo ((which ++ one) ++ more) old steps readers k fault end) same
-      (subst (λ w. RunsUpTo w old steps readers (made + (1 + n)) fault end)
-      (sym (append_assoc which one more))
-      (f.stops (one ++ more) (1 + n) fault end (rw e (g.stops more n fault end h))));
-  stood = λ back there h. f.stood back there (rw e (g.stood back there h));
-}
+    (steps left rest : List Step) (step : Step)
+    (readers unread others then last : List (Option (List ℕ)))
+    → left ≡ step ∷ rest → HasMade made which old steps readers unread mid left others
+    → HasMade 1 one mid (step ∷ rest) others then new rest last
+    → HasMade (made + 1) (which ++ one) old steps readers (unread ++ then) new rest last
+made_more made which one old mid new steps left rest step readers unread others then last e f g =
+    record {
+      runs = λ more behind end h.
+          subst (λ w. Runs w old steps readers ((unread ++ then) ++ behind) end)
+          (sym (append_assoc which one more))
+          (subst (λ u. Runs (which ++ (one ++ more)) old steps readers u end)
+          (sym (append_assoc unread then behind))
+          (f.runs (one ++ more) (then ++ behind) end (rw e (g.runs more behind end h))));
+      stops = λ more behind n fault end h.
+          let same : made + (1 + n) ≡ made + 1 + n = omega arith in
+          subst (λ k. RunsUpTo ((which ++ one) ++ more) old steps readers
+          ((unread ++ then) ++ behind) k fault end) same
+          (subst (λ w. RunsUpTo w old steps readers ((unread ++ then) ++ behind) (made + (1 + n))
+          fault end) (sym (append_assoc which one more))
+          (subst (λ u. RunsUpTo (which ++ (one ++ more)) old steps readers u (made + (1 + n))
+          fault end) (sym (append_assoc unread then behind))
+          (f.stops (one ++ more) (then ++ behind) (1 + n) fault end
+          (rw e (g.stops more behind n fault end h)))));
+      stood = λ behind back there h. subst (λ u. StoodAt old steps readers u back there)
+          (sym (append_assoc unread then behind))
+          (f.stood (then ++ behind) back there (rw e (g.stood behind back there h)));
+    }
 
 -- no step is left
 pub all_made : (made : ℕ) (which : List Bool) (old end : Seen) (steps : List Step) (i : ℕ)
-    (readers others : List (Option (List ℕ)))
-    → length steps ≤ i → HasMade made which old steps readers end (drop i steps) others
-    → Runs which old steps readers end
-all_made made which old end steps i readers others past h =
-    subst (λ w. Runs w old steps readers end) (append-nil which)
-    (h.runs [] end (rw (drop_all i steps past) ((refl, refl))))
+    (readers unread others behind : List (Option (List ℕ)))
+    → length steps ≤ i → HasMade made which old steps readers unread end (drop i steps) others
+    → Runs which old steps readers (unread ++ behind) end
+all_made made which old end steps i readers unread others behind past h =
+    subst (λ w. Runs w old steps readers (unread ++ behind) end) (append-nil which)
+    (h.runs [] behind end (rw (drop_all i steps past) ((refl, refl))))
 
 -- the next step was not made
 pub stops_here : (made : ℕ) (which : List Bool) (old mid new : Seen)
     (steps left rest : List Step) (step : Step)
-    (readers others : List (Option (List ℕ))) (fault : RunFault) → left ≡ step ∷ rest
-    → HasMade made which old steps readers mid left others → Fails step others fault mid new
-    → RunsUpTo which old steps readers made fault new
-stops_here made which old mid new steps left rest step readers others fault e h f =
+    (readers unread others behind all : List (Option (List ℕ))) (fault : RunFault)
+    → unread ++ behind ≡ all → left ≡ step ∷ rest
+    → HasMade made which old steps readers unread mid left others → Fails step others fault mid new
+    → RunsUpTo which old steps readers all made fault new
+stops_here made which old mid new steps left rest step readers unread others behind all fault whole
+    e h f =
     let none : made + 0 ≡ made = omega arith in
-    subst (λ k. RunsUpTo which old steps readers k fault new) none
-    (subst (λ w. RunsUpTo w old steps readers (made + 0) fault new) (append-nil which)
-    (h.stops [] 0 fault new
-    (rw e (record { step = step; at = refl; mid = mid; runs = (refl, refl); fails = f }))))
+    subst (λ u. RunsUpTo which old steps readers u made fault new) whole
+    (subst (λ k. RunsUpTo which old steps readers (unread ++ behind) k fault new) none
+    (subst (λ w. RunsUpTo w old steps readers (unread ++ behind) (made + 0) fault new)
+    (append-nil which)
+    (h.stops [] behind 0 fault new
+    (rw e (record { step = step; at = refl; mid = mid; runs = (refl, refl); fails = f })))))
 
 -- ---- what is written of the readers
 
@@ -206,8 +224,8 @@ wrote which more start row new used now_used count e (is, n) =
     ∙ written_more which more start
 
 -- the step that is next
-next_is : (steps : List Step) (i : ℕ) (step : Step) (rest : List Step) → drop i steps ≡ step ∷ rest
-    → slice_get steps i ≡ Some step
+pub next_is : (steps : List Step) (i : ℕ) (step : Step) (rest : List Step)
+    → drop i steps ≡ step ∷ rest → slice_get steps i ≡ Some step
 next_is [] zero step rest e = absurd (cc)
 next_is [] (suc i) step rest e = absurd (cc)
 next_is (s ∷ steps) zero step rest e = cc

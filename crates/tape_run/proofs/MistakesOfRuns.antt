@@ -3,7 +3,9 @@
 use Rattle.std.proofs.Common.{◌≡◌, ◌⊎◌, inl, inr, ℕ, List, [], ◌∷◌, ◌++◌, map}
 use Rattle.std.proofs.Common.{Bool, true, false, refl}
 use Rattle.std.proofs.Common.{sym, ap, ◌∙◌, subst, arith, codes, length}
-use Rattle.std.specs.Prelude.{Option, Some, Ok, IsSome, slice_get, option_map}
+use Rattle.std.proofs.Common.{append-nil}
+use Rattle.std.specs.Prelude.{Option, Some, None, Ok, IsSome, slice_get, option_map, replicate}
+use Rattle.tape_core.specs.Memory.{portions}
 use Rattle.tape_blocks.specs.declared.parts.Span.TheVariants as spans
 use Rattle.tape_blocks.specs.Block.{Portion}
 use Rattle.tape_set.specs.declared.position.Position.TheVariants.{Awaits}
@@ -26,10 +28,12 @@ use Rattle.tape_run.specs.Mount.{Happening, reads, foreign_reel, saves, restarts
 use Rattle.tape_run.specs.Runs.{Runs}
 use Rattle.tape_run.specs.Seen.{Seen, seen}
 use Rattle.tape_run.specs.WorkedHistory.{worked_steps, worked_reels, first, middle, last}
+use Rattle.tape_run.specs.WorkedHistory.{worked_set, reel_1, reading}
 use Rattle.tape_run.proofs.Back.{none_failed, none_of}
 use Rattle.tape_run.proofs.Lives.{goes_on}
 use Rattle.tape_run.proofs.MistakesOfStops.{kept_without}
-use Rattle.tape_run.proofs.WorkedHistory.{is_worked}
+use Rattle.tape_run.proofs.WorkedHistory.{is_worked, is_lawful}
+use Rattle.tape_run.proofs.WorkedReels.{whole_1}
 use Rattle.tape_run.proofs.script.run.Reads as run
 use Rattle.tape_run.proofs.whole.go_on.Reads as go_on
 use Rattle.tape_run.proofs.whole.read_file.Reads as read_file
@@ -42,10 +46,12 @@ HoldsOne holds = (xs ys : List Portion) → holds xs → holds ys → xs ≡ ys
 
 -- of two reels that a script asks for the second is not made where there is one reader
 second_reel : (which : List Bool) (old new : Seen) (bytes : List ℕ)
-    → Runs which old (Reel ∷ Reel ∷ []) (Some bytes ∷ []) new → ⊥
-second_reel [] old new bytes none = none
-second_reel (failed ∷ []) old new bytes (mid, r, none) = none
-second_reel (failed ∷ other ∷ which) old new bytes (mid, r, none) = none
+    (left : List (Option (List ℕ)))
+    → Runs which old (Reel ∷ Reel ∷ []) (Some bytes ∷ []) left new → ⊥
+second_reel [] old new bytes left none = none
+second_reel (failed ∷ which) old new bytes [] none = none
+second_reel (failed ∷ []) old new bytes (l ∷ left) (mid, r, none) = none
+second_reel (failed ∷ other ∷ which) old new bytes (l ∷ left) (mid, r, none) = none
 
 -- same_reel_read_again: there is one reader, and both reels of a script are told as read.
 same_reel_read_again : (S : _) (R : _) (LS : _) (LR : _) (g : _) (d : _) (h : _) (e : _)
@@ -59,15 +65,18 @@ same_reel_read_again S R LS LR g d h e κs a s held bytes l was fresh two one =
     let old : Seen = seen g a.0.now held in
     let new : Seen = seen g s.0.now r.0 in
     let (which, row, runs) = r.2.0 in
-    second_reel which old new bytes (subst (λ v. Runs which old v (Some bytes ∷ []) new) two
-    (subst (λ v. Runs which old a.1.0.now v new) one runs))
+    let left = map h.remaining s.1.1.0.now in
+    second_reel which old new bytes left
+    (subst (λ v. Runs which old v (Some bytes ∷ []) left new) two
+    (subst (λ v. Runs which old a.1.0.now v left new) one runs))
 
 -- of the one reader of a script it is told whether it failed, and so it is counted
-one_told : (which : List Bool) (old new : Seen) (bytes : List ℕ)
-    → Runs which old (Reel ∷ []) (Some bytes ∷ []) new
+one_told : (which : List Bool) (old new : Seen) (bytes : List ℕ) (left : List (Option (List ℕ)))
+    → Runs which old (Reel ∷ []) (Some bytes ∷ []) left new
     → (failed : Bool) × (which ≡ failed ∷ []) × (new.failures ≡ counted failed old.failures)
-one_told [] old new bytes r = absurd r
-one_told (failed ∷ which) old new bytes (mid, r, (none, same)) =
+one_told [] old new bytes left r = absurd r
+one_told (failed ∷ which) old new bytes [] r = absurd r
+one_told (failed ∷ which) old new bytes (l ∷ left) (mid, r, (none, same)) =
     (failed, ap (λ w. failed ∷ w) none, ap (λ (z : Seen). z.failures) same ∙ r.count)
 
 -- the same of a session
@@ -84,9 +93,10 @@ told_of_one S R LS LR g d h e κs a s held bytes l was fresh one known =
     let old : Seen = seen g a.0.now held in
     let new : Seen = seen g s.0.now r.0 in
     let (which, row, runs) = r.2.0 in
-    let (failed, is, count) = one_told which old new bytes
-    (subst (λ v. Runs which old v (Some bytes ∷ []) new) one
-    (subst (λ v. Runs which old a.1.0.now v new) known runs)) in
+    let left = map h.remaining s.1.1.0.now in
+    let (failed, is, count) = one_told which old new bytes left
+    (subst (λ v. Runs which old v (Some bytes ∷ []) left new) one
+    (subst (λ v. Runs which old a.1.0.now v left new) known runs)) in
     (failed, row ∙ ap (λ w. written w a.1.1.1.0.now) is, count)
 
 -- next_reader_told_as_failed: there is one reader, and the place of a second one is written
@@ -121,10 +131,10 @@ failed_reader_not_told S R LS LR g d h e κs a s held bytes l was fresh one know
     absurd (omega (arith, n))
 
 -- a save that was made is noted
-saved_alone : (which : List Bool) (old new : Seen) (reels : List (Option (List ℕ)))
-    → Runs which old (Save ∷ []) reels new
+saved_alone : (which : List Bool) (old new : Seen) (reels left : List (Option (List ℕ)))
+    → Runs which old (Save ∷ []) reels left new
     → new.notes ≡ old.notes ++ saved old.place (weight_of old.parts) ∷ []
-saved_alone which old new reels (mid, v, (none, same)) =
+saved_alone which old new reels left (mid, v, (none, same)) =
     ap (λ (z : Seen). z.notes) same ∙ v.notes
 
 -- script_notes_in_the_list_alone: at block 5 a script saves, and the sink comes back with the start
@@ -142,8 +152,9 @@ script_notes_in_the_list_alone S R LS LR g d h e κs a s held there older l was 
     let old : Seen = seen g a.0.now held in
     let new : Seen = seen g s.0.now r.0 in
     let here = saved old.place (weight_of held) in
+    let left = map h.remaining s.1.1.0.now in
     let one : s.0.now.notes ≡ here ∷ [] = saved_alone r.2.0.0 old new (map h.remaining a.1.1.0.now)
-    (subst (λ v. Runs r.2.0.0 old v (map h.remaining a.1.1.0.now) new) steps r.2.0.2)
+    left (subst (λ v. Runs r.2.0.0 old v (map h.remaining a.1.1.0.now) left new) steps r.2.0.2)
     ∙ ap (λ l. l ++ here ∷ []) fresh in
     let (n, count, (is, front, weighs)) =
     (r.2.1 (ap (is_saved false) steps)).0 older there back in
@@ -168,9 +179,11 @@ worked_parts : (S : _) (R : _) (LS : _) (LR : _) (g : _) (d : _) (h : _) (e : _)
 worked_parts S R LS LR g d h e κs a s held l empty fresh steps known none one there =
     let r = l.start (codes "ABC001") 1 empty fresh in
     let now : Seen = seen g s.0.now r.0 in
-    let read : IsRead (codes "ABC001") 1 worked_steps worked_reels now
-    = subst (λ v. IsRead (codes "ABC001") 1 v worked_reels now) steps (r.2 worked_reels known).0 in
-    one held r.0 there r.1 ∙ (is_worked.read now read none).0
+    let left = map h.remaining s.1.1.0.now in
+    let read : IsRead (codes "ABC001") 1 worked_steps worked_reels left now
+    = subst (λ v. IsRead (codes "ABC001") 1 v worked_reels left now) steps
+    (r.2 worked_reels known).0 in
+    one held r.0 there r.1 ∙ (is_worked.read now left read none).0
 
 -- delivers_nothing: the worked reels, which hold the whole file, were read, and the sink holds no
 -- part.
@@ -217,23 +230,25 @@ to_a_front set file bytes (restarts n) (xs, end, stop, b, m) = absurd m
 -- is with the image of a volume, any front of which is a reading that was cut there
 abbrev GivesMounts : FileSet → List ℕ → Type 0
 GivesMounts set bytes =
-    (failed : Bool) (given : List ℕ) → IsGiven failed bytes given
+    (failed : Bool) (left : Option (List ℕ)) (given : List ℕ) → IsGiven failed bytes left given
     → (m : Happening) × IsMountOf set given m
 
 -- what was given of one reader
-one_given : (set : FileSet) (bytes : List ℕ) (failed : List Bool) (given : List (List ℕ))
-    → GivesMounts set bytes → AreGivenBy failed (bytes ∷ []) given
+one_given : (set : FileSet) (bytes : List ℕ) (failed : List Bool)
+    (left : List (Option (List ℕ))) (given : List (List ℕ))
+    → GivesMounts set bytes → AreGivenBy failed (bytes ∷ []) left given
     → (m : Happening) × IsHistory set 0 (Reel ∷ []) given (m ∷ [])
     × ((file : ℕ) → part_of (course set file begins (m ∷ [])).at ≡ 0)
-one_given set bytes [] given all e =
-    let (m, of) = all false bytes refl in (
+one_given set bytes [] left given all e =
+    let (m, of) = all false None bytes refl in (
       m,
       subst (λ z. IsHistory set 0 (Reel ∷ []) z (m ∷ [])) (sym e) ((of, tt)),
       λ file. to_a_front set file bytes m of,
     )
-one_given set bytes (f ∷ failed) [] all a = absurd a
-one_given set bytes (f ∷ failed) (x ∷ xs) all (is, rest) =
-    let (m, of) = all f x is in (m, (of, tt), λ file. to_a_front set file x m of)
+one_given set bytes (f ∷ failed) [] given all a = absurd a
+one_given set bytes (f ∷ failed) (l ∷ left) [] all a = absurd a
+one_given set bytes (f ∷ failed) (l ∷ left) (x ∷ xs) all (is, rest) =
+    let (m, of) = all f l x is in (m, (of, tt), λ file. to_a_front set file x m of)
 
 -- partial_file_given: the sink refused part 3 of a block, and the file is given as one that was
 -- read.
@@ -244,13 +259,52 @@ partial_file_given : (R : _) (LR : _) (h : _) (d : _) (κs : _) (a : _) (session
     → session.core.position ≡ Awaits 1 0 3 → ⊥
 partial_file_given R LR h d κs a session s set bytes k lawful id file all one known stands =
     let r = k.read (bytes ∷ []) known in
-    let (m, history, front) = one_given set bytes r.5.which r.5.given all r.5.are_given in
+    let (m, history, front) = one_given set bytes r.5.which (map h.remaining s.1.1.1.1.0.now)
+    r.5.given all r.5.are_given in
     let steps : IsHistory set 0 a.1.1.1.0.now r.5.given (m ∷ [])
     = subst (λ v. IsHistory set 0 v r.5.given (m ∷ [])) (sym one) history in
     let c = (r.5.reads set (m ∷ []) lawful id file steps).0 in
     let n : 3 ≡ 0 = sym (ap part_of stands) ∙ sym (ap (λ v. part_of v.position) r.2)
     ∙ ap (λ v. part_of v.at) c ∙ front a.1.1.0 in
     absurd (omega (arith, n))
+
+-- of one reader that has nothing left all was given, whether it failed or not
+nothing_left : (which : List Bool) (bytes : List ℕ) (given : List (List ℕ))
+    → AreGivenBy which (bytes ∷ []) (Some [] ∷ []) given → given ≡ bytes ∷ []
+nothing_left [] bytes given e = e
+nothing_left (f ∷ which) bytes [] a = absurd a
+nothing_left (f ∷ other ∷ which) bytes (g ∷ given) (is, none) = absurd none
+nothing_left (false ∷ []) bytes (g ∷ given) (is, none) =
+    ap (λ z. z ∷ given) is ∙ ap (λ z. bytes ∷ z) none
+nothing_left (true ∷ []) bytes (g ∷ given) ((rest, told, whole), none) =
+    let over : rest ≡ [] = cc told in
+    let all : bytes ≡ g = whole ∙ (ap (λ z. g ++ z) over ∙ append-nil g) in
+    ap (λ z. z ∷ given) (sym all) ∙ ap (λ z. bytes ∷ z) none
+
+-- volume 1, read to its end
+abbrev all_of_1 : Happening
+all_of_1 = reads (reading 1 (replicate 11 true))
+
+-- failing_reader_gives_nothing: the reader of volume 1 came to the end of its bytes, and failed
+-- there or did not, and nothing of them is in memory.
+failing_reader_gives_nothing : (R : _) (LR : _) (h : _) (d : _) (κs : _) (a : _) (session : _)
+    (s : _) → read_file.Learnt-named R LR h d κs a (Ok (session, Ok tt)) s
+    → a.1.0 ≡ codes "ABC001" → a.1.1.0 ≡ 1 → a.1.1.1.0.now ≡ Reel ∷ []
+    → map h.remaining a.1.1.1.1.0.now ≡ Some reel_1 ∷ []
+    → map h.remaining s.1.1.1.1.0.now ≡ Some [] ∷ [] → portions session.sink ≡ [] → ⊥
+failing_reader_gives_nothing R LR h d κs a session s k id file one known over none =
+    let r = k.read (reel_1 ∷ []) known in
+    let is : IsRead (codes "ABC001") 1 (Reel ∷ []) (reel_1 ∷ []) (Some [] ∷ []) r.0
+    = subst (λ v. IsRead v 1 (Reel ∷ []) (reel_1 ∷ []) (Some [] ∷ []) r.0) id
+    (subst (λ v. IsRead a.1.0 v (Reel ∷ []) (reel_1 ∷ []) (Some [] ∷ []) r.0) file
+    (subst (λ v. IsRead a.1.0 a.1.1.0 v (reel_1 ∷ []) (Some [] ∷ []) r.0) one
+    (subst (λ v. IsRead a.1.0 a.1.1.0 a.1.1.1.0.now (reel_1 ∷ []) v r.0) over r.5))) in
+    let all = nothing_left is.which reel_1 is.given is.are_given in
+    let history : IsHistory worked_set 0 (Reel ∷ []) is.given (all_of_1 ∷ [])
+    = subst (λ z. IsHistory worked_set 0 (Reel ∷ []) z (all_of_1 ∷ [])) (sym all) (whole_1, tt) in
+    let two : first ∷ middle ∷ [] ≡ []
+    = sym (is.reads worked_set (all_of_1 ∷ []) is_lawful refl refl history).1 ∙ r.1 ∙ none in
+    let n : 2 ≡ 0 = ap length two in absurd (omega (arith, n))
 
 -- stopped_run_told_as_done: the sink refused a part, and the run is told as done. What it holds
 -- lies before no position that the readers' histories lead to: all of these are at the front of a
@@ -262,7 +316,8 @@ stopped_run_told_as_done : (S : _) (R : _) (LS : _) (LR : _) (g : _) (d : _) (h 
     → g.holds a.1.1.0 held → IsLawful set → Stands set a.1.0.now.file a.1.0.now held
     → map h.remaining a.1.1.1.1.0.now ≡ map Some bytes
     → HoldsOne (g.holds session.sink) → g.holds session.sink now
-    → ((which : List Bool) (given : List (List ℕ)) → AreGivenBy which bytes given
+    → ((which : List Bool) (left : List (Option (List ℕ))) (given : List (List ℕ))
+    → AreGivenBy which bytes left given
     → (hs : List Happening) × IsHistory set 0 a.1.1.1.0.now given hs
     × (now ≡ before set a.1.0.now.file (course set a.1.0.now.file
     (record { at = a.1.0.now.position; notes = [] }) hs).at → ⊥)) → ⊥
@@ -270,8 +325,10 @@ stopped_run_told_as_done S R LS LR g d h e κs a session s set held now bytes l 
     known one there none =
     let (began, from, (new, has, runs)) = l.delivers held was in
     let run = runs bytes known in
-    let (hs, history, other) = none run.which run.given run.are_given in
-    let (at, parts) = goes_on set a.1.0.now held began (seen g session new) a.1.1.1.0.now bytes hs
+    let left = map h.remaining s.1.1.1.1.0.now in
+    let (hs, history, other) = none run.which left run.given run.are_given in
+    let (at, parts) = goes_on set a.1.0.now held began (seen g session new) a.1.1.1.0.now bytes left
+    hs
     lawful stands from run history in
     other (one now new there has ∙ parts
     ∙ ap (λ (c : Course). before set a.1.0.now.file c.at) (sym at))
@@ -295,9 +352,10 @@ gone_on_without_reading S R LS LR g d h e κs a session s set held bytes hs l wa
     let none : failed_of run.which ≡ 0 =
     none_failed (failed_of run.which) (sym (sym calm ∙ run.count
     ∙ ap (counted_up (failed_of run.which)) from.failures)) in
-    let given : run.given ≡ bytes = none_of run.which bytes run.given none run.are_given in
-    let (at, parts) = goes_on set a.1.0.now held began (seen g session new) a.1.1.1.0.now bytes hs
-    lawful stands from run
+    let left = map h.remaining s.1.1.1.1.0.now in
+    let given : run.given ≡ bytes = none_of run.which bytes run.given left none run.are_given in
+    let (at, parts) = goes_on set a.1.0.now held began (seen g session new) a.1.1.1.0.now bytes left
+    hs lawful stands from run
     (subst (λ z. IsHistory set 0 a.1.1.1.0.now z hs) (sym given) history) in
     other (one held new there has ∙ parts
     ∙ ap (λ (c : Course). before set a.1.0.now.file c.at) (sym at))

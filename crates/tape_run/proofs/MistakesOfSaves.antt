@@ -121,11 +121,11 @@ at_first = record { step = 0; fault = faults.Sink Device }
 
 -- how the step failed that was not made, where it is the first one
 first_fails : (which : List Bool) (old new : Seen) (step : Step) (is steps : List Step)
-    (are left : List (Option (List ℕ))) (fault : RunFault) → is ≡ step ∷ steps → are ≡ left
-    → RunsUpTo which old is are 0 fault new → Fails step left fault old new
-first_fails which old new step is steps are left fault same these r =
-    let h = subst (λ v. RunsUpTo which old v left 0 fault new) same
-    (subst (λ v. RunsUpTo which old is v 0 fault new) these r) in
+    (are left over : List (Option (List ℕ))) (fault : RunFault) → is ≡ step ∷ steps → are ≡ left
+    → RunsUpTo which old is are over 0 fault new → Fails step left fault old new
+first_fails which old new step is steps are left over fault same these r =
+    let h = subst (λ v. RunsUpTo which old v left over 0 fault new) same
+    (subst (λ v. RunsUpTo which old is v over 0 fault new) these r) in
     let same_step : h.step ≡ step = let e = h.at in cc in
     subst (λ z. Fails z left fault old new) same_step
     (subst (λ z. Fails h.step left fault z new) h.runs.1 h.fails)
@@ -148,7 +148,8 @@ stopped_first S R LS LR g d h e κs a s step steps held left l was fresh one kno
       r.0,
       r.1 (λ lost. other lost.0.0 (sym (ap (λ v. slice_get v 0) one) ∙ lost.0.1)),
       first_fails r.2.1 (seen g a.0.now held) (seen g s.0.now r.0) step a.1.0.now
-          steps (map h.remaining a.1.1.0.now) left (faults.Sink Device) one known r.2.3,
+          steps (map h.remaining a.1.1.0.now) left (map h.remaining s.1.1.0.now)
+          (faults.Sink Device) one known r.2.3,
     )
 
 -- refused_save_loses_the_parts: the disk of the sink failed in a save, and the part that it held is
@@ -206,22 +207,23 @@ finished_told_as_something_else S R LS LR g d h e κs a answer s l end told =
 
 -- where a reel that was read without a fault leads: where the table does, over all its items
 led_to : (old new : Seen) (bytes : List ℕ) (xs : List TapeItem) (end : ℕ) (stop : Stop)
-    (fault : Option ImageFault) → Reeled bytes (given.is_device fault) old new → fault ≡ None
+    (fault : Option ImageFault) (left : Option (List ℕ))
+    → Reeled bytes left (given.is_device fault) old new → fault ≡ None
     → Begins 0 bytes xs end stop → new.place ≡ rest_of (behind_items (mount_of old.place) xs)
-led_to old new bytes xs end stop fault r none b =
-    let all : IsGiven false bytes r.given
-    = subst (λ f. IsGiven (given.is_device f) bytes r.given) none r.is_given in
+led_to old new bytes xs end stop fault left r none b =
+    let all : IsGiven false bytes left r.given
+    = subst (λ f. IsGiven (given.is_device f) bytes left r.given) none r.is_given in
     (r.table xs end stop (subst (λ v. Begins 0 v xs end stop) (sym all) b)).place
 
 -- the same of a session
 led_there : (old new : Seen) (known : Option (List ℕ)) (bytes : List ℕ) (xs : List TapeItem)
-    (end : ℕ) (stop : Stop) (fault : Option ImageFault)
-    → IfSome known (λ v. Reeled v (given.is_device fault) old new) → known ≡ Some bytes
+    (end : ℕ) (stop : Stop) (fault : Option ImageFault) (left : Option (List ℕ))
+    → IfSome known (λ v. Reeled v left (given.is_device fault) old new) → known ≡ Some bytes
     → fault ≡ None → Begins 0 bytes xs end stop
     → new.place ≡ rest_of (behind_items (mount_of old.place) xs)
-led_there old new known bytes xs end stop fault r is none b =
-    led_to old new bytes xs end stop fault
-    (subst (λ v. IfSome v (λ z. Reeled z (given.is_device fault) old new)) is r) none b
+led_there old new known bytes xs end stop fault left r is none b =
+    led_to old new bytes xs end stop fault left
+    (subst (λ v. IfSome v (λ z. Reeled z left (given.is_device fault) old new)) is r) none b
 
 -- behind an item that ended the reading with less than the file, the file is not complete
 not_finished : (core : State) (x : TapeItem) (more : List TapeItem) (why : Reason)
@@ -255,7 +257,8 @@ count_passed_over S R LS LR g d h e κs a answer s held bytes end stop items mor
     let all : List TapeItem = items ++ trailer ∷ more in
     let led : rest_of s.0.now.core ≡ rest_of (behind_items front all)
     = led_there (seen g a.0.now held) (seen g s.0.now r.0)
-    (h.remaining a.1.0.now) bytes all end stop answer.fault r.2.2 known none image in
+    (h.remaining a.1.0.now) bytes all end stop answer.fault (h.remaining s.1.0.now) r.2.2 known none
+    image in
     not_finished (behind_items front items) trailer more (BlockCount 9 6) counts
     (sym (ap (λ c. c.position) (behind_app front items (trailer ∷ more)))
     ∙ sym (ap (λ c. c.position) led) ∙ finished)
@@ -279,7 +282,8 @@ broken_reader_mended S R LS LR g d h e κs a answer s held bytes end stop items 
     let front : State = mount_of (rest_of a.0.now.core) in
     let led : rest_of s.0.now.core ≡ rest_of (behind_items front items)
     = led_there (seen g a.0.now held) (seen g s.0.now r.0)
-    (h.remaining a.1.0.now) bytes items end stop answer.fault r.2.2 known none image in
+    (h.remaining a.1.0.now) bytes items end stop answer.fault (h.remaining s.1.0.now) r.2.2 known
+    none image in
     let still : front.phase ≡ Broken
     = ap (λ f. mounted (resting f) a.0.now.core.position) broken in
     let idle : IsIdle front.position front.phase

@@ -36,12 +36,12 @@ StopsAt steps left step n fault = (mid : Seen) × (new : Seen)
     × Fails step (drop (reels_in (take n steps)) left) fault mid new
 
 stops_at : (which : List Bool) (old new : Seen) (is steps : List Step)
-    (are left : List (Option (List ℕ))) (n : ℕ) (fault : RunFault)
-    → is ≡ steps → are ≡ left → RunsUpTo which old is are n fault new
+    (are left over : List (Option (List ℕ))) (n : ℕ) (fault : RunFault)
+    → is ≡ steps → are ≡ left → RunsUpTo which old is are over n fault new
     → (step : Step) × StopsAt steps left step n fault
-stops_at which old new is steps are left n fault same these r =
-    let h = subst (λ v. RunsUpTo which old v left n fault new) same
-    (subst (λ v. RunsUpTo which old is v n fault new) these r) in
+stops_at which old new is steps are left over n fault same these r =
+    let h = subst (λ v. RunsUpTo which old v left over n fault new) same
+    (subst (λ v. RunsUpTo which old is v over n fault new) these r) in
     (h.step, (h.mid, new, h.at, h.fails))
 
 -- a run that asks for a reel where no reader is left is not ended by another fault
@@ -63,7 +63,7 @@ no_reel_told_as_no_point : (S : _) (R : _) (LS : _) (LR : _) (g : _) (d : _) (h 
 no_reel_told_as_no_point S R LS LR g d h e κs a s held n l was fresh one none =
     let kept = kept_without (rest_of a.0.now.core) held a.0.now.notes fresh in
     let (step, stops) = stops_at _ _ _ a.1.0.now (Reel ∷ []) (map h.remaining a.1.1.0.now) []
-    n NoSuchPoint one none (l.faults held was kept).2.3 in
+    _ n NoSuchPoint one none (l.faults held was kept).2.3 in
     absurd (cc (other_fault step n NoSuchPoint stops))
 
 -- a save is not stopped for want of a reel
@@ -83,7 +83,7 @@ step_told_one_too_low : (S : _) (R : _) (LS : _) (LR : _) (g : _) (d : _) (h : _
 step_told_one_too_low S R LS LR g d h e κs a s held l was fresh two none =
     let kept = kept_without (rest_of a.0.now.core) held a.0.now.notes fresh in
     let (step, (mid, new, is, fails)) = stops_at _ _ _ a.1.0.now (Save ∷ Reel ∷ [])
-    (map h.remaining a.1.1.0.now) [] 0 TooFewReels two none (l.faults held was kept).2.3 in
+    (map h.remaining a.1.1.0.now) [] _ 0 TooFewReels two none (l.faults held was kept).2.3 in
     saves_need_none step mid new is fails
 
 -- steps_counted_from_1: the only step was not made, and step 1 is told
@@ -95,5 +95,5 @@ steps_counted_from_1 : (S : _) (R : _) (LS : _) (LR : _) (g : _) (d : _) (h : _)
 steps_counted_from_1 S R LS LR g d h e κs a s held fault l was fresh one none =
     let kept = kept_without (rest_of a.0.now.core) held a.0.now.notes fresh in
     let (step, (mid, new, is, fails)) = stops_at _ _ _ a.1.0.now (Reel ∷ [])
-    (map h.remaining a.1.1.0.now) [] 1 fault one none (l.faults held was kept).2.3 in
+    (map h.remaining a.1.1.0.now) [] _ 1 fault one none (l.faults held was kept).2.3 in
     absurd (omega (arith, slice_get_within (Reel ∷ []) 1 step is))

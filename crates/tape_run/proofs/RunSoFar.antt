@@ -1,7 +1,7 @@
 -- A run, as far as it has come.
 use Rattle.std.proofs.Common.{◌≡◌, ℕ, ◌+◌, ◌≤◌, Bool, true, false, List, [], ◌∷◌, ◌++◌, length}
-use Rattle.std.proofs.Common.{drop, Option, refl, sym, ap, ◌∙◌}
-use Rattle.std.proofs.lemmas.List.{drop_all}
+use Rattle.std.proofs.Common.{map, take, drop, Option, refl, sym, ap, subst, ◌∙◌}
+use Rattle.std.proofs.lemmas.List.{drop_all, map-append, take-append-drop, append_assoc}
 use Rattle.tape_blocks.specs.Block.{Portion}
 use Rattle.tape_core.specs.Crash.{AddsOnly, Crashes}
 use Rattle.tape_core.proofs.Crashes.{only_same, only_then}
@@ -19,13 +19,14 @@ use Rattle.tape_run.proofs.Made.{made_none, made_more, all_made}
 -- now, what the steps did, what a crash brings back, and whether that is the note made last alone.
 pub record HasCome {S : Type 0} (g : Ghosts S) (which : List Bool) (old : Story S)
     (held : List Portion) (steps : List Step) (readers : List (Option (List ℕ))) (n : ℕ)
-    (new : Story S) (others : List (Option (List ℕ))) : Type 0 where
+    (new : Story S) (unread others : List (Option (List ℕ))) : Type 0 where
   pub now : List Portion
   pub has : g.holds new.sink now
   pub kept : IsKept (seen g new now)
-  pub made : HasMade n which (seen g old held) steps readers (seen g new now)
+  pub made : HasMade n which (seen g old held) steps readers unread (seen g new now)
       (drop n steps) others
-  pub adds : AddsOnly (StoodAt (seen g old held) steps readers) (g.crashes old.sink)
+  pub adds : (behind : List (Option (List ℕ)))
+      → AddsOnly (StoodAt (seen g old held) steps readers (unread ++ behind)) (g.crashes old.sink)
       (g.crashes new.sink)
   pub saved : Bool
   pub same : is_saved false steps ≡ is_saved saved (drop n steps)
@@ -34,13 +35,13 @@ pub record HasCome {S : Type 0} (g : Ghosts S) (which : List Bool) (old : Story 
 pub none_made : {S : Type 0} {g : Ghosts S} {old : Story S} {held : List Portion}
     {steps : List Step} {readers : List (Option (List ℕ))} → g.holds old.sink held
     → IsKept (seen g old held)
-    → HasCome g [] old held steps readers 0 old readers
+    → HasCome g [] old held steps readers 0 old [] readers
 none_made {held = held} was kept = record {
   now = held;
   has = was;
   kept = kept;
   made = made_none _ _ _;
-  adds = only_same _ _;
+  adds = λ behind. only_same _ _;
   saved = false;
   same = refl;
   brings = λ is. absurd (cc);
@@ -48,48 +49,85 @@ none_made {held = held} was kept = record {
 
 -- what the next step adds to what a crash brings back
 pub adds_more : {S : Type 0} {g : Ghosts S} {which : List Bool} {old mid : Story S}
-    {held : List Portion} {steps : List Step} {readers others : List (Option (List ℕ))} {n : ℕ}
-    {new : Crashes}
-    (come : HasCome g which old held steps readers n mid others)
+    {held : List Portion} {steps : List Step} {readers unread others : List (Option (List ℕ))}
+    {n : ℕ} {new : Crashes}
+    (come : HasCome g which old held steps readers n mid unread others)
     → AddsOnly (IsOf (seen g mid come.now)) (g.crashes mid.sink) new
-    → AddsOnly (StoodAt (seen g old held) steps readers) (g.crashes old.sink) new
-adds_more come adds =
-    only_then _ _ _ _ _ (λ back there h. come.made.stood back there
-    (stood_here _ _ _ back there h)) come.adds adds
+    → (behind all : List (Option (List ℕ))) → unread ++ behind ≡ all
+    → AddsOnly (StoodAt (seen g old held) steps readers all) (g.crashes old.sink) new
+adds_more {g = g} {old = old} {held = held} {steps = steps} {readers = readers} {new = new} come
+    adds behind all whole =
+    subst (λ u. AddsOnly (StoodAt (seen g old held) steps readers u) (g.crashes old.sink) new) whole
+    (only_then _ _ _ _ _ (λ back there h. come.made.stood behind back there
+    (stood_here _ _ _ behind back there h)) (come.adds behind) adds)
 
 -- the next step was made
 pub one_more : {S : Type 0} {g : Ghosts S} {which one : List Bool} {old mid new : Story S}
-    {held : List Portion} {readers others last : List (Option (List ℕ))} {step : Step}
+    {held : List Portion} {readers unread others then last : List (Option (List ℕ))} {step : Step}
     (steps : List Step) (n : ℕ)
-    (come : HasCome g which old held steps readers n mid others)
+    (come : HasCome g which old held steps readers n mid unread others)
     → drop n steps ≡ step ∷ drop (n + 1) steps → (now : List Portion) → g.holds new.sink now
     → IsKept (seen g new now)
-    → IsMade one step others last (g.crashes mid.sink) (g.crashes new.sink)
+    → IsMade one step others then last (g.crashes mid.sink) (g.crashes new.sink)
     (seen g mid come.now) (seen g new now)
     → AddsOnly (IsOf (seen g mid come.now)) (g.crashes mid.sink) (g.crashes new.sink)
-    → HasCome g (which ++ one) old held steps readers (n + 1) new last
-one_more steps n come here now has kept step adds =
+    → HasCome g (which ++ one) old held steps readers (n + 1) new (unread ++ then) last
+one_more {unread = unread} {then = then} steps n come here now has kept step adds =
     let rest = drop (n + 1) steps in
     let (still, goes, brings) = step.stays come.saved come.brings in
     record {
       now = now;
       has = has;
       kept = kept;
-      made = made_more _ _ _ _ _ _ _ _ _ _ _ _ _ here come.made (step.makes rest);
-      adds = adds_more come adds;
+      made = made_more _ _ _ _ _ _ _ _ _ _ _ _ _ _ _ here come.made (step.makes rest);
+      adds = λ behind. adds_more come adds (then ++ behind) _
+          (sym (append_assoc unread then behind));
       saved = still;
       same = come.same ∙ ap (is_saved come.saved) here ∙ goes rest;
       brings = brings;
     }
 
+-- what is unread of all readers, by the first of them and the others
+pub all_unread : {R : Type 0} (remaining : R → Option (List ℕ)) (used : ℕ) (reels : List R)
+    → map remaining (take used reels) ++ map remaining (drop used reels) ≡ map remaining reels
+all_unread remaining used reels = sym (map-append remaining (take used reels) (drop used reels))
+    ∙ ap (map remaining) (take-append-drop used reels)
+
+-- the same, told by other words
+pub now_unread : {S : Type 0} {g : Ghosts S} {which : List Bool} {old new : Story S}
+    {held : List Portion} {steps : List Step} {readers unread others : List (Option (List ℕ))}
+    {n : ℕ} (is : List (Option (List ℕ))) → is ≡ unread
+    → HasCome g which old held steps readers n new unread others
+    → HasCome g which old held steps readers n new is others
+now_unread {g = g} {which = which} {old = old} {new = new} {held = held} {steps = steps}
+    {readers = readers} {others = others} {n = n} is e come =
+    subst (λ u. HasCome g which old held steps readers n new u others) (sym e) come
+
+-- what a crash brings back so far, of readers that have this unread
+pub adds_so_far : {S : Type 0} {g : Ghosts S} {which : List Bool} {old new : Story S}
+    {held : List Portion} {steps : List Step} {readers others : List (Option (List ℕ))} {n : ℕ}
+    {R : Type 0} (remaining : R → Option (List ℕ)) (used : ℕ) (reels : List R)
+    → HasCome g which old held steps readers n new (map remaining (take used reels)) others
+    → AddsOnly (StoodAt (seen g old held) steps readers (map remaining reels)) (g.crashes old.sink)
+    (g.crashes new.sink)
+adds_so_far {g = g} {old = old} {new = new} {held = held} {steps = steps} {readers = readers}
+    remaining used reels come =
+    subst (λ u. AddsOnly (StoodAt (seen g old held) steps readers u) (g.crashes old.sink)
+    (g.crashes new.sink)) (all_unread remaining used reels)
+    (come.adds (map remaining (drop used reels)))
+
 -- no step is left
 pub came_to_end : {S : Type 0} {g : Ghosts S} {which : List Bool} {old new : Story S}
-    {held : List Portion} {readers others : List (Option (List ℕ))} (steps : List Step) (n : ℕ)
-    (come : HasCome g which old held steps readers n new others)
-    → length steps ≤ n → Runs which (seen g old held) steps readers
+    {held : List Portion} {readers others : List (Option (List ℕ))} {R : Type 0}
+    (steps : List Step) (n : ℕ) (remaining : R → Option (List ℕ)) (used : ℕ) (reels : List R)
+    (come : HasCome g which old held steps readers n new (map remaining (take used reels)) others)
+    → length steps ≤ n → Runs which (seen g old held) steps readers (map remaining reels)
     (seen g new come.now) × (is_saved false steps ≡ true
     → LastAlone (g.crashes new.sink) (seen g new come.now))
-came_to_end steps n come past = (
-  all_made _ _ _ _ steps n _ _ past come.made,
-  λ is. come.brings (sym (come.same ∙ ap (is_saved come.saved) (drop_all n steps past)) ∙ is),
-)
+came_to_end {g = g} {which = which} {old = old} {new = new} {held = held} {readers = readers} steps
+    n remaining used reels come past = (
+      subst (λ u. Runs which (seen g old held) steps readers u (seen g new come.now))
+          (all_unread remaining used reels)
+          (all_made _ _ _ _ steps n _ _ _ (map remaining (drop used reels)) past come.made),
+      λ is. come.brings (sym (come.same ∙ ap (is_saved come.saved) (drop_all n steps past)) ∙ is),
+    )

@@ -24,7 +24,7 @@ use Rattle.tape_run.specs.ByTable.{IsLed, IsCutAt}
 use Rattle.tape_run.proofs.ByTable.{led_nowhere}
 use Rattle.tape_run.specs.Under.{is_under}
 use Rattle.tape_run.specs.Taking.{ReadsImage, RefusesImage, CutsTable}
-use Rattle.tape_run.specs.Given.{counted}
+use Rattle.tape_run.specs.Given.{counted, IsGiven}
 use Rattle.tape_run.specs.Seen.{Seen, IsNote, KeepsNotes, IsKept}
 use Rattle.tape_run.specs.Steps.{Reeled, CutShort, Saved, WentBack, ReadBy, StoppedBy}
 use Rattle.tape_run.proofs.Notes.{front_self, front_trans, same_front}
@@ -107,13 +107,14 @@ kept_save old new v k =
 -- ---- a reel
 
 pub reeled : (failed : Bool) (mounted new : State) (held now : List Portion) (bytes : List ℕ)
-    (p : State) (notes : List Point) (f1 f2 r1 r2 : ℕ)
+    (unread left : Option (List ℕ)) (p : State) (notes : List Point) (f1 f2 r1 r2 : ℕ)
+    → left ≡ unread
     → ((set : FileSet) (parts : List Portion) (xs : List TapeItem) (h : Happening) → IsLawful set
     → IsMount set xs h → IsPlaced set p parts → is_under mounted set p.position xs 0 h)
     → rest_of mounted ≡ p → (rest_of new).set_id ≡ p.set_id → (rest_of new).file ≡ p.file → r2 ≡ r1
     → IsFront held now → f2 ≡ counted failed f1 → mounted ≡ mount_of p
-    → ReadsImage failed mounted new held now bytes
-    → Reeled bytes failed (record {
+    → ReadsImage failed mounted new held now unread bytes
+    → Reeled bytes left failed (record {
       place = p;
       parts = held;
       notes = notes;
@@ -121,10 +122,10 @@ pub reeled : (failed : Bool) (mounted new : State) (held now : List Portion) (by
       refusals = r1;
     })
     (record { place = rest_of new; parts = now; notes = notes; failures = f2; refusals = r2 })
-reeled failed mounted new held now bytes p notes f1 f2 r1 r2 begins same set_id file
-    calm grows count mount r = record {
+reeled failed mounted new held now bytes unread left p notes f1 f2 r1 r2 same_left begins same
+    set_id file calm grows count mount r = record {
       given = r.given;
-      is_given = r.is_given;
+      is_given = subst (λ l. IsGiven failed bytes l r.given) (sym same_left) r.is_given;
       count = count;
       notes = refl;
       same_set = set_id;
@@ -175,9 +176,9 @@ stays_finished set file foreign_reel = refl
 stays_finished set file saves = refl
 stays_finished set file (restarts n) = refl
 
-not_read_so : (bytes : List ℕ) (s : Seen) (core : State) → s.place ≡ rest_of core
-    → s.place.position ≡ Finished → Reeled bytes false s s
-not_read_so bytes s core rest e = record {
+not_read_so : (bytes : List ℕ) (left : Option (List ℕ)) (s : Seen) (core : State)
+    → s.place ≡ rest_of core → s.place.position ≡ Finished → Reeled bytes left false s s
+not_read_so bytes left s core rest e = record {
   given = bytes;
   is_given = refl;
   count = refl;
@@ -195,10 +196,11 @@ not_read_so bytes s core rest e = record {
       (led_nowhere core s.parts xs (sym (ap (λ (z : State). z.position) rest) ∙ e));
 }
 
-pub not_read : (bytes : List ℕ) (s : Seen) (core : State) (failed : Bool) → failed ≡ false
-    → s.place ≡ rest_of core → s.place.position ≡ Finished → Reeled bytes failed s s
-not_read bytes s core failed f rest e =
-    subst (λ (b : Bool). Reeled bytes b s s) (sym f) (not_read_so bytes s core rest e)
+pub not_read : (bytes : List ℕ) (left : Option (List ℕ)) (s : Seen) (core : State)
+    (failed : Bool) → failed ≡ false
+    → s.place ≡ rest_of core → s.place.position ≡ Finished → Reeled bytes left failed s s
+not_read bytes left s core failed f rest e =
+    subst (λ (b : Bool). Reeled bytes left b s s) (sym f) (not_read_so bytes left s core rest e)
 
 pub some_at : (o q : Option (List ℕ)) (P Q : List ℕ → Type 0) → q ≡ o
     → ((xs : List ℕ) → P xs → Q xs) → IfSome q P → IfSome o Q

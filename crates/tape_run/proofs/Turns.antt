@@ -25,7 +25,11 @@ use Rattle.tape_run.specs.Reeling.{IsThere, LedOver, AreSure, Mounting, AreMount
 use Rattle.tape_image.specs.Tape.{TapeItem}
 use Rattle.tape_image.specs.Begins.{Stop, Begins}
 use Rattle.tape_core.specs.Table.{mount_of}
-use Rattle.tape_run.specs.Reels.{behind_items}
+use Rattle.std.proofs.Common.{◌⊎◌, inl, inr}
+use Rattle.std.proofs.lemmas.List.{append_cancel_right}
+use Rattle.tape_image.specs.declared.item.ImageCause.TheVariants.{Device}
+use Rattle.tape_image.specs.Step.{TakesFault}
+use Rattle.tape_run.specs.Reels.{behind_items, ReadsReel, EndedByItem, EndedByMedium, EndedByFault}
 use Rattle.tape_run.specs.ByTable.{delivered_parts, IsLed}
 use Rattle.tape_run.specs.Lead.{Lead, over_reel}
 
@@ -106,19 +110,20 @@ follows_then back a s (Some o ∷ ts) b t us c u (next, mid, r, f) g =
     (next, mid, r, follows_then back next mid ts b t us c u f g)
 
 pub noted : (back : Bool) (bytes : Option (List ℕ)) (o : Opened) (old mid new : Seen)
-    → IfSome bytes (λ b. Reeled b (is_device o.answer.fault) old mid)
-    → IsNoted back (is_doubtful o.answer.answer) mid new
-    → IfSome bytes (λ b. (m : Seen) × Reeled b (is_device o.answer.fault) old m
-    × IsNoted back (is_doubtful o.answer.answer) m new)
+    → IfSome bytes (λ b. Reeled b o.left (is_device o.answer.fault) old mid)
+    → IsNoted back (is_doubtful o.answer.answer) o.noted mid new
+    → IfSome bytes (λ b. (m : Seen) × Reeled b o.left (is_device o.answer.fault) old m
+    × IsNoted back (is_doubtful o.answer.answer) o.noted m new)
 noted back None o old mid new r s = tt
 noted back (Some b) o old mid new r s = (mid, r, s)
 
 -- what is kept of a session is kept behind a reel too
-pub kept_behind : (back doubtful : Bool) (old new : Seen) → IsNoted back doubtful old new
-    → IsKeptFor back old → IsKeptFor back new
-kept_behind false doubtful old new s k = tt
-kept_behind true false old new s k = kept_save old new s k
-kept_behind true true old new (n, count, w) k = kept_restart old new n w k
+pub kept_behind : (back doubtful noted : Bool) (old new : Seen)
+    → IsNoted back doubtful noted old new → IsKeptFor back old → IsKeptFor back new
+kept_behind false doubtful noted old new s k = tt
+kept_behind true false true old new (elsewhere, s) k = kept_save old new s k
+kept_behind true false false old new (here, same) k = subst IsKept (sym same) k
+kept_behind true true noted old new (n, count, w) k = kept_restart old new n w k
 
 pub kept_for : (back : Bool) (old new : Seen) → (IsKept old → IsKept new) → IsKeptFor back old
     → IsKeptFor back new
@@ -126,21 +131,22 @@ kept_for false old new f k = tt
 kept_for true old new f k = f k
 
 -- where a reel is not in doubt it is noted, whether the session goes back or not
-sure_noted : (back doubtful : Bool) (old new : Seen) → doubtful ≡ false
-    → IsNoted back doubtful old new → IsNoted false doubtful old new
-sure_noted false doubtful old new sure s = s
-sure_noted true false old new sure s = s
-sure_noted true true old new sure s = absurd (cc)
+sure_noted : (back doubtful noted : Bool) (old new : Seen) → doubtful ≡ false
+    → IsNoted back doubtful noted old new → IsNoted false doubtful noted old new
+sure_noted false doubtful noted old new sure s = s
+sure_noted true false true old new sure s = s
+sure_noted true false false old new sure s = s
+sure_noted true true noted old new sure s = absurd (cc)
 
 sure_reeled : (back : Bool) (bytes : Option (List ℕ)) (o : Opened) (old new : Seen)
     → is_doubtful o.answer.answer ≡ false
-    → IfSome bytes (λ b. (m : Seen) × Reeled b (is_device o.answer.fault) old m
-    × IsNoted back (is_doubtful o.answer.answer) m new)
-    → IfSome bytes (λ b. (m : Seen) × Reeled b (is_device o.answer.fault) old m
-    × IsNoted false (is_doubtful o.answer.answer) m new)
+    → IfSome bytes (λ b. (m : Seen) × Reeled b o.left (is_device o.answer.fault) old m
+    × IsNoted back (is_doubtful o.answer.answer) o.noted m new)
+    → IfSome bytes (λ b. (m : Seen) × Reeled b o.left (is_device o.answer.fault) old m
+    × IsNoted false (is_doubtful o.answer.answer) o.noted m new)
 sure_reeled back None o old new sure r = tt
 sure_reeled back (Some b) o old new sure (m, r, s) =
-    (m, r, sure_noted back (is_doubtful o.answer.answer) m new sure s)
+    (m, r, sure_noted back (is_doubtful o.answer.answer) o.noted m new sure s)
 
 -- A session that goes back is, over reels of which none is in doubt, where one is that does not.
 pub sure_follows : (back : Bool) (core : State) (old : Seen) (turns : List Turn) (last : State)
@@ -162,36 +168,37 @@ sure_follows back core old (Some o ∷ turns) last new (sure, more) (next, mid, 
 )
 
 -- what one reel gave, and where its mount leads
-pub record GivesOne (failed : Bool) (had : Option (List ℕ)) (old new : Seen) : Type 0 where
+pub record GivesOne (failed : Bool) (had left : Option (List ℕ)) (old new : Seen) : Type 0 where
   pub given : List ℕ
-  pub is_given : IfSome had (λ bytes. IsGiven failed bytes given)
+  pub is_given : IfSome had (λ bytes. IsGiven failed bytes left given)
   pub arrives : (set : FileSet) (h : Happening) → IsLawful set → IsSome had → IsMountOf set given h
       → IsPlaced set old.place old.parts → Arrives set old (h ∷ []) new
   pub table : IsSome had → (xs : List TapeItem) (end : ℕ) (stop : Stop) → Begins 0 given xs end stop
       → IsLed xs (mount_of old.place) new.place old.parts new.parts
 
 -- what is noted changes neither the place nor the parts
-notes_alone : (doubtful : Bool) (old new : Seen) → IsNoted false doubtful old new
+notes_alone : (doubtful noted : Bool) (old new : Seen) → IsNoted false doubtful noted old new
     → (new.place ≡ old.place) × (new.parts ≡ old.parts)
-notes_alone true old new s = (ap (λ x. x.place) s, ap (λ x. x.parts) s)
-notes_alone false old new s = (s.place, s.parts)
+notes_alone true noted old new s = (ap (λ x. x.place) s, ap (λ x. x.parts) s)
+notes_alone false true old new (elsewhere, s) = (s.place, s.parts)
+notes_alone false false old new (here, s) = (ap (λ x. x.place) s, ap (λ x. x.parts) s)
 
-gives_one : (doubtful failed : Bool) (had : Option (List ℕ)) (old new : Seen)
-    → IfSome had (λ b. (m : Seen) × Reeled b failed old m × IsNoted false doubtful m new)
-    → GivesOne failed had old new
-gives_one doubtful failed None old new r =
+gives_one : (doubtful noted failed : Bool) (had left : Option (List ℕ)) (old new : Seen)
+    → IfSome had (λ b. (m : Seen) × Reeled b left failed old m × IsNoted false doubtful noted m new)
+    → GivesOne failed had left old new
+gives_one doubtful noted failed None left old new r =
     record {
       given = [];
       is_given = tt;
       arrives = λ set h lawful some mount placed. absurd (cc);
       table = λ some xs end stop b. absurd (cc);
     }
-gives_one doubtful failed (Some b) old new (m, r, s) = record {
+gives_one doubtful noted failed (Some b) left old new (m, r, s) = record {
   given = r.given;
   is_given = r.is_given;
   arrives = λ set h lawful some mount placed.
       let by = r.reads set h lawful mount placed in
-      let (place, parts) = notes_alone doubtful m new s in
+      let (place, parts) = notes_alone doubtful noted m new s in
       record {
         at = subst (λ p. IsPlaced set p new.parts) (sym place)
             (subst (λ q. IsPlaced set m.place q) (sym parts) by.at);
@@ -200,7 +207,7 @@ gives_one doubtful failed (Some b) old new (m, r, s) = record {
       };
   table = λ some xs end stop b.
       let led = r.table xs end stop b in
-      let (place, parts) = notes_alone doubtful m new s in
+      let (place, parts) = notes_alone doubtful noted m new s in
       record { place = place ∙ led.place; parts = parts ∙ led.parts };
 }
 
@@ -221,7 +228,7 @@ led_nowhere old new e t [] a s = subst (λ z. IsThere t z) (sym e) s
 led_nowhere old new e t (xs ∷ tapes) a s = absurd a
 
 led_more : (o : Opened) (turns : List Turn) (old mid new : Seen)
-    (one : GivesOne (is_device o.answer.fault) o.had old mid) (given : List (List ℕ))
+    (one : GivesOne (is_device o.answer.fault) o.had o.left old mid) (given : List (List ℕ))
     → LedOver turns given mid new → LedOver (Some o ∷ turns) (one.given ∷ given) old new
 led_more o turns old mid new one given rest t [] a s = absurd a
 led_more o turns old mid new one given rest t (xs ∷ tapes) (some, (end, stop, b), a) s =
@@ -243,7 +250,7 @@ nothing_given set old new [] same mounts placed = subst (λ s. Arrives set old [
 nothing_given set old new (h ∷ hs) same mounts placed = absurd mounts
 
 more_given : (set : FileSet) (o : Opened) (turns : List Turn)
-    (old mid new : Seen) (one : GivesOne (is_device o.answer.fault) o.had old mid)
+    (old mid new : Seen) (one : GivesOne (is_device o.answer.fault) o.had o.left old mid)
     (rest : Gathers turns mid new) (hs : List Happening)
     → IsLawful set → AreMounts set (Some o ∷ turns) (one.given ∷ rest.given) hs
     → IsPlaced set old.place old.parts → Arrives set old hs new
@@ -271,8 +278,8 @@ gathers core old (None ∷ turns) last new (waits, f) =
     }
 gathers core old (Some o ∷ turns) last new (next, mid, r, f) =
     let rest = gathers next mid turns last new f in
-    let one = gives_one (is_doubtful o.answer.answer) (is_device o.answer.fault) o.had old mid
-    r.reeled in
+    let one = gives_one (is_doubtful o.answer.answer) o.noted (is_device o.answer.fault) o.had
+    o.left old mid r.reeled in
     record {
       given = one.given ∷ rest.given;
       are_given = (one.is_given, rest.are_given);
@@ -293,3 +300,29 @@ pub whole_line : (number : ℕ) (outcome : Option ReelAnswer) (old new : Option 
     → Appends old new (reel_line number outcome) → IsReported number old new
 whole_line number outcome old new wrote =
     (outcome ∷ [], omega arith, (reel_line number outcome, [], wrote, refl))
+
+-- ---- an image whose reading failed
+
+-- What was given of an image whose reading failed begins with items that end at the place which the
+-- line of the image tells: so, though nobody sees what is left of an image that was given up, the
+-- place tells which items count.
+pub given_to_place : (core : State) (bytes left given : List ℕ) (place : ℕ) (answer : ReelAnswer)
+    → answer.fault ≡ Some (record { place = place; cause = Device })
+    → ReadsReel core bytes left answer → IsGiven true bytes (Some left) given
+    → (items : List TapeItem) × (stop : Stop) × Begins 0 given items place stop
+given_to_place core bytes left given place answer told r (rest, same, whole) = by r.ended
+  where
+    by : EndedByItem core r.items bytes left answer ⊎ (EndedByMedium core r.items bytes left answer
+        ⊎ EndedByFault core r.items bytes left answer)
+        → (items : List TapeItem) × (stop : Stop) × Begins 0 given items place stop
+    by (inl e) = absurd (let none = sym e.no_fault ∙ told in cc)
+    by (inr (inl e)) = absurd (let none = sym e.no_fault ∙ told in cc)
+    by (inr (inr e)) =
+        let both = sym e.told ∙ told in
+        let is : e.fault ≡ record { place = place; cause = Device } = cc both in
+        let taken = subst (λ f. TakesFault 0 r.items f bytes left) is e.taken in
+        let (stop, begins, cut) = taken.cause in
+        let over : rest ≡ left = cc same in
+        let all : given ≡ taken.given = append_cancel_right given taken.given left
+        (ap (λ l. given ++ l) (sym over) ∙ sym whole ∙ taken.whole) in
+        (r.items, stop, subst (λ b. Begins 0 b r.items place stop) (sym all) begins)

@@ -1,7 +1,7 @@
 -- The worked set where a reader fails, where a part is refused, and on another day.
 use Rattle.std.proofs.Common.{◌≡◌, ◌≤◌, ℕ, zero, suc, ◌+◌, List, [], ◌∷◌, true, false}
 use Rattle.std.proofs.Common.{refl, sym, ap, ◌∙◌, subst, inl, lit≤, codes, arith, take}
-use Rattle.std.proofs.Common.{Some, length, Bool}
+use Rattle.std.proofs.Common.{Option, Some, length, Bool}
 use Rattle.std.specs.Prelude.{replicate, min, ⊤}
 use Rattle.std.proofs.lemmas.List.{take_all}
 use Rattle.std.proofs.lemmas.Option.{slice_get_within}
@@ -90,21 +90,24 @@ cut_one zero n (h ∷ hs) = cut n h ∷ hs
 cut_one (suc k) n (h ∷ hs) = h ∷ cut_one k n hs
 
 -- where one reader failed, one of the happenings is cut
-one_cut : (which : List Bool) (bytes given : List (List ℕ)) (hs : List Happening)
+one_cut : (which : List Bool) (bytes given : List (List ℕ)) (left : List (Option (List ℕ)))
+    (hs : List Happening)
     → IsHistory worked_set 0 (reels_of bytes) bytes hs → failed_of which ≡ 1
-    → AreGivenBy which bytes given
+    → AreGivenBy which bytes left given
     → (k : ℕ) × (n : ℕ) × IsHistory worked_set 0 (reels_of bytes) given (cut_one k n hs)
-one_cut [] bytes given hs is one a = absurd (omega (arith, one))
-one_cut (f ∷ which) [] given hs is one a = absurd a
-one_cut (f ∷ which) (b ∷ bytes) [] hs is one a = absurd a
-one_cut (f ∷ which) (b ∷ bytes) (g ∷ given) [] is one a = absurd is
-one_cut (false ∷ which) (b ∷ bytes) (g ∷ given) (h ∷ hs) (mount, rest) one (same, more) =
-    let next = one_cut which bytes given hs rest one more in
+one_cut [] bytes given left hs is one a = absurd (omega (arith, one))
+one_cut (f ∷ which) [] given left hs is one a = absurd a
+one_cut (f ∷ which) (b ∷ bytes) given [] hs is one a = absurd a
+one_cut (f ∷ which) (b ∷ bytes) [] (l ∷ left) hs is one a = absurd a
+one_cut (f ∷ which) (b ∷ bytes) (g ∷ given) (l ∷ left) [] is one a = absurd is
+one_cut (false ∷ which) (b ∷ bytes) (g ∷ given) (l ∷ left) (h ∷ hs) (mount, rest) one (same, more) =
+    let next = one_cut which bytes given left hs rest one more in
     (suc next.0, next.1, (subst (λ z. IsMountOf worked_set z h) (sym same) mount, next.2))
-one_cut (true ∷ which) (b ∷ bytes) (g ∷ given) (h ∷ hs) (mount, rest) one ((left, is), more) =
-    let front = fronts_are_mounts worked_set g left h
+one_cut (true ∷ which) (b ∷ bytes) (g ∷ given) (l ∷ left) (h ∷ hs) (mount, rest) one
+    ((over, told, is), more) =
+    let front = fronts_are_mounts worked_set g over h
     (subst (λ z. IsMountOf worked_set z h) is mount) in
-    let all : given ≡ bytes = none_of which bytes given (omega (arith, one)) more in
+    let all : given ≡ bytes = none_of which bytes given left (omega (arith, one)) more in
     let same : IsHistory worked_set 0 (reels_of bytes) given hs =
     subst (λ z. IsHistory worked_set 0 (reels_of bytes) z hs) (sym all) rest in
     (0, front.0, (front.1, same))
@@ -148,10 +151,11 @@ one_failed zero e = absurd (omega (arith, e))
 one_failed (suc zero) e = refl
 one_failed (suc (suc n)) e = absurd (let two = counts_up n 2 (lit≤ tt) in omega (arith, two, e))
 
-failed : (s : Seen) → IsRead (codes "ABC001") 1 four_reels twice s → s.failures ≡ 1 → IsWhole s
-failed s r one =
+failed : (s : Seen) (left : List (Option (List ℕ)))
+    → IsRead (codes "ABC001") 1 four_reels twice left s → s.failures ≡ 1 → IsWhole s
+failed s left r one =
     let count : failed_of r.which ≡ 1 = one_failed (failed_of r.which) (sym one ∙ r.count) in
-    let h = one_cut r.which twice r.given four_volumes
+    let h = one_cut r.which twice r.given left four_volumes
     (whole_1, (whole_2, (whole_1, (whole_2, tt)))) count r.are_given in
     let (there, parts) = r.reads worked_set (cut_one h.0 h.1 four_volumes) is_lawful refl refl
     h.2 in
@@ -167,13 +171,13 @@ step_is : (step : Step) → Some Reel ≡ Some step → Reel ≡ step
 step_is step e = cc
 
 -- the one step was not made
-at_first : (old mid : Seen) (n : ℕ) (cause : SinkFault)
-    → HasStopped old (Reel ∷ []) (reel_1 ∷ []) n (Sink cause) mid → IsSession worked_set old
+at_first : (old mid : Seen) (n : ℕ) (cause : SinkFault) (left : List (Option (List ℕ)))
+    → HasStopped old (Reel ∷ []) (reel_1 ∷ []) left n (Sink cause) mid → IsSession worked_set old
     → StopsStep worked_set old [] Reel (reel_1 ∷ []) (Sink cause) mid
-at_first old mid zero cause halt fresh =
+at_first old mid zero cause left halt fresh =
     subst (λ z. StopsStep worked_set old [] z (reel_1 ∷ []) (Sink cause) mid)
     (sym (step_is halt.step halt.at)) (halt.stops worked_set [] is_lawful tt fresh)
-at_first old mid (suc n) cause halt fresh =
+at_first old mid (suc n) cause left halt fresh =
     absurd (omega (arith, slice_get_within (Reel ∷ []) (suc n) halt.step halt.at))
 
 none_up : (n c : ℕ) → 0 ≡ counted_up n c → n ≡ 0
@@ -181,12 +185,13 @@ none_up zero c e = refl
 none_up (suc n) c e = absurd
     (let h = counts_up n (min (c + 1) 18446744073709551615) (omega arith) in omega (arith, e, h))
 
-refused : (old mid new : Seen) (n : ℕ) (cause : SinkFault) → IsStart (codes "ABC001") 1 old
-    → HasStopped old (Reel ∷ []) (reel_1 ∷ []) n (Sink cause) mid
-    → HasRun mid two_reels once new → new.failures ≡ 0 → IsWhole new
-refused old mid new n cause begun halt ran none =
+refused : (old mid new : Seen) (n : ℕ) (cause : SinkFault) (left over : List (Option (List ℕ)))
+    → IsStart (codes "ABC001") 1 old
+    → HasStopped old (Reel ∷ []) (reel_1 ∷ []) left n (Sink cause) mid
+    → HasRun mid two_reels once over new → new.failures ≡ 0 → IsWhole new
+refused old mid new n cause left over begun halt ran none =
     let fresh = begun.each worked_set is_lawful refl refl in
-    let put = at_first old mid n cause halt fresh.session
+    let put = at_first old mid n cause left halt fresh.session
     whole_1.0 whole_1.1 whole_1.2 vol_1 whole_1.3 whole_1.4 in
     let cut_1 = reading 1 (take put.by.n (replicate 11 true)) in
     let at : mid.place.position ≡ behind_1 put.by.n put.by.part =
@@ -197,7 +202,7 @@ refused old mid new n cause begun halt ran none =
     let no_failure : failed_of ran.which ≡ 0 =
     none_up (failed_of ran.which) mid.failures (sym none ∙ ran.count) in
     let given : ran.given ≡ once =
-    none_of ran.which once ran.given no_failure ran.are_given in
+    none_of ran.which once ran.given over no_failure ran.are_given in
     let both = vol_1 ∷ vol_2 ∷ [] in
     let r = ran.ran worked_set both is_lawful
     (subst (λ z. IsHistory worked_set (length mid.notes) two_reels z both) (sym given)
@@ -245,16 +250,17 @@ stands_there = record {
   staged = refl;
 }
 
-resumed : (began new : Seen) → IsResumed behind_one (first ∷ []) began
-    → HasRun began two_reels once new → new.failures ≡ 0 → IsWhole new
-resumed began new from ran none =
+resumed : (began new : Seen) (left : List (Option (List ℕ)))
+    → IsResumed behind_one (first ∷ []) began
+    → HasRun began two_reels once left new → new.failures ≡ 0 → IsWhole new
+resumed began new left from ran none =
     let no_failure : failed_of ran.which ≡ 0 =
     none_up (failed_of ran.which) began.failures (sym none ∙ ran.count) in
     let given : ran.given ≡ once =
-    none_of ran.which once ran.given no_failure ran.are_given in
+    none_of ran.which once ran.given left no_failure ran.are_given in
     let both = vol_1 ∷ vol_2 ∷ [] in
-    let (there, parts) = goes_on worked_set behind_one (first ∷ []) began new two_reels once both
-    is_lawful stands_there from ran
+    let (there, parts) = goes_on worked_set behind_one (first ∷ []) began new two_reels once left
+    both is_lawful stands_there from ran
     (subst (λ z. IsHistory worked_set 0 two_reels z both) (sym given) (whole_1, (whole_2, tt))) in
     let end : new.place.position ≡ Finished = sym (ap (λ (c : Course). c.at) there) in
     record { all = parts ∙ ap (before worked_set 1) end; no_want = ap (want_at 1) end }

@@ -1,5 +1,5 @@
 -- The worked history, by computation: its set is lawful, and it meets the headline's premises.
-use Rattle.std.proofs.Common.{◌≡◌, [], ◌∷◌, true, false, refl, sym, ap}
+use Rattle.std.proofs.Common.{◌≡◌, ℕ, List, Option, [], ◌∷◌, true, false, refl, sym, ap}
 use Rattle.std.proofs.Common.{◌∙◌, subst, codes, lit≤, lit<, None, replicate}
 use Rattle.tape_set.proofs.Worked as w
 use Rattle.tape_set.proofs.Worked.{made_section, made_form}
@@ -95,16 +95,17 @@ is_history = (
   ),
 )
 
-all : AreGivenBy (replicate 10 false) worked_reels worked_reels
+all : AreGivenBy (replicate 10 false) worked_reels (replicate 10 None) worked_reels
 all = (refl, (refl, (refl, (refl, (refl, (refl, (refl, (refl, (refl, (refl, refl))))))))))
 
 -- a session over these readers, of which none failed
-has_read : (s : Seen) → IsRead (codes "ABC001") 1 worked_steps worked_reels s → s.failures ≡ 0
+has_read : (s : Seen) (left : List (Option (List ℕ)))
+    → IsRead (codes "ABC001") 1 worked_steps worked_reels left s → s.failures ≡ 0
     → (s.parts ≡ first ∷ middle ∷ last ∷ []) × (want_at 1 s.place.position ≡ None)
-has_read s r none =
+has_read s left r none =
     let no_failure : failed_of r.which ≡ 0 = none_failed (failed_of r.which) (sym r.count ∙ none) in
     let given : r.given ≡ worked_reels =
-    none_of r.which worked_reels r.given no_failure r.are_given in
+    none_of r.which worked_reels r.given left no_failure r.are_given in
     let (there, parts) = r.reads worked_set worked_history is_lawful refl refl
     (subst (λ z. IsHistory worked_set 0 worked_steps z worked_history) (sym given) is_history) in (
       parts,

@@ -107,9 +107,12 @@ pub record CasesOfHistories : Type 0 where
 
 -- of bytes, readers that failed, and their count
 pub record CasesOfGiven : Type 0 where
-  -- of a reader that failed a front of its bytes was given
-  pub no_other : IsGiven true (1 ∷ 2 ∷ []) (2 ∷ []) → ⊥
-  pub front : IsGiven true (1 ∷ 2 ∷ []) (1 ∷ [])
+  -- of a reader that failed just that was given which it has not left
+  pub no_other : (left : Option (List ℕ)) → IsGiven true (1 ∷ 2 ∷ []) left (2 ∷ []) → ⊥
+  pub front : IsGiven true (1 ∷ 2 ∷ []) (Some (2 ∷ [])) (1 ∷ [])
+  pub no_less : (given : List ℕ) → IsGiven true (1 ∷ 2 ∷ []) (Some (2 ∷ [])) given
+      → length given ≡ 1
+  pub untold : (bytes given : List ℕ) → IsGiven true bytes None given → ⊥
   -- they are counted up to the greatest number
   pub calm : counted false 3 ≡ 3
   pub one : counted true 3 ≡ 4
@@ -117,12 +120,14 @@ pub record CasesOfGiven : Type 0 where
   pub two : counted_up 2 3 ≡ 5
   -- of readers of which it is told which failed
   pub second_failed : (b c d : List ℕ) → AreGivenBy (false ∷ true ∷ []) (b ∷ c ∷ d ∷ [])
-      (b ∷ [] ∷ d ∷ [])
-  pub just_the_second : (b c d e : List ℕ) → AreGivenBy (false ∷ true ∷ []) (b ∷ c ∷ [])
-      (d ∷ e ∷ []) → (d ≡ b) × ((rest : List ℕ) × (c ≡ e ++ rest))
-  pub not_taken : (bytes given : List (List ℕ)) → AreGivenBy [] bytes given → given ≡ bytes
-  pub none_there : (bytes : List ℕ) → (AreGivenBy (true ∷ []) [] [] → ⊥)
-      × (AreGivenBy (true ∷ []) (bytes ∷ []) [] → ⊥)
+      (None ∷ Some c ∷ None ∷ []) (b ∷ [] ∷ d ∷ [])
+  pub just_the_second : (b c d e l : List ℕ) → AreGivenBy (false ∷ true ∷ []) (b ∷ c ∷ [])
+      (None ∷ Some l ∷ []) (d ∷ e ∷ []) → (d ≡ b) × (c ≡ e ++ l)
+  pub not_taken : (bytes given : List (List ℕ)) (left : List (Option (List ℕ)))
+      → AreGivenBy [] bytes left given → given ≡ bytes
+  pub none_there : (bytes : List ℕ) (l : Option (List ℕ)) → (AreGivenBy (true ∷ []) [] [] [] → ⊥)
+      × (AreGivenBy (true ∷ []) (bytes ∷ []) [] (bytes ∷ []) → ⊥)
+      × (AreGivenBy (true ∷ []) (bytes ∷ []) (l ∷ []) [] → ⊥)
   pub two_of_three : failed_of (true ∷ false ∷ true ∷ []) ≡ 2
   pub as_far_as_it_reaches : written (true ∷ false ∷ true ∷ []) (false ∷ true ∷ [])
       ≡ true ∷ false ∷ []
@@ -169,50 +174,56 @@ pub record CasesOfSessions : Type 0 where
   pub ran : (set : FileSet) (old new : Seen) (hs : List Happening) → Ran set old hs new
       → IsSession set new × (new.place.file ≡ old.place.file)
       × (course set old.place.file (course_of old) hs ≡ course_of new)
-  pub has_run : (old new : Seen) (steps : List Step) (bytes : List (List ℕ)) (set : FileSet)
-      (hs : List Happening) (r : HasRun old steps bytes new) → IsLawful set
+  pub has_run : (old new : Seen) (steps : List Step) (bytes : List (List ℕ))
+      (left : List (Option (List ℕ))) (set : FileSet)
+      (hs : List Happening) (r : HasRun old steps bytes left new) → IsLawful set
       → IsHistory set (length old.notes) steps r.given hs → IsSession set old
-      → Ran set old hs new × AreGivenBy r.which bytes r.given
+      → Ran set old hs new × AreGivenBy r.which bytes left r.given
       × (new.failures ≡ counted_up (failed_of r.which) old.failures)
   pub starts : (id : List ℕ) (file : ℕ) (s : Seen) → IsStart id file s
       → (s.place ≡ reader_of id file) × (s.notes ≡ []) × (s.failures ≡ 0) × (s.parts ≡ [])
   pub begins_file : (set : FileSet) (file : ℕ) (s : Seen) → IsStart set.set_id file s
       → IsLawful set → IsSome (file_of set file)
       → IsSession set s × (s.place.file ≡ file) × (course_of s ≡ begins)
-  pub was_read : (set : FileSet) (file : ℕ) (steps : List Step) (bytes : List (List ℕ)) (s : Seen)
-      (hs : List Happening) (r : IsRead set.set_id file steps bytes s) → IsLawful set
+  pub was_read : (set : FileSet) (file : ℕ) (steps : List Step) (bytes : List (List ℕ))
+      (left : List (Option (List ℕ))) (s : Seen)
+      (hs : List Happening) (r : IsRead set.set_id file steps bytes left s) → IsLawful set
       → IsSome (file_of set file) → IsHistory set 0 steps r.given hs
       → (course_of s ≡ course set file begins hs)
       × (s.parts ≡ before set file (course set file begins hs).at)
-      × AreGivenBy r.which bytes r.given × (s.failures ≡ counted_up (failed_of r.which) 0)
+      × AreGivenBy r.which bytes left r.given × (s.failures ≡ counted_up (failed_of r.which) 0)
 
 -- ---- steps that were made, and runs that were stopped
 
 -- of steps, one by one
 pub record CasesOfMade : Type 0 where
-  -- what was given is a front at least, where the reader failed; parts and notes stay
-  pub was_reeled : (bytes : List ℕ) (failed : Bool) (old new : Seen)
-      (r : Reeled bytes failed old new) → IsGiven failed bytes r.given
+  -- what was given is what is not left, where the reader failed; parts and notes stay
+  pub was_reeled : (bytes : List ℕ) (left : Option (List ℕ)) (failed : Bool) (old new : Seen)
+      (r : Reeled bytes left failed old new) → IsGiven failed bytes left r.given
       × (new.failures ≡ counted failed old.failures) × (new.notes ≡ old.notes)
       × (new.refusals ≡ old.refusals) × IsFront old.parts new.parts
-  pub same_reader : (bytes : List ℕ) (failed : Bool) (old new : Seen)
-      → Reeled bytes failed old new
+  pub same_reader : (bytes : List ℕ) (left : Option (List ℕ)) (failed : Bool) (old new : Seen)
+      → Reeled bytes left failed old new
       → (new.place.set_id ≡ old.place.set_id) × (new.place.file ≡ old.place.file)
-  pub mount_was_read : (bytes : List ℕ) (failed : Bool) (old new : Seen) (set : FileSet)
-      (h : Happening) (r : Reeled bytes failed old new) → IsLawful set → IsMountOf set r.given h
+  pub mount_was_read : (bytes : List ℕ) (left : Option (List ℕ)) (failed : Bool) (old new : Seen)
+      (set : FileSet) (h : Happening) (r : Reeled bytes left failed old new) → IsLawful set
+      → IsMountOf set r.given h
       → IsPlaced set old.place old.parts → IsPlaced set new.place new.parts
       × (new.place.position ≡ after_mount set old.place.file old.place.position h)
-  pub nothing_was_made : (which : List Bool) (old new : Seen) → Runs which old [] [] new
+  pub nothing_was_made : (which : List Bool) (old new : Seen) → Runs which old [] [] [] new
       → (which ≡ []) × (new ≡ old)
   pub no_reel_was_there : (failed other : Bool) (old new : Seen) (bytes : List ℕ)
-      → Runs (failed ∷ other ∷ []) old (Reel ∷ Reel ∷ []) (Some bytes ∷ []) new → ⊥
-  pub none_is_told : (old new : Seen) (bytes : List ℕ)
-      → Runs [] old (Reel ∷ []) (Some bytes ∷ []) new → ⊥
+      (l : Option (List ℕ))
+      → Runs (failed ∷ other ∷ []) old (Reel ∷ Reel ∷ []) (Some bytes ∷ []) (l ∷ []) new → ⊥
+  pub none_is_told : (old new : Seen) (bytes : List ℕ) (l : Option (List ℕ))
+      → Runs [] old (Reel ∷ []) (Some bytes ∷ []) (l ∷ []) new → ⊥
+  pub none_is_left : (failed : Bool) (old new : Seen) (bytes : List ℕ)
+      → Runs (failed ∷ []) old (Reel ∷ []) (Some bytes ∷ []) [] new → ⊥
   -- a step is made behind the one before it, with the reader that this left
-  pub two_were_made : (old new : Seen) (bytes : List ℕ)
-      → Runs (true ∷ []) old (Save ∷ Reel ∷ Restart 1 ∷ []) (Some bytes ∷ []) new
+  pub two_were_made : (old new : Seen) (bytes : List ℕ) (l : Option (List ℕ))
+      → Runs (true ∷ []) old (Save ∷ Reel ∷ Restart 1 ∷ []) (Some bytes ∷ []) (l ∷ []) new
       → (first : Seen) × (second : Seen) × Saved old first
-      × Reeled bytes true first second × WentBack 1 second new
+      × Reeled bytes l true first second × WentBack 1 second new
   -- what is noted is where the session stands, with the weight of its parts
   pub was_saved : (old new : Seen) → Saved old new
       → (new.notes ≡ old.notes ++ saved old.place (weight_of old.parts) ∷ [])
@@ -225,16 +236,17 @@ pub record CasesOfMade : Type 0 where
       × (new.refusals ≡ old.refusals)
   -- The step of the number that is told is the one that was not made, and those before it were,
   -- each with its reader. There is no such step behind the last one.
-  pub second_was_not : (old new : Seen) (fault : RunFault) (bytes : List ℕ)
-      → RunsUpTo (true ∷ []) old (Reel ∷ Reel ∷ Save ∷ []) (Some bytes ∷ []) 1 fault new
-      → (mid : Seen) × Reeled bytes true old mid
+  pub second_was_not : (old new : Seen) (fault : RunFault) (bytes : List ℕ) (l : Option (List ℕ))
+      → RunsUpTo (true ∷ []) old (Reel ∷ Reel ∷ Save ∷ []) (Some bytes ∷ []) (l ∷ []) 1 fault new
+      → (mid : Seen) × Reeled bytes l true old mid
       × (fault ≡ TooFewReels) × (new ≡ mid)
   pub third_was_not : (old new : Seen) (fault : RunFault) (bytes other : List ℕ)
-      → RunsUpTo (false ∷ []) old (Save ∷ Reel ∷ Reel ∷ []) (Some bytes ∷ Some other ∷ []) 2 fault
-      new → (first : Seen) × (mid : Seen) × Saved old first
-      × Reeled bytes false first mid × ReelFails other fault mid new
+      (l m : Option (List ℕ))
+      → RunsUpTo (false ∷ []) old (Save ∷ Reel ∷ Reel ∷ []) (Some bytes ∷ Some other ∷ [])
+      (l ∷ m ∷ []) 2 fault new → (first : Seen) × (mid : Seen) × Saved old first
+      × Reeled bytes l false first mid × ReelFails other fault mid new
   pub none_behind : (old new : Seen) (fault : RunFault)
-      → RunsUpTo [] old (Save ∷ Save ∷ []) [] 2 fault new → ⊥
+      → RunsUpTo [] old (Save ∷ Save ∷ []) [] [] 2 fault new → ⊥
   pub fails : (old new : Seen) (fault : RunFault) (reels : List (Option (List ℕ)))
       → (Fails Save reels fault old new → SaveFails fault old new)
       × (Fails (Restart 3) reels fault old new → RestartFails 3 fault old new)
@@ -296,16 +308,19 @@ pub record CasesOfCrashes : Type 0 where
   pub alone_since : (s : Seen) (c p : Point) (ps : List Portion) → s.notes ≡ c ∷ []
       → LastAlone (came_by ps p) s → p ≡ c
   pub of_no_step : (s : Seen) (back : Point) (there : List Portion)
-      → StoodAt s [] [] back there → IsOf s back there
-  pub of_no_reel : (s : Seen) (back : Point) (there : List Portion)
-      → StoodAt s (Reel ∷ []) [] back there → IsOf s back there
-  pub came_back : (old : Seen) (steps done : List Step) (bytes given : List (List ℕ))
+      → StoodAt s [] [] [] back there → IsOf s back there
+  pub of_no_reel : (s : Seen) (left : List (Option (List ℕ))) (back : Point) (there : List Portion)
+      → StoodAt s (Reel ∷ []) [] left back there → IsOf s back there
+  pub of_none_left : (s : Seen) (bytes : List ℕ) (back : Point) (there : List Portion)
+      → StoodAt s (Reel ∷ []) (Some bytes ∷ []) [] back there → IsOf s back there
+  pub came_back : (old : Seen) (steps done : List Step) (bytes : List (List ℕ))
+      (left : List (Option (List ℕ))) (given : List (List ℕ))
       (back : Point) (there : List Portion) (set : FileSet) (hs : List Happening)
-      (c : ComesBack old steps done bytes given back there) → IsLawful set
+      (c : ComesBack old steps done bytes left given back there) → IsLawful set
       → IsHistory set (length old.notes) done given hs → IsSession set old
       → Stands set old.place.file back there
       × IsPlaceOf (course set old.place.file (course_of old) hs) back.position
-      × (steps ≡ done ++ c.rest) × AreGivenBy c.which bytes given
+      × (steps ≡ done ++ c.rest) × AreGivenBy c.which bytes left given
   pub resumed : (c : Point) (ps : List Portion) (s : Seen) → IsResumed c ps s
       → (s.place ≡ place_of c) × (s.parts ≡ ps) × (s.notes ≡ []) × (s.failures ≡ 0)
   -- a life that saved, and was cut off in its next reel, has a history
@@ -313,6 +328,7 @@ pub record CasesOfCrashes : Type 0 where
     began = s;
     steps = Save ∷ Reel ∷ [];
     bytes = [];
+    left = [];
     done = Save ∷ [];
     given = [];
   } ∷ []) ((saves ∷ []) ∷ [])

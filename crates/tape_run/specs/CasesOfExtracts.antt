@@ -52,6 +52,7 @@ use Rattle.tape_run.specs.declared.script.Step.TheVariants.{Reel, Save, Restart}
 use Rattle.tape_core.specs.Point.{Point}
 use Rattle.tape_run.specs.Story.{Story}
 use Rattle.tape_core.specs.Stands.{weight_of}
+use Rattle.tape_core.specs.Table.{saved}
 
 -- ---- images one after another
 
@@ -122,24 +123,34 @@ pub record CasesOfTurns : Type 0 where
       → (is_doubtful o.answer.answer ≡ false) × (is_doubtful p.answer.answer ≡ false)
   pub sure_turns : (o : Opened) → is_doubtful o.answer.answer ≡ false
       → AreSure (None ∷ Some o ∷ None ∷ [])
-  pub not_noted : (old new : Seen) → IsNoted false true old new → new ≡ old
-  pub is_noted : (back : Bool) (old new : Seen) → IsNoted back false old new → Saved old new
+  pub not_noted : (noted : Bool) (old new : Seen) → IsNoted false true noted old new → new ≡ old
+  pub is_noted : (back : Bool) (old new : Seen) → IsNoted back false true old new → Saved old new
+  -- nothing is noted twice
+  pub noted_before : (back : Bool) (old new : Seen) (c : Point) → old.notes ≡ c ∷ []
+      → IsNoted back false false old new
+      → (new ≡ old) × (c ≡ saved old.place (weight_of old.parts))
+  pub noted_anew : (back : Bool) (old new : Seen) (c : Point) → old.notes ≡ c ∷ []
+      → c ≡ saved old.place (weight_of old.parts) → IsNoted back false true old new → ⊥
   -- a session that has a note goes back then, to the one made last
   pub has_note : (c : Point) → (goes_back [] ≡ false) × (goes_back (c ∷ []) ≡ true)
   pub went_to_last : (old new : Seen) (c d : Point) → old.notes ≡ c ∷ d ∷ []
-      → IsNoted true true old new → WentBack 1 old new
+      → IsNoted true true false old new → WentBack 1 old new
   pub its_own_notes : (s : Seen) → IsKeptFor true s → IsKept s
-  -- by steps: a save behind each reel, none where it is in doubt, or the way back
-  pub steps_behind : (step_behind true false 2 ≡ Save ∷ []) × (step_behind false true 2 ≡ [])
-      × (step_behind true true 2 ≡ Restart 1 ∷ []) × (step_behind true true 0 ≡ [])
-  pub counted : (notes_behind false 2 ≡ 3) × (notes_behind true 2 ≡ 2)
+  -- by steps: a save behind each reel where a note was made, none where it is in doubt, or the way
+  -- back
+  pub steps_behind : (step_behind true false true 2 ≡ Save ∷ [])
+      × (step_behind true false false 2 ≡ []) × (step_behind false true false 2 ≡ [])
+      × (step_behind true true false 2 ≡ Restart 1 ∷ []) × (step_behind true true false 0 ≡ [])
+  pub counted : (notes_behind false true 2 ≡ 3) × (notes_behind false false 2 ≡ 2)
+      × (notes_behind true false 2 ≡ 2)
   pub steps : (o p : Opened) → steps_of true 2 (None ∷ Some o ∷ Some p ∷ [])
-      ≡ Reel ∷ step_behind true (is_doubtful o.answer.answer) 2
-      ++ (Reel ∷ step_behind true (is_doubtful p.answer.answer)
-      (notes_behind (is_doubtful o.answer.answer) 2) ++ [])
+      ≡ Reel ∷ step_behind true (is_doubtful o.answer.answer) o.noted 2
+      ++ (Reel ∷ step_behind true (is_doubtful p.answer.answer) p.noted
+      (notes_behind (is_doubtful o.answer.answer) o.noted 2) ++ [])
   pub by_its_line : (back : Bool) (o : Opened) (b : List ℕ) (old new : Seen) → o.had ≡ Some b
       → AreSteps back (None ∷ Some o ∷ []) old new
-      → (run : HasRun old (steps_of back (length old.notes) (Some o ∷ [])) (b ∷ []) new)
+      → (run : HasRun old (steps_of back (length old.notes) (Some o ∷ [])) (b ∷ []) (o.left ∷ [])
+      new)
       × (run.which ≡ is_device o.answer.fault ∷ [])
   pub told : (o : Opened) (b : List ℕ) → AreTold (None ∷ Some o ∷ []) (b ∷ []) → o.had ≡ Some b
   pub none_told : (o : Opened) → AreTold (Some o ∷ []) [] → ⊥

@@ -52,27 +52,31 @@ pub record CasesOfRunLaws : Type 0 where
   pub a_front : FrontsAreMounts → (set : FileSet) (front rest : List ℕ) (h : Happening)
       → IsMountOf set (front ++ rest) h → (n : ℕ) × IsMountOf set front (cut n h)
   pub what_was_given : GivenIsHistory → (set : FileSet) (steps : List Step)
-      (bytes given : List (List ℕ)) (hs : List Happening) → IsHistory set 0 steps bytes hs
-      → AreGivenBy (true ∷ false ∷ true ∷ []) bytes given
+      (bytes given : List (List ℕ)) (left : List (Option (List ℕ))) (hs : List Happening)
+      → IsHistory set 0 steps bytes hs
+      → AreGivenBy (true ∷ false ∷ true ∷ []) bytes left given
       → (others : List Happening) × IsHistory set 0 steps given others
   pub a_refusal : OnlyRefusalsStop → (which : List Bool) (old new : Seen) (steps : List Step)
-      (bytes : List (List ℕ)) (n : ℕ) (fault : RunFault) (set : FileSet) (hs : List Happening)
-      → RunsUpTo which old steps (map Some bytes) n fault new
+      (bytes : List (List ℕ)) (left : List (Option (List ℕ))) (n : ℕ) (fault : RunFault)
+      (set : FileSet) (hs : List Happening)
+      → RunsUpTo which old steps (map Some bytes) left n fault new
       → IsHistory set (length old.notes) steps bytes hs → IsRefusal fault
   pub refusals : (cause : SinkFault) → IsRefusal (Sink cause) × IsRefusal OutOfMemory
   pub no_refusals : (IsRefusal NoSuchPoint → ⊥) × (IsRefusal TooFewReels → ⊥)
       × (IsRefusal OtherFile → ⊥)
   pub came_back : StoodComesBack → (old : Seen) (steps : List Step) (bytes : List (List ℕ))
-      (back : Point) (there : List Portion) → StoodAt old steps (map Some bytes) back there
+      (left : List (Option (List ℕ))) (back : Point) (there : List Portion)
+      → StoodAt old steps (map Some bytes) left back there
       → (done : List Step) × (given : List (List ℕ))
-      × ComesBack old steps done bytes given back there
+      × ComesBack old steps done bytes left given back there
   pub one_crash : StandsAcrossCrashes → (set : FileSet) (c back : Point) (ps there : List Portion)
       (life : Life) (hs : List Happening) → IsLawful set → Stands set c.file c ps
       → Outlives c ps (life ∷ []) back there → AreHistories set (life ∷ []) (hs ∷ [])
       → Stands set c.file back there
   pub went_on : ResumedGoesOn → (set : FileSet) (c : Point) (ps : List Portion) (began new : Seen)
-      (bytes : List ℕ) (r : Reading) → IsLawful set → Stands set c.file c ps
-      → IsResumed c ps began → (run : HasRun began (Reel ∷ []) (bytes ∷ []) new)
+      (bytes : List ℕ) (left : List (Option (List ℕ))) (r : Reading) → IsLawful set
+      → Stands set c.file c ps
+      → IsResumed c ps began → (run : HasRun began (Reel ∷ []) (bytes ∷ []) left new)
       → IsHistory set 0 (Reel ∷ []) run.given (reads r ∷ [])
       → (new.place.position ≡ far set c.file c.position r)
       × (new.parts ≡ before set c.file new.place.position)
@@ -83,13 +87,14 @@ pub record CasesOfRunLaws : Type 0 where
   pub no_life : (c : Point) (ps : List Portion) → Outlives c ps [] c ps
   pub one_life : (c back : Point) (ps there : List Portion) (life : Life)
       → IsResumed c ps life.began
-      → ComesBack life.began life.steps life.done life.bytes life.given back there
+      → ComesBack life.began life.steps life.done life.bytes life.left life.given back there
       → Outlives c ps (life ∷ []) back there
   pub read_life : (set : FileSet) (s : Seen) (bytes given : List ℕ) (h : Happening)
       → IsMountOf set given h → AreHistories set (record {
         began = s;
         steps = Reel ∷ [];
         bytes = bytes ∷ [];
+        left = None ∷ [];
         done = Reel ∷ [];
         given = given ∷ [];
       } ∷ []) ((h ∷ []) ∷ [])

@@ -168,19 +168,22 @@ pub record CasesOfLeads : Type 0 where
       → IsCutAt xs (mount_of t.place) new.place t.parts new.parts
       × AreNoted [] t.notes new.notes new.parts
   -- what calls say of it
-  pub run_led : (old new : Seen) (steps : List Step) (bytes : List (List ℕ)) (t : Lead)
-      (tapes : List (List TapeItem)) (r : HasRun old steps bytes new) → AreItems r.given tapes
+  pub run_led : (old new : Seen) (steps : List Step) (bytes : List (List ℕ))
+      (left : List (Option (List ℕ))) (t : Lead)
+      (tapes : List (List TapeItem)) (r : HasRun old steps bytes left new) → AreItems r.given tapes
       → StandsThere t old → StandsThere (lead t steps tapes) new
-  pub read_led : (id : List ℕ) (file : ℕ) (steps : List Step) (bytes : List (List ℕ)) (s : Seen)
-      (tapes : List (List TapeItem)) (r : IsRead id file steps bytes s) → AreItems r.given tapes
+  pub read_led : (id : List ℕ) (file : ℕ) (steps : List Step) (bytes : List (List ℕ))
+      (left : List (Option (List ℕ))) (s : Seen) (tapes : List (List TapeItem))
+      (r : IsRead id file steps bytes left s) → AreItems r.given tapes
       → StandsThere (lead (at_start id file) steps tapes) s
   pub stopped_led : (old new : Seen) (steps : List Step) (bytes : List (List ℕ))
-      (n : ℕ) (fault : RunFault) (t : Lead) (tapes : List (List TapeItem))
-      (s : HasStopped old steps bytes n fault new) → AreItems s.given tapes → StandsThere t old
+      (left : List (Option (List ℕ))) (n : ℕ) (fault : RunFault) (t : Lead)
+      (tapes : List (List TapeItem))
+      (s : HasStopped old steps bytes left n fault new) → AreItems s.given tapes → StandsThere t old
       → StopsBy (lead t (take n steps) tapes) s.step (drop (reels_in (take n steps)) bytes) fault
       new
-  pub reel_led : (bytes : List ℕ) (old new : Seen) (xs : List TapeItem) (end : ℕ) (stop : Stop)
-      (r : Reeled bytes false old new) → Begins 0 r.given xs end stop
+  pub reel_led : (bytes : List ℕ) (left : Option (List ℕ)) (old new : Seen) (xs : List TapeItem)
+      (end : ℕ) (stop : Stop) (r : Reeled bytes left false old new) → Begins 0 r.given xs end stop
       → IsLed xs (mount_of old.place) new.place old.parts new.parts
   pub cut_led : (bytes : List ℕ) (old new : Seen) (xs : List TapeItem) (end : ℕ) (stop : Stop)
       → CutShort bytes old new → Begins 0 bytes xs end stop

@@ -1,5 +1,6 @@
 -- What the definitions of runs that stopped say of cases: as in Cases.
-use Rattle.std.specs.Prelude.{◌≡◌, ◌≤◌, ℕ, ◌+◌, List, [], ◌∷◌, length, slice_get, Some}
+use Rattle.std.specs.Prelude.{◌≡◌, ◌≤◌, ℕ, ◌+◌, List, [], ◌∷◌, length, slice_get, Option}
+use Rattle.std.specs.Prelude.{Some}
 use Rattle.tape_image.specs.Tape.{TapeItem, block}
 use Rattle.tape_set.specs.Position.{at_part, next_block}
 use Rattle.tape_set.specs.Layout.{FileSet}
@@ -56,18 +57,19 @@ pub record CasesOfStops : Type 0 where
       (course set old.place.file (course_of old) hs).at (cut r.by.n h)))
       × ((course_of new).notes ≡ (course set old.place.file (course_of old) hs).notes)
   -- the step that was not made is the one of the number that is told
-  pub stopped_at : (old new : Seen) (bytes : List (List ℕ)) (fault : RunFault)
-      (s : HasStopped old (Reel ∷ Save ∷ Restart 0 ∷ []) bytes 1 fault new) → (s.step ≡ Save)
-      × AreGivenBy s.which bytes s.given
+  pub stopped_at : (old new : Seen) (bytes : List (List ℕ)) (left : List (Option (List ℕ)))
+      (fault : RunFault) (s : HasStopped old (Reel ∷ Save ∷ Restart 0 ∷ []) bytes left 1 fault new)
+      → (s.step ≡ Save) × AreGivenBy s.which bytes left s.given
       × (new.failures ≡ counted_up (failed_of s.which) old.failures)
   -- two reels were read before it, and the third reader is left
-  pub stopped_so : (old new : Seen) (a b c : List ℕ) (fault : RunFault)
-      (set : FileSet) (hs : List Happening)
-      (s : HasStopped old (Reel ∷ Reel ∷ Save ∷ Reel ∷ []) (a ∷ b ∷ c ∷ []) 2 fault new)
+  pub stopped_so : (old new : Seen) (a b c : List ℕ) (left : List (Option (List ℕ)))
+      (fault : RunFault) (set : FileSet) (hs : List Happening)
+      (s : HasStopped old (Reel ∷ Reel ∷ Save ∷ Reel ∷ []) (a ∷ b ∷ c ∷ []) left 2 fault new)
       → IsLawful set → IsHistory set (length old.notes) (Reel ∷ Reel ∷ []) s.given hs
       → IsSession set old → StopsStep set old hs Save (c ∷ []) fault new
-  pub nothing_stops_none : (old new : Seen) (bytes : List (List ℕ)) (n : ℕ) (fault : RunFault)
-      → HasStopped old [] bytes n fault new → ⊥
+  pub nothing_stops_none : (old new : Seen) (bytes : List (List ℕ))
+      (left : List (Option (List ℕ))) (n : ℕ) (fault : RunFault)
+      → HasStopped old [] bytes left n fault new → ⊥
   -- readers are counted
   pub two_reels : reels_in (Reel ∷ Save ∷ Restart 0 ∷ Reel ∷ []) ≡ 2
   -- only a going back in which the device of the sink failed loses what it holds

@@ -1,6 +1,7 @@
 -- What the definitions of what is seen of a session, and of readers that tell their bytes, say of
 -- cases. The call `laws::cases` has them as its contract.
-use Rattle.std.specs.Prelude.{◌≡◌, ℕ, ◌+◌, List, [], ◌∷◌, length, ⊤, Bool, Some, None}
+use Rattle.std.specs.Prelude.{◌≡◌, ◌⊎◌, ◌≤◌, ℕ, ◌+◌, List, [], ◌∷◌, length, ⊤, Bool, false}
+use Rattle.std.specs.Prelude.{Some, None}
 use Rattle.tape_blocks.specs.Block.{Portion}
 use Rattle.tape_core.specs.Crash.{lost}
 use Rattle.tape_core.specs.Place.{rest_of}
@@ -8,14 +9,20 @@ use Rattle.tape_core.specs.Point.{Point}
 use Rattle.tape_core.specs.Weight.{Rose}
 use Rattle.tape_core.specs.declared.sink.PartSink.{Ghosts}
 use Rattle.tape_core.specs.declared.sink.SinkFault.{SinkFault}
+use Rattle.tape_core.specs.declared.sink.SinkFault.TheVariants.{Failed}
 use Rattle.tape_run.specs.declared.fault.RunFault.TheVariants.{Sink, NoSuchPoint, TooFewReels}
 use Rattle.tape_run.specs.declared.fault.RunFault.TheVariants.{OutOfMemory, OtherFile}
+use Rattle.tape_run.specs.declared.fault.EngineFault.TheVariants as engine
+use Rattle.tape_run.specs.Causes.{ExtractFails, IsExtractFault, IsCalm}
 use Rattle.tape_run.specs.CasesOfSaves.{comes_now, weighing, holding_none}
 use Rattle.tape_run.specs.Crash.{BringsNoMore, IsWalked, KeepsLast}
 use Rattle.tape_run.specs.Given.{IfTold}
 use Rattle.tape_run.specs.Reeling.{Carries, IsKeptFor}
-use Rattle.tape_run.specs.Seen.{Seen, seen, IfSeen, IsSeen, IsSeenUnless}
-use Rattle.tape_run.specs.Steps.{RefusesReel}
+use Rattle.tape_run.specs.Seen.{Seen, seen, IsKept, IfSeen, IsSeen, IsSeenUnless}
+use Rattle.tape_run.specs.Runs.{RefusesStep, StopsFor}
+use Rattle.tape_run.specs.Steps.{Refuses, RefusesRestart}
+use Rattle.tape_run.specs.declared.fault.RunFault.{RunFault}
+use Rattle.tape_run.specs.declared.script.Step.TheVariants.{Reel, Save, Restart}
 use Rattle.tape_run.specs.Story.{Story}
 
 -- a sink that is a count: it holds any parts of that number, and refused as many calls
@@ -68,12 +75,61 @@ pub record CasesOfSeen : Type 0 where
   -- a reel is not read since the sink refused, or memory did and nothing changed, and for no other
   -- reason
   pub reel_refused : (cause : SinkFault) (old new : Story ℕ)
-      → RefusesReel counting (Sink cause) old new
+      → Refuses counting (Sink cause) old new
       → (new.failures ≡ old.failures) × Rose old.sink new.sink
-  pub no_memory : (old new : Story ℕ) → RefusesReel counting OutOfMemory old new → new ≡ old
-  pub no_other_fault : (old new : Story ℕ) → (RefusesReel counting NoSuchPoint old new → ⊥)
-      × (RefusesReel counting TooFewReels old new → ⊥)
-      × (RefusesReel counting OtherFile old new → ⊥)
+  pub no_memory : (old new : Story ℕ) → Refuses counting OutOfMemory old new → new ≡ old
+  pub no_other_fault : (old new : Story ℕ) → (Refuses counting NoSuchPoint old new → ⊥)
+      × (Refuses counting TooFewReels old new → ⊥)
+      × (Refuses counting OtherFile old new → ⊥)
+  -- a session does not go back since the sink refused, or weighs too little, as only one does of
+  -- which nothing is held
+  pub back_refused : (cause : SinkFault) (n : ℕ) (old new : Story ℕ)
+      → RefusesRestart counting n (Sink cause) old new → (new.failures ≡ old.failures)
+      × (Rose old.sink new.sink ⊎ ((cause ≡ Failed) × (new.sink ≡ old.sink)
+      × ((held : List Portion) → length held ≡ old.sink → IsKept (seen counting old held) → ⊥)))
+  pub no_note : (n : ℕ) (old new : Story ℕ) → RefusesRestart counting n NoSuchPoint old new
+      → (length old.notes ≤ n) × (new ≡ old)
+  pub no_other_way : (n : ℕ) (old new : Story ℕ)
+      → (RefusesRestart counting n TooFewReels old new → ⊥)
+      × (RefusesRestart counting n OutOfMemory old new → ⊥)
+      × (RefusesRestart counting n OtherFile old new → ⊥)
+  -- a step is not made for the reason of its call, or since no reader is left
+  pub reel_not_made : (fault : RunFault) (old new : Story ℕ)
+      → RefusesStep counting Reel fault old new
+      → Refuses counting fault old new ⊎ ((fault ≡ TooFewReels) × (new ≡ old))
+  pub save_not_made : (fault : RunFault) (old new : Story ℕ)
+      → RefusesStep counting Save fault old new → Refuses counting fault old new
+  pub back_not_made : (n : ℕ) (fault : RunFault) (old new : Story ℕ)
+      → RefusesStep counting (Restart n) fault old new → RefusesRestart counting n fault old new
+  pub second_not_made : (fault : RunFault) (old new : Story ℕ)
+      (s : StopsFor counting (Save ∷ Reel ∷ []) 1 fault old new) → (s.step ≡ Reel)
+      × (s.mid.sink ≡ old.sink) × RefusesStep counting s.step fault s.mid new
+  -- images are not read since the sink refused, or has failed, of which nothing is held; or there
+  -- was no memory, or a write failed, and it refused none
+  pub not_extracted : (back : Bool) (cause : SinkFault) (old new : Story ℕ)
+      → ExtractFails counting back (engine.Run (Sink cause)) old new
+      → Rose old.sink new.sink ⊎ ((cause ≡ Failed)
+      × ((held : List Portion) → length held ≡ old.sink → IsKept (seen counting old held) → ⊥))
+  pub no_memory_to_extract : (back : Bool) (old new : Story ℕ)
+      → (ExtractFails counting back (engine.Run OutOfMemory) old new → new.sink ≡ old.sink)
+      × (ExtractFails counting back engine.WriteFailed old new → new.sink ≡ old.sink)
+  -- of a session with a note there is no other fault, nor of one that does not go back
+  pub noted : (back : Bool) (c : Point) (old new : Story ℕ) → old.notes ≡ c ∷ []
+      → ExtractFails counting back (engine.Run NoSuchPoint) old new → ⊥
+  pub goes_on : (old new : Story ℕ) → ExtractFails counting false (engine.Run NoSuchPoint) old new
+      → ⊥
+  pub no_other_end : (back : Bool) (old new : Story ℕ)
+      → (ExtractFails counting back (engine.Run TooFewReels) old new → ⊥)
+      × (ExtractFails counting back (engine.Run OtherFile) old new → ⊥)
+  pub extract_faults : (cause : SinkFault) → IsExtractFault (engine.Run (Sink cause))
+      × IsExtractFault (engine.Run OutOfMemory) × IsExtractFault engine.WriteFailed
+  pub no_extract_faults : (IsExtractFault (engine.Run NoSuchPoint) → ⊥)
+      × (IsExtractFault (engine.Run TooFewReels) → ⊥) × (IsExtractFault (engine.Run OtherFile) → ⊥)
+  -- no call was refused
+  pub none_refused : (old new : Story ℕ) → IsCalm counting old new → (new.sink ≡ old.sink)
+      × (new.notes ≡ [] → old.notes ≡ []) × ((held : List Portion) → length held ≡ old.sink
+      → IsKept (seen counting old held)
+      → IsSeen counting new (λ is. IsKept is))
   -- only the sink of a session may be another, which holds what it held
   pub walked : (old new : Story Point) (ps : List Portion) → old.sink.staged ≡ 0
       → IsWalked (weighing (comes_now ps)) old new → (new.core ≡ old.core)

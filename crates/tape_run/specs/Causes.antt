@@ -1,13 +1,16 @@
 -- Why records were not written.
-use Rattle.std.specs.Prelude.{◌≡◌, ◌≢◌, ◌⊎◌, ℕ, Bool, true, List}
+use Rattle.std.specs.Prelude.{◌≡◌, ◌≢◌, ◌⊎◌, ℕ, Bool, true, List, [], ⊤}
 use Rattle.tape_blocks.specs.Block.{Portion}
 use Rattle.tape_blocks.specs.declared.parts.Form.{Form}
 use Rattle.tape_core.specs.Weight.{Rose}
+use Rattle.tape_core.specs.declared.sink.PartSink.{Ghosts}
 use Rattle.tape_core.specs.declared.sink.SinkFault.TheVariants.{Failed}
 use Rattle.tape_run.specs.declared.fault.EngineFault.{EngineFault}
 use Rattle.tape_run.specs.declared.fault.EngineFault.TheVariants.{Run, WriteFailed}
 use Rattle.tape_run.specs.declared.fault.RunFault.TheVariants.{Sink, NoSuchPoint, TooFewReels}
 use Rattle.tape_run.specs.declared.fault.RunFault.TheVariants.{OutOfMemory, OtherFile}
+use Rattle.tape_run.specs.Seen.{IsKept, IfSeen, IsSeen}
+use Rattle.tape_run.specs.Story.{Story}
 
 -- why the records of a sink were not written: it refused a call; or it gave fewer than were
 -- counted, as only a sink does of which nothing is held; or a write failed, and it refused none
@@ -20,6 +23,35 @@ WritingFails holds refusals old new (Run TooFewReels) = ⊥
 WritingFails holds refusals old new (Run OutOfMemory) = ⊥
 WritingFails holds refusals old new (Run OtherFile) = ⊥
 WritingFails holds refusals old new WriteFailed = refusals new ≡ refusals old
+
+-- why images were not read, or the records of a session's sink not written, by one that goes back
+-- or not: the sink refused a call; or it has failed, as only one has of which nothing is held; or
+-- there was no memory, or a write failed, and the sink refused no call. A session without a note
+-- does not go back.
+abbrev pub ExtractFails : {S : Type 0} → Ghosts S → Bool → EngineFault → Story S → Story S → Type 0
+ExtractFails g back (Run (Sink cause)) old new = Rose (g.refusals old.sink) (g.refusals new.sink)
+    ⊎ ((cause ≡ Failed) × IfSeen g old (λ was. IsKept was → ⊥))
+ExtractFails g back (Run NoSuchPoint) old new = (back ≡ true) × (old.notes ≡ [])
+ExtractFails g back (Run TooFewReels) old new = ⊥
+ExtractFails g back (Run OutOfMemory) old new = g.refusals new.sink ≡ g.refusals old.sink
+ExtractFails g back (Run OtherFile) old new = ⊥
+ExtractFails g back WriteFailed old new = g.refusals new.sink ≡ g.refusals old.sink
+
+-- The sink refused, there was no memory, or a write failed.
+abbrev pub IsExtractFault : EngineFault → Type 0
+IsExtractFault (Run (Sink cause)) = ⊤
+IsExtractFault (Run NoSuchPoint) = ⊥
+IsExtractFault (Run TooFewReels) = ⊥
+IsExtractFault (Run OutOfMemory) = ⊤
+IsExtractFault (Run OtherFile) = ⊥
+IsExtractFault WriteFailed = ⊤
+
+-- No call of the sink was refused, a session with notes has one still, and what is true of each
+-- session stays so.
+pub record IsCalm {S : Type 0} (g : Ghosts S) (old new : Story S) : Type 0 where
+  pub calm : g.refusals new.sink ≡ g.refusals old.sink
+  pub notes : new.notes ≡ [] → old.notes ≡ []
+  pub kept : IfSeen g old (λ was. IsKept was → IsSeen g new (λ is. IsKept is))
 
 -- a write failed before, a record is begun, or another form is asked for than was written
 abbrev pub CannotEnd : Bool → Bool → Form → Form → Type 0

@@ -114,15 +114,18 @@ is_saved saved (Restart n ∷ steps) = is_saved false steps
 abbrev pub IsOf : Seen → Point → List Portion → Type 0
 IsOf s back there = IsHere s back there ⊎ ((n : ℕ) × IsNoteOf n s back there)
 
--- This is of the session before the first of the steps, or behind one of them that was made. Behind
--- a reader that does not tell its bytes nothing is known.
-abbrev pub StoodAt : Seen → List Step → List (Option (List ℕ)) → Point → List Portion → Type 0
-StoodAt s [] reels back there = IsOf s back there
-StoodAt s (Reel ∷ steps) [] back there = IsOf s back there
-StoodAt s (Reel ∷ steps) (None ∷ reels) back there = ⊤
-StoodAt s (Reel ∷ steps) (Some bytes ∷ reels) back there = IsOf s back there ⊎ ((failed : Bool) ×
-    (mid : Seen) × Reeled bytes failed s mid × StoodAt mid steps reels back there)
-StoodAt s (Save ∷ steps) reels back there = IsOf s back there ⊎ ((mid : Seen) × Saved s mid
-    × StoodAt mid steps reels back there)
-StoodAt s (Restart n ∷ steps) reels back there = IsOf s back there ⊎ ((mid : Seen)
-    × WentBack n s mid × StoodAt mid steps reels back there)
+-- This is of the session before the first of the steps, or behind one of them that was made, with
+-- readers that have this left. Behind a reader that does not tell its bytes nothing is known.
+abbrev pub StoodAt : Seen → List Step → List (Option (List ℕ)) → List (Option (List ℕ)) → Point
+    → List Portion → Type 0
+StoodAt s [] reels left back there = IsOf s back there
+StoodAt s (Reel ∷ steps) [] left back there = IsOf s back there
+StoodAt s (Reel ∷ steps) (None ∷ reels) left back there = ⊤
+StoodAt s (Reel ∷ steps) (Some bytes ∷ reels) [] back there = IsOf s back there
+StoodAt s (Reel ∷ steps) (Some bytes ∷ reels) (l ∷ left) back there = IsOf s back there
+    ⊎ ((failed : Bool) × (mid : Seen) × Reeled bytes l failed s mid
+    × StoodAt mid steps reels left back there)
+StoodAt s (Save ∷ steps) reels left back there = IsOf s back there ⊎ ((mid : Seen) × Saved s mid
+    × StoodAt mid steps reels left back there)
+StoodAt s (Restart n ∷ steps) reels left back there = IsOf s back there ⊎ ((mid : Seen)
+    × WentBack n s mid × StoodAt mid steps reels left back there)

@@ -1,5 +1,5 @@
 -- A front of a mount is a mount.
-use Rattle.std.specs.Prelude.{Bool, ℕ, List, ◌++◌}
+use Rattle.std.specs.Prelude.{Bool, ℕ, List, Option, ◌++◌}
 use Rattle.tape_set.specs.Layout.{FileSet}
 use Rattle.tape_run.specs.declared.script.Step.{Step}
 use Rattle.tape_run.specs.Mount.{Happening, IsMountOf, cut}
@@ -15,6 +15,6 @@ FrontsAreMounts = (set : FileSet) (front rest : List ℕ) (h : Happening)
 -- So whatever readers failed, what was given is a history too.
 abbrev pub GivenIsHistory : Type 0
 GivenIsHistory = (set : FileSet) (notes : ℕ) (which : List Bool) (steps : List Step)
-    (bytes given : List (List ℕ)) (hs : List Happening)
-    → IsHistory set notes steps bytes hs → AreGivenBy which bytes given
+    (bytes given : List (List ℕ)) (left : List (Option (List ℕ))) (hs : List Happening)
+    → IsHistory set notes steps bytes hs → AreGivenBy which bytes left given
     → (hs' : List Happening) × IsHistory set notes steps given hs'

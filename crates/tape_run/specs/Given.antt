@@ -21,10 +21,10 @@ abbrev pub is_device : Option ImageFault → Bool
 is_device None = false
 is_device (Some fault) = is_device_cause fault.cause
 
--- All that a reader has was given, or, where it failed, a front of that.
-abbrev pub IsGiven : Bool → List ℕ → List ℕ → Type 0
-IsGiven false bytes given = given ≡ bytes
-IsGiven true bytes given = (rest : List ℕ) × (bytes ≡ given ++ rest)
+-- All that a reader has was given, or, where it failed, what it has not left.
+abbrev pub IsGiven : Bool → List ℕ → Option (List ℕ) → List ℕ → Type 0
+IsGiven false bytes left given = given ≡ bytes
+IsGiven true bytes left given = (rest : List ℕ) × (left ≡ Some rest) × (bytes ≡ given ++ rest)
 
 -- Where each of the readers tells its bytes, these are so.
 abbrev pub IfTold : {R : Type 0} → (R → Option (List ℕ)) → List R → (List (List ℕ) → Type 0)
@@ -39,12 +39,14 @@ counted false n = n
 counted true n = min (n + 1) 18446744073709551615
 
 -- The bytes that were given of each of the first readers, as many as are told of, by whether it
--- failed: all that it has, or a front of that. The readers behind these were not taken.
-abbrev pub AreGivenBy : List Bool → List (List ℕ) → List (List ℕ) → Type 0
-AreGivenBy [] all given = given ≡ all
-AreGivenBy (f ∷ which) [] given = ⊥
-AreGivenBy (f ∷ which) (bytes ∷ all) [] = ⊥
-AreGivenBy (f ∷ which) (bytes ∷ all) (g ∷ given) = IsGiven f bytes g × AreGivenBy which all given
+-- failed: all that it has, or what it has not left. The readers behind these were not taken.
+abbrev pub AreGivenBy : List Bool → List (List ℕ) → List (Option (List ℕ)) → List (List ℕ) → Type 0
+AreGivenBy [] all left given = given ≡ all
+AreGivenBy (f ∷ which) [] left given = ⊥
+AreGivenBy (f ∷ which) (bytes ∷ all) [] given = ⊥
+AreGivenBy (f ∷ which) (bytes ∷ all) (l ∷ left) [] = ⊥
+AreGivenBy (f ∷ which) (bytes ∷ all) (l ∷ left) (g ∷ given) =
+    IsGiven f bytes l g × AreGivenBy which all left given
 
 -- how many failed
 abbrev pub failed_of : List Bool → ℕ

@@ -6,7 +6,7 @@
 -- sink holds the parts of the session before (`IsSession`, `IsNew`); no call was refused (`HasRun`,
 -- `IsRead`), or the first one that was ended the run (`HasStopped`).
 use Rattle.std.specs.Prelude.{◌≡◌, ℕ, suc, ◌≤◌, List, [], ◌∷◌, length, take, drop, IsSome}
-use Rattle.std.specs.Prelude.{Bool, Some, slice_get}
+use Rattle.std.specs.Prelude.{Bool, Option, Some, slice_get}
 use Rattle.tape_image.specs.Tape.{TapeItem}
 use Rattle.tape_image.specs.Begins.{Stop, Begins}
 use Rattle.tape_core.specs.declared.sink.SinkFault.TheVariants.{Device}
@@ -36,12 +36,13 @@ pub record Ran (set : FileSet) (old : Seen) (hs : List Happening) (new : Seen) :
   pub reached : course set old.place.file (course_of old) hs ≡ course_of new
 
 -- All steps were made: of every lawful set and every history that the bytes given are, the session
--- is where this leads; and whatever they are, it is where the table leads.
+-- is where this leads; and whatever they are, it is where the table leads. What was given of each
+-- reader follows of what it has left.
 pub record HasRun (old : Seen) (steps : List Step) (bytes : List (List ℕ))
-    (new : Seen) : Type 0 where
+    (left : List (Option (List ℕ))) (new : Seen) : Type 0 where
   pub given : List (List ℕ)
   pub which : List Bool
-  pub are_given : AreGivenBy which bytes given
+  pub are_given : AreGivenBy which bytes left given
   pub count : new.failures ≡ counted_up (failed_of which) old.failures
   pub ran : (set : FileSet) (hs : List Happening) → IsLawful set
       → IsHistory set (length old.notes) steps given hs
@@ -75,10 +76,10 @@ pub record IsStart (set_id : List ℕ) (file : ℕ) (s : Seen) : Type 0 where
 -- this leads to, and the position and the notes are those of it. Whatever the bytes are, all is as
 -- the table leads.
 pub record IsRead (set_id : List ℕ) (file : ℕ) (steps : List Step) (bytes : List (List ℕ))
-    (s : Seen) : Type 0 where
+    (left : List (Option (List ℕ))) (s : Seen) : Type 0 where
   pub given : List (List ℕ)
   pub which : List Bool
-  pub are_given : AreGivenBy which bytes given
+  pub are_given : AreGivenBy which bytes left given
   pub count : s.failures ≡ counted_up (failed_of which) 0
   pub reads : (set : FileSet) (hs : List Happening) → IsLawful set → set_id ≡ set.set_id
       → IsSome (file_of set file)
@@ -133,13 +134,13 @@ StopsStep set old hs step readers fault new = ⊥
 -- The first n steps were made, and the next one was not: of every lawful set and every history that
 -- the steps made and the bytes given are, the session is where this leads, or at a part that the
 -- sink refused.
-pub record HasStopped (old : Seen) (steps : List Step) (bytes : List (List ℕ)) (n : ℕ)
-    (fault : RunFault) (new : Seen) : Type 0 where
+pub record HasStopped (old : Seen) (steps : List Step) (bytes : List (List ℕ))
+    (left : List (Option (List ℕ))) (n : ℕ) (fault : RunFault) (new : Seen) : Type 0 where
   pub step : Step
   pub at : slice_get steps n ≡ Some step
   pub given : List (List ℕ)
   pub which : List Bool
-  pub are_given : AreGivenBy which bytes given
+  pub are_given : AreGivenBy which bytes left given
   pub count : new.failures ≡ counted_up (failed_of which) old.failures
   pub stops : (set : FileSet) (hs : List Happening) → IsLawful set
       → IsHistory set (length old.notes) (take n steps) given hs

@@ -11,6 +11,7 @@ pub mod Fault
 -- Kept step by step, and believed where a single call's contract is read.
 pub mod Reels
 pub mod ByTable
+pub mod GoesBehind
 pub mod Steps
 pub mod Runs
 pub mod Crash

@@ -1,5 +1,6 @@
 -- Sessions across crashes.
 use Rattle.std.specs.Prelude.{Bool, ◌≡◌, ◌⊎◌, ℕ, List, [], ◌∷◌, ◌++◌, length, map, Some, slice_get}
+use Rattle.std.specs.Prelude.{Option}
 use Rattle.tape_blocks.specs.Block.{Portion}
 use Rattle.tape_set.specs.Layout.{FileSet}
 use Rattle.tape_set.specs.Lawful.{IsLawful}
@@ -24,12 +25,13 @@ IsPlaceOf c p = (p ≡ c.at) ⊎ ((n : ℕ) × (slice_get c.notes n ≡ Some p))
 -- This came back, of the session behind these of its steps: of every lawful set and every history
 -- that these steps and the bytes given are, it stands, at the position that the history leads to or
 -- at one that was noted on the way.
-pub record ComesBack (old : Seen) (steps done : List Step) (bytes given : List (List ℕ))
+pub record ComesBack (old : Seen) (steps done : List Step) (bytes : List (List ℕ))
+    (left : List (Option (List ℕ))) (given : List (List ℕ))
     (back : Point) (there : List Portion) : Type 0 where
   pub rest : List Step
   pub all : steps ≡ done ++ rest
   pub which : List Bool
-  pub are_given : AreGivenBy which bytes given
+  pub are_given : AreGivenBy which bytes left given
   pub stands : (set : FileSet) (hs : List Happening) → IsLawful set
       → IsHistory set (length old.notes) done given hs → IsSession set old
       → Stands set old.place.file back there
@@ -37,16 +39,18 @@ pub record ComesBack (old : Seen) (steps done : List Step) (bytes given : List (
 
 -- What may come back of a session over readers that tell their bytes comes back so.
 abbrev pub StoodComesBack : Type 0
-StoodComesBack = (old : Seen) (steps : List Step) (bytes : List (List ℕ)) (back : Point)
-    (there : List Portion) → StoodAt old steps (map Some bytes) back there
-    → (done : List Step) × (given : List (List ℕ)) × ComesBack old steps done bytes given back there
+StoodComesBack = (old : Seen) (steps : List Step) (bytes : List (List ℕ))
+    (left : List (Option (List ℕ))) (back : Point) (there : List Portion)
+    → StoodAt old steps (map Some bytes) left back there → (done : List Step)
+    × (given : List (List ℕ)) × ComesBack old steps done bytes left given back there
 
--- one life of a session, up to a crash: its beginning, its steps and readers, and the steps that
--- what came back stands behind, with what was given
+-- one life of a session, up to a crash: its beginning, its steps and readers, with what these have
+-- left, and the steps that what came back stands behind, with what was given
 pub record Life : Type 0 where
   pub began : Seen
   pub steps : List Step
   pub bytes : List (List ℕ)
+  pub left : List (Option (List ℕ))
   pub done : List Step
   pub given : List (List ℕ)
 
@@ -65,14 +69,16 @@ Outlives c ps (life ∷ lives) back there =
     IsResumed c ps life.began
     × ((mid : Point) × (front : List Portion)
     × (((mid ≡ c) × (front ≡ ps))
-    ⊎ ComesBack life.began life.steps life.done life.bytes life.given mid front)
+    ⊎ ComesBack life.began life.steps life.done life.bytes life.left life.given mid front)
     × Outlives mid front lives back there)
 
 -- Where nothing came back before but this checkpoint with these parts, what comes back now is that,
 -- or outlives a life of these steps.
-abbrev pub LivesOn : Point → List Portion → List Step → List (List ℕ) → Returns → Returns → Type 0
-LivesOn c ps steps bytes old new = OnlyThis c ps old → (back : Point) (there : List Portion)
-    → new back there → (life : Life) × (life.steps ≡ steps) × (life.bytes ≡ bytes)
+abbrev pub LivesOn : Point → List Portion → List Step → List (List ℕ) → List (Option (List ℕ))
+    → Returns → Returns → Type 0
+LivesOn c ps steps bytes left old new = OnlyThis c ps old → (back : Point) (there : List Portion)
+    → new back there
+    → (life : Life) × (life.steps ≡ steps) × (life.bytes ≡ bytes) × (life.left ≡ left)
     × Outlives c ps (life ∷ []) back there
 
 -- a history for each life
@@ -94,8 +100,8 @@ StandsAcrossCrashes = (set : FileSet) (c : Point) (ps : List Portion) (lives : L
 -- parts before that position.
 abbrev pub ResumedGoesOn : Type 0
 ResumedGoesOn = (set : FileSet) (c : Point) (ps : List Portion) (began new : Seen)
-    (steps : List Step) (bytes : List (List ℕ)) (hs : List Happening)
-    → IsLawful set → Stands set c.file c ps → IsResumed c ps began
-    → (run : HasRun began steps bytes new) → IsHistory set 0 steps run.given hs
+    (steps : List Step) (bytes : List (List ℕ)) (left : List (Option (List ℕ)))
+    (hs : List Happening) → IsLawful set → Stands set c.file c ps → IsResumed c ps began
+    → (run : HasRun began steps bytes left new) → IsHistory set 0 steps run.given hs
     → (course set c.file (record { at = c.position; notes = [] }) hs ≡ course_of new)
     × (new.parts ≡ before set c.file new.place.position)

@@ -10,26 +10,29 @@ use Rattle.tape_run.specs.Given.{written}
 use Rattle.tape_run.specs.Runs.{Runs, RunsUpTo}
 use Rattle.tape_run.specs.Seen.{Seen}
 
--- The first so many steps were made, with the first of the readers, of which these failed: whatever
--- the steps that are left do from here, all steps do from before, where those stop these stop so
--- many steps later, and where the session stands between those it stands between these.
+-- The first so many steps were made, with the first of the readers, of which these failed, and
+-- which have this unread: whatever the steps that are left do from here, all steps do from before,
+-- where those stop these stop so many steps later, and where the session stands between those it
+-- stands between these.
 pub record HasMade (made : ℕ) (which : List Bool) (old : Seen) (steps : List Step)
-    (readers : List (Option (List ℕ))) (new : Seen) (left : List Step)
+    (readers unread : List (Option (List ℕ))) (new : Seen) (left : List Step)
     (others : List (Option (List ℕ))) : Type 0 where
-  pub runs : (more : List Bool) (end : Seen) → Runs more new left others end
-      → Runs (which ++ more) old steps readers end
-  pub stops : (more : List Bool) (n : ℕ) (fault : RunFault) (end : Seen)
-      → RunsUpTo more new left others n fault end
-      → RunsUpTo (which ++ more) old steps readers (made + n) fault end
-  pub stood : (back : Point) (there : List Portion) → StoodAt new left others back there
-      → StoodAt old steps readers back there
+  pub runs : (more : List Bool) (behind : List (Option (List ℕ))) (end : Seen)
+      → Runs more new left others behind end
+      → Runs (which ++ more) old steps readers (unread ++ behind) end
+  pub stops : (more : List Bool) (behind : List (Option (List ℕ))) (n : ℕ) (fault : RunFault)
+      (end : Seen) → RunsUpTo more new left others behind n fault end
+      → RunsUpTo (which ++ more) old steps readers (unread ++ behind) (made + n) fault end
+  pub stood : (behind : List (Option (List ℕ))) (back : Point) (there : List Portion)
+      → StoodAt new left others behind back there
+      → StoodAt old steps readers (unread ++ behind) back there
 
 -- A step was made, with the first of the readers where it is a reel: whatever the steps behind it
 -- do from here, it and they do from before; and where a crash brought back the last note alone, if
 -- it is said to, it does so still, if that is said behind the step.
-pub record IsMade (which : List Bool) (step : Step) (readers others : List (Option (List ℕ)))
+pub record IsMade (which : List Bool) (step : Step) (readers unread others : List (Option (List ℕ)))
     (was now : Crashes) (old new : Seen) : Type 0 where
-  pub makes : (rest : List Step) → HasMade 1 which old (step ∷ rest) readers new rest others
+  pub makes : (rest : List Step) → HasMade 1 which old (step ∷ rest) readers unread new rest others
   pub stays : (saved : Bool) → (saved ≡ true → LastAlone was old) → (still : Bool)
       × ((rest : List Step) → is_saved saved (step ∷ rest) ≡ is_saved still rest)
       × (still ≡ true → LastAlone now new)

@@ -19,7 +19,9 @@ use Rattle.tape_core.specs.Place.{IsPlaced, rest_of}
 use Rattle.tape_core.specs.Point.{Point}
 use Rattle.tape_core.specs.declared.sink.PartSink.{Ghosts}
 use Rattle.tape_run.specs.declared.intake.ReelAnswer.{ReelAnswer}
-use Rattle.tape_run.specs.Crash.{KeepsLast, LeavesSaved}
+use Rattle.tape_core.specs.Stands.{weight_of}
+use Rattle.tape_core.specs.Table.{saved}
+use Rattle.tape_run.specs.Crash.{KeepsLast, LeavesSaved, IsLast}
 use Rattle.tape_run.specs.Given.{is_device, IsGiven}
 use Rattle.tape_run.specs.Mount.{Happening, IsMountOf, after_mount}
 use Rattle.tape_run.specs.Lead.{Lead, over_reel}
@@ -33,12 +35,13 @@ use Rattle.tape_run.specs.Story.{Story}
 use Rattle.tape_image.specs.Written.{AppendsFront}
 use Rattle.tape_run.specs.ReelLine.{reel_line, reel_lines}
 
--- An image that was opened: the bytes that its reader had and has left, where these are known, and
--- what its reel answered.
+-- An image that was opened: the bytes that its reader had and has left, where these are known, what
+-- its reel answered, and whether a note was made behind it.
 pub record Opened : Type 0 where
   pub had : Option (List ℕ)
   pub left : Option (List ℕ)
   pub answer : ReelAnswer
+  pub noted : Bool
 
 -- what became of an image: it was read, or it was not opened
 abbrev pub Turn : Type 0
@@ -102,12 +105,18 @@ AreSure (Some o ∷ turns) = (is_doubtful o.answer.answer ≡ false) × AreSure 
 abbrev pub WentToLast : Seen → Seen → Type 0
 WentToLast old new = (n : ℕ) × (length old.notes ≡ n + 1) × WentBack n old new
 
--- Behind a reel: it was noted where the session stands. Where what the reel gave is in doubt
--- nothing was noted; a session that goes back is at the note made last, and another is as it was.
-abbrev pub IsNoted : Bool → Bool → Seen → Seen → Type 0
-IsNoted back false old new = Saved old new
-IsNoted false true old new = new ≡ old
-IsNoted true true old new = WentToLast old new
+-- The note made last is of where the session stands, with its parts.
+abbrev pub HasNotedHere : Seen → Type 0
+HasNotedHere s = IsLast s (saved s.place (weight_of s.parts)) s.parts
+
+-- Behind a reel: it was noted where the session stands, unless the note made last is of there; then
+-- nothing changed. Where what the reel gave is in doubt nothing was noted; a session that goes back
+-- is at the note made last, and another is as it was.
+abbrev pub IsNoted : Bool → Bool → Bool → Seen → Seen → Type 0
+IsNoted back false true old new = (HasNotedHere old → ⊥) × Saved old new
+IsNoted back false false old new = HasNotedHere old × (new ≡ old)
+IsNoted false true noted old new = new ≡ old
+IsNoted true true noted old new = WentToLast old new
 
 -- a session goes back, behind a reel that is in doubt, where it has a note
 abbrev pub goes_back : List Point → Bool
@@ -128,8 +137,8 @@ pub record ReadsAndNotes (back : Bool) (core : State) (old : Seen) (o : Opened) 
   pub answers : IfKnown o.had o.left
       (λ bytes left. Reads core.position core bytes left o.answer)
   pub reeled : IfSome o.had (λ bytes. (mid : Seen)
-      × Reeled bytes (is_device o.answer.fault) old mid
-      × IsNoted back (is_doubtful o.answer.answer) mid new)
+      × Reeled bytes o.left (is_device o.answer.fault) old mid
+      × IsNoted back (is_doubtful o.answer.answer) o.noted mid new)
   pub place : new.place ≡ rest_of next
 
 -- The images, one after another, took a session from one state to another. An image that was not
@@ -141,13 +150,13 @@ Follows back core old (None ∷ turns) last new =
 Follows back core old (Some o ∷ turns) last new = (next : State) × (behind : Seen)
     × ReadsAndNotes back core old o next behind × Follows back next behind turns last new
 
--- The bytes that were given of each image that was opened: all that it has, or a front of that
+-- The bytes that were given of each image that was opened: all that it had, or what it has not left
 -- where the line of the image tells that reading it failed.
 abbrev pub AreGiven : List Turn → List (List ℕ) → Type 0
 AreGiven [] [] = ⊤
 AreGiven (None ∷ turns) given = AreGiven turns given
 AreGiven (Some o ∷ turns) (g ∷ given) =
-    IfSome o.had (λ bytes. IsGiven (is_device o.answer.fault) bytes g) × AreGiven turns given
+    IfSome o.had (λ bytes. IsGiven (is_device o.answer.fault) bytes o.left g) × AreGiven turns given
 AreGiven turns given = ⊥
 
 -- The bytes given are those of these mounts: copies of the set's volumes, or reels of others. Each
@@ -205,25 +214,28 @@ pub record Gathers (turns : List Turn) (old new : Seen) : Type 0 where
   pub led : LedOver turns given old new
 
 -- The step that is made behind a reel, of a session that has so many notes, if one is.
-abbrev pub step_behind : Bool → Bool → ℕ → List Step
-step_behind back false notes = Save ∷ []
-step_behind false true notes = []
-step_behind true true zero = []
-step_behind true true (suc n) = Restart n ∷ []
+abbrev pub step_behind : Bool → Bool → Bool → ℕ → List Step
+step_behind back false true notes = Save ∷ []
+step_behind back false false notes = []
+step_behind false true noted notes = []
+step_behind true true noted zero = []
+step_behind true true noted (suc n) = Restart n ∷ []
 
 -- how many notes there are then
-abbrev pub notes_behind : Bool → ℕ → ℕ
-notes_behind false notes = notes + 1
-notes_behind true notes = notes
+abbrev pub notes_behind : Bool → Bool → ℕ → ℕ
+notes_behind false true notes = notes + 1
+notes_behind false false notes = notes
+notes_behind true noted notes = notes
 
 -- The steps of a session over images, which has so many notes before: of each that was opened its
--- reel, and behind it a save; behind one that is in doubt it goes back to the note made last.
+-- reel, and behind it a save, where a note was made; behind one that is in doubt it goes back to
+-- the note made last.
 abbrev pub steps_of : Bool → ℕ → List Turn → List Step
 steps_of back notes [] = []
 steps_of back notes (None ∷ turns) = steps_of back notes turns
 steps_of back notes (Some o ∷ turns) =
-    Reel ∷ step_behind back (is_doubtful o.answer.answer) notes
-    ++ steps_of back (notes_behind (is_doubtful o.answer.answer) notes) turns
+    Reel ∷ step_behind back (is_doubtful o.answer.answer) o.noted notes
+    ++ steps_of back (notes_behind (is_doubtful o.answer.answer) o.noted notes) turns
 
 -- Each reader of an image that was opened told its bytes, and they are these.
 abbrev pub AreTold : List Turn → List (List ℕ) → Type 0
@@ -231,6 +243,12 @@ AreTold [] bytes = bytes ≡ []
 AreTold (None ∷ turns) bytes = AreTold turns bytes
 AreTold (Some o ∷ turns) [] = ⊥
 AreTold (Some o ∷ turns) (b ∷ bytes) = (o.had ≡ Some b) × AreTold turns bytes
+
+-- what is left of the images that were opened
+abbrev pub left_in : List Turn → List (Option (List ℕ))
+left_in [] = []
+left_in (None ∷ turns) = left_in turns
+left_in (Some o ∷ turns) = o.left ∷ left_in turns
 
 -- which of the readers that were taken failed, as the lines of their images tell
 abbrev pub failed_in : List Turn → List Bool
@@ -243,7 +261,7 @@ failed_in (Some o ∷ turns) = is_device o.answer.fault ∷ failed_in turns
 -- which it is told.
 abbrev pub AreSteps : Bool → List Turn → Seen → Seen → Type 0
 AreSteps back turns old new = (bytes : List (List ℕ)) → AreTold turns bytes
-    → (run : HasRun old (steps_of back (length old.notes) turns) bytes new)
+    → (run : HasRun old (steps_of back (length old.notes) turns) bytes (left_in turns) new)
     × (run.which ≡ failed_in turns)
 
 -- ---- calls

@@ -1,6 +1,6 @@
 -- What the steps of a run do, one after another.
 use Rattle.std.specs.Prelude.{◌≡◌, ℕ, Bool, List, [], ◌∷◌, length, map, take, drop, Option, Some}
-use Rattle.std.specs.Prelude.{None, slice_get, ⊤}
+use Rattle.std.specs.Prelude.{None, slice_get, ⊤, ◌⊎◌}
 use Rattle.tape_set.specs.Layout.{FileSet}
 use Rattle.tape_run.specs.declared.fault.RunFault.{RunFault}
 use Rattle.tape_run.specs.declared.fault.RunFault.TheVariants.{Sink, NoSuchPoint, TooFewReels}
@@ -12,20 +12,27 @@ use Rattle.tape_run.specs.Mount.{Happening}
 use Rattle.tape_run.specs.History.{IsHistory}
 use Rattle.tape_run.specs.Seen.{Seen}
 use Rattle.tape_run.specs.Steps.{Reeled, Saved, WentBack, ReelFails, SaveFails, RestartFails}
+use Rattle.tape_run.specs.Steps.{Refuses, RefusesRestart}
+use Rattle.tape_run.specs.Causes.{IsCalm}
+use Rattle.tape_run.specs.Story.{Story}
+use Rattle.tape_core.specs.declared.sink.PartSink.{Ghosts}
 
 -- All steps were made, one after another, each with the next reader where it is a reel, of which it
--- is told whether it failed. Behind a reader that does not tell its bytes nothing is known.
-abbrev pub Runs : List Bool → Seen → List Step → List (Option (List ℕ)) → Seen → Type 0
-Runs which old [] reels new = (which ≡ []) × (new ≡ old)
-Runs [] old (Reel ∷ steps) reels new = ⊥
-Runs (failed ∷ which) old (Reel ∷ steps) [] new = ⊥
-Runs (failed ∷ which) old (Reel ∷ steps) (None ∷ reels) new = ⊤
-Runs (failed ∷ which) old (Reel ∷ steps) (Some bytes ∷ reels) new =
-    (mid : Seen) × Reeled bytes failed old mid × Runs which mid steps reels new
-Runs which old (Save ∷ steps) reels new =
-    (mid : Seen) × Saved old mid × Runs which mid steps reels new
-Runs which old (Restart n ∷ steps) reels new =
-    (mid : Seen) × WentBack n old mid × Runs which mid steps reels new
+-- is told whether it failed, and what it has left. Behind a reader that does not tell its bytes
+-- nothing is known.
+abbrev pub Runs : List Bool → Seen → List Step → List (Option (List ℕ)) → List (Option (List ℕ))
+    → Seen → Type 0
+Runs which old [] reels left new = (which ≡ []) × (new ≡ old)
+Runs [] old (Reel ∷ steps) reels left new = ⊥
+Runs (failed ∷ which) old (Reel ∷ steps) [] left new = ⊥
+Runs (failed ∷ which) old (Reel ∷ steps) (None ∷ reels) left new = ⊤
+Runs (failed ∷ which) old (Reel ∷ steps) (Some bytes ∷ reels) [] new = ⊥
+Runs (failed ∷ which) old (Reel ∷ steps) (Some bytes ∷ reels) (l ∷ left) new =
+    (mid : Seen) × Reeled bytes l failed old mid × Runs which mid steps reels left new
+Runs which old (Save ∷ steps) reels left new =
+    (mid : Seen) × Saved old mid × Runs which mid steps reels left new
+Runs which old (Restart n ∷ steps) reels left new =
+    (mid : Seen) × WentBack n old mid × Runs which mid steps reels left new
 
 -- The step was not made, with these readers left, for this reason.
 abbrev pub Fails : Step → List (Option (List ℕ)) → RunFault → Seen → Seen → Type 0
@@ -37,12 +44,28 @@ Fails (Restart n) reels fault old new = RestartFails n fault old new
 
 -- The first n steps were made, and the next one was not, for this reason.
 pub record RunsUpTo (which : List Bool) (old : Seen) (steps : List Step)
-    (reels : List (Option (List ℕ))) (n : ℕ) (fault : RunFault) (new : Seen) : Type 0 where
+    (reels left : List (Option (List ℕ))) (n : ℕ) (fault : RunFault) (new : Seen) : Type 0 where
   pub step : Step
   pub at : slice_get steps n ≡ Some step
   pub mid : Seen
-  pub runs : Runs which old (take n steps) reels mid
+  pub runs : Runs which old (take n steps) reels left mid
   pub fails : Fails step (drop (reels_in (take n steps)) reels) fault mid new
+
+-- Why the step was not made, of any sink, and whether or not readers tell their bytes.
+abbrev pub RefusesStep : {S : Type 0} → Ghosts S → Step → RunFault → Story S → Story S → Type 0
+RefusesStep g Reel fault old new = Refuses g fault old new ⊎ ((fault ≡ TooFewReels) × (new ≡ old))
+RefusesStep g Save fault old new = Refuses g fault old new
+RefusesStep g (Restart n) fault old new = RefusesRestart g n fault old new
+
+-- The step of this number was not made, for this reason, and no call of the sink was refused
+-- before.
+pub record StopsFor {S : Type 0} (g : Ghosts S) (steps : List Step) (n : ℕ) (fault : RunFault)
+    (old new : Story S) : Type 0 where
+  pub step : Step
+  pub at : slice_get steps n ≡ Some step
+  pub mid : Story S
+  pub calm : IsCalm g old mid
+  pub refuses : RefusesStep g step fault mid new
 
 -- the sink refused, or memory was wanting
 abbrev pub IsRefusal : RunFault → Type 0
@@ -56,7 +79,7 @@ IsRefusal OtherFile = ⊥
 -- alone.
 abbrev pub OnlyRefusalsStop : Type 0
 OnlyRefusalsStop = (which : List Bool) (old new : Seen) (steps : List Step)
-    (bytes given : List (List ℕ)) (n : ℕ) (fault : RunFault) (set : FileSet)
-    (hs : List Happening) → length given ≡ length bytes
-    → RunsUpTo which old steps (map Some bytes) n fault new
+    (bytes given : List (List ℕ)) (left : List (Option (List ℕ))) (n : ℕ) (fault : RunFault)
+    (set : FileSet) (hs : List Happening) → length given ≡ length bytes
+    → RunsUpTo which old steps (map Some bytes) left n fault new
     → IsHistory set (length old.notes) steps given hs → IsRefusal fault

@@ -1,6 +1,6 @@
 -- What one step of a run does, or leaves where it is not made.
 use Rattle.std.specs.Prelude.{◌≡◌, ℕ, ◌+◌, ◌≤◌, Bool, List, ◌∷◌, [], ◌++◌, length, take, Some}
-use Rattle.std.specs.Prelude.{slice_get}
+use Rattle.std.specs.Prelude.{slice_get, Option, ◌⊎◌}
 use Rattle.tape_image.specs.Tape.{TapeItem, block}
 use Rattle.tape_image.specs.Begins.{Stop, Begins}
 use Rattle.tape_set.specs.Layout.{FileSet}
@@ -15,13 +15,14 @@ use Rattle.tape_core.specs.Table.{saved, mount_of}
 use Rattle.tape_core.specs.Stands.{weight_of}
 use Rattle.tape_core.specs.Weight.{IsFront, Rose}
 use Rattle.tape_core.specs.declared.sink.PartSink.{Ghosts}
+use Rattle.tape_core.specs.declared.sink.SinkFault.TheVariants.{Failed}
 use Rattle.tape_run.specs.declared.fault.RunFault.{RunFault}
 use Rattle.tape_run.specs.declared.fault.RunFault.TheVariants.{Sink, NoSuchPoint, TooFewReels}
 use Rattle.tape_run.specs.declared.fault.RunFault.TheVariants.{OutOfMemory, OtherFile}
 use Rattle.tape_run.specs.Mount.{Happening, IsMount, IsMountOf, cut, after_mount}
 use Rattle.tape_run.specs.Given.{IsGiven, counted}
 use Rattle.tape_run.specs.ByTable.{IsLed, IsCutAt}
-use Rattle.tape_run.specs.Seen.{Seen}
+use Rattle.tape_run.specs.Seen.{Seen, IsKept, IfSeen}
 use Rattle.tape_run.specs.Story.{Story}
 
 -- ---- steps that were made
@@ -33,10 +34,11 @@ pub record ReadBy (set : FileSet) (file : ℕ) (p : Position) (h : Happening) (p
   pub at : IsPlaced set place parts
   pub position : place.position ≡ after_mount set file p h
 
--- A reel was read: what its reader gave, all of it or a front that ends where the reader failed.
-pub record Reeled (bytes : List ℕ) (failed : Bool) (old new : Seen) : Type 0 where
+-- A reel was read: what its reader gave, all of it, or, where it failed, what it has not left.
+pub record Reeled (bytes : List ℕ) (left : Option (List ℕ)) (failed : Bool) (old new : Seen)
+    : Type 0 where
   pub given : List ℕ
-  pub is_given : IsGiven failed bytes given
+  pub is_given : IsGiven failed bytes left given
   pub count : new.failures ≡ counted failed old.failures
   pub notes : new.notes ≡ old.notes
   pub same_set : new.place.set_id ≡ old.place.set_id
@@ -114,15 +116,27 @@ ReelFails bytes TooFewReels old new = ⊥
 ReelFails bytes OutOfMemory old new = new ≡ old
 ReelFails bytes OtherFile old new = ⊥
 
--- Why a reel was not read to its end, whether or not its reader tells its bytes: the sink refused a
--- call, or memory was refused, and nothing changed.
-abbrev pub RefusesReel : {S : Type 0} → Ghosts S → RunFault → Story S → Story S → Type 0
-RefusesReel g (Sink cause) old new = (new.failures ≡ old.failures)
+-- Why a reel was not read to its end, or nothing was noted, of any sink, and whether or not a
+-- reader tells its bytes: the sink refused a call, or memory was refused, and nothing changed.
+abbrev pub Refuses : {S : Type 0} → Ghosts S → RunFault → Story S → Story S → Type 0
+Refuses g (Sink cause) old new = (new.failures ≡ old.failures)
     × Rose (g.refusals old.sink) (g.refusals new.sink)
-RefusesReel g NoSuchPoint old new = ⊥
-RefusesReel g TooFewReels old new = ⊥
-RefusesReel g OutOfMemory old new = new ≡ old
-RefusesReel g OtherFile old new = ⊥
+Refuses g NoSuchPoint old new = ⊥
+Refuses g TooFewReels old new = ⊥
+Refuses g OutOfMemory old new = new ≡ old
+Refuses g OtherFile old new = ⊥
+
+-- Why a session did not go back, of any sink: the sink refused a call, or weighs less than the note
+-- tells, as only one does of which nothing is held; or there is no such note.
+abbrev pub RefusesRestart : {S : Type 0} → Ghosts S → ℕ → RunFault → Story S → Story S → Type 0
+RefusesRestart g n (Sink cause) old new = (new.failures ≡ old.failures)
+    × (Rose (g.refusals old.sink) (g.refusals new.sink)
+    ⊎ ((cause ≡ Failed) × (g.refusals new.sink ≡ g.refusals old.sink)
+    × IfSeen g old (λ was. IsKept was → ⊥)))
+RefusesRestart g n NoSuchPoint old new = (length old.notes ≤ n) × (new ≡ old)
+RefusesRestart g n TooFewReels old new = ⊥
+RefusesRestart g n OutOfMemory old new = ⊥
+RefusesRestart g n OtherFile old new = ⊥
 
 -- why nothing was noted
 abbrev pub SaveFails : RunFault → Seen → Seen → Type 0

@@ -61,10 +61,10 @@ ReadsItems given old new held now = (set : FileSet) (p : Position) (xs : List Ta
 
 -- Of an image that a reader gave, all mounts were read to their end, and whatever it is, what the
 -- table gives was taken.
-pub record ReadsImage (failed : Bool) (old new : State) (held now : List Portion) (bytes : List ℕ)
-    : Type 0 where
+pub record ReadsImage (failed : Bool) (old new : State) (held now : List Portion)
+    (left : Option (List ℕ)) (bytes : List ℕ) : Type 0 where
   pub given : List ℕ
-  pub is_given : IsGiven failed bytes given
+  pub is_given : IsGiven failed bytes left given
   pub reads : ReadsItems given old new held now
   pub table : (xs : List TapeItem) (end : ℕ) (stop : Stop) → Begins 0 given xs end stop
       → IsLed xs old (rest_of new) held now

@@ -1,6 +1,6 @@
 -- What the headline says of the worked set where a reader fails, where the sink refuses a part, and
 -- where a session is resumed on another day.
-use Rattle.std.specs.Prelude.{◌≡◌, ℕ, true, List, [], ◌∷◌, None, Some, codes}
+use Rattle.std.specs.Prelude.{◌≡◌, ℕ, true, List, [], ◌∷◌, Option, None, Some, codes}
 use Rattle.tape_label.specs.declared.values.Format.TheVariants.{Spanned}
 use Rattle.tape_set.specs.Position.{awaiting, want_at}
 use Rattle.tape_core.specs.Point.{Point}
@@ -52,16 +52,17 @@ behind_one = record {
 -- What the headline says of them.
 pub record DaysAreWorked : Type 0 where
   -- Of four readers one failed, whichever it was and wherever it did: the file is whole.
-  pub failed_reader : (s : Seen) → IsRead (codes "ABC001") 1 four_reels twice s → s.failures ≡ 1
-      → IsWhole s
+  pub failed_reader : (s : Seen) (left : List (Option (List ℕ)))
+      → IsRead (codes "ABC001") 1 four_reels twice left s → s.failures ≡ 1 → IsWhole s
   -- A part of volume 1 was refused, whichever it was, and then both volumes were read: the file is
   -- whole, and no part is there twice.
   pub refused_part : (old mid new : Seen) (n : ℕ) (cause : SinkFault)
-      → IsStart (codes "ABC001") 1 old
-      → HasStopped old (Reel ∷ []) (reel_1 ∷ []) n (Sink cause) mid
-      → HasRun mid two_reels once new → new.failures ≡ 0 → IsWhole new
+      (left over : List (Option (List ℕ))) → IsStart (codes "ABC001") 1 old
+      → HasStopped old (Reel ∷ []) (reel_1 ∷ []) left n (Sink cause) mid
+      → HasRun mid two_reels once over new → new.failures ≡ 0 → IsWhole new
   -- The checkpoint stands, with the part before it. A session that is resumed there, over readers
   -- of which none fails, holds the whole file in the end.
   pub stands : Stands worked_set 1 behind_one (first ∷ [])
-  pub resumed : (began new : Seen) → IsResumed behind_one (first ∷ []) began
-      → HasRun began two_reels once new → new.failures ≡ 0 → IsWhole new
+  pub resumed : (began new : Seen) (left : List (Option (List ℕ)))
+      → IsResumed behind_one (first ∷ []) began
+      → HasRun began two_reels once left new → new.failures ≡ 0 → IsWhole new

@@ -1,7 +1,7 @@
 -- A worked history: one small file on two volumes, twelve steps over reels whose bytes are written
 -- out, and what the headline says of them.
 use Rattle.std.specs.Prelude.{◌≡◌, ℕ, Bool, true, false, List, [], ◌∷◌, ◌++◌, None, codes}
-use Rattle.std.specs.Prelude.{replicate}
+use Rattle.std.specs.Prelude.{replicate, Option}
 use Rattle.tape_blocks.specs.declared.parts.Span.TheVariants.{First, Middle, Last}
 use Rattle.tape_blocks.specs.Block.{Portion}
 use Rattle.tape_blocks.specs.Spans.{join}
@@ -196,7 +196,7 @@ positions_after c (h ∷ hs) =
 pub record HistoryIsWorked : Type 0 where
   pub lawful : IsLawful worked_set
   pub history : IsHistory worked_set 0 worked_steps worked_reels worked_history
-  pub given : AreGivenBy (replicate 10 false) worked_reels worked_reels
+  pub given : AreGivenBy (replicate 10 false) worked_reels (replicate 10 None) worked_reels
   pub positions : positions_after begins worked_history
       ≡ start ∷ start ∷ start
       ∷ awaiting 1 1 ∷ awaiting 1 1 ∷ awaiting 2 0 ∷ awaiting 1 1 ∷ awaiting 1 1
@@ -209,5 +209,6 @@ pub record HistoryIsWorked : Type 0 where
       ≡ record { records = codes "AAAAAAAAAAAAAAAAAAAAAAAAAAAAAA" ∷ []; rest = None }
   -- A session that made these steps, over these readers of which none failed, holds the three parts
   -- and wants nothing.
-  pub read : (s : Seen) → IsRead (codes "ABC001") 1 worked_steps worked_reels s → s.failures ≡ 0
+  pub read : (s : Seen) (left : List (Option (List ℕ)))
+      → IsRead (codes "ABC001") 1 worked_steps worked_reels left s → s.failures ≡ 0
       → (s.parts ≡ first ∷ middle ∷ last ∷ []) × (want_at 1 s.place.position ≡ None)

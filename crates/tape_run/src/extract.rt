@@ -14,7 +14,7 @@ ghost use Rattle.tape_blocks.specs.Block.{Portion};
 ghost use Rattle.tape_blocks.specs.Parts.{view};
 ghost use Rattle.tape_blocks.specs.Spans.{join};
 ghost use Rattle.tape_core.specs.Weight.{Rose};
-ghost use Rattle.tape_run.specs.Causes.{WritingFails};
+ghost use Rattle.tape_run.specs.Causes.{WritingFails, ExtractFails};
 ghost use Rattle.tape_run.specs.Crash.{IsWalked, BringsNoMore};
 ghost use Rattle.tape_image.specs.Written.{AppendsFront};
 ghost use Rattle.tape_run.specs.Extracting.{Extracts, Stops, EndsFile, StopsAtEnd, IsWritten};
@@ -42,13 +42,14 @@ use tape_set::Want;
 /// that is not.
 ///
 /// An image is mounted when its turn comes, and given up when it was read. One that is not there is
-/// reported as not opened, and passed. Behind each reel the session is saved, but not behind one
-/// that counted wrong. Where the session came with a note it goes back then, to the note made last,
-/// and the next reel goes on from there; else it stays broken, nothing is saved behind the reels
-/// that are Broken for it, and nothing is gathered of them. Images behind the one that completes
-/// the file are not mounted. `out` is written and flushed where the file is complete, and else not
-/// touched; the report's last line comes behind that, and then the report is flushed. The session
-/// stays its caller's, with what was delivered to its sink.
+/// reported as not opened, and passed. Behind each reel the session is saved, unless its last note
+/// is of where it stands, and not behind one that counted wrong. Where the session came with a note
+/// it goes back then, to the note made last, and the next reel goes on from there; else it stays
+/// broken, nothing is saved behind the reels that are Broken for it, and nothing is gathered of
+/// them. Images behind the one that completes the file are not mounted. `out` is written and
+/// flushed where the file is complete, and else not touched; the report's last line comes behind
+/// that, and then the report is flushed. The session stays its caller's, with what was delivered to
+/// its sink.
 ///
 /// The only memory taken is that of the session, a buffer while a reel is read, and notes, and what
 /// mounting takes.
@@ -75,6 +76,10 @@ pub fn extract_to<S: PartWalk, R: Read + Drop, L: Shelf<R>, W: Write, P: Write>(
     ensures err { OnErr result (Stops S.PartSink L.size L.gives R.remaining session.old session.new
         images.old images.new form W.contents out.old out.new
         (P.contents report.old) (P.contents report.new)) }
+    // The sink refused a call, or there was no memory, or a write failed; a session without a note
+    // is not taken back.
+    ensures cause { IfErr result (λ fault. ExtractFails S.PartSink
+        (goes_back session.old.notes) fault session.old session.new) }
 {
     let back = has_note(session);
     read_images(session, images, back, report)?;

@@ -277,8 +277,8 @@ impl<S: PartSink> Intake<S> {
             (ReadsToBlock self.old.core)) }
         ensures ok { IfOk result (λ answer. (held : List Portion) → S.holds self.old.sink held
             → (now : List Portion) × S.holds self.new.sink now × IsFront held now
-            × IfSome image.old.left
-            (ReadsImage (is_device answer.fault) self.old.core self.new.core held now)) }
+            × IfSome image.old.left (ReadsImage (is_device answer.fault) self.old.core
+            self.new.core held now image.new.left)) }
         ensures err { OnErr result ((held : List Portion) → S.holds self.old.sink held
             → (now : List Portion) × S.holds self.new.sink now × IsFront held now
             × IfSome image.old.left

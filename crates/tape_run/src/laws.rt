@@ -1,5 +1,7 @@
 //! Laws of runs, each as the contract of a call that does nothing.
 
+ghost use Rattle.tape_run.specs.GoesBehind.{LeavesBehind, LeavesBehindAgain};
+ghost use Rattle.tape_run.specs.GoesBehind.{PassesFiles, LeadsOverAll, ReadsByHistory};
 ghost use Rattle.tape_run.specs.Cases.{CasesOfMounts, CasesOfHistories, CasesOfGiven};
 ghost use Rattle.tape_run.specs.Cases.{CasesOfVolumes, CasesOfSessions, CasesOfMade};
 ghost use Rattle.tape_run.specs.Cases.{CasesOfCrashes};
@@ -99,4 +101,14 @@ pub fn cases()
     ensures rounds { CasesOfRounds }
     ensures run_laws { CasesOfRunLaws }
     ensures catalogue_laws { CasesOfCatalogueLaws }
+{}
+
+/// What the reader of one file read up to the end of a section, the reader of each later file of
+/// the set passes over, and goes on behind it as if it had read the reel from its front.
+pub fn passes_files()
+    ensures passes { PassesFiles }
+    ensures leads { LeadsOverAll }
+    ensures by_history { ReadsByHistory }
+    ensures leaves { LeavesBehind }
+    ensures leaves_again { LeavesBehindAgain }
 {}

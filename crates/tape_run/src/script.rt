@@ -1,7 +1,8 @@
 //! Scripts: steps of a session, one after another.
 
 ghost use Rattle.std.specs.Prelude.{◌≡◌, ◌+◌, [], ◌∷◌, ℕ, Bool, List, Some, None, OnOk};
-ghost use Rattle.std.specs.Prelude.{OnErr, IfOk, IfErr, map, drop, true, false};
+ghost use Rattle.std.specs.Prelude.{OnErr, IfOk, IfErr, map, take, drop, true, false, ◌++◌};
+ghost use Rattle.std.specs.Prelude.{Option};
 ghost use Rattle.tape_blocks.specs.Spans.{join};
 ghost use Rattle.tape_set.specs.declared.position.Position.TheVariants.{Finished};
 ghost use Rattle.tape_set.specs.Layout.{FileSet, Section, file_of};
@@ -14,7 +15,8 @@ ghost use Rattle.tape_run.specs.Crash.{IsOf, StoodAt, LastAlone, is_saved};
 ghost use Rattle.tape_run.specs.Headline.{IsStart, IsRead, HasRun, HasStopped, LosesParts};
 ghost use Rattle.tape_run.specs.Given.{written, IfTold};
 ghost use Rattle.tape_run.specs.Made.{IsMade, WritesFrom};
-ghost use Rattle.tape_run.specs.Runs.{Runs, RunsUpTo, Fails};
+ghost use Rattle.tape_run.specs.Causes.{IsCalm};
+ghost use Rattle.tape_run.specs.Runs.{Runs, RunsUpTo, Fails, RefusesStep, StopsFor};
 ghost use Rattle.tape_run.specs.Seen.{seen, IsKept, IfSeen, IsSeen, IsSeenUnless};
 
 use crate::fault::{RunFault, Stopped};
@@ -54,13 +56,14 @@ pub fn run<S: PartSink, R: Read>(
     // session stands there with the notes of the history.
     ensures headline { OnOk result (IfSeen S.PartSink session.old (λ old. IsKept old
         → IsSeen S.PartSink session.new (λ new. IsKept new
-        × IfTold R.remaining reels.old (λ bytes. (run : HasRun old steps.now bytes new)
+        × IfTold R.remaining reels.old (λ bytes.
+        (run : HasRun old steps.now bytes (map R.remaining reels.new) new)
         × (failed.new ≡ written run.which failed.old))))) }
     // The same of a session that has read nothing of its file.
     ensures start { OnOk result ((set_id : List ℕ) (file : ℕ) → S.holds session.old.sink []
         → IsStart set_id file (seen S.PartSink session.old [])
         → IsSeen S.PartSink session.new (λ new. IfTold R.remaining reels.old (λ bytes.
-        (read : IsRead set_id file steps.now bytes new)
+        (read : IsRead set_id file steps.now bytes (map R.remaining reels.new) new)
         × (failed.new ≡ written read.which failed.old)))) }
     // There and back: over the images of all volumes, in order, where no reader failed, the sink
     // holds the whole file.
@@ -78,7 +81,7 @@ pub fn run<S: PartSink, R: Read>(
     ensures stopped { IfErr result (λ end. IfSeen S.PartSink session.old (λ old. IsKept old
         → IsSeenUnless (LosesParts steps.now end.step end.fault) S.PartSink session.new (λ new.
         IsKept new × IfTold R.remaining reels.old (λ bytes.
-        (stop : HasStopped old steps.now bytes end.step end.fault new)
+        (stop : HasStopped old steps.now bytes (map R.remaining reels.new) end.step end.fault new)
         × (failed.new ≡ written stop.which failed.old))))) }
     // Whatever the set and the history are: each step did what `reel`, `save` and `restart`
     // promise; and behind a save, and reels, a crash brings back what was saved, alone, now and
@@ -86,18 +89,24 @@ pub fn run<S: PartSink, R: Read>(
     ensures runs { OnOk result (IfSeen S.PartSink session.old (λ old. IsKept old
         → IsSeen S.PartSink session.new (λ new.
         ((which : List Bool) × (failed.new ≡ written which failed.old)
-        × Runs which old steps.now (map R.remaining reels.old) new)
+        × Runs which old steps.now (map R.remaining reels.old) (map R.remaining reels.new) new)
         × (is_saved false steps.now ≡ true → LastAlone (S.crashes session.new.sink) new)))) }
     // Where it stopped: the same of the steps before, and the step that is told left what its call
     // promises.
     ensures faults { IfErr result (λ end. IfSeen S.PartSink session.old (λ old. IsKept old
         → IsSeenUnless (LosesParts steps.now end.step end.fault) S.PartSink session.new (λ new.
         IsKept new × (which : List Bool) × (failed.new ≡ written which failed.old)
-        × RunsUpTo which old steps.now (map R.remaining reels.old) end.step end.fault new))) }
+        × RunsUpTo which old steps.now (map R.remaining reels.old) (map R.remaining reels.new)
+        end.step end.fault new))) }
+    // Of any sink, and whether or not readers tell their bytes: no call of the sink was refused; or
+    // the step that is told was not made for a reason that its call promises, and none was before.
+    ensures calm { OnOk result (IsCalm S.PartSink session.old session.new) }
+    ensures cause { IfErr result (λ end. StopsFor S.PartSink steps.now end.step end.fault
+        session.old session.new) }
     // Whatever it answered: what a crash in it or behind it brings back could come back before, or
     // is where the session stood between two steps, or one of its notes there.
     ensures crash { IfSeen S.PartSink session.old (λ old. IsKept old
-        → AddsOnly (StoodAt old steps.now (map R.remaining reels.old))
+        → AddsOnly (StoodAt old steps.now (map R.remaining reels.old) (map R.remaining reels.new))
         (S.crashes session.old.sink) (S.crashes session.new.sink)) }
 {
     let mut used = 0usize;
@@ -118,14 +127,21 @@ fn make<S: PartSink, R: Read>(
     used: usize,
     failed: &mut [bool],
 ) -> Result<usize, RunFault>
-    ensures ok { IfOk result (λ now_used. (which : List Bool)
+    ensures ok { IfOk result (λ now_used. (which : List Bool) × (unread : List (Option (List ℕ)))
         × WritesFrom used which failed.old failed.new now_used
+        × (map R.remaining (take now_used reels.new) ≡ map R.remaining (take used reels.old)
+        ++ unread)
         × IfSeen S.PartSink session.old (λ old. IsKept old
         → IsSeen S.PartSink session.new (λ new. IsKept new
-        × IsMade which step (map R.remaining (drop used reels.old))
+        × IsMade which step (map R.remaining (drop used reels.old)) unread
         (map R.remaining (drop now_used reels.new)) (S.crashes session.old.sink)
         (S.crashes session.new.sink) old new))) }
+    ensures calm { OnOk result (IsCalm S.PartSink session.old session.new) }
+    ensures cause { IfErr result (λ fault.
+        RefusesStep S.PartSink step fault session.old session.new) }
     ensures unwritten { OnErr result (failed.new ≡ failed.old) }
+    ensures unread { OnErr result (map R.remaining (take used reels.new)
+        ≡ map R.remaining (take used reels.old)) }
     ensures err { IfErr result (λ fault. IfSeen S.PartSink session.old (λ old. IsKept old
         → IsSeenUnless (LosesParts (step ∷ []) 0 fault) S.PartSink session.new (λ new. IsKept new
         × Fails step (map R.remaining (drop used reels.old)) fault old new))) }

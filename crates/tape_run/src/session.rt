@@ -1,9 +1,11 @@
 //! Sessions: one file read from its reels, in any order, into one sink.
 
+mod behind;
 mod output;
+mod points;
 
 ghost use Rattle.std.specs.Prelude.{◌≡◌, [], ◌≢◌, List, Option, None, Ok, Err, IsOk, OnOk, IfOk};
-ghost use Rattle.std.specs.Prelude.{IfErr, IfSome, length};
+ghost use Rattle.std.specs.Prelude.{IfErr, IfSome, length, take, ◌++◌, ◌∷◌, ◌+◌};
 ghost use Rattle.tape_image.specs.Reader.{IfKnown};
 ghost use Rattle.tape_blocks.specs.Block.{Portion};
 ghost use Rattle.tape_set.specs.Layout.{FileSet};
@@ -20,8 +22,8 @@ ghost use Rattle.tape_run.specs.Headline.{IsStart};
 ghost use Rattle.tape_run.specs.Lives.{IsResumed};
 ghost use Rattle.tape_run.specs.Reels.{Reads, Leaves};
 ghost use Rattle.tape_run.specs.Seen.{seen, IsKept, IsSession, IfSeen, IsSeen};
-ghost use Rattle.tape_run.specs.Steps.{Reeled, ReelFails, RefusesReel, Saved, SaveFails, WentBack};
-ghost use Rattle.tape_run.specs.Steps.{RestartFails};
+ghost use Rattle.tape_run.specs.Steps.{Reeled, ReelFails, Refuses, Saved, SaveFails, WentBack};
+ghost use Rattle.tape_run.specs.Steps.{RestartFails, RefusesRestart};
 
 use crate::fault::RunFault;
 use crate::intake::{Intake, ReelAnswer};
@@ -147,7 +149,8 @@ impl<S: PartSink> Session<S> {
         ensures ok { IfOk result (λ answer. IfSeen S.PartSink self.old (λ old.
             IsSeen S.PartSink self.new (λ new. IsFront old.parts new.parts
             × (IsKept old → IsKept new) × IfSome (R.remaining device.old)
-            (λ bytes. Reeled bytes (is_device answer.fault) old new)))) }
+            (λ bytes. Reeled bytes (R.remaining device.new) (is_device answer.fault) old
+            new)))) }
         ensures err { IfErr result (λ fault. IfSeen S.PartSink self.old (λ old.
             IsSeen S.PartSink self.new (λ new. IsFront old.parts new.parts
             × (IsKept old → IsKept new) × IfSome (R.remaining device.old)
@@ -162,7 +165,7 @@ impl<S: PartSink> Session<S> {
         ensures calm { IfOk result (λ _.
             S.refusals self.new.sink ≡ S.refusals self.old.sink) }
         ensures refuses { IfErr result (λ fault.
-            RefusesReel S.PartSink fault self.old self.new) }
+            Refuses S.PartSink fault self.old self.new) }
         // The answer is the core's last one, and no byte behind what ended the reading was read.
         ensures answer { IfOk result (λ answer. IfKnown (R.remaining device.old)
             (R.remaining device.new)
@@ -211,6 +214,12 @@ impl<S: PartSink> Session<S> {
             → point ≡ saved (rest_of self.old.core) (weight_of held)) }
         ensures err { IfErr result (λ fault. IfSeen S.PartSink self.old (λ old.
             IsSeen S.PartSink self.new (λ new. SaveFails fault old new))) }
+        // Of any sink: the note stands behind the others, no call of the sink was refused, and a
+        // call that was refused is told.
+        ensures notes { IfOk result (λ point. self.new.notes ≡ self.old.notes ++ point ∷ []) }
+        ensures calm { OnOk result
+            (S.refusals self.new.sink ≡ S.refusals self.old.sink) }
+        ensures refuses { IfErr result (λ fault. Refuses S.PartSink fault self.old self.new) }
         // The checkpoint stands, with the parts delivered.
         ensures stands { IfOk result (λ point. (set : FileSet) (held : List Portion)
             → S.holds self.old.sink held → IsSession set (seen S.PartSink self.old held)
@@ -279,6 +288,13 @@ impl<S: PartSink> Session<S> {
         ensures err { IfErr result (λ fault. IfSeen S.PartSink self.old (λ old. IsKept old
             → (fault ≢ RunFault.Sink SinkFault.Device → S.holds self.new.sink old.parts)
             × RestartFails n fault old (seen S.PartSink self.new old.parts))) }
+        // Of any sink: the later notes are forgotten, no call of the sink was refused, and a call
+        // that was refused is told.
+        ensures notes { OnOk result (self.new.notes ≡ take (n + 1) self.old.notes) }
+        ensures calm { OnOk result
+            (S.refusals self.new.sink ≡ S.refusals self.old.sink) }
+        ensures refuses { IfErr result (λ fault.
+            RefusesRestart S.PartSink n fault self.old self.new) }
         // Whatever it answered: a crash in it or behind it brings back the note of this number,
         // with its parts, or what one before it could.
         ensures crash { IfSeen S.PartSink self.old (λ old. IsKept old → AddsOnly (IsNoteOf n old)

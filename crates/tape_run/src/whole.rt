@@ -1,6 +1,6 @@
 //! Whole readings, each in one call.
 
-ghost use Rattle.std.specs.Prelude.{◌≡◌, [], List, Err, IsOk, IfOk, OnOk, IfErr};
+ghost use Rattle.std.specs.Prelude.{◌≡◌, [], List, Err, IsOk, IfOk, OnOk, IfErr, map};
 ghost use Rattle.tape_blocks.specs.Block.{Portion};
 ghost use Rattle.tape_core.specs.Known.{IsFileNumber};
 ghost use Rattle.tape_core.specs.Place.{rest_of};
@@ -36,13 +36,14 @@ pub fn read_file<R: Read>(
     ensures read { IfOk result (λ read. OnOk read.1 (IfTold R.remaining reels.old (λ bytes.
         (now : Seen) × (now.parts ≡ portions read.0.sink) × (now.place ≡ rest_of read.0.core)
         × (now.notes ≡ read.0.notes) × (now.failures ≡ read.0.failures)
-        × IsRead set_id file steps.now bytes now))) }
+        × IsRead set_id file steps.now bytes (map R.remaining reels.new) now))) }
     // It stopped at a step: the same of those before it.
     ensures stopped { IfOk result (λ read. IfErr read.1 (λ end. IfTold R.remaining reels.old
         (λ bytes. (began : Seen) × IsStart set_id file began
         × (now : Seen) × (now.place ≡ rest_of read.0.core)
         × ((LosesParts steps.now end.step end.fault → ⊥) → now.parts ≡ portions read.0.sink)
-        × HasStopped began steps.now bytes end.step end.fault now))) }
+        × HasStopped began steps.now bytes (map R.remaining reels.new) end.step end.fault
+        now))) }
     ensures number { IsFileNumber file → IsOk result }
     ensures refused { (IsFileNumber file → ⊥) → result ≡ Err CoreFault.FileNumber }
 {
@@ -66,19 +67,21 @@ pub fn go_on<S: PartSink, R: Read>(
     ensures delivers { OnOk result.1 ((held : List Portion) → S.holds sink held
         → (began : Seen) × IsResumed point.now held began
         × IsSeen S.PartSink result.0 (λ new. IfTold R.remaining reels.old (λ bytes.
-        HasRun began steps.now bytes new))) }
+        HasRun began steps.now bytes (map R.remaining reels.new) new))) }
     // It stopped at one of them: the same of the steps before it.
     ensures stopped { IfErr result.1 (λ end. (held : List Portion) → S.holds sink held
         → (began : Seen) × IsResumed point.now held began
         × IsSeenUnless (LosesParts steps.now end.step end.fault) S.PartSink result.0 (λ new.
         IfTold R.remaining reels.old (λ bytes.
-        HasStopped began steps.now bytes end.step end.fault new))) }
+        HasStopped began steps.now bytes (map R.remaining reels.new) end.step end.fault
+        new))) }
     // Whatever it answered: what a crash behind it brings back, or one in it, is what was there, or
     // outlives this life.
     ensures crash { (held : List Portion) → S.holds sink held → IfTold R.remaining reels.old
-        (λ bytes. LivesOn point.now held steps.now bytes (S.crashes sink).returns
-        (S.crashes result.0.sink).returns
-        × LivesOn point.now held steps.now bytes ((S.crashes sink).returned (S.crashes sink).moment)
+        (λ bytes. LivesOn point.now held steps.now bytes (map R.remaining reels.new)
+        (S.crashes sink).returns (S.crashes result.0.sink).returns
+        × LivesOn point.now held steps.now bytes (map R.remaining reels.new)
+        ((S.crashes sink).returned (S.crashes sink).moment)
         ((S.crashes result.0.sink).returned (S.crashes sink).moment)) }
     ensures survives { (held : List Portion) → S.holds sink held
         → ((S.crashes sink).survives → (S.crashes result.0.sink).survives)

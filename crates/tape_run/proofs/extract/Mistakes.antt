@@ -1,7 +1,7 @@
 -- Answers that the contracts of a walk over records, and of what is asked of a session before it is
 -- read, exclude: each is what a wrong body would give.
 use Rattle.std.proofs.Common.{◌≡◌, true, false, List, [], ◌∷◌, length, ap, ◌∙◌, subst, arith}
-use Rattle.std.proofs.Common.{codes, ◌<◌}
+use Rattle.std.proofs.Common.{codes, ◌<◌, inl, inr}
 use Rattle.std.specs.Prelude.{Some, Ok, Err}
 use Rattle.std.specs.Io.KnownBytes.{Appends}
 use Rattle.tape_blocks.specs.declared.parts.Span.TheVariants.{Whole, First}
@@ -12,6 +12,10 @@ use Rattle.tape_run.specs.RecordText.{output_of}
 use Rattle.tape_run.specs.Reeling.{goes_back}
 use Rattle.tape_run.proofs.Causes.{not_rose}
 use Rattle.tape_run.proofs.extract.has_note.Reads as has_note
+use Rattle.tape_run.specs.declared.fault.EngineFault.TheVariants.{Run}
+use Rattle.tape_run.specs.declared.fault.RunFault.TheVariants.{Sink}
+use Rattle.tape_run.specs.Causes.{ExtractFails}
+use Rattle.tape_run.proofs.extract.extract_to.Reads as extract_to
 use Rattle.tape_run.proofs.extract.count_records.Reads as count_records
 use Rattle.tape_run.proofs.extract.write_records.Reads as write_records
 
@@ -34,6 +38,21 @@ heavy_sink_told_as_full : (S : _) (L : _) (g : _) (d : _) (g' : _) (d' : _) (κs
     (s : _) → count_records.Learnt-named S L g d g' d' κs a (Err Full) s
     → g'.refusals s.0.now ≡ g'.refusals a.0.now → g'.refusals a.0.now < 18446744073709551615 → ⊥
 heavy_sink_told_as_full S L g d g' d' κs a s l same few = not_rose _ _ same few l.cause
+
+-- full_told_at_once: the images are not read since the sink is full, and it refused no call
+full_told_at_once : (S : _) (R : _) (L : _) (W : _) (P : _) (LS : _) (LR : _) (LL : _) (LW : _)
+    (LP : _) (g : _) (d : _) (g' : _) (d' : _) (h : _) (e : _) (m : _) (n : _) (w : _) (f : _)
+    (p : _) (i : _) (j : _) (κs : _) (a : _) (s : _)
+    → extract_to.Learnt-named S R L W P LS LR LL LW LP g d g' d' h e m n w f p i j κs a
+    (Err (Run (Sink Full))) s
+    → g'.refusals s.0.now.sink ≡ g'.refusals a.0.now.sink
+    → g'.refusals a.0.now.sink < 18446744073709551615 → ⊥
+full_told_at_once S R L W P LS LR LL LW LP g d g' d' h e m n w f p i j κs a s l same few =
+    by l.cause
+  where
+    by : ExtractFails g' (goes_back a.0.now.notes) (Run (Sink Full)) a.0.now s.0.now → ⊥
+    by (inl rose) = not_rose _ _ same few rose
+    by (inr (is, none)) = absurd (cc is)
 
 -- begun_rest_written: a record that is begun and not ended is written
 begun_rest_written : (S : _) (W : _) (LS : _) (LW : _) (g : _) (d : _) (g' : _) (d' : _) (h : _)

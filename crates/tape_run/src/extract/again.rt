@@ -1,8 +1,10 @@
 //! `extract` that goes round its images.
 
-ghost use Rattle.std.specs.Prelude.{◌≡◌, ◌≢◌, ◌⊎◌, None, OnOk, IfOk, OnErr};
+ghost use Rattle.std.specs.Prelude.{◌≡◌, ◌≢◌, ◌⊎◌, None, OnOk, IfOk, OnErr, IfErr};
 ghost use Rattle.std.specs.Bool.{OnTrue, OnFalse};
 ghost use Rattle.tape_run.specs.ExtractingAgain.{ExtractsAgain, StopsAgain};
+ghost use Rattle.tape_run.specs.Causes.{ExtractFails, IsCalm};
+ghost use Rattle.tape_run.specs.Reeling.{goes_back};
 ghost use Rattle.tape_run.specs.Rounds.{TakesRounds, StopsInRound};
 
 use crate::extract::images::{Shelf, read_round};
@@ -40,6 +42,10 @@ pub fn extract_again<S: PartWalk, R: Read + Drop, L: Shelf<R>, W: Write, P: Writ
     ensures err { OnErr result (StopsAgain S.PartSink L.size L.gives R.remaining
         session.old session.new images.old images.new form W.contents out.old out.new
         (P.contents report.old) (P.contents report.new)) }
+    // The sink refused a call, or there was no memory, or a write failed; a session without a note
+    // is not taken back.
+    ensures cause { IfErr result (λ fault. ExtractFails S.PartSink
+        (goes_back session.old.notes) fault session.old session.new) }
 {
     let back = has_note(session);
     read_rounds(session, images, back, report)?;
@@ -60,6 +66,9 @@ fn read_rounds<S: PartSink, R: Read + Drop, L: Shelf<R>, P: Write>(
     ensures err { OnErr result (StopsInRound S.PartSink (L.size images.old) L.gives R.remaining back
         session.old session.new images.old images.new
         (P.contents report.old) (P.contents report.new)) }
+    ensures cause { IfErr result (λ fault.
+        ExtractFails S.PartSink back fault session.old session.new) }
+    ensures calm { OnOk result (IsCalm S.PartSink session.old session.new) }
 {
     let count = images.count();
     let mut lines = 0u64;

@@ -1,8 +1,9 @@
 //! Images on a shelf, mounted one behind another.
 
 ghost use Rattle.std.specs.Prelude.{◌≡◌, ◌≢◌, ◌≤◌, ◌+◌, Some, Bool, OnOk, OnErr, true, false};
-ghost use Rattle.std.specs.Prelude.{ℕ, IfOk, length};
+ghost use Rattle.std.specs.Prelude.{ℕ, IfOk, IfErr, length};
 ghost use Rattle.tape_set.specs.declared.position.Position.TheVariants.{Finished};
+ghost use Rattle.tape_run.specs.Causes.{ExtractFails, IsCalm};
 ghost use Rattle.tape_run.specs.Crash.{KeepsLast, LeavesStep};
 ghost use Rattle.tape_run.specs.Seen.{IsKept, IfSeen, IsSeen};
 ghost use Rattle.tape_run.specs.Reeling.{Takes, TakesAll, StopsReading, IsReported, is_doubtful};
@@ -71,6 +72,9 @@ pub fn read_images<S: PartSink, R: Read + Drop, L: Shelf<R>, P: Write>(
     ensures err { OnErr result (StopsReading S.PartSink (L.size images.old) 0 L.gives R.remaining
         back session.old session.new images.old images.new
         (P.contents report.old) (P.contents report.new)) }
+    ensures cause { IfErr result (λ fault.
+        ExtractFails S.PartSink back fault session.old session.new) }
+    ensures calm { OnOk result (IsCalm S.PartSink session.old session.new) }
 {
     let count = images.count();
     read_round(session, images, count, 0, back, report)
@@ -92,6 +96,9 @@ pub fn read_round<S: PartSink, R: Read + Drop, L: Shelf<R>, P: Write>(
     ensures err { OnErr result (StopsReading S.PartSink count lines L.gives R.remaining back
         session.old session.new images.old images.new
         (P.contents report.old) (P.contents report.new)) }
+    ensures cause { IfErr result (λ fault.
+        ExtractFails S.PartSink back fault session.old session.new) }
+    ensures calm { OnOk result (IsCalm S.PartSink session.old session.new) }
 {
     for number in 0..count {
         if session.want().is_none() {
@@ -119,6 +126,9 @@ fn take_image<S: PartSink, R: Read + Drop, P: Write>(
     ensures err { OnErr result (IsReported number (P.contents report.old) (P.contents report.new)) }
     ensures left { OnErr result (IfSeen S.PartSink session.old (λ old. IsKeptFor back old
         → LeavesStep S.PartSink back session.old old.parts session.new)) }
+    ensures cause { IfErr result (λ fault.
+        ExtractFails S.PartSink back fault session.old session.new) }
+    ensures calm { OnOk result (IsCalm S.PartSink session.old session.new) }
 {
     match image {
         Some(mut device) => take_reel(session, &mut device, number, back, report),
@@ -140,6 +150,9 @@ fn take_reel<S: PartSink, R: Read, P: Write>(
     ensures err { OnErr result (IsReported number (P.contents report.old) (P.contents report.new)) }
     ensures left { OnErr result (IfSeen S.PartSink session.old (λ old. IsKeptFor back old
         → LeavesStep S.PartSink back session.old old.parts session.new)) }
+    ensures cause { IfErr result (λ fault.
+        ExtractFails S.PartSink back fault session.old session.new) }
+    ensures calm { OnOk result (IsCalm S.PartSink session.old session.new) }
 {
     let answer = session.reel(device)?;
     write_text(report, reel_line(number, Some(answer)).as_bytes())?;
@@ -147,22 +160,26 @@ fn take_reel<S: PartSink, R: Read, P: Write>(
     Ok(())
 }
 
-/// Notes where the session stands behind a reel; behind one that is in doubt a session that goes
-/// back does so.
+/// Notes where the session stands behind a reel, unless that is noted already; behind one that is
+/// in doubt a session that goes back does so. The answer is whether a note was made.
 fn settle<S: PartSink>(
     session: &mut Session<S>,
     answer: &ReelAnswer,
     back: bool,
-) -> Result<(), RunFault>
-    ensures ok { OnOk result (IfSeen S.PartSink session.old (λ old. IsKeptFor back old
+) -> Result<bool, RunFault>
+    ensures ok { IfOk result (λ noted. IfSeen S.PartSink session.old (λ old. IsKeptFor back old
         → IsSeen S.PartSink session.new (λ new.
-        IsNoted back (is_doubtful answer.now.answer) old new
+        IsNoted back (is_doubtful answer.now.answer) noted old new
         × KeepsLast S.PartSink session.old old.parts session.new new.parts))) }
     ensures left { OnErr result (IfSeen S.PartSink session.old (λ old. IsKeptFor back old
         → LeavesStep S.PartSink back session.old old.parts session.new)) }
+    ensures cause { IfErr result (λ fault.
+        ExtractFails S.PartSink back (EngineFault.Run fault) session.old session.new) }
+    ensures calm { OnOk result (IsCalm S.PartSink session.old session.new) }
 {
     if back && is_doubtful(answer) {
-        return go_back(session);
+        go_back(session)?;
+        return Ok(false);
     }
     note(session, answer)
 }
@@ -174,6 +191,9 @@ fn go_back<S: PartSink>(session: &mut Session<S>) -> Result<(), RunFault>
         × KeepsLast S.PartSink session.old old.parts session.new new.parts))) }
     ensures left { OnErr result (IfSeen S.PartSink session.old (λ old. IsKept old
         → LeavesStep S.PartSink true session.old old.parts session.new)) }
+    ensures cause { IfErr result (λ fault.
+        ExtractFails S.PartSink true (EngineFault.Run fault) session.old session.new) }
+    ensures calm { OnOk result (IsCalm S.PartSink session.old session.new) }
 {
     let notes = session.notes();
     if notes == 0 {
@@ -182,22 +202,29 @@ fn go_back<S: PartSink>(session: &mut Session<S>) -> Result<(), RunFault>
     session.restart(notes - 1)
 }
 
-/// Notes where the session stands. Where what the reel gave is in doubt nothing is noted, so that a
-/// stage keeps what it held before that reel.
-fn note<S: PartSink>(session: &mut Session<S>, answer: &ReelAnswer) -> Result<(), RunFault>
+/// Notes where the session stands, unless the note made last is of there. Where what the reel gave
+/// is in doubt nothing is noted, so that a stage keeps what it held before that reel. The answer is
+/// whether a note was made.
+fn note<S: PartSink>(session: &mut Session<S>, answer: &ReelAnswer) -> Result<bool, RunFault>
     ensures doubtful { is_doubtful answer.now.answer ≡ true → session.new ≡ session.old }
-    ensures ok { OnOk result (IfSeen S.PartSink session.old (λ old.
+    ensures ok { IfOk result (λ noted. IfSeen S.PartSink session.old (λ old.
         IsSeen S.PartSink session.new (λ new.
-        IsNoted false (is_doubtful answer.now.answer) old new
+        IsNoted false (is_doubtful answer.now.answer) noted old new
         × KeepsLast S.PartSink session.old old.parts session.new new.parts))) }
     ensures left { OnErr result ((back : Bool) → IfSeen S.PartSink session.old (λ old.
         LeavesStep S.PartSink back session.old old.parts session.new)) }
+    ensures cause { IfErr result (λ fault. (back : Bool) →
+        ExtractFails S.PartSink back (EngineFault.Run fault) session.old session.new) }
+    ensures calm { OnOk result (IsCalm S.PartSink session.old session.new) }
 {
     if is_doubtful(answer) {
-        return Ok(());
+        return Ok(false);
+    }
+    if session.is_noted() {
+        return Ok(false);
     }
     session.save()?;
-    Ok(())
+    Ok(true)
 }
 
 /// Whether the reel's trailer label counted other blocks, or that of a reel before it did.

@@ -1,6 +1,7 @@
 //! `extract` without a stage: the records are written as the images are read.
 
-ghost use Rattle.std.specs.Prelude.{◌≡◌, ◌≢◌, ℕ, List, Option, None, OnOk, IfOk, OnErr};
+ghost use Rattle.std.specs.Prelude.{◌≡◌, ◌≢◌, ℕ, List, Option, None, OnOk, IfOk, OnErr, IfErr};
+ghost use Rattle.tape_run.specs.Causes.{IsExtractFault};
 ghost use Rattle.tape_run.specs.OutSinks.{TellsAlways};
 ghost use Rattle.tape_run.specs.ExtractingNow.{ExtractsNow, StopsNow};
 
@@ -59,6 +60,8 @@ pub fn extract_now<W: Write + Drop, R: Read + Drop, L: Shelf<R>, O: Place<W>, P:
     ensures err { OnErr result (StopsNow ⟦<OutSink<W> as PartSink>⟧ L.size L.gives R.remaining
         session images.old images.new form (TellsAlways W.contents) O.stands out.old out.new
         (P.contents report.old) (P.contents report.new)) }
+    // The sink refused, or there was no memory, or a write failed: no other fault is answered.
+    ensures cause { IfErr result IsExtractFault }
 {
     let mut session = session;
     // What was written stays: this session does not go back.

@@ -1,12 +1,16 @@
 //! A stage as a sink: how parts are put, kept and walked.
 
 ghost use Rattle.std.specs.Prelude.{◌≡◌, ◌+◌, ◌≤◌, ◌<◌, ◌^◌, ◌∷◌, ◌++◌, [], List, length};
-ghost use Rattle.std.specs.Prelude.{OnOk, OnErr, IsErrOf, ◌-◌};
+ghost use Rattle.std.specs.Prelude.{OnOk, OnErr, IsErrOf, ◌-◌, Err, true};
 ghost use Rattle.std.specs.Int.{to_be_bytes};
 ghost use Rattle.std.proofs.Common.{w32, inr};
 ghost use Rattle.tape_blocks.specs.Block.{Portion, indicator};
 ghost use Rattle.tape_blocks.specs.Parts.{view};
 ghost use Rattle.tape_core.specs.Weight.{Rose};
+ghost use Rattle.tape_core.specs.Crash.{AddsNothing, AddsOnly, IsThis, ThisAlone};
+ghost use Rattle.tape_core.specs.Stands.{weight_of};
+ghost use Rattle.tape_stage.specs.Body.{most_generation};
+ghost use Rattle.std.specs.Prelude.{IfErr, ◌≢◌};
 ghost use Rattle.tape_core.specs.Known.{most_staged};
 ghost use Rattle.tape_stage.specs.Moments.{Passes};
 ghost use Rattle.tape_stage.specs.Staged.{StagedIn, IsPut, FrontOf, KeepsFront};
@@ -129,7 +133,26 @@ impl<D: Disk> PartSink for Stage<D> {
 
     ghost survived_now = { λ s t each bytes left. each bytes (inr left) };
 
-    fn put(&mut self, part: Part<'_>) -> Result<(), SinkFault> {
+    fn put(&mut self, part: Part<'_>) -> Result<(), SinkFault>
+        requires { length part.bytes.now ≤ longest_part }
+        ensures ok { OnOk result ((parts : List Portion) → Holds self.old parts
+            → Holds self.new (parts ++ view part.entry ∷ [])) }
+        ensures err { OnErr result ((parts : List Portion) → Holds self.old parts
+            → Holds self.new parts) }
+        ensures weight { OnOk result
+            (self.new.weight ≡ self.old.weight + (5 + length part.entry.bytes.now)) }
+        ensures same_weight { OnErr result (self.new.weight ≡ self.old.weight) }
+        ensures full { result ≡ Err SinkFault.Full
+            → most_staged < self.old.weight + (5 + length part.entry.bytes.now) }
+        ensures cause { OnErr result (Rose self.old.refused self.new.refused) }
+        ensures calm { OnOk result (self.new.refused ≡ self.old.refused) }
+        ensures crash { (parts : List Portion) → Holds self.old parts
+            → AddsNothing (crashes_of self.old) (crashes_of self.new) }
+        ensures device { result ≡ Err SinkFault.Device
+            → Rose (D.faults self.old.disk) (D.faults self.new.disk) }
+        ensures failed { result ≡ Err SinkFault.Failed → self.old.failed ≡ true }
+        ensures memory { result ≡ Err SinkFault.OutOfMemory → ⊥ }
+    {
         match self.put_part(part) {
             Ok(()) => Ok(()),
             Err(fault) => {
@@ -139,7 +162,22 @@ impl<D: Disk> PartSink for Stage<D> {
         }
     }
 
-    fn keep(&mut self, point: &Checkpoint) -> Result<(), SinkFault> {
+    fn keep(&mut self, point: &Checkpoint) -> Result<(), SinkFault>
+        requires { point.now.staged ≡ self.old.weight }
+        ensures same_weight { self.new.weight ≡ self.old.weight }
+        ensures same { (parts : List Portion) → Holds self.old parts → Holds self.new parts }
+        ensures cause { OnErr result (Rose self.old.refused self.new.refused) }
+        ensures calm { OnOk result (self.new.refused ≡ self.old.refused) }
+        ensures crash { (parts : List Portion) → Holds self.old parts
+            → AddsOnly (IsThis point.now parts) (crashes_of self.old) (crashes_of self.new) }
+        ensures kept { OnOk result ((parts : List Portion) → Holds self.old parts
+            → ThisAlone point.now parts (crashes_of self.new)) }
+        ensures device { result ≡ Err SinkFault.Device
+            → Rose (D.faults self.old.disk) (D.faults self.new.disk) }
+        ensures failed { result ≡ Err SinkFault.Failed → self.old.failed ≡ true }
+        ensures memory { result ≡ Err SinkFault.OutOfMemory → ⊥ }
+        ensures full { result ≡ Err SinkFault.Full → most_generation ≤ self.old.generation }
+    {
         match self.save(point) {
             Ok(()) => Ok(()),
             Err(fault) => {
@@ -149,7 +187,24 @@ impl<D: Disk> PartSink for Stage<D> {
         }
     }
 
-    fn cut_to(&mut self, point: &Checkpoint) -> Result<(), SinkFault> {
+    fn cut_to(&mut self, point: &Checkpoint) -> Result<(), SinkFault>
+        requires { point.now.staged ≤ self.old.weight }
+        ensures weight { OnOk result (self.new.weight ≤ point.now.staged) }
+        ensures same_weight { OnErr result (self.new.weight ≡ self.old.weight) }
+        ensures ok { OnOk result ((front rest : List Portion) → Holds self.old (front ++ rest)
+            → weight_of front ≡ point.now.staged → Holds self.new front) }
+        ensures err { IfErr result (λ fault. fault ≢ SinkFault.Device → (parts : List Portion)
+            → Holds self.old parts → Holds self.new parts) }
+        ensures cause { OnErr result (Rose self.old.refused self.new.refused) }
+        ensures calm { OnOk result (self.new.refused ≡ self.old.refused) }
+        ensures crash { (front rest : List Portion) → Holds self.old (front ++ rest)
+            → weight_of front ≡ point.now.staged
+            → AddsOnly (IsThis point.now front) (crashes_of self.old) (crashes_of self.new) }
+        ensures device { result ≡ Err SinkFault.Device
+            → Rose (D.faults self.old.disk) (D.faults self.new.disk) }
+        ensures failed { result ≡ Err SinkFault.Failed → self.old.failed ≡ true }
+        ensures memory { result ≡ Err SinkFault.OutOfMemory → ⊥ }
+    {
         match self.cut_back(point) {
             Ok(()) => Ok(()),
             Err(fault) => {

@@ -19,7 +19,7 @@ use Rattle.tape_set.specs.Position.{block_of}
 use Rattle.tape_run.specs.Steps.{Saved}
 use Rattle.tape_run.specs.Seen.{Seen, seen, IsKept}
 use Rattle.tape_run.specs.ReelLine.{reel_lines}
-use Rattle.tape_run.specs.Reeling.{is_doubtful, IsNoted, IsKeptFor, WentToLast}
+use Rattle.tape_run.specs.Reeling.{is_doubtful, IsNoted, IsKeptFor, WentToLast, HasNotedHere}
 use Rattle.tape_run.specs.Reeling.{Turn, answer_of, AreTurns, IsTurn, Mounting}
 use Rattle.tape_run.proofs.Headline.{took_so_many}
 use Rattle.tape_run.proofs.extract.images.note.Reads as note
@@ -28,10 +28,10 @@ use Rattle.tape_run.proofs.extract.images.settle.Reads as settle
 
 -- saved_behind_a_wrong_count: behind a reel whose trailer counts other blocks a note is made
 saved_behind_a_wrong_count : (S : _) (L : _) (g : _) (d : _) (κs : _) (a : _) (s : _) (label : _)
-    (seen : _) → note.Learnt-named S L g d κs a (Ok tt) s
+    (seen noted : _) → note.Learnt-named S L g d κs a (Ok noted) s
     → a.1.0.now.answer ≡ Useless (BlockCount label seen)
     → length s.0.now.notes ≡ length a.0.now.notes + 1 → ⊥
-saved_behind_a_wrong_count S L g d κs a s label seen l count more =
+saved_behind_a_wrong_count S L g d κs a s label seen noted l count more =
     absurd (omega (
       arith,
       sym more ∙ ap (λ z. length z.notes) (l.doubtful (ap is_doubtful count)),
@@ -40,15 +40,15 @@ saved_behind_a_wrong_count S L g d κs a s label seen l count more =
 -- saved_in_the_list_alone: behind a section the session stands at block 5, its first note is made,
 -- and the sink comes back with the start of the file
 saved_in_the_list_alone : (S : _) (L : _) (g : _) (d : _) (κs : _) (a : _) (s : _)
-    (held there : List Portion) (older : Point) → note.Learnt-named S L g d κs a (Ok tt) s
+    (held there : List Portion) (older : Point) → note.Learnt-named S L g d κs a (Ok true) s
     → a.1.0.now.answer ≡ SectionDone → g.holds a.0.now.sink held → a.0.now.notes ≡ []
     → a.0.now.core.position ≡ Awaits 1 5 0
     → (g.crashes s.0.now.sink).returns older there → older.position ≡ Awaits 1 0 0 → ⊥
 saved_in_the_list_alone S L g d κs a s held there older l done was none five back start =
     let old = seen g a.0.now held in
     let (now, has, (noted, last)) = l.ok held was in
-    let saved : Saved old (seen g s.0.now now) =
-    subst (λ b. IsNoted false b old (seen g s.0.now now)) (ap is_doubtful done) noted in
+    let (elsewhere, saved) : (HasNotedHere old → ⊥) × Saved old (seen g s.0.now now) =
+    subst (λ b. IsNoted false b true old (seen g s.0.now now)) (ap is_doubtful done) noted in
     let here = saved_point old.place (weight_of held) in
     let one : s.0.now.notes ≡ here ∷ [] = saved.notes ∙ ap (λ l. l ++ here ∷ []) none in
     let (n, count, (is, front, weighs)) = last.last (λ same. absurd (omega (
@@ -65,34 +65,35 @@ saved_in_the_list_alone S L g d κs a s held there older l done was none five ba
     absurd (omega (arith, n))
 
 -- where a session goes back behind such a reel it is at the note made last
-went : (back doubtful : Bool) (old new : Seen) → back ≡ true → doubtful ≡ true
-    → IsNoted back doubtful old new → WentToLast old new
-went back doubtful old new b d s =
-    subst (λ z. IsNoted true z old new) d (subst (λ z. IsNoted z doubtful old new) b s)
+went : (back doubtful noted : Bool) (old new : Seen) → back ≡ true → doubtful ≡ true
+    → IsNoted back doubtful noted old new → WentToLast old new
+went back doubtful noted old new b d s =
+    subst (λ z. IsNoted true z noted old new) d
+    (subst (λ z. IsNoted z doubtful noted old new) b s)
 
 -- wrong_count_not_taken_back: the trailer counts other blocks, and the session stays broken
 wrong_count_not_taken_back : (S : _) (L : _) (g : _) (d : _) (κs : _) (a : _) (s : _) (label : _)
-    (count : _) (held : _) → settle.Learnt-named S L g d κs a (Ok tt) s
+    (count : _) (held : _) (is : _) → settle.Learnt-named S L g d κs a (Ok is) s
     → a.1.0.now.answer ≡ Useless (BlockCount label count) → a.1.1.0 ≡ true
     → g.holds a.0.now.sink held → IsKept (seen g a.0.now held)
     → s.0.now.core.phase ≡ Broken → ⊥
-wrong_count_not_taken_back S L g d κs a s label count held l told back was kept broken =
+wrong_count_not_taken_back S L g d κs a s label count held is l told back was kept broken =
     let old = seen g a.0.now held in
     let (now, has, (noted, last)) = l.ok held was (subst (λ b. IsKeptFor b old) (sym back) kept) in
-    let (n, one, w) = went a.1.1.0 (is_doubtful a.1.0.now.answer) old (seen g s.0.now now)
+    let (n, one, w) = went a.1.1.0 (is_doubtful a.1.0.now.answer) is old (seen g s.0.now now)
     back (ap is_doubtful told) noted in
     absurd (let e : Broken ≡ Over = sym (ap resting broken) ∙ ap (λ p. p.phase) w.place in cc)
 
 -- taken_back_to_the_beginning: of two notes one is left, and not the last
 taken_back_to_the_beginning : (S : _) (L : _) (g : _) (d : _) (κs : _) (a : _) (s : _) (label : _)
-    (count : _) (held : _) → settle.Learnt-named S L g d κs a (Ok tt) s
+    (count : _) (held : _) (is : _) → settle.Learnt-named S L g d κs a (Ok is) s
     → a.1.0.now.answer ≡ Useless (BlockCount label count) → a.1.1.0 ≡ true
     → g.holds a.0.now.sink held → IsKept (seen g a.0.now held)
     → length a.0.now.notes ≡ 2 → length s.0.now.notes ≡ 1 → ⊥
-taken_back_to_the_beginning S L g d κs a s label count held l told back was kept two left =
+taken_back_to_the_beginning S L g d κs a s label count held is l told back was kept two left =
     let old = seen g a.0.now held in
     let (now, has, (noted, last)) = l.ok held was (subst (λ b. IsKeptFor b old) (sym back) kept) in
-    let (n, one, w) = went a.1.1.0 (is_doubtful a.1.0.now.answer) old (seen g s.0.now now)
+    let (n, one, w) = went a.1.1.0 (is_doubtful a.1.0.now.answer) is old (seen g s.0.now now)
     back (ap is_doubtful told) noted in
     absurd (omega (
       arith,

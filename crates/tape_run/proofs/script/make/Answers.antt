@@ -1,10 +1,14 @@
-use Rattle.std.proofs.Common.{◌+◌, [], ◌∷◌, map, get_or, Some, refl, ap, subst, arith}
-use Rattle.std.proofs.lemmas.List.{drop_more, drop_all, drop-set-lt}
+use Rattle.std.proofs.Common.{◌+◌, [], ◌∷◌, map, take, get_or, Some, refl, sym, ap, subst, ◌∙◌}
+use Rattle.std.proofs.Common.{arith, append-nil, inl, inr}
+use Rattle.std.proofs.lemmas.List.{drop_more, drop_all, drop-set-lt, take_more_set, take-set}
+use Rattle.std.proofs.lemmas.List.{map-append}
+use Rattle.tape_image.proofs.Pieces.{on_err}
 use Rattle.tape_run.specs.Given.{is_device}
 use Rattle.tape_run.specs.Made.{WritesFrom}
 use Rattle.tape_core.proofs.Crashes.{only_same}
 use Rattle.tape_run.proofs.Crashes.{only_nothing}
 use Rattle.tape_run.proofs.Lasting.{alone_saved}
+use Rattle.tape_run.proofs.Causes.{calm_reel, calm_saved, calm_back}
 use Rattle.tape_run.proofs.Made.{reel_made, save_made, restart_made, reel_failed, writes_none}
 use Rattle.tape_run.proofs.Ended.{told_err, kept_save_fails, kept_restart_fails}
 use Rattle.tape_run.proofs.script.make.Goals as goal
@@ -20,17 +24,22 @@ returns-in_ok-answer-in-Reel-clause-ok g c =
     let here = ap (map rem) (drop_more reels c.args.used c.index-reels-used.result
     c.if-used-reels.false) in
     let left = ap (map rem) (drop-set-lt (c.args.used + 1) reels c.args.used c.reel.new.device
-    (omega arith)) in (
+    (omega arith)) in
+    let taken = ap (map rem) (take_more_set reels c.args.used c.reel.new.device
+    (omega (arith, c.if-used-reels.false)))
+    ∙ map-append rem (take c.args.used reels) (c.reel.new.device ∷ []) in (
       failed ∷ [],
+      rem c.reel.new.device ∷ [],
       subst (λ f. WritesFrom c.args.used (f ∷ []) c.args.failed.now c.write_at.new.row
           (c.args.used + 1)) c.is_device.ensures c.write_at.ensures,
+      taken,
       λ held was kept.
           let (now, has, (front, keeps, reeled)) = c.in_ok-answer-in-Reel.ensures.ok held was in (
             now,
             has,
             (
               keeps kept,
-              rw (here, left, c.in-Reel.is) (reel_made _ _ (rem device) failed reeled _ _ _
+              rw (here, left, c.in-Reel.is) (reel_made _ _ (rem device) _ failed reeled _ _ _
                   c.in_ok-answer-in-Reel.ensures.notes front (c.reel.ensures.crash held was)),
             ),
           ),
@@ -47,6 +56,10 @@ returns-in_err-answer-in-Reel-clause-err g c =
     let (now, has, (front, keeps, fails)) = c.in_err-answer-in-Reel.ensures.err held was in
     let told = reel_failed _ _ (rem device) _ _ fails in
     (now, (λ ne. has), (keeps kept, rw (here, c.in-Reel.is) told)))
+
+pub returns-in_err-answer-in-Reel-clause-unread : goal.returns-in_err-answer-in-Reel-clause-unread
+returns-in_err-answer-in-Reel-clause-unread g c = on_err c.from_residual.result _
+    (ap (map g.R.Read.remaining) (take-set c.args.reels.now c.args.used c.reel.new.device))
 
 pub returns-then-used-reels-clause-err : goal.returns-then-used-reels-clause-err
 returns-then-used-reels-clause-err g c = λ held was kept.
@@ -70,7 +83,9 @@ returns-then-used-reels-clause-crash g c = λ held was kept. only_same _ _
 pub returns-in_ok-save-in-Save-clause-ok : goal.returns-in_ok-save-in-Save-clause-ok
 returns-in_ok-save-in-Save-clause-ok g c = (
   [],
+  [],
   writes_none _ _,
+  sym (append-nil _),
   λ held was kept.
       let told = c.in_ok-save-in-Save.ensures in
       let (now, has, (keeps, saved)) = told.ok held was in
@@ -91,7 +106,9 @@ returns-in_err-save-in-Save-clause-err g c =
 pub returns-in_ok-restart-in-Restart-clause-ok : goal.returns-in_ok-restart-in-Restart-clause-ok
 returns-in_ok-restart-in-Restart-clause-ok g c = (
   [],
+  [],
   writes_none _ _,
+  sym (append-nil _),
   λ held was kept.
       let (now, has, (still, went)) = c.in_ok-restart-in-Restart.ensures.ok held was kept in
       (now, has, (still, rw c.in-Restart.is (restart_made _ _ c.in-Restart.n went _ _ _))),
@@ -105,3 +122,40 @@ returns-in_err-restart-in-Restart-clause-err g c =
       (λ keeps. ok (λ device. keeps (((c.in-Restart.n, ap Some c.in-Restart.is), device)))),
       (kept_restart_fails c.in-Restart.n _ _ _ fails kept, rw c.in-Restart.is fails),
     ))
+
+-- ---- of any sink
+
+pub returns-in_ok-answer-in-Reel-clause-calm : goal.returns-in_ok-answer-in-Reel-clause-calm
+returns-in_ok-answer-in-Reel-clause-calm g c =
+    let done = c.in_ok-answer-in-Reel.ensures in
+    calm_reel g.S.PartSink c.args.session.now c.reel.new.self _ done.calm done.notes done.ok
+
+pub returns-in_ok-save-in-Save-clause-calm : goal.returns-in_ok-save-in-Save-clause-calm
+returns-in_ok-save-in-Save-clause-calm g c =
+    let done = c.in_ok-save-in-Save.ensures in
+    calm_saved g.S.PartSink c.args.session.now c.save.new.self _ done.calm done.notes done.ok
+
+pub returns-in_ok-restart-in-Restart-clause-calm : goal.returns-in_ok-restart-in-Restart-clause-calm
+returns-in_ok-restart-in-Restart-clause-calm g c =
+    let done = c.in_ok-restart-in-Restart.ensures in
+    calm_back g.S.PartSink c.args.session.now c.restart.new.self c.in-Restart.n done.calm done.notes
+    done.ok
+
+pub returns-in_err-answer-in-Reel-clause-cause : goal.returns-in_err-answer-in-Reel-clause-cause
+returns-in_err-answer-in-Reel-clause-cause g c =
+    told_err _ _ _ c.from_residual.ensures.1
+    (rw c.in-Reel.is (inl c.in_err-answer-in-Reel.ensures.refuses))
+
+pub returns-then-used-reels-clause-cause : goal.returns-then-used-reels-clause-cause
+returns-then-used-reels-clause-cause g c = rw c.in-Reel.is (inr (refl, refl))
+
+pub returns-in_err-save-in-Save-clause-cause : goal.returns-in_err-save-in-Save-clause-cause
+returns-in_err-save-in-Save-clause-cause g c =
+    told_err _ _ _ c.from_residual-in_err-save-in-Save.ensures.1
+    (rw c.in-Save.is c.in_err-save-in-Save.ensures.refuses)
+
+pub returns-in_err-restart-in-Restart-clause-cause :
+    goal.returns-in_err-restart-in-Restart-clause-cause
+returns-in_err-restart-in-Restart-clause-cause g c =
+    told_err _ _ _ c.from_residual-in_err-restart-in-Restart.ensures.1
+    (rw c.in-Restart.is c.in_err-restart-in-Restart.ensures.refuses)

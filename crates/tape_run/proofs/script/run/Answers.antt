@@ -1,4 +1,5 @@
-use Rattle.std.proofs.Common.{◌+◌, [], ◌++◌, length, refl, sym, ap, subst, ◌∙◌, length-append}
+use Rattle.std.proofs.Common.{◌+◌, [], ◌++◌, length, map, drop, refl, sym, ap, subst, ◌∙◌}
+use Rattle.std.proofs.Common.{length-append}
 use Rattle.std.proofs.Common.{arith}
 use Rattle.std.proofs.lemmas.List.{drop_more}
 use Rattle.tape_run.specs.Given.{written}
@@ -7,18 +8,21 @@ use Rattle.tape_run.specs.Headline.{IsRead}
 use Rattle.tape_run.proofs.Headline.{ran_so}
 use Rattle.tape_run.proofs.Begin.{kept_new, is_read}
 use Rattle.tape_run.proofs.Back.{came_back, whole_records}
-use Rattle.tape_run.proofs.Made.{stops_here, lost_here, wrote}
-use Rattle.tape_run.proofs.RunSoFar.{none_made, one_more, adds_more, came_to_end}
+use Rattle.tape_run.proofs.Causes.{calm_same, calm_then}
+use Rattle.tape_run.proofs.Made.{stops_here, lost_here, wrote, next_is}
+use Rattle.tape_run.proofs.RunSoFar.{none_made, one_more, adds_more, came_to_end, all_unread}
+use Rattle.tape_run.proofs.RunSoFar.{now_unread, adds_so_far}
 use Rattle.tape_run.proofs.Ended.{stopped_so}
 use Rattle.tape_run.proofs.script.run.Goals as goal
 
 pub loop-step-init : goal.loop-step-init
-loop-step-init g c = ([], refl, refl, λ held was kept. none_made was kept)
+loop-step-init g c =
+    ([], refl, refl, λ held was kept. none_made was kept, calm_same g.S.PartSink c.args.session.now)
 
 pub loop-step-preserved : goal.loop-step-preserved
 loop-step-preserved g c =
-    let (which, count, row, come) = c.loop-step.invariant in
-    let (more, writes, makes) = c.in-Ok.ensures.ok in
+    let (which, count, row, come, calm) = c.loop-step.invariant in
+    let (more, unread, writes, taken, makes) = c.in-Ok.ensures.ok in
     let steps = c.args.steps.now in
     let here = drop_more steps c.loop-step.step _ c.loop-step-test.true in (
       which ++ more,
@@ -28,30 +32,32 @@ loop-step-preserved g c =
       λ held was kept.
           let mid = come held was kept in
           let (now, has, (still, made)) = makes mid.now mid.has mid.kept in
-          one_more steps c.loop-step.step mid here now has still made
-          (c.make.ensures.crash mid.now mid.has mid.kept),
+          now_unread _ taken (one_more steps c.loop-step.step mid here now has still made
+          (c.make.ensures.crash mid.now mid.has mid.kept)),
+      calm_then g.S.PartSink c.args.session.now c.loop-step.session c.make.new.session calm
+          c.in-Ok.ensures.calm,
     )
 
 pub returns-clause-runs : goal.returns-clause-runs
 returns-clause-runs g c = λ held was kept.
-    let (which, count, row, come) = c.loop-step.invariant in
+    let (which, count, row, come, calm) = c.loop-step.invariant in
     let end = come held was kept in
-    let (runs, last) = came_to_end c.args.steps.now c.loop-step.step end
-    (omega (arith, c.loop-step-test.false)) in
+    let (runs, last) = came_to_end c.args.steps.now c.loop-step.step g.R.Read.remaining
+    c.loop-step.used c.loop-step.reels end (omega (arith, c.loop-step-test.false)) in
     (end.now, end.has, ((which, row, runs), last))
 
 pub returns-clause-headline : goal.returns-clause-headline
 returns-clause-headline g c = λ held was kept.
-    let (which, count, row, come) = c.loop-step.invariant in
+    let (which, count, row, come, calm) = c.loop-step.invariant in
     let end = come held was kept in
-    let (runs, last) = came_to_end c.args.steps.now c.loop-step.step end
-    (omega (arith, c.loop-step-test.false)) in (
+    let (runs, last) = came_to_end c.args.steps.now c.loop-step.step g.R.Read.remaining
+    c.loop-step.used c.loop-step.reels end (omega (arith, c.loop-step-test.false)) in (
       end.now,
       end.has,
       (
         end.kept,
         λ bytes e.
-            let (run, same) = ran_so which _ _ _ _ runs bytes e in
+            let (run, same) = ran_so which _ _ _ _ _ runs bytes e in
             (run, row ∙ ap (λ w. written w c.args.failed.now) (sym same)),
       ),
     )
@@ -65,7 +71,7 @@ returns-clause-start g c = λ set_id file was st.
       has,
       λ bytes e.
           let (ran, row) = run bytes e in
-          let (read, same) = is_read set_id file _ bytes old _ st ran in
+          let (read, same) = is_read set_id file _ bytes _ old _ st ran in
           (read, row ∙ ap (λ w. written w c.args.failed.now) (sym same)),
     )
 
@@ -73,21 +79,28 @@ pub returns-clause-back : goal.returns-clause-back
 returns-clause-back g c = λ set file f bytes was st l has_file volumes readers reels none.
     let (now, has, reads) = returns-clause-start g c set.set_id file was st in
     let end = seen g.S.PartSink c.loop-step.session now in
-    let r = subst (λ z. IsRead set.set_id file z bytes end) reels (reads bytes readers).0 in
-    let (done, parts) = came_back set file f bytes end l has_file volumes none r in (
+    let left = map g.R.Read.remaining c.loop-step.reels in
+    let r = subst (λ z. IsRead set.set_id file z bytes left end) reels (reads bytes readers).0 in
+    let (done, parts) = came_back set file f bytes left end l has_file volumes none r in (
       subst (g.S.PartSink.holds c.loop-step.session.sink) parts has,
       done,
       whole_records set file f l has_file,
     )
 
 pub returns-clause-crash : goal.returns-clause-crash
-returns-clause-crash g c = λ held was kept. (c.loop-step.invariant.3 held was kept).adds
+returns-clause-crash g c = λ held was kept. adds_so_far g.R.Read.remaining c.loop-step.used
+    c.loop-step.reels (c.loop-step.invariant.3 held was kept)
 
 pub returns-in-Err-clause-faults : goal.returns-in-Err-clause-faults
 returns-in-Err-clause-faults g c = λ held was kept.
     let here = drop_more c.args.steps.now c.loop-step.step _ c.loop-step-test.true in
-    let (which, count, row, come) = c.loop-step.invariant in
+    let (which, count, row, come, calm) = c.loop-step.invariant in
     let mid = come held was kept in
+    let rem = g.R.Read.remaining in
+    let used = c.loop-step.used in
+    let others = map rem (drop used c.make.new.reels) in
+    let left = ap (λ l. l ++ others) (sym c.in-Err.ensures.unread)
+    ∙ all_unread rem used c.make.new.reels in
     let (now, has, (still, fails)) = c.in-Err.ensures.err mid.now mid.has mid.kept in (
       now,
       (λ keeps. has (λ lost. keeps
@@ -96,7 +109,7 @@ returns-in-Err-clause-faults g c = λ held was kept.
         still,
         which,
         c.in-Err.ensures.unwritten ∙ row,
-        stops_here _ which _ _ _ _ _ _ _ _ _ _ here mid.made fails,
+        stops_here _ which _ _ _ _ _ _ _ _ _ _ others _ _ left here mid.made fails,
       ),
     )
 
@@ -108,7 +121,7 @@ returns-in-Err-clause-stopped g c = λ held was kept.
       (
         k,
         λ bytes e.
-            let (end, same) = stopped_so which _ _ _ _ _ _ runs bytes e in
+            let (end, same) = stopped_so which _ _ _ _ _ _ _ runs bytes e in
             (end, row ∙ ap (λ w. written w c.args.failed.now) (sym same)),
       ),
     )
@@ -116,4 +129,25 @@ returns-in-Err-clause-stopped g c = λ held was kept.
 pub returns-in-Err-clause-crash : goal.returns-in-Err-clause-crash
 returns-in-Err-clause-crash g c = λ held was kept.
     let mid = c.loop-step.invariant.3 held was kept in
-    adds_more mid (c.make.ensures.crash mid.now mid.has mid.kept)
+    let rem = g.R.Read.remaining in
+    let others = map rem (drop c.loop-step.used c.make.new.reels) in
+    adds_more mid (c.make.ensures.crash mid.now mid.has mid.kept) others _
+    (ap (λ l. l ++ others) (sym c.in-Err.ensures.unread)
+    ∙ all_unread rem c.loop-step.used c.make.new.reels)
+
+pub returns-clause-calm : goal.returns-clause-calm
+returns-clause-calm g c =
+    let (which, count, row, come, calm) = c.loop-step.invariant in calm
+
+pub returns-in-Err-clause-cause : goal.returns-in-Err-clause-cause
+returns-in-Err-clause-cause g c =
+    let (which, count, row, come, calm) = c.loop-step.invariant in
+    let steps = c.args.steps.now in
+    record {
+      step = _;
+      at = next_is steps c.loop-step.step _ _ (drop_more steps c.loop-step.step _
+          c.loop-step-test.true);
+      mid = c.loop-step.session;
+      calm = calm;
+      refuses = c.in-Err.ensures.cause;
+    }

@@ -1,5 +1,6 @@
-use Rattle.std.proofs.Common.{◌≡◌, Bool, List, length, map, drop}
+use Rattle.std.proofs.Common.{◌≡◌, Bool, List, length, map, take, drop}
 use Rattle.tape_blocks.specs.Block.{Portion}
+use Rattle.tape_run.specs.Causes.{IsCalm}
 use Rattle.tape_run.specs.Given.{written}
 use Rattle.tape_run.specs.Seen.{seen, IsKept}
 use Rattle.tape_run.proofs.RunSoFar.{HasCome}
@@ -12,4 +13,5 @@ invariant-loop-step g l = (which : List Bool) × (length which ≡ l.used)
     → IsKept (seen g.S.PartSink l.fn.session held)
     → HasCome g.S.PartSink which l.fn.session held
     l.steps (map g.R.Read.remaining l.fn.reels) l.step l.session
-    (map g.R.Read.remaining (drop l.used l.reels)))
+    (map g.R.Read.remaining (take l.used l.reels))
+    (map g.R.Read.remaining (drop l.used l.reels))) × IsCalm g.S.PartSink l.fn.session l.session

@@ -1,4 +1,4 @@
-use Rattle.std.proofs.Common.{sym, subst, arith}
+use Rattle.std.proofs.Common.{map, sym, subst, arith}
 use Rattle.tape_run.specs.Lives.{LivesOn}
 use Rattle.tape_run.specs.Seen.{seen}
 use Rattle.tape_run.proofs.Lives.{lives_on, on_ok}
@@ -13,15 +13,16 @@ returns-clause-crash g c = λ held was bytes e.
     let first = c.resume-session.result in
     let last = crashes c.run-result.new.session.sink in
     let start = seen g.S.PartSink first held in
+    let left = map g.R.Read.remaining c.run-result.new.reels in
     let resumed = c.resume-session.ensures.resumed held in
     let adds = c.run-result.ensures.crash held
     (subst (λ s. g.S.PartSink.holds s held) (sym c.resume-session.ensures.sink) was)
     (c.resume-session.ensures.kept held) in
-    subst (λ s. LivesOn point held steps bytes (crashes s).returns last.returns
-    × LivesOn point held steps bytes ((crashes s).returned (crashes s).moment)
+    subst (λ s. LivesOn point held steps bytes left (crashes s).returns last.returns
+    × LivesOn point held steps bytes left ((crashes s).returned (crashes s).moment)
     (last.returned (crashes s).moment)) c.resume-session.ensures.sink (
-      lives_on point held start steps _ bytes _ _ resumed e adds.now,
-      lives_on point held start steps _ bytes _ _ resumed e
+      lives_on point held start steps _ left bytes _ _ resumed e adds.now,
+      lives_on point held start steps _ left bytes _ _ resumed e
           (λ back there h. adds.since (crashes first.sink).moment back there (omega arith) h),
     )
 

@@ -4,6 +4,9 @@ use Rattle.tape_run.specs.ExtractingAgain.{ExtractsAgain, StopsAgain}
 use Rattle.tape_run.proofs.Again.{extracted_again, stops_in_round, stops_at_end_again}
 use Rattle.tape_run.proofs.Fitting.{on_err_map}
 use Rattle.tape_image.proofs.Pieces.{on_err}
+use Rattle.tape_run.specs.Reeling.{goes_back}
+use Rattle.tape_run.proofs.Causes.{file_fails, images_fail}
+use Rattle.tape_run.proofs.Ended.{told_err}
 use Rattle.tape_run.proofs.Reporting.{if_ok_both}
 use Rattle.tape_run.proofs.extract.again.extract_again.Goals as goal
 
@@ -15,6 +18,18 @@ returns-in_err-read_rounds-clause-err g c =
     g.W.Write.contents c.args.out.now _ _ _
     c.has_note-back.ensures
     c.in_err-read_rounds.ensures.err)
+
+pub returns-in_err-read_rounds-clause-cause : goal.returns-in_err-read_rounds-clause-cause
+returns-in_err-read_rounds-clause-cause g c =
+    told_err _ _ _ c.from_residual.ensures.1 (images_fail g.S.PartSink
+    (goes_back c.args.session.now.notes) c.has_note-back.result
+    c.in_err-read_rounds.field-0.0 c.args.session.now c.read_rounds.new.session
+    c.has_note-back.ensures c.in_err-read_rounds.ensures.cause)
+
+pub returns-clause-cause : goal.returns-clause-cause
+returns-clause-cause g c = file_fails g.S.PartSink (goes_back c.args.session.now.notes)
+    c.args.session.now c.read_rounds.new.session c.end_file.new.session c.end_file.result
+    c.in_ok-read_rounds.ensures.calm c.end_file.ensures.cause
 
 pub returns-clause-ok : goal.returns-clause-ok
 returns-clause-ok g c =

@@ -1,4 +1,5 @@
 use Rattle.std.proofs.Common.{◌≡◌, ◌+◌, ◌-◌, ◌≤◌, List, length}
+use Rattle.tape_run.specs.Causes.{IsCalm}
 use Rattle.tape_run.specs.Rounds.{Round, turns_of, HasGone}
 use Rattle.tape_run.proofs.extract.again.read_rounds.Given as goal
 
@@ -9,6 +10,7 @@ invariant-rounds g l = (rounds : List Round) × (l.lines ≡ length (turns_of ro
     l.count g.L.Shelf.gives g.R.Read.remaining
     l.fn.back l.fn.session l.session l.fn.images l.images (g.P.Write.contents l.fn.report)
     (g.P.Write.contents l.report) rounds
+    × IsCalm g.S.PartSink l.fn.session l.session
 
 abbrev pub decreases-rounds : goal.decreases-rounds
 decreases-rounds g l = 18446744073709551615 - l.lines

@@ -1,8 +1,10 @@
-use Rattle.std.proofs.Common.{false, sym, subst, ◌∙◌}
+use Rattle.std.proofs.Common.{false, true, sym, subst, ◌∙◌}
 use Rattle.tape_run.specs.Reeling.{IsNoted}
 use Rattle.tape_run.specs.Seen.{seen}
 use Rattle.tape_run.proofs.Lasting.{last_kept}
 use Rattle.tape_image.proofs.Pieces.{on_err}
+use Rattle.tape_run.proofs.Causes.{calm_saved, step_fails}
+use Rattle.tape_run.proofs.Ended.{told_err}
 use Rattle.tape_run.proofs.Left.{save_left}
 use Rattle.tape_run.proofs.extract.images.note.Goals as goal
 
@@ -14,13 +16,23 @@ returns-clause-ok g c = λ held was.
       now,
       has,
       (
-        subst (λ b. IsNoted false b (seen sink old held) (seen sink c.save.new.self now))
-            (sym (sym c.is_doubtful.ensures ∙ c.if-is_doubtful.false)) saved,
+        subst (λ b. IsNoted false b true (seen sink old held) (seen sink c.save.new.self now))
+            (sym (sym c.is_doubtful.ensures ∙ c.if-is_doubtful.false))
+            (c.if-is_noted.ensures.no held was, saved),
         last_kept sink old c.save.new.self held now c.in_ok-save.field-0
             _ (c.in_ok-save.ensures.point held was) (c.in_ok-save.ensures.kept held was) saved
             (c.save.ensures.crash held was),
       ),
     )
+
+pub returns-clause-calm : goal.returns-clause-calm
+returns-clause-calm g c = calm_saved g.S.PartSink c.args.session.now c.save.new.self _
+    c.in_ok-save.ensures.calm c.in_ok-save.ensures.notes c.in_ok-save.ensures.ok
+
+pub returns-in_err-save-clause-cause : goal.returns-in_err-save-clause-cause
+returns-in_err-save-clause-cause g c =
+    told_err _ _ _ c.from_residual.ensures.1 (λ back. step_fails g.S.PartSink back _
+    c.args.session.now c.save.new.self c.in_err-save.ensures.refuses)
 
 pub returns-in_err-save-clause-left : goal.returns-in_err-save-clause-left
 returns-in_err-save-clause-left g c =

@@ -9,12 +9,14 @@ use Rattle.tape_run.proofs.Extracted.{all_of_it}
 use Rattle.tape_image.proofs.Pieces.{on_err}
 use Rattle.tape_run.proofs.Turns.{front_behind, line_behind, one_mounted, follows_then}
 use Rattle.tape_run.proofs.Lasting.{last_same, last_then}
+use Rattle.tape_run.proofs.Causes.{calm_same, calm_then, then_fails}
+use Rattle.tape_run.proofs.Ended.{told_err}
 use Rattle.tape_run.proofs.Left.{left_saved, same_left}
 use Rattle.tape_run.proofs.extract.images.read_round.Goals as goal
 
 pub returns-in_err-take_image-clause-err : goal.returns-in_err-take_image-clause-err
 returns-in_err-take_image-clause-err g c =
-    let (turns, e, are, lines, none, f) = c.loop-number.invariant in
+    let (turns, e, are, lines, none, f, calm) = c.loop-number.invariant in
     let (more, few, part) = c.in_err-take_image.ensures.err in
     let number : c.args.lines + c.loop-number.number + 1 ≡ c.args.lines + 1 + length turns =
     omega (arith, e) in
@@ -41,7 +43,7 @@ returns-in_err-take_image-clause-err g c =
 
 pub returns-in_default-clause-err : goal.returns-in_default-clause-err
 returns-in_default-clause-err g c =
-    let (turns, e, are, lines, none, f) = c.loop-number.invariant in
+    let (turns, e, are, lines, none, f, calm) = c.loop-number.invariant in
     let stays : c.mount.new.self ≡ c.loop-number.images = search rules in
     record {
       turns = turns;
@@ -82,11 +84,12 @@ loop-number-init g c = (
       last_same g.S.PartSink c.args.session.now held,
     ),
   ),
+  calm_same g.S.PartSink c.args.session.now,
 )
 
 pub loop-number-preserved : goal.loop-number-preserved
 loop-number-preserved g c =
-    let (turns, e, are, lines, none, f) = c.loop-number.invariant in
+    let (turns, e, are, lines, none, f, calm) = c.loop-number.invariant in
     let n = c.loop-number.number in
     let taken = c.in_ok-take_image.ensures.ok in
     let number : c.args.lines + n + 1 ≡ c.args.lines + 1 + length turns = omega (arith, e) in
@@ -113,4 +116,17 @@ loop-number-preserved g c =
                   lasts last,
             ),
           ),
+      calm_then g.S.PartSink c.args.session.now c.loop-number.session c.take_image.new.session calm
+          c.in_ok-take_image.ensures.calm,
     )
+
+pub returns-in_err-take_image-clause-cause : goal.returns-in_err-take_image-clause-cause
+returns-in_err-take_image-clause-cause g c =
+    let (turns, e, are, lines, none, f, calm) = c.loop-number.invariant in
+    told_err _ _ _ c.from_residual.ensures.1 (then_fails g.S.PartSink c.args.back
+    c.in_err-take_image.field-0.0 c.args.session.now c.loop-number.session
+    c.take_image.new.session calm c.in_err-take_image.ensures.cause)
+
+pub returns-in_default-clause-cause : goal.returns-in_default-clause-cause
+returns-in_default-clause-cause g c =
+    let (turns, e, are, lines, none, f, calm) = c.loop-number.invariant in calm.calm

@@ -1,5 +1,6 @@
 use Rattle.std.proofs.Common.{◌≡◌, ◌+◌, List, map, length}
 use Rattle.std.specs.Io.KnownBytes.{Appends}
+use Rattle.tape_run.specs.Causes.{IsCalm}
 use Rattle.tape_run.specs.ReelLine.{reel_lines}
 use Rattle.tape_run.specs.Reeling.{Turn, answer_of, AreTurns, Follows, Carries}
 use Rattle.tape_run.proofs.extract.images.read_round.Given as goal
@@ -12,3 +13,4 @@ invariant-loop-number g l = (turns : List Turn) × (length turns ≡ l.number)
     × (l.number ≡ 0 → l.session ≡ l.fn.session)
     × Carries g.S.PartSink l.fn.back l.fn.session l.session
     (λ was is. Follows l.fn.back l.fn.session.core was turns l.session.core is)
+    × IsCalm g.S.PartSink l.fn.session l.session

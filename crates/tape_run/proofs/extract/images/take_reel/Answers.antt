@@ -1,5 +1,6 @@
 use Rattle.std.proofs.Common.{rules, ◌≡◌, Some, refl, subst}
 use Rattle.std.specs.Io.KnownBytes.{Appends}
+use Rattle.tape_run.specs.declared.fault.EngineFault.TheVariants.{Run}
 use Rattle.tape_run.specs.Seen.{seen}
 use Rattle.tape_image.specs.Written.{AppendsFront}
 use Rattle.tape_run.specs.ReelLine.{reel_line}
@@ -7,6 +8,8 @@ use Rattle.tape_run.specs.Reeling.{Opened, is_doubtful}
 use Rattle.tape_image.proofs.Pieces.{on_err}
 use Rattle.tape_run.proofs.Turns.{part_line, whole_line, noted, kept_for, kept_behind}
 use Rattle.tape_run.proofs.Lasting.{last_stays, last_then}
+use Rattle.tape_run.proofs.Causes.{calm_then, calm_reel, step_fails, then_fails}
+use Rattle.tape_run.proofs.Ended.{told_err}
 use Rattle.tape_run.proofs.Left.{nothing_left, left_then}
 use Rattle.tape_run.proofs.extract.images.take_reel.Goals as goal
 
@@ -36,6 +39,7 @@ returns-clause-ok g c =
       had = g.R.Read.remaining c.args.device.now;
       left = g.R.Read.remaining c.reel.new.device;
       answer = c.in_ok-answer.answer;
+      noted = c.in_ok-settle.field-0;
     } in
     let sink = g.S.PartSink in
     record {
@@ -53,7 +57,8 @@ returns-clause-ok g c =
             behind,
             has_behind,
             (
-              kept_behind back doubtful mid (seen sink c.settle.new.session behind) saved still,
+              kept_behind back doubtful opened.noted mid (seen sink c.settle.new.session behind)
+                  saved still,
               (
                 c.settle.new.session.core,
                 seen sink c.settle.new.session behind,
@@ -75,6 +80,24 @@ returns-clause-ok g c =
             ),
           );
     }
+
+pub returns-clause-calm : goal.returns-clause-calm
+returns-clause-calm g c =
+    calm_then g.S.PartSink c.args.session.now c.reel.new.self c.settle.new.session
+    (calm_reel g.S.PartSink c.args.session.now c.reel.new.self _ c.in_ok-answer.ensures.calm
+    c.in_ok-answer.ensures.notes c.in_ok-answer.ensures.ok) c.in_ok-settle.ensures.calm
+
+pub returns-in_err-answer-clause-cause : goal.returns-in_err-answer-clause-cause
+returns-in_err-answer-clause-cause g c =
+    told_err _ _ _ c.from_residual.ensures.1 (step_fails g.S.PartSink c.args.back _
+    c.args.session.now c.reel.new.self c.in_err-answer.ensures.refuses)
+
+pub returns-in_err-settle-clause-cause : goal.returns-in_err-settle-clause-cause
+returns-in_err-settle-clause-cause g c =
+    told_err _ _ _ c.from_residual-in_err-settle.ensures.1 (then_fails g.S.PartSink c.args.back
+    (Run c.in_err-settle.field-0.0) c.args.session.now c.reel.new.self c.settle.new.session
+    (calm_reel g.S.PartSink c.args.session.now c.reel.new.self _ c.in_ok-answer.ensures.calm
+    c.in_ok-answer.ensures.notes c.in_ok-answer.ensures.ok) c.in_err-settle.ensures.cause)
 
 pub returns-in_err-answer-clause-left : goal.returns-in_err-answer-clause-left
 returns-in_err-answer-clause-left g c =

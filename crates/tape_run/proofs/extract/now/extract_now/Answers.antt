@@ -2,6 +2,8 @@ use Rattle.std.proofs.Common.{rules, ◌≡◌, [], Some, None, refl, sym, subst
 use Rattle.tape_set.specs.Position.{want_at}
 use Rattle.tape_run.specs.OutSinks.{HasTaken, TellsAlways}
 use Rattle.tape_image.proofs.Pieces.{on_err}
+use Rattle.tape_run.proofs.Causes.{images_fault, ending_fault}
+use Rattle.tape_run.proofs.Ended.{told_err}
 use Rattle.tape_run.proofs.Extracted.{nothing_more, none_finished}
 use Rattle.tape_run.proofs.Now.{extracted_now, stops_reading_now, stops_at_end_now}
 use Rattle.tape_run.proofs.extract.now.extract_now.Goals as goal
@@ -98,3 +100,13 @@ returns-clause-ok g c =
     held)
     (sym c.into_sink.ensures) was) in
     (done.0, λ tells. c.in_ok-place.ensures.ok ∙ done.1 tells))
+
+pub returns-in_err-read_images-clause-cause : goal.returns-in_err-read_images-clause-cause
+returns-in_err-read_images-clause-cause g c =
+    told_err _ _ _ c.from_residual.ensures.1 (images_fault _ _ c.in_err-read_images.field-0.0
+    c.args.session c.read_images.new.session c.in_err-read_images.ensures.cause)
+
+pub returns-in_err-written-clause-cause : goal.returns-in_err-written-clause-cause
+returns-in_err-written-clause-cause g c =
+    told_err _ _ _ c.from_residual-in_err-written.ensures.1 (ending_fault _ _ _ _
+    c.in_err-written.field-0.0 c.in_err-written.ensures.cause)

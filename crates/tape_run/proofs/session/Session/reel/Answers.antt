@@ -1,4 +1,4 @@
-use Rattle.std.proofs.Common.{IfSome, [], sym, ap, subst, ◌∙◌, refl}
+use Rattle.std.proofs.Common.{IfSome, [], sym, ap, subst, ◌∙◌, refl, rules}
 use Rattle.std.specs.Prelude.{is_some}
 use Rattle.tape_core.specs.State.{State}
 use Rattle.tape_core.specs.Place.{rest_of}
@@ -28,7 +28,8 @@ returns-then-is_none-clause-ok g c =
     subst (λ z. IfSeen g.S.PartSink z (λ old. IsSeen g.S.PartSink z (λ new.
     IsFront old.parts new.parts × (IsKept old → IsKept new)
     × IfSome (g.R.Read.remaining c.args.device.now)
-    (λ bytes. Reeled bytes (is_device c.new.result.fault) old new))))
+    (λ bytes. Reeled bytes (g.R.Read.remaining c.args.device.now) (is_device c.new.result.fault) old
+    new))))
     c.self.view_is (λ held was.
     let finished = want_none _ (rest_of c.self.inside.intake.core).position c.is_none.result
     (ap is_some (sym c.want.ensures.value) ∙ c.is_none.ensures) c.if-is_none.true in (
@@ -37,7 +38,7 @@ returns-then-is_none-clause-ok g c =
       (
         front_self held,
         (λ k. k),
-        some_all _ _ (λ bytes. not_read bytes (seen sink story held)
+        some_all _ _ (λ bytes. not_read bytes _ (seen sink story held)
             c.self.inside.intake.core (is_device c.new.result.fault)
             (ap is_device c.new.ensures.fault) refl finished),
       ),
@@ -45,18 +46,7 @@ returns-then-is_none-clause-ok g c =
 
 pub returns-in-Ok-read-clause-ok : goal.returns-in-Ok-read-clause-ok
 returns-in-Ok-read-clause-ok g c =
-    let new : Story _ =
-    record {
-      core = c.read-read.new.self.core;
-      sink = c.read-read.new.self.sink;
-      notes = c.self.inside.notes.items;
-      failures = c.counted-self-inside.result;
-    } in
-    subst (λ z. IfSeen g.S.PartSink z (λ old. IsSeen g.S.PartSink new (λ is.
-    IsFront old.parts is.parts × (IsKept old → IsKept is)
-    × IfSome (g.R.Read.remaining c.args.device.now)
-    (λ bytes. Reeled bytes (is_device c.in-Ok-read.answer.fault) old is))))
-    c.self.view_is (λ held was.
+    rw (← c.self.view_is) (λ held was.
     let p = rest_of c.self.inside.intake.core in
     let end = c.in-Ok-read.ensures in
     let set_id = end.set_id ∙ ap (λ (z : State). z.set_id) c.mount.ensures.same in
@@ -71,8 +61,9 @@ returns-in-Ok-read-clause-ok g c =
         some_at _ c.over-image.result.left _ _ c.over-image.ensures.unread
             (λ bytes r. reeled (is_device c.in-Ok-read.answer.fault)
             c.mount.new.self
-            c.read-read.new.self.core held now bytes p c.self.inside.notes.items
-            c.self.inside.failures c.counted-self-inside.result _ _
+            c.read-read.new.self.core held now bytes _ _ p
+            c.self.inside.notes.items
+            c.self.inside.failures c.counted-self-inside.result _ _ (search rules)
             (begins c.self.inside.intake.core c.mount.new.self c.mount.ensures.table
             c.mount.ensures.same) c.mount.ensures.same set_id file end.calm front
             (c.counted-self-inside.ensures ∙ ap (λ b. counted b c.self.inside.failures)

@@ -1,4 +1,4 @@
-use Rattle.std.proofs.Common.{◌≡◌, Some, [], ap, subst, arith, slice_get}
+use Rattle.std.proofs.Common.{◌≡◌, Some, [], ap, subst, arith, slice_get, refl, inr}
 use Rattle.std.proofs.lemmas.Grind.{common_steps}
 use Rattle.std.proofs.lemmas.Option.{gets}
 use Rattle.tape_core.specs.Place.{rest_of}
@@ -42,6 +42,32 @@ returns-then-point-weight-clause-err g c =
       ap (λ z. z.staged) c.point.view_is,
       ap (λ z. z.staged) c.in-Some.point-is,
     )))
+
+pub returns-then-point-weight-clause-refuses : goal.returns-then-point-weight-clause-refuses
+returns-then-point-weight-clause-refuses g c =
+    rw (← c.self.view_is) (
+      refl,
+      inr (
+        refl,
+        refl,
+        λ held was kept.
+            let s = c.self.inside in
+            let point = c.in-Some.field-0.now in
+            let noted : slice_get s.notes.items c.args.n ≡ Some point =
+            grind (arith, common_steps, gets) in
+            let at = kept_at (rest_of s.intake.core) [] s.notes.items c.args.n point held noted
+            kept in
+            absurd (omega (
+              arith,
+              c.weight.ensures.of held was,
+              front_weighs at.ps held at.is_front,
+              at.note.staged,
+              c.if-point-weight.true,
+              ap (λ z. z.staged) c.point.view_is,
+              ap (λ z. z.staged) c.in-Some.point-is,
+            )),
+      ),
+    )
 
 pub returns-in-Err-clause-crash : goal.returns-in-Err-clause-crash
 returns-in-Err-clause-crash g c =

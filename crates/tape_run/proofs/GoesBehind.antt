@@ -1,0 +1,373 @@
+-- A reading of a later file goes on behind that of an earlier one.
+use Rattle.std.proofs.Common.{◌≡◌, ◌≢◌, ℕ, ◌<◌, inl, inr, List, [], ◌∷◌, ◌++◌, Bool, false}
+use Rattle.std.proofs.Common.{Option, Some, refl, sym, ap, subst, ◌∙◌}
+use Rattle.std.specs.List.{AllByRecursion}
+use Rattle.tape_blocks.specs.Block.{Portion}
+use Rattle.tape_image.specs.Tape.{TapeItem}
+use Rattle.tape_set.specs.declared.position.Position.{Position}
+use Rattle.tape_set.specs.declared.position.Position.TheVariants.{Awaits, Finished}
+use Rattle.tape_core.specs.declared.event.Answer.{Answer}
+use Rattle.tape_core.specs.declared.event.Answer.TheVariants.{Passed, Deliver, SectionDone}
+use Rattle.tape_core.specs.declared.event.Answer.TheVariants.{Complete, Useless}
+use Rattle.tape_core.specs.declared.event.Phase.{Phase}
+use Rattle.tape_core.specs.declared.event.Phase.TheVariants as phases
+use Rattle.tape_core.specs.declared.event.Phase.TheVariants.{Over, Broken, Volume, Trailers}
+use Rattle.tape_core.specs.Behind.{passed_over, expected_over, PassesTo, AreInOrder, behind_of}
+use Rattle.tape_core.specs.Behind.{mounted_behind}
+use Rattle.tape_core.specs.Known.{is_finished}
+use Rattle.tape_core.specs.State.{State}
+use Rattle.tape_core.specs.Table.{Outcome, in_phase, passed, step_of, mount_of, mounted}
+use Rattle.tape_core.specs.Table.{unless_complete, at_reel_end}
+use Rattle.tape_core.proofs.OneFile.{step_set_id, step_file}
+use Rattle.tape_core.proofs.Behind.{step_law}
+use Rattle.tape_run.specs.Reels.{behind_items, answers_to, GoesOn, ReadsReel}
+use Rattle.tape_run.specs.ByTable.{delivered_parts, parts_by, parts_at}
+use Rattle.tape_core.specs.Place.{rest_of, resting}
+use Rattle.tape_core.specs.Point.{Point}
+use Rattle.tape_core.specs.Weight.{IsFront}
+use Rattle.tape_run.specs.ByTable.{IsLed}
+use Rattle.tape_run.specs.GoesBehind.{EndsSection, PassesFiles}
+use Rattle.tape_run.specs.GoesBehind.{LeadsOverAll, ReeledBehind}
+use Rattle.tape_run.specs.GoesBehind.{LeavesBehind, LeavesBehindAgain}
+use Rattle.tape_image.specs.Begins.{Walks}
+use Rattle.tape_run.specs.declared.intake.ReelAnswer.{ReelAnswer}
+use Rattle.tape_run.specs.Given.{counted, IsGiven}
+use Rattle.tape_run.specs.Seen.{Seen}
+use Rattle.tape_run.specs.Taking.{ReadsImage}
+use Rattle.tape_run.proofs.ByTable.{behind_app, delivered_app, led_nowhere}
+use Rattle.tape_run.proofs.Notes.{front_self}
+use Rattle.tape_run.proofs.Completes.{step_tells}
+
+-- what a reader of a later file does with an item behind which the other goes on
+pub record PassedOne (first later : State) (x : TapeItem) : Type 0 where
+  pub answer : (step_of later (Some x)).0 ≡ Passed
+  pub next : (step_of later (Some x)).1
+      ≡ in_phase later (passed_over (step_of first (Some x)).1.phase)
+
+on_one : (first later : State) (x : TapeItem) (out : Outcome) → out ≡ step_of first (Some x)
+    → PassesTo (expected_over out) later (step_of later (Some x)) → GoesOn out.0
+    → PassedOne first later x
+on_one first later x (Passed, s) is p on = record {
+  answer = ap (λ (z : Outcome). z.0) p;
+  next = ap (λ (z : Outcome). z.1) p
+      ∙ ap (λ (z : Outcome). in_phase later (passed_over z.1.phase)) is;
+}
+on_one first later x (Deliver, s) is p on = record {
+  answer = ap (λ (z : Outcome). z.0) p;
+  next = ap (λ (z : Outcome). z.1) p
+      ∙ ap (λ (z : Outcome). in_phase later (passed_over z.1.phase)) is;
+}
+on_one first later x (SectionDone, s) is p (inl on) = absurd (cc)
+on_one first later x (SectionDone, s) is p (inr on) = absurd (cc)
+on_one first later x (Complete, s) is p (inl on) = absurd (cc)
+on_one first later x (Complete, s) is p (inr on) = absurd (cc)
+on_one first later x (Useless why, s) is p (inl on) = absurd (cc)
+on_one first later x (Useless why, s) is p (inr on) = absurd (cc)
+
+-- and with the one that ends a section well
+end_one : (first later : State) (x : TapeItem) (out : Outcome)
+    → PassesTo (expected_over out) later (step_of later (Some x)) → EndsSection out.0
+    → step_of later (Some x) ≡ passed later Trailers
+end_one first later x (Passed, s) p (inl on) = absurd (cc)
+end_one first later x (Passed, s) p (inr on) = absurd (cc)
+end_one first later x (Deliver, s) p (inl on) = absurd (cc)
+end_one first later x (Deliver, s) p (inr on) = absurd (cc)
+end_one first later x (SectionDone, s) p on = p
+end_one first later x (Complete, s) p on = p
+end_one first later x (Useless why, s) p (inl on) = absurd (cc)
+end_one first later x (Useless why, s) p (inr on) = absurd (cc)
+
+-- a reader that goes on still wants something
+still_waits : (core : State) (x : TapeItem) (q : Position) → q ≡ (step_of core (Some x)).1.position
+    → GoesOn (step_of core (Some x)).0 → is_finished q ≡ false
+still_waits core x (Awaits sect b part) is on = refl
+still_waits core x Finished is (inl on) =
+    absurd (let c = (step_tells core (Some x)).told (sym is) in cc)
+still_waits core x Finished is (inr on) =
+    absurd (let c = (step_tells core (Some x)).told (sym is) in cc)
+
+in_order_on : (first later : State) (x : TapeItem) → AreInOrder first later
+    → GoesOn (step_of first (Some x)).0 → PassedOne first later x
+    → AreInOrder (step_of first (Some x)).1 (step_of later (Some x)).1
+in_order_on first later x o on one = record {
+  same_set = ap (λ (z : State). z.set_id) one.next ∙ (o.same_set
+      ∙ sym (step_set_id first (step_of first (Some x)) (Some x) refl));
+  earlier = subst (λ n. n < (step_of later (Some x)).1.file)
+      (sym (step_file first (step_of first (Some x)) (Some x) refl))
+      (subst (λ n. first.file < n) (sym (ap (λ (z : State). z.file) one.next)) o.earlier);
+  first_waits = still_waits first x (step_of first (Some x)).1.position refl on;
+  later_waits = ap (λ (z : State). is_finished z.position) one.next ∙ o.later_waits;
+}
+
+-- the answers and the state behind all items, from any phase on
+pub record PassedFrom (core : State) (items : List TapeItem) : Type 0 where
+  pub answers : AllByRecursion (λ a. a ≡ Passed) (answers_to core items)
+  pub behind : behind_items core items ≡ in_phase core Trailers
+  pub nothing : delivered_parts core items ≡ []
+
+no_parts : (x : TapeItem) (p : Position) (known : _) (a : Answer) → a ≡ Passed
+    → parts_by a x p known ≡ []
+no_parts x p known a is = subst (λ b. parts_by b x p known ≡ []) (sym is) refl
+
+passed_from : (first later : State) (items : List TapeItem) (item : TapeItem)
+    → AreInOrder first later → later.phase ≡ passed_over first.phase
+    → AllByRecursion GoesOn (answers_to first items)
+    → EndsSection (step_of (behind_items first items) (Some item)).0
+    → PassedFrom later (items ++ item ∷ [])
+passed_from first later [] item o there on ended =
+    let p = end_one first later item (step_of first (Some item)) (step_law first later item o there)
+    ended in
+    let answer : (step_of later (Some item)).0 ≡ Passed = ap (λ (z : Outcome). z.0) p in
+    let none : parts_at later item ≡ [] = no_parts item later.position
+    (step_of later (Some item)).1.known (step_of later (Some item)).0 answer in
+    record {
+      answers = (answer, tt);
+      behind = ap (λ (z : Outcome). z.1) p;
+      nothing = ap (λ (l : List Portion). l ++ []) none;
+    }
+passed_from first later (x ∷ xs) item o there (on, rest) ended =
+    let one = on_one first later x (step_of first (Some x)) refl (step_law first later x o there)
+    on in
+    let then = passed_from (step_of first (Some x)).1 (step_of later (Some x)).1 xs item
+    (in_order_on first later x o on one) (ap (λ (z : State). z.phase) one.next) rest ended in
+    let none : parts_at later x ≡ [] = no_parts x later.position
+    (step_of later (Some x)).1.known (step_of later (Some x)).0 one.answer in
+    record {
+      answers = (one.answer, then.answers);
+      behind = then.behind ∙ ap (λ (z : State). in_phase z Trailers) one.next;
+      nothing = ap (λ (l : List Portion). l ++ delivered_parts (step_of later (Some x)).1
+          (xs ++ item ∷ [])) none ∙ then.nothing;
+    }
+
+-- ---- a reel that is mounted
+
+volume_of : (p : Phase) (q : Position) → p ≢ Broken → is_finished q ≡ false
+    → mounted p q ≡ Volume
+volume_of Broken q sound waits = absurd (sound refl)
+volume_of Over Finished sound waits = absurd (cc)
+volume_of Over (Awaits sect b part) sound waits = refl
+volume_of Volume Finished sound waits = absurd (cc)
+volume_of Volume (Awaits sect b part) sound waits = refl
+volume_of phases.VolumeLabels Finished sound waits = absurd (cc)
+volume_of phases.VolumeLabels (Awaits sect b part) sound waits = refl
+volume_of (phases.Header2 h w) Finished sound waits = absurd (cc)
+volume_of (phases.Header2 h w) (Awaits sect b part) sound waits = refl
+volume_of (phases.Headers h w) Finished sound waits = absurd (cc)
+volume_of (phases.Headers h w) (Awaits sect b part) sound waits = refl
+volume_of (phases.DataPassed h) Finished sound waits = absurd (cc)
+volume_of (phases.DataPassed h) (Awaits sect b part) sound waits = refl
+volume_of (phases.DataWanted h f n) Finished sound waits = absurd (cc)
+volume_of (phases.DataWanted h f n) (Awaits sect b part) sound waits = refl
+volume_of (phases.TrailerPassed h) Finished sound waits = absurd (cc)
+volume_of (phases.TrailerPassed h) (Awaits sect b part) sound waits = refl
+volume_of (phases.TrailerWanted h f) Finished sound waits = absurd (cc)
+volume_of (phases.TrailerWanted h f) (Awaits sect b part) sound waits = refl
+volume_of Trailers Finished sound waits = absurd (cc)
+volume_of Trailers (Awaits sect b part) sound waits = refl
+volume_of phases.NextFile Finished sound waits = absurd (cc)
+volume_of phases.NextFile (Awaits sect b part) sound waits = refl
+
+trailers_of : (p : Phase) (q : Position) → p ≢ Broken → is_finished q ≡ false
+    → mounted_behind p q ≡ Trailers
+trailers_of Broken q sound waits = absurd (sound refl)
+trailers_of Over Finished sound waits = absurd (cc)
+trailers_of Over (Awaits sect b part) sound waits = refl
+trailers_of Volume Finished sound waits = absurd (cc)
+trailers_of Volume (Awaits sect b part) sound waits = refl
+trailers_of phases.VolumeLabels Finished sound waits = absurd (cc)
+trailers_of phases.VolumeLabels (Awaits sect b part) sound waits = refl
+trailers_of (phases.Header2 h w) Finished sound waits = absurd (cc)
+trailers_of (phases.Header2 h w) (Awaits sect b part) sound waits = refl
+trailers_of (phases.Headers h w) Finished sound waits = absurd (cc)
+trailers_of (phases.Headers h w) (Awaits sect b part) sound waits = refl
+trailers_of (phases.DataPassed h) Finished sound waits = absurd (cc)
+trailers_of (phases.DataPassed h) (Awaits sect b part) sound waits = refl
+trailers_of (phases.DataWanted h f n) Finished sound waits = absurd (cc)
+trailers_of (phases.DataWanted h f n) (Awaits sect b part) sound waits = refl
+trailers_of (phases.TrailerPassed h) Finished sound waits = absurd (cc)
+trailers_of (phases.TrailerPassed h) (Awaits sect b part) sound waits = refl
+trailers_of (phases.TrailerWanted h f) Finished sound waits = absurd (cc)
+trailers_of (phases.TrailerWanted h f) (Awaits sect b part) sound waits = refl
+trailers_of Trailers Finished sound waits = absurd (cc)
+trailers_of Trailers (Awaits sect b part) sound waits = refl
+trailers_of phases.NextFile Finished sound waits = absurd (cc)
+trailers_of phases.NextFile (Awaits sect b part) sound waits = refl
+
+pub passes_files : PassesFiles
+passes_files first later items item o sound r =
+    let one : mounted first.phase first.position ≡ Volume =
+    volume_of first.phase first.position r.sound o.first_waits in
+    let two : mounted later.phase later.position ≡ Volume =
+    volume_of later.phase later.position sound o.later_waits in
+    let behind : mounted_behind later.phase later.position ≡ Trailers =
+    trailers_of later.phase later.position sound o.later_waits in
+    let all = passed_from (mount_of first) (mount_of later) items item (record {
+      same_set = o.same_set;
+      earlier = o.earlier;
+      first_waits = o.first_waits;
+      later_waits = o.later_waits;
+    }) (two ∙ ap passed_over (sym one)) r.on r.ended in
+    record {
+      answers = all.answers;
+      behind = all.behind ∙ ap (λ p. in_phase later p) (sym behind);
+      nothing = all.nothing;
+    }
+
+pub leads_over_all : LeadsOverAll
+leads_over_all core new front more held now over led = record {
+  place = led.place ∙ ap rest_of (sym (behind_app (mount_of core) front more
+      ∙ ap (λ (z : State). behind_items z more) over.behind));
+  parts = led.parts ∙ ap (λ (l : List Portion). held ++ l)
+      (sym (delivered_app (mount_of core) front more
+      ∙ (ap (λ (l : List Portion). l ++ delivered_parts (behind_items (mount_of core) front) more)
+      over.nothing ∙ ap (λ (z : State). delivered_parts z more) over.behind)));
+}
+
+resting_behind : (p : Phase) (q : Position) → mounted_behind (resting p) q ≡ mounted_behind p q
+resting_behind Broken q = refl
+resting_behind _ Finished = refl
+resting_behind _ (Awaits sect b part) = refl
+
+-- a reading goes on alike, whatever reading was under way
+pub behind_rest : (core : State) → behind_of core ≡ behind_of (rest_of core)
+behind_rest core = ap (λ p. record core { phase = p })
+    (sym (resting_behind core.phase core.position))
+
+-- of a file that is complete nothing is read
+pub led_nowhere_behind : (core : State) (held : List Portion) (xs : List TapeItem)
+    → core.position ≡ Finished
+    → IsLed xs (behind_of (rest_of core)) (rest_of core) held held
+led_nowhere_behind core held xs e =
+    let over : behind_of (rest_of core) ≡ mount_of (rest_of core) =
+    ap (λ p. record core { phase = p }) (at_end (resting core.phase) core.position e) in
+    subst (λ (z : State). IsLed xs z (rest_of core) held held) (sym over)
+    (led_nowhere core held xs e)
+  where
+    at_end : (p : Phase) (q : Position) → q ≡ Finished → mounted_behind p q ≡ mounted p q
+    at_end p (Awaits sect b part) e = absurd (cc)
+    at_end Broken Finished e = refl
+    at_end _ Finished e = refl
+
+pub not_read_behind : (bytes : List ℕ) (left : Option (List ℕ)) (s : Seen) (core : State)
+    (failed : Bool)
+    → failed ≡ false → s.place ≡ rest_of core → s.place.position ≡ Finished
+    → ReeledBehind bytes left failed s s
+not_read_behind bytes left s core failed calm place done = record {
+  given = bytes;
+  is_given = subst (λ b. IsGiven b bytes left bytes) (sym calm) refl;
+  count = subst (λ b. s.failures ≡ counted b s.failures) (sym calm) refl;
+  notes = refl;
+  same_set = refl;
+  same_file = refl;
+  calm = refl;
+  grows = front_self s.parts;
+  table = λ xs end stop b. subst (λ (z : State). IsLed xs (behind_of z) z s.parts s.parts)
+      (sym place) (led_nowhere_behind core s.parts xs (ap (λ (z : State). z.position) (sym place)
+      ∙ done));
+}
+
+pub reeled_behind : (failed : Bool) (mounted new : State) (held now : List Portion)
+    (bytes : List ℕ) (unread left : Option (List ℕ)) (p : State) (notes : List Point)
+    (f1 f2 r1 r2 : ℕ) → left ≡ unread
+    → (rest_of new).set_id ≡ p.set_id → (rest_of new).file ≡ p.file → r2 ≡ r1
+    → IsFront held now → f2 ≡ counted failed f1 → mounted ≡ behind_of p
+    → ReadsImage failed mounted new held now unread bytes
+    → ReeledBehind bytes left failed (record {
+      place = p;
+      parts = held;
+      notes = notes;
+      failures = f1;
+      refusals = r1;
+    })
+    (record { place = rest_of new; parts = now; notes = notes; failures = f2; refusals = r2 })
+reeled_behind failed mounted new held now bytes unread left p notes f1 f2 r1 r2 same_left set_id
+    file calm grows count mount r = record {
+      given = r.given;
+      is_given = subst (λ l. IsGiven failed bytes l r.given) (sym same_left) r.is_given;
+      count = count;
+      notes = refl;
+      same_set = set_id;
+      same_file = file;
+      calm = calm;
+      grows = grows;
+      table = λ xs end stop b. subst (λ (z : State). IsLed xs z (rest_of new) held now) mount
+          (r.table xs end stop b);
+    }
+
+-- ---- from reel to reel
+
+-- at the end of a reel no section ends well
+no_end : (core : State) (q : Position) (p : Phase) → is_finished q ≡ false
+    → EndsSection (unless_complete core q (at_reel_end core p)).0 → ⊥
+no_end core Finished p waits ends = absurd (cc)
+no_end core (Awaits sect b part) Broken waits (inl e) = absurd (cc)
+no_end core (Awaits sect b part) Broken waits (inr e) = absurd (cc)
+no_end core (Awaits sect b part) _ waits (inl e) = absurd (cc)
+no_end core (Awaits sect b part) _ waits (inr e) = absurd (cc)
+
+waits_on : (core : State) (xs : List TapeItem) → is_finished core.position ≡ false
+    → AllByRecursion GoesOn (answers_to core xs)
+    → is_finished (behind_items core xs).position ≡ false
+waits_on core [] waits on = waits
+waits_on core (x ∷ xs) waits (on, rest) = waits_on (step_of core (Some x)).1 xs
+    (still_waits core x (step_of core (Some x)).1.position refl on) rest
+
+-- the items of a reel that ended a section well, and the one that did
+pub record EndedWell (core : State) (bytes left : List ℕ) : Type 0 where
+  pub items : List TapeItem
+  pub item : TapeItem
+  pub at : ℕ
+  pub on : AllByRecursion GoesOn (answers_to core items)
+  pub ended : EndsSection (step_of (behind_items core items) (Some item)).0
+  pub taken : Walks 0 bytes (items ++ item ∷ []) at left
+
+ended_well : (core : State) (bytes left : List ℕ) (answer : ReelAnswer)
+    → is_finished core.position ≡ false → ReadsReel core bytes left answer
+    → EndsSection answer.answer → EndedWell core bytes left
+ended_well core bytes left answer waits r ends = elim r.ended [
+  | inl e ↦ record {
+    items = r.items;
+    item = e.item;
+    at = e.at;
+    on = r.on;
+    ended = subst EndsSection e.last ends;
+    taken = e.taken;
+  }
+  | inr (inl e) ↦ absurd (no_end (behind_items core r.items) (behind_items core r.items).position
+      (behind_items core r.items).phase (waits_on core r.items waits r.on)
+      (subst EndsSection e.last ends))
+  | inr (inr e) ↦ absurd (no_end (behind_items core r.items) (behind_items core r.items).position
+      (behind_items core r.items).phase (waits_on core r.items waits r.on)
+      (subst EndsSection e.last ends))
+]
+
+pub leaves_behind : LeavesBehind
+leaves_behind core bytes left answer waits sound r ends =
+    let e = ended_well (mount_of core) bytes left answer waits r ends in
+    (e.items, e.item, e.at, record { sound = sound; on = e.on; ended = e.ended }, e.taken)
+
+passed_goes_on : (core : State) (xs ys : List TapeItem)
+    → AllByRecursion (λ a. a ≡ Passed) (answers_to core xs)
+    → AllByRecursion GoesOn (answers_to (behind_items core xs) ys)
+    → AllByRecursion GoesOn (answers_to core (xs ++ ys))
+passed_goes_on core [] ys passed on = on
+passed_goes_on core (x ∷ xs) ys (one, rest) on =
+    (inl one, passed_goes_on (step_of core (Some x)).1 xs ys rest on)
+
+pub leaves_behind_again : LeavesBehindAgain
+leaves_behind_again core front bytes left answer waits sound over r ends =
+    let e = ended_well (behind_of core) bytes left answer waits r ends in (
+      e.items,
+      e.item,
+      e.at,
+      record {
+        sound = sound;
+        on = passed_goes_on (mount_of core) front e.items over.answers
+            (subst (λ (z : State). AllByRecursion GoesOn (answers_to z e.items)) (sym over.behind)
+            e.on);
+        ended = subst (λ (z : State). EndsSection (step_of z (Some e.item)).0)
+            (sym (behind_app (mount_of core) front e.items
+            ∙ ap (λ (z : State). behind_items z e.items) over.behind)) e.ended;
+      },
+      e.taken,
+    )

@@ -1,0 +1,48 @@
+-- Whether the note made last is of where a session stands.
+use Rattle.std.proofs.Common.{◌≡◌, Bool, true, false, ◌+◌, ◌-◌, ◌<◌, List, [], ◌∷◌, length}
+use Rattle.std.proofs.Common.{Some, refl, sym, ap, ◌∙◌, arith}
+use Rattle.std.specs.Bool.{OnTrue, OnFalse}
+use Rattle.std.specs.List.{slice_get}
+use Rattle.tape_core.specs.Point.{Point}
+use Rattle.tape_core.specs.Stands.{weight_of}
+use Rattle.tape_core.specs.Table.{saved}
+use Rattle.tape_run.specs.Reeling.{HasNotedHere}
+use Rattle.tape_run.specs.Seen.{Seen}
+use Rattle.tape_run.proofs.Notes.{front_self}
+
+-- the note made last is the one of where the session stands
+pub noted_here : (s : Seen) (c : Point) → 0 < length s.notes
+    → slice_get s.notes (length s.notes - 1) ≡ Some c → c ≡ saved s.place (weight_of s.parts)
+    → HasNotedHere s
+noted_here s c some last is = (
+  length s.notes - 1,
+  (let count : length s.notes ≡ length s.notes - 1 + 1 = omega (arith, some) in count),
+  (last ∙ ap Some is, front_self s.parts, refl),
+)
+
+-- and where it is another one, it is not of there
+pub noted_elsewhere : (s : Seen) (c : Point)
+    → slice_get s.notes (length s.notes - 1) ≡ Some c → (c ≡ saved s.place (weight_of s.parts) → ⊥)
+    → HasNotedHere s → ⊥
+noted_elsewhere s c last other (n, count, (is, front, weighs)) =
+    let at : n ≡ length s.notes - 1 = omega (arith, count) in
+    let same : Some c ≡ Some (saved s.place (weight_of s.parts)) =
+    sym last ∙ (ap (λ m. slice_get s.notes m) (sym at) ∙ is) in
+    other (let e = same in cc)
+
+-- there is none
+pub none_noted : (s : Seen) → s.notes ≡ [] → HasNotedHere s → ⊥
+none_noted s none (n, count, is) = absurd (omega (arith, count, ap length none))
+
+-- what follows of an answer follows of it where it is given
+pub true_map : (t : Bool) (A B : Type 0) → (A → B) → OnTrue t A → OnTrue t B
+true_map true A B f a = f a
+true_map false A B f a = a
+
+pub false_map : (t : Bool) (A B : Type 0) → (A → B) → OnFalse t A → OnFalse t B
+false_map true A B f a = a
+false_map false A B f a = f a
+
+pub within : (cs : List Point) (c : Point) → slice_get cs (length cs - 1) ≡ Some c → 0 < length cs
+within [] c last = absurd (cc)
+within (d ∷ cs) c last = omega arith

@@ -1,0 +1,52 @@
+use Rattle.std.proofs.Common.{◌≡◌, ◌-◌, List, sym, ap, ◌∙◌, subst, length, Some}
+use Rattle.std.specs.Bool.{OnTrue, OnFalse}
+use Rattle.std.specs.List.{slice_get}
+use Rattle.tape_core.specs.Place.{rest_of}
+use Rattle.tape_core.specs.Point.{Point}
+use Rattle.tape_core.specs.Table.{saved}
+use Rattle.tape_run.specs.Reeling.{HasNotedHere}
+use Rattle.tape_run.specs.Seen.{seen, IfSeen}
+use Rattle.tape_run.specs.Story.{Story}
+use Rattle.tape_run.proofs.Noting.{noted_here, noted_elsewhere, true_map, false_map, within}
+use Rattle.tape_run.proofs.session.Session.is_noted.Goals as goal
+
+pub returns-in-Some-clause-yes : goal.returns-in-Some-clause-yes
+returns-in-Some-clause-yes g c =
+    let sink = g.S.PartSink in
+    let notes : List Point = c.self.inside.notes.items in
+    let last : slice_get notes (length notes - 1) ≡ Some c.in-Some.last.now =
+    subst (λ (l : List Point). slice_get l (length l - 1) ≡ Some c.in-Some.last.now)
+    c.deref.ensures.value (sym c.in-Some.ensures.value) in
+    let story : Story _ = record {
+      core = c.self.inside.intake.core;
+      sink = c.self.inside.intake.sink;
+      notes = notes;
+      failures = c.self.inside.failures;
+    } in
+    subst (λ z. OnTrue c.same_point.result (IfSeen sink z HasNotedHere)) c.self.view_is
+    (true_map c.same_point.result _ _ (λ same held was.
+    noted_here (seen sink story held) c.in-Some.last.now (within notes c.in-Some.last.now last) last
+    (same ∙ (c.save-here.ensures.value
+    ∙ ap (saved (rest_of c.self.inside.intake.core)) (c.weight.ensures.of held was))))
+    c.same_point.ensures.yes)
+
+pub returns-in-Some-clause-no : goal.returns-in-Some-clause-no
+returns-in-Some-clause-no g c =
+    let sink = g.S.PartSink in
+    let notes : List Point = c.self.inside.notes.items in
+    let last : slice_get notes (length notes - 1) ≡ Some c.in-Some.last.now =
+    subst (λ (l : List Point). slice_get l (length l - 1) ≡ Some c.in-Some.last.now)
+    c.deref.ensures.value (sym c.in-Some.ensures.value) in
+    let story : Story _ = record {
+      core = c.self.inside.intake.core;
+      sink = c.self.inside.intake.sink;
+      notes = notes;
+      failures = c.self.inside.failures;
+    } in
+    subst (λ z. OnFalse c.same_point.result (IfSeen sink z (λ now. HasNotedHere now → ⊥)))
+    c.self.view_is
+    (false_map c.same_point.result _ _ (λ other held was.
+    noted_elsewhere (seen sink story held) c.in-Some.last.now last
+    (λ is. other (is ∙ sym (c.save-here.ensures.value
+    ∙ ap (saved (rest_of c.self.inside.intake.core)) (c.weight.ensures.of held was)))))
+    c.same_point.ensures.no)

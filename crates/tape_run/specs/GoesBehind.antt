@@ -1,0 +1,112 @@
+-- A reading of a later file goes on behind that of an earlier one, in the same image.
+use Rattle.std.specs.Prelude.{◌≡◌, ◌≢◌, ◌⊎◌, ℕ, Bool, false, List, [], ◌∷◌, ◌++◌}
+use Rattle.std.specs.Prelude.{Option, Some, None}
+use Rattle.std.specs.List.{AllByRecursion}
+use Rattle.tape_blocks.specs.Block.{Portion}
+use Rattle.tape_image.specs.Begins.{Stop, Begins, Walks}
+use Rattle.tape_image.specs.Tape.{TapeItem}
+use Rattle.tape_set.specs.declared.position.Position.{Position}
+use Rattle.tape_set.specs.declared.position.Position.TheVariants.{Awaits, Finished}
+use Rattle.tape_core.specs.declared.event.Answer.{Answer}
+use Rattle.tape_core.specs.declared.event.Answer.TheVariants.{Passed, SectionDone, Complete}
+use Rattle.tape_core.specs.declared.event.Phase.TheVariants.{Broken}
+use Rattle.tape_core.specs.Behind.{AreInOrder, behind_of}
+use Rattle.tape_core.specs.State.{State}
+use Rattle.tape_core.specs.Table.{step_of, mount_of}
+use Rattle.tape_core.specs.Known.{is_finished}
+use Rattle.tape_core.specs.Place.{IsPlaced, rest_of}
+use Rattle.tape_core.specs.Weight.{IsFront}
+use Rattle.tape_set.specs.Layout.{FileSet}
+use Rattle.tape_set.specs.Lawful.{IsLawful}
+use Rattle.tape_run.specs.Mount.{Happening, IsMount}
+use Rattle.tape_run.specs.Steps.{ReadBy}
+use Rattle.tape_run.specs.declared.intake.ReelAnswer.{ReelAnswer}
+use Rattle.tape_run.specs.Reels.{behind_items, answers_to, GoesOn, ReadsReel}
+use Rattle.tape_run.specs.ByTable.{delivered_parts, IsLed}
+use Rattle.tape_run.specs.Given.{IsGiven, counted}
+use Rattle.tape_run.specs.Seen.{Seen}
+
+-- the answer ends a section well
+abbrev pub EndsSection : Answer → Type 0
+EndsSection answer = (answer ≡ SectionDone) ⊎ (answer ≡ Complete)
+
+-- A reel that is mounted begins with these items, behind each of which the reading goes on, and
+-- then with one that ends a section well.
+pub record ReadsSection (core : State) (items : List TapeItem) (item : TapeItem) : Type 0 where
+  pub sound : core.phase ≢ Broken
+  pub on : AllByRecursion GoesOn (answers_to (mount_of core) items)
+  pub ended : EndsSection (step_of (behind_items (mount_of core) items) (Some item)).0
+
+-- A reader passed all these items of a reel that was mounted, stands where a reading goes on behind
+-- a trailer label, and nothing was delivered.
+pub record PassedOver (core : State) (items : List TapeItem) : Type 0 where
+  pub answers : AllByRecursion (λ a. a ≡ Passed) (answers_to (mount_of core) items)
+  pub behind : behind_items (mount_of core) items ≡ behind_of core
+  pub nothing : delivered_parts (mount_of core) items ≡ []
+
+-- What the reader of one file read up to the end of a section, the reader of each later file of the
+-- set passes over: it goes on behind that as if it had read the reel from its front.
+abbrev pub PassesFiles : Type 0
+PassesFiles = (first later : State) (items : List TapeItem) (item : TapeItem)
+    → AreInOrder first later → later.phase ≢ Broken → ReadsSection first items item
+    → PassedOver later (items ++ item ∷ [])
+
+-- So where the reading that went on behind them is led over the other items, the whole reel leads
+-- there.
+abbrev pub LeadsOverAll : Type 0
+LeadsOverAll = (core new : State) (front more : List TapeItem) (held now : List Portion)
+    → PassedOver core front → IsLed more (behind_of core) new held now
+    → IsLed (front ++ more) (mount_of core) new held now
+
+-- ---- calls
+
+-- A reel was read on behind a trailer label: what its reader gave, all of it or, where the reader
+-- failed, what it has not left.
+pub record ReeledBehind (bytes : List ℕ) (left : Option (List ℕ)) (failed : Bool) (old new : Seen)
+    : Type 0 where
+  pub given : List ℕ
+  pub is_given : IsGiven failed bytes left given
+  pub count : new.failures ≡ counted failed old.failures
+  pub notes : new.notes ≡ old.notes
+  pub same_set : new.place.set_id ≡ old.place.set_id
+  pub same_file : new.place.file ≡ old.place.file
+  pub calm : new.refusals ≡ old.refusals
+  pub grows : IsFront old.parts new.parts
+  pub table : (xs : List TapeItem) (end : ℕ) (stop : Stop) → Begins 0 given xs end stop
+      → IsLed xs (behind_of old.place) new.place old.parts new.parts
+
+-- What a reel that is read on answers and leaves unread: of a complete file it reads nothing.
+abbrev pub ReadsBehind : Position → State → List ℕ → List ℕ → ReelAnswer → Type 0
+ReadsBehind Finished core bytes left answer =
+    (left ≡ bytes) × (answer.answer ≡ Complete) × (answer.fault ≡ None) × (answer.blocks ≡ 0)
+ReadsBehind (Awaits sect number part) core bytes left answer =
+    ReadsReel (behind_of core) bytes left answer
+
+-- So the headline holds of it: of every lawful set and each history that the reel is, of which
+-- these items stand in front and were passed over, the session is where that history leads, with
+-- the parts before that position.
+abbrev pub ReadsByHistory : Type 0
+ReadsByHistory = (set : FileSet) (h : Happening) (old new : Seen) (core : State) (bytes : List ℕ)
+    (left : Option (List ℕ)) (failed : Bool) (front more : List TapeItem) (end : ℕ) (stop : Stop)
+    → IsLawful set
+    → old.place ≡ rest_of core → IsMount set (front ++ more) h → IsPlaced set old.place old.parts
+    → PassedOver old.place front → (r : ReeledBehind bytes left failed old new)
+    → Begins 0 r.given more end stop
+    → ReadBy set old.place.file old.place.position h new.place new.parts
+
+-- Behind a reel that ended a section well what is left is what stands behind that section.
+abbrev pub LeavesBehind : Type 0
+LeavesBehind = (core : State) (bytes left : List ℕ) (answer : ReelAnswer)
+    → is_finished core.position ≡ false → core.phase ≢ Broken
+    → ReadsReel (mount_of core) bytes left answer → EndsSection answer.answer
+    → (items : List TapeItem) × (item : TapeItem) × (at : ℕ) × ReadsSection core items item
+    × Walks 0 bytes (items ++ item ∷ []) at left
+
+-- The same where the reading went on behind items that were passed over.
+abbrev pub LeavesBehindAgain : Type 0
+LeavesBehindAgain = (core : State) (front : List TapeItem) (bytes left : List ℕ)
+    (answer : ReelAnswer) → is_finished core.position ≡ false → core.phase ≢ Broken
+    → PassedOver core front
+    → ReadsReel (behind_of core) bytes left answer → EndsSection answer.answer
+    → (items : List TapeItem) × (item : TapeItem) × (at : ℕ)
+    × ReadsSection core (front ++ items) item × Walks 0 bytes (items ++ item ∷ []) at left

@@ -1,0 +1,67 @@
+//! Reading on behind a section of an earlier file.
+
+ghost use Rattle.std.specs.Prelude.{◌≡◌, OnOk, IfOk, IfSome};
+ghost use Rattle.tape_image.specs.Reader.{IfKnown};
+ghost use Rattle.tape_core.specs.Weight.{IsFront};
+ghost use Rattle.tape_run.specs.Crash.{BringsNoMore};
+ghost use Rattle.tape_run.specs.Given.{is_device, counted};
+ghost use Rattle.tape_run.specs.GoesBehind.{ReeledBehind, ReadsBehind};
+ghost use Rattle.tape_run.specs.Seen.{IsKept, IfSeen, IsSeen};
+
+use super::{Session, counted};
+use crate::fault::RunFault;
+use crate::intake::ReelAnswer;
+use std::io::Read;
+use tape_core::{Answer, PartSink};
+use tape_image::{ImageBuffer, ImageReader};
+use tape_set::Position;
+
+impl<S: PartSink> Session<S> {
+    /// Reads a reel on from where the session of an earlier file of the set ended a section well:
+    /// the device stands behind the section's trailer label. It is read as if this session had read
+    /// it from its front (`laws::passes_files`), but each byte is read once.
+    ///
+    /// # Errors
+    ///
+    /// As those of `reel`.
+    pub fn reel_behind<R: Read>(&mut self, device: &mut R) -> Result<ReelAnswer, RunFault>
+        ensures ok { IfOk result (λ answer. IfSeen S.PartSink self.old (λ old.
+            IsSeen S.PartSink self.new (λ new. IsFront old.parts new.parts
+            × (IsKept old → IsKept new) × IfSome (R.remaining device.old)
+            (λ bytes. ReeledBehind bytes (R.remaining device.new) (is_device answer.fault)
+            old new)))) }
+        ensures notes { self.new.notes ≡ self.old.notes }
+        ensures file { (self.new.core.set_id ≡ self.old.core.set_id)
+            × (self.new.core.file ≡ self.old.core.file) }
+        ensures count { IfOk result (λ answer.
+            self.new.failures ≡ counted (is_device answer.fault) self.old.failures) }
+        ensures calm { IfOk result (λ _.
+            S.refusals self.new.sink ≡ S.refusals self.old.sink) }
+        ensures answer { IfOk result (λ answer. IfKnown (R.remaining device.old)
+            (R.remaining device.new)
+            (λ bytes left. ReadsBehind self.old.core.position self.old.core bytes left answer)) }
+        ensures complete { IfOk result (λ answer. answer.answer ≡ Answer.Complete
+            → self.new.core.position ≡ Position.Finished) }
+        ensures finished { IfOk result (λ answer.
+            self.new.core.position ≡ Position.Finished → answer.answer ≡ Answer.Complete) }
+        ensures crash { BringsNoMore S.PartSink self.old.sink self.new.sink }
+    {
+        if self.intake.core.want().is_none() {
+            return Ok(ReelAnswer::new(Answer::Complete, None, 0));
+        }
+        let Ok(buffer) = ImageBuffer::new(self.alloc) else {
+            return Err(RunFault::OutOfMemory);
+        };
+        let mut image = ImageReader::over(buffer, device);
+        self.intake.core.mount_behind();
+        let read = self.intake.read(&mut image);
+        image.into_device();
+        match read {
+            Ok(answer) => {
+                self.failures = counted(self.failures, answer.is_device());
+                Ok(answer)
+            }
+            Err(cause) => Err(RunFault::Sink(cause)),
+        }
+    }
+}

@@ -1,0 +1,61 @@
+//! Whether the note made last is of where a session stands.
+
+ghost use Rattle.std.specs.Prelude.{◌≡◌, ◌≢◌};
+ghost use Rattle.std.specs.Bool.{OnTrue, OnFalse};
+ghost use Rattle.tape_run.specs.Reeling.{HasNotedHere};
+ghost use Rattle.tape_run.specs.Seen.{IfSeen};
+
+use super::Session;
+use tape_core::{Checkpoint, Known, PartSink};
+use tape_label::laws::same_field;
+
+impl<S: PartSink> Session<S> {
+    /// Whether the note made last is of where the session stands.
+    pub fn is_noted(&self) -> bool
+        ensures yes { OnTrue result (IfSeen S.PartSink self.now HasNotedHere) }
+        ensures no { OnFalse result (IfSeen S.PartSink self.now
+            (λ now. HasNotedHere now → ⊥)) }
+    {
+        let here = self.intake.core.save(self.intake.sink.weight());
+        match self.notes.last() {
+            Some(last) => same_point(last, &here),
+            None => false,
+        }
+    }
+}
+
+/// Whether the same is known of a file.
+fn same_form(one: &Known, other: &Known) -> bool
+    ensures yes { OnTrue result (one.now ≡ other.now) }
+    ensures no { OnFalse result (one.now ≢ other.now) }
+{
+    one.format == other.format
+        && one.rec_len == other.rec_len
+        && one.offset == other.offset
+        && same_field(&one.file_id, &other.file_id)
+}
+
+/// Whether the same is known of a file, or of both nothing.
+fn same_known(one: &Option<Known>, other: &Option<Known>) -> bool
+    ensures yes { OnTrue result (one.now ≡ other.now) }
+    ensures no { OnFalse result (one.now ≢ other.now) }
+{
+    match (one, other) {
+        (Some(one), Some(other)) => same_form(one, other),
+        (None, None) => true,
+        (Some(_), None) | (None, Some(_)) => false,
+    }
+}
+
+/// Whether two checkpoints are the same.
+fn same_point(one: &Checkpoint, other: &Checkpoint) -> bool
+    ensures yes { OnTrue result (one.now ≡ other.now) }
+    ensures no { OnFalse result (one.now ≢ other.now) }
+{
+    one.position == other.position
+        && one.staged == other.staged
+        && one.begun == other.begun
+        && one.file == other.file
+        && same_field(&one.set_id, &other.set_id)
+        && same_known(&one.known, &other.known)
+}
