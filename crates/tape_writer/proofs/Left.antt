@@ -142,18 +142,19 @@ end_left H H' vs cap set_id file course past fs records (Err e) room out closed 
           )
     ]
 
--- the first volume was not begun, or in part
-pub start_left : (H H' : Tapes → Type 0) (vs : List Vol1) (cap : ℕ) (set_id : List ℕ)
-    (course : Course) (told : List Told) (r : Result (Unit {0}) WriteFault) → course.volume ≡ 0
-    → (H (Ended []) → (c : Course) × IsBetween (HoldsFront H') vs cap set_id c [])
-    → IsWaiting H vs cap set_id course told
-    → IfErr r (λ _. (c : Course) × IsBetween (HoldsFront H') vs cap set_id c told)
-start_left H H' vs cap set_id course told (Ok x) none first k = tt
-start_left H H' vs cap set_id course told (Err e) none first (inl (begun, held, empty)) =
-    let b = first held in
-    (b.0, subst (λ z. IsBetween (HoldsFront H') vs cap set_id b.0 z) (sym empty) b.1)
-start_left H H' vs cap set_id course told (Err e) none first (inr (k, some)) =
+-- before the first volume nothing stands and nothing was told
+pub unbegun : (H : Tapes → Type 0) (vs : List Vol1) (cap : ℕ) (set_id : List ℕ) (course : Course)
+    (told : List Told) → course.volume ≡ 0 → IsWaiting H vs cap set_id course told
+    → H (Ended []) × (told ≡ [])
+unbegun H vs cap set_id course told none (inl (begun, held, empty)) = (held, empty)
+unbegun H vs cap set_id course told none (inr (k, some)) =
     absurd (omega (arith, none, k.resting.between.volume))
+
+pub is_begun : (H : Tapes → Type 0) (vs : List Vol1) (cap : ℕ) (set_id : List ℕ) (course : Course)
+    (told : List Told) → (course.volume ≡ 0 → ⊥) → IsWaiting H vs cap set_id course told
+    → IsBetween H vs cap set_id course told
+is_begun H vs cap set_id course told some (inl (none, held, empty)) = absurd (some none)
+is_begun H vs cap set_id course told some (inr (k, many)) = k
 
 -- ---- the writer's calls
 

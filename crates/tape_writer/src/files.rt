@@ -66,90 +66,6 @@ pub(crate) fn close_file<T: TapeOut>(
     tape.end_file(file, volumes, capacity)
 }
 
-/// Begins the first volume.
-#[tactic(auto, using(crate::proofs::Last::kept))]
-fn begin_first<T: TapeOut>(
-    tape: &mut Tape<T>,
-    volumes: &[Vol1],
-    capacity: u32,
-) -> Result<(), WriteFault>
-    requires wide { AllByRecursion IsWideVolume volumes.now }
-    requires some { 1 ≤ length volumes.now }
-    requires fresh { tape.old.course.volume ≡ 0 }
-    requires capacity { 1024 ≤ capacity }
-    ensures room { OnOk result ((tape.new.course.used + 372 ≤ capacity)
-        × (tape.new.course.volume ≤ length volumes.now) × (1 ≤ tape.new.course.volume)) }
-    ensures resting { (set_id : List ℕ) → T.holds tape.old.out (Ended [])
-        → OnOk result (IsBetween (T.holds tape.new.out) volumes.now capacity set_id
-        tape.new.course []) }
-    ensures front { (set_id : List ℕ) → T.holds tape.old.out (Ended [])
-        → (course : Course) × IsBetween (HoldsFront (T.holds tape.new.out)) volumes.now capacity
-        set_id course [] }
-    ensures asked { StaysAsked T.TapeOut volumes.now tape.old result tape.new }
-    ensures out { IfErr result IsOfOut }
-    ensures lasting { TapeLasts T.TapeOut tape.old tape.new }
-    ensures cause { FailsWith (T.failures tape.old.out) result (T.failures tape.new.out) }
-{
-    tape.begin_volume(&volumes[0])
-}
-
-/// Begins a file on the volume under way.
-#[tactic(auto, using(crate::proofs::Last::kept))]
-fn open_file<T: TapeOut>(
-    tape: &mut Tape<T>,
-    file: &Opened,
-    volumes: &[Vol1],
-    capacity: u32,
-) -> Result<(), WriteFault>
-    requires ready { IsReady file.now }
-    requires room { tape.old.course.used + 372 ≤ capacity }
-    requires some { 1 ≤ tape.old.course.volume }
-    requires volume { tape.old.course.volume ≤ length volumes.now }
-    ensures roomy { OnOk result (IsRoomy capacity (length volumes.now) tape.new.course) }
-    ensures inside { IfNext file.now (λ set_id told p.
-        IsBetween (T.holds tape.old.out) volumes.now capacity set_id tape.old.course told
-        → OnOk result (IsFiling (T.holds tape.new.out) volumes.now capacity set_id file.now
-        tape.new.course p told [])) }
-    ensures front { IfNext file.now (λ set_id told p.
-        IsBetween (T.holds tape.old.out) volumes.now capacity set_id tape.old.course told
-        → (course : Course) × IsFiling (HoldsFront (T.holds tape.new.out)) volumes.now capacity
-        set_id file.now course p told []) }
-    ensures asked { StaysAsked T.TapeOut volumes.now tape.old result tape.new }
-    ensures out { IfErr result IsOfOut }
-    ensures lasting { TapeLasts T.TapeOut tape.old tape.new }
-    ensures cause { FailsWith (T.failures tape.old.out) result (T.failures tape.new.out) }
-{
-    tape.begin_section(file, 1)
-}
-
-/// Sees that a volume is under way.
-#[tactic(auto, using(crate::proofs::Last::kept))]
-fn start<T: TapeOut>(tape: &mut Tape<T>, volumes: &[Vol1], capacity: u32) -> Result<(), WriteFault>
-    requires wide { AllByRecursion IsWideVolume volumes.now }
-    requires some { 1 ≤ length volumes.now }
-    requires rest { IsSoundRest volumes.now capacity tape.old.course }
-    requires capacity { 1024 ≤ capacity }
-    ensures room { OnOk result ((tape.new.course.used + 372 ≤ capacity)
-        × (tape.new.course.volume ≤ length volumes.now) × (1 ≤ tape.new.course.volume)) }
-    ensures between { (set_id : List ℕ) (told : List Told)
-        → IsWaiting (T.holds tape.old.out) volumes.now capacity set_id tape.old.course told
-        → OnOk result (IsBetween (T.holds tape.new.out) volumes.now capacity set_id
-        tape.new.course told) }
-    ensures front { (set_id : List ℕ) (told : List Told)
-        → IsWaiting (T.holds tape.old.out) volumes.now capacity set_id tape.old.course told
-        → IfErr result (λ _. (course : Course) × IsBetween (HoldsFront (T.holds tape.new.out))
-        volumes.now capacity set_id course told) }
-    ensures asked { StaysAsked T.TapeOut volumes.now tape.old result tape.new }
-    ensures out { IfErr result IsOfOut }
-    ensures lasting { TapeLasts T.TapeOut tape.old tape.new }
-    ensures cause { FailsWith (T.failures tape.old.out) result (T.failures tape.new.out) }
-{
-    if tape.course.volume == 0 {
-        return begin_first(tape, volumes, capacity);
-    }
-    Ok(())
-}
-
 /// Begins a file, and before the first file a volume.
 #[tactic(auto, using(crate::proofs::Last::kept))]
 pub(crate) fn begin<T: TapeOut>(
@@ -177,8 +93,10 @@ pub(crate) fn begin<T: TapeOut>(
     ensures lasting { TapeLasts T.TapeOut tape.old tape.new }
     ensures cause { FailsWith (T.failures tape.old.out) result (T.failures tape.new.out) }
 {
-    start(tape, volumes, capacity)?;
-    open_file(tape, file, volumes, capacity)
+    if tape.course.volume == 0 {
+        tape.begin_volume(&volumes[0])?;
+    }
+    tape.begin_section(file, 1)
 }
 
 /// Ends the last volume: its second mark, and the end word.
