@@ -18,7 +18,7 @@ use crate::list::list;
 use crate::outline::{Outline, mistake};
 use crate::stage::{StageEnding, stage};
 use crate::survey::survey;
-use crate::telling::fault_line;
+use crate::telling::FaultLine;
 use crate::unfit::Unfit;
 use crate::unpack::unpack;
 use crate::words::{Call, Order, call_of};
@@ -148,7 +148,7 @@ pub fn finish<R: Eprint>(rt: &R, end: End) -> u8
 {
     if let End::Faulted(fault) = end {
         // Where standard error is closed there is no one left to tell.
-        let _ = rt.eprint(fault_line(fault).as_str());
+        let _ = rt.eprint(FaultLine(fault));
     }
     end.status()
 }
