@@ -270,49 +270,18 @@ fn verb_of(name: &str) -> Option<Verb>
     }
 }
 
-/// The commands and their words.
+/// The program with its commands and their words.
 fn command<'a>(alloc: Global) -> Result<Command<'a>, AllocError> {
-    with_commands(alloc, tape_command(alloc)?)
-}
-
-/// The program without its commands.
-fn tape_command<'a>(alloc: Global) -> Result<Command<'a>, AllocError> {
-    let command = command_of(alloc, &TAPE)?.version("0.1.0");
-    command.subcommand_required(true).arg(explain_option(alloc))
-}
-
-/// `--explain`, of each command.
-fn explain_option<'a>(alloc: Global) -> Arg<'a> {
-    Arg::new(alloc, "explain")
+    let explain = Arg::new(alloc, "explain")
         .long("explain")
         .action(ArgAction::SetTrue)
         .global(true)
-        .help(help::EXPLAIN)
-}
-
-/// The program, which has the commands too.
-fn with_commands<'a>(alloc: Global, program: Command<'a>) -> Result<Command<'a>, AllocError> {
-    with_others(alloc, with_readers(alloc, program)?)
-}
-
-/// The program with the commands that read images.
-fn with_readers<'a>(alloc: Global, program: Command<'a>) -> Result<Command<'a>, AllocError> {
-    with_all(alloc, program, &[&LIST, &CHECK, &SURVEY, &EXTRACT])
-}
-
-/// The program with the other commands.
-fn with_others<'a>(alloc: Global, program: Command<'a>) -> Result<Command<'a>, AllocError> {
-    with_all(alloc, program, &[&UNPACK, &STAGE, &INIT, &WRITE])
-}
-
-/// The program with these commands.
-fn with_all<'a>(
-    alloc: Global,
-    mut program: Command<'a>,
-    outlines: &[&Outline],
-) -> Result<Command<'a>, AllocError> {
-    for outline in outlines {
-        program = program.subcommand(command_of(alloc, *outline)?)?;
+        .help(help::EXPLAIN);
+    let bare = command_of(alloc, &TAPE)?.version("0.1.0");
+    let mut tape = bare.subcommand_required(true).arg(explain)?;
+    let outlines = [&LIST, &CHECK, &SURVEY, &EXTRACT, &UNPACK, &STAGE, &INIT, &WRITE];
+    for outline in &outlines {
+        tape = tape.subcommand(command_of(alloc, *outline)?)?;
     }
-    Ok(program)
+    Ok(tape)
 }
