@@ -1,13 +1,11 @@
 -- Answers that the contracts of the program's functions exclude: each is what a wrong body would
 -- give. Here are ends, faults and stages.
 use Rattle.std.proofs.Common.{◌≡◌, ◌+◌, ℕ, [], length, true, false, refl, sym, ap, ◌∙◌}
-use Rattle.std.proofs.Common.{subst, arith, codes}
+use Rattle.std.proofs.Common.{subst, arith}
 use Rattle.std.proofs.Math.Nat.{min-eq_left}
-use Rattle.std.specs.Prelude.{◌≤◌, Some, Ok, Err, slice_index}
-use Rattle.std.specs.Fmt.{digits}
+use Rattle.std.specs.Prelude.{◌≤◌, Some, Ok, Err}
 use Rattle.clap.specs.declared.error.kind.ErrorKind.TheVariants as kinds
 use Rattle.std.specs.declared.io.ErrorKind.TheVariants as io_kinds
-use Rattle.tape_image.specs.declared.item.ImageCause.TheVariants as causes
 use Rattle.tape_core.specs.State.{State}
 use Rattle.tape_set.specs.declared.position.Position.TheVariants.{Awaits}
 use Rattle.tape_set.specs.declared.position.Want.{Want}
@@ -32,7 +30,6 @@ use Rattle.tape_tool.proofs.program.no_words_end.Reads as no_words_end
 use Rattle.tape_tool.proofs.program.check_end.Reads as check_end
 use Rattle.tape_tool.proofs.fault.number_of_file.Reads as number_of_file
 use Rattle.tape_tool.proofs.fault.number_of_write.Reads as number_of_write
-use Rattle.tape_tool.proofs.telling.fault_line.Reads as fault_line
 use Rattle.tape_tool.proofs.staging.open_session.Reads as open_session
 use Rattle.tape_tool.proofs.staging.same_file.Reads as same_file
 
@@ -114,33 +111,6 @@ exists_is_number_two κs s h = absurd (let d : 2 ≡ 1 = h in omega arith)
 no_memory_told_as_device : (κs : _) (s : _)
     → number_of_write.Learnt κs (write_faults.OutOfMemory, tt) 9 s → ⊥
 no_memory_told_as_device κs s h = absurd (let d : 9 ≡ 10 = h in omega arith)
-
--- run_fault_number_3: want of memory for the words is told as the third fault of a run
-run_fault_number_3 : (κs : _) (z : _) (s : _)
-    → fault_line.Learnt κs (no_memory, tt) z s
-    → z.bytes ≡ codes "tape: run fault 3\n" → ⊥
-unfolding digits
-run_fault_number_3 κs z s h w =
-    absurd (let d : 51 ≡ 52 = ap (λ v. slice_index v 16) (sym w ∙ h) in omega arith)
-
--- stage_in_use_told_as_device: a stage that another run has is told as one whose disk failed
-stage_in_use_told_as_device : (κs : _) (z : _) (s : _)
-    → fault_line.Learnt κs (tool_faults.StageInUse, tt) z s
-    → z.bytes ≡ codes "tape: stage fault 3\n" → ⊥
-unfolding digits
-stage_in_use_told_as_device κs z s h w =
-    absurd (let d : 51 ≡ 55 = ap (λ v. slice_index v 18) (sym w ∙ h) in omega arith)
-
--- place_of_fault_left_out: an image is cut off at byte 1,884, and byte 0 is told
-place_of_fault_left_out : (κs : _) (z : _) (s : _)
-    → fault_line.Learnt κs (
-      tool_faults.Image (record { place = 1884; cause = causes.Truncated }),
-      tt,
-    ) z s
-    → z.bytes ≡ codes "tape: image fault 1 at 0\n" → ⊥
-unfolding digits
-place_of_fault_left_out κs z s h w =
-    absurd (let d : 48 ≡ 49 = ap (λ v. slice_index v 23) (sym w ∙ h) in omega arith)
 
 -- ---- stages
 

@@ -279,7 +279,9 @@ fn command<'a>(alloc: Global) -> Result<Command<'a>, AllocError> {
         .help(help::EXPLAIN);
     let bare = command_of(alloc, &TAPE)?.version("0.1.0");
     let mut tape = bare.subcommand_required(true).arg(explain)?;
-    let outlines = [&LIST, &CHECK, &SURVEY, &EXTRACT, &UNPACK, &STAGE, &INIT, &WRITE];
+    let outlines = [
+        &LIST, &CHECK, &SURVEY, &EXTRACT, &UNPACK, &STAGE, &INIT, &WRITE,
+    ];
     for outline in &outlines {
         tape = tape.subcommand(command_of(alloc, *outline)?)?;
     }

@@ -1,7 +1,8 @@
 //! How a fault is told.
 use crate::fault::{FileFault, ToolFault};
+use crate::host::Host;
 use crate::program::{End, end_of};
-use crate::telling::fault_line;
+use crate::telling::FaultLine;
 use std::process::Abort;
 use tape_core::SinkFault;
 use tape_image::{ImageCause, ImageFault};
@@ -56,22 +57,23 @@ const OTHER_FAULTS: &[(ToolFault, &str)] = &[
     (ToolFault::StageInUse, "tape: stage fault 7\n"),
 ];
 
-/// A command with this fault ends by it, and it is told by this line.
-fn is_told<A: Abort>(rt: &A, fault: ToolFault, line: &str) {
+/// Fails unless a command with this fault ends with it and prints this line.
+fn prints<H: Host + Abort>(rt: &H, fault: ToolFault, line: &str) {
     let ends = end_of(Err(fault)) == End::Faulted(fault);
-    let told = fault_line(fault);
-    assert!(rt; ends && told.as_str() == line, "{line}: {told}");
+    let printed = format!(in rt.alloc(); "{}", FaultLine(fault));
+    let same = matches!(&printed, Ok(text) if text.as_str() == line);
+    assert!(rt; ends && same, "{line}");
 }
 
 #[test]
 fn the_fault_line_of_each(rt: HostRuntime) {
     for (place, cause, line) in IMAGE_FAULTS {
-        is_told(&rt, fault_at(*place, *cause), line);
+        prints(&rt, fault_at(*place, *cause), line);
     }
     for (fault, line) in FILE_FAULTS {
-        is_told(&rt, ToolFault::File(*fault), line);
+        prints(&rt, ToolFault::File(*fault), line);
     }
     for (fault, line) in OTHER_FAULTS {
-        is_told(&rt, *fault, line);
+        prints(&rt, *fault, line);
     }
 }
