@@ -53,6 +53,20 @@ block_spelled content is =
 pub mark_spelled : IsSpelling (written mark) (mark ∷ [])
 mark_spelled = a_mark (word_bytes mark_word (omega arith)) refl
 
+-- so is a bad block's
+pub bad_spelled : IsSpelling (written bad) (bad ∷ [])
+bad_spelled = a_block 0x80000001 (0 ∷ []) refl
+    (record {
+      lead = 1 ∷ 0 ∷ 0 ∷ 128 ∷ [];
+      pad = 0 ∷ [];
+      trail = 1 ∷ 0 ∷ 0 ∷ 128 ∷ [];
+      whole = refl;
+      lead_is = record { four = refl; value = refl };
+      pad_is = refl;
+      trail_is = record { four = refl; value = refl };
+    })
+    refl
+
 -- a call that answered success put all the bytes
 pub put_all : (s after : Standing) (bytes : List ℕ) (old new : Writer)
     → PutsFrom s bytes after old (Ok tt) new → PutsAll bytes after old new
@@ -78,7 +92,7 @@ pub put_item : (item : TapeItem) (old new : Writer) → PutItem item old new
     → IsSpelling (written item) (item ∷ []) × PutsAll (written item) writing old new
 put_item (block content) old new h =
     let (is, all) = put_block old.standing content old new h in (block_spelled content is, all)
-put_item bad old new h = absurd h
+put_item bad old new h = (bad_spelled, put_all old.standing writing _ old new h)
 put_item mark old new h = (mark_spelled, put_all old.standing writing _ old new h)
 
 -- known bytes stay known
@@ -187,7 +201,7 @@ block_fails broken content old new (e, same) = none_fails (written_block content
 pub item_fails : (item : TapeItem) (old new : Writer) → FailItem item old new
     → FailsWith (written item) old new
 item_fails (block content) old new h = block_fails old.standing content old new h
-item_fails bad old new h = absurd h
+item_fails bad old new h = put_fails old.standing writing (written bad) old new h
 item_fails mark old new h = put_fails old.standing writing (written mark) old new h
 
 pub failed_holds : FailedHoldsFront

@@ -70,7 +70,7 @@ BlockFrom broken content old result new = (result ≡ Err Device) × (new ≡ ol
 -- the call for this item answered success
 abbrev pub PutItem : TapeItem → Writer → Writer → Type 0
 PutItem (block content) old new = BlockFrom old.standing content old (Ok tt) new
-PutItem bad old new = ⊥
+PutItem bad old new = PutsFrom old.standing (written bad) writing old (Ok tt) new
 PutItem mark old new = PutsFrom old.standing (written mark) writing old (Ok tt) new
 
 -- the calls for these items, one after another, answered success
@@ -81,7 +81,7 @@ PutItems (item ∷ items) old new = (mid : Writer) × PutItem item old mid × Pu
 -- the call for this item answered that the device failed
 abbrev pub FailItem : TapeItem → Writer → Writer → Type 0
 FailItem (block content) old new = BlockFrom old.standing content old (Err Device) new
-FailItem bad old new = ⊥
+FailItem bad old new = PutsFrom old.standing (written bad) writing old (Err Device) new
 FailItem mark old new = PutsFrom old.standing (written mark) writing old (Err Device) new
 
 -- Where the calls for these items and `finish` answered success, the bytes that were appended spell

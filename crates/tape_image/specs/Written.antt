@@ -1,5 +1,5 @@
 -- The spelling that is written of an item.
-use Rattle.std.specs.Prelude.{◌≡◌, ℕ, ◌%◌, ◌==◌, ◌||◌, nat_lt, Bool, List, [], ◌++◌, length}
+use Rattle.std.specs.Prelude.{◌≡◌, ℕ, ◌%◌, ◌==◌, ◌||◌, nat_lt, Bool, List, [], ◌∷◌, ◌++◌, length}
 use Rattle.std.specs.Prelude.{replicate, Option}
 use Rattle.std.specs.Io.KnownBytes.{Appends}
 use Rattle.byteorder.specs.Endian.{little_bytes}
@@ -12,10 +12,14 @@ written_block content =
     little_bytes 4 (length content)
     ++ (content ++ (replicate (length content % 2) 0 ++ little_bytes 4 (length content)))
 
--- the spelling that is written of an item; a bad block is never written
+-- the encoding that is written of a bad item: one byte, 0, with the error flag set, and a pad byte
+abbrev pub written_bad : List ℕ
+written_bad = 1 ∷ 0 ∷ 0 ∷ 128 ∷ 0 ∷ 0 ∷ 1 ∷ 0 ∷ 0 ∷ 128 ∷ []
+
+-- the encoding that is written of an item
 abbrev pub written : TapeItem → List ℕ
 written (block content) = written_block content
-written bad = []
+written bad = written_bad
 written mark = little_bytes 4 mark_word
 
 -- no block has this length: 0, or above 99,999

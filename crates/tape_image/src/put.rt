@@ -22,7 +22,7 @@ const SHORT: usize = 119;
 const SPELLED: usize = SHORT + 9;
 
 /// Writes all the bytes, or a front of them where the writer fails.
-fn put<W: Write>(device: &mut W, bytes: &[u8]) -> Result<(), ImageWriteFault>
+pub(crate) fn put<W: Write>(device: &mut W, bytes: &[u8]) -> Result<(), ImageWriteFault>
     ensures ok { OnOk result (Appends (W.contents device.old) (W.contents device.new) bytes.now) }
     ensures err { OnErr result
         (AppendsFront (W.contents device.old) (W.contents device.new) bytes.now) }

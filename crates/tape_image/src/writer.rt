@@ -2,13 +2,13 @@
 
 ghost use Rattle.std.specs.Prelude.{◌≡◌};
 ghost use Rattle.byteorder.specs.Endian.{little_bytes};
-ghost use Rattle.tape_image.specs.Tape.{mark};
+ghost use Rattle.tape_image.specs.Tape.{bad, mark};
 ghost use Rattle.tape_image.specs.Word.{end_word};
 ghost use Rattle.tape_image.specs.Written.{written};
 
-use crate::block::{END, IMAGE_LIMIT, LONGEST_BLOCK, MARK, WORD, extent_of_block};
+use crate::block::{BAD, END, IMAGE_LIMIT, LONGEST_BLOCK, MARK, WORD, extent_of_block};
 use crate::item::ImageWriteFault;
-use crate::put::{put_block, put_last, put_word};
+use crate::put::{put, put_block, put_last, put_word};
 use std::io::Write;
 use std::marker::Model;
 
@@ -113,6 +113,21 @@ impl<W: Write + Drop> ImageWriter<W> {
         self.has_room(WORD)?;
         let put = put_word(&mut self.device, MARK);
         self.note(put, WORD, Phase::Open)
+    }
+
+    /// Writes a bad block: one byte, 0, with the error flag set. The bytes that a drive returned of
+    /// an unreadable block are not kept.
+    ///
+    /// # Errors
+    ///
+    /// As `mark`, for this block.
+    pub fn bad(&mut self) -> Result<(), ImageWriteFault>
+        ensures { PutsFrom self.old.standing (written bad) writing self.old result self.new }
+    {
+        self.may_write()?;
+        self.has_room(BAD.len() as u64)?;
+        let written = put(&mut self.device, &BAD);
+        self.note(written, BAD.len() as u64, Phase::Open)
     }
 
     /// Writes the end word and flushes the device: the image is passed on whole. Nothing is written

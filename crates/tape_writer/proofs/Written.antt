@@ -31,9 +31,10 @@ contents_open items w s is =
 not_writing : (w : Writer) → w.standing ≡ writing → w.standing ≢ finished
 not_writing w a b = cc
 
--- the spelling that is written of an item has the item's size
-written_size : (item : TapeItem) → length (written item) ≡ item_size item
-written_size (block content) =
+-- the spelling that is written of a block has the block's size
+block_size : (content : List ℕ)
+    → length (written (block content)) ≡ item_size (block content)
+block_size content =
     let n = length content in
     omega (
       arith,
@@ -42,8 +43,6 @@ written_size (block content) =
       length-append (replicate (n % 2) 0) (little_bytes 4 n),
       length-replicate {A = ℕ} (n % 2) 0,
     )
-written_size bad = refl
-written_size mark = refl
 
 size_push : (items : List TapeItem) (item : TapeItem)
     → items_size (items ++ item ∷ []) ≡ items_size items + item_size item
@@ -57,8 +56,9 @@ nothing_more = (little_bytes 4 end_word, little_bytes 4 end_word, inl refl, refl
 
 -- one more item
 pub one_more : (item : TapeItem) (items : List TapeItem) (old new : Writer) → old.standing ≡ writing
-    → PutItem item old new → IsImageSoFar items old → IsImageSoFar (items ++ item ∷ []) new
-one_more item items old new is put s =
+    → length (written item) ≡ item_size item → PutItem item old new → IsImageSoFar items old
+    → IsImageSoFar (items ++ item ∷ []) new
+one_more item items old new is long put s =
     let (spelled, all) = put_item item old new put in
     let there = known_after old.contents new.contents s.bytes (written item)
     (contents_open items old s is) all.wrote in
@@ -71,7 +71,7 @@ one_more item items old new is put s =
       sized = omega (
         arith,
         s.sized,
-        written_size item,
+        long,
         size_push items item,
         length-append s.bytes (written item),
       );
@@ -205,11 +205,12 @@ become H image other u w volumes items more there here step (s, h) =
 -- the image here, once an item was put
 put_at : (item : TapeItem) (H : StoreHolds) (image other : Option Writer) (u w : Writer)
     (volumes : List (List TapeItem)) (items : List TapeItem) → image ≡ Some u → other ≡ Some w
-    → u.standing ≡ writing → PutItem item u w → AreImages H image (UnderWay volumes items)
+    → u.standing ≡ writing → length (written item) ≡ item_size item → PutItem item u w
+    → AreImages H image (UnderWay volumes items)
     → AreImages H other (UnderWay volumes (items ++ item ∷ []))
-put_at item H image other u w volumes items there here is put a =
+put_at item H image other u w volumes items there here is long put a =
     become H image other u w volumes items (items ++ item ∷ []) there here
-    (one_more item items u w is put) a
+    (one_more item items u w is long put) a
 
 pub block_at : (content : List ℕ) (H : StoreHolds) (image other : Option Writer) (u w : Writer)
     (volumes : List (List TapeItem)) (items : List TapeItem) → image ≡ Some u → other ≡ Some w
@@ -217,7 +218,7 @@ pub block_at : (content : List ℕ) (H : StoreHolds) (image other : Option Write
     → AreImages H other (UnderWay volumes (items ++ block content ∷ []))
 block_at content H image other u w volumes items there here put a =
     put_at (block content) H image other u w volumes items there here
-    (block_open u.standing content u w put) put a
+    (block_open u.standing content u w put) (block_size content) put a
 
 pub mark_at : (H : StoreHolds) (image other : Option Writer) (u w : Writer)
     (volumes : List (List TapeItem)) (items : List TapeItem) → image ≡ Some u → other ≡ Some w
@@ -226,7 +227,7 @@ pub mark_at : (H : StoreHolds) (image other : Option Writer) (u w : Writer)
     → AreImages H other (UnderWay volumes (items ++ mark ∷ []))
 mark_at H image other u w volumes items there here put a =
     put_at mark H image other u w volumes items there here
-    (put_open u.standing writing (written mark) u w put) put a
+    (put_open u.standing writing (written mark) u w put) refl put a
 
 -- the image here, once a call was refused
 kept_at : (H : StoreHolds) (image other : Option Writer) (u w : Writer) (tapes : Tapes)

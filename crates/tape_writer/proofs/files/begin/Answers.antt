@@ -53,21 +53,21 @@ under_way g c set_id told k =
     set_id z.course told in
     elim c.if-tape-eq0.branch [
       | then-tape-eq0+in_ok-begin_volume w ↦
-        let there = got vs 0 0 w.index-volumes-0.result refl (omega (arith, c.requires.some))
-        w.index-volumes-0.is in
-        let (held, empty) = unbegun (g.T.TapeOut.holds c.args.tape.now.out) vs c.args.capacity
-        set_id old told (search rules) k in
-        let H = g.T.TapeOut.holds w.begin_volume.new.self.out in
-        let new = w.begin_volume.new.self.course in
-        let between = between_first H vs c.args.capacity set_id old new
-        w.index-volumes-0.result (Ok tt) (search rules) c.requires.capacity there
-        (every_at IsWideVolume vs 0 w.index-volumes-0.result c.requires.wide there)
-        w.in_ok-begin_volume.ensures.course (w.in_ok-begin_volume.ensures.ok (Ended _) held) in
-        subst IsNow (sym w.tape-is)
-            (subst (λ z. IsBetween H vs c.args.capacity set_id new z) (sym empty) between)
+          let there = got vs 0 0 w.index-volumes-0.result refl (omega (arith, c.requires.some))
+          w.index-volumes-0.is in
+          let (held, empty) = unbegun (g.T.TapeOut.holds c.args.tape.now.out) vs c.args.capacity
+          set_id old told (search rules) k in
+          let H = g.T.TapeOut.holds w.begin_volume.new.self.out in
+          let new = w.begin_volume.new.self.course in
+          let between = between_first H vs c.args.capacity set_id old new
+          w.index-volumes-0.result (Ok tt) (search rules) c.requires.capacity there
+          (every_at IsWideVolume vs 0 w.index-volumes-0.result c.requires.wide there)
+          w.in_ok-begin_volume.ensures.course (w.in_ok-begin_volume.ensures.ok (Ended _) held) in
+          subst IsNow (sym w.tape-is)
+          (subst (λ z. IsBetween H vs c.args.capacity set_id new z) (sym empty) between)
       | else-tape-eq0 w ↦ subst IsNow (sym w.tape-is)
-            (is_begun (g.T.TapeOut.holds c.args.tape.now.out) vs c.args.capacity set_id old told
-            (search rules) k)
+          (is_begun (g.T.TapeOut.holds c.args.tape.now.out) vs c.args.capacity set_id old told
+          (search rules) k)
     ]
 
 pub returns-clause-filing : goal.returns-clause-filing
