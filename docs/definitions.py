@@ -142,7 +142,7 @@ def unknown_words(text, read):
             for name in names:
                 with open(os.path.join(folder, name), encoding="utf-8") as file:
                     known.update(re.findall(r"\b(?:struct|enum|trait|type) (\w+)", file.read()))
-    by_hand = PLACE.sub("", text).split("\n## Words", 1)[-1]
+    by_hand = PLACE.sub("", text).split("\n## Glossary", 1)[-1]
     words = {word for code in re.findall(r"`([^`]*)`", by_hand) for word in [code.split("/")[-1]]}
     return sorted(word for word in words
                   if re.fullmatch(r"[A-Z][a-z]\w*", word) and word not in known | {"Lib"})
