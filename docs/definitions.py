@@ -1,14 +1,14 @@
 #!/usr/bin/env python3
-"""Makes the lists of docs/DEFINITIONS.md from the definitions themselves.
+"""Writes the list of definitions in docs/DEFINITIONS.md from the definitions themselves.
 
-For each crate that has a marked place on the page it goes through specs/Lib.antt, in its order and
-under its headings, and lists each public definition with its arguments and the comment above it.
-What stands outside the marked places is written by hand and stays.
+READ names the definitions that have to be believed for the headline, in reading order. For each
+the list has its arguments and the comment above it in crates/NAME/specs/. The rest of the page is
+written by hand and stays.
 
-    docs/definitions.py           writes the page anew
-    docs/definitions.py --check   says where the page is old, with status 1
+    docs/definitions.py           writes the list
+    docs/definitions.py --check   says if the list is out of date, with status 1
 
-Both also say which words of the text by hand name a definition that is not there (status 1).
+Both also report names of READ, and of the text written by hand, that are not defined (status 1).
 """
 import collections
 import os
@@ -17,10 +17,46 @@ import sys
 
 TOP = os.path.dirname(os.path.dirname(os.path.abspath(__file__)))
 PAGE = os.path.join(TOP, "docs", "DEFINITIONS.md")
-PLACE = re.compile(r"(<!-- made by docs/definitions.py: (\w+) -->\n).*?(<!-- end -->\n)", re.S)
+PLACE = re.compile(r"(<!-- written by docs/definitions.py -->\n).*?(<!-- end -->\n)", re.S)
 DEFINED = re.compile(r"(?:(?:abbrev|unfoldable) )?pub (record |data )?([^\s:]+)(.*)")
 
 Definition = collections.namedtuple("Definition", "name words comment")
+
+# Definitions of the standard library that the page names.
+OF_STD = {"Appends", "Keeps", "Consumes", "IsAtEnd"}
+
+# What to read, in order: a heading, and files of a crate, each with the names that count or none
+# if all do.
+READ = [
+    ("What items bytes begin with", "tape_image",
+     {"Tape": None, "Word": None, "Spelling": None, "Begins": None}),
+    ("Which characters a label has where", "tape_label", {
+        "Positions": None, "Digits": ["digits"], "Formats": None, "Kinds": None,
+        "VolumeLabels": ["IsOfVolume"], "Head1": None, "Head2": None, "Trail1": None,
+        "Reading": ["begins_as"]}),
+    ("Which parts a block has, in which order", "tape_blocks",
+     {"Block": None, "Spans": None, "Tight": ["Filled", "parts_of_all", "Chain"]}),
+    ("What is on a volume, and which sets are valid", "tape_set",
+     {"Layout": None, "Lawful": None}),
+    ("Positions, and how far one reading gets", "tape_set",
+     {"Position": None, "Before": None, "Reading": None, "Reach": None}),
+    ("Which reels are not of the set", "tape_core",
+     {"Foreign": ["is_of_set", "labels_of_set", "is_vol1", "starts_set"]}),
+    ("What happened, and where it leads", "tape_run", {
+        "Mount": None, "History": None, "Given": None, "Seen": ["Seen"],
+        "Headline": ["begins", "IsRead"]}),
+    ("What is in memory", "tape_core", {"Memory": ["portions"], "Entries": None}),
+    ("For any tape: the reading table", "tape_core", {
+        "Table": None, "Labels": None, "Parts": None, "Stands": ["weight_of"],
+        "Weight": ["IsFront"], "Place": ["rest_of"]}),
+    ("For any tape: where the table leads over reels and steps", "tape_run",
+     {"Reels": ["behind_items"], "ByTable": None, "Lead": None}),
+]
+
+
+def read(*path):
+    with open(os.path.join(TOP, *path), encoding="utf-8") as file:
+        return file.read()
 
 
 def comment_above(lines, at):
@@ -42,8 +78,7 @@ def parameters(lines, at):
 
 
 def arguments(lines, at, name):
-    """The arguments of a function, where one equation gives it and names them all. Of a number its
-    value."""
+    """The arguments of a function with one equation that names them all; the value of a number."""
     equations = [line for line in lines[at + 1:] if line.startswith(name + " ")]
     if len(equations) != 1:
         return []
@@ -54,125 +89,79 @@ def arguments(lines, at, name):
     return words if all(re.fullmatch(r"[a-z]\w*", word) for word in words) else []
 
 
-def definitions(path):
-    """The heading of a file of definitions, and its public definitions in order."""
-    with open(path, encoding="utf-8") as file:
-        lines = file.read().split("\n")
-    heading = []
-    for line in lines:
-        if not line.startswith("--"):
-            break
-        heading.append(line.lstrip("-").strip())
-    found = []
+def definitions(crate, file):
+    """The public definitions of a file, in order."""
+    lines = read("crates", crate, "specs", file + ".antt").split("\n")
     for at, line in enumerate(lines):
-        met = DEFINED.match(line)
-        if met and not line.startswith(("pub mod", "pub use")):
-            name = met[2]
-            words = parameters(lines, at) if met[1] else arguments(lines, at, name)
-            found.append(Definition(name.strip("◌"), words, comment_above(lines, at)))
-    return (heading or [""])[0] if len(heading) < 2 else " ".join(heading).split(". ")[0], found
+        found = DEFINED.match(line)
+        if found and not line.startswith(("pub mod", "pub use")):
+            name = found[2]
+            words = parameters(lines, at) if found[1] else arguments(lines, at, name)
+            yield Definition(name.strip("◌"), words, comment_above(lines, at))
 
 
-def library(crate):
-    """The files of specs/Lib.antt in order, each with the heading that stands above it there."""
-    with open(os.path.join(TOP, "crates", crate, "specs", "Lib.antt"), encoding="utf-8") as file:
-        lines = file.read().split("\n")
-    files, heading = [], ""
-    for at, line in enumerate(lines):
-        if line.startswith("pub mod "):
-            if lines[at - 1].startswith("--"):
-                heading = comment_above(lines, at)
-            files.append((heading, line.split()[2]))
-    return files
+def listed(crate, file, names):
+    """The entries of a file, and the names that it should define and does not."""
+    found = list(definitions(crate, file))
+    wanted = [each for each in found if names is None or each.name in names]
+    out = [f"  - `{' '.join([each.name, *each.words])}`: {each.comment.rstrip('.')}"
+           for each in wanted if each.comment]
+    rest = [f"`{each.name}`" for each in wanted if not each.comment]
+    out += [f"  - and {', '.join(rest)}"] * bool(rest)
+    return out, sorted(set(names or []) - {each.name for each in found})
 
 
-def read_all(crates):
-    """For each crate its files: heading in Lib, name, sentence, definitions."""
-    read = {}
-    for crate in crates:
-        folder = os.path.join(TOP, "crates", crate, "specs")
-        read[crate] = [(heading, name, *definitions(os.path.join(folder, name + ".antt")))
-                       for heading, name in library(crate)]
-    return read
-
-
-def places_of(read):
-    """For each name the places where it is defined."""
-    places = collections.defaultdict(list)
-    for crate, files in read.items():
-        for _, file, _, found in files:
-            for each in found:
-                places[each.name].append((crate, file))
-    return places
-
-
-def others(places, crate, file):
-    """Where else a name is defined, in words."""
-    there = [f"`{file_}`" if crate_ == crate else f"`{crate_}` `{file_}`"
-             for crate_, file_ in places if (crate_, file_) != (crate, file)]
-    return f" (another in {', '.join(there)})" if there else ""
-
-
-def listed(crate, files, places):
-    """The lists of a crate."""
-    out, last = [], None
-    for heading, file, sentence, found in files:
-        if heading and heading != last:
-            out += [f"*{heading[0].upper()}{heading[1:].rstrip('.:')}:*", ""]
-        last = heading
-        out += [f"**`{file}`** {sentence}".rstrip(), ""]
-        for each in found:
-            if each.comment:
-                words = " ".join([each.name, *each.words])
-                where = others(places[each.name], crate, file)
-                out.append(f"- `{words}`: {each.comment.rstrip('.')}{where}")
-        rest = [f"`{each.name}`" for each in found if not each.comment]
-        if rest:
-            out.append(f"- and {', '.join(rest)}")
+def the_list():
+    """The generated part of the page, and what READ names in vain."""
+    out, missing = [], []
+    for number, (heading, crate, files) in enumerate(READ, 1):
+        out += [f"### {number}. {heading}", ""]
+        for file, names in files.items():
+            entries, unknown = listed(crate, file, names)
+            out += [f"- `{crate}/specs/{file}`", *entries]
+            missing += [f"definitions.py: {file} of {crate} does not define {name}"
+                        for name in unknown]
         out.append("")
-    return "\n".join(out)
+    return "\n".join(out), missing
 
 
-def unknown_words(text, read):
-    """Words in code of the text by hand that look like a definition or a type, and are none."""
-    known = {word for files in read.values() for _, file, _, found in files
-             for word in [file, *(each.name for each in found)]}
-    for folder, _, names in os.walk(os.path.join(TOP, "crates")):
-        if f"{os.sep}src" in folder and f"{os.sep}out" not in folder:
-            for name in names:
-                with open(os.path.join(folder, name), encoding="utf-8") as file:
-                    known.update(re.findall(r"\b(?:struct|enum|trait|type) (\w+)", file.read()))
-    by_hand = PLACE.sub("", text).split("\n## Glossary", 1)[-1]
-    words = {word for code in re.findall(r"`([^`]*)`", by_hand) for word in [code.split("/")[-1]]}
-    return sorted(word for word in words
-                  if re.fullmatch(r"[A-Z][a-z]\w*", word) and word not in known | {"Lib"})
+def known_names():
+    """The names of all definitions, of their files and of the types of the code."""
+    names = set()
+    for folder, _, files in os.walk(os.path.join(TOP, "crates")):
+        parts = os.path.relpath(folder, TOP).split(os.sep)
+        if "out" in parts or not {"src", "specs"} & set(parts):
+            continue
+        for file in files:
+            text = read(folder, file)
+            if file.endswith(".antt"):
+                names.add(file.removesuffix(".antt"))
+                names.update(re.findall(r"^(?:\w+ )?pub (?:record |data )?(\w+)", text, re.M))
+            elif file.endswith(".rt"):
+                names.update(re.findall(r"\b(?:struct|enum|trait|type) (\w+)", text))
+    return names
+
+
+def unknown_words(text):
+    """Names in code of the text written by hand that look like definitions and are not."""
+    words = {word for code in re.findall(r"`([^`]*)`", PLACE.sub("", text))
+             for word in [code.split("/")[-1]] if re.fullmatch(r"[A-Z][a-z]\w*", word)}
+    return sorted(words - known_names() - OF_STD)
 
 
 def main():
-    with open(PAGE, encoding="utf-8") as file:
-        old = file.read()
-    read = read_all(match[2] for match in PLACE.finditer(old))
-    places = places_of(read)
-    stale = []
-
-    def anew(match):
-        text = match[1] + "\n" + listed(match[2], read[match[2]], places) + match[3]
-        if text != match[0]:
-            stale.append(match[2])
-        return text
-
-    new = PLACE.sub(anew, old)
-    strange = unknown_words(old, read)
-    for word in strange:
-        print(f"DEFINITIONS.md: `{word}` stands in the text by hand, and is not defined")
+    old = read("docs", "DEFINITIONS.md")
+    text, wrong = the_list()
+    new = PLACE.sub(lambda it: it[1] + "\n" + text + it[2], old)
+    wrong += [f"DEFINITIONS.md: `{word}` is not defined" for word in unknown_words(old)]
     if sys.argv[1:] == ["--check"]:
-        for crate in stale:
-            print(f"DEFINITIONS.md is old: {crate}")
-        return 1 if stale or strange else 0
-    if new != old:
+        wrong += ["DEFINITIONS.md is out of date: run docs/definitions.py"] * (new != old)
+    elif new != old:
         with open(PAGE, "w", encoding="utf-8") as file:
             file.write(new)
-    return 1 if strange else 0
+    for line in wrong:
+        print(line)
+    return 1 if wrong else 0
 
 
 sys.exit(main())
