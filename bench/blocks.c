@@ -1,6 +1,6 @@
 /* blocks: times plain C loops over records in blocks, all in memory: packing records into blocks of
    8,192 bytes, and walking the parts of these blocks with every check that a reader makes.
-   docs/FORMATS.md, 'Records in blocks', has the rules; bench/README.md has the workload.
+   docs/FORMATS.md, 'Records in blocks', has the rules; bench/RESULTS.md has the workload.
    Before it times anything it tries itself on small blocks written out by hand.
    Prints a line a format: its letter, the microseconds of packing and of walking, the parts, their
    bytes, and the fold. */
