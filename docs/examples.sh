@@ -1,11 +1,10 @@
 #!/bin/bash
 # examples.sh [PROGRAM]: runs every example of README.md, docs/GUIDE.md and docs/RECIPES.md with
-# this program, as an installed /usr/bin/tape, or with ./tape where none is named, in a fresh
-# folder, and compares what it prints with what the page shows. An example is an indented line
-# that begins with '$ '; what stands below it in the same block is what it prints, standard output
-# and standard error together. A line of the form '    [status N]' says an exit status other than 0.
-# Last docs/page.py has to draw docs/page.html, where both are there.
-# The last line printed is the number of examples that differ. By hand, not part of the gate.
+# PROGRAM, such as an installed /usr/bin/tape (default: ./tape), in a new directory, and compares
+# the output with the page. An example is an indented line that begins with '$ '; the lines below
+# it in the same block are its output, standard output and standard error together. A line
+# '    [status N]' is an exit status other than 0. At the end docs/page.py must draw docs/page.html.
+# The last line printed is the number of examples that differ. Run manually, not in CI.
 here=$(dirname "$(readlink -f "$0")")
 top=$(dirname "$here")
 program=$(realpath -s "${1:-$top/tape}")
@@ -25,7 +24,7 @@ export PATH="$folder/bin:$PATH" LC_ALL=C
 examples=0
 differ=0
 
-# A fresh folder with the two images that the pages name.
+# A new directory with the two images that the pages use.
 fresh() {
     rm -rf "$folder/run"
     mkdir "$folder/run"
@@ -46,7 +45,7 @@ try() {
     fi
 }
 
-# The examples of a page, in order, in one folder.
+# The examples of a page, in order, in one directory.
 page() {
     fresh
     command='' wanted=''
@@ -71,7 +70,7 @@ page() {
 for it in README.md docs/GUIDE.md docs/RECIPES.md; do
     [ ! -f "$top/$it" ] || page "$top/$it"
 done
-# The page of three images, beside the one that is stored; bad.tap is that of RECIPES.md.
+# The page of three images must equal the stored one; bad.tap is that of RECIPES.md.
 fresh
 cp "$top/crates/tape_tool/stdin" "$folder/run/bad.tap"
 for at in 1079 1883; do

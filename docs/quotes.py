@@ -1,10 +1,9 @@
 #!/usr/bin/env python3
-"""Says which quotes of docs/PROVED.md and of the crates' README.md are older than the code.
+"""Reports quotes in docs/PROVED.md and the crates' README.md that differ from the code.
 
-A quote is an indented block without '$ '. Its lines have to stand in one file of crates/*/src or
-crates/*/specs, in the same order; lines of the file may be left out between them, and space at the
-front is not looked at. The last line printed is the number of quotes that differ. By hand, not part
-of the gate.
+A quote is an indented block without '$ '. Its lines must appear in one file of crates/*/src or
+crates/*/specs, in the same order; lines of the file may be omitted between them, and leading space
+is ignored. The last line printed is the number of quotes that differ. Run manually, not in CI.
 """
 import pathlib
 import re
