@@ -12,6 +12,7 @@ import os
 import re
 import subprocess
 import sys
+import textwrap
 
 TOP = os.path.dirname(os.path.dirname(os.path.abspath(__file__)))
 SOURCE = os.path.join(TOP, "crates", "tape_tool", "src")
@@ -43,25 +44,54 @@ COMMANDS = {
         ("--offset N", "OFFSET"), ("--pad-full", "PAD_FULL"), ("--form lines|raw", "FORM")]),
 }
 
-# Where more is said: a term and what it has, each as roff.
+# The date of the page. It goes with the version of the program.
+DATE = "2026-11-26"
+
+# The files that the program creates: a name, and what it is.
+FILES = [
+    ("OUT.part", "the records of an unfinished output, next to OUT. It is renamed to OUT when the "
+     "file is complete. A run that was killed may leave it; it may be deleted."),
+    ("PATH of --stage, DIR/SET.FILE.NAME.stage", "a stage: what was recovered so far. The next run "
+     "continues from it."),
+    ("DIR/SET.FILE.NAME", "a file that unpack recovered, named after its labels."),
+    ("DIR/PRE001.tap, DIR/PRE002.tap, ...", "the images of init and write."),
+]
+
+# Where to read more, as roff.
 SEE_ALSO = """\
-In the pages of the package, as
+.BR cmp (1),
+.BR ddrescue (1),
+.BR mt (1)
+.PP
+The pages of the package, in
 .IR /usr/share/doc/tape\\-volumes/docs :
 .TP
 .B GUIDE.md
-from a shelf of reels to files, and every fault
+from a shelf of reels to files
 .TP
 .B RECIPES.md
-what archives ask of reels, in a line of shell each
+shell one\\-liners
 .TP
 .B FORMATS.md
-images, labels, stages, and every line that is printed
+images, labels, stages, and every line of output
 .TP
 .B PROVED.md
-what is proved, and what is only tested""".split("\n")
+what is proved, and what is only tested
+.PP
+ECMA\\-13,
+.IR "File Structure and Labelling of Magnetic Tapes for Information Interchange" ,
+4th edition, 1985.
+.br
+.IR "SIMH Magtape Representation and Handling" ,
+which comes with the SIMH simulators.""".split("\n")
 
-# The options of every command.
+# What is known to be missing.
+BUGS = ("The program was tested only with images generated from the format descriptions, never with "
+        "a dump of a real reel. It cannot detect errors that a drive did not report.")
+
+# The options of every command; the parser itself has the last two.
 OPTIONS = [("--explain", "EXPLAIN")]
+PARSER_OPTIONS = [("-h, --help", "print help"), ("-V, --version", "print the version")]
 
 
 def read(*path):
@@ -205,19 +235,37 @@ def page():
     version = re.search(r'\.version\("([^"]+)"\)', read(SOURCE, "words.rt"))[1]
     about = said["ABOUT"]
     out = [r".\" Made by docs/man.py from the texts of the program's help.",
-           f'.TH TAPE 1 "" "tape {version}" "User Commands"', ".SH NAME",
+           f'.TH TAPE 1 "{DATE}" "tape {version}" "User Commands"', ".SH NAME",
            rf"tape \- {escaped(about[0].lower() + about[1:])}", ".SH SYNOPSIS"]
     out += "\n.br\n".join(usage(name) for name in COMMANDS).split("\n")
-    out += [".SH DESCRIPTION", "Each command prints its part of this page by"]
-    out += [r".BR \-\-help ;", ".B tape \\-\\-version", "prints the version.", ".SH OPTIONS"]
-    for word, text in OPTIONS:
-        out += [".TP", f".B {escaped(word)}", escaped(said[text])]
+    out += [".SH DESCRIPTION", "Each command prints its part of this page with"]
+    out += [r".BR \-\-help .", ".SH OPTIONS"]
+    for word, text in [*((word, said[text]) for word, text in OPTIONS), *PARSER_OPTIONS]:
+        out += [".TP", f".B {escaped(word)}", escaped(text)]
     out += [".SH COMMANDS"]
     for name in COMMANDS:
         out += command_part(name, said)
     out += titled(said["AFTER"])
-    out += [".SH SEE ALSO", *SEE_ALSO]
-    return "\n".join(out) + "\n"
+    out += [".SH FILES"]
+    for name, text in FILES:
+        out += [".TP", f".I {quoted(name)}", escaped(text)]
+    out += [".SH BUGS", escaped(BUGS), ".SH SEE ALSO", *SEE_ALSO]
+    return "\n".join(tidied(out)) + "\n"
+
+
+def tidied(lines):
+    """The lines without paragraphs that begin a section, and with filled text of 80 columns."""
+    out, verbatim = [], False
+    for line in lines:
+        verbatim = line == ".EX" or verbatim and line != ".EE"
+        if line == ".PP" and (out[-1].startswith((".SH", ".SS", ".PP")) or not out):
+            continue
+        if verbatim or line.startswith(".") or len(line) <= 80:
+            out.append(line)
+            continue
+        for part in textwrap.wrap(line, 78, break_long_words=False, break_on_hyphens=False):
+            out.append(r"\&" + part if part.startswith((".", "'")) else part)
+    return out
 
 
 def words_of_source():
