@@ -1,6 +1,6 @@
 -- What is left where images were read round by round, or a fault ended that.
 use Rattle.std.proofs.Common.{◌≡◌, Bool, ℕ, List, ◌++◌, map, Option, length}
-use Rattle.std.proofs.Common.{[], None, refl, sym, ap, subst, ◌∙◌, inl, arith, append-nil}
+use Rattle.std.proofs.Common.{[], None, refl, sym, ap, subst, ◌∙◌, inl, arith, append-nil, true}
 use Rattle.std.specs.Io.KnownBytes.{Appends}
 use Rattle.std.proofs.KnownBytes.{Appends-trans}
 use Rattle.tape_blocks.specs.declared.parts.Form.{Form}
@@ -27,10 +27,10 @@ use Rattle.tape_run.proofs.Rounds.{all_turns, lines_of_all, front_of_all}
 -- whole rounds and the turns of a last one, as one row of turns
 in_a_row : (back : Bool) (core : State) (old : Seen) (rounds : List Round) (mid : Seen)
     (turns : List Turn) (last : State) (new : Seen) → FollowsRounds back core old rounds mid
-    → Follows back (core_behind core rounds) mid turns last new
-    → Follows back core old (turns_of rounds ++ turns) last new
+    → Follows back true (core_behind core rounds) mid turns last new
+    → Follows back true core old (turns_of rounds ++ turns) last new
 in_a_row back core old rounds mid turns last new f g =
-    follows_then back core old (turns_of rounds) (core_behind core rounds) mid turns last new
+    follows_then back true core old (turns_of rounds) (core_behind core rounds) mid turns last new
     (all_turns back core old rounds mid f) g
 
 pub extracted_again : {S L R : Type 0} (gs : Ghosts S)
@@ -69,9 +69,9 @@ extracted_again {S} {L} {R} gs size gives remaining old mid new
           let (before, has, (still, f, first)) = t.gone.follows held was kept in
           let (now, has_now, (then, one, last)) = t.last.follows before has still in
           let start = seen gs old held in
-          let g = subst (λ c. Follows (goes_back old.notes) c (seen gs t.mid before)
+          let g = subst (λ c. Follows (goes_back old.notes) true c (seen gs t.mid before)
           t.last.turns mid.core (seen gs mid now)) t.gone.at one in (
-            ended gs mid old.core start (turns_of t.rounds ++ t.last.turns) form
+            ended true gs mid old.core start (turns_of t.rounds ++ t.last.turns) form
                 out written between says want now e has_now
                 (in_a_row (goes_back old.notes) old.core start t.rounds
                 (seen gs t.mid before) t.last.turns mid.core
@@ -118,7 +118,7 @@ stops_in_round {S} {L} {R} {W} gs size gives remaining old new
             (
               seen gs s.mid mid,
               f,
-              subst (λ c. Follows (goes_back old.notes) c (seen gs s.mid mid) s.last.turns
+              subst (λ c. Follows (goes_back old.notes) true c (seen gs s.mid mid) s.last.turns
                   core now) s.gone.at one,
             ),
             left_behind gs old s.mid new held mid now before leaves,
@@ -168,7 +168,7 @@ stops_at_end_again {S} {L} {R} {W} gs size gives remaining old new
             (
               seen gs t.mid mid,
               f,
-              subst (λ c. Follows (goes_back old.notes) c (seen gs t.mid mid) t.last.turns
+              subst (λ c. Follows (goes_back old.notes) true c (seen gs t.mid mid) t.last.turns
                   new.core (seen gs new now)) t.gone.at one,
             ),
             left_walked gs back old new end held now

@@ -9,8 +9,8 @@ use Rattle.tape_core.specs.Place.{IsPlaced}
 use Rattle.tape_run.specs.Given.{is_device, IsGiven}
 use Rattle.tape_run.specs.Mount.{IsMountOf, foreign_reel}
 use Rattle.tape_run.specs.OutSinks.{IsText}
-use Rattle.tape_run.specs.Reeling.{Opened, AreGiven, AreMounts, Gathers, IsNoted, goes_back}
-use Rattle.tape_run.specs.Reeling.{IsKeptFor, AreSure, is_doubtful, Turn, IsTurn, Took}
+use Rattle.tape_run.specs.Reeling.{Opened, IsNoted, goes_back}
+use Rattle.tape_run.specs.Reeling.{IsKeptFor, is_doubtful, Turn, IsTurn, Took}
 use Rattle.tape_run.specs.Reeling.{AreTurns, AreFirstTurns, answer_of}
 use Rattle.tape_run.specs.Seen.{Seen, seen}
 use Rattle.tape_run.specs.Steps.{WentBack}
@@ -37,52 +37,28 @@ use Rattle.tape_run.specs.Extracting.{IsWritten, TellsEnd}
 use Rattle.tape_set.specs.declared.position.Want.{Want}
 use Rattle.tape_set.specs.Position.{want_at}
 
-foreign_turn : (set : FileSet) (o : Opened) (bytes : List ℕ) → o.had ≡ Some bytes
-    → IsMountOf set bytes foreign_reel
-    → AreMounts set (None ∷ Some o ∷ None ∷ []) (bytes ∷ []) (foreign_reel ∷ [])
-foreign_turn set o bytes e m = ((rw e refl), m, tt)
-
-given_of : (o : Opened) (bytes given : List ℕ) → o.had ≡ Some bytes → o.answer.fault ≡ None
-    → AreGiven (None ∷ Some o ∷ []) (given ∷ []) → given ≡ bytes
-given_of o bytes given had calm are =
-    subst (λ fault. IsGiven (is_device fault) bytes o.left given) calm
-    (subst (λ before. IfSome before (λ xs. IsGiven (is_device o.answer.fault) xs o.left given)) had
-    are.0)
-
-no_turns : (old new : Seen) (set : FileSet) → Gathers [] old new → IsLawful set
-    → IsPlaced set old.place old.parts
-    → (new.place.position ≡ old.place.position) × IsPlaced set new.place new.parts
-no_turns old new set g lawful placed = elim (g.given) as (λ gs. AreGiven [] gs → _) [
-  | [] ↦ λ are. let a = g.arrives set [] lawful tt placed in (a.position, a.at)
-  | (b ∷ bs) ↦ λ are. absurd are
-] g.are_given
-
 -- the last of two notes is the second
 went_to_last : (old new : Seen) (c d : Point) → old.notes ≡ c ∷ d ∷ []
-    → IsNoted true true false old new
+    → IsNoted true false true false old new
     → WentBack 1 old new
 went_to_last old new c d two (n, many, went) =
     let one : n ≡ 1 = omega (arith, many, ap length two) in
     subst (λ m. WentBack m old new) one went
 
 noted_before : (back : Bool) (old new : Seen) (c : Point) → old.notes ≡ c ∷ []
-    → IsNoted back false false old new
+    → IsNoted back true false false old new
     → (new ≡ old) × (c ≡ saved old.place (weight_of old.parts))
-noted_before back old new c one ((n, count, (is, front, weighs)), same) =
+noted_before back old new c one (spares, (n, count, (is, front, weighs)), same) =
     let first : n ≡ 0 = omega (arith, count, ap length one) in
     let at : Some c ≡ Some (saved old.place (weight_of old.parts)) =
     ap (λ l. slice_get l 0) (sym one) ∙ (ap (λ m. slice_get old.notes m) (sym first) ∙ is) in
     (same, (let e = at in cc))
 
 noted_anew : (back : Bool) (old new : Seen) (c : Point) → old.notes ≡ c ∷ []
-    → c ≡ saved old.place (weight_of old.parts) → IsNoted back false true old new → ⊥
-noted_anew back old new c one is (elsewhere, saved) = elsewhere (noted_here old c
+    → c ≡ saved old.place (weight_of old.parts) → IsNoted back true false true old new → ⊥
+noted_anew back old new c one is (elsewhere, saved) = elsewhere refl (noted_here old c
     (omega (arith, ap length one)) (subst (λ l. slice_get l (length l - 1) ≡ Some c) (sym one) refl)
     is)
-
-each_is_sure : (o p : Opened) → AreSure (Some o ∷ Some p ∷ [])
-    → (is_doubtful o.answer.answer ≡ false) × (is_doubtful p.answer.answer ≡ false)
-each_is_sure o p sure = (sure.0, sure.1.0)
 
 took : (a b c d : Option Known) → Took (a ∷ b ∷ []) 1 c (d ∷ None ∷ []) → (c ≡ b) × (d ≡ a)
 took a b c d (is, left) = (is, cc left)
@@ -124,26 +100,12 @@ cases_of_turns = record {
   two_mounted = two_mounted;
   one_more = one_more;
   first_turn = first_turn;
-  foreign_turn = foreign_turn;
-  unasked = λ set given h are. are;
-  given_of = given_of;
-  tape_of = λ o bytes xs are. are.1;
-  tape_by = λ o bytes xs end stop had b. ((rw had refl), (end, stop, b), tt);
-  is_there = λ t s place parts. record { place = place; parts = parts };
-  over_two = λ t xs ys. refl;
-  reached_by_two = λ set p h i. refl;
-  no_turns = no_turns;
-  gathers = λ turns old new set hs g lawful mounts placed.
-      let a = g.arrives set hs lawful mounts placed in (a.at, a.same_file, a.position);
-  gathers_by_table = λ turns old new t tapes g are there.
-      let at = g.led t tapes are there in (at.place, at.parts);
   doubtful = refl;
   broken = refl;
   sure = (refl, refl);
-  each_is_sure = each_is_sure;
-  sure_turns = λ o sure. (sure, tt);
-  not_noted = λ noted old new n. n;
-  is_noted = λ back old new n. n.1;
+  not_noted = λ spares noted old new n. n;
+  is_noted = λ back spares old new n. n.1;
+  noted_each_time = λ back old new n. absurd (let e = n.0 in cc);
   noted_before = noted_before;
   noted_anew = noted_anew;
   has_note = λ c. (refl, refl);
@@ -156,8 +118,8 @@ cases_of_turns = record {
   told = λ o b are. are.0;
   none_told = λ o are. are;
   told_alone = λ b are. absurd (cc are);
-  reel_read = λ back core next old new o r. (r.waits, r.answers, r.place);
-  waits = λ back core last old new f. (f.0, f.1.0, f.1.1);
+  reel_read = λ back spares core next old new o r. (r.waits, r.answers, r.place);
+  waits = λ back spares core last old new f. (f.0, f.1.0, f.1.1);
 }
 
 text : (known : List ℕ) → IsText false (7 ∷ []) (Some known) → known ≡ 7 ∷ []
@@ -252,11 +214,10 @@ cases_of_outputs = record {
   output_stopped_now = output_stopped_now;
   written = λ records form out now parts w. w;
   put = λ records form stands parts p. (p.0, p.1 tt);
-  ends = λ first old turns want records form out now e.
-      (e.wanted, e.gathers, e.are_steps, e.follows, e.is_written);
-  ends_sure = λ first old want records form out now o sure e. e.gathers (inr (sure, tt));
+  ends = λ spares first old turns want records form out now e.
+      (e.wanted, e.are_steps, e.follows, e.is_written);
   ends_now = λ first old turns want records form stands e.
-      (e.wanted, e.gathers, e.follows, e.is_put);
+      (e.wanted, e.are_steps, e.follows, e.is_put);
   left_there = left_there;
   left_unread = λ session behind shelf left form out now said says want e. (e.most, e.all);
   lines = λ session behind shelf left form out now said says want e. (e.lines, e.are_turns);

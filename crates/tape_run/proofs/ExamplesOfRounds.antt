@@ -1,6 +1,6 @@
 -- The cases of rounds.
 use Rattle.std.proofs.Common.{◌≡◌, ◌⊎◌, List, [], ◌∷◌, inl, inr, refl, sym, ap, subst, ◌∙◌, arith}
-use Rattle.std.specs.Prelude.{Option, Bool, None}
+use Rattle.std.specs.Prelude.{Option, Bool, None, true}
 use Rattle.tape_set.specs.declared.position.Want.{Want}
 use Rattle.tape_set.specs.Position.{want_at}
 use Rattle.tape_core.specs.State.{State}
@@ -25,10 +25,10 @@ each_from_the_first a b s t p q left (mid, first, (z, second, same)) =
 
 goes_two_rounds : (back : Bool) (core last : State) (old new : Seen) (r : Round) (turns : List Turn)
     → GoesRound back core old (r ∷ []) turns last new
-    → (mid : Seen) × Follows back core old r.turns r.behind mid
-    × Follows back r.behind mid turns last new
+    → (mid : Seen) × Follows back true core old r.turns r.behind mid
+    × Follows back true r.behind mid turns last new
 goes_two_rounds back core last old new r turns (mid, (z, first, same), one) =
-    (z, first, subst (λ s. Follows back r.behind s turns last new) same one)
+    (z, first, subst (λ s. Follows back true r.behind s turns last new) same one)
 
 pub cases_of_rounds : CasesOfRounds
 cases_of_rounds = record {

@@ -19,39 +19,28 @@ use Rattle.tape_image.specs.Written.{AppendsFront}
 use Rattle.tape_run.specs.RecordText.{output_of}
 use Rattle.tape_run.specs.ReelLine.{reel_lines, last_line}
 use Rattle.tape_run.specs.Reeling.{Turn, answer_of, TakesAll, StopsReading, Follows, goes_back}
-use Rattle.tape_run.specs.Reeling.{AreSure, Mounting}
+use Rattle.tape_run.specs.Reeling.{Mounting}
 use Rattle.tape_run.specs.Extracting.{Ends, Extracts, Stops, EndsFile, StopsAtEnd, TellsEnd}
 use Rattle.tape_image.proofs.Pieces.{front_more, front_behind}
 use Rattle.tape_run.proofs.Lasting.{stood_walked}
 use Rattle.tape_run.proofs.Left.{left_walked}
-use Rattle.tape_run.proofs.Turns.{gathers, sure_follows}
 use Rattle.tape_run.proofs.TurnSteps.{are_steps}
 
--- A session without a note, or one that met no reel in doubt, never went back.
-pub stayed : (notes : List Point) (core : State) (old : Seen) (turns : List Turn) (last : State)
-    (new : Seen) → (notes ≡ []) ⊎ AreSure turns → Follows (goes_back notes) core old turns last new
-    → Follows false core old turns last new
-stayed notes core old turns last new (inl none) f =
-    subst (λ (cs : List Point). Follows (goes_back cs) core old turns last new) none f
-stayed notes core old turns last new (inr sure) f =
-    sure_follows (goes_back notes) core old turns last new sure f
-
 -- A session that ended its file came to what its images lead to.
-abbrev pub ended : {S : Type 0} (g : Ghosts S) (mid : Story S) (core : State) (old : Seen)
-    (turns : List Turn) (form : Form) (out written said says : Option (List ℕ))
+abbrev pub ended : {S : Type 0} (spares : Bool) (g : Ghosts S) (mid : Story S) (core : State)
+    (old : Seen) (turns : List Turn) (form : Form) (out written said says : Option (List ℕ))
     (want : Option Want) (now : List Portion)
     (e : EndsFile g mid form out written said says want)
     → g.holds mid.sink now
-    → Follows (goes_back old.notes) core old turns mid.core (seen g mid now)
-    → Ends core old turns want e.records form out written
-ended g mid core old turns form out written said says want now e has f =
+    → Follows (goes_back old.notes) spares core old turns mid.core (seen g mid now)
+    → Ends spares core old turns want e.records form out written
+ended spares g mid core old turns form out written said says want now e has f =
     record {
       last = mid.core;
       now = seen g mid now;
       follows = f;
-      gathers = λ never. gathers core old turns mid.core (seen g mid now)
-          (stayed old.notes core old turns mid.core (seen g mid now) never f);
-      are_steps = are_steps (goes_back old.notes) core old turns mid.core (seen g mid now) f;
+      are_steps = are_steps (goes_back old.notes) spares core old turns mid.core (seen g mid now)
+          f;
       wanted = e.wanted;
       is_written = e.is_written now has;
     }
@@ -61,7 +50,7 @@ pub extracted : {S L R : Type 0} (gs : Ghosts S)
     (shelf left : L) (form : Form)
     (out written said between says : Option (List ℕ)) (want : Option Want)
     (back : Bool) → back ≡ goes_back old.notes
-    → TakesAll gs (size shelf) 0 gives remaining back old mid shelf
+    → TakesAll gs (size shelf) 0 gives remaining back false old mid shelf
     left said between
     → EndsFile gs mid form out written between says want
     → IsWalked gs mid new → gs.refusals new.sink ≡ gs.refusals mid.sink
@@ -69,7 +58,7 @@ pub extracted : {S L R : Type 0} (gs : Ghosts S)
     written said says want
 extracted {S} {L} {R} gs size gives remaining old mid new shelf
     left form out written said between says want back same took e walked calm =
-    let t = subst (λ b. TakesAll gs (size shelf) 0 gives remaining b
+    let t = subst (λ b. TakesAll gs (size shelf) 0 gives remaining b false
     old mid shelf left said between) same took in
     record {
       turns = t.turns;
@@ -80,7 +69,7 @@ extracted {S} {L} {R} gs size gives remaining old mid new shelf
       lines = Appends-trans said between says _ _ t.lines e.line;
       ends = λ held was kept.
           let (now, has, (still, f, last)) = t.follows held was kept in (
-            ended gs mid old.core (seen gs old held) t.turns form out
+            ended false gs mid old.core (seen gs old held) t.turns form out
                 written between says want now e has f,
             stood_walked gs old mid new held now has last walked calm,
           );
@@ -90,14 +79,14 @@ pub stops_reading : {S L R W : Type 0} (gs : Ghosts S) (size : L → ℕ)
     (gives : Mounting L R) (remaining : R → Option (List ℕ))
     (old new : Story S) (shelf left : L) (form : Form) (contents : W → Option (List ℕ))
     (out : W) (said says : Option (List ℕ)) (back : Bool) → back ≡ goes_back old.notes
-    → StopsReading gs (size shelf) 0 gives remaining back old new shelf
+    → StopsReading gs (size shelf) 0 gives remaining back false old new shelf
     left said says
     → Stops gs size gives remaining old new shelf left form contents
     out out said says
 stops_reading {S} {L} {R} {W} gs size gives remaining old new shelf
     left form contents out said says back same stopped =
     let s = subst (λ b. StopsReading gs (size shelf) 0 gives remaining
-    b old new shelf left said says) same stopped in
+    b false old new shelf left said says) same stopped in
     record {
       turns = s.turns;
       are_turns = s.are_turns;
@@ -127,7 +116,7 @@ pub stops_at_end : {S L R W : Type 0} (gs : Ghosts S)
     (shelf left : L) (form : Form)
     (contents : W → Option (List ℕ)) (out written : W) (said between says : Option (List ℕ))
     (back : Bool) → back ≡ goes_back old.notes
-    → TakesAll gs (size shelf) 0 gives remaining back old mid shelf
+    → TakesAll gs (size shelf) 0 gives remaining back false old mid shelf
     left said between
     → IsWalked gs mid new
     → StopsAtEnd gs mid form contents out written between says
@@ -135,7 +124,7 @@ pub stops_at_end : {S L R W : Type 0} (gs : Ghosts S)
     out written said says
 stops_at_end {S} {L} {R} {W} gs size gives remaining old mid new
     shelf left form contents out written said between says back same took walked e =
-    let t = subst (λ b. TakesAll gs (size shelf) 0 gives remaining b
+    let t = subst (λ b. TakesAll gs (size shelf) 0 gives remaining b false
     old mid shelf left said between) same took in
     let lines = subst (λ l. Appends said between (reel_lines 1 l))
     (sym (append-nil (map answer_of t.turns))) t.lines in

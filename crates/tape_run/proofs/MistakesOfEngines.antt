@@ -110,11 +110,12 @@ images_mounted_from_1 S R L W P LS LR LL LW LP g d g' d' h e m n w f p i j κs a
     (subst (λ v. length l.ok.turns ≤ v) one l.ok.most) mounts was)
 
 -- a session of a complete file reads nothing
-no_turn : (back : Bool) (turns : List Turn) (core : State) (old : Seen) (last : State) (now : Seen)
-    → Follows back core old turns last now → core.position ≡ Finished → turns ≡ []
-no_turn back [] core old last now h over = refl
-no_turn back (None ∷ turns) core old last now h over = absurd (h.0 over)
-no_turn back (Some o ∷ turns) core old last now h over = absurd (h.2.waits over)
+no_turn : (back spares : Bool) (turns : List Turn) (core : State) (old : Seen) (last : State)
+    (now : Seen) → Follows back spares core old turns last now → core.position ≡ Finished
+    → turns ≡ []
+no_turn back spares [] core old last now h over = refl
+no_turn back spares (None ∷ turns) core old last now h over = absurd (h.0 over)
+no_turn back spares (Some o ∷ turns) core old last now h over = absurd (h.2.waits over)
 
 -- image_read_behind_the_completing_one: the file is complete, and a reel is read and told
 image_read_behind_the_completing_one : (S : _) (R : _) (L : _) (W : _) (P : _) (LS : _) (LR : _)
@@ -132,8 +133,8 @@ image_read_behind_the_completing_one S R L W P LS LR LL LW LP g d g' d' h e m n 
     l over holds kept old new =
     let (ends, stood) = l.ok.ends held holds kept in
     let none : l.ok.turns ≡ []
-    = no_turn (goes_back a.0.now.notes) l.ok.turns a.0.now.core _ ends.last ends.now ends.follows
-    over in
+    = no_turn (goes_back a.0.now.notes) false l.ok.turns a.0.now.core _ ends.last ends.now
+    ends.follows over in
     let lines : List ℕ = reel_lines 1 (map answer_of l.ok.turns) ++ last_line None l.ok.records in
     let r : Appends (Some []) (Some (codes "REEL 1 COMPLETE\n" ++ text)) lines
     = subst (λ v. Appends (Some []) v lines) new

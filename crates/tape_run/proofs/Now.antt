@@ -19,13 +19,13 @@ use Rattle.tape_run.specs.Reeling.{answer_of, TakesAll, StopsReading, Mounting}
 use Rattle.tape_run.specs.ExtractingNow.{IsPut, ExtractsNow, StopsNow}
 use Rattle.tape_run.proofs.Extracted.{tells_then}
 use Rattle.tape_image.proofs.Pieces.{front_more, front_behind}
-use Rattle.tape_run.proofs.Turns.{gathers}
+use Rattle.tape_run.proofs.TurnSteps.{are_steps}
 
 pub extracted_now : {S L R : Type 0} (gs : Ghosts S)
     (size : L → ℕ) (gives : Mounting L R) (remaining : R → Option (List ℕ)) (old mid : Story S)
     (shelf left : L) (form : Form) (tells : Type 0)
     (stands said between says : Option (List ℕ)) (want : Option Want) (records : ℕ)
-    → TakesAll gs (size shelf) 0 gives remaining false old mid shelf
+    → TakesAll gs (size shelf) 0 gives remaining false false old mid shelf
     left said between
     → want ≡ want_at mid.core.file mid.core.position → Appends between says (last_line want records)
     → ((held : List Portion) → gs.holds mid.sink held → IsPut want tells records form stands held)
@@ -46,8 +46,8 @@ extracted_now {S} {L} {R} gs size gives remaining old mid shelf
             last = mid.core;
             now = seen gs mid now;
             follows = f;
-            gathers =
-                gathers old.core (seen gs old held) t.turns mid.core
+            are_steps =
+                are_steps false false old.core (seen gs old held) t.turns mid.core
                 (seen gs mid now) f;
             wanted = is;
             is_put = wrote now has;
@@ -58,7 +58,7 @@ pub stops_reading_now : {S L R O : Type 0} (gs : Ghosts S) (size : L → ℕ)
     (gives : Mounting L R) (remaining : R → Option (List ℕ))
     (old new : Story S) (shelf left : L) (form : Form) (tells : Type 0)
     (stands : O → Option (List ℕ)) (out : O) (said says : Option (List ℕ))
-    → StopsReading gs (size shelf) 0 gives remaining false old new
+    → StopsReading gs (size shelf) 0 gives remaining false false old new
     shelf left said says
     → StopsNow gs size gives remaining old shelf left form tells stands out out
     said says
@@ -83,7 +83,7 @@ pub stops_at_end_now : {S L R O : Type 0} (gs : Ghosts S)
     (shelf left : L) (form : Form) (tells : Type 0)
     (stands : O → Option (List ℕ)) (out put : O) (said between says : Option (List ℕ))
     (want : Option Want) (records : ℕ)
-    → TakesAll gs (size shelf) 0 gives remaining false old mid shelf
+    → TakesAll gs (size shelf) 0 gives remaining false false old mid shelf
     left said between
     → AppendsFront between says (last_line want records)
     → IfSeen gs mid (TellsEnd (AppendsFront between says []) want records)

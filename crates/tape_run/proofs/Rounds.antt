@@ -1,6 +1,6 @@
 -- Images that were read round by round.
 use Rattle.std.proofs.Common.{◌≡◌, ◌⊎◌, inl, inr, Bool, ℕ, ◌+◌, ◌<◌, ◌≤◌, List, [], ◌∷◌, ◌++◌}
-use Rattle.std.proofs.Common.{length, map, Option, None, refl, sym, ap, subst, ◌∙◌, arith}
+use Rattle.std.proofs.Common.{length, map, Option, None, refl, sym, ap, subst, ◌∙◌, arith, true}
 use Rattle.std.proofs.Common.{append_assoc, append-nil, length-append}
 use Rattle.std.specs.Prelude.{◌≢◌}
 use Rattle.std.proofs.lemmas.Bool.{cases_lt}
@@ -58,10 +58,10 @@ brought_push size core (q ∷ rounds) r (a, b, c, brought) whole some other =
 
 follows_push : (back : Bool) (core : State) (old : Seen) (rounds : List Round) (mid : Seen)
     (r : Round) (new : Seen) → FollowsRounds back core old rounds mid
-    → Follows back (core_behind core rounds) mid r.turns r.behind new
+    → Follows back true (core_behind core rounds) mid r.turns r.behind new
     → FollowsRounds back core old (rounds ++ r ∷ []) new
 follows_push back core old [] mid r new same f =
-    (new, subst (λ z. Follows back core z r.turns r.behind new) same f, refl)
+    (new, subst (λ z. Follows back true core z r.turns r.behind new) same f, refl)
 follows_push back core old (q ∷ rounds) mid r new (z, first, rest) f =
     (z, first, follows_push back q.behind z rounds mid r new rest f)
 
@@ -70,10 +70,10 @@ follows_push back core old (q ∷ rounds) mid r new (z, first, rest) f =
 -- Rounds are turns, one behind another.
 pub all_turns : (back : Bool) (core : State) (old : Seen) (rounds : List Round) (mid : Seen)
     → FollowsRounds back core old rounds mid
-    → Follows back core old (turns_of rounds) (core_behind core rounds) mid
+    → Follows back true core old (turns_of rounds) (core_behind core rounds) mid
 all_turns back core old [] mid same = (refl, same)
 all_turns back core old (r ∷ rounds) mid (z, first, rest) =
-    follows_then back core old r.turns r.behind z (turns_of rounds)
+    follows_then back true core old r.turns r.behind z (turns_of rounds)
     (core_behind r.behind rounds) mid first (all_turns back r.behind z rounds mid rest)
 
 -- the lines of rounds, and of what stands behind them
@@ -147,7 +147,7 @@ pub gone_on : {S L R : Type 0} (gs : Ghosts S)
     → HasGone gs size gives remaining back old mid shelf between said
     told rounds
     → before ≡ length (turns_of rounds)
-    → TakesAll gs size before gives remaining back mid new between left
+    → TakesAll gs size before gives remaining back true mid new between left
     told says
     → wanted new.core ≢ None → wanted new.core ≢ wanted mid.core
     → (more : List Round) × (before + size ≡ length (turns_of more))
@@ -156,7 +156,7 @@ pub gone_on : {S L R : Type 0} (gs : Ghosts S)
 gone_on {S} {L} {R} gs size before gives remaining back old mid new
     shelf between left said told
     says rounds h count took some other =
-    let t = subst (λ n. TakesAll gs size n gives remaining back mid new
+    let t = subst (λ n. TakesAll gs size n gives remaining back true mid new
     between left
     told says) count took in
     let whole = whole_round t.turns size new.core t.most t.all some in
@@ -187,7 +187,7 @@ gone_on {S} {L} {R} gs size before gives remaining back old mid new
                 then,
                 follows_push back old.core (seen gs old held) rounds
                     (seen gs mid between) r (seen gs new now) f
-                    (subst (λ c. Follows back c (seen gs mid between) t.turns new.core
+                    (subst (λ c. Follows back true c (seen gs mid between) t.turns new.core
                     (seen gs new now)) h.at one),
                 last_then gs old mid new held between now before last,
               ),
@@ -199,7 +199,7 @@ gone_on {S} {L} {R} gs size before gives remaining back old mid new
 pub some_images : {S L R : Type 0} (gs : Ghosts S)
     (size before : ℕ) (gives : Mounting L R) (remaining : R → Option (List ℕ)) (back : Bool)
     (mid new : Story S) (between left : L) (told says : Option (List ℕ))
-    → TakesAll gs size before gives remaining back mid new between left
+    → TakesAll gs size before gives remaining back true mid new between left
     told says
     → wanted new.core ≢ wanted mid.core → 0 < size
 some_images {S} {L} {R} gs size before gives remaining back mid new
@@ -219,7 +219,7 @@ pub takes_rounds : {S L R : Type 0} (gs : Ghosts S)
     (rounds : List Round) → count ≡ size → before ≡ length (turns_of rounds)
     → HasGone gs count gives remaining back old mid shelf between said
     told rounds
-    → TakesAll gs count before gives remaining back mid new between
+    → TakesAll gs count before gives remaining back true mid new between
     left told says
     → IsEnough count before (wanted mid.core) (wanted new.core)
     → TakesRounds gs size gives remaining back old new shelf left said
@@ -235,7 +235,7 @@ takes_rounds {S} {L} {R} gs size count before gives remaining back
       between = between;
       told = told;
       gone = h;
-      last = subst (λ n. TakesAll gs count n gives remaining back mid
+      last = subst (λ n. TakesAll gs count n gives remaining back true mid
           new between left
           told says) lines took;
       enough = subst (λ n. IsEnough count n (wanted mid.core) (wanted new.core)) lines enough;
@@ -248,7 +248,7 @@ pub stops_round : {S L R : Type 0} (gs : Ghosts S)
     (rounds : List Round) → count ≡ size → before ≡ length (turns_of rounds)
     → HasGone gs count gives remaining back old mid shelf between said
     told rounds
-    → StopsReading gs count before gives remaining back mid new
+    → StopsReading gs count before gives remaining back true mid new
     between left told says
     → StopsInRound gs size gives remaining back old new shelf left said
     says
@@ -263,7 +263,7 @@ stops_round {S} {L} {R} gs size count before gives remaining back
       between = between;
       told = told;
       gone = h;
-      last = subst (λ n. StopsReading gs count n gives remaining back
+      last = subst (λ n. StopsReading gs count n gives remaining back true
           mid new between left
           told says) lines stopped;
     })

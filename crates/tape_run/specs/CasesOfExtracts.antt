@@ -40,10 +40,9 @@ use Rattle.tape_image.specs.Written.{AppendsFront}
 use Rattle.tape_run.specs.OutSinks.{HasTaken, IsText, TellsAlways, text_so_far, with_end}
 use Rattle.tape_run.specs.RecordText.{output_of}
 use Rattle.tape_run.specs.ReelLine.{reel_lines, last_line}
-use Rattle.tape_run.specs.Reeling.{Opened, Turn, answer_of, AreTurns, IsTurn, Follows, AreGiven}
-use Rattle.tape_run.specs.Reeling.{AreMounts, AreTapes, over_tapes, IsThere, Gathers}
-use Rattle.tape_run.specs.Reeling.{reached, is_doubtful, IsNoted, ReadsAndNotes}
-use Rattle.tape_run.specs.Reeling.{goes_back, IsKeptFor, AreSure, AreFirstTurns, Took}
+use Rattle.tape_run.specs.Reeling.{Opened, Turn, answer_of, AreTurns, IsTurn, Follows}
+use Rattle.tape_run.specs.Reeling.{is_doubtful, IsNoted, ReadsAndNotes}
+use Rattle.tape_run.specs.Reeling.{goes_back, IsKeptFor, AreFirstTurns, Took}
 use Rattle.tape_run.specs.Reeling.{step_behind, notes_behind, steps_of, AreTold, AreSteps}
 use Rattle.tape_run.specs.Reels.{Reads}
 use Rattle.tape_run.specs.Seen.{Seen, IsKept}
@@ -82,59 +81,25 @@ pub record CasesOfTurns : Type 0 where
       (left : List (Option (Option (List ℕ))))
       → AreFirstTurns Took (λ r. r) (a ∷ b ∷ []) (t ∷ []) left → IsTurn (λ r. r) a t
       × ((left ≡ None ∷ b ∷ []) ⊎ (left ≡ None ∷ None ∷ []))
-  -- a foreign reel whose bytes are known is a mount, and an image that was not opened is none
-  pub foreign_turn : (set : FileSet) (o : Opened) (bytes : List ℕ) → o.had ≡ Some bytes
-      → IsMountOf set bytes foreign_reel
-      → AreMounts set (None ∷ Some o ∷ None ∷ []) (bytes ∷ []) (foreign_reel ∷ [])
-  pub unasked : (set : FileSet) (given : List (List ℕ)) (h : Happening)
-      → AreMounts set [] given (h ∷ []) → ⊥
-  pub given_of : (o : Opened) (bytes given : List ℕ) → o.had ≡ Some bytes → o.answer.fault ≡ None
-      → AreGiven (None ∷ Some o ∷ []) (given ∷ []) → given ≡ bytes
-  pub tape_of : (o : Opened) (bytes : List ℕ) (xs : List TapeItem)
-      → AreTapes (None ∷ Some o ∷ []) (bytes ∷ []) (xs ∷ [])
-      → (end : ℕ) × (stop : Stop) × Begins 0 bytes xs end stop
-  pub tape_by : (o : Opened) (bytes : List ℕ) (xs : List TapeItem) (end : ℕ) (stop : Stop)
-      → o.had ≡ Some bytes → Begins 0 bytes xs end stop
-      → AreTapes (None ∷ Some o ∷ []) (bytes ∷ []) (xs ∷ [])
-  pub is_there : (t : Lead) (s : Seen) → s.place ≡ t.place → s.parts ≡ t.parts → IsThere t s
-  pub over_two : (t : Lead) (xs ys : List TapeItem)
-      → over_tapes t (xs ∷ ys ∷ []) ≡ over_reel (over_reel t xs) ys
-  pub reached_by_two : (set : FileSet) (p : Position) (h i : Happening)
-      → reached set 1 p (h ∷ i ∷ []) ≡ after_mount set 1 (after_mount set 1 p h) i
-  -- no image leads nowhere but where the session was
-  pub no_turns : (old new : Seen) (set : FileSet) → Gathers [] old new → IsLawful set
-      → IsPlaced set old.place old.parts
-      → (new.place.position ≡ old.place.position) × IsPlaced set new.place new.parts
-  pub gathers : (turns : List Turn) (old new : Seen) (set : FileSet) (hs : List Happening)
-      (g : Gathers turns old new) → IsLawful set → AreMounts set turns g.given hs
-      → IsPlaced set old.place old.parts → IsPlaced set new.place new.parts
-      × (new.place.file ≡ old.place.file)
-      × (new.place.position ≡ reached set old.place.file old.place.position hs)
-  pub gathers_by_table : (turns : List Turn) (old new : Seen) (t : Lead)
-      (tapes : List (List TapeItem)) (g : Gathers turns old new) → AreTapes turns g.given tapes
-      → IsThere t old → (new.place ≡ (over_tapes t tapes).place)
-      × (new.parts ≡ (over_tapes t tapes).parts)
   -- a wrong count, and a reader that it broke, are in doubt, and then nothing is noted
   pub doubtful : is_doubtful (Useless (BlockCount 3 4)) ≡ true
   pub broken : is_doubtful (Useless Broken) ≡ true
   pub sure : (is_doubtful SectionDone ≡ false) × (is_doubtful (Useless BadItem) ≡ false)
-  -- turns are sure where no reel that was opened is in doubt
-  pub each_is_sure : (o p : Opened) → AreSure (Some o ∷ Some p ∷ [])
-      → (is_doubtful o.answer.answer ≡ false) × (is_doubtful p.answer.answer ≡ false)
-  pub sure_turns : (o : Opened) → is_doubtful o.answer.answer ≡ false
-      → AreSure (None ∷ Some o ∷ None ∷ [])
-  pub not_noted : (noted : Bool) (old new : Seen) → IsNoted false true noted old new → new ≡ old
-  pub is_noted : (back : Bool) (old new : Seen) → IsNoted back false true old new → Saved old new
-  -- nothing is noted twice
+  pub not_noted : (spares noted : Bool) (old new : Seen) → IsNoted false spares true noted old new
+      → new ≡ old
+  pub is_noted : (back spares : Bool) (old new : Seen) → IsNoted back spares false true old new
+      → Saved old new
+  -- a session that does not spare notes makes one each time, and one that does none twice
+  pub noted_each_time : (back : Bool) (old new : Seen) → IsNoted back false false false old new → ⊥
   pub noted_before : (back : Bool) (old new : Seen) (c : Point) → old.notes ≡ c ∷ []
-      → IsNoted back false false old new
+      → IsNoted back true false false old new
       → (new ≡ old) × (c ≡ saved old.place (weight_of old.parts))
   pub noted_anew : (back : Bool) (old new : Seen) (c : Point) → old.notes ≡ c ∷ []
-      → c ≡ saved old.place (weight_of old.parts) → IsNoted back false true old new → ⊥
+      → c ≡ saved old.place (weight_of old.parts) → IsNoted back true false true old new → ⊥
   -- a session that has a note goes back then, to the one made last
   pub has_note : (c : Point) → (goes_back [] ≡ false) × (goes_back (c ∷ []) ≡ true)
   pub went_to_last : (old new : Seen) (c d : Point) → old.notes ≡ c ∷ d ∷ []
-      → IsNoted true true false old new → WentBack 1 old new
+      → IsNoted true false true false old new → WentBack 1 old new
   pub its_own_notes : (s : Seen) → IsKeptFor true s → IsKept s
   -- by steps: a save behind each reel where a note was made, none where it is in doubt, or the way
   -- back
@@ -155,12 +120,12 @@ pub record CasesOfTurns : Type 0 where
   pub told : (o : Opened) (b : List ℕ) → AreTold (None ∷ Some o ∷ []) (b ∷ []) → o.had ≡ Some b
   pub none_told : (o : Opened) → AreTold (Some o ∷ []) [] → ⊥
   pub told_alone : (b : List ℕ) → AreTold (None ∷ []) (b ∷ []) → ⊥
-  pub reel_read : (back : Bool) (core next : State) (old new : Seen) (o : Opened)
-      → ReadsAndNotes back core old o next new → (core.position ≢ Finished)
+  pub reel_read : (back spares : Bool) (core next : State) (old new : Seen) (o : Opened)
+      → ReadsAndNotes back spares core old o next new → (core.position ≢ Finished)
       × IfKnown o.had o.left (λ bytes left. Reads core.position core bytes left o.answer)
       × (new.place ≡ rest_of next)
-  pub waits : (back : Bool) (core last : State) (old new : Seen)
-      → Follows back core old (None ∷ []) last new
+  pub waits : (back spares : Bool) (core last : State) (old new : Seen)
+      → Follows back spares core old (None ∷ []) last new
       → (core.position ≢ Finished) × (last ≡ core) × (new ≡ old)
 
 -- ---- what was written and reported
@@ -216,23 +181,19 @@ pub record CasesOfOutputs : Type 0 where
       → IsPut None ⊤ records form stands parts
       → (records ≡ length (join parts).records) × (stands ≡ Some (output_of form parts))
   -- what is wanted is what the session wants, where its images brought it
-  pub ends : (first : State) (old : Seen) (turns : List Turn) (want : Option Want) (records : ℕ)
-      (form : Form) (out now : Known) (e : Ends first old turns want records form out now)
+  pub ends : (spares : Bool) (first : State) (old : Seen) (turns : List Turn) (want : Option Want)
+      (records : ℕ) (form : Form) (out now : Known)
+      (e : Ends spares first old turns want records form out now)
       → (want ≡ want_at e.now.place.file e.now.place.position)
-      × ((old.notes ≡ []) ⊎ AreSure turns → Gathers turns old e.now)
       × AreSteps (goes_back old.notes) turns old e.now
-      × Follows (goes_back old.notes) first old turns e.last e.now
+      × Follows (goes_back old.notes) spares first old turns e.last e.now
       × IsWritten want records form out now e.now.parts
   pub ends_now : (first : State) (old : Seen) (turns : List Turn) (want : Option Want)
       (records : ℕ) (form : Form) (stands : Known)
       (e : EndsNow first old turns want records form ⊤ stands)
-      → (want ≡ want_at e.now.place.file e.now.place.position) × Gathers turns old e.now
-      × Follows false first old turns e.last e.now × IsPut want ⊤ records form stands e.now.parts
-  -- a session with a note that met no reel in doubt is where its mounts lead
-  pub ends_sure : (first : State) (old : Seen) (want : Option Want) (records : ℕ) (form : Form)
-      (out now : Known) (o : Opened) → is_doubtful o.answer.answer ≡ false
-      → (e : Ends first old (Some o ∷ []) want records form out now)
-      → Gathers (Some o ∷ []) old e.now
+      → (want ≡ want_at e.now.place.file e.now.place.position) × AreSteps false turns old e.now
+      × Follows false false first old turns e.last e.now
+      × IsPut want ⊤ records form stands e.now.parts
   -- images are left unread only where nothing is wanted, and each that was read has a line
   pub left_unread : (session behind : Listed) (shelf left : Readers) (form : Form)
       (out now said says : Known) (want : Option Want)

@@ -1,6 +1,6 @@
 -- What the definitions of rounds say of cases. The call `laws::cases` has them as its contract.
 use Rattle.std.specs.Prelude.{◌≡◌, ◌≢◌, ◌⊎◌, ◌+◌, ◌<◌, ◌≤◌, List, [], ◌∷◌, ◌++◌, length, map}
-use Rattle.std.specs.Prelude.{Option, Some, None, Bool}
+use Rattle.std.specs.Prelude.{Option, Some, None, Bool, true}
 use Rattle.std.specs.Io.KnownBytes.{Appends}
 use Rattle.tape_blocks.specs.declared.parts.Form.{Form}
 use Rattle.tape_set.specs.declared.position.Position.TheVariants.{Awaits, Finished}
@@ -64,8 +64,8 @@ pub record CasesOfRounds : Type 0 where
   pub nothing_new_is_enough : (want : Option Want) → IsEnough 3 6 want want
   pub goes_two_rounds : (back : Bool) (core last : State) (old new : Seen) (r : Round)
       (turns : List Turn) → GoesRound back core old (r ∷ []) turns last new
-      → (mid : Seen) × Follows back core old r.turns r.behind mid
-      × Follows back r.behind mid turns last new
+      → (mid : Seen) × Follows back true core old r.turns r.behind mid
+      × Follows back true r.behind mid turns last new
   pub follows_none : (back : Bool) (core : State) (old new : Seen)
       → FollowsRounds back core old [] new → new ≡ old
   -- the last line, and what is written, are those of the session
@@ -100,7 +100,7 @@ pub record CasesOfRounds : Type 0 where
       (e : AgainListed session behind shelf left form out now said says want)
       → IsKeptFor (goes_back session.notes)
       (seen as_sink session session.sink)
-      → (x : Ends session.core (seen as_sink session session.sink)
+      → (x : Ends true session.core (seen as_sink session session.sink)
       (turns_of e.rounds ++ e.turns) want e.records form out now)
       × GoesRound (goes_back session.notes) session.core
       (seen as_sink session session.sink) e.rounds e.turns x.last x.now

@@ -1,6 +1,6 @@
 -- What `extract` leaves.
 use Rattle.std.specs.Prelude.{◌≡◌, ◌⊎◌, ℕ, ◌+◌, ◌<◌, ◌≤◌, List, [], ◌++◌, length, map, Option}
-use Rattle.std.specs.Prelude.{Some, None, ⊤}
+use Rattle.std.specs.Prelude.{Some, None, ⊤, Bool, false}
 use Rattle.std.specs.Io.KnownBytes.{Appends}
 use Rattle.tape_blocks.specs.Block.{Portion}
 use Rattle.tape_blocks.specs.Spans.{join}
@@ -17,8 +17,8 @@ use Rattle.tape_blocks.specs.declared.parts.Form.{Form}
 use Rattle.tape_image.specs.Written.{AppendsFront}
 use Rattle.tape_run.specs.RecordText.{output_of}
 use Rattle.tape_run.specs.ReelLine.{reel_lines, last_line}
-use Rattle.tape_run.specs.Reeling.{Turn, answer_of, AreTurns, Follows, Gathers, AreSteps, goes_back}
-use Rattle.tape_run.specs.Reeling.{IsKeptFor, AreSure, AreFirstTurns, Mounting, StoodSaved}
+use Rattle.tape_run.specs.Reeling.{Turn, answer_of, AreTurns, Follows, AreSteps, goes_back}
+use Rattle.tape_run.specs.Reeling.{IsKeptFor, AreFirstTurns, Mounting, StoodSaved}
 
 -- what was written where something is wanted, and where nothing is: the records, which were counted
 abbrev pub IsWritten : Option Want → ℕ → Form → Option (List ℕ) → Option (List ℕ) → List Portion
@@ -32,12 +32,11 @@ IsWritten None records form out written parts = (records ≡ length (join parts)
 -- without notes, or met no reel in doubt, stands there by the history of its mounts. One that has a
 -- note went back to the note made last behind each reel that is in doubt; one that has none stays
 -- where such a reel left it.
-pub record Ends (first : State) (old : Seen) (turns : List Turn) (want : Option Want) (records : ℕ)
-    (form : Form) (out written : Option (List ℕ)) : Type 0 where
+pub record Ends (spares : Bool) (first : State) (old : Seen) (turns : List Turn)
+    (want : Option Want) (records : ℕ) (form : Form) (out written : Option (List ℕ)) : Type 0 where
   pub last : State
   pub now : Seen
-  pub follows : Follows (goes_back old.notes) first old turns last now
-  pub gathers : (old.notes ≡ []) ⊎ AreSure turns → Gathers turns old now
+  pub follows : Follows (goes_back old.notes) spares first old turns last now
   pub are_steps : AreSteps (goes_back old.notes) turns old now
   pub wanted : want ≡ want_at now.place.file now.place.position
   pub is_written : IsWritten want records form out written now.parts
@@ -83,7 +82,7 @@ pub record Extracts {S L R : Type 0} (g : Ghosts S) (size : L → ℕ) (gives : 
   pub records : ℕ
   pub lines : Appends said says (reel_lines 1 (map answer_of turns) ++ last_line want records)
   pub ends : IfSeen g old (λ was. IsKeptFor (goes_back old.notes) was
-      → (e : Ends old.core was turns want records form out written)
+      → (e : Ends false old.core was turns want records form out written)
       × StoodSaved g old was.parts new e.now)
 
 -- A fault ended it: what was reported is a front of such a report, with the line of at most one
@@ -103,7 +102,7 @@ pub record Stops {S L R W : Type 0} (g : Ghosts S) (size : L → ℕ) (gives : M
   pub lines : AppendsFront said says
       (reel_lines 1 (map answer_of turns ++ more) ++ last_line want records)
   pub follows : IfSeen g old (λ was. IsKeptFor (goes_back old.notes) was → (last : State)
-      × (now : Seen) × Follows (goes_back old.notes) old.core was turns last now
+      × (now : Seen) × Follows (goes_back old.notes) false old.core was turns last now
       × LeavesSaved g old was.parts now new × TellsEnd (AppendsFront said says
       (reel_lines 1 (map answer_of turns ++ more))) want records now
       × ((written ≡ out) ⊎ ((now.place.position ≡ Finished)

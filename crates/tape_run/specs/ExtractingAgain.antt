@@ -1,5 +1,6 @@
 -- What `extract` leaves where it goes round the images.
 use Rattle.std.specs.Prelude.{◌≡◌, ◌⊎◌, ℕ, ◌+◌, ◌<◌, ◌≤◌, List, ◌++◌, length, map, Option, None}
+use Rattle.std.specs.Prelude.{true}
 use Rattle.std.specs.Io.KnownBytes.{Appends}
 use Rattle.tape_blocks.specs.declared.parts.Form.{Form}
 use Rattle.tape_set.specs.declared.position.Position.TheVariants.{Finished}
@@ -40,7 +41,7 @@ pub record ExtractsAgain {S L R : Type 0} (g : Ghosts S) (size : L → ℕ) (giv
   pub lines : Appends said says
       (reel_lines 1 (map answer_of (turns_of rounds ++ turns)) ++ last_line want records)
   pub ends : IfSeen g old (λ was. IsKeptFor (goes_back old.notes) was
-      → (e : Ends old.core was (turns_of rounds ++ turns) want records form out written)
+      → (e : Ends true old.core was (turns_of rounds ++ turns) want records form out written)
       × GoesRound (goes_back old.notes) old.core was rounds turns e.last e.now
       × StoodSaved g old was.parts new e.now)
 

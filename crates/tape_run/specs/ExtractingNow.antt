@@ -17,7 +17,7 @@ use Rattle.tape_run.specs.Extracting.{TellsEnd}
 use Rattle.tape_image.specs.Written.{AppendsFront}
 use Rattle.tape_run.specs.RecordText.{output_of}
 use Rattle.tape_run.specs.ReelLine.{reel_lines, last_line}
-use Rattle.tape_run.specs.Reeling.{Turn, answer_of, AreTurns, AreFirstTurns, Follows, Gathers}
+use Rattle.tape_run.specs.Reeling.{Turn, answer_of, AreTurns, AreFirstTurns, Follows, AreSteps}
 use Rattle.tape_run.specs.Reeling.{Mounting}
 
 -- what stands under the output's name where something is wanted, and where nothing is: just the
@@ -33,8 +33,8 @@ pub record EndsNow (first : State) (old : Seen) (turns : List Turn) (want : Opti
     (records : ℕ) (form : Form) (tells : Type 0) (stands : Option (List ℕ)) : Type 0 where
   pub last : State
   pub now : Seen
-  pub follows : Follows false first old turns last now
-  pub gathers : Gathers turns old now
+  pub follows : Follows false false first old turns last now
+  pub are_steps : AreSteps false turns old now
   pub wanted : want ≡ want_at now.place.file now.place.position
   pub is_put : IsPut want tells records form stands now.parts
 
@@ -70,7 +70,7 @@ pub record StopsNow {S L R O : Type 0} (g : Ghosts S) (size : L → ℕ) (gives 
   pub lines : AppendsFront said says
       (reel_lines 1 (map answer_of turns ++ more) ++ last_line want records)
   pub follows : IfSeen g session (λ was. (last : State) × (now : Seen)
-      × Follows false session.core was turns last now × TellsEnd (AppendsFront said says
+      × Follows false false session.core was turns last now × TellsEnd (AppendsFront said says
       (reel_lines 1 (map answer_of turns ++ more))) want records now
       × ((put ≡ out) ⊎ ((now.place.position ≡ Finished) × ((stands put ≡ stands out)
       ⊎ (tells → stands put ≡ Some (output_of form now.parts))))))

@@ -95,12 +95,6 @@ is_doubtful (Useless (BlockCount label seen)) = true
 is_doubtful (Useless Broken) = true
 is_doubtful answer = false
 
--- No reel of an image that was opened is in doubt.
-abbrev pub AreSure : List Turn → Type 0
-AreSure [] = ⊤
-AreSure (None ∷ turns) = AreSure turns
-AreSure (Some o ∷ turns) = (is_doubtful o.answer.answer ≡ false) × AreSure turns
-
 -- The session went back to the note made last.
 abbrev pub WentToLast : Seen → Seen → Type 0
 WentToLast old new = (n : ℕ) × (length old.notes ≡ n + 1) × WentBack n old new
@@ -109,14 +103,14 @@ WentToLast old new = (n : ℕ) × (length old.notes ≡ n + 1) × WentBack n old
 abbrev pub HasNotedHere : Seen → Type 0
 HasNotedHere s = IsLast s (saved s.place (weight_of s.parts)) s.parts
 
--- Behind a reel: it was noted where the session stands, unless the note made last is of there; then
--- nothing changed. Where what the reel gave is in doubt nothing was noted; a session that goes back
--- is at the note made last, and another is as it was.
-abbrev pub IsNoted : Bool → Bool → Bool → Seen → Seen → Type 0
-IsNoted back false true old new = (HasNotedHere old → ⊥) × Saved old new
-IsNoted back false false old new = HasNotedHere old × (new ≡ old)
-IsNoted false true noted old new = new ≡ old
-IsNoted true true noted old new = WentToLast old new
+-- After a reel the session made a note of its position. One that spares notes made it only if its
+-- last note is of another position; if it is of this one nothing changed. If what the reel gave is
+-- in doubt no note was made: a session that goes back is at its last note, another is as it was.
+abbrev pub IsNoted : Bool → Bool → Bool → Bool → Seen → Seen → Type 0
+IsNoted back spares false true old new = (spares ≡ true → HasNotedHere old → ⊥) × Saved old new
+IsNoted back spares false false old new = (spares ≡ true) × HasNotedHere old × (new ≡ old)
+IsNoted false spares true noted old new = new ≡ old
+IsNoted true spares true noted old new = WentToLast old new
 
 -- a session goes back, behind a reel that is in doubt, where it has a note
 abbrev pub goes_back : List Point → Bool
@@ -131,87 +125,25 @@ IsKeptFor true s = IsKept s
 -- A reel was read from one state of a session to another, and then it was noted where this stands,
 -- or it went back: the file was not complete, the answer is the core's, and the session is where
 -- the reel and the note lead.
-pub record ReadsAndNotes (back : Bool) (core : State) (old : Seen) (o : Opened) (next : State)
-    (new : Seen) : Type 0 where
+pub record ReadsAndNotes (back spares : Bool) (core : State) (old : Seen) (o : Opened)
+    (next : State) (new : Seen) : Type 0 where
   pub waits : core.position ≢ Finished
   pub answers : IfKnown o.had o.left
       (λ bytes left. Reads core.position core bytes left o.answer)
   pub reeled : IfSome o.had (λ bytes. (mid : Seen)
       × Reeled bytes o.left (is_device o.answer.fault) old mid
-      × IsNoted back (is_doubtful o.answer.answer) o.noted mid new)
+      × IsNoted back spares (is_doubtful o.answer.answer) o.noted mid new)
   pub place : new.place ≡ rest_of next
 
 -- The images, one after another, took a session from one state to another. An image that was not
 -- opened changes nothing.
-abbrev pub Follows : Bool → State → Seen → List Turn → State → Seen → Type 0
-Follows back core old [] last new = (last ≡ core) × (new ≡ old)
-Follows back core old (None ∷ turns) last new =
-    (core.position ≢ Finished) × Follows back core old turns last new
-Follows back core old (Some o ∷ turns) last new = (next : State) × (behind : Seen)
-    × ReadsAndNotes back core old o next behind × Follows back next behind turns last new
-
--- The bytes that were given of each image that was opened: all that it had, or what it has not left
--- where the line of the image tells that reading it failed.
-abbrev pub AreGiven : List Turn → List (List ℕ) → Type 0
-AreGiven [] [] = ⊤
-AreGiven (None ∷ turns) given = AreGiven turns given
-AreGiven (Some o ∷ turns) (g ∷ given) =
-    IfSome o.had (λ bytes. IsGiven (is_device o.answer.fault) bytes o.left g) × AreGiven turns given
-AreGiven turns given = ⊥
-
--- The bytes given are those of these mounts: copies of the set's volumes, or reels of others. Each
--- reader told its bytes.
-abbrev pub AreMounts : FileSet → List Turn → List (List ℕ) → List Happening → Type 0
-AreMounts set [] given [] = ⊤
-AreMounts set [] given (h ∷ hs) = ⊥
-AreMounts set (None ∷ turns) given hs = AreMounts set turns given hs
-AreMounts set (Some o ∷ turns) (g ∷ given) (h ∷ hs) =
-    IsSome o.had × IsMountOf set g h × AreMounts set turns given hs
-AreMounts set turns given hs = ⊥
-
--- the position that mounts, one after another, make of p
-abbrev pub reached : FileSet → ℕ → Position → List Happening → Position
-reached set file p [] = p
-reached set file p (h ∷ hs) = reached set file (after_mount set file p h) hs
-
--- The session stands where the mounts lead, with just the parts before that position.
-pub record Arrives (set : FileSet) (old : Seen) (hs : List Happening) (new : Seen) : Type 0 where
-  pub at : IsPlaced set new.place new.parts
-  pub same_file : new.place.file ≡ old.place.file
-  pub position : new.place.position ≡ reached set old.place.file old.place.position hs
-
--- The items that the bytes given of each image begin with. Each reader told its bytes.
-abbrev pub AreTapes : List Turn → List (List ℕ) → List (List TapeItem) → Type 0
-AreTapes [] given [] = ⊤
-AreTapes [] given (xs ∷ tapes) = ⊥
-AreTapes (None ∷ turns) given tapes = AreTapes turns given tapes
-AreTapes (Some o ∷ turns) (g ∷ given) (xs ∷ tapes) = IsSome o.had
-    × ((end : ℕ) × (stop : Stop) × Begins 0 g xs end stop) × AreTapes turns given tapes
-AreTapes turns given tapes = ⊥
-
--- where the reader's table leads over tapes, one after another
-abbrev pub over_tapes : Lead → List (List TapeItem) → Lead
-over_tapes t [] = t
-over_tapes t (xs ∷ tapes) = over_tapes (over_reel t xs) tapes
-
--- The session stands there, and its sink holds the parts delivered up to there.
-pub record IsThere (t : Lead) (s : Seen) : Type 0 where
-  pub place : s.place ≡ t.place
-  pub parts : s.parts ≡ t.parts
-
--- Whatever the tapes are, the session went where the table leads.
-abbrev pub LedOver : List Turn → List (List ℕ) → Seen → Seen → Type 0
-LedOver turns given old new = (t : Lead) (tapes : List (List TapeItem))
-    → AreTapes turns given tapes → IsThere t old → IsThere (over_tapes t tapes) new
-
--- Of every lawful set and all mounts that the images are, the session is where these lead; and
--- whatever the images are, it is where the table leads.
-pub record Gathers (turns : List Turn) (old new : Seen) : Type 0 where
-  pub given : List (List ℕ)
-  pub are_given : AreGiven turns given
-  pub arrives : (set : FileSet) (hs : List Happening) → IsLawful set → AreMounts set turns given hs
-      → IsPlaced set old.place old.parts → Arrives set old hs new
-  pub led : LedOver turns given old new
+abbrev pub Follows : Bool → Bool → State → Seen → List Turn → State → Seen → Type 0
+Follows back spares core old [] last new = (last ≡ core) × (new ≡ old)
+Follows back spares core old (None ∷ turns) last new =
+    (core.position ≢ Finished) × Follows back spares core old turns last new
+Follows back spares core old (Some o ∷ turns) last new = (next : State) × (behind : Seen)
+    × ReadsAndNotes back spares core old o next behind
+    × Follows back spares next behind turns last new
 
 -- The step that is made behind a reel, of a session that has so many notes, if one is.
 abbrev pub step_behind : Bool → Bool → Bool → ℕ → List Step
@@ -275,19 +207,19 @@ Carries g back old new so = IfSeen g old (λ was. IsKeptFor back was
     × KeepsLast g old was.parts new is.parts))
 
 -- The image with this number was read, or passed, and its line was reported.
-pub record Takes {S R : Type 0} (g : Ghosts S) (remaining : R → Option (List ℕ)) (back : Bool)
-    (old new : Story S) (image : Option R) (number : ℕ) (said says : Option (List ℕ))
-    : Type 0 where
+pub record Takes {S R : Type 0} (g : Ghosts S) (remaining : R → Option (List ℕ))
+    (back spares : Bool) (old new : Story S) (image : Option R) (number : ℕ)
+    (said says : Option (List ℕ)) : Type 0 where
   pub turn : Turn
   pub is_turn : IsTurn remaining image turn
   pub line : Appends said says (reel_line number (answer_of turn))
   pub follows : Carries g back old new
-      (λ was is. Follows back old.core was (turn ∷ []) new.core is)
+      (λ was is. Follows back spares old.core was (turn ∷ []) new.core is)
 
 -- Images, of which there are so many, were read in their order, all of them or up to the one that
 -- completed the file, and a line was reported for each, behind so many lines that were there.
 pub record TakesAll {S L R : Type 0} (g : Ghosts S) (size before : ℕ) (gives : Mounting L R)
-    (remaining : R → Option (List ℕ)) (back : Bool) (old new : Story S) (shelf left : L)
+    (remaining : R → Option (List ℕ)) (back spares : Bool) (old new : Story S) (shelf left : L)
     (said says : Option (List ℕ)) : Type 0 where
   pub turns : List Turn
   pub are_turns : AreTurns gives remaining shelf 0 turns left
@@ -295,7 +227,8 @@ pub record TakesAll {S L R : Type 0} (g : Ghosts S) (size before : ℕ) (gives :
   pub most : length turns ≤ size
   pub all : length turns < size → new.core.position ≡ Finished
   pub none : size ≡ 0 → new ≡ old
-  pub follows : Carries g back old new (λ was is. Follows back old.core was turns new.core is)
+  pub follows : Carries g back old new
+      (λ was is. Follows back spares old.core was turns new.core is)
 
 -- Nothing was reported but a front of the lines of at most one image, which has this number.
 abbrev pub IsReported : ℕ → Option (List ℕ) → Option (List ℕ) → Type 0
@@ -311,7 +244,7 @@ StoodSaved g old held new now = (parts : List Portion) × g.holds new.sink parts
 -- Images were read in their order, and a fault ended that: a line was reported for each of them,
 -- and a front of one for one more. Those behind that one were not mounted.
 pub record StopsReading {S L R : Type 0} (g : Ghosts S) (size before : ℕ) (gives : Mounting L R)
-    (remaining : R → Option (List ℕ)) (back : Bool) (old new : Story S) (shelf left : L)
+    (remaining : R → Option (List ℕ)) (back spares : Bool) (old new : Story S) (shelf left : L)
     (said says : Option (List ℕ)) : Type 0 where
   pub turns : List Turn
   pub are_turns : AreFirstTurns gives remaining shelf turns left
@@ -320,5 +253,5 @@ pub record StopsReading {S L R : Type 0} (g : Ghosts S) (size before : ℕ) (giv
   pub few : length more ≤ 1
   pub lines : AppendsFront said says (reel_lines (before + 1) (map answer_of turns ++ more))
   pub follows : IfSeen g old (λ was. IsKeptFor back was → (core : State) × (now : Seen)
-      × Follows back old.core was turns core now
+      × Follows back spares old.core was turns core now
       × LeavesSaved g old was.parts now new)

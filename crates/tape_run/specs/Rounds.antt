@@ -1,6 +1,6 @@
 -- What `extract` makes of images, round by round.
 use Rattle.std.specs.Prelude.{◌≡◌, ◌≢◌, ◌⊎◌, ℕ, ◌+◌, ◌<◌, List, [], ◌∷◌, ◌++◌, length, map, Option}
-use Rattle.std.specs.Prelude.{None, ⊤, Bool}
+use Rattle.std.specs.Prelude.{None, ⊤, Bool, true}
 use Rattle.std.specs.Io.KnownBytes.{Appends}
 use Rattle.tape_set.specs.declared.position.Want.{Want}
 use Rattle.tape_set.specs.Position.{want_at}
@@ -56,13 +56,13 @@ IsEnough size lines before want = (want ≡ None) ⊎ ((want ≡ before)
 abbrev pub FollowsRounds : Bool → State → Seen → List Round → Seen → Type 0
 FollowsRounds back core old [] new = new ≡ old
 FollowsRounds back core old (r ∷ rounds) new = (mid : Seen)
-    × Follows back core old r.turns r.behind mid × FollowsRounds back r.behind mid rounds new
+    × Follows back true core old r.turns r.behind mid × FollowsRounds back r.behind mid rounds new
 
 -- Rounds, and a last one with these turns, took a session from one state to another.
 abbrev pub GoesRound : Bool → State → Seen → List Round → List Turn → State → Seen → Type 0
 GoesRound back core old rounds turns last new = (mid : Seen)
     × FollowsRounds back core old rounds mid
-    × Follows back (core_behind core rounds) mid turns last new
+    × Follows back true (core_behind core rounds) mid turns last new
 
 -- ---- calls
 
@@ -85,8 +85,8 @@ pub record TakesRounds {S L R : Type 0} (g : Ghosts S) (size : ℕ) (gives : Mou
   pub between : L
   pub told : Option (List ℕ)
   pub gone : HasGone g size gives remaining back old mid shelf between said told rounds
-  pub last : TakesAll g size (length (turns_of rounds)) gives remaining back mid new between left
-      told says
+  pub last : TakesAll g size (length (turns_of rounds)) gives remaining back true mid new
+      between left told says
   pub enough : IsEnough size (length (turns_of rounds)) (wanted mid.core) (wanted new.core)
 
 -- Rounds were made, and a fault ended the one behind them.
@@ -98,5 +98,5 @@ pub record StopsInRound {S L R : Type 0} (g : Ghosts S) (size : ℕ) (gives : Mo
   pub between : L
   pub told : Option (List ℕ)
   pub gone : HasGone g size gives remaining back old mid shelf between said told rounds
-  pub last : StopsReading g size (length (turns_of rounds)) gives remaining back mid new between
-      left told says
+  pub last : StopsReading g size (length (turns_of rounds)) gives remaining back true mid new
+      between left told says

@@ -42,11 +42,11 @@ use tape_set::Want;
 /// that is not.
 ///
 /// An image is mounted when its turn comes, and given up when it was read. One that is not there is
-/// reported as not opened, and passed. Behind each reel the session is saved, unless its last note
-/// is of where it stands, and not behind one that counted wrong. Where the session came with a note
-/// it goes back then, to the note made last, and the next reel goes on from there; else it stays
-/// broken, nothing is saved behind the reels that are Broken for it, and nothing is gathered of
-/// them. Images behind the one that completes the file are not mounted. `out` is written and
+/// reported as not opened, and passed. The session is saved after each reel, except after one that
+/// counted wrong. If the session came with a note it goes back then, to its last note, and the next
+/// reel goes on from there; else it stays broken, nothing is saved after the reels that are Broken
+/// for it, and nothing is gathered of them. Images after the one that completes the file are not
+/// mounted. `out` is written and
 /// flushed where the file is complete, and else not touched; the report's last line comes behind
 /// that, and then the report is flushed. The session stays its caller's, with what was delivered to
 /// its sink.
@@ -82,7 +82,7 @@ pub fn extract_to<S: PartWalk, R: Read + Drop, L: Shelf<R>, W: Write, P: Write>(
         (goes_back session.old.notes) fault session.old session.new) }
 {
     let back = has_note(session);
-    read_images(session, images, back, report)?;
+    read_images(session, images, back, false, report)?;
     end_file(session, form, out, report)
 }
 

@@ -21,6 +21,8 @@ use tape_set::Want;
 /// the order of the images does not matter, and damaged copies mend each other. The lines are
 /// numbered on from round to round.
 ///
+/// After a reel the session is saved only if its last note is not of where it is already.
+///
 /// Each image is mounted again in each round. A shelf that gives an image once gives none then,
 /// and it is reported as not opened.
 ///
@@ -74,7 +76,7 @@ fn read_rounds<S: PartSink, R: Read + Drop, L: Shelf<R>, P: Write>(
     let mut lines = 0u64;
     'rounds: loop {
         let before = session.want();
-        read_round(session, images, count, lines, back, report)?;
+        read_round(session, images, count, lines, back, true, report)?;
         if is_enough(before, session.want()) {
             return Ok(());
         }

@@ -58,43 +58,46 @@ impl<R: Read> Shelf<R> for Vec<Option<R>> {
     }
 }
 
-/// Mounts the images in their order, until the file is complete. `back` says whether the session
-/// goes back behind a reel that is in doubt.
+/// Mounts the images in order until the file is complete. `back` says whether the session goes back
+/// after a reel that is in doubt, `spares` whether it makes no note if its last one is of where it
+/// is already.
 pub fn read_images<S: PartSink, R: Read + Drop, L: Shelf<R>, P: Write>(
     session: &mut Session<S>,
     images: &mut L,
     back: bool,
+    spares: bool,
     report: &mut P,
 ) -> Result<(), EngineFault>
     ensures ok { OnOk result (TakesAll S.PartSink (L.size images.old) 0 L.gives R.remaining back
-        session.old session.new images.old images.new
+        spares session.old session.new images.old images.new
         (P.contents report.old) (P.contents report.new)) }
     ensures err { OnErr result (StopsReading S.PartSink (L.size images.old) 0 L.gives R.remaining
-        back session.old session.new images.old images.new
+        back spares session.old session.new images.old images.new
         (P.contents report.old) (P.contents report.new)) }
     ensures cause { IfErr result (λ fault.
         ExtractFails S.PartSink back fault session.old session.new) }
     ensures calm { OnOk result (IsCalm S.PartSink session.old session.new) }
 {
     let count = images.count();
-    read_round(session, images, count, 0, back, report)
+    read_round(session, images, count, 0, back, spares, report)
 }
 
-/// The same of so many images. Before their lines there are so many.
+/// Mounts `count` images in order until the file is complete. `lines` lines come before theirs.
 pub fn read_round<S: PartSink, R: Read + Drop, L: Shelf<R>, P: Write>(
     session: &mut Session<S>,
     images: &mut L,
     count: usize,
     lines: u64,
     back: bool,
+    spares: bool,
     report: &mut P,
 ) -> Result<(), EngineFault>
     requires room { lines + count ≤ 18446744073709551615 }
     ensures ok { OnOk result (TakesAll S.PartSink count lines L.gives R.remaining back
-        session.old session.new images.old images.new
+        spares session.old session.new images.old images.new
         (P.contents report.old) (P.contents report.new)) }
     ensures err { OnErr result (StopsReading S.PartSink count lines L.gives R.remaining back
-        session.old session.new images.old images.new
+        spares session.old session.new images.old images.new
         (P.contents report.old) (P.contents report.new)) }
     ensures cause { IfErr result (λ fault.
         ExtractFails S.PartSink back fault session.old session.new) }
@@ -107,7 +110,8 @@ pub fn read_round<S: PartSink, R: Read + Drop, L: Shelf<R>, P: Write>(
         let Ok(image) = images.mount(number) else {
             return Err(NO_MEMORY);
         };
-        take_image(session, image, lines + number as u64 + 1, back, report)?;
+        let number = lines + number as u64 + 1;
+        take_image(session, image, number, back, spares, report)?;
     }
     Ok(())
 }
@@ -118,10 +122,11 @@ fn take_image<S: PartSink, R: Read + Drop, P: Write>(
     image: Option<R>,
     number: u64,
     back: bool,
+    spares: bool,
     report: &mut P,
 ) -> Result<(), EngineFault>
     requires waits { session.old.core.position ≢ Finished }
-    ensures ok { OnOk result (Takes S.PartSink R.remaining back session.old session.new
+    ensures ok { OnOk result (Takes S.PartSink R.remaining back spares session.old session.new
         image number (P.contents report.old) (P.contents report.new)) }
     ensures err { OnErr result (IsReported number (P.contents report.old) (P.contents report.new)) }
     ensures left { OnErr result (IfSeen S.PartSink session.old (λ old. IsKeptFor back old
@@ -131,7 +136,7 @@ fn take_image<S: PartSink, R: Read + Drop, P: Write>(
     ensures calm { OnOk result (IsCalm S.PartSink session.old session.new) }
 {
     match image {
-        Some(mut device) => take_reel(session, &mut device, number, back, report),
+        Some(mut device) => take_reel(session, &mut device, number, back, spares, report),
         None => Ok(write_text(report, reel_line(number, None).as_bytes())?),
     }
 }
@@ -142,10 +147,11 @@ fn take_reel<S: PartSink, R: Read, P: Write>(
     device: &mut R,
     number: u64,
     back: bool,
+    spares: bool,
     report: &mut P,
 ) -> Result<(), EngineFault>
     requires waits { session.old.core.position ≢ Finished }
-    ensures ok { OnOk result (Takes S.PartSink R.remaining back session.old session.new
+    ensures ok { OnOk result (Takes S.PartSink R.remaining back spares session.old session.new
         (Some device.old) number (P.contents report.old) (P.contents report.new)) }
     ensures err { OnErr result (IsReported number (P.contents report.old) (P.contents report.new)) }
     ensures left { OnErr result (IfSeen S.PartSink session.old (λ old. IsKeptFor back old
@@ -156,20 +162,21 @@ fn take_reel<S: PartSink, R: Read, P: Write>(
 {
     let answer = session.reel(device)?;
     write_text(report, reel_line(number, Some(answer)).as_bytes())?;
-    settle(session, &answer, back)?;
+    settle(session, &answer, back, spares)?;
     Ok(())
 }
 
-/// Notes where the session stands behind a reel, unless that is noted already; behind one that is
-/// in doubt a session that goes back does so. The answer is whether a note was made.
+/// Saves the session after a reel, as `note` does; after one that is in doubt a session that goes
+/// back does so. The answer is whether a note was made.
 fn settle<S: PartSink>(
     session: &mut Session<S>,
     answer: &ReelAnswer,
     back: bool,
+    spares: bool,
 ) -> Result<bool, RunFault>
     ensures ok { IfOk result (λ noted. IfSeen S.PartSink session.old (λ old. IsKeptFor back old
         → IsSeen S.PartSink session.new (λ new.
-        IsNoted back (is_doubtful answer.now.answer) noted old new
+        IsNoted back spares (is_doubtful answer.now.answer) noted old new
         × KeepsLast S.PartSink session.old old.parts session.new new.parts))) }
     ensures left { OnErr result (IfSeen S.PartSink session.old (λ old. IsKeptFor back old
         → LeavesStep S.PartSink back session.old old.parts session.new)) }
@@ -181,7 +188,7 @@ fn settle<S: PartSink>(
         go_back(session)?;
         return Ok(false);
     }
-    note(session, answer)
+    note(session, answer, spares)
 }
 
 /// Goes back to the note made last.
@@ -202,14 +209,18 @@ fn go_back<S: PartSink>(session: &mut Session<S>) -> Result<(), RunFault>
     session.restart(notes - 1)
 }
 
-/// Notes where the session stands, unless the note made last is of there. Where what the reel gave
-/// is in doubt nothing is noted, so that a stage keeps what it held before that reel. The answer is
-/// whether a note was made.
-fn note<S: PartSink>(session: &mut Session<S>, answer: &ReelAnswer) -> Result<bool, RunFault>
+/// Saves the session, unless it spares notes and its last one is of where it is already. If what
+/// the reel gave is in doubt nothing is saved, so that a stage keeps what it held before that reel.
+/// Returns whether a note was made.
+fn note<S: PartSink>(
+    session: &mut Session<S>,
+    answer: &ReelAnswer,
+    spares: bool,
+) -> Result<bool, RunFault>
     ensures doubtful { is_doubtful answer.now.answer ≡ true → session.new ≡ session.old }
     ensures ok { IfOk result (λ noted. IfSeen S.PartSink session.old (λ old.
         IsSeen S.PartSink session.new (λ new.
-        IsNoted false (is_doubtful answer.now.answer) noted old new
+        IsNoted false spares (is_doubtful answer.now.answer) noted old new
         × KeepsLast S.PartSink session.old old.parts session.new new.parts))) }
     ensures left { OnErr result ((back : Bool) → IfSeen S.PartSink session.old (λ old.
         LeavesStep S.PartSink back session.old old.parts session.new)) }
@@ -220,7 +231,8 @@ fn note<S: PartSink>(session: &mut Session<S>, answer: &ReelAnswer) -> Result<bo
     if is_doubtful(answer) {
         return Ok(false);
     }
-    if session.is_noted() {
+    let noted = session.is_noted();
+    if spares && noted {
         return Ok(false);
     }
     session.save()?;

@@ -65,7 +65,7 @@ pub fn extract_now<W: Write + Drop, R: Read + Drop, L: Shelf<R>, O: Place<W>, P:
 {
     let mut session = session;
     // What was written stays: this session does not go back.
-    read_images(&mut session, images, false, report)?;
+    read_images(&mut session, images, false, false, report)?;
     if let Some(want) = session.want() {
         end_report(report, Some(want), 0)?;
         return Ok(Some(want));

@@ -47,8 +47,10 @@ saved_in_the_list_alone : (S : _) (L : _) (g : _) (d : _) (κs : _) (a : _) (s :
 saved_in_the_list_alone S L g d κs a s held there older l done was none five back start =
     let old = seen g a.0.now held in
     let (now, has, (noted, last)) = l.ok held was in
-    let (elsewhere, saved) : (HasNotedHere old → ⊥) × Saved old (seen g s.0.now now) =
-    subst (λ b. IsNoted false b true old (seen g s.0.now now)) (ap is_doubtful done) noted in
+    let (elsewhere, saved) : (a.1.1.0 ≡ true → HasNotedHere old → ⊥)
+    × Saved old (seen g s.0.now now) =
+    subst (λ b. IsNoted false a.1.1.0 b true old (seen g s.0.now now)) (ap is_doubtful done)
+    noted in
     let here = saved_point old.place (weight_of held) in
     let one : s.0.now.notes ≡ here ∷ [] = saved.notes ∙ ap (λ l. l ++ here ∷ []) none in
     let (n, count, (is, front, weighs)) = last.last (λ same. absurd (omega (
@@ -65,11 +67,11 @@ saved_in_the_list_alone S L g d κs a s held there older l done was none five ba
     absurd (omega (arith, n))
 
 -- where a session goes back behind such a reel it is at the note made last
-went : (back doubtful noted : Bool) (old new : Seen) → back ≡ true → doubtful ≡ true
-    → IsNoted back doubtful noted old new → WentToLast old new
-went back doubtful noted old new b d s =
-    subst (λ z. IsNoted true z noted old new) d
-    (subst (λ z. IsNoted z doubtful noted old new) b s)
+went : (back spares doubtful noted : Bool) (old new : Seen) → back ≡ true → doubtful ≡ true
+    → IsNoted back spares doubtful noted old new → WentToLast old new
+went back spares doubtful noted old new b d s =
+    subst (λ z. IsNoted true spares z noted old new) d
+    (subst (λ z. IsNoted z spares doubtful noted old new) b s)
 
 -- wrong_count_not_taken_back: the trailer counts other blocks, and the session stays broken
 wrong_count_not_taken_back : (S : _) (L : _) (g : _) (d : _) (κs : _) (a : _) (s : _) (label : _)
@@ -80,8 +82,8 @@ wrong_count_not_taken_back : (S : _) (L : _) (g : _) (d : _) (κs : _) (a : _) (
 wrong_count_not_taken_back S L g d κs a s label count held is l told back was kept broken =
     let old = seen g a.0.now held in
     let (now, has, (noted, last)) = l.ok held was (subst (λ b. IsKeptFor b old) (sym back) kept) in
-    let (n, one, w) = went a.1.1.0 (is_doubtful a.1.0.now.answer) is old (seen g s.0.now now)
-    back (ap is_doubtful told) noted in
+    let (n, one, w) = went a.1.1.0 a.1.1.1.0 (is_doubtful a.1.0.now.answer) is old
+    (seen g s.0.now now) back (ap is_doubtful told) noted in
     absurd (let e : Broken ≡ Over = sym (ap resting broken) ∙ ap (λ p. p.phase) w.place in cc)
 
 -- taken_back_to_the_beginning: of two notes one is left, and not the last
@@ -93,8 +95,8 @@ taken_back_to_the_beginning : (S : _) (L : _) (g : _) (d : _) (κs : _) (a : _) 
 taken_back_to_the_beginning S L g d κs a s label count held is l told back was kept two left =
     let old = seen g a.0.now held in
     let (now, has, (noted, last)) = l.ok held was (subst (λ b. IsKeptFor b old) (sym back) kept) in
-    let (n, one, w) = went a.1.1.0 (is_doubtful a.1.0.now.answer) is old (seen g s.0.now now)
-    back (ap is_doubtful told) noted in
+    let (n, one, w) = went a.1.1.0 a.1.1.1.0 (is_doubtful a.1.0.now.answer) is old
+    (seen g s.0.now now) back (ap is_doubtful told) noted in
     absurd (omega (
       arith,
       two,
@@ -122,8 +124,8 @@ numbers_begin_anew : (S : _) (R : _) (L : _) (P : _) (LS : _) (LR : _) (LL : _) 
     → read_round.Learnt-named S R L P LS LR LL LP g d h e m n p i k κs a (Ok tt) s
     → a.1.1.0 ≡ 1 → a.1.1.1.0 ≡ 1
     → ((image : Option _) (next : _) → m.gives a.1.0.now 0 image next → image ≡ None)
-    → (s.0.now.core.position ≡ Finished → ⊥) → p.contents a.1.1.1.1.1.0.now ≡ Some []
-    → p.contents s.1.1.1.1.1.0.now ≡ Some (codes "REEL 1 NOT OPENED\n" ++ text) → ⊥
+    → (s.0.now.core.position ≡ Finished → ⊥) → p.contents a.1.1.1.1.1.1.0.now ≡ Some []
+    → p.contents s.1.1.1.1.1.1.0.now ≡ Some (codes "REEL 1 NOT OPENED\n" ++ text) → ⊥
 unfolding digits
 numbers_begin_anew S R L P LS LR LL LP g d h e m n p i k κs a s text l one behind none waits old
     new =
@@ -131,10 +133,10 @@ numbers_begin_anew S R L P LS LR LL LP g d h e m n p i k κs a s text l one behi
     s.0.now.core.position l.ok.are_turns none
     (subst (λ v. length l.ok.turns < v → s.0.now.core.position ≡ Finished) one l.ok.all) waits in
     let lines : List ℕ = reel_lines 2 (map answer_of l.ok.turns) in
-    let told = subst (λ v. Appends (p.contents a.1.1.1.1.1.0.now) (p.contents s.1.1.1.1.1.0.now)
+    let told = subst (λ v. Appends (p.contents a.1.1.1.1.1.1.0.now) (p.contents s.1.1.1.1.1.1.0.now)
     (reel_lines (v + 1) (map answer_of l.ok.turns))) behind l.ok.lines in
     let r : Appends (Some []) (Some (codes "REEL 1 NOT OPENED\n" ++ text)) lines
     = subst (λ v. Appends (Some []) v lines) new
-    (subst (λ v. Appends v (p.contents s.1.1.1.1.1.0.now) lines) old told) in
+    (subst (λ v. Appends v (p.contents s.1.1.1.1.1.1.0.now) lines) old told) in
     absurd (let n : 49 ≡ 50 = ap (λ v. slice_index v 5) (r ∙ ap (reel_lines 2) answers) in
     omega arith)

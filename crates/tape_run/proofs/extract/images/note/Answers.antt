@@ -1,4 +1,5 @@
-use Rattle.std.proofs.Common.{false, true, sym, subst, ◌∙◌}
+use Rattle.std.proofs.Common.{◌≡◌, Bool, false, true, sym, subst, ◌∙◌}
+use Rattle.std.specs.Bool.{OnFalse}
 use Rattle.tape_run.specs.Reeling.{IsNoted}
 use Rattle.tape_run.specs.Seen.{seen}
 use Rattle.tape_run.proofs.Lasting.{last_kept}
@@ -6,7 +7,13 @@ use Rattle.tape_image.proofs.Pieces.{on_err}
 use Rattle.tape_run.proofs.Causes.{calm_saved, step_fails}
 use Rattle.tape_run.proofs.Ended.{told_err}
 use Rattle.tape_run.proofs.Left.{save_left}
+use Rattle.tape_run.proofs.extract.images.note.Goals.{else-spares-via-else-spares}
+use Rattle.tape_run.proofs.extract.images.note.Goals.{else-spares-via-then-spares+else-noted}
 use Rattle.tape_run.proofs.extract.images.note.Goals as goal
+
+on_false : (b : Bool) (P : Type 0) → b ≡ false → OnFalse b P → P
+on_false true P f h = absurd (cc)
+on_false false P f h = h
 
 pub returns-clause-ok : goal.returns-clause-ok
 returns-clause-ok g c = λ held was.
@@ -16,9 +23,18 @@ returns-clause-ok g c = λ held was.
       now,
       has,
       (
-        subst (λ b. IsNoted false b true (seen sink old held) (seen sink c.save.new.self now))
-            (sym (sym c.is_doubtful.ensures ∙ c.if-is_doubtful.false))
-            (c.if-is_noted.ensures.no held was, saved),
+        subst (λ b. IsNoted false c.args.spares b true (seen sink old held)
+            (seen sink c.save.new.self now))
+            (sym (sym c.is_doubtful.ensures ∙ c.if-is_doubtful.false)) (
+              λ is. elim c.else-spares.branch [
+                | else-spares-via-then-spares+else-noted w ↦
+                    on_false c.is_noted-noted.result _ w.if-noted.false c.is_noted-noted.ensures.no
+                    held was
+                | else-spares-via-else-spares w ↦
+                    absurd (let e = sym is ∙ w.if-spares.false in cc)
+              ],
+              saved,
+            ),
         last_kept sink old c.save.new.self held now c.in_ok-save.field-0
             _ (c.in_ok-save.ensures.point held was) (c.in_ok-save.ensures.kept held was) saved
             (c.save.ensures.crash held was),

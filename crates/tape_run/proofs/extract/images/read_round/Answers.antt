@@ -110,7 +110,8 @@ loop-number-preserved g c =
             has_next,
             (
               then,
-              follows_then c.args.back _ _ turns _ _ (taken.turn ∷ []) _ _ follows one,
+              follows_then c.args.back c.args.spares _ _ turns _ _ (taken.turn ∷ []) _ _ follows
+                  one,
               last_then g.S.PartSink
                   c.args.session.now c.loop-number.session c.take_image.new.session held now next
                   lasts last,

@@ -12,5 +12,5 @@ invariant-loop-number g l = (turns : List Turn) × (length turns ≡ l.number)
     (l.lines + 1) (map answer_of turns))
     × (l.number ≡ 0 → l.session ≡ l.fn.session)
     × Carries g.S.PartSink l.fn.back l.fn.session l.session
-    (λ was is. Follows l.fn.back l.fn.session.core was turns l.session.core is)
+    (λ was is. Follows l.fn.back l.spares l.fn.session.core was turns l.session.core is)
     × IsCalm g.S.PartSink l.fn.session l.session

@@ -57,17 +57,17 @@ returns-clause-ok g c =
             behind,
             has_behind,
             (
-              kept_behind back doubtful opened.noted mid (seen sink c.settle.new.session behind)
-                  saved still,
+              kept_behind back c.args.spares doubtful opened.noted mid
+                  (seen sink c.settle.new.session behind) saved still,
               (
                 c.settle.new.session.core,
                 seen sink c.settle.new.session behind,
                 record {
                   waits = c.requires.waits;
                   answers = c.in_ok-answer.ensures.answer;
-                  reeled = noted back opened.had opened (seen sink c.args.session.now held)
-                      mid (seen sink c.settle.new.session behind)
-                      reeled saved;
+                  reeled = noted back c.args.spares opened.had opened
+                      (seen sink c.args.session.now held) mid
+                      (seen sink c.settle.new.session behind) reeled saved;
                   place = refl;
                 },
                 (refl, refl),
