@@ -1,4 +1,5 @@
--- Small images and answers that hold the definitions: what each of these says, and what it refuses.
+-- Test cases for the definitions: small images and results, and what each definition accepts or
+-- excludes.
 use Rattle.std.specs.Prelude.{◌≡◌, ◌⊎◌, ◌≤◌, ◌<◌, ◌+◌, ℕ, List, [], ◌∷◌, ◌++◌, length, Option}
 use Rattle.std.specs.Prelude.{Result, Ok, Err, None}
 use Rattle.std.specs.Io.KnownBytes.{Appends}
@@ -24,20 +25,20 @@ use Rattle.tape_image.specs.Written.{written}
 use Rattle.tape_image.specs.Writer.{Writer, Standing, writing, finished, broken, PutsAll, Puts}
 use Rattle.tape_image.specs.Writer.{PutsFrom, BlockFrom}
 
--- of images and their items
+-- images and their items
 pub record ImagesAreHeld : Type 0 where
-  -- a mark and an end word spell a mark, whatever stands behind the end word
+  -- a tape mark and an end-of-medium marker encode one mark, whatever follows the marker
   pub marked : Spells (0 ∷ 0 ∷ 0 ∷ 0 ∷ 255 ∷ 255 ∷ 255 ∷ 255 ∷ 7 ∷ []) (mark ∷ [])
   pub no_empty_block : IsTapeItem (block []) → ⊥
   pub no_longer_block : (bytes : List ℕ) → length bytes ≡ 100000 → IsTapeItem (block bytes) → ⊥
   pub least_odd : least_extent (block (7 ∷ [])) ≡ 10
   pub least_bad : least_extent bad ≡ 10
 
--- of what a call of `next` answers and leaves
+-- results of `next` and the reader's state after it
 pub record AnswersAreHeld : Type 0 where
   pub no_calls : (r : Reader) → Gave r [] r
   pub mark_moves : (old new : Reader) → GivesItem old mark new → old.place + 4 ≤ new.place
-  -- the end and a fault are answered for good
+  -- after the end of the medium or a fault every further call returns the same
   pub end_stays :
       (old new : Reader) (ending : Ending) (r : Result (Option TapeItem) ImageFault)
       → Answers (ended ending) old r new → (r ≡ Ok None) × (new ≡ old)
@@ -47,26 +48,26 @@ pub record AnswersAreHeld : Type 0 where
   pub fault_is_kept :
       (old new : Reader) (fault : ImageFault)
       → MeetsFault old fault new → (new.status ≡ failed fault) × (new.place ≡ fault.place)
-  -- at the limit no end word fits, and the end moves nothing
+  -- at the limit no end-of-medium marker fits, so the end does not move the reader
   pub end_moves :
       (old new : Reader) → old.place ≡ image_limit → MeetsEnd old new → new.place ≡ image_limit
   pub same_device_and_room :
       (old new : Reader) (r : Result (Option Item) ImageFault)
       → HasMoved old r new → (new.device ≡ old.device) × (new.room ≡ old.room)
 
--- of how much is taken of the device's bytes
+-- how many of the device's bytes are read
 pub record TakingIsHeld : Type 0 where
   pub end_takes_no_byte : TakesEnd 0 [] Physical 1 [] [] → ⊥
   pub end_word_is_taken : (xs ys : List ℕ) → TakesEnd 0 [] Marked 0 xs ys → ⊥
   pub fault_takes_a_front :
       (fault : ImageFault) (xs ys : List ℕ)
       → TakesFault 0 [] fault xs ys → (given : List ℕ) × (xs ≡ given ++ ys)
-  -- by the word alone
+  -- only the word is read
   pub reserved_at_once :
       (w : ℕ) (xs given : List ℕ) → IsCause (Reserved w) 0 [] 0 xs given → length given ≡ 4
   pub too_long_at_once :
       (xs given : List ℕ) → IsCause TooLong 0 [] 0 xs given → length given ≡ 4
-  -- with the last byte of the second word
+  -- the whole block is read, up to the last byte of its second word
   pub differ_at_the_end :
       (xs given : List ℕ) (h : IsCause LengthsDiffer 0 [] 0 xs given) → length given ≡ h.1
   pub truncated_takes_all :
@@ -76,7 +77,7 @@ pub record TakingIsHeld : Type 0 where
       → (stop : Stop) × Begins 0 given [] 0 stop
       × ((stop ≡ ends Physical) ⊎ (stop ≡ faults Truncated))
 
--- of the laws: each is used, so that none has a premise that nothing meets
+-- laws: each is applied, so that no law has premises that nothing satisfies
 pub record LawsAreHeld : Type 0 where
   pub unique :
       SpellingsAreUnique → (s t x y : List ℕ) (given other : List TapeItem)
@@ -98,7 +99,7 @@ pub record LawsAreHeld : Type 0 where
       → Walks 0 xs taken at ys → at ≤ image_limit → Begins 0 xs items end stop
       → (more : List TapeItem) × (items ≡ taken ++ more)
 
--- of what a writer's call writes, answers and leaves
+-- what a writer's call writes and returns, and the writer's state after it
 pub record WritingIsHeld : Type 0 where
   pub three_bytes :
       written (block (7 ∷ 8 ∷ 9 ∷ []))
@@ -107,7 +108,7 @@ pub record WritingIsHeld : Type 0 where
   pub counted :
       (bytes : List ℕ) (after : Standing) (old new : Writer) → PutsAll bytes after old new
       → (new.standing ≡ after) × (new.size ≡ old.size + length bytes) × (new.size ≤ image_limit)
-  -- a failed device holds a front, which is not counted, and the writer stays broken
+  -- a failed device contains a prefix, which is not counted, and the writer stays broken
   pub failed_at :
       (bytes : List ℕ) (after : Standing) (old new : Writer)
       → Puts bytes after old (Err refusal.Device) new
@@ -121,7 +122,7 @@ pub record WritingIsHeld : Type 0 where
   pub no_bytes :
       (old new : Writer) (r : Result (Unit {0}) ImageWriteFault)
       → BlockFrom writing [] old r new → (r ≡ Err refusal.BlockLength) × (new ≡ old)
-  -- the end word and a failure come before the length
+  -- a finished or failed writer is reported before the block's length is checked
   pub finished_stays :
       (old new : Writer) (r : Result (Unit {0}) ImageWriteFault)
       → BlockFrom finished [] old r new → (r ≡ Err refusal.Finished) × (new ≡ old)

@@ -1,4 +1,4 @@
--- The fixed numbers of the causes.
+-- The fixed numbers of the faults.
 use Rattle.std.specs.Prelude.{ℕ}
 use Rattle.tape_image.specs.declared.item.ImageCause.{ImageCause}
 use Rattle.tape_image.specs.declared.item.ImageCause.TheVariants.{Truncated, LengthsDiffer}

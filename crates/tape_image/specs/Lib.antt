@@ -1,4 +1,4 @@
--- to be believed, in this order:
+-- the definitions that a reader has to trust, in this order:
 pub mod Tape
 pub mod Word
 pub mod Spelling
@@ -10,10 +10,10 @@ pub mod Next
 pub mod Calls
 pub mod Written
 pub mod Writer
--- laws of those:
+-- laws about them:
 pub mod Laws
 pub mod Examples
--- of private code, proved against those:
+-- definitions about private code, proved to agree with those above:
 pub mod Device
 pub mod Kind
 pub mod Front

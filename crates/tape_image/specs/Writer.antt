@@ -1,4 +1,4 @@
--- What callers see of an `ImageWriter`, and what its calls do.
+-- What callers see of an `ImageWriter`, and the effects of its calls.
 use Rattle.std.specs.Prelude.{◌≡◌, ℕ, ◌+◌, ◌<◌, ◌≤◌, List, [], ◌∷◌, ◌++◌, length, Option, Some}
 use Rattle.std.specs.Prelude.{Result, Ok, Err, MatchBool}
 use Rattle.std.specs.List.{flat_map}
@@ -13,14 +13,14 @@ use Rattle.tape_image.specs.Spelling.{Spells}
 use Rattle.tape_image.specs.Begins.{image_limit}
 use Rattle.tape_image.specs.Written.{written, is_no_block}
 
--- open, closed by its end word, or failed
+-- open, finished by an end-of-medium marker, or failed
 pub data Standing : Type 0 where
   writing : Standing
   finished : Standing
   broken : Standing
 
--- A writer: how many bytes its items and its end word take, how it stands, and what the device
--- holds where that is known.
+-- A writer: the number of bytes that its items and its end-of-medium marker take, its state, and
+-- the contents of the device, if known.
 pub record Writer : Type 0 where
   pub size : ℕ
   pub standing : Standing
@@ -33,7 +33,7 @@ pub record PutsAll (bytes : List ℕ) (after : Standing) (old new : Writer) : Ty
   pub within : new.size ≤ image_limit
   pub wrote : Appends old.contents new.contents bytes
 
--- the device failed: a front of the bytes was written, and is not counted
+-- the device failed: a prefix of the bytes was written, and is not counted
 pub record PutsSome (bytes : List ℕ) (old new : Writer) : Type 0 where
   pub stands : new.standing ≡ broken
   pub size : new.size ≡ old.size
@@ -43,7 +43,7 @@ pub record PutsSome (bytes : List ℕ) (old new : Writer) : Type 0 where
   pub rest : List ℕ
   pub front : bytes ≡ some ++ rest
 
--- an open writer puts the bytes and then stands so, or says why it did not
+-- the result of writing these bytes to an open writer, and the writer after it
 abbrev pub Puts : List ℕ → Standing → Writer → Result (Unit {0}) ImageWriteFault → Writer → Type 0
 Puts bytes after old (Ok _) new = PutsAll bytes after old new
 Puts bytes after old (Err TooLong) new = (image_limit < old.size + length bytes) × (new ≡ old)
@@ -51,14 +51,14 @@ Puts bytes after old (Err Device) new = PutsSome bytes old new
 Puts bytes after old (Err BlockLength) new = ⊥
 Puts bytes after old (Err Finished) new = ⊥
 
--- what a call gives and leaves: a failure and the end stay
+-- the result of a call, and the writer after it: a failed or finished writer stays so
 abbrev pub PutsFrom :
     Standing → List ℕ → Standing → Writer → Result (Unit {0}) ImageWriteFault → Writer → Type 0
 PutsFrom writing bytes after old result new = Puts bytes after old result new
 PutsFrom finished bytes after old result new = (result ≡ Err Finished) × (new ≡ old)
 PutsFrom broken bytes after old result new = (result ≡ Err Device) × (new ≡ old)
 
--- the same for a block, whose length is judged where the writer is open
+-- the same for a block, whose length is only checked if the writer is open
 abbrev pub BlockFrom :
     Standing → List ℕ → Writer → Result (Unit {0}) ImageWriteFault → Writer → Type 0
 BlockFrom writing content old result new =
@@ -67,25 +67,25 @@ BlockFrom writing content old result new =
 BlockFrom finished content old result new = (result ≡ Err Finished) × (new ≡ old)
 BlockFrom broken content old result new = (result ≡ Err Device) × (new ≡ old)
 
--- the call for this item answered success
+-- the call for this item succeeded
 abbrev pub PutItem : TapeItem → Writer → Writer → Type 0
 PutItem (block content) old new = BlockFrom old.standing content old (Ok tt) new
 PutItem bad old new = PutsFrom old.standing (written bad) writing old (Ok tt) new
 PutItem mark old new = PutsFrom old.standing (written mark) writing old (Ok tt) new
 
--- the calls for these items, one after another, answered success
+-- the calls for these items, one after another, succeeded
 abbrev pub PutItems : List TapeItem → Writer → Writer → Type 0
 PutItems [] old new = new ≡ old
 PutItems (item ∷ items) old new = (mid : Writer) × PutItem item old mid × PutItems items mid new
 
--- the call for this item answered that the device failed
+-- the call for this item returned that the device failed
 abbrev pub FailItem : TapeItem → Writer → Writer → Type 0
 FailItem (block content) old new = BlockFrom old.standing content old (Err Device) new
 FailItem bad old new = PutsFrom old.standing (written bad) writing old (Err Device) new
 FailItem mark old new = PutsFrom old.standing (written mark) writing old (Err Device) new
 
--- Where the calls for these items and `finish` answered success, the bytes that were appended spell
--- the items: the one spelling of each, and an end word last.
+-- If the calls for these items and `finish` succeeded, the bytes that were appended encode the
+-- items: the one encoding that is written for each, and a final end-of-medium marker.
 abbrev pub WrittenSpells : Type 0
 WrittenSpells =
     (old mid new : Writer) (items : List TapeItem) (before after : List ℕ)
@@ -96,9 +96,9 @@ WrittenSpells =
     × (bytes ≡ flat_map written items ++ little_bytes 4 end_word)
     × Spells bytes items × (new.size ≡ old.size + length bytes)
 
--- Where the calls for these items answered success, and that for the next one that the device
--- failed, the bytes that were appended are the spellings of the items and a front of the next
--- one's. The items alone are counted.
+-- If the calls for these items succeeded, and that for the next one returned that the device
+-- failed, the bytes that were appended are the encodings of the items and a prefix of the next
+-- one's. Only the items are counted.
 abbrev pub FailedHoldsFront : Type 0
 FailedHoldsFront =
     (old mid new : Writer) (items : List TapeItem) (item : TapeItem) (before after : List ℕ)

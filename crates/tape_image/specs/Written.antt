@@ -1,4 +1,4 @@
--- The spelling that is written of an item.
+-- The encoding that is written for an item.
 use Rattle.std.specs.Prelude.{◌≡◌, ℕ, ◌%◌, ◌==◌, ◌||◌, nat_lt, Bool, List, [], ◌∷◌, ◌++◌, length}
 use Rattle.std.specs.Prelude.{replicate, Option}
 use Rattle.std.specs.Io.KnownBytes.{Appends}
@@ -6,17 +6,18 @@ use Rattle.byteorder.specs.Endian.{little_bytes}
 use Rattle.tape_image.specs.Tape.{TapeItem, block, bad, mark}
 use Rattle.tape_image.specs.Word.{mark_word, longest_block}
 
--- the word of the block's length, its bytes, a pad byte 0 where they are odd, and the word again
+-- the word of the block's length, its bytes, a pad byte 0 if their number is odd, and the word
+-- again
 abbrev pub written_block : List ℕ → List ℕ
 written_block content =
     little_bytes 4 (length content)
     ++ (content ++ (replicate (length content % 2) 0 ++ little_bytes 4 (length content)))
 
--- the encoding that is written of a bad item: one byte, 0, with the error flag set, and a pad byte
+-- the encoding that is written for a bad item: one byte, 0, with the error flag set, and a pad byte
 abbrev pub written_bad : List ℕ
 written_bad = 1 ∷ 0 ∷ 0 ∷ 128 ∷ 0 ∷ 0 ∷ 1 ∷ 0 ∷ 0 ∷ 128 ∷ []
 
--- the encoding that is written of an item
+-- the encoding that is written for an item
 abbrev pub written : TapeItem → List ℕ
 written (block content) = written_block content
 written bad = written_bad
@@ -26,6 +27,6 @@ written mark = little_bytes 4 mark_word
 abbrev pub is_no_block : List ℕ → Bool
 is_no_block content = (length content == 0) || nat_lt longest_block (length content)
 
--- a front of these bytes was appended to those that the device held, where these are known
+-- a prefix of these bytes was appended to the contents of the device, if they are known
 abbrev pub AppendsFront : Option (List ℕ) → Option (List ℕ) → List ℕ → Type 0
 AppendsFront old new all = (front rest : List ℕ) × Appends old new front × (all ≡ front ++ rest)

@@ -1,5 +1,5 @@
-//! Laws of the definitions that the contracts cite: calls that do nothing, whose contract is the
-//! law.
+//! Laws of the definitions that the contracts cite. Each is a function that does nothing, with the
+//! law as its contract.
 
 ghost use Rattle.tape_image.specs.Laws.{SpellingsAreUnique, NoSpellingBeginsAnother};
 ghost use Rattle.tape_image.specs.Laws.{SpellingOrStop, NeverBoth, OneStop, EndWordEnds};
@@ -10,13 +10,15 @@ ghost use Rattle.tape_image.specs.Writer.{WrittenSpells, FailedHoldsFront};
 ghost use Rattle.tape_image.specs.Examples.{ImagesAreHeld, AnswersAreHeld, TakingIsHeld};
 ghost use Rattle.tape_image.specs.Examples.{LawsAreHeld, WritingIsHeld};
 
-/// Two spellings that begin the same bytes are one, and no spelling begins another.
+/// Two encodings at the start of the same bytes are equal, and no encoding is a proper prefix of
+/// another.
 pub fn no_spelling_begins_another()
     ensures unique { SpellingsAreUnique }
     ensures prefix { NoSpellingBeginsAnother }
 {}
 
-/// At each place of an image stands either a spelling that ends within the limit, or one stop.
+/// At each offset of an image there is either an encoding that ends within the limit, or exactly
+/// one reason to stop.
 pub fn a_spelling_or_a_stop_stands()
     ensures some { SpellingOrStop }
     ensures apart { NeverBoth }
@@ -24,42 +26,42 @@ pub fn a_spelling_or_a_stop_stands()
     ensures end_word { EndWordEnds }
 {}
 
-/// Any bytes begin with one list of items, and stop at one place for one reason.
+/// Any bytes begin with exactly one list of items, and stop at one offset for one reason.
 pub fn bytes_begin_with_one_list_of_items()
     ensures unique { BeginsIsUnique }
     ensures exists { BeginsExists }
     ensures items { BeginsWithItems }
 {}
 
-/// Bytes that spell items up to the end of medium, within the limit, begin with these items and end
-/// there; and bytes that begin with items up to the end of medium spell them.
+/// Bytes that encode items up to the end of the medium, within the limit, begin with these items
+/// and end there. Conversely, bytes that begin with items up to the end of the medium encode them.
 pub fn spelled_bytes_begin_with_their_items()
     ensures begins { SpelledBegins }
     ensures spells { BegunSpells }
 {}
 
-/// However a device cuts its bytes: up to the end or a fault, the calls of `ImageReader::next` give
-/// the items that the bytes begin with, and no others.
+/// However a device splits its bytes: up to the end or a fault, the calls of `ImageReader::next`
+/// return the items that the bytes begin with, and no others.
 pub fn calls_give_the_items_that_bytes_begin_with()
     ensures end { GiveUpToEnd }
     ensures fault { GiveUpToFault }
 {}
 
-/// Items that were walked over are the first that the bytes begin with, and what is left begins
-/// with the others.
+/// Items that were passed are the first that the bytes begin with, and the bytes left begin with
+/// the others.
 pub fn walked_items_come_first()
     ensures { WalkedIsFront }
 {}
 
-/// What the calls of `ImageWriter` write up to `finish` spells the items: the one spelling of each,
-/// with no gaps, pad bytes 0 and nothing behind the end word. Where the device fails, a front of
-/// that stands.
+/// The calls of `ImageWriter` up to `finish` write an encoding of the items: without gaps, with pad
+/// bytes 0 and nothing after the end-of-medium marker. If the device fails, it contains a prefix of
+/// that.
 pub fn written_items_are_spelled()
     ensures spells { WrittenSpells }
     ensures front { FailedHoldsFront }
 {}
 
-/// Small images and answers by which the definitions are held.
+/// Test cases for the definitions: small images and results.
 pub fn definitions_are_held_by_examples()
     ensures images { ImagesAreHeld }
     ensures answers { AnswersAreHeld }

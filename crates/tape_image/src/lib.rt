@@ -1,5 +1,5 @@
-//! Reads and writes images of magnetic tapes (SIMH's `.tap` files), one item after another, over
-//! any reader or writer.
+//! Reads and writes images of magnetic tapes (SIMH's `.tap` files), one item after another, from
+//! any reader and to any writer.
 #![tactic(auto)]
 
 mod block;

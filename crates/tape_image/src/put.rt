@@ -1,8 +1,7 @@
-//! Putting bytes to a writer, however few of them it takes at a time.
+//! Writes bytes to a writer, however few of them it accepts at a time.
 //!
-//! The loop stands here, since std's `write_all` calls an interrupted writer again, and here any
-//! error is a failure. A writer that takes nothing of what is left has failed too, and is not
-//! called again.
+//! The loop is here, because std's `write_all` calls an interrupted writer again, and here any
+//! error is a failure. A writer that accepts no byte has failed too, and is not called again.
 
 ghost use Rattle.std.specs.Prelude.{◌≡◌, ◌≤◌, length, take, replicate, OnOk, OnErr, IsOkUnless};
 ghost use Rattle.std.specs.Io.KnownBytes.{Appends};
@@ -14,14 +13,14 @@ use crate::item::ImageWriteFault;
 use byteorder::{ByteOrder, LittleEndian};
 use std::io::Write;
 
-/// How many bytes a block may have that is spelled before it is written. A writer that holds bytes
-/// takes it at once then, and not its word, its bytes and its word.
+/// The length of the longest block that is assembled in memory before it is written. A buffered
+/// writer then gets it in one call, not in three.
 const SHORT: usize = 119;
 
-/// How many bytes a short block takes with its words and its pad byte, at most.
+/// The size of such a block with its two words and its pad byte.
 const SPELLED: usize = SHORT + 9;
 
-/// Writes all the bytes, or a front of them where the writer fails.
+/// Writes all the bytes, or a prefix of them if the writer fails.
 pub(crate) fn put<W: Write>(device: &mut W, bytes: &[u8]) -> Result<(), ImageWriteFault>
     ensures ok { OnOk result (Appends (W.contents device.old) (W.contents device.new) bytes.now) }
     ensures err { OnErr result
@@ -39,7 +38,7 @@ pub(crate) fn put<W: Write>(device: &mut W, bytes: &[u8]) -> Result<(), ImageWri
     Ok(())
 }
 
-/// Writes a word, the least byte first.
+/// Writes a word, least significant byte first.
 pub(crate) fn put_word<W: Write>(device: &mut W, word: u32) -> Result<(), ImageWriteFault>
     ensures ok { OnOk result
         (Appends (W.contents device.old) (W.contents device.new) (little_bytes 4 word)) }
@@ -52,7 +51,7 @@ pub(crate) fn put_word<W: Write>(device: &mut W, word: u32) -> Result<(), ImageW
     put(device, &bytes)
 }
 
-/// Writes a word behind which nothing is written, and flushes the writer.
+/// Writes the last word, and flushes the writer.
 pub(crate) fn put_last<W: Write>(device: &mut W, word: u32) -> Result<(), ImageWriteFault>
     ensures ok { OnOk result
         (Appends (W.contents device.old) (W.contents device.new) (little_bytes 4 word)) }
@@ -67,7 +66,7 @@ pub(crate) fn put_last<W: Write>(device: &mut W, word: u32) -> Result<(), ImageW
     }
 }
 
-/// Writes a block: its word, its bytes, a pad byte if they are odd, and its word again.
+/// Writes a block: its word, its bytes, a pad byte if their number is odd, and its word again.
 pub(crate) fn put_block<W: Write>(device: &mut W, content: &[u8]) -> Result<(), ImageWriteFault>
     requires { length content.now ≤ longest_block }
     ensures ok { OnOk result
@@ -77,26 +76,19 @@ pub(crate) fn put_block<W: Write>(device: &mut W, content: &[u8]) -> Result<(), 
     ensures fault { IsOkUnless result ImageWriteFault.Device }
 {
     if content.len() <= SHORT {
-        return put_short(device, content);
+        let mut spelled = [0u8; SPELLED];
+        let size = spell(&mut spelled, content);
+        return put(device, &spelled[..size]);
     }
-    put_long(device, content)
+    let word = content.len() as u32;
+    let pad = [0u8; 1];
+    put_word(device, word)?;
+    put(device, content)?;
+    put(device, &pad[..content.len() % 2])?;
+    put_word(device, word)
 }
 
-/// Writes a short block at once.
-fn put_short<W: Write>(device: &mut W, content: &[u8]) -> Result<(), ImageWriteFault>
-    requires { length content.now ≤ 119 }
-    ensures ok { OnOk result
-        (Appends (W.contents device.old) (W.contents device.new) (written_block content.now)) }
-    ensures err { OnErr result
-        (AppendsFront (W.contents device.old) (W.contents device.new) (written_block content.now)) }
-    ensures fault { IsOkUnless result ImageWriteFault.Device }
-{
-    let mut spelled = [0u8; SPELLED];
-    let size = spell(&mut spelled, content);
-    put(device, &spelled[..size])
-}
-
-/// Spells a short block in the front of bytes that are 0, and says how long it is.
+/// Encodes a short block at the start of an array of zeros, and returns the length of the encoding.
 fn spell(spelled: &mut [u8; SPELLED], content: &[u8]) -> usize
     requires short { length content.now ≤ 119 }
     requires clear { spelled.old ≡ replicate 128 0 }
@@ -110,21 +102,4 @@ fn spell(spelled: &mut [u8; SPELLED], content: &[u8]) -> usize
     spelled[4..4 + content.len()].copy_from_slice(content);
     spelled[end..end + 4].copy_from_slice(&word);
     end + 4
-}
-
-/// Writes a block piece by piece.
-fn put_long<W: Write>(device: &mut W, content: &[u8]) -> Result<(), ImageWriteFault>
-    requires { length content.now ≤ longest_block }
-    ensures ok { OnOk result
-        (Appends (W.contents device.old) (W.contents device.new) (written_block content.now)) }
-    ensures err { OnErr result
-        (AppendsFront (W.contents device.old) (W.contents device.new) (written_block content.now)) }
-    ensures fault { IsOkUnless result ImageWriteFault.Device }
-{
-    let word = content.len() as u32;
-    let pad = [0u8; 1];
-    put_word(device, word)?;
-    put(device, content)?;
-    put(device, &pad[..content.len() % 2])?;
-    put_word(device, word)
 }

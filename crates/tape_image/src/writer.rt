@@ -12,23 +12,23 @@ use crate::put::{put, put_block, put_last, put_word};
 use std::io::Write;
 use std::marker::Model;
 
-/// How a writer stands.
+/// The state of a writer.
 #[derive(Clone, Copy)]
 enum Phase {
     /// Items may follow.
     Open,
-    /// The end word was written.
+    /// The end-of-medium marker was written.
     Done,
     /// The device failed.
     Broken,
 }
 
-/// Writes an image to a device, one item after another, in the form of "SIMH Magtape Representation
-/// and Handling".
+/// Writes an image to a device, one item after another, in the format of "SIMH Magtape
+/// Representation and Handling".
 ///
-/// Its calls take no memory. A block is written by three or four calls of the device: put a
-/// `BufWriter` under it where a call is dear. The device is flushed once, behind the end word.
-/// Bytes that the device holds already stay, and are not counted.
+/// Does not allocate. A block takes up to four calls of the device: wrap it in a `BufWriter` if its
+/// calls are slow. The device is flushed once, after the end-of-medium marker. Bytes that the
+/// device already contains stay, and are not counted.
 #[derive(Drop)]
 pub struct ImageWriter<W: Write + Drop> {
     device: W,
@@ -59,7 +59,7 @@ impl<W: Write + Drop> ImageWriter<W> {
     ghost use Rattle.tape_image.specs.Writer.{writing, finished, PutsFrom, BlockFrom};
     ghost use Rattle.tape_image.specs.Standing.{standing_of, MayWrite, HasRoom, noted};
 
-    /// Writes to the device, from where it stands.
+    /// Creates a writer that appends to the device.
     pub fn new(device: W) -> ImageWriter<W>
         ensures { result ≡ record { size = 0; standing = writing; contents = W.contents device } }
     {
@@ -70,7 +70,7 @@ impl<W: Write + Drop> ImageWriter<W> {
         }
     }
 
-    /// How many bytes the items that were written take, and the end word.
+    /// Returns how many bytes the items that were written take, including the end-of-medium marker.
     pub fn size(&self) -> u64
         ensures { result ≡ self.now.size }
     {
@@ -78,14 +78,14 @@ impl<W: Write + Drop> ImageWriter<W> {
         self.size
     }
 
-    /// Writes a block of 1 to 99,999 bytes: its word, its bytes, a pad byte 0 if they are odd, and
-    /// its word again.
+    /// Writes a block of 1 to 99,999 bytes: its word, its bytes, a pad byte 0 if their number is
+    /// odd, and its word again.
     ///
     /// # Errors
     ///
-    /// In this order: `Device` where the device failed before, `Finished`, `BlockLength`, `TooLong`
-    /// where the image would be longer than 4,294,967,295 bytes with this block, and `Device` where
-    /// the device fails now.
+    /// In this order: `Device` if the device failed before, `Finished`, `BlockLength`, `TooLong` if
+    /// this block would make the image longer than 4,294,967,295 bytes, and `Device` if the device
+    /// fails now.
     pub fn block(&mut self, content: &[u8]) -> Result<(), ImageWriteFault>
         ensures { BlockFrom self.old.standing content.now self.old result self.new }
     {
@@ -103,9 +103,8 @@ impl<W: Write + Drop> ImageWriter<W> {
     ///
     /// # Errors
     ///
-    /// In this order: `Device` where the device failed before, `Finished`, `TooLong` where the
-    /// image would be longer than 4,294,967,295 bytes with this mark, and `Device` where the device
-    /// fails now.
+    /// In this order: `Device` if the device failed before, `Finished`, `TooLong` if this mark
+    /// would make the image longer than 4,294,967,295 bytes, and `Device` if the device fails now.
     pub fn mark(&mut self) -> Result<(), ImageWriteFault>
         ensures { PutsFrom self.old.standing (written mark) writing self.old result self.new }
     {
@@ -115,12 +114,12 @@ impl<W: Write + Drop> ImageWriter<W> {
         self.note(put, WORD, Phase::Open)
     }
 
-    /// Writes a bad block: one byte, 0, with the error flag set. The bytes that a drive returned of
-    /// an unreadable block are not kept.
+    /// Writes a bad block: one byte, 0, with the error flag set. The bytes that a drive returned
+    /// for an unreadable block are not kept.
     ///
     /// # Errors
     ///
-    /// As `mark`, for this block.
+    /// The errors of `mark`, for this block.
     pub fn bad(&mut self) -> Result<(), ImageWriteFault>
         ensures { PutsFrom self.old.standing (written bad) writing self.old result self.new }
     {
@@ -130,12 +129,11 @@ impl<W: Write + Drop> ImageWriter<W> {
         self.note(written, BAD.len() as u64, Phase::Open)
     }
 
-    /// Writes the end word and flushes the device: the image is passed on whole. Nothing is written
-    /// after it.
+    /// Writes the end-of-medium marker and flushes the device. Nothing is written after it.
     ///
     /// # Errors
     ///
-    /// As `mark`, for the end word; `Device` also where the flush fails.
+    /// The errors of `mark`, for the marker; `Device` also if the flush fails.
     pub fn finish(&mut self) -> Result<(), ImageWriteFault>
         ensures { PutsFrom self.old.standing (little_bytes 4 end_word) finished
             self.old result self.new }
@@ -146,14 +144,14 @@ impl<W: Write + Drop> ImageWriter<W> {
         self.note(put, WORD, Phase::Done)
     }
 
-    /// Gives the device back, with what was written to it.
+    /// Returns the device, with the bytes that were written to it.
     pub fn into_device(self) -> W
         ensures { W.contents result ≡ self.contents }
     {
         self.device
     }
 
-    /// Whether something may be written: the device did not fail, and the end word was not written.
+    /// Returns the reason if nothing may be written: the device failed, or the writer is finished.
     fn may_write(&self) -> Result<(), ImageWriteFault>
         ensures { MayWrite self.now.standing result }
     {
@@ -164,7 +162,7 @@ impl<W: Write + Drop> ImageWriter<W> {
         }
     }
 
-    /// Whether so many bytes more are within the limit.
+    /// Returns `TooLong` if so many more bytes would end after the limit.
     fn has_room(&self, extent: u64) -> Result<(), ImageWriteFault>
         ensures { HasRoom self.now.size extent result }
     {
@@ -174,7 +172,7 @@ impl<W: Write + Drop> ImageWriter<W> {
         Ok(())
     }
 
-    /// Counts what was put, or keeps that the device failed.
+    /// Counts the bytes that were written, or records that the device failed.
     fn note(
         &mut self,
         put: Result<(), ImageWriteFault>,

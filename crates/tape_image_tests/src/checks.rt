@@ -1,4 +1,4 @@
-//! What is compared, each kind of value by one function. A comparison that fails tells its row.
+//! Comparisons, one function for each kind of value. One that fails prints its row.
 
 use std::process::Abort;
 use tape_image::{Ending, ImageFault, ImageWriteFault};

@@ -1,4 +1,4 @@
-//! Images, spelled byte by byte from the description of the format.
+//! Images, encoded byte by byte according to the description of the format.
 
 use std::alloc::{AllocError, Global};
 
@@ -27,7 +27,7 @@ const EOF2: &[u8; 80] =
 #[derive(Clone, Copy)]
 pub(super) enum WorkedItem {
     Label(&'static [u8; 80]),
-    /// The records from this one on, so many.
+    /// The records from this one on, and their number.
     Records(u8, u8),
     Mark,
 }
@@ -49,13 +49,13 @@ pub(super) const ITEMS: [WorkedItem; 12] = [
     WorkedItem::Mark,
 ];
 
-/// The places where the items of the worked image begin, and where its end word stands.
+/// The offsets of the items of the worked image, and of its end-of-medium marker.
 const STARTS: [usize; 13] = [
     0, 88, 176, 264, 268, 1_076, 1_884, 2_292, 2_296, 2_384, 2_472, 2_476, 2_480,
 ];
 
-/// How many items end within the first `size` bytes of the worked image, and where the next one
-/// begins.
+/// Returns how many items end within the first `size` bytes of the worked image, and the offset of
+/// the next one.
 pub(super) fn whole_items(size: usize) -> (usize, usize) {
     let mut whole = (0, 0);
     for (items, &start) in STARTS.iter().enumerate() {
@@ -66,17 +66,17 @@ pub(super) fn whole_items(size: usize) -> (usize, usize) {
     whole
 }
 
-/// So many of the bytes in front, or all where there are no more.
+/// Returns the first `count` bytes, or all if there are fewer.
 pub(super) fn front(bytes: &[u8], count: usize) -> &[u8] {
     &bytes[..count.min(bytes.len())]
 }
 
-/// The bytes behind so many.
+/// Returns the bytes after the first `count`.
 pub(super) fn behind(bytes: &[u8], count: usize) -> &[u8] {
     &bytes[count.min(bytes.len())..]
 }
 
-/// Record `number`: its four digits, and spaces up to 80 characters.
+/// Returns record `number`: its four digits, and spaces up to 80 characters.
 fn record(number: u8) -> [u8; 80] {
     let mut line = [b' '; 80];
     line[..4].copy_from_slice(&[b'0', b'0', b'0' + number / 10 % 10, b'0' + number % 10]);
@@ -84,7 +84,7 @@ fn record(number: u8) -> [u8; 80] {
 }
 
 impl WorkedItem {
-    /// The bytes of a block, or `None` for a mark.
+    /// Returns the bytes of a block, or `None` for a mark.
     pub(super) fn content(self, alloc: Global) -> Result<Option<Vec<u8>>, AllocError> {
         let mut content = Vec::new(alloc);
         match self {
@@ -100,11 +100,11 @@ impl WorkedItem {
     }
 }
 
-/// An image under way.
+/// An image being built.
 #[derive(Drop)]
 struct Image<'a> {
     bytes: Vec<u8>,
-    /// What stands before each item and before the end word.
+    /// The bytes before each item and before the end-of-medium marker.
     before: &'a [u8],
 }
 
@@ -114,7 +114,7 @@ impl Image<'_> {
         self.bytes.extend_from_slice(&word)
     }
 
-    /// A block of these bytes, or a mark.
+    /// Appends a block of these bytes, or a mark.
     fn item(&mut self, content: Option<&[u8]>) -> Result<(), AllocError> {
         match content {
             Some(content) => self.block(content),
@@ -122,7 +122,7 @@ impl Image<'_> {
         }
     }
 
-    /// A block of fewer than 65,536 bytes.
+    /// Appends a block of fewer than 65,536 bytes.
     fn block(&mut self, content: &[u8]) -> Result<(), AllocError> {
         let [low, high, ..] = content.len().to_le_bytes();
         self.word([low, high, 0, 0])?;
@@ -134,7 +134,7 @@ impl Image<'_> {
     }
 }
 
-/// The worked image, with these bytes before each item and before its end word.
+/// Returns the worked image, with these bytes before each item and before its end-of-medium marker.
 pub(super) fn worked(alloc: Global, before: &[u8]) -> Result<Vec<u8>, AllocError> {
     let mut image = Image {
         bytes: Vec::new(alloc),

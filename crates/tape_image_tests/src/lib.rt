@@ -1,5 +1,5 @@
-//! Tests of `tape_image`, of what no contract says: devices that fail or cut their bytes, and
-//! images written out by hand.
+//! Tests of `tape_image`, for everything outside the contracts: devices that fail or split their
+//! bytes, and images written out by hand.
 #![tactic(auto)]
 
 #[cfg(test)]

@@ -9,15 +9,16 @@ use std::test::Fail;
 use tape_image::ImageWriteFault::{BlockLength, TooLong};
 use tape_image::ImageWriter;
 
-/// A writer that has written blocks of so many bytes in all, which are even and at least 200,000.
+/// Returns a writer that has written blocks of `size` bytes in all, an even number of at least
+/// 200,000.
 fn filled(alloc: Global, size: u64) -> Result<ImageWriter<Counting>, Fail> {
     let bytes = Vec::from_elem(alloc, 0u8, 99_999)?;
     let mut writer = ImageWriter::new(Counting { taken: 0, calls: 0 });
-    // Each of these takes 100,008 bytes, and less than 150,000 are left behind them.
+    // Each of these takes 100,008 bytes, and less than 150,000 are left after them.
     for _ in 0..(size.saturating_sub(150_000) / 100_008).saturating_add(1) {
         writer.block(bytes.as_slice())?;
     }
-    // 49,992 bytes or more are left: a block takes half of them, and one takes the rest.
+    // 49,992 bytes or more are left: a block takes half of them, and another one the rest.
     let half = size.saturating_sub(writer.size()) / 4 * 2;
     writer.block(front(bytes.as_slice(), half.saturating_sub(8) as usize))?;
     let rest = size.saturating_sub(writer.size());
@@ -42,7 +43,7 @@ fn blocks_end_within_the_limit(rt: HostRuntime) -> Result<(), Fail> {
 #[test]
 fn marks_end_within_the_limit(rt: HostRuntime) -> Result<(), Fail> {
     let mut writer = filled(rt.alloc(), 4_294_967_280)?;
-    // Behind three marks 3 bytes are left, and a word takes 4.
+    // After three marks 3 bytes are left, and a word takes 4.
     let rows = [
         (Call::Mark, None, 4_294_967_284),
         (Call::Mark, None, 4_294_967_288),

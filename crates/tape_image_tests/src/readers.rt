@@ -1,4 +1,4 @@
-//! What a reader answers, call by call.
+//! The results of a reader, call by call.
 
 use super::checks::{is_so, same_count, same_ending, same_fault};
 use std::alloc::Global;
@@ -7,7 +7,7 @@ use std::process::Abort;
 use std::test::Fail;
 use tape_image::{Ending, ImageFault, ImageReader, Item};
 
-/// The reader gives this item, which ends at its place.
+/// The reader returns this item, which ends at this offset.
 pub(super) fn gives<R: Read>(
     rt: &impl Abort,
     row: usize,
@@ -19,7 +19,7 @@ pub(super) fn gives<R: Read>(
     same_count(rt, row, reader.place(), place);
 }
 
-/// The reader gives so many items, whatever they are.
+/// The reader returns so many items, whatever they are.
 pub(super) fn passes<R: Read>(
     rt: &impl Abort,
     row: usize,
@@ -31,7 +31,7 @@ pub(super) fn passes<R: Read>(
     }
 }
 
-/// The reader is at the end of medium, for good.
+/// The reader is at the end of the medium, and stays there.
 pub(super) fn ends<R: Read>(
     rt: &impl Abort,
     row: usize,
@@ -46,7 +46,7 @@ pub(super) fn ends<R: Read>(
     }
 }
 
-/// The reader fails so, for good.
+/// The reader fails, and every further call returns the same.
 pub(super) fn fails<R: Read>(
     rt: &impl Abort,
     row: usize,
@@ -60,8 +60,8 @@ pub(super) fn fails<R: Read>(
     }
 }
 
-/// A reader of these bytes gives these items, of which each ends at its place, and then its bytes
-/// end.
+/// A reader of these bytes returns these items, each of which ends at its offset, and then the
+/// bytes end.
 pub(super) fn reads(
     rt: &impl Abort,
     alloc: Global,
@@ -78,7 +78,7 @@ pub(super) fn reads(
     Ok(())
 }
 
-/// A reader of the device gives so many items, and then fails so, for good.
+/// A reader of the device returns so many items, and then fails for good.
 pub(super) fn fails_behind<R: Read>(
     rt: &impl Abort,
     alloc: Global,

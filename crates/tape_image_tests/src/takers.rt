@@ -1,17 +1,17 @@
-//! Writers that take little, fail, or only count.
+//! Writers that accept few bytes, fail, or only count.
 
 use std::io;
 use std::io::{Error, ErrorKind, Write};
 
-/// Takes one byte a call, and after so many bytes fails, or takes nothing.
+/// Accepts one byte for each call, and after so many bytes fails, or accepts nothing.
 #[derive(Drop)]
 pub(super) struct Narrow {
     pub(super) taken: Vec<u8>,
-    /// How many bytes it takes still.
+    /// How many bytes it will still accept.
     pub(super) left: usize,
-    /// The error with which it fails then. It takes nothing where there is none.
+    /// The error with which it fails then. It accepts nothing if there is none.
     pub(super) kind: Option<ErrorKind>,
-    /// How often it took nothing, or failed.
+    /// How often it accepted nothing, or failed.
     pub(super) failures: u32,
 }
 
@@ -39,7 +39,7 @@ impl Write for Narrow {
     }
 }
 
-/// Fails at one call, and takes all at each other.
+/// Fails at one call, and accepts all bytes at each other.
 #[derive(Drop)]
 pub(super) struct FailsOnce {
     /// The number of the call at which it fails, from 0.
@@ -63,10 +63,10 @@ impl Write for FailsOnce {
     }
 }
 
-/// Takes all, keeps nothing, and counts.
+/// Accepts all bytes, keeps none, and counts them.
 #[derive(Drop)]
 pub(super) struct Counting {
-    /// How many bytes it took.
+    /// How many bytes it accepted.
     pub(super) taken: u64,
     /// How often it was called.
     pub(super) calls: u64,

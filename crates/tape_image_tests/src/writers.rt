@@ -1,4 +1,4 @@
-//! What a writer answers, call by call.
+//! The results of a writer, call by call.
 
 use super::checks::{same_count, same_write_fault};
 use std::io::Write;
@@ -14,7 +14,7 @@ pub(super) enum Call<'a> {
 }
 
 impl Call<'_> {
-    /// Makes the call. The result is its fault, if it is refused.
+    /// Makes the call, and returns its fault, if it is refused.
     pub(super) fn on<W: Write + Drop>(
         self,
         writer: &mut ImageWriter<W>,
@@ -28,10 +28,10 @@ impl Call<'_> {
     }
 }
 
-/// A call, the fault with which it is refused, and how many bytes the writer counts behind it.
+/// A call, its fault if it is refused, and the size of the image after it.
 pub(super) type Row<'a> = (Call<'a>, Option<ImageWriteFault>, u64);
 
-/// The writer answers so to these calls, one after another.
+/// The writer returns this for these calls, one after another.
 pub(super) fn answers<W: Write + Drop>(
     rt: &impl Abort,
     writer: &mut ImageWriter<W>,

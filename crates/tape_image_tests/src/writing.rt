@@ -1,4 +1,4 @@
-//! The writer: its bytes, its refusals, and devices that take little or fail.
+//! The writer: its bytes, its refusals, and devices that accept few bytes or fail.
 
 use super::checks::{is_so, same_count, same_write_fault};
 use super::images::front;
@@ -12,13 +12,14 @@ use std::test::Fail;
 use tape_image::ImageWriteFault::{BlockLength, Device, Finished};
 use tape_image::{Ending, ImageWriteFault, ImageWriter, Item};
 
-/// A block of three bytes with its pad byte, a mark, a block of two bytes, and the end word.
+/// A block of three bytes with its pad byte, a mark, a block of two bytes, and the end-of-medium
+/// marker.
 const IMAGE: [u8; 30] = [
     3, 0, 0, 0, 7, 8, 9, 0, 3, 0, 0, 0, 0, 0, 0, 0, 2, 0, 0, 0, 5, 6, 2, 0, 0, 0, 0xFF, 0xFF, 0xFF,
     0xFF,
 ];
 
-/// The calls that write it, and the size behind each.
+/// The calls that write it, and the size after each.
 const CALLS: [Row<'static>; 4] = [
     (Call::Block(&[7, 8, 9]), None, 12),
     (Call::Mark, None, 16),
@@ -26,7 +27,7 @@ const CALLS: [Row<'static>; 4] = [
     (Call::Finish, None, 30),
 ];
 
-/// What a writer of nothing so far writes, which answers so to these calls.
+/// Returns what a new writer writes in these calls, after checking their results.
 fn written(rt: &impl Abort, alloc: Global, rows: &[Row<'_>]) -> Vec<u8> {
     let mut image = Vec::new(alloc);
     let mut writer = ImageWriter::new(&mut image);
@@ -96,8 +97,8 @@ fn nothing_is_written_behind_the_end_word(rt: HostRuntime) -> Result<(), Fail> {
     Ok(())
 }
 
-/// Writes the items of `IMAGE` and its end word to a device, goes on at a refusal, and tells the
-/// first fault and the size.
+/// Writes the items of `IMAGE` and its end-of-medium marker to a device, continues after a refusal,
+/// and returns the first fault and the size.
 fn writes_the_image(device: &mut Narrow) -> (Option<ImageWriteFault>, u64) {
     let mut writer = ImageWriter::new(device);
     let mut fault = None;
@@ -107,7 +108,7 @@ fn writes_the_image(device: &mut Narrow) -> (Option<ImageWriteFault>, u64) {
     (fault, writer.size())
 }
 
-/// How many bytes the items take that end within the first `left` bytes of `IMAGE`.
+/// Returns the size of the items that end within the first `left` bytes of `IMAGE`.
 fn whole_items(left: usize) -> u64 {
     match left {
         0..12 => 0,
@@ -118,7 +119,7 @@ fn whole_items(left: usize) -> u64 {
     }
 }
 
-/// A device that takes so many bytes, and then fails or takes nothing more, holds a front.
+/// A device that accepts so many bytes, and then fails or accepts nothing, contains a prefix.
 fn holds_a_front(rt: &impl Abort, alloc: Global, left: usize, kind: Option<ErrorKind>) {
     let mut device = Narrow {
         taken: Vec::new(alloc),
@@ -144,7 +145,7 @@ fn a_device_that_fails_holds_a_front(rt: HostRuntime) -> Result<(), Fail> {
     Ok(())
 }
 
-/// A device fails at this call of a block. It gets none after that.
+/// A device fails at this call of a block. It is not called after that.
 fn is_left_alone(rt: &impl Abort, content: &[u8], fails_at: u32) {
     let rows = [
         (Call::Block(content), Some(Device), 0),

@@ -3,7 +3,7 @@ use Rattle.std.specs.Io.KnownBytes.{Appends}
 use Rattle.byteorder.specs.Endian.{little_bytes}
 use Rattle.tape_image.specs.Written.{AppendsFront}
 use Rattle.tape_image.proofs.Pieces.{front_behind, front_more, last_front, on_err, take_one}
-use Rattle.tape_image.proofs.put.put_long.Goals as goal
+use Rattle.tape_image.proofs.put.put_block.Goals as goal
 
 -- the pieces of a block of n bytes behind its content
 abbrev behind : ℕ → List ℕ
@@ -28,8 +28,8 @@ pub returns-in_err-put-2-clause-err : goal.returns-in_err-put-2-clause-err
 returns-in_err-put-2-clause-err g c =
     let content = c.args.content.now in
     let n = length content in
-    let P : List ℕ → Type 0 = λ p. AppendsFront (g.W.Write.contents c.put.new.device)
-    (g.W.Write.contents c.put-2.new.device) p in
+    let P : List ℕ → Type 0 = λ p. AppendsFront (g.W.Write.contents c.put-2.new.device)
+    (g.W.Write.contents c.put-3.new.device) p in
     let pad : P (replicate (n % 2) 0) =
     subst P (take_one (n % 2) (omega arith)) c.in_err-put-2.ensures.err in
     let part = front_behind _ _ _ content (behind n) c.in_ok-put.ensures.ok
@@ -42,7 +42,7 @@ returns-clause-err g c =
     let content = c.args.content.now in
     let n = length content in
     let P : List ℕ → Type 0 =
-    λ p. Appends (g.W.Write.contents c.put.new.device) (g.W.Write.contents c.put-2.new.device) p in
+    λ p. Appends (g.W.Write.contents c.put-2.new.device) (g.W.Write.contents c.put-3.new.device) p in
     let pad : P (replicate (n % 2) 0) =
     subst P (take_one (n % 2) (omega arith)) c.in_ok-put-2.ensures.ok in
     let trail =

@@ -2,7 +2,7 @@ use Rattle.std.proofs.Common.{ap, arith}
 use Rattle.std.proofs.lemmas.Result.{err_from_is_err_and}
 use Rattle.tape_image.specs.Kind.{kind_extent}
 use Rattle.tape_image.proofs.Blocks.{word_falls, over_limit}
-use Rattle.tape_image.proofs.reader.take_front.Goals as goal
+use Rattle.tape_image.proofs.reader.take_found.Goals as goal
 
 pub returns-in_err-word : goal.returns-in_err-word
 returns-in_err-word g c =
