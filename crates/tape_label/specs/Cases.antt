@@ -1,5 +1,4 @@
--- What the rules of labels say of cases, so that none of them says less than it should. The call
--- `laws::cases` has them as its contract.
+-- Test cases for the definitions of labels. The function `laws::cases` has them as its contract.
 use Rattle.std.specs.Prelude.{◌≡◌, ◌⊎◌, ℕ, List}
 use Rattle.tape_label.specs.declared.values.Kind.{Kind}
 use Rattle.tape_label.specs.declared.values.Kind.TheVariants.{Eof1, Eov1, Vol1, Hdr1}
@@ -15,21 +14,21 @@ use Rattle.tape_label.specs.Trail1.{IsTrail1, TrailFits}
 use Rattle.tape_label.specs.Laws.{HasOneKind, IsNotBoth, IsSecondLabel}
 
 pub record CasesOfLabels : Type 0 where
-  -- the numbers of each first header label that there is can be written,
+  -- the numbers of every first header label can be written,
   pub head_fits : (label : List ℕ) (fields : Head1) → HasHead label fields → HeadFits fields
-  -- those of each first trailer label,
+  -- those of every first trailer label,
   pub trailer_fits : (label : List ℕ) (fields : Trail1) → IsTrail1 label fields → TrailFits fields
-  -- and those of each second label
+  -- and those of every second label
   pub second_fits : (label : List ℕ) (kind : Kind) (fields : Head2)
       → IsHead2 label kind fields → Head2Fits fields
-  -- EOF1 and EOV1 are the first trailer labels, and no others
+  -- EOF1 and EOV1 are the only first trailer labels
   pub first_trailers : (kind : Kind) → IsFirstTrailer kind → (kind ≡ Eof1) ⊎ (kind ≡ Eov1)
-  -- a second label of any of its kinds is one
+  -- a second label of any of its kinds is a second label
   pub second_labels : (label : List ℕ) (kind : Kind) (fields : Head2)
       → IsHead2 label kind fields → IsSecondLabel label fields
-  -- a block of one kind at most is of no second one
+  -- a block that has one kind has no second one
   pub one_kind : (block : List ℕ) → HasOneKind block
       → HasKind block Hdr1 → HasKind block Vol1 → Hdr1 ≡ Vol1
-  -- what is not both is no label of the one sort where it is one of the other
+  -- if no block is both, a label of one sort is not one of the other
   pub not_both : (block : List ℕ) (volume : Vol1Fields) (head : Head1)
       → IsNotBoth IsVol1 IsHead1 block → IsVol1 block volume → IsHead1 block head → ⊥

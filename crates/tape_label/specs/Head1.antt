@@ -6,7 +6,7 @@ use Rattle.tape_label.specs.Kinds.{HasKind}
 use Rattle.tape_label.specs.Positions.{positions, HasNumber}
 
 -- The fields that a first header label and the first trailer labels share, at the same positions.
--- Positions 55 to 60 are not among them, and positions 74 to 80 are reserved and may hold anything.
+-- Positions 55 to 60 are not among them; positions 74 to 80 are reserved and may contain anything.
 pub record HasHead (label : List ℕ) (fields : Head1) : Type 0 where
   pub file_id : positions label 5 21 ≡ fields.file_id
   pub set_id : positions label 22 27 ≡ fields.set_id
@@ -19,12 +19,12 @@ pub record HasHead (label : List ℕ) (fields : Head1) : Type 0 where
   pub access : positions label 54 54 ≡ fields.access ∷ []
   pub implementation : positions label 61 73 ≡ fields.implementation
 
--- the first header label of these fields; its block count, at positions 55 to 60, is not judged
+-- the first header label with these fields, and any block count at positions 55 to 60
 pub record IsHead1 (label : List ℕ) (fields : Head1) : Type 0 where
   pub kind : HasKind label kinds.Hdr1
   pub head : HasHead label fields
 
--- Its numbers fit their digits, and are counted from 1.
+-- The numbers fit their digits, and count from 1.
 pub record HeadFits (fields : Head1) : Type 0 where
   pub sect : (1 ≤ fields.sect) × (fields.sect ≤ 9999)
   pub sequence : (1 ≤ fields.sequence) × (fields.sequence ≤ 9999)

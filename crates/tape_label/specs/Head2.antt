@@ -11,7 +11,7 @@ abbrev pub HasOffset : List ℕ → ℕ → Type 0
 HasOffset label offset =
     HasNumber label 51 52 0 offset ⊎ ((positions label 51 52 ≡ codes "  ") × (offset ≡ 0))
 
--- the second label of these fields, which is of this kind; positions 16 to 50 and 53 to 80 may hold
+-- the second label of this kind with these fields; positions 16 to 50 and 53 to 80 may contain
 -- anything
 pub record IsHead2 (label : List ℕ) (which : Kind) (fields : Head2) : Type 0 where
   pub second : IsSecond which
@@ -21,7 +21,7 @@ pub record IsHead2 (label : List ℕ) (which : Kind) (fields : Head2) : Type 0 w
   pub rec_len : HasNumber label 11 15 (least_record fields.format) fields.rec_len
   pub offset : HasOffset label fields.offset
 
--- Its numbers fit their digits, and records of a fixed length are not empty.
+-- The numbers fit their digits, and records of a fixed length are not empty.
 pub record Head2Fits (fields : Head2) : Type 0 where
   pub block_len : fields.block_len ≤ 99999
   pub rec_len : (least_record fields.format ≤ fields.rec_len) × (fields.rec_len ≤ 99999)

@@ -1,4 +1,4 @@
--- The kinds of labels, told by the size of a block and its first four characters.
+-- The kinds of labels, by the length of a block and its first four characters.
 use Rattle.std.specs.Prelude.{◌≡◌, ◌==◌, ℕ, List, [], ◌∷◌, length, codes, Bool, if◌then◌else◌}
 use Rattle.std.specs.Prelude.{Option, None}
 use Rattle.std.specs.List.{find}
@@ -18,34 +18,35 @@ identifier Eof2 = codes "EOF2"
 identifier Eov1 = codes "EOV1"
 identifier Eov2 = codes "EOV2"
 
--- a label of this kind, whatever its fields hold
+-- a label of this kind, whatever its fields contain
 pub record HasKind (label : List ℕ) (kind : Kind) : Type 0 where
   pub size : length label ≡ 80
   pub named : positions label 1 4 ≡ identifier kind
 
--- the kind of a first trailer label: that of a file's end, or of a section whose file goes on
+-- the kind of a first trailer label: at the end of the file, or of a section after which the file
+-- continues
 abbrev pub trailer : Bool → Kind
 trailer eof = if eof then Eof1 else Eov1
 
--- the kinds of first trailer labels, which have one layout
+-- the kinds of first trailer labels, which have the same layout
 abbrev pub IsFirstTrailer : Kind → Type 0
 IsFirstTrailer Eof1 = Unit {0}
 IsFirstTrailer Eov1 = Unit {0}
 IsFirstTrailer _ = ⊥
 
--- the kinds of second labels, which have one layout
+-- the kinds of second labels, which have the same layout
 abbrev pub IsSecond : Kind → Type 0
 IsSecond Hdr2 = Unit {0}
 IsSecond Eof2 = Unit {0}
 IsSecond Eov2 = Unit {0}
 IsSecond _ = ⊥
 
--- the kind whose identifier this is
+-- the kind with this identifier
 abbrev pub kind_named : List ℕ → Option Kind
 kind_named text =
     find (λ kind. bytes_eq text (identifier kind))
     (Vol1 ∷ Hdr1 ∷ Hdr2 ∷ Eof1 ∷ Eof2 ∷ Eov1 ∷ Eov2 ∷ [])
 
--- the kind of the label that a block is, if it is one
+-- the kind of label that a block is, if it is one
 unfoldable pub kind_at : List ℕ → Option Kind
 kind_at block = if length block == 80 then kind_named (positions block 1 4) else None

@@ -1,4 +1,4 @@
--- Any of the labels: which one a block is.
+-- The label that a block is.
 use Rattle.std.specs.Prelude.{ℕ, ◌==◌, List, length, if◌then◌else◌, Option, Some, None, Result, Ok}
 use Rattle.std.specs.Prelude.{Err}
 use Rattle.tape_label.specs.declared.label.LabelFault.{LabelFault}
@@ -22,7 +22,7 @@ IsLabel block (labels.Head1 fields) = IsHead1 block fields
 IsLabel block (labels.Second kind fields) = IsHead2 block kind fields
 IsLabel block (labels.Trail1 fields) = IsTrail1 block fields
 
--- why a block that is none of the seven kinds is no label
+-- why a block that is none of the seven kinds is not a label
 abbrev pub no_kind : List ℕ → LabelFault
 no_kind block = if length block == 80 then Identifier else NotEighty
 
@@ -37,6 +37,6 @@ read_as block (Some Eof2) = head2_at block >>= λ fields. Ok (labels.Second Eof2
 read_as block (Some Eov1) = trail1_at block >>= λ fields. Ok (labels.Trail1 fields)
 read_as block (Some Eov2) = head2_at block >>= λ fields. Ok (labels.Second Eov2 fields)
 
--- the block read as the label that its first four characters name
+-- the block read as the label that its first four characters identify
 unfoldable pub label_at : List ℕ → Result Label LabelFault
 label_at block = read_as block (kind_at block)

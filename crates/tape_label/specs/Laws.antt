@@ -1,4 +1,4 @@
--- Laws about labels. Each is the contract of a call of the module `laws`.
+-- Laws about labels. Each is the contract of a function of the module `laws`.
 use Rattle.std.specs.Prelude.{◌≡◌, ℕ, ◌+◌, List, Result, Ok, Err}
 use Rattle.tape_label.specs.declared.label.LabelFault.{LabelFault}
 use Rattle.tape_label.specs.declared.values.Kind.{Kind}
@@ -7,12 +7,11 @@ use Rattle.tape_label.specs.Kinds.{HasKind}
 use Rattle.tape_label.specs.Head2.{IsHead2}
 use Rattle.tape_label.specs.Reading.{vol1_at, head1_at, head2_at, trail1_at}
 
--- A block is a label of one kind at most.
+-- A block is a label of at most one kind.
 abbrev pub HasOneKind : List ℕ → Type 0
 HasOneKind block = (a b : Kind) → HasKind block a → HasKind block b → a ≡ b
 
--- The block is not both: a label of one sort with some fields, and one of the other sort with some
--- fields.
+-- No block is both a label of the one sort and a label of the other, whatever the fields.
 abbrev pub IsNotBoth : {A B : Type 0} → (List ℕ → A → Type 0) → (List ℕ → B → Type 0)
     → List ℕ → Type 0
 IsNotBoth {A} {B} One Other block = (a : A) (b : B) → One block a → Other block b → ⊥
@@ -21,12 +20,12 @@ IsNotBoth {A} {B} One Other block = (a : A) (b : B) → One block a → Other bl
 abbrev pub IsSecondLabel : List ℕ → Head2 → Type 0
 IsSecondLabel block fields = (which : Kind) × IsHead2 block which fields
 
--- one for a block that was read
+-- 1 for a block that was read
 abbrev pub one_if_read : {A : Type 0} → Result A LabelFault → ℕ
 one_if_read (Ok fields) = 1
 one_if_read (Err fault) = 0
 
--- how many of the four reading calls read the block
+-- how many of the four reading functions accept the block
 abbrev pub readings : List ℕ → ℕ
 readings block =
     one_if_read (vol1_at block) + one_if_read (head1_at block) + one_if_read (head2_at block)

@@ -1,4 +1,4 @@
--- to be believed, in this order:
+-- the definitions that a reader has to trust, in this order:
 pub mod Positions
 pub mod Digits
 pub mod Characters
@@ -15,5 +15,5 @@ pub mod Written
 pub mod Faults
 pub mod Laws
 pub mod Cases
--- of it the order of the faults:
+-- only for the order of the faults:
 pub mod Reading

@@ -1,5 +1,5 @@
--- What the reading calls answer, as functions of a block: its fields, or the first of the tests
--- that fails. The tests are made in the order of the lines.
+-- The results of the reading functions, as functions of a block: the fields, or the first test that
+-- fails. The tests are made in the order of the lines.
 use Rattle.std.specs.Prelude.{ℕ, ◌-◌, ◌==◌, nat_lt, ◌||◌, List, length, codes, slice_index, Bool}
 use Rattle.std.specs.Prelude.{true, false, if◌then◌else◌, Result, Ok, Err}
 use Rattle.std.specs.Str.{bytes_eq, all_ascii_digits}
@@ -18,7 +18,7 @@ use Rattle.tape_label.specs.Formats.{letter, least_record}
 use Rattle.tape_label.specs.Kinds.{identifier}
 use Rattle.tape_label.specs.Positions.{positions}
 
--- the next step, where none has failed yet
+-- the next step, if none has failed yet
 infixl 10 ◌>>=◌
 abbrev pub ◌>>=◌ : {A B : Type 0} → Result A LabelFault → (A → Result B LabelFault)
     → Result B LabelFault
@@ -29,11 +29,11 @@ abbrev pub ◌>>=◌ : {A B : Type 0} → Result A LabelFault → (A → Result 
 abbrev pub eighty : List ℕ → Result (Unit {0}) LabelFault
 eighty label = if length label == 80 then Ok tt else Err faults.NotEighty
 
--- it begins as a label of this kind
+-- it begins like a label of this kind
 abbrev pub begins_as : List ℕ → Kind → Bool
 begins_as label kind = bytes_eq (positions label 1 4) (identifier kind)
 
--- or it is no label of this kind
+-- otherwise it is not a label of this kind
 abbrev pub of_kind : List ℕ → Kind → Result (Unit {0}) LabelFault
 of_kind label kind = if begins_as label kind then Ok tt else Err faults.Identifier
 
@@ -41,7 +41,7 @@ of_kind label kind = if begins_as label kind then Ok tt else Err faults.Identifi
 abbrev pub character_at : List ℕ → ℕ → ℕ
 character_at label position = slice_index label (position - 1)
 
--- the number that stands there in digits, which is not below the least
+-- the number at these positions in digits, which must be at least `least`
 abbrev pub number_at : List ℕ → ℕ → ℕ → ℕ → Result ℕ LabelFault
 number_at label first last least =
     let ds = positions label first last
@@ -85,7 +85,7 @@ head_fields label sect sequence = record {
   implementation = positions label 61 73;
 }
 
--- what they share: the two numbers are judged, in this order
+-- the shared fields: the two numbers are checked, in this order
 unfoldable pub head_at : List ℕ → Result Head1 LabelFault
 head_at label = do
   sect ← number_at label 28 31 1
@@ -99,7 +99,7 @@ head1_at label = do
   _ ← of_kind label kinds.Hdr1
   head_at label
 
--- whether the label is that of a file's end
+-- whether the label is at the end of the file
 unfoldable pub end_at : List ℕ → Result Bool LabelFault
 end_at label =
     if begins_as label kinds.Eof1 then Ok true
@@ -116,13 +116,13 @@ trail1_at label = do
 
 -- ---- second header and trailer labels
 
--- it begins as one of the three second labels
+-- it begins like one of the three second labels
 abbrev pub second : List ℕ → Result (Unit {0}) LabelFault
 second label =
     if begins_as label kinds.Hdr2 || begins_as label kinds.Eof2 || begins_as label kinds.Eov2
     then Ok tt else Err faults.Identifier
 
--- the record format that the letter at position 5 names
+-- the record format of the letter at position 5
 unfoldable pub format_at : List ℕ → Result Format LabelFault
 format_at label =
     let c = character_at label 5
@@ -130,7 +130,7 @@ format_at label =
     else (if c == letter Counted then Ok Counted
     else (if c == letter Spanned then Ok Spanned else Err (faults.Format c)))
 
--- the buffer offset, where two spaces are 0
+-- the buffer offset; two spaces are 0
 unfoldable pub offset_at : List ℕ → Result ℕ LabelFault
 offset_at label =
     if bytes_eq (positions label 51 52) (codes "  ") then Ok 0 else number_at label 51 52 0

@@ -5,14 +5,14 @@ use Rattle.tape_label.specs.Head1.{HasHead, HeadFits}
 use Rattle.tape_label.specs.Kinds.{HasKind, trailer}
 use Rattle.tape_label.specs.Positions.{HasNumber}
 
--- the first trailer label of these fields: `EOF1` at a file's end, `EOV1` where the file goes on in
--- another volume
+-- the first trailer label with these fields: `EOF1` at the end of the file, `EOV1` if the file
+-- continues on another volume
 pub record IsTrail1 (label : List ℕ) (fields : Trail1) : Type 0 where
   pub kind : HasKind label (trailer fields.eof)
   pub head : HasHead label fields.head
   pub blocks : HasNumber label 55 60 0 fields.blocks
 
--- Its numbers fit their digits.
+-- The numbers fit their digits.
 pub record TrailFits (fields : Trail1) : Type 0 where
   pub head : HeadFits fields.head
   pub blocks : fields.blocks ≤ 999999

@@ -1,9 +1,9 @@
--- Volume labels of any sort, told by the size of a block and its first three characters.
+-- Volume labels of any sort, by the length of a block and its first three characters.
 use Rattle.std.specs.Prelude.{◌≡◌, ◌==◌, ◌&&◌, ◌||◌, ◌⊎◌, ℕ, List, length, codes, Bool}
 use Rattle.std.specs.Str.{bytes_eq}
 use Rattle.tape_label.specs.Positions.{positions}
 
--- 80 characters that begin `VOL`, or `UVL` as the labels of a user's own do
+-- 80 characters that begin with `VOL`, or with `UVL` like a user's own labels
 abbrev pub IsOfVolume : List ℕ → Type 0
 IsOfVolume block =
     (length block ≡ 80)

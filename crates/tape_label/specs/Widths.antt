@@ -1,4 +1,4 @@
--- How many characters the fields of labels have.
+-- The number of characters in the fields of labels.
 use Rattle.std.specs.Prelude.{◌≡◌, length}
 use Rattle.tape_label.specs.declared.values.Vol1.{Vol1}
 use Rattle.tape_label.specs.declared.values.Head1.{Head1}

@@ -1,5 +1,5 @@
--- The one text that is written of each label: its pieces in the order of their positions, spaces
--- where it is reserved.
+-- The one text that is written for each label: its pieces in the order of their positions, with
+-- spaces in reserved positions.
 use Rattle.std.specs.Prelude.{◌≡◌, ℕ, List, [], ◌∷◌, ◌++◌, length, replicate}
 use Rattle.tape_label.specs.declared.values.Kind.{Kind}
 use Rattle.tape_label.specs.declared.values.Kind.TheVariants as kinds
@@ -11,12 +11,12 @@ use Rattle.tape_label.specs.Digits.{digits}
 use Rattle.tape_label.specs.Formats.{letter}
 use Rattle.tape_label.specs.Kinds.{identifier, trailer}
 
--- some characters of a label, and how many positions they take
+-- some characters of a label, and the number of positions for them
 pub record Piece : Type 0 where
   pub width : ℕ
   pub text : List ℕ
 
--- this text, in so many positions
+-- this text, in this number of positions
 abbrev pub chars : ℕ → List ℕ → Piece
 chars width text = record { width = width; text = text }
 
@@ -24,7 +24,7 @@ chars width text = record { width = width; text = text }
 abbrev pub spaces : ℕ → Piece
 spaces width = chars width (replicate width 32)
 
--- this number in digits, in so many positions
+-- this number in digits, in this number of positions
 abbrev pub number : ℕ → ℕ → Piece
 number width n = chars width (digits width n)
 
@@ -33,7 +33,7 @@ abbrev pub text_of : List Piece → List ℕ
 text_of [] = []
 text_of (p ∷ ps) = p.text ++ text_of ps
 
--- Each piece has as many characters as it takes positions.
+-- Each piece has as many characters as it has positions.
 abbrev pub HaveWidths : List Piece → Type 0
 HaveWidths [] = Unit {0}
 HaveWidths (p ∷ ps) = (length p.text ≡ p.width) × HaveWidths ps
@@ -55,7 +55,7 @@ head_pieces kind fields blocks =
     ∷ chars 1 (fields.access ∷ []) ∷ number 6 blocks
     ∷ chars 13 fields.implementation ∷ spaces 7 ∷ []
 
--- a first header label says that there are no blocks before it
+-- a first header label has the block count 0
 abbrev pub head1_pieces : Head1 → List Piece
 head1_pieces fields = head_pieces kinds.Hdr1 fields 0
 

@@ -1,4 +1,4 @@
-//! Which label a block is, and why it is refused.
+//! The kinds of labels, the label that a block is, and the faults of labels.
 
 ghost use Rattle.std.specs.Prelude.{◌≡◌, ◌≢◌, IfOk, Ok, Err, length, ◌↔◌, IfSome, Some, IsTrue};
 ghost use Rattle.std.specs.Prelude.{false};
@@ -11,25 +11,26 @@ use crate::reading::{read_head1, read_head2, read_trail1, read_vol1};
 use crate::values::{Head1, Head2, Kind, Trail1, Vol1};
 use thiserror::Error;
 
-/// Why a label does not read, or a text is no field. Positions of a label are counted from 1.
+/// Why a block is not a valid label, or a text not a valid field. Positions in a label are counted
+/// from 1.
 #[derive(Clone, Copy, Debug, PartialEq, Eq, Hash, Error)]
 pub enum LabelFault {
     /// The block does not have 80 characters.
     #[error("a label has 80 characters")]
     NotEighty,
-    /// The first four characters are not those of a label that the call reads.
+    /// The first four characters are not the identifier of a label that the function reads.
     #[error("the identifier is that of another label, or of none")]
     Identifier,
-    /// A character of the number that begins at this position is no digit.
+    /// The number that begins at this position contains a character that is not a digit.
     #[error("the number at position {0} is not all digits")]
     NotDigits(u8),
-    /// This character, at position 5, is none of the record formats `F`, `D` and `S`.
+    /// This character, at position 5, is not one of the record formats `F`, `D` and `S`.
     #[error("the record format is the byte {0}")]
     Format(u8),
-    /// The number that begins at this position is below the least that is allowed there.
+    /// The number that begins at this position is less than its minimum.
     #[error("the number at position {0} is out of its range")]
     FieldRange(u8),
-    /// The byte at this place of the text, counted from 0, is no a-character.
+    /// The byte at this index of the text, counted from 0, is not an a-character.
     #[error("the byte at place {0} is no a-character")]
     NotACharacter(usize),
     /// The text has more bytes than its field has positions.
@@ -38,7 +39,7 @@ pub enum LabelFault {
 }
 
 impl LabelFault {
-    /// The fixed number of the fault, from 1 to 7 in the order of the list above.
+    /// Returns the fixed number of the fault, from 1 to 7 in the order of the list above.
     pub fn number(&self) -> u8
         ensures { result ≡ number self.now }
     {
@@ -54,8 +55,9 @@ impl LabelFault {
     }
 }
 
-/// Which label the block is, by its length of 80 characters and the first four of them alone;
-/// `None` where it is none of these (ECMA-13, 4th edition, label identifier and label number).
+/// Returns the kind of label that the block is, judged only by its length of 80 characters and the
+/// first four of them. Returns `None` if it is none of these (ECMA-13, 4th edition, label
+/// identifier and label number).
 #[tactic(auto, unfolding(crate::specs::Kinds::kind_at))]
 pub fn kind(block: &[u8]) -> Option<Kind>
     ensures found { IfSome result (HasKind block.now) }
@@ -78,13 +80,12 @@ pub fn kind(block: &[u8]) -> Option<Kind>
     }
 }
 
-/// Whether the block is a volume label of any sort: 80 characters that begin `VOL` or `UVL`,
-/// whatever stands behind them (ECMA-13, 4th edition, volume header labels and user volume header
-/// labels).
+/// Returns true if the block is a volume label of any sort: 80 characters that begin with `VOL` or
+/// `UVL` (ECMA-13, 4th edition, volume header labels and user volume header labels).
 #[tactic(auto, unfolding(crate::specs::VolumeLabels::is_volume_label))]
 pub fn is_volume_label(block: &[u8]) -> bool
     ensures found { IsTrue result ↔ IsOfVolume block.now }
-    // Of the kinds of labels that are read it is VOL1 alone.
+    // Of the kinds that can be read only VOL1 is one.
     ensures other { (kind : Kind) → HasKind block.now kind → kind ≢ Kind.Vol1 → result ≡ false }
     // The same as a function of the block.
     ensures exact { result ≡ is_volume_label block.now }
@@ -99,36 +100,36 @@ pub enum Label {
     Vol1(Vol1),
     /// `HDR1`, a first header label.
     Head1(Head1),
-    /// `HDR2`, `EOF2` or `EOV2`, a second label, and which of them it is.
+    /// `HDR2`, `EOF2` or `EOV2`, a second label, with its kind.
     Second(Kind, Head2),
     /// `EOF1` or `EOV1`, a first trailer label.
     Trail1(Trail1),
 }
 
-/// Reads the block as the label that its first four characters name (ECMA-13, 4th edition, label
-/// identifier and label number).
+/// Reads the block as the label that its first four characters identify (ECMA-13, 4th edition,
+/// label identifier and label number).
 ///
 /// # Errors
 ///
-/// `NotEighty` where the block does not have 80 characters; `Identifier` where it begins as none of
-/// the seven kinds of labels; else what the reading call of its kind answers.
+/// `NotEighty` if the block does not have 80 characters; `Identifier` if it does not begin like one
+/// of the seven kinds of labels; otherwise the fault of the function that reads its kind.
 pub fn read_label(block: &[u8]) -> Result<Label, LabelFault>
-    // What is read is this label with these fields,
+    // A label that is read has these fields,
     ensures found { IfOk result (IsLabel block.now) }
-    // and whatever is a label with some fields is read.
+    // and every block that is a label with some fields is read.
     ensures only { (label : Label) → IsLabel block.now label → result ≡ Ok label }
     // A block of another length,
     ensures other_length { length block.now ≢ 80 → result ≡ Err LabelFault.NotEighty }
-    // or one that begins as none of the seven, is refused as such.
+    // or one that begins like none of the seven, is refused as such.
     ensures no_kind { length block.now ≡ 80 → ((kind : Kind) → HasKind block.now kind → ⊥)
         → result ≡ Err LabelFault.Identifier }
-    // The answer as a function of the block.
+    // The result as a function of the block.
     ensures exact { result ≡ label_at block.now }
 {
     label_at(block)
 }
 
-/// The label that the block is, by its kind.
+/// Reads the label by its kind.
 #[tactic(auto, unfolding(crate::specs::Labels::label_at))]
 fn label_at(block: &[u8]) -> Result<Label, LabelFault>
     ensures { result ≡ label_at block.now }
@@ -144,7 +145,7 @@ fn label_at(block: &[u8]) -> Result<Label, LabelFault>
     })
 }
 
-/// Why a block that is none of the seven kinds is no label.
+/// Returns why a block that is none of the seven kinds is not a label.
 fn no_kind(block: &[u8]) -> LabelFault
     ensures { result ≡ no_kind block.now }
 {

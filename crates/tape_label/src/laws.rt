@@ -1,4 +1,4 @@
-//! Laws about labels, each as the contract of a call.
+//! Laws about labels, each as the contract of a function.
 
 ghost use Rattle.std.specs.Prelude.{◌≡◌, ◌<◌, ◌≤◌, ◌^◌, ◌↔◌, IsTrue, Ok, Some};
 ghost use Rattle.std.specs.Str.{bytes_eq};
@@ -57,8 +57,9 @@ pub fn trail1_again(fields: &Trail1) -> Result<Trail1, LabelFault>
     read_trail1(&write_trail1(fields))
 }
 
-/// How many of the four reading calls read the block: one at most, since no block is two kinds of
-/// label. None is both a header and a trailer, and no header or trailer is a volume label.
+/// Returns how many of the four reading functions accept the block: at most one, because no block
+/// is two kinds of label. No block is both a header and a trailer, and no header or trailer is a
+/// volume label.
 pub fn readings(block: &[u8]) -> usize
     ensures count { result ≡ readings block.now }
     ensures at_most_one { result ≤ 1 }
@@ -76,13 +77,13 @@ pub fn readings(block: &[u8]) -> usize
         + usize::from(read_trail1(block).is_ok())
 }
 
-/// What the rules of labels say of cases: what a label holds can be written, and each rule that
-/// stands in one clause alone says all that it should.
+/// Test cases for the definitions of labels: the fields of every label can be written, and each
+/// rule that only one clause states says all that it should.
 pub fn cases()
     ensures { CasesOfLabels }
 {}
 
-/// Two fields are equal exactly where their bytes are.
+/// Compares two fields: they are equal if and only if their bytes are.
 pub fn same_field<const N: usize>(a: &Field<N>, b: &Field<N>) -> bool
     ensures equal { IsTrue result ↔ (a.now ≡ b.now) }
     // The same as a function of the fields.

@@ -1,4 +1,4 @@
-//! The fields of a label, read from its characters.
+//! Reads the fields of a label from its characters.
 
 ghost use Rattle.std.specs.Prelude.{◌≡◌, ◌≢◌, IfOk, Ok, Err, length, ◌<◌, ◌≤◌, ◌+◌, ◌-◌, ◌^◌, ℕ};
 ghost use Rattle.std.specs.Prelude.{IfSome, Some, None, if◌then◌else◌};
@@ -16,8 +16,8 @@ ghost use Rattle.tape_label.specs.Digits.{digits, number_of};
 use crate::label::LabelFault;
 use crate::values::{Format, Head1, Head2, Kind, Trail1, Vol1, field_at};
 
-/// The number that these digits are, leading zeros allowed; `None` where one of the bytes is no
-/// digit. No digits at all are the number 0. Nineteen digits always fit a `u64`.
+/// Returns the number with these digits, which may have leading zeros, or `None` if one of the
+/// bytes is not a digit. An empty text is the number 0. Nineteen digits always fit a `u64`.
 #[tactic(auto, using(crate::proofs::DigitLaws::counted_digits))]
 pub fn digits_value(text: &[u8]) -> Option<u64>
     requires { length text.now ≤ 19 }
@@ -39,7 +39,7 @@ pub fn digits_value(text: &[u8]) -> Option<u64>
     Some(number)
 }
 
-/// The number in `W` digits, with leading zeros.
+/// Returns the number in `W` digits, with leading zeros.
 pub fn digits_of<const W: usize>(number: u64) -> [u8; W]
     requires { number < 10 ^ W }
     ensures { result ≡ digits W number }
@@ -55,7 +55,7 @@ pub fn digits_of<const W: usize>(number: u64) -> [u8; W]
     text
 }
 
-/// The character at this position, counted from 1.
+/// Returns the character at this position, counted from 1.
 pub(crate) fn character_at(label: &[u8], position: usize) -> u8
     requires first { 1 ≤ position }
     requires last { position ≤ length label.now }
@@ -64,8 +64,8 @@ pub(crate) fn character_at(label: &[u8], position: usize) -> u8
     label[position - 1]
 }
 
-/// The number in digits at the positions `first` to `last`, counted from 1, which is not below the
-/// least.
+/// Reads the number in digits at the positions `first` to `last`, counted from 1, which must be at
+/// least `least`.
 pub(crate) fn number_at(label: &[u8], first: u8, last: u8, least: u64) -> Result<u64, LabelFault>
     requires first { 1 ≤ first }
     requires order { first ≤ last }
@@ -81,7 +81,7 @@ pub(crate) fn number_at(label: &[u8], first: u8, last: u8, least: u64) -> Result
     }
 }
 
-/// Whether the first trailer label is that of a file's end.
+/// Returns true for `EOF1` and false for `EOV1`.
 #[tactic(auto, unfolding(crate::specs::Reading::end_at))]
 pub(crate) fn end_at(label: &[u8]) -> Result<bool, LabelFault>
     requires { length label.now ≡ 80 }
@@ -94,7 +94,7 @@ pub(crate) fn end_at(label: &[u8]) -> Result<bool, LabelFault>
     }
 }
 
-/// The record format of a second label.
+/// Reads the record format of a second label.
 #[tactic(auto, unfolding(crate::specs::Reading::format_at))]
 pub(crate) fn format_at(label: &[u8]) -> Result<Format, LabelFault>
     requires { length label.now ≡ 80 }
@@ -108,7 +108,7 @@ pub(crate) fn format_at(label: &[u8]) -> Result<Format, LabelFault>
     }
 }
 
-/// The buffer offset of a second label, which some systems leave blank for 0.
+/// Reads the buffer offset of a second label. Some systems leave it blank for 0.
 #[tactic(auto, unfolding(crate::specs::Reading::offset_at))]
 pub(crate) fn offset_at(label: &[u8]) -> Result<u8, LabelFault>
     requires { length label.now ≡ 80 }
@@ -121,20 +121,20 @@ pub(crate) fn offset_at(label: &[u8]) -> Result<u8, LabelFault>
     Ok(offset as u8)
 }
 
-/// Reads a volume label (ECMA-13, 4th edition, "Volume Header Label"). The version at position 80
-/// and what stands in reserved positions are not judged.
+/// Reads a volume label (ECMA-13, 4th edition, "Volume Header Label"). Accepts any version at
+/// position 80 and anything in reserved positions.
 ///
 /// # Errors
 ///
-/// `NotEighty`, then `Identifier` where it does not begin `VOL1`.
+/// `NotEighty`, then `Identifier` if it does not begin with `VOL1`.
 pub fn read_vol1(label: &[u8]) -> Result<Vol1, LabelFault>
-    // What is read is the label of these fields,
+    // A label that is read has these fields,
     ensures found { IfOk result (IsVol1 label.now) }
-    // whatever is the label of some fields is read,
+    // every block that is a label with some fields is read,
     ensures only { (fields : Vol1) → IsVol1 label.now fields → result ≡ Ok fields }
-    // a block that begins as one is, whatever its fields hold,
+    // a block that begins like one is read, whatever its fields contain,
     ensures any { HasKind label.now Kind.Vol1 → result ≡ Ok (vol1_fields label.now) }
-    // a label of another kind is refused as such, whatever its fields hold,
+    // a label of another kind is refused as such, whatever its fields contain,
     ensures other { (kind : Kind) → HasKind label.now kind → kind ≢ Kind.Vol1
         → result ≡ Err LabelFault.Identifier }
     // and anything else has the first fault.
@@ -143,12 +143,12 @@ pub fn read_vol1(label: &[u8]) -> Result<Vol1, LabelFault>
     vol1_at(label)
 }
 
-/// Reads a first header label (ECMA-13, 4th edition, "First File Header Label"). Its block count
-/// and what stands in reserved positions are not judged.
+/// Reads a first header label (ECMA-13, 4th edition, "First File Header Label"). Accepts any block
+/// count and anything in reserved positions.
 ///
 /// # Errors
 ///
-/// In this order: `NotEighty`; `Identifier` where it does not begin `HDR1`; `NotDigits(28)` and
+/// In this order: `NotEighty`; `Identifier` if it does not begin with `HDR1`; `NotDigits(28)` and
 /// `FieldRange(28)` for the section number; `NotDigits(32)` and `FieldRange(32)` for the sequence
 /// number.
 pub fn read_head1(label: &[u8]) -> Result<Head1, LabelFault>
@@ -162,14 +162,13 @@ pub fn read_head1(label: &[u8]) -> Result<Head1, LabelFault>
 }
 
 /// Reads a second header or trailer label, `HDR2`, `EOF2` or `EOV2` (ECMA-13, 4th edition, "Second
-/// File Header Label"). Two spaces in the place of the buffer offset are 0. What stands in reserved
-/// positions is not judged.
+/// File Header Label"). Two spaces as buffer offset are 0. Accepts anything in reserved positions.
 ///
 /// # Errors
 ///
-/// In this order: `NotEighty`; `Identifier` where it begins otherwise; `Format`; `NotDigits(6)` for
-/// the block length; `NotDigits(11)` for the record length, and `FieldRange(11)` where it is 0 and
-/// the format is `Fixed`; `NotDigits(51)` for the buffer offset.
+/// In this order: `NotEighty`; `Identifier` for any other identifier; `Format`; `NotDigits(6)` for
+/// the block length; `NotDigits(11)` for the record length, and `FieldRange(11)` if it is 0 and the
+/// format is `Fixed`; `NotDigits(51)` for the buffer offset.
 pub fn read_head2(label: &[u8]) -> Result<Head2, LabelFault>
     ensures found { IfOk result (λ fields. (which : Kind) × IsHead2 label.now which fields) }
     ensures only { (which : Kind) (fields : Head2) → IsHead2 label.now which fields
@@ -182,12 +181,12 @@ pub fn read_head2(label: &[u8]) -> Result<Head2, LabelFault>
 }
 
 /// Reads a first trailer label, `EOF1` or `EOV1` (ECMA-13, 4th edition, end of file and end of
-/// volume labels). What stands in reserved positions is not judged.
+/// volume labels). Accepts anything in reserved positions.
 ///
 /// # Errors
 ///
-/// As `read_head1`, for the identifiers `EOF1` and `EOV1`, and then `NotDigits(55)` for the block
-/// count.
+/// The errors of `read_head1`, for the identifiers `EOF1` and `EOV1`, and then `NotDigits(55)` for
+/// the block count.
 pub fn read_trail1(label: &[u8]) -> Result<Trail1, LabelFault>
     ensures found { IfOk result (IsTrail1 label.now) }
     ensures only { (fields : Trail1) → IsTrail1 label.now fields → result ≡ Ok fields }
@@ -198,7 +197,7 @@ pub fn read_trail1(label: &[u8]) -> Result<Trail1, LabelFault>
     trail1_at(label)
 }
 
-/// The volume label, or the first test that fails.
+/// Returns the volume label, or the first test that fails.
 #[tactic(auto, unfolding(crate::specs::Reading::vol1_at))]
 fn vol1_at(label: &[u8]) -> Result<Vol1, LabelFault>
     ensures { result ≡ vol1_at label.now }
@@ -218,7 +217,7 @@ fn vol1_at(label: &[u8]) -> Result<Vol1, LabelFault>
     })
 }
 
-/// What a first header label and a first trailer label share.
+/// Reads the fields that first header labels and first trailer labels share.
 #[tactic(auto, unfolding(crate::specs::Reading::head_at))]
 fn head_at(label: &[u8]) -> Result<Head1, LabelFault>
     requires { length label.now ≡ 80 }
@@ -240,7 +239,7 @@ fn head_at(label: &[u8]) -> Result<Head1, LabelFault>
     })
 }
 
-/// The first header label, or the first test that fails.
+/// Returns the first header label, or the first test that fails.
 #[tactic(auto, unfolding(crate::specs::Reading::head1_at))]
 fn head1_at(label: &[u8]) -> Result<Head1, LabelFault>
     ensures { result ≡ head1_at label.now }
@@ -254,7 +253,7 @@ fn head1_at(label: &[u8]) -> Result<Head1, LabelFault>
     head_at(label)
 }
 
-/// The first trailer label, or the first test that fails.
+/// Returns the first trailer label, or the first test that fails.
 #[tactic(auto, unfolding(crate::specs::Reading::trail1_at))]
 fn trail1_at(label: &[u8]) -> Result<Trail1, LabelFault>
     ensures { result ≡ trail1_at label.now }
@@ -268,7 +267,7 @@ fn trail1_at(label: &[u8]) -> Result<Trail1, LabelFault>
     Ok(Trail1 { eof, head, blocks })
 }
 
-/// The second label, or the first test that fails.
+/// Returns the second label, or the first test that fails.
 #[tactic(auto, unfolding(crate::specs::Reading::head2_at))]
 fn head2_at(label: &[u8]) -> Result<Head2, LabelFault>
     ensures { result ≡ head2_at label.now }

@@ -1,4 +1,4 @@
-//! The texts of labels, put together piece by piece.
+//! Builds the texts of labels piece by piece.
 
 ghost use Rattle.std.specs.Prelude.{◌≡◌, ◌<◌, ◌≤◌, ◌+◌, ◌^◌, ◌++◌, length, replicate};
 ghost use Rattle.arrayvec.specs.ArrayVec.{array_vec_len};
@@ -15,7 +15,7 @@ use arrayvec::ArrayVec;
 
 const SPACES: [u8; 80] = [b' '; 80];
 
-/// The text behind what stands there.
+/// Appends a text.
 fn put(label: &mut ArrayVec<u8, 80>, text: &[u8])
     requires { array_vec_len label.old + length text.now ≤ 80 }
     ensures items { label.new.items ≡ label.old.items ++ text.now }
@@ -24,7 +24,7 @@ fn put(label: &mut ArrayVec<u8, 80>, text: &[u8])
     label.try_extend_from_slice(text).unwrap();
 }
 
-/// So many spaces behind what stands there.
+/// Appends `count` spaces.
 fn put_spaces(label: &mut ArrayVec<u8, 80>, count: usize)
     requires { array_vec_len label.old + count ≤ 80 }
     ensures items { label.new.items ≡ label.old.items ++ replicate count 32 }
@@ -33,7 +33,7 @@ fn put_spaces(label: &mut ArrayVec<u8, 80>, count: usize)
     put(label, &SPACES[..count]);
 }
 
-/// The number in `W` digits behind what stands there.
+/// Appends the number in `W` digits.
 fn put_number<const W: usize>(label: &mut ArrayVec<u8, 80>, number: u64)
     requires fits { number < 10 ^ W }
     requires room { array_vec_len label.old + W ≤ 80 }
@@ -43,7 +43,7 @@ fn put_number<const W: usize>(label: &mut ArrayVec<u8, 80>, number: u64)
     put(label, &digits_of::<W>(number));
 }
 
-/// The label that has all its 80 characters.
+/// Returns the label, which has all its 80 characters.
 fn whole(label: ArrayVec<u8, 80>) -> [u8; 80]
     requires { array_vec_len label ≡ 80 }
     ensures { result ≡ label.items }
@@ -51,7 +51,7 @@ fn whole(label: ArrayVec<u8, 80>) -> [u8; 80]
     label.into_inner().unwrap()
 }
 
-/// A volume label.
+/// Returns a volume label.
 pub(crate) fn vol1_text(fields: &Vol1) -> [u8; 80]
     ensures text { result ≡ text_of (vol1_pieces fields.now) }
     ensures widths { HaveWidths (vol1_pieces fields.now) }
@@ -68,7 +68,7 @@ pub(crate) fn vol1_text(fields: &Vol1) -> [u8; 80]
     whole(label)
 }
 
-/// A first header or trailer label with this block count.
+/// Returns a first header or trailer label with this block count.
 pub(crate) fn head_text(kind: Kind, fields: &Head1, blocks: u32) -> [u8; 80]
     requires fits { HeadFits fields.now }
     requires blocks { blocks ≤ 999999 }
@@ -92,7 +92,7 @@ pub(crate) fn head_text(kind: Kind, fields: &Head1, blocks: u32) -> [u8; 80]
     whole(label)
 }
 
-/// A second header or trailer label.
+/// Returns a second header or trailer label.
 pub(crate) fn head2_text(kind: Kind, fields: &Head2) -> [u8; 80]
     requires { Head2Fits fields.now }
     ensures text { result ≡ text_of (head2_pieces kind fields.now) }

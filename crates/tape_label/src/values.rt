@@ -1,4 +1,4 @@
-//! What labels tell.
+//! The fields of labels.
 
 ghost use Rattle.std.specs.Prelude.{◌≡◌, ◌↔◌, IsTrue, ◌+◌, ◌-◌, ◌<◌, ◌≤◌, ◌++◌, List, ℕ, length};
 ghost use Rattle.std.specs.Prelude.{replicate, slice_range, IfSome, IfNone, Ok, Err};
@@ -7,29 +7,30 @@ ghost use Rattle.tape_label.specs.Characters.{first_other, is_a_character};
 use crate::label::LabelFault;
 use std::marker::Model;
 
-/// Whether the byte is an a-character: a space, one of `! " % & ' ( ) * + , - . /`, a digit, one of
-/// `: ; < = > ?`, a capital letter or `_` (ECMA-13, 4th edition, "a-characters").
+/// Returns true if the byte is an a-character: a space, one of `! " % & ' ( ) * + , - . /`, a
+/// digit, one of `: ; < = > ?`, a capital letter or `_` (ECMA-13, 4th edition, "a-characters").
 pub fn is_a_character(byte: u8) -> bool
     ensures { result ≡ is_a_character byte }
 {
     matches!(byte, b' '..=b'"' | b'%'..=b'?' | b'A'..=b'Z' | b'_')
 }
 
-/// The place, counted from 0, of the first byte that is no a-character; `None` where all of them
-/// are.
+/// Returns the index, counted from 0, of the first byte that is not an a-character, or `None` if
+/// there is none.
 pub fn first_other(text: &[u8]) -> Option<usize>
     ensures { result ≡ first_other text.now }
 {
     text.iter().position(|byte| !is_a_character(*byte))
 }
 
-/// The characters of a field of `N` positions. A field that was read may hold any bytes.
+/// The characters of a field of `N` positions. A field that was read may contain any bytes.
 #[derive(Clone, Copy, Debug, PartialEq, Eq, Hash)]
 pub struct Field<const N: usize> {
     characters: [u8; N],
 }
 
-// In contracts a field is the list of its bytes. That there are N of them `bytes` tells.
+// In contracts a field is the list of its bytes. The contract of `bytes` says that there are N of
+// them.
 impl<const N: usize> Model for Field<N> {
     ghost Value = { List ℕ };
 
@@ -39,13 +40,13 @@ impl<const N: usize> Model for Field<N> {
 }
 
 impl<const N: usize> Field<N> {
-    /// The text with spaces on its right, up to the field's length (ECMA-13, 4th edition,
+    /// Creates a field from the text, filled with spaces on the right (ECMA-13, 4th edition,
     /// "a-characters").
     ///
     /// # Errors
     ///
-    /// `FieldLength` where the text has more than `N` bytes; then `NotACharacter` with the place of
-    /// the first byte that is no a-character.
+    /// `FieldLength` if the text has more than `N` bytes; then `NotACharacter` with the index of
+    /// the first byte that is not an a-character.
     pub fn new(text: &str) -> Result<Field<N>, LabelFault>
         ensures long { N < length text.now → result ≡ Err LabelFault.FieldLength }
         ensures other { length text.now ≤ N
@@ -67,14 +68,14 @@ impl<const N: usize> Field<N> {
         Ok(Field { characters })
     }
 
-    /// The field of just these bytes, whatever they are.
+    /// Creates a field of exactly these bytes, whatever they are.
     pub fn of_bytes(bytes: [u8; N]) -> Field<N>
         ensures { result ≡ bytes.entry }
     {
         Field { characters: bytes }
     }
 
-    /// All bytes of the field, with the spaces on its right.
+    /// Returns all bytes of the field, including the spaces on its right.
     pub fn bytes(&self) -> &[u8]
         ensures value { result.now ≡ self.now }
         ensures len { length result.now ≡ N }
@@ -83,7 +84,7 @@ impl<const N: usize> Field<N> {
     }
 }
 
-/// The field that begins at this position, counted from 1.
+/// Returns the field that begins at this position, counted from 1.
 pub(crate) fn field_at<const N: usize>(label: &[u8], first: usize) -> Field<N>
     requires first { 1 ≤ first }
     requires last { first - 1 + N ≤ length label.now }
@@ -100,14 +101,14 @@ pub(crate) fn field_at<const N: usize>(label: &[u8], first: usize) -> Field<N>
 pub struct Vol1 {
     /// The volume identifier, at positions 5 to 10.
     pub volume: Field<6>,
-    /// The accessibility, at position 11: a space where anyone may read the volume.
+    /// The accessibility, at position 11: a space if anyone may read the volume.
     pub access: u8,
     /// The identifier of the system that wrote the label, at positions 25 to 37.
     pub implementation: Field<13>,
     /// The owner of the volume, at positions 38 to 51.
     pub owner: Field<14>,
-    /// The version of the label standard, at position 80: `4` for the fourth edition. It is not
-    /// judged.
+    /// The version of the label standard, at position 80: `4` for the fourth edition. Any value is
+    /// accepted.
     pub version: u8,
 }
 
@@ -120,37 +121,39 @@ pub struct Head1 {
     pub set_id: Field<6>,
     /// The file section number, 1 to 9,999, at positions 28 to 31.
     pub sect: u16,
-    /// The file sequence number, 1 to 9,999, at positions 32 to 35: the file's place in its set.
+    /// The file sequence number, 1 to 9,999, at positions 32 to 35: the number of the file in its
+    /// set.
     pub sequence: u16,
-    /// The generation number, at positions 36 to 39, kept as characters.
+    /// The generation number, at positions 36 to 39, as characters.
     pub generation: Field<4>,
-    /// The generation version number, at positions 40 and 41, kept as characters.
+    /// The generation version number, at positions 40 and 41, as characters.
     pub gen_version: Field<2>,
-    /// The creation date, at positions 42 to 47, kept as characters.
+    /// The creation date, at positions 42 to 47, as characters.
     pub created: Field<6>,
-    /// The expiration date, at positions 48 to 53, kept as characters.
+    /// The expiration date, at positions 48 to 53, as characters.
     pub expires: Field<6>,
-    /// The accessibility, at position 54: a space where anyone may read the file.
+    /// The accessibility, at position 54: a space if anyone may read the file.
     pub access: u8,
     /// The identifier of the system that wrote the label, at positions 61 to 73.
     pub implementation: Field<13>,
 }
 
-/// How records stand in blocks (ECMA-13, 4th edition, "Second File Header Label", record format).
+/// The record format: how blocks contain records (ECMA-13, 4th edition, "Second File Header Label",
+/// record format).
 #[derive(Clone, Copy, Debug, PartialEq, Eq, Hash)]
 pub enum Format {
     /// `F`: each record has the record length.
     Fixed,
-    /// `D`: each record has its length before it.
+    /// `D`: each record is preceded by its length.
     Counted,
-    /// `S`: records in segments, which may run on over blocks and volumes.
+    /// `S`: records are divided into segments, and may continue in the next block or volume.
     Spanned,
 }
 
 impl Format {
     ghost use Rattle.tape_label.specs.Formats.{letter};
 
-    /// The format's letter in a label: `F`, `D` or `S`.
+    /// Returns the format's letter in a label: `F`, `D` or `S`.
     pub fn letter(&self) -> u8
         ensures { result ≡ letter self.now }
     {
@@ -168,28 +171,29 @@ impl Format {
 pub struct Head2 {
     /// The record format, at position 5.
     pub format: Format,
-    /// The greatest length of a block in bytes, 0 to 99,999, at positions 6 to 10.
+    /// The maximum length of a block in bytes, 0 to 99,999, at positions 6 to 10.
     pub block_len: u32,
-    /// The record length in bytes, 0 to 99,999, at positions 11 to 15; at least 1 where the format
-    /// is `Fixed`.
+    /// The record length in bytes, 0 to 99,999, at positions 11 to 15; at least 1 if the format is
+    /// `Fixed`.
     pub rec_len: u32,
-    /// The bytes before the first record of each block, 0 to 99, at positions 51 and 52.
+    /// The number of bytes before the first record of each block, 0 to 99, at positions 51 and 52.
     pub offset: u8,
 }
 
 /// A first trailer label (ECMA-13, 4th edition, end of file and end of volume labels).
 #[derive(Clone, Copy, Debug, PartialEq, Eq, Hash)]
 pub struct Trail1 {
-    /// `EOF1`, where the file ends; else `EOV1`, where it goes on in another volume.
+    /// True for `EOF1`, at the end of the file; false for `EOV1`, if the file continues on another
+    /// volume.
     pub eof: bool,
-    /// What the label has in common with the first header label of its section.
+    /// The fields that the label shares with the first header label of its section.
     pub head: Head1,
-    /// The block count at positions 55 to 60, 0 to 999,999: the last six digits of the number of
-    /// blocks, where a section has more.
+    /// The block count at positions 55 to 60, 0 to 999,999: the last six digits if the section has
+    /// more blocks.
     pub blocks: u32,
 }
 
-/// The labels that are read and written.
+/// The labels that can be read and written.
 #[derive(Clone, Copy, Debug, PartialEq, Eq, Hash)]
 pub enum Kind {
     /// `VOL1`, the volume label.
@@ -202,16 +206,16 @@ pub enum Kind {
     Eof1,
     /// `EOF2`, the second trailer label of a file's last section.
     Eof2,
-    /// `EOV1`, the first trailer label of a section whose file goes on in another volume.
+    /// `EOV1`, the first trailer label of a section if the file continues on another volume.
     Eov1,
-    /// `EOV2`, the second trailer label of a section whose file goes on in another volume.
+    /// `EOV2`, the second trailer label of a section if the file continues on another volume.
     Eov2,
 }
 
 impl Kind {
     ghost use Rattle.tape_label.specs.Kinds.{identifier, IsSecond};
 
-    /// The four characters that begin a label of this kind.
+    /// Returns the first four characters of a label of this kind.
     pub fn identifier(&self) -> &'static [u8; 4]
         ensures { result.now ≡ identifier self.now }
     {
@@ -226,7 +230,7 @@ impl Kind {
         }
     }
 
-    /// Whether this is a second label: `HDR2`, `EOF2` or `EOV2`.
+    /// Returns true for a second label: `HDR2`, `EOF2` or `EOV2`.
     pub fn is_second(&self) -> bool
         ensures { IsTrue result ↔ IsSecond self.now }
     {

@@ -1,4 +1,4 @@
-//! Labels written, each in one text.
+//! Writes labels.
 
 ghost use Rattle.std.specs.Prelude.{◌≡◌};
 ghost use Rattle.tape_label.specs.Vol1.{IsVol1};
@@ -13,7 +13,7 @@ use crate::text::{head_text, head2_text, vol1_text};
 use crate::values::{Head1, Head2, Kind, Trail1, Vol1};
 
 /// Writes a volume label, with spaces in reserved positions (ECMA-13, 4th edition, "Volume Header
-/// Label"). The version is written as it is given.
+/// Label"). The version is written unchanged.
 #[tactic(auto, using(crate::proofs::Texts::vol1_text_is))]
 pub fn write_vol1(fields: &Vol1) -> [u8; 80]
     ensures label { IsVol1 result fields.now }
@@ -23,7 +23,8 @@ pub fn write_vol1(fields: &Vol1) -> [u8; 80]
 }
 
 /// Writes a first header label, with the block count `000000` and spaces in reserved positions
-/// (ECMA-13, 4th edition, "First File Header Label"). Section and sequence number are 1 to 9,999.
+/// (ECMA-13, 4th edition, "First File Header Label"). Section and sequence number must be 1 to
+/// 9,999.
 #[tactic(auto, using(crate::proofs::Texts::head1_text_is))]
 pub fn write_head1(fields: &Head1) -> [u8; 80]
     requires { HeadFits fields.now }
@@ -35,7 +36,7 @@ pub fn write_head1(fields: &Head1) -> [u8; 80]
 
 /// Writes a second header or trailer label, of the kind `HDR2`, `EOF2` or `EOV2`, with spaces in
 /// reserved positions (ECMA-13, 4th edition, "Second File Header Label"). Block and record length
-/// are at most 99,999, the offset is at most 99, and the record length of the format `Fixed` is at
+/// must be at most 99,999, the offset at most 99, and the record length of the format `Fixed` at
 /// least 1.
 #[tactic(auto, using(crate::proofs::Texts::head2_text_is))]
 pub fn write_head2(fields: &Head2, kind: Kind) -> [u8; 80]
@@ -48,8 +49,8 @@ pub fn write_head2(fields: &Head2, kind: Kind) -> [u8; 80]
 }
 
 /// Writes a first trailer label, with spaces in reserved positions (ECMA-13, 4th edition, end of
-/// file and end of volume labels). Section and sequence number are 1 to 9,999, and the block
-/// count is at most 999,999.
+/// file and end of volume labels). Section and sequence number must be 1 to 9,999, and the block
+/// count at most 999,999.
 #[tactic(auto, using(crate::proofs::Texts::trail1_text_is))]
 pub fn write_trail1(fields: &Trail1) -> [u8; 80]
     requires { TrailFits fields.now }
@@ -59,7 +60,7 @@ pub fn write_trail1(fields: &Trail1) -> [u8; 80]
     head_text(trailer(fields.eof), &fields.head, fields.blocks)
 }
 
-/// The kind of a first trailer label.
+/// Returns the kind of a first trailer label.
 fn trailer(eof: bool) -> Kind
     ensures { result ≡ trailer eof }
 {

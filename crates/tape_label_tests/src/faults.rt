@@ -5,8 +5,8 @@ use std::process::Abort;
 use std::test::*;
 use tape_label::*;
 
-/// What each of the four reading calls refuses the block for: a volume label, a first header, a
-/// second label, a first trailer.
+/// Returns the fault of each of the four reading functions for the block: volume label, first
+/// header, second label, first trailer.
 fn faults(block: &[u8]) -> [Option<LabelFault>; 4] {
     [
         read_vol1(block).err(),
@@ -16,7 +16,7 @@ fn faults(block: &[u8]) -> [Option<LabelFault>; 4] {
     ]
 }
 
-/// The block is no label, since it does not have 80 characters.
+/// The block is not a label, because it does not have 80 characters.
 fn is_not_eighty(rt: &impl Abort, name: &str, block: &[u8]) {
     let not_eighty = Some(LabelFault::NotEighty);
     assert_eq!(rt; faults(block), [not_eighty; 4], "{name}");
@@ -39,7 +39,7 @@ fn only_eighty_characters_are_a_label(rt: HostRuntime) {
     is_not_eighty(&rt, "nothing", b"");
 }
 
-/// The identifier comes before the fields: those of a second label are none of a first trailer.
+/// The identifier is checked before the fields: a second label is not read as a first trailer.
 #[test]
 fn other_identifiers(rt: HostRuntime) {
     let other = Some(LabelFault::Identifier);
@@ -52,7 +52,7 @@ fn other_identifiers(rt: HostRuntime) {
     }
 }
 
-/// The length comes before the identifier, and this before what the fields hold.
+/// The length is checked before the identifier, and this before the contents of the fields.
 #[test]
 fn blocks_that_are_none_of_the_labels(rt: HostRuntime) {
     for (block, fault) in [

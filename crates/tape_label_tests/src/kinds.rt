@@ -4,7 +4,7 @@ use crate::samples::{EOF1, EOF2, EOV1, EOV2, HDR1, HDR2, VOL1};
 use std::test::*;
 use tape_label::*;
 
-/// A block of which the first four characters alone tell something.
+/// Returns a block of which only the first four characters have a meaning.
 fn beginning(identifier: &[u8; 4]) -> [u8; 80] {
     let mut block = [0xff; 80];
     block[..4].copy_from_slice(identifier);
@@ -26,7 +26,8 @@ fn kinds_of_a_written_volume(rt: HostRuntime) {
     }
 }
 
-/// What follows the identifier does not matter, and a user's label or a third one is no kind.
+/// The characters after the identifier do not matter, and a user's label or a third one has no
+/// kind.
 #[test]
 fn kinds_by_identifier_alone(rt: HostRuntime) {
     for (identifier, want) in [

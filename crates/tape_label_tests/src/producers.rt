@@ -17,7 +17,8 @@ fn volume_labels_of_another_producer(rt: HostRuntime) {
     assert_eq!(rt; read_vol1(vol1), Ok(expected));
 }
 
-/// The identifier has small letters, and no digits stand where a trailer has its block count.
+/// The identifier has small letters, and a header has no digits at the positions of a trailer's
+/// block count.
 #[test]
 fn first_headers_of_another_producer(rt: HostRuntime) {
     let hdr1 = b"HDR1payroll.1985#    ABC00100120345000100085001099365XAB 9 7VENDOR       !!!!!!!";
@@ -36,7 +37,7 @@ fn first_headers_of_another_producer(rt: HostRuntime) {
     assert_eq!(rt; read_head1(hdr1), Ok(expected));
 }
 
-/// Positions 16 to 50 and 53 to 80 are filled, and the buffer offset is left blank.
+/// Positions 16 to 50 and 53 to 80 are filled, and the buffer offset is blank.
 #[test]
 fn second_headers_of_another_producer(rt: HostRuntime) {
     let hdr2 = b"HDR2D02048020440VENDOR              XXXXXXXXXXXXXX  ZZZZZZZZZZZZZZZZZZZZZZZZZZZZ";

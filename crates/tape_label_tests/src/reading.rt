@@ -1,4 +1,4 @@
-//! Labels that read.
+//! Labels that are read.
 
 use crate::samples::{EOF1, EOF2, EOV1, EOV2, HDR1, HDR2, VOL1, head, second, trailer, volume};
 use std::test::*;
@@ -39,7 +39,7 @@ fn blocks_read_as_the_label_that_they_name(rt: HostRuntime) {
     }
 }
 
-/// A record length of 0 reads where records are not of a fixed length.
+/// A record length of 0 is accepted unless records have a fixed length.
 #[test]
 fn second_labels_without_a_record_length(rt: HostRuntime) {
     let spanned =

@@ -1,5 +1,5 @@
 //! The labels of a volume with one file of 25 records of 80 bytes, in three blocks of up to 800
-//! bytes, and the values that they tell.
+//! bytes, and their values.
 
 ghost use Rattle.tape_label.specs.Head1.{HeadFits};
 ghost use Rattle.tape_label.specs.Head2.{Head2Fits};
