@@ -24,8 +24,6 @@ cases_of_offers = record {
   refused_when_open = λ p rest refused. refused.opened;
   ends_within = λ old new rest ends. ends.within;
   given_within = λ p text given. (given.some_bytes, given.within);
-  nothing_refused = λ shape refused. omega (arith, refused.1.1.1);
-  memory_of_writable = λ shape records refused. refused;
   record_of = λ shape r are. are.0;
 }
 

@@ -12,8 +12,6 @@ pub mod PackLaws
 pub mod PackerSteps
 pub mod PaddingLaws
 pub mod PartsLaws
-pub mod PutsLaws
-pub mod RecordLaws
 pub mod RunLaws
 pub mod SizeLaws
 pub mod TestLaws

@@ -1,22 +1,15 @@
 -- Answers that the contracts of packing exclude: each is what a wrong body would give.
-use Rattle.std.proofs.Common.{◌≡◌, ◌<◌, ◌≤◌, ℕ, true, false, List, [], ◌∷◌, ◌++◌, length, take}
-use Rattle.std.proofs.Common.{drop, get_or, refl, sym, ap, ◌∙◌, subst, arith, codes, Some, Ok}
+use Rattle.std.proofs.Common.{◌≡◌, ◌<◌, ◌≤◌, ℕ, true, false, List, [], ◌∷◌, length, take}
+use Rattle.std.proofs.Common.{get_or, refl, sym, ap, ◌∙◌, arith, codes, Some, Ok}
 use Rattle.std.proofs.Common.{Err, Bor, MutBor, inl, inr, true≢false}
-use Rattle.std.specs.List.{AllByRecursion}
 use Rattle.tape_label.specs.declared.values.Format.TheVariants.{Fixed, Counted, Spanned}
 use Rattle.tape_blocks.specs.declared.offer.PackFault.TheVariants.{RecordLength}
 use Rattle.tape_blocks.specs.declared.offer.Offer.TheVariants.{Taken, BlockReady}
 use Rattle.tape_blocks.specs.declared.parts.Span.TheVariants.{Whole, Middle, Last}
 use Rattle.tape_blocks.specs.declared.parts.Shape.{Shape}
-use Rattle.tape_blocks.specs.Block.{Portion, Holds}
 use Rattle.tape_blocks.specs.Packing.{Packing, Fills, Offers, IsFull, the_packing, size_of}
-use Rattle.tape_blocks.specs.Records.{contents}
-use Rattle.tape_blocks.specs.Spans.{Joined, join}
-use Rattle.tape_blocks.specs.Tight.{Filled, IsWritten, IsTight, bytes_of_all, parts_of_all}
-use Rattle.tape_blocks.specs.Tight.{first_len}
-use Rattle.tape_blocks.proofs.JoinLaws.{one_list}
-use Rattle.tape_blocks.proofs.Mistakes.{counted_shape, spanned_shape, whole, holds_one}
-use Rattle.tape_blocks.proofs.Mistakes.{counted_or_fixed, none_or_some}
+use Rattle.tape_blocks.proofs.Mistakes.{counted_shape, spanned_shape, whole}
+use Rattle.tape_blocks.proofs.Mistakes.{counted_or_fixed}
 use Rattle.tape_blocks.proofs.writing.has_record_length.Reads as has_record_length
 use Rattle.tape_blocks.proofs.writing.has_room.Reads as has_room
 use Rattle.tape_blocks.proofs.writing.padded_len.Reads as padded_len
@@ -25,7 +18,6 @@ use Rattle.tape_blocks.proofs.put.put_unit.Reads as put_unit
 use Rattle.tape_blocks.proofs.packer.Packer.offer.Reads as offer
 use Rattle.tape_blocks.proofs.packer.Packer.take_block.Reads as take_block
 use Rattle.tape_blocks.proofs.packer.Packer.rest.Reads as rest
-use Rattle.tape_blocks.proofs.packing.pack_all.Reads as pack_all
 
 -- ---- lengths and spans
 
@@ -190,111 +182,3 @@ block_given_twice κs a z s h some same = some (sym same ∙ ap (λ p. p.parts) 
 offset_as_block_under_way : (κs : _) (a : _) (s : _) → rest.Learnt κs a true s
     → a.0.now.parts ≡ [] → ⊥
 offset_as_block_under_way κs a s h none = h.0 refl none
-
--- ---- whole records
-
-holds_ten : Holds Counted 14 0 (codes "00141234567890^^^^") (whole (codes "1234567890") ∷ [])
-holds_ten = (
-  codes "^^^^",
-  record {
-    reaches = omega arith;
-    units = ((refl, (let n : 14 < 10000 = omega arith in n)), tt);
-    body = refl;
-  },
-  refl,
-)
-
-holds_four : Holds Counted 18 0 (codes "0004^^^^^^^^^^^^^^") (whole [] ∷ [])
-holds_four = (
-  codes "^^^^^^^^^^^^^^",
-  record {
-    reaches = omega arith;
-    units = ((refl, (let n : 4 < 10000 = omega arith in n)), tt);
-    body = refl;
-  },
-  refl,
-)
-
--- one block has the parts that its text holds
-one_block : (shape : Shape) (filled : List Filled) (text : List ℕ) (ps : List Portion)
-    → bytes_of_all filled ≡ text ∷ [] → AllByRecursion (IsWritten shape) filled
-    → Holds shape.format shape.rec_len shape.offset text ps → parts_of_all filled ≡ ps ++ []
-one_block shape [] text ps e each holds = absurd (none_or_some text [] e)
-one_block shape (b ∷ []) text ps e each holds =
-    let t : b.bytes ≡ text = ap (λ (ts : List (List ℕ)). get_or ts 0 []) e in
-    let here : Holds shape.format shape.rec_len shape.offset text b.parts =
-    subst (λ v. Holds shape.format shape.rec_len shape.offset v b.parts) t each.0.holds in
-    ap (λ (qs : List Portion). qs ++ [])
-    (one_list shape.format shape.rec_len shape.offset text b.parts ps here holds)
-one_block shape (b ∷ c ∷ bs) text ps e each holds =
-    absurd (none_or_some c.bytes (bytes_of_all bs) (sym (ap (drop 1) e)))
-
--- rest_of_record_dropped: the first record fills its block, and the second is in none
-rest_of_record_dropped : (κs : _) (al : _) (v : _) (blocks : _) (s : _)
-    → pack_all.Learnt-named κs (al, (counted_shape 18 14 0, (v, tt))) (Ok blocks) s
-    → contents v.now ≡ codes "1234567890" ∷ codes "1" ∷ []
-    → contents blocks.items ≡ codes "00141234567890^^^^" ∷ [] → ⊥
-rest_of_record_dropped κs al v blocks s l e w =
-    let filled : List Filled = l.packed.0 in
-    let same : parts_of_all filled ≡ whole (codes "1234567890") ∷ [] =
-    one_block (counted_shape 18 14 0) filled (codes "00141234567890^^^^")
-    (whole (codes "1234567890") ∷ []) (l.packed.1 ∙ w) l.packed.2.each holds_ten in
-    let n : 1 ≡ 2 = ap (λ (ps : List Portion). length (join ps).records) (sym same)
-    ∙ ap (λ (j : Joined). length j.records) l.packed.2.joins ∙ ap length e in
-    absurd (omega (arith, n))
-
--- of two blocks the first has no room for what begins the second
-first_is_full : (shape : Shape) (records : List (List ℕ)) (blocks : List Filled) (t u : List ℕ)
-    (ps qs : List Portion) → bytes_of_all blocks ≡ t ∷ u ∷ [] → IsTight shape records blocks
-    → Holds shape.format shape.rec_len shape.offset t ps
-    → Holds shape.format shape.rec_len shape.offset u qs → IsFull shape ps (first_len qs 0)
-first_is_full shape records [] t u ps qs e tight x y =
-    absurd (none_or_some t (u ∷ []) e)
-first_is_full shape records (b ∷ []) t u ps qs e tight x y =
-    absurd (none_or_some u [] (ap (drop 1) e))
-first_is_full shape records (b ∷ c ∷ []) t u ps qs e tight x y =
-    let first : b.bytes ≡ t = ap (λ (ts : List (List ℕ)). get_or ts 0 []) e in
-    let second : c.bytes ≡ u = ap (λ (ts : List (List ℕ)). get_or ts 1 []) e in
-    let same : b.parts ≡ ps = one_list shape.format shape.rec_len shape.offset t b.parts ps
-    (subst (λ v. Holds shape.format shape.rec_len shape.offset v b.parts) first tight.each.0.holds)
-    x in
-    let next : c.parts ≡ qs = one_list shape.format shape.rec_len shape.offset u c.parts qs
-    (subst (λ v. Holds shape.format shape.rec_len shape.offset v c.parts) second
-    tight.each.1.0.holds) y in
-    subst (λ v. IsFull shape v (first_len qs 0)) same
-    (subst (λ v. IsFull shape b.parts (first_len v 0)) next tight.closed.0)
-first_is_full shape records (b ∷ c ∷ d ∷ bs) t u ps qs e tight x y =
-    absurd (none_or_some d.bytes (bytes_of_all bs) (sym (ap (drop 2) e)))
-
--- block_per_record: two records that fit one block stand in two
-block_per_record : (κs : _) (al : _) (v : _) (blocks : _) (s : _)
-    → pack_all.Learnt-named κs (al, (counted_shape 18 18 0, (v, tt))) (Ok blocks) s
-    → contents blocks.items ≡ codes "0006AB^^^^^^^^^^^^" ∷ codes "0004^^^^^^^^^^^^^^" ∷ [] → ⊥
-block_per_record κs al v blocks s l w =
-    let n : 18 < 10 =
-    first_is_full (counted_shape 18 18 0) (contents v.now) l.packed.0 (codes "0006AB^^^^^^^^^^^^")
-    (codes "0004^^^^^^^^^^^^^^") (whole (codes "AB") ∷ []) (whole [] ∷ []) (l.packed.1 ∙ w)
-    l.packed.2 holds_one holds_four in
-    omega (arith, n)
-
--- no block holds no record
-no_record : (shape : Shape) (records : List (List ℕ)) (blocks : List Filled)
-    → bytes_of_all blocks ≡ [] → IsTight shape records blocks → records ≡ []
-no_record shape records [] e tight = sym (ap (λ (j : Joined). j.records) tight.joins)
-no_record shape records (b ∷ bs) e tight =
-    absurd (none_or_some b.bytes (bytes_of_all bs) (sym e))
-
--- last_block_not_taken: a record was packed, and no block is answered
-last_block_not_taken : (κs : _) (a : _) (blocks : _) (s : _)
-    → pack_all.Learnt-named κs a (Ok blocks) s
-    → contents a.1.1.0.now ≡ codes "AB" ∷ [] → contents blocks.items ≡ [] → ⊥
-last_block_not_taken κs a blocks s l e w =
-    let n : contents a.1.1.0.now ≡ [] =
-    no_record a.1.0 (contents a.1.1.0.now) l.packed.0 (l.packed.1 ∙ w) l.packed.2 in
-    none_or_some (codes "AB") [] (sym n ∙ e)
-
--- shape_not_judged_without_records: blocks of 17 bytes are written where there is no record
-shape_not_judged_without_records : (κs : _) (al : _) (v : _) (blocks : _) (s : _)
-    → pack_all.Learnt-named κs (al, (counted_shape 17 14 0, (v, tt))) (Ok blocks) s
-    → contents v.now ≡ [] → ⊥
-shape_not_judged_without_records κs al v blocks s l none = omega (arith, l.writable.least)

@@ -1,7 +1,7 @@
--- Answers that the contracts of parts and of records in blocks exclude: each is what a wrong body
+-- Answers that the contracts of parts exclude: each is what a wrong body
 -- would give.
-use Rattle.std.proofs.Common.{◌≡◌, ◌<◌, ℕ, List, [], ◌∷◌, length, get_or, refl, sym, ap, ◌∙◌, subst}
-use Rattle.std.proofs.Common.{arith, codes, Some, None, Ok, Bor, MutBor}
+use Rattle.std.proofs.Common.{◌≡◌, ◌<◌, ℕ, List, [], ◌∷◌, length, get_or, refl, sym, ap, ◌∙◌}
+use Rattle.std.proofs.Common.{arith, codes, Some, None, Bor, MutBor}
 use Rattle.tape_label.specs.declared.values.Format.{Format}
 use Rattle.tape_label.specs.declared.values.Format.TheVariants.{Fixed, Counted, Spanned}
 use Rattle.tape_blocks.specs.declared.parts.Part.{Part}
@@ -9,30 +9,15 @@ use Rattle.tape_blocks.specs.declared.parts.Span.TheVariants.{Whole, First}
 use Rattle.tape_blocks.specs.declared.parts.Parts.{Parts}
 use Rattle.tape_blocks.specs.declared.parts.Shape.{Shape}
 use Rattle.tape_blocks.specs.Block.{Portion, Holds}
-use Rattle.tape_blocks.specs.Laws.{HoldRecords}
 use Rattle.tape_blocks.specs.Parts.{view, parts_by}
 use Rattle.tape_blocks.specs.PartsLeft.{parts_left}
-use Rattle.tape_blocks.specs.Records.{contents}
 use Rattle.tape_blocks.specs.Units.{unit_at}
-use Rattle.tape_blocks.proofs.Mistakes.{counted_shape, spanned_shape, whole, holds_one}
+use Rattle.tape_blocks.proofs.Mistakes.{counted_shape, whole}
 use Rattle.tape_blocks.proofs.Mistakes.{none_or_some}
 use Rattle.tape_blocks.proofs.parts.Parts.new.Reads as new
 use Rattle.tape_blocks.proofs.parts.PartsIterator.next.Reads as next
-use Rattle.tape_blocks.proofs.laws.spans_of.Reads as spans_of
-use Rattle.tape_blocks.proofs.laws.records_in_blocks.Reads as records_in_blocks
 
 -- ---- what worked blocks hold
-
-holds_empty : Holds Spanned 0 0 (codes "00005") (whole [] ∷ [])
-holds_empty = (
-  [],
-  record {
-    reaches = omega arith;
-    units = ((let n : 5 < 10000 = omega arith in n), tt);
-    body = refl;
-  },
-  refl,
-)
 
 holds_behind : Holds Counted 14 2 (codes "??0004") (whole [] ∷ [])
 holds_behind = (
@@ -118,30 +103,3 @@ stops_at_circumflex_in_content : (κs : _) (m : MutBor Parts) (b : Bor (List ℕ
 unfolding parts_by unit_at
 stops_at_circumflex_in_content κs m b s l =
     none_or_some (whole (codes "^A")) [] (sym l.steps.0)
-
--- span_of_empty_part_left_out: a block of an empty record has no spans
-span_of_empty_part_left_out : (κs : _) (al : _) (h : Bor Shape) (b : Bor (List ℕ)) (spans : _)
-    (s : _) → spans_of.Learnt κs
-    (al, (record h { now = spanned_shape 18 }, (record b { now = codes "00005" }, tt))) (Ok spans) s
-    → spans.items ≡ [] → ⊥
-span_of_empty_part_left_out κs al h b spans s l w =
-    none_or_some Whole [] (sym w ∙ l (whole [] ∷ []) holds_empty)
-
-one_record : HoldRecords (counted_shape 18 18 0) (codes "0006AB^^^^^^^^^^^^" ∷ [])
-    (codes "AB" ∷ [])
-one_record = (
-  record { bytes = codes "0006AB^^^^^^^^^^^^"; parts = whole (codes "AB") ∷ [] } ∷ [],
-  refl,
-  (holds_one, tt),
-  (refl, refl),
-  refl,
-)
-
--- whole_record_left_begun: a whole record is gathered and does not end, so no record is answered
-whole_record_left_begun : (κs : _) (al : _) (h : Bor Shape) (v : _) (back : _) (s : _)
-    → records_in_blocks.Learnt κs (al, (record h { now = counted_shape 18 18 0 }, (v, tt)))
-    (Ok back) s → contents v.now ≡ codes "0006AB^^^^^^^^^^^^" ∷ [] → contents back.items ≡ [] → ⊥
-whole_record_left_begun κs al h v back s l e w =
-    none_or_some (codes "AB") [] (sym w ∙ l (codes "AB" ∷ [])
-    (subst (λ (t : List (List ℕ)). HoldRecords (counted_shape 18 18 0) t (codes "AB" ∷ [])) (sym e)
-    one_record))

@@ -1,9 +1,8 @@
 -- What an iterator over parts has yielded, and what it has left.
-use Rattle.std.proofs.Common.{◌≡◌, List, [], ◌∷◌, ◌++◌, ap, ◌∙◌, map, refl}
+use Rattle.std.proofs.Common.{◌≡◌, List, [], ◌∷◌, ◌++◌, ap, ◌∙◌, map}
 use Rattle.std.specs.Iterator.{YieldsFirstBy, Yields}
 use Rattle.tape_blocks.specs.declared.parts.Parts.{Parts}
 use Rattle.tape_blocks.specs.declared.parts.Part.{Part}
-use Rattle.tape_blocks.specs.declared.parts.Span.{Span}
 use Rattle.tape_blocks.specs.Block.{Portion}
 use Rattle.tape_blocks.specs.Parts.{view}
 use Rattle.tape_blocks.specs.PartsLeft.{parts_left}
@@ -13,8 +12,3 @@ pub yielded_parts : (s : Parts) (xs : List Part) (t : Parts)
 yielded_parts s [] t y = ap parts_left y
 yielded_parts s (x ∷ xs) t y =
     y.1 ∙ ap (λ (ys : List Portion). view x ∷ ys) (yielded_parts y.0 xs t y.2)
-
-pub spans_same : (xs : List Part)
-    → map (λ (p : Part). p.span) xs ≡ map (λ (p : Portion). p.span) (map view xs)
-spans_same [] = refl
-spans_same (x ∷ xs) = ap (λ (ys : List Span). x.span ∷ ys) (spans_same xs)

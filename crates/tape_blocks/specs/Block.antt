@@ -1,4 +1,4 @@
--- What a block of labelled tape holds: behind the buffer offset the units of parts, and then
+-- The contents of a block of a labelled tape: the buffer offset, the units of parts, and then
 -- padding.
 use Rattle.std.specs.Prelude.{◌≡◌, ℕ, ◌+◌, ◌<◌, ◌≤◌, ◌==◌, not, List, [], ◌∷◌, ◌++◌, length, drop}
 use Rattle.std.specs.Prelude.{Option, Some, None, if◌then◌else◌}
@@ -9,12 +9,12 @@ use Rattle.tape_label.specs.declared.values.Format.TheVariants.{Fixed, Counted, 
 use Rattle.tape_blocks.specs.declared.parts.Span.{Span}
 use Rattle.tape_blocks.specs.declared.parts.Span.TheVariants.{Whole, First, Middle, Last}
 
--- a part: a record or a piece of one, wherever its bytes lie
+-- a part: a record or a piece of one, without the address of its bytes
 pub record Portion : Type 0 where
   pub span : Span
   pub bytes : List ℕ
 
--- ---- how a part is spelled
+-- ---- how a part is encoded
 
 -- the digits 0 to 3
 abbrev pub indicator : Span → ℕ
@@ -23,14 +23,14 @@ indicator First = 49
 indicator Middle = 50
 indicator Last = 51
 
--- the span that a byte indicates
+-- the span with this indicator
 abbrev pub span_by : ℕ → Option Span
 span_by c =
     if c == 48 then Some Whole
     else (if c == 49 then Some First
     else (if c == 50 then Some Middle else (if c == 51 then Some Last else None)))
 
--- how many characters stand before a part's content
+-- how many characters precede a part's content
 abbrev pub head_len : Format → ℕ
 head_len Fixed = 0
 head_len Counted = 4
@@ -47,11 +47,11 @@ head Spanned p = indicator p.span ∷ digits 4 (5 + length p.bytes)
 abbrev pub spelling : Format → Portion → List ℕ
 spelling format p = head format p ++ p.bytes
 
--- the units of parts, one behind another
+-- the units of parts, one after another
 abbrev pub spellings : Format → List Portion → List ℕ
 spellings format parts = flat_map (spelling format) parts
 
--- a part that the format can spell: a whole record of just this length, a whole record, or any
+-- a part that the format can encode: a whole record of exactly this length, a whole record, or any
 -- part; the unit's length has four digits
 abbrev pub IsUnit : Format → ℕ → Portion → Type 0
 IsUnit Fixed rec_len p = (p.span ≡ Whole) × (length p.bytes ≡ rec_len)
@@ -60,11 +60,11 @@ IsUnit Spanned rec_len p = 5 + length p.bytes < 10000
 
 -- ---- padding
 
--- the first place of a byte that is no circumflex
+-- the index of the first byte that is not a circumflex
 abbrev pub first_other : List ℕ → Option ℕ
 first_other bytes = position (λ c. not (c == 94)) bytes
 
--- circumflexes, of which format F has fewer than a record's length
+-- circumflexes, in format F fewer than the length of a record
 abbrev pub IsPadding : Format → ℕ → List ℕ → Type 0
 IsPadding Fixed rec_len bytes = (first_other bytes ≡ None) × (length bytes < rec_len)
 IsPadding Counted rec_len bytes = first_other bytes ≡ None
@@ -72,15 +72,15 @@ IsPadding Spanned rec_len bytes = first_other bytes ≡ None
 
 -- ---- blocks
 
--- behind the offset stand the units of these parts, and then this rest
+-- the offset is followed by the units of these parts, and then by this rest
 pub record BeginsWith (format : Format) (rec_len offset : ℕ) (block : List ℕ)
     (parts : List Portion) (rest : List ℕ) : Type 0 where
   pub reaches : offset ≤ length block
   pub units : AllByRecursion (IsUnit format rec_len) parts
   pub body : drop offset block ≡ spellings format parts ++ rest
 
--- behind the offset stand the units of these parts, in their order, and then padding to the block's
--- end
+-- the offset is followed by the units of these parts, in order, and then by padding to the end of
+-- the block
 abbrev pub Holds : Format → ℕ → ℕ → List ℕ → List Portion → Type 0
 Holds format rec_len offset block parts =
     (padding : List ℕ)

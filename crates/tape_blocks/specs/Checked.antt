@@ -5,12 +5,13 @@ use Rattle.tape_blocks.specs.declared.parts.Shape.{Shape}
 use Rattle.tape_blocks.specs.Block.{Portion, Holds}
 use Rattle.tape_blocks.specs.Spans.{InOrder}
 
--- the block holds parts in span order, from a record begun or not to a record begun or not
+-- the block contains parts in span order, from a record unfinished or not to a record unfinished or
+-- not
 abbrev pub Passes : Format → ℕ → ℕ → Bool → List ℕ → Bool → Type 0
 Passes format rec_len offset begun block end =
     (parts : List Portion) × Holds format rec_len offset block parts × InOrder begun parts end
 
--- it does so for a record begun or not before it and behind it
+-- it passes for some state of the record before and after it
 abbrev pub IsChecked : Shape → List ℕ → Type 0
 IsChecked shape block =
     (begun : Bool) × (end : Bool) × (parts : List Portion)

@@ -1,4 +1,4 @@
--- What a block is judged to be, as a function on lists.
+-- The result of checking a block, as a function of lists.
 use Rattle.std.specs.Prelude.{ℕ, ◌+◌, nat_lt, Bool, List, [], ◌∷◌, length, drop, Option, Some, None}
 use Rattle.std.specs.Prelude.{Result, Ok, Err, if◌then◌else◌}
 use Rattle.tape_label.specs.declared.values.Format.{Format}
@@ -9,31 +9,31 @@ use Rattle.tape_blocks.specs.Spans.{continues, leaves}
 use Rattle.tape_blocks.specs.Faults.{bool_eq, first_fault, tests, fault}
 use Rattle.tape_blocks.specs.Parts.{parts_of}
 
--- the parts up to the first that breaks the span order
+-- the parts before the first that violates the span order
 abbrev pub in_order : Bool → List Portion → List Portion
 in_order begun [] = []
 in_order begun (p ∷ ps) =
     if bool_eq (continues p.span) begun then p ∷ in_order (leaves p.span) ps else []
 
--- whether a record is begun behind the parts
+-- whether a record is unfinished after the parts
 abbrev pub begun_behind : Bool → List Portion → Bool
 begun_behind begun [] = begun
 begun_behind begun (p ∷ ps) = begun_behind (leaves p.span) ps
 
--- the fault, or else what is begun
+-- the fault, or otherwise whether a record is unfinished
 abbrev pub unless_fault : Bool → Option BlockFault → Result Bool BlockFault
 unless_fault end None = Ok end
 unless_fault end (Some f) = Err f
 
--- what stands behind these parts
+-- the result for the bytes after these parts
 abbrev pub judged_behind : Format → ℕ → ℕ → Bool → List ℕ → List Portion → Result Bool BlockFault
 judged_behind format rec_len offset begun block parts =
     let at = offset + length (spellings format parts)
     in let end = begun_behind begun parts
     in unless_fault end (first_fault (tests format rec_len end at (drop at block)))
 
--- whether a record is begun at the block's end, or the block's fault: the parts that stand at the
--- front in span order are passed, and what stands behind them is tested
+-- whether a record is unfinished at the end of the block, or the block's fault: skips the parts at
+-- its start that are in span order, and tests the bytes after them
 unfoldable pub judged : Format → ℕ → ℕ → Bool → List ℕ → Result Bool BlockFault
 judged format rec_len offset begun block =
     if nat_lt (length block) offset then Err (fault 0 ShortOffset)

@@ -1,4 +1,4 @@
--- Laws about blocks and parts. Each is the contract of a call of the module `laws`.
+-- Laws about blocks and parts. Each is the contract of a function of the module `laws`.
 use Rattle.std.specs.Prelude.{◌≡◌, ◌≢◌, ◌≤◌, ℕ, Bool, List, [], ◌++◌, Option, None, false, is_some}
 use Rattle.std.specs.Prelude.{Ok, Err, IfErr, length, drop}
 use Rattle.tape_label.specs.declared.values.Format.{Format}
@@ -15,28 +15,28 @@ use Rattle.tape_blocks.specs.Packing.{Packing, Offers, IsFull}
 use Rattle.tape_blocks.specs.Spans.{InOrder, join, join_after, joined_with}
 use Rattle.tape_blocks.specs.Tight.{Filled, bytes_of_all, parts_of_all, Packs}
 
--- A block holds at most one list of parts.
+-- A block contains at most one list of parts.
 abbrev pub HoldsOneList : List ℕ → Type 0
 HoldsOneList block = (format : Format) (rec_len offset : ℕ) (ps qs : List Portion)
     → Holds format rec_len offset block ps → Holds format rec_len offset block qs → ps ≡ qs
 
--- A block has no more parts than bytes, and none of them is longer than it.
+-- A block has no more parts than bytes, and none of them is longer than the block.
 abbrev pub PartsFit : List ℕ → Type 0
 PartsFit block = (format : Format) (rec_len offset : ℕ) (parts : List Portion)
     → (format ≡ Fixed → 1 ≤ rec_len) → Holds format rec_len offset block parts
     → (length parts ≤ length block) × AllByRecursion (λ p. length p.bytes ≤ length block) parts
 
--- A block of format S that holds a part passes where a record is begun or where none is, not in
--- both cases.
+-- A block of format S that contains a part passes either after an unfinished record or after none,
+-- not both.
 abbrev pub PassesForOne : List ℕ → Type 0
 PassesForOne block = (rec_len offset : ℕ) (parts : List Portion) (b c d e : Bool)
     → Holds Spanned rec_len offset block parts → parts ≢ []
     → judged Spanned rec_len offset b block ≡ Ok d
     → judged Spanned rec_len offset c block ≡ Ok e → b ≡ c
 
--- The block is judged as what it holds tells: it passes exactly where it holds parts in span order,
--- and is refused exactly by the fault that it has. So it has one fault at most, and none where it
--- passes.
+-- The result of a check follows from the block's contents: the block passes if and only if it
+-- contains parts in span order, and is refused by exactly the fault that it has. So it has at most
+-- one fault, and none if it passes.
 abbrev pub JudgedAsHeld : Format → ℕ → ℕ → Bool → List ℕ → Type 0
 JudgedAsHeld format rec_len offset begun block =
     ((end : Bool) → judged format rec_len offset begun block ≡ Ok end
@@ -48,35 +48,34 @@ JudgedAsHeld format rec_len offset begun block =
     × ((f : BlockFault) → HasFault format rec_len offset begun block f
     → judged format rec_len offset begun block ≡ Err f)
 
--- Joining a list followed by another gives the first's finished records, and then what the second
--- joins to behind the first's rest.
+-- Joining a list followed by another returns the finished records of the first, and then the
+-- records that the second joins to after the first's unfinished record.
 abbrev pub JoinsOn : Type 0
 JoinsOn = (ps qs : List Portion) → join (ps ++ qs) ≡ joined_with (join ps) qs
 
--- Parts in span order leave a record begun exactly where they join with a rest.
+-- Parts in span order end with a record unfinished if and only if joining them leaves a rest.
 abbrev pub BegunIsRest : Type 0
 BegunIsRest = (begun : Option (List ℕ)) (parts : List Portion) (end : Bool)
     → InOrder (is_some begun) parts end → is_some (join_after begun parts).rest ≡ end
 
--- Where the block was not closed before, one that is ready has no room for what remains of the
--- record.
+-- If the block was not closed before, a block that is ready has no room for the rest of the record.
 abbrev pub ReadyIsFull : Type 0
 ReadyIsFull = (old new : Packing) (rest : List ℕ) (n : ℕ) → old.closed ≡ false
     → Offers old rest (BlockReady n) new → IsFull new.shape new.parts (length (drop n rest))
 
--- Each block holds the parts that stand beside it.
+-- Each block contains its parts.
 abbrev pub AllHold : Shape → List Filled → Type 0
 AllHold shape blocks =
     AllByRecursion (λ b. Holds shape.format shape.rec_len shape.offset b.bytes b.parts) blocks
 
--- Blocks with these texts hold parts that are in span order and join to these records.
+-- Blocks with these texts contain parts that are in span order and join to these records.
 abbrev pub HoldRecords : Shape → List (List ℕ) → List (List ℕ) → Type 0
 HoldRecords shape texts records =
     (blocks : List Filled) × (bytes_of_all blocks ≡ texts) × AllHold shape blocks
     × InOrder false (parts_of_all blocks) false
     × (join (parts_of_all blocks) ≡ record { records = records; rest = None })
 
--- Blocks into which records are packed hold these records.
+-- Blocks into which records are packed contain these records.
 abbrev pub PackedBlocksHold : Type 0
 PackedBlocksHold = (shape : Shape) (records texts : List (List ℕ)) → Packs shape records texts
     → HoldRecords shape texts records

@@ -1,4 +1,4 @@
--- to be believed, in this order:
+-- the definitions that a reader has to trust, in this order:
 pub mod Block
 pub mod Spans
 pub mod Checked
@@ -9,11 +9,11 @@ pub mod Records
 pub mod Numbers
 pub mod Laws
 pub mod Cases
--- that resemble the code, and are proved against those:
+-- definitions similar to the code, proved to agree with those above:
 pub mod Units
 pub mod Parts
 pub mod PartsLeft
 pub mod Judged
--- of private code, and for a caller's loop over offers:
+-- definitions about private code, and for a caller's loop over offers:
 pub mod Packed
 pub mod Run

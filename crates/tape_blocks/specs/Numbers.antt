@@ -8,7 +8,7 @@ use Rattle.tape_blocks.specs.declared.offer.PackFault.{PackFault}
 use Rattle.tape_blocks.specs.declared.offer.PackFault.TheVariants.{RecordLength, ShapeRange}
 use Rattle.tape_blocks.specs.declared.offer.PackFault.TheVariants.{OutOfMemory}
 
--- of the causes for which a block is refused
+-- the number of each cause for which a block is refused
 abbrev pub cause_number : BlockCause → ℕ
 cause_number ShortOffset = 1
 cause_number NotMultiple = 2
@@ -18,7 +18,7 @@ cause_number BadIndicator = 5
 cause_number SpanBroken = 6
 cause_number BadPadding = 7
 
--- of the faults of a packer
+-- the number of each fault of a packer
 abbrev pub pack_fault_number : PackFault → ℕ
 pack_fault_number RecordLength = 8
 pack_fault_number ShapeRange = 9

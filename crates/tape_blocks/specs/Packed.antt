@@ -1,4 +1,4 @@
--- What the bytes of a packer stand for: the parts of its block under way are read off them.
+-- The meaning of a packer's bytes: the parts of its current block are read from them.
 use Rattle.std.specs.Prelude.{◌≡◌, ℕ, ◌<◌, ◌≤◌, true, List, length, take, drop, replicate, vec_len}
 use Rattle.std.specs.Prelude.{vec_capacity}
 use Rattle.std.specs.List.{AllByRecursion}
@@ -9,7 +9,7 @@ use Rattle.tape_blocks.specs.Block.{Portion, IsUnit, spellings}
 use Rattle.tape_blocks.specs.Packing.{Packing, IsWritable}
 use Rattle.tape_blocks.specs.Parts.{parts_of}
 
--- the bytes of the block under way, behind its offset
+-- the bytes of the current block after its offset
 abbrev pub body_of : Shape → List ℕ → ℕ → List ℕ
 body_of shape items len = drop shape.offset (take len items)
 
@@ -27,7 +27,7 @@ packing a =
       closed = a.closed;
     }
 
--- The first bytes, as many as are under way, are the offset's spaces and the units of these parts.
+-- The bytes of the current block are the offset's spaces and the units of these parts.
 pub record Keeps (shape : Shape) (items : List ℕ) (len : ℕ) (parts : List Portion) : Type 0 where
   pub front : take shape.offset items ≡ replicate shape.offset 32
   pub begins : shape.offset ≤ len
@@ -36,7 +36,7 @@ pub record Keeps (shape : Shape) (items : List ℕ) (len : ℕ) (parts : List Po
   pub units : AllByRecursion (IsUnit shape.format shape.rec_len) parts
   pub body : body_of shape items len ≡ spellings shape.format parts
 
--- what each call of a packer keeps
+-- the invariant of a packer
 pub record IsKept (a : Inside) : Type 0 where
   pub writable : IsWritable a.shape
   pub size : vec_len a.block ≡ a.shape.block_len

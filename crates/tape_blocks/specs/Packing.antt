@@ -1,5 +1,5 @@
--- Records packed into blocks: the shapes that are written, the text of a block, and what each call
--- of a packer does.
+-- Packing records into blocks: the shapes that are written, the text of a block, and the effect of
+-- each call of a packer.
 use Rattle.std.specs.Prelude.{◌≡◌, ◌≢◌, ℕ, ◌+◌, ◌-◌, ◌<◌, ◌≤◌, ◌⊎◌, Bool, true, false}
 use Rattle.std.specs.Prelude.{if◌then◌else◌, List, [], ◌∷◌, ◌++◌, length, take, replicate, max}
 use Rattle.tape_label.specs.declared.values.Format.{Format}
@@ -12,7 +12,7 @@ use Rattle.tape_blocks.specs.Spans.{span_of}
 
 -- ---- shapes and records that are written
 
--- the greatest block length that HDR2 can tell, in five digits
+-- the greatest block length that HDR2 can express, in five digits
 abbrev pub longest_block : ℕ
 longest_block = 99999
 
@@ -41,17 +41,18 @@ HasRecordLength Spanned rec_len n = n ≤ 4294967295
 
 -- ---- the text of a block
 
--- how long a block with these parts is before it is padded
+-- the length of a block with these parts before it is padded
 abbrev pub size_of : Shape → List Portion → ℕ
 size_of shape parts = shape.offset + length (spellings shape.format parts)
 
--- format, whether each block is padded in full, block length, and how long the block is before
+-- format, whether each block is padded in full, block length, and the length of the block before
+-- padding
 abbrev pub padded_by : Format → Bool → ℕ → ℕ → ℕ
 padded_by Fixed pad_full block_len n = n
 padded_by Counted pad_full block_len n = if pad_full then block_len else max n 18
 padded_by Spanned pad_full block_len n = max n 18
 
--- how long a block of n bytes is when it is padded
+-- the length of a block of n bytes after padding
 abbrev pub padded_len : Shape → ℕ → ℕ
 padded_len shape n = padded_by shape.format shape.pad_full shape.block_len n
 
@@ -64,14 +65,14 @@ written shape parts =
 
 -- ---- when a block is closed
 
--- the free bytes that the next part needs, where the rest of its record has n bytes: in format S a
--- segment begins where 6 are free
+-- the free bytes that the next part needs, if n bytes of its record are left: in format S a segment
+-- begins if 6 are free
 abbrev pub least_room : Format → ℕ → ℕ
 least_room Fixed n = n
 least_room Counted n = 4 + n
 least_room Spanned n = 6
 
--- Behind these parts there is room for the next one, where the rest of its record has n bytes.
+-- After these parts there is room for the next one, if n bytes of its record are left.
 abbrev pub HasRoom : Shape → List Portion → ℕ → Type 0
 HasRoom shape parts n = size_of shape parts + least_room shape.format n ≤ shape.block_len
 
@@ -81,7 +82,7 @@ IsFull shape parts n = shape.block_len < size_of shape parts + least_room shape.
 
 -- ---- a packer
 
--- the block under way: its parts, whether the record of the last part goes on, and whether the
+-- the current block: its parts, whether the record of the last part continues, and whether the
 -- block is closed
 pub record Packing : Type 0 where
   pub shape : Shape
@@ -94,7 +95,7 @@ abbrev pub the_packing : Shape → List Portion → Bool → Bool → Packing
 the_packing shape parts begun closed =
     record { shape = shape; parts = parts; begun = begun; closed = closed }
 
--- with one part more, whose record goes on or not; where it goes on the block is closed
+-- with one more part, whose record continues or not; if it continues the block is closed
 abbrev pub with_part : Packing → Bool → List ℕ → Packing
 with_part p goes_on bytes = record {
   shape = p.shape;
@@ -103,13 +104,13 @@ with_part p goes_on bytes = record {
   closed = goes_on;
 }
 
--- The block was closed before: nothing is taken, and nothing changes.
+-- The block was closed before: nothing is accepted, and nothing changes.
 pub record StaysClosed (old : Packing) (n : ℕ) (new : Packing) : Type 0 where
   pub closed : old.closed ≡ true
   pub none : n ≡ 0
   pub same : new ≡ old
 
--- The block is full: nothing is taken, and it is closed.
+-- The block is full: nothing is accepted, and it is closed.
 pub record Closes (old : Packing) (rest : List ℕ) (n : ℕ) (new : Packing) : Type 0 where
   pub opened : old.closed ≡ false
   pub none : n ≡ 0
@@ -133,7 +134,7 @@ pub record Ends (old : Packing) (rest : List ℕ) (new : Packing) : Type 0 where
   pub part : new ≡ with_part old false rest
   pub within : size_of new.shape new.parts ≤ new.shape.block_len
 
--- what an offer of the rest of a record does; a block that is ready holds a part
+-- the effect of offering the rest of a record; a block that is ready contains a part
 abbrev pub Offers : Packing → List ℕ → Offer → Packing → Type 0
 Offers old rest Taken new = Ends old rest new
 Offers old rest (BlockReady n) new =
@@ -145,18 +146,18 @@ pub record IsRefused (p : Packing) (rest : List ℕ) : Type 0 where
   pub begins : p.begun ≡ false
   pub length_is : HasRecordLength p.shape.format p.shape.rec_len (length rest) → ⊥
 
--- what begins a record has one of the shape's lengths
+-- a record that begins here has one of the shape's lengths
 abbrev pub IsJudged : Packing → List ℕ → Type 0
 IsJudged p rest =
     p.closed ≡ false → p.begun ≡ false
     → HasRecordLength p.shape.format p.shape.rec_len (length rest)
 
--- what is left when the block was taken: no part, and a record that was begun goes on
+-- the packer after its block was taken: no part, and a record that has begun continues
 abbrev pub emptied : Packing → Packing
 emptied p = record { shape = p.shape; parts = []; begun = p.begun; closed = false }
 
--- The text is the block under way, which holds the packer's parts, has a byte at least, and is no
--- longer than a block may be.
+-- The text is the current block, which contains the packer's parts, has at least one byte, and is
+-- no longer than a block may be.
 pub record Given (p : Packing) (text : List ℕ) : Type 0 where
   pub some : p.parts ≢ []
   pub some_bytes : 0 < length text

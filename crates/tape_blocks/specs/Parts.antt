@@ -1,4 +1,4 @@
--- The parts of the units at the front of some bytes.
+-- The parts of the units at the start of some bytes.
 use Rattle.std.specs.Prelude.{ℕ, zero, suc, ◌-◌, List, [], ◌∷◌, length, take, drop, Option, Some}
 use Rattle.std.specs.Prelude.{None, Result, Ok, Err}
 use Rattle.tape_label.specs.declared.values.Format.{Format}
@@ -8,34 +8,34 @@ use Rattle.tape_blocks.specs.declared.check.Found.{Found}
 use Rattle.tape_blocks.specs.Block.{Portion}
 use Rattle.tape_blocks.specs.Units.{unit_at}
 
--- a lent part, without where it lies
+-- a borrowed part, without its address
 abbrev pub view : Part → Portion
 view p = record { span = p.span; bytes = p.bytes.now }
 
--- the part of the unit that was found at the front
+-- the part of the unit that was found at the start
 abbrev pub portion : Found → List ℕ → Portion
 portion found bytes =
     record { span = found.span; bytes = take (found.len - found.head) (drop found.head bytes) }
 
--- how long the unit is that was found
+-- the length of the unit that was found
 abbrev pub unit_len : Result (Option Found) BlockFault → ℕ
 unit_len (Ok (Some found)) = found.len
 unit_len (Ok None) = 0
 unit_len (Err f) = 0
 
--- the part of the unit that was found, and these behind it
+-- the part of the unit that was found, followed by these
 abbrev pub with_unit : Result (Option Found) BlockFault → List ℕ → List Portion → List Portion
 with_unit (Ok (Some found)) bytes others = portion found bytes ∷ others
 with_unit (Ok None) bytes others = []
 with_unit (Err f) bytes others = []
 
--- the parts of so many units at most
+-- the parts of at most this number of units
 unfoldable pub parts_by : ℕ → Format → ℕ → List ℕ → List Portion
 parts_by zero format rec_len bytes = []
 parts_by (suc n) format rec_len bytes =
     let unit = unit_at format rec_len bytes
     in with_unit unit bytes (parts_by n format rec_len (drop (unit_len unit) bytes))
 
--- the parts of all units, up to the first place where none stands
+-- the parts of all units, up to the first place where there is none
 abbrev pub parts_of : Format → ℕ → List ℕ → List Portion
 parts_of format rec_len bytes = parts_by (length bytes) format rec_len bytes

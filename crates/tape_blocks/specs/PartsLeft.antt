@@ -1,4 +1,4 @@
--- What an iterator over parts has left to yield.
+-- The parts that an iterator has not yielded yet.
 use Rattle.std.specs.Prelude.{List}
 use Rattle.tape_blocks.specs.declared.parts.Parts.{Parts}
 use Rattle.tape_blocks.specs.Block.{Portion}

@@ -5,39 +5,39 @@ use Rattle.tape_blocks.specs.declared.parts.Span.{Span}
 use Rattle.tape_blocks.specs.declared.parts.Span.TheVariants.{Whole, First, Middle, Last}
 use Rattle.tape_blocks.specs.Block.{Portion}
 
--- whether the span goes on with a record that is begun
+-- whether the span continues a record
 abbrev pub continues : Span → Bool
 continues Whole = false
 continues First = false
 continues Middle = true
 continues Last = true
 
--- whether the span leaves its record begun
+-- whether the span leaves its record unfinished
 abbrev pub leaves : Span → Bool
 leaves Whole = false
 leaves First = true
 leaves Middle = true
 leaves Last = false
 
--- the span of a part that goes on with a record or begins one, and leaves it begun or ends it
+-- the span of a part that continues a record or begins one, and leaves it unfinished or ends it
 abbrev pub span_of : Bool → Bool → Span
 span_of true true = Middle
 span_of true false = Last
 span_of false true = First
 span_of false false = Whole
 
--- span order: where a record is begun Middle or Last comes, otherwise Whole or First; behind the
--- parts one is begun or not
+-- span order: an unfinished record is followed by Middle or Last, otherwise by Whole or First; the
+-- last value says whether a record is unfinished after the parts
 abbrev pub InOrder : Bool → List Portion → Bool → Type 0
 InOrder begun [] end = begun ≡ end
 InOrder begun (p ∷ ps) end = (continues p.span ≡ begun) × InOrder (leaves p.span) ps end
 
--- the records that are finished, and what there is of one that is begun
+-- the finished records, and the content so far of an unfinished one
 pub record Joined : Type 0 where
   pub records : List (List ℕ)
   pub rest : Option (List ℕ)
 
--- content behind what is begun
+-- content appended to that of an unfinished record
 abbrev pub content_after : Option (List ℕ) → List ℕ → List ℕ
 content_after None bytes = bytes
 content_after (Some front) bytes = front ++ bytes
@@ -46,8 +46,8 @@ content_after (Some front) bytes = front ++ bytes
 abbrev pub with_record : List ℕ → Joined → Joined
 with_record r j = record { records = r ∷ j.records; rest = j.rest }
 
--- what the parts join to behind what is begun: contents are gathered, and a part that does not
--- leave its record begun ends it
+-- the records that the parts join to after an unfinished one: contents are collected, and a part
+-- that does not leave its record unfinished ends it
 abbrev pub join_after : Option (List ℕ) → List Portion → Joined
 join_after begun [] = record { records = []; rest = begun }
 join_after begun (p ∷ ps) =
@@ -55,11 +55,11 @@ join_after begun (p ∷ ps) =
     then join_after (Some (content_after begun p.bytes)) ps
     else with_record (content_after begun p.bytes) (join_after None ps)
 
--- what the parts join to; in span order or not, records end where Whole and Last stand
+-- the records that the parts join to; in span order or not, records end at Whole and Last
 abbrev pub join : List Portion → Joined
 join ps = join_after None ps
 
--- what is joined, and what further parts add to it
+-- the records joined so far, with those that further parts add
 abbrev pub joined_with : Joined → List Portion → Joined
 joined_with j ps =
     record {

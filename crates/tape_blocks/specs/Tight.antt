@@ -1,4 +1,4 @@
--- Blocks that hold records and waste no room.
+-- Blocks that contain records and waste no room.
 use Rattle.std.specs.Prelude.{◌≡◌, ◌≢◌, ℕ, ◌+◌, ◌≤◌, true, false, List, [], ◌∷◌, length, map, None}
 use Rattle.std.specs.List.{flat_map, AllByRecursion}
 use Rattle.tape_label.specs.declared.values.Format.TheVariants.{Spanned}
@@ -23,21 +23,21 @@ bytes_of_all blocks = map (λ b. b.bytes) blocks
 
 -- ---- each block
 
--- a segment of format S behind so many bytes of its block: 6 bytes are free there, it fills the
--- block where it does not end its record, and it is empty only where its record is
+-- a segment of format S at this index of its block: 6 bytes are free there, it fills the block if
+-- it does not end its record, and it is empty only if its record is
 pub record IsSegment (block_len at : ℕ) (p : Portion) : Type 0 where
   pub room : at + 6 ≤ block_len
   pub fills : leaves p.span ≡ true → at + (5 + length p.bytes) ≡ block_len
   pub empty : p.bytes ≡ [] → p.span ≡ Whole
 
--- the same of segments one behind another
+-- the same for consecutive segments
 abbrev pub AreSegments : ℕ → ℕ → List Portion → Type 0
 AreSegments block_len at [] = Unit {0}
 AreSegments block_len at (p ∷ ps) =
     IsSegment block_len at p × AreSegments block_len (at + (5 + length p.bytes)) ps
 
--- a block that is written: it holds its parts, at least one, is no longer than a block may be, and
--- has the offset's spaces and the shape's padding
+-- a block that is written: it contains its parts, at least one, is no longer than a block may be,
+-- and has the offset's spaces and the shape's padding
 pub record IsWritten (shape : Shape) (b : Filled) : Type 0 where
   pub some : b.parts ≢ []
   pub text : b.bytes ≡ written shape b.parts
@@ -53,13 +53,13 @@ Chain R [] = Unit {0}
 Chain R (x ∷ []) = Unit {0}
 Chain R (x ∷ y ∷ xs) = R x y × Chain R (y ∷ xs)
 
--- how long the content of the first part is, or of what comes behind none
+-- the length of the first part's content, or the second argument if there is no part
 abbrev pub first_len : List Portion → ℕ → ℕ
 first_len [] n = n
 first_len (p ∷ _) n = length p.bytes
 
--- The block was closed because what begins the next one did not fit, or in format S because fewer
--- than 6 bytes were free.
+-- The block was closed because the first part of the next one did not fit, or in format S because
+-- fewer than 6 bytes were free.
 abbrev pub IsDue : Shape → Filled → Filled → Type 0
 IsDue shape b next = IsFull shape b.parts (first_len next.parts 0)
 
@@ -73,7 +73,7 @@ pub record IsTight (shape : Shape) (records : List (List ℕ)) (blocks : List Fi
   pub each : AllByRecursion (IsWritten shape) blocks
   pub closed : Chain (IsDue shape) blocks
 
--- Blocks with these bytes hold the records so.
+-- Blocks with these bytes contain the records like this.
 abbrev pub Packs : Shape → List (List ℕ) → List (List ℕ) → Type 0
 Packs shape records texts =
     (blocks : List Filled) × (bytes_of_all blocks ≡ texts) × IsTight shape records blocks

@@ -1,5 +1,4 @@
--- The unit that stands at the front of some bytes, or why none does: what one step over a block
--- finds.
+-- The unit at the start of some bytes, or why there is none: the result of one step over a block.
 use Rattle.std.specs.Prelude.{ℕ, ◌-◌, ◌==◌, nat_lt, not, List, [], ◌∷◌, length, take, drop, Option}
 use Rattle.std.specs.Prelude.{Some, None, Result, Ok, Err, if◌then◌else◌}
 use Rattle.std.specs.Str.{all_ascii_digits}
@@ -15,12 +14,12 @@ use Rattle.tape_blocks.specs.declared.check.Found.{Found}
 use Rattle.tape_blocks.specs.Block.{first_other, span_by}
 use Rattle.tape_blocks.specs.Faults.{fault}
 
--- no unit, if there are circumflexes alone
+-- no unit, if there are only circumflexes
 abbrev pub padding_by : Option ℕ → Result (Option Found) BlockFault
 padding_by None = Ok None
 padding_by (Some place) = Err (fault place BadPadding)
 
--- no unit, if what is left of format F is circumflexes
+-- no unit, if the bytes left in format F are circumflexes
 abbrev pub short_by : Option ℕ → Result (Option Found) BlockFault
 short_by None = Ok None
 short_by (Some place) = Err (fault 0 NotMultiple)
@@ -35,12 +34,12 @@ counted span head bytes =
     else (if nat_lt (length bytes) (number_of count) then Err (fault 0 PastEnd)
     else Ok (Some record { span = span; head = head; len = number_of count }))))
 
--- a unit of format S, by what its first byte indicates
+-- a unit of format S, by the indicator in its first byte
 abbrev pub spanned : Option Span → List ℕ → Result (Option Found) BlockFault
 spanned None bytes = Err (fault 0 BadIndicator)
 spanned (Some span) bytes = counted span 5 bytes
 
--- the unit, or none where padding stands
+-- the unit, or none at the padding
 unfoldable pub unit_at : Format → ℕ → List ℕ → Result (Option Found) BlockFault
 unit_at Fixed rec_len bytes =
     if nat_lt (length bytes) rec_len then short_by (first_other bytes)

@@ -1,4 +1,4 @@
-//! Blocks checked, and why one is refused.
+//! Checks blocks, and reports why one is refused.
 
 ghost use Rattle.std.specs.Prelude.{◌≡◌, Bool, List, IfOk, IfErr, Ok, Err, ◌≤◌, ◌<◌, length};
 ghost use Rattle.std.specs.Prelude.{IfSome, None};
@@ -15,36 +15,36 @@ use crate::parts::{Shape, Span};
 use tape_label::{Format, digits_value};
 use thiserror::Error;
 
-/// What is wrong at a place of a block.
+/// What is wrong at an offset of a block.
 #[derive(Clone, Copy, Debug, PartialEq, Eq, Error)]
 pub enum BlockCause {
     /// The block is shorter than its offset.
     #[error("the block is shorter than its offset")]
     ShortOffset,
-    /// Behind whole records of format F stands a rest that is shorter than a record and not all
+    /// In format F the bytes after the last whole record are fewer than a record, and not all
     /// circumflexes.
     #[error("the block is no multiple of the record length")]
     NotMultiple,
-    /// A count has fewer than four characters or one that is no digit, or counts less than what
-    /// stands before the content.
+    /// A count has fewer than four characters, contains a character that is not a digit, or is less
+    /// than the length of its own head.
     #[error("a count is no count")]
     BadCount,
-    /// A count is more than what is left of the block.
+    /// A count is more than the number of bytes left in the block.
     #[error("a record ends past the block")]
     PastEnd,
-    /// A segment of format S begins with none of the indicators `0` to `3`.
+    /// A segment of format S does not begin with one of the indicators `0` to `3`.
     #[error("an indicator is no indicator")]
     BadIndicator,
-    /// A part goes on with a record that has not begun, or begins one where another has not ended.
+    /// A part continues a record that has not begun, or begins one before another has ended.
     #[error("a record does not go on as it began")]
     SpanBroken,
-    /// In the padding stands a byte that is no circumflex.
+    /// The padding contains a byte that is not a circumflex.
     #[error("the padding has another byte")]
     BadPadding,
 }
 
 impl BlockCause {
-    /// The cause's fixed number, from 1 to 7.
+    /// Returns the cause's fixed number, from 1 to 7.
     pub fn number(&self) -> u8
         ensures { result ≡ cause_number self.now }
     {
@@ -64,14 +64,14 @@ impl BlockCause {
 #[derive(Clone, Copy, Debug, PartialEq, Eq, Error)]
 #[error("{cause}, at {place}")]
 pub struct BlockFault {
-    /// The byte of the block, counted from 0, at which it is wrong.
+    /// The index of the faulty byte in the block, counted from 0.
     pub place: usize,
     /// What is wrong there.
     pub cause: BlockCause,
 }
 
 impl BlockFault {
-    /// The fixed number of the cause, from 1 to 7.
+    /// Returns the fixed number of the cause, from 1 to 7.
     pub fn number(&self) -> u8
         ensures { result ≡ cause_number self.now.cause }
     {
@@ -79,7 +79,7 @@ impl BlockFault {
     }
 }
 
-/// A unit: its span, the length of what stands before its content, and its whole length.
+/// A unit: its span, the length of the head before its content, and its whole length.
 #[derive(Clone, Copy, Debug, PartialEq, Eq)]
 pub(crate) struct Found {
     pub span: Span,
@@ -87,14 +87,14 @@ pub(crate) struct Found {
     pub len: usize,
 }
 
-/// No unit stands at the front, for this cause.
+/// Returns this cause at the start of the bytes.
 fn fault(cause: BlockCause) -> Result<Option<Found>, BlockFault>
     ensures { result ≡ Err (record { place = 0; cause = cause }) }
 {
     Err(BlockFault { place: 0, cause })
 }
 
-/// The first place of a byte that is no circumflex.
+/// Returns the index of the first byte that is not a circumflex.
 fn first_other(bytes: &[u8]) -> Option<usize>
     ensures value { result ≡ first_other bytes.now }
     ensures inside { IfSome result (λ place. place < length bytes.now) }
@@ -102,7 +102,7 @@ fn first_other(bytes: &[u8]) -> Option<usize>
     bytes.iter().position(|c| *c != b'^')
 }
 
-/// Padding up to the end, or the first other byte.
+/// Accepts padding up to the end, or returns the first other byte as a fault.
 fn padding(bytes: &[u8]) -> Result<Option<Found>, BlockFault>
     ensures exact { result ≡ padding_by (first_other bytes.now) }
     ensures none { IfOk result (λ unit. unit ≡ None) }
@@ -117,7 +117,7 @@ fn padding(bytes: &[u8]) -> Result<Option<Found>, BlockFault>
     }
 }
 
-/// The span that a character indicates.
+/// Returns the span with this indicator.
 fn span_by(indicator: u8) -> Option<Span>
     ensures { result ≡ span_by indicator }
 {
@@ -130,8 +130,7 @@ fn span_by(indicator: u8) -> Option<Span>
     }
 }
 
-/// A unit with a count, which stands in the last four characters of the head and counts the head
-/// too.
+/// Reads a unit with a count: the last four characters of its head, which count the head too.
 #[inline(always)]
 fn counted(span: Span, head: usize, bytes: &[u8]) -> Result<Option<Found>, BlockFault>
     requires { 4 ≤ head }
@@ -155,7 +154,7 @@ fn counted(span: Span, head: usize, bytes: &[u8]) -> Result<Option<Found>, Block
     }
 }
 
-/// A record of the fixed length. A rest that is shorter than one is padding.
+/// Reads a record of the fixed length. Fewer bytes than that are padding.
 #[tactic(auto, unfolding(crate::specs::Units::unit_at))]
 #[inline(always)]
 fn fixed(rec_len: usize, bytes: &[u8]) -> Result<Option<Found>, BlockFault>
@@ -178,8 +177,8 @@ fn fixed(rec_len: usize, bytes: &[u8]) -> Result<Option<Found>, BlockFault>
     }
 }
 
-/// The unit at the front, or none where padding stands. The fault's place is counted from the
-/// front.
+/// Reads the unit at the start of the bytes, or returns `None` for padding. The place of a fault
+/// counts from the start of the bytes.
 #[tactic(auto, unfolding(crate::specs::Units::unit_at))]
 #[inline(always)]
 pub(crate) fn unit_at(
@@ -212,7 +211,7 @@ pub(crate) fn unit_at(
     }
 }
 
-/// Whether the span may stand where a record is begun or not.
+/// Returns true if a part with this span may follow, after a record that is unfinished or not.
 fn may_follow(span: Span, begun: bool) -> bool
     ensures { result ≡ bool_eq (continues span) begun }
 {
@@ -223,14 +222,14 @@ fn may_follow(span: Span, begun: bool) -> bool
     }
 }
 
-/// The block is refused at this place for this cause.
+/// Refuses the block at this place for this cause.
 fn refuse(place: usize, cause: BlockCause) -> Result<bool, BlockFault>
     ensures { result ≡ Err (record { place = place; cause = cause }) }
 {
     Err(BlockFault { place, cause })
 }
 
-/// Walks over the units, up to the first place where none goes on in order.
+/// Walks over the units, up to the first place where none follows in order.
 fn judge(shape: &Shape, begun: bool, block: &[u8]) -> Result<bool, BlockFault>
     ensures { result ≡ judged shape.now.format shape.now.rec_len shape.now.offset begun block.now }
 {
@@ -258,36 +257,38 @@ fn judge(shape: &Shape, begun: bool, block: &[u8]) -> Result<bool, BlockFault>
     }
 }
 
-/// Whether a block holds records of this shape, and whether one of them is begun at the block's end
-/// (ECMA-13, 4th edition: fixed-length, variable-length and spanned records).
+/// Checks that a block contains records of this shape, and returns whether the last one is
+/// unfinished at the end of the block (ECMA-13, 4th edition: fixed-length, variable-length and
+/// spanned records).
 ///
-/// `begun` tells whether a record is begun where the block begins. The block's length is compared
-/// with none: a block may be longer than the shape says. Behind the offset come the records, or
-/// segments in format S, and behind these padding: circumflexes, in format F fewer than a record's
-/// length. A block without any record is accepted.
+/// `begun` says whether a record is unfinished where the block begins. The block may be longer than
+/// the shape says. The offset is followed by the records, or segments in format S, and these by
+/// padding: circumflexes, in format F fewer than the length of a record. A block without any record
+/// is accepted.
 ///
 /// # Errors
 ///
-/// The fault stands where the longest front of records in order ends, or at 0 where the block is
-/// shorter than its offset. Its cause is the first that applies there: in format F `NotMultiple`,
-/// `SpanBroken`; in D and S, where a circumflex stands, `BadPadding`, at the first other byte
-/// behind it; else in S `BadIndicator`, and then `BadCount`, `PastEnd`, `SpanBroken`.
+/// The place of the fault is the end of the longest sequence of records in order, or 0 if the block
+/// is shorter than its offset. Its cause is the first that applies there: in format F
+/// `NotMultiple`, `SpanBroken`; in D and S, at a circumflex, `BadPadding`, at the first other byte
+/// after it; otherwise in S `BadIndicator`, and then `BadCount`, `PastEnd`, `SpanBroken`.
 pub fn check_block(shape: &Shape, begun: bool, block: &[u8]) -> Result<bool, BlockFault>
-    // What passes holds parts in span order, and leaves a record begun or not as it says.
+    // A block that passes contains parts in span order, and ends with a record unfinished or not as
+    // returned.
     ensures found { IfOk result
         (Passes shape.now.format shape.now.rec_len shape.now.offset begun block.now) }
-    // What holds parts in span order passes.
+    // A block that contains parts in span order passes.
     ensures only { (parts : List Portion) (end : Bool)
         → Holds shape.now.format shape.now.rec_len shape.now.offset block.now parts
         → InOrder begun parts end → result ≡ Ok end }
-    // Which fault it is, and where it stands.
+    // Which fault is returned, and its place.
     ensures fault { IfErr result
         (HasFault shape.now.format shape.now.rec_len shape.now.offset begun block.now) }
-    // It is the only one that the block has.
+    // It is the only fault of the block.
     ensures refuses { (fault : BlockFault)
         → HasFault shape.now.format shape.now.rec_len shape.now.offset begun block.now fault
         → result ≡ Err fault }
-    // The answer as a function on lists.
+    // The result as a function of lists.
     ensures exact { result
         ≡ judged shape.now.format shape.now.rec_len shape.now.offset begun block.now }
 {

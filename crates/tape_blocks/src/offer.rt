@@ -1,17 +1,17 @@
-//! What an offer answers, and why a packer refuses.
+//! The result of an offer, and the faults of a packer.
 
 ghost use Rattle.std.specs.Prelude.{◌≡◌};
 ghost use Rattle.tape_blocks.specs.Numbers.{pack_fault_number};
 
 use thiserror::Error;
 
-/// What became of the rest of a record that was offered to a packer.
+/// What happened to the rest of a record that was offered to a packer.
 #[derive(Clone, Copy, Debug, PartialEq, Eq)]
 pub enum Offer {
-    /// All of it stands in the block under way, and the record has ended.
+    /// All of it is in the current block, and the record has ended.
     Taken,
-    /// So many of its first bytes were taken, and the block is closed: take it, and offer what
-    /// remains.
+    /// This number of its first bytes was accepted, and the block is closed: take it, and offer the
+    /// rest.
     BlockReady(usize),
 }
 
@@ -30,7 +30,7 @@ pub enum PackFault {
 }
 
 impl PackFault {
-    /// The fault's fixed number, from 8 to 10.
+    /// Returns the fault's fixed number, from 8 to 10.
     pub fn number(&self) -> u8
         ensures { result ≡ pack_fault_number self.now }
     {

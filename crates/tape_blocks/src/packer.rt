@@ -1,4 +1,4 @@
-//! Records packed into blocks.
+//! Packs records into blocks.
 
 ghost use Rattle.std.specs.Prelude.{◌≡◌, ◌≢◌, ◌+◌, ◌≤◌, ◌⊎◌, [], true, false, IfOk, IfErr, IfSome};
 ghost use Rattle.std.specs.Prelude.{IfNone, length, replicate, vec_capacity, ⊤, IsTrue, ◌↔◌};
@@ -20,18 +20,17 @@ use tape_label::Format;
 
 /// Packs records into blocks of one shape (ECMA-13, 4th edition: blocking of records).
 ///
-/// A record is offered until it is taken. Each time a block is ready the caller takes it and offers
-/// what remains of the record. At the end of the file the block under way is taken too. A block of
-/// format F or D is closed only where the next record does not fit, one of format S where fewer
-/// than 6 bytes are free; so all blocks are as full as records allow.
+/// The caller offers a record until it is accepted. Each time a block is ready, the caller takes it
+/// and offers the rest of the record. At the end of the file the caller takes the current block
+/// too. A block of format F or D is only closed if the next record does not fit, one of format S if
+/// fewer than 6 bytes are free; so all blocks are as full as records allow.
 ///
-/// The block is made once, by `new`: no later call is handed an allocator, answers that there is no
-/// memory, or makes the block any larger.
+/// Only `new` allocates: no later call can run out of memory, or make the block larger.
 #[derive(Drop)]
 pub struct Packer {
     shape: Shape,
-    // As many bytes as a block may have, and room for no more. The block under way is the first
-    // `len` of them; what stands behind them counts for nothing.
+    // As many bytes as a block may have, with no spare capacity. The current block is the first
+    // `len` of them; the rest has no meaning.
     block: Vec<u8>,
     len: usize,
     begun: bool,
@@ -50,7 +49,7 @@ impl Model for Packer {
     ghost invariant = { IsKept };
 }
 
-/// So many spaces, and room for no more.
+/// Returns `count` spaces, with no spare capacity.
 fn spaces(alloc: Global, count: usize) -> Result<Vec<u8>, AllocError>
     ensures items { IfOk result (λ block. block.items ≡ replicate count 32) }
     ensures room { IfOk result (λ block. vec_capacity block ≡ count) }
@@ -65,16 +64,15 @@ fn spaces(alloc: Global, count: usize) -> Result<Vec<u8>, AllocError>
 impl Packer {
     ghost use Rattle.tape_blocks.specs.contracts.packer.Packer.{the_row};
 
-    /// A packer with no block under way.
+    /// Creates a packer without a current block.
     ///
     /// # Errors
     ///
-    /// `ShapeRange` where blocks of this shape are not written: the block length is 18 to 99,999
-    /// and the offset at most 99. In format F a record has at least 18 bytes and fits a block
-    /// behind the offset; in format D the record length, which counts the four digits, is 4 to
-    /// 9,999 and fits likewise; in format S it is 0, a block has at most 9,999 bytes, and at least
-    /// 6 of them stand behind the offset. Only blocks of format D are padded in full. Then
-    /// `OutOfMemory`.
+    /// `ShapeRange` if blocks of this shape are not written: the block length must be 18 to 99,999
+    /// and the offset at most 99. In format F a record has at least 18 bytes and fits a block after
+    /// the offset; in format D the record length, which counts the four digits, is 4 to 9,999 and
+    /// fits likewise; in format S it is 0, a block has at most 9,999 bytes, and at least 6 of them
+    /// follow the offset. Only blocks of format D can be padded in full. Then `OutOfMemory`.
     pub fn new(alloc: Global, shape: Shape) -> Result<Packer, PackFault>
         ensures ok { IfOk result (λ p. IsWritable shape
             × (p ≡ record { shape = shape; parts = []; begun = false; closed = false })) }
@@ -97,7 +95,7 @@ impl Packer {
         })
     }
 
-    /// A part behind the others.
+    /// Appends a part.
     fn put_part(&mut self, goes_on: bool, bytes: &[u8])
         requires room { size_of self.old.shape self.old.parts
             + (head_len self.old.shape.format + length bytes.now) ≤ self.old.shape.block_len }
@@ -114,20 +112,20 @@ impl Packer {
         self.closed = goes_on;
     }
 
-    /// Offers a record, or what remains of one that was begun.
+    /// Offers a record, or the rest of one that has begun.
     ///
-    /// `Taken` ends the record. `BlockReady(n)` says that its first n bytes were taken and the
-    /// block is closed; a block that was closed before and not taken yet answers `BlockReady(0)`
-    /// before anything else is looked at.
+    /// `Taken` ends the record. `BlockReady(n)` says that its first n bytes were accepted and the
+    /// block is closed. A block that was closed before and not yet taken returns `BlockReady(0)`
+    /// before anything else is checked.
     ///
     /// # Errors
     ///
-    /// `RecordLength`, judged where a record begins: in format F its length is not the record
-    /// length, in format D it is more than the record length less 4, in format S it is more than
-    /// 4,294,967,295. The packer is unchanged.
+    /// `RecordLength`, checked at the start of a record: in format F its length differs from the
+    /// record length, in format D it is more than the record length less 4, in format S it is more
+    /// than 4,294,967,295. The packer is unchanged.
     pub fn offer(&mut self, rest: &[u8]) -> Result<Offer, PackFault>
         ensures ok { IfOk result (λ o. Offers self.old rest.now o self.new) }
-        // What begins a record has one of the lengths.
+        // A record that begins here has one of the lengths of the shape.
         ensures judged { IfOk result (λ _. IsJudged self.old rest.now) }
         ensures err { IfErr result (λ e. (e ≡ PackFault.RecordLength)
             × IsRefused self.old rest.now × (self.new ≡ self.old)) }
@@ -153,15 +151,15 @@ impl Packer {
         Ok(Offer::Taken)
     }
 
-    /// The block under way, if it holds a part: with the offset's spaces in front, and padded. It
-    /// is then no longer under way; a record that was begun goes on in the next block.
+    /// Takes the current block, if it contains a part: preceded by the offset's spaces, and padded.
+    /// A record that has begun continues in the next block.
     ///
-    /// A block of format F is not padded; one of D or S is padded to 18 bytes at least, and with
-    /// `pad_full` one of D to the block length.
+    /// A block of format F is not padded; one of D or S is padded to at least 18 bytes, and one of
+    /// D with `pad_full` to the block length.
     pub fn take_block(&mut self) -> Option<&[u8]>
         ensures found { IfSome result (λ b. Given self.old b.now) }
         ensures none { IfNone result (self.old.parts ≡ []) }
-        // When the block is given back, or where there was none, the packer is emptied.
+        // Once the borrow of the block ends, or if there was none, the packer has no current block.
         ensures* after { sem 𝓛 (follows_so the_row the_row self.entry.ghost_name none (λ _ _. ⊤)
             (λ n. n ≡ emptied self.old)) }
     {
@@ -176,7 +174,7 @@ impl Packer {
         Some(&self.block[..end])
     }
 
-    /// Whether a block is under way: one that holds a part and was not taken yet.
+    /// Returns true if there is a current block: one that contains a part and was not yet taken.
     pub fn rest(&self) -> bool
         ensures { IsTrue result ↔ (self.now.parts ≢ []) }
     {

@@ -7,30 +7,31 @@ ghost use Rattle.tape_blocks.specs.Spans.{continues, leaves};
 use crate::check::unit_at;
 use tape_label::{Format, Head2};
 
-/// How records stand in a file that is written on volumes or got back from them.
+/// How the records of a file appear in the input that is written, and in the output that is read
+/// back.
 #[derive(Clone, Copy, Debug, PartialEq, Eq)]
 pub enum Form {
-    /// Each line is a record, without its line feed. What is got back has one behind each record.
+    /// Each line is a record, without its line feed. In the output each record is followed by one.
     Lines,
-    /// Contents alone: what is written in format F is cut into records, and in format S it is one
-    /// record; what is got back has them joined.
+    /// Contents only: an input in format F is cut into records, one in format S is a single record;
+    /// in the output the records are joined.
     Raw,
 }
 
-/// How a file's records stand in its blocks (ECMA-13, 4th edition: the label HDR2).
+/// How a file's blocks contain its records (ECMA-13, 4th edition: the label HDR2).
 ///
-/// In format F the record length is at least 1: the type holds that, and it is proved where a shape
-/// is made.
+/// In format F the record length is at least 1: this is an invariant of the type, proved wherever a
+/// shape is created.
 #[derive(Clone, Copy, Debug, PartialEq, Eq)]
 pub struct Shape {
     /// F, D or S.
     pub format: Format,
-    /// The greatest length of a block, its offset included.
+    /// The maximum length of a block, including its offset.
     pub block_len: u32,
-    /// The length of each record in format F, and the greatest, its count included, in format D. In
-    /// format S it is 0 where blocks are written, and is not looked at where they are read.
+    /// The length of each record in format F, and the maximum, including its count, in format D. In
+    /// format S it must be 0 for writing, and is ignored for reading.
     pub rec_len: u32,
-    /// How many characters stand at the front of each block, before its first record.
+    /// The number of characters at the start of each block, before its first record.
     pub offset: u8,
     /// Whether each written block of format D is padded to `block_len`.
     pub pad_full: bool,
@@ -40,7 +41,7 @@ pub struct Shape {
 impl Shape {
     ghost use Rattle.tape_blocks.specs.Packing.{IsWritable};
 
-    /// The shape that a second label tells, with `pad_full` false.
+    /// Returns the shape in a second label, with `pad_full` false.
     pub fn of(label: &Head2) -> Shape
         requires { label.now.format ≡ Format.Fixed → 1 ≤ label.now.rec_len }
         ensures format { result.format ≡ label.now.format }
@@ -58,8 +59,8 @@ impl Shape {
         }
     }
 
-    /// Whether blocks of this shape are written: the shapes that
-    /// [`Packer::new`](crate::Packer::new) takes.
+    /// Returns true if blocks of this shape are written: the shapes that
+    /// [`Packer::new`](crate::Packer::new) accepts.
     pub fn is_writable(&self) -> bool
         ensures { IsTrue result ↔ IsWritable self.now }
     {
@@ -83,29 +84,29 @@ impl Shape {
 
 /// Which piece of its record a part is (ECMA-13, 4th edition: spanned records).
 ///
-/// A record of format F or D is always whole. One of format S may be spread over blocks: a first
-/// segment, any number of middle ones, and a last one.
+/// A record of format F or D is always whole. One of format S may extend over several blocks: a
+/// first segment, any number of middle ones, and a last one.
 #[derive(Clone, Copy, Debug, PartialEq, Eq)]
 pub enum Span {
     /// The record begins and ends with this part.
     Whole,
-    /// The record begins with this part, and goes on.
+    /// The record begins with this part, and continues.
     First,
-    /// The record has begun, and goes on.
+    /// The record has begun before, and continues.
     Middle,
-    /// The record has begun, and ends with this part.
+    /// The record has begun before, and ends with this part.
     Last,
 }
 
 impl Span {
-    /// Whether the record has begun before: in the middle and with the last segment.
+    /// Returns true if the record has begun before this part: for a middle or last segment.
     pub fn continues(self) -> bool
         ensures { result ≡ continues self }
     {
         matches!(self, Span::Middle | Span::Last)
     }
 
-    /// Whether the record goes on behind this part: from the first segment and in the middle.
+    /// Returns true if the record continues after this part: for a first or middle segment.
     pub fn leaves(self) -> bool
         ensures { result ≡ leaves self }
     {
@@ -113,7 +114,7 @@ impl Span {
     }
 }
 
-/// A record or a segment of one, lent from its block.
+/// A record or a segment of one, borrowed from its block.
 #[derive(Clone, Copy, Debug, PartialEq, Eq)]
 pub struct Part<'a> {
     /// Which piece of its record it is.
@@ -122,8 +123,8 @@ pub struct Part<'a> {
     pub bytes: &'a [u8],
 }
 
-/// An iterator over the parts of a block that was checked. It lends slices of the block, and takes
-/// no memory.
+/// An iterator over the parts of a block that was checked. It borrows slices of the block, and does
+/// not allocate.
 #[derive(Drop)]
 pub struct Parts<'a> {
     format: Format,
@@ -137,7 +138,8 @@ impl<'a> Parts<'a> {
     ghost use Rattle.tape_blocks.specs.Checked.{IsChecked};
     ghost use Rattle.tape_blocks.specs.PartsLeft.{parts_left};
 
-    /// The parts of a block that passes [`check_block`](crate::check_block) for some `begun`.
+    /// Creates an iterator over a block that passes [`check_block`](crate::check_block) for some
+    /// `begun`.
     pub fn new(shape: &Shape, block: &'a [u8]) -> Parts<'a>
         requires { IsChecked shape.now block.now }
         ensures { (parts : List Portion)

@@ -1,4 +1,4 @@
-//! Which shapes and records are written, and how long their units and blocks are.
+//! Which shapes and records are written, and the lengths of their units and blocks.
 
 ghost use Rattle.std.specs.Prelude.{◌≡◌, ◌≤◌, IsTrue, ◌↔◌};
 ghost use Rattle.tape_blocks.specs.Block.{head_len};
@@ -8,7 +8,7 @@ ghost use Rattle.tape_blocks.specs.Spans.{span_of};
 use crate::parts::{Shape, Span};
 use tape_label::Format;
 
-/// Whether a record of this length is written.
+/// Returns true if a record of this length is written.
 pub(crate) fn has_record_length(format: Format, rec_len: u32, len: usize) -> bool
     ensures { IsTrue result ↔ HasRecordLength format rec_len len }
 {
@@ -19,7 +19,7 @@ pub(crate) fn has_record_length(format: Format, rec_len: u32, len: usize) -> boo
     }
 }
 
-/// How many characters stand before a part's content.
+/// Returns the number of characters before a part's content.
 pub(crate) fn head_len(format: Format) -> usize
     ensures { result ≡ head_len format }
 {
@@ -30,8 +30,8 @@ pub(crate) fn head_len(format: Format) -> usize
     }
 }
 
-/// Whether so many free bytes are enough for the next part, where the rest of its record has `len`
-/// bytes.
+/// Returns true if `free` bytes are enough for the next part, when `len` bytes of its record are
+/// left.
 pub(crate) fn has_room(format: Format, free: usize, len: usize) -> bool
     ensures { IsTrue result ↔ (least_room format len ≤ free) }
 {
@@ -42,7 +42,8 @@ pub(crate) fn has_room(format: Format, free: usize, len: usize) -> bool
     }
 }
 
-/// The span of a part that goes on with a record or begins one, and leaves it begun or ends it.
+/// Returns the span of a part that continues a record or begins one, and leaves it unfinished or
+/// ends it.
 pub(crate) fn span(begun: bool, goes_on: bool) -> Span
     ensures { result ≡ span_of begun goes_on }
 {
@@ -54,7 +55,7 @@ pub(crate) fn span(begun: bool, goes_on: bool) -> Span
     }
 }
 
-/// How long a block of `len` bytes is when it is padded.
+/// Returns the length of a block of `len` bytes after padding.
 pub(crate) fn padded_len(shape: &Shape, len: usize) -> usize
     ensures { result ≡ padded_len shape.now len }
 {

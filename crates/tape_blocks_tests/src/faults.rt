@@ -6,8 +6,8 @@ use std::test::*;
 use tape_blocks::{BlockCause, BlockFault, PackFault, Shape};
 use tape_label::Format;
 
-/// Its name, whether a record is begun before the block, the block, and where it is refused for
-/// which cause.
+/// A name, whether a record is unfinished before the block, the block, and the place and cause of
+/// the refusal.
 type Refused<'a> = (&'a str, bool, &'a [u8], usize, BlockCause);
 
 const OF_FORMAT_D: &[Refused<'_>] = &[
@@ -22,7 +22,7 @@ const OF_FORMAT_D: &[Refused<'_>] = &[
     ),
     ("short count", false, b"0006AB000", 6, BlockCause::BadCount),
     ("past the end", false, b"0009AB", 0, BlockCause::PastEnd),
-    // Where a record is begun no whole one may come, but its count is looked at first.
+    // No whole record may follow an unfinished one, but its count is checked first.
     ("begun", true, b"0006AB", 0, BlockCause::SpanBroken),
     (
         "begun, past the end",
@@ -79,7 +79,7 @@ const OF_FORMAT_S: &[Refused<'_>] = &[
         BlockCause::SpanBroken,
     ),
     ("padding", true, b"30005^0", 6, BlockCause::BadPadding),
-    // It goes on with a record, so it passes only where one is begun.
+    // It continues a record, so it passes only after an unfinished one.
     (
         "last first",
         false,
@@ -124,7 +124,7 @@ fn shorter_than_the_offset(rt: HostRuntime) {
     );
 }
 
-// Whether the cause has this number, and a fault with it too.
+// Returns true if the cause has this number, and so has a fault with it.
 fn has_number(cause: BlockCause, number: u8) -> bool {
     cause.number() == number && BlockFault { place: 8, cause }.number() == number
 }

@@ -1,4 +1,5 @@
-//! Tests of blocks: worked blocks of the three formats, read, refused and packed.
+//! Tests of blocks: worked blocks of the three formats, read, refused and packed; and plain programs
+//! that pack whole lists of records and read them again.
 #![tactic(auto)]
 
 #[cfg(test)]
@@ -7,7 +8,12 @@ mod faults;
 mod packed;
 #[cfg(test)]
 mod packers;
+mod packing;
 #[cfg(test)]
 mod read;
+mod reading;
 #[cfg(test)]
 mod worked;
+
+pub use packing::pack_all;
+pub use reading::{packed_again, spans_of};

@@ -1,9 +1,10 @@
 //! Whole lists of records in blocks.
 
+use crate::reading::packed_again;
 use crate::worked::{copies, is_judged, pack_fault, packs, padded, shape};
 use std::alloc::Global;
 use std::test::*;
-use tape_blocks::{PackFault, Shape, laws};
+use tape_blocks::{PackFault, Shape};
 use tape_label::Format;
 
 #[test]
@@ -29,7 +30,7 @@ fn of_format_f(rt: HostRuntime) {
     let full = [b'R'; 800];
     let half = [b'R'; 400];
     let records: [&[u8]; 25] = [&record; 25];
-    // A block is not padded, and holds whole records alone.
+    // A block is not padded, and contains only whole records.
     for block_len in [800, 850] {
         let f = shape(Format::Fixed, block_len, 80, 0);
         assert!(rt;
@@ -39,7 +40,7 @@ fn of_format_f(rt: HostRuntime) {
     }
 }
 
-/// Its name, records, and the blocks of 18 bytes that they are packed into.
+/// A name, records, and the blocks of 18 bytes that they are packed into.
 type Packed<'a> = (&'a str, &'a [&'a [u8]], &'a [&'a [u8]]);
 
 const OF_FORMAT_S: &[Packed<'_>] = &[
@@ -70,7 +71,7 @@ const OF_FORMAT_S: &[Packed<'_>] = &[
         &[b"12345678", b""],
         &[b"0001312345678^^^^^", b"00005^^^^^^^^^^^^^"],
     ),
-    // A segment of one byte stands there.
+    // There is a segment of one byte.
     (
         "6 free",
         &[b"1234567", b"AB"],
@@ -121,7 +122,7 @@ fn refused(rt: HostRuntime) {
 }
 
 /// A format, the length of a block, that of a record, an offset, and whether such a shape is
-/// written: at most 99 bytes of offset, and in format S six bytes behind it.
+/// written: at most 99 bytes of offset, and in format S six bytes after it.
 const SHAPES: &[(Format, u32, u32, u8, bool)] = &[
     (Format::Fixed, 17, 17, 0, false),
     (Format::Fixed, 80, 17, 0, false),
@@ -154,7 +155,7 @@ fn shapes_that_are_written(rt: HostRuntime) {
     }
 }
 
-/// Blocks that would be padded in full in a format that is not.
+/// Blocks to be padded in full in a format that is not.
 #[test]
 fn shapes_padded_in_full_that_are_not_written(rt: HostRuntime) {
     for (format, block_len, rec_len) in [(Format::Fixed, 80, 80), (Format::Spanned, 20, 0)] {
@@ -163,7 +164,7 @@ fn shapes_padded_in_full_that_are_not_written(rt: HostRuntime) {
     }
 }
 
-// Whether records that are packed in blocks of this shape are read again from them.
+// Returns true if records that are packed into blocks of this shape can be read from them again.
 fn are_read_again(alloc: Global, shape: Shape) -> bool {
     let texts: [&[u8]; 6] = [
         b"",
@@ -174,7 +175,7 @@ fn are_read_again(alloc: Global, shape: Shape) -> bool {
         b"BCDEFGH",
     ];
     match copies(alloc, &texts) {
-        Ok(records) => match laws::packed_again(alloc, shape, &records) {
+        Ok(records) => match packed_again(alloc, shape, &records) {
             Ok(back) => back == records,
             Err(_) => false,
         },

@@ -6,7 +6,7 @@ use std::test::*;
 use tape_blocks::{Offer, PackFault, Packer, Shape, Span};
 use tape_label::Format;
 
-// A call of a packer, with its answer.
+// A call of a packer, with its result.
 #[derive(Clone, Copy)]
 enum Call<'a> {
     Offer(&'a [u8], Result<Offer, PackFault>),
@@ -14,7 +14,7 @@ enum Call<'a> {
     Take(Option<&'a [u8]>),
 }
 
-// Whether the packer answers so.
+// Returns true if the packer returns this.
 fn answers(packer: &mut Packer, call: &Call<'_>) -> bool {
     match call {
         Call::Offer(rest, answer) => packer.offer(rest) == *answer,
@@ -23,7 +23,8 @@ fn answers(packer: &mut Packer, call: &Call<'_>) -> bool {
     }
 }
 
-// The first of these calls that a new packer answers otherwise, counted from 1. Call 0 makes it.
+// Returns the first of these calls, counted from 1, for which a new packer returns something else.
+// Call 0 creates it.
 fn first_wrong(alloc: Global, shape: Shape, calls: &[Call<'_>]) -> Option<usize> {
     let Ok(mut packer) = Packer::new(alloc, shape) else {
         return Some(0);
@@ -45,7 +46,7 @@ fn answers_each_offer(rt: HostRuntime) {
         Call::Offer(b"1234567890", Ok(Offer::Taken)),
         Call::Rest(true),
         Call::Offer(b"1", Ok(Offer::BlockReady(0))),
-        // The block is closed, and nothing is judged before it is taken.
+        // The block is closed, and nothing is checked before it is taken.
         Call::Offer(b"12345678901", Ok(Offer::BlockReady(0))),
         Call::Rest(true),
         Call::Take(Some(b"00141234567890^^^^")),
@@ -82,7 +83,7 @@ fn goes_on_with_a_record_when_its_block_was_taken(rt: HostRuntime) {
         Call::Take(Some(b"100181234567890123")),
         Call::Rest(false),
         Call::Offer(b"4567890", Ok(Offer::Taken)),
-        // A new record begins, though the last one has just ended in this block.
+        // A new record begins, although the last one has just ended in this block.
         Call::Offer(b"A", Ok(Offer::Taken)),
         Call::Take(Some(b"30012456789000006A")),
     ];
@@ -92,8 +93,8 @@ fn goes_on_with_a_record_when_its_block_was_taken(rt: HostRuntime) {
     );
 }
 
-// Whether the packer takes this front of what remains of a record, and its block then holds that
-// alone, as the segment with this number.
+// Returns true if the packer accepts the first part of the rest of a record, and its block then
+// contains only that, as the segment with this number.
 fn cuts(packer: &mut Packer, shape: &Shape, n: usize, rest: &[u8], front: &[u8]) -> bool {
     let span = match n {
         0 => Span::First,
@@ -116,7 +117,7 @@ fn cuts(packer: &mut Packer, shape: &Shape, n: usize, rest: &[u8], front: &[u8])
     }
 }
 
-// So many bytes.
+// Returns so many bytes.
 fn long_record(alloc: Global, len: u32) -> Result<Vec<u8>, AllocError> {
     let mut record = Vec::new(alloc);
     for n in 0..len {
@@ -125,8 +126,8 @@ fn long_record(alloc: Global, len: u32) -> Result<Vec<u8>, AllocError> {
     Ok(record)
 }
 
-// A record of 3,000,000 bytes, of which the packer is offered what remains: 300 segments of 9,994
-// bytes and one of 1,800.
+// A record of 3,000,000 bytes, whose rest is offered to the packer: 300 segments of 9,994 bytes and
+// one of 1,800.
 #[test]
 fn cuts_a_long_record(rt: HostRuntime) -> Result<(), Fail> {
     let shape = shape(Format::Spanned, 9_999, 0, 0);

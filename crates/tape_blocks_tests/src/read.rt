@@ -1,8 +1,9 @@
 //! Blocks that pass, and their parts.
 
+use crate::reading::spans_of;
 use crate::worked::{reads, refuses, shape};
 use std::test::*;
-use tape_blocks::{BlockCause, Shape, Span, check_block, laws};
+use tape_blocks::{BlockCause, Shape, Span, check_block};
 use tape_label::{Format, Head2};
 
 #[test]
@@ -37,8 +38,8 @@ fn records_of_format_f(rt: HostRuntime) {
     assert!(rt; refuses(&f, false, &block, 80, BlockCause::NotMultiple));
 }
 
-/// Its name, whether a record is begun before the block, the block, whether one is begun behind
-/// it, and its parts.
+/// A name, whether a record is unfinished before the block, the block, whether one is unfinished
+/// after it, and its parts.
 type Read<'a> = (&'a str, bool, &'a [u8], bool, &'a [(Span, &'a [u8])]);
 
 const SEGMENTS: &[Read<'_>] = &[
@@ -138,7 +139,7 @@ fn spans_of_a_checked_block(rt: HostRuntime) {
         assert!(rt; false, "the block passes");
         return;
     };
-    let told = match laws::spans_of(rt.alloc(), &s, block) {
+    let told = match spans_of(rt.alloc(), &s, block) {
         Ok(spans) => spans.as_slice() == [Span::Last, Span::First].as_slice(),
         Err(_) => false,
     };

@@ -1,14 +1,15 @@
-//! Shapes for worked blocks, and what they are held against.
+//! Shapes for worked blocks, and comparisons.
 
+use crate::packing::pack_all;
 use std::alloc::{AllocError, Global};
 use std::test::*;
 use tape_blocks::{
-    BlockCause, BlockFault, PackFault, Packer, Part, Parts, Shape, Span, check_block, pack_all,
+    BlockCause, BlockFault, PackFault, Packer, Part, Parts, Shape, Span, check_block,
 };
 use tape_label::Format;
 
-/// A shape that pads no block in full. In format F its records have a byte at least, as the type
-/// wants.
+/// Returns a shape that pads no block in full. In format F its records have at least one byte, as
+/// the type requires.
 pub fn shape(format: Format, block_len: u32, rec_len: u32, offset: u8) -> Shape {
     let rec_len = match format {
         Format::Fixed => rec_len.max(1),
@@ -23,14 +24,15 @@ pub fn shape(format: Format, block_len: u32, rec_len: u32, offset: u8) -> Shape 
     }
 }
 
-/// The same, and each block is padded in full.
+/// The same, but each block is padded in full.
 pub fn padded(format: Format, block_len: u32, rec_len: u32, offset: u8) -> Shape {
     let mut shape = shape(format, block_len, rec_len, offset);
     shape.pad_full = true;
     shape
 }
 
-/// Whether the block passes, leaves a record begun or not, and has just these parts.
+/// Returns true if the block passes, leaves a record unfinished or not, and has exactly these
+/// parts.
 pub fn reads(
     shape: &Shape,
     begun: bool,
@@ -51,12 +53,12 @@ pub fn reads(
     parts.next().is_none()
 }
 
-/// Whether the block is refused at this place for this cause.
+/// Returns true if the block is refused at this place for this cause.
 pub fn refuses(shape: &Shape, begun: bool, block: &[u8], place: usize, cause: BlockCause) -> bool {
     check_block(shape, begun, block) == Err(BlockFault { place, cause })
 }
 
-/// Copies of these texts.
+/// Returns copies of these texts.
 pub fn copies(alloc: Global, texts: &[&[u8]]) -> Result<Vec<Vec<u8>>, AllocError> {
     let mut all = Vec::new(alloc);
     for text in texts {
@@ -67,7 +69,7 @@ pub fn copies(alloc: Global, texts: &[&[u8]]) -> Result<Vec<Vec<u8>>, AllocError
     Ok(all)
 }
 
-/// Whether these records are packed into just these blocks.
+/// Returns true if these records are packed into exactly these blocks.
 pub fn packs(alloc: Global, shape: Shape, records: &[&[u8]], wanted: &[&[u8]]) -> bool {
     match (copies(alloc, records), copies(alloc, wanted)) {
         (Ok(records), Ok(wanted)) => match pack_all(alloc, shape, &records) {
@@ -78,7 +80,7 @@ pub fn packs(alloc: Global, shape: Shape, records: &[&[u8]], wanted: &[&[u8]]) -
     }
 }
 
-/// Why these records are not packed, if they are not.
+/// Returns why these records are not packed, if they are not.
 pub fn pack_fault(alloc: Global, shape: Shape, records: &[&[u8]]) -> Option<PackFault> {
     match copies(alloc, records) {
         Ok(records) => pack_all(alloc, shape, &records).err(),
@@ -86,7 +88,8 @@ pub fn pack_fault(alloc: Global, shape: Shape, records: &[&[u8]]) -> Option<Pack
     }
 }
 
-/// Whether blocks of this shape are written, or are not, by what the shape tells and by a packer.
+/// Returns true if both the shape and a packer say that blocks of this shape are written, or both
+/// that they are not.
 pub fn is_judged(alloc: Global, shape: Shape, written: bool) -> bool {
     let refused = if written {
         None

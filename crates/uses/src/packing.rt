@@ -1,23 +1,29 @@
-//! Records packed into blocks, and the parts of these walked.
+//! A record packed into blocks, and the parts of these walked.
 use std::test::Fail;
-use tape_blocks::{BlockFault, Parts, Shape, check_block, pack_all};
+use tape_blocks::{BlockFault, Offer, Packer, Parts, Shape, check_block};
 use tape_label::Format;
 
-/// How many records end in the blocks of a file, and how many bytes they have.
-fn counted(shape: &Shape, blocks: &[Vec<u8>]) -> Result<(u64, usize), BlockFault> {
-    let (mut records, mut bytes) = (0u64, 0usize);
-    let mut begun = false;
-    for block in blocks {
-        // Parts are lent by a block that was checked, and by no other.
-        begun = check_block(shape, begun, block.as_slice())?;
-        for part in Parts::new(shape, block.as_slice()) {
-            bytes = bytes.saturating_add(part.bytes.len());
+/// What was counted so far.
+#[derive(Clone, Copy, Debug, PartialEq, Eq)]
+struct Counts {
+    records: u64,
+    bytes: usize,
+    begun: bool,
+}
+
+impl Counts {
+    /// Counts the bytes of a block, and the records that end in it.
+    fn add(&mut self, shape: &Shape, block: &[u8]) -> Result<(), BlockFault> {
+        // Parts are borrowed only from a block that was checked.
+        self.begun = check_block(shape, self.begun, block)?;
+        for part in Parts::new(shape, block) {
+            self.bytes = self.bytes.saturating_add(part.bytes.len());
             if !part.span.leaves() {
-                records = records.saturating_add(1);
+                self.records = self.records.saturating_add(1);
             }
         }
+        Ok(())
     }
-    Ok((records, bytes))
 }
 
 #[test]
@@ -29,8 +35,30 @@ fn packed_records_are_counted(rt: HostRuntime) -> Result<(), Fail> {
         offset: 0,
         pad_full: false,
     };
-    let record = b"a record of three segments".to_vec(rt.alloc())?;
-    let blocks = pack_all(rt.alloc(), shape, &[record])?;
-    assert!(rt; counted(&shape, blocks.as_slice())? == (1, 26));
+    let mut packer = Packer::new(rt.alloc(), shape)?;
+    let mut counts = Counts {
+        records: 0,
+        bytes: 0,
+        begun: false,
+    };
+    let mut rest = b"a record of three segments".as_slice();
+    for _ in 0..u8::MAX {
+        let Offer::BlockReady(taken) = packer.offer(rest)? else {
+            break;
+        };
+        rest = rest.get(taken..).unwrap_or(&[]);
+        if let Some(block) = packer.take_block() {
+            counts.add(&shape, block)?;
+        }
+    }
+    if let Some(block) = packer.take_block() {
+        counts.add(&shape, block)?;
+    }
+    let want = Counts {
+        records: 1,
+        bytes: 26,
+        begun: false,
+    };
+    assert!(rt; counts == want);
     Ok(())
 }

@@ -11,7 +11,8 @@ use Rattle.tape_blocks.specs.declared.offer.PackFault.TheVariants.{RecordLength,
 use Rattle.tape_blocks.specs.declared.offer.PackFault.TheVariants.{OutOfMemory}
 use Rattle.tape_blocks.specs.declared.parts.Shape.{Shape}
 use Rattle.tape_blocks.specs.Packing.{IsWritable, HasRecordLength}
-use Rattle.tape_blocks.specs.Records.{contents, AreRecordsOf, IsRefusedFor, IsRefusedOne}
+use Rattle.tape_blocks_tests.specs.Records.{contents, IsRefusedFor, IsRefusedOne}
+use Rattle.tape_blocks.specs.Records.{AreRecordsOf}
 
 pub one_more : (vs : List (Vec ℕ Global)) (i : ℕ) (v : Vec ℕ Global) → i < length vs
     → v ≡ get_or vs i v → contents (take (i + 1) vs) ≡ contents (take i vs) ++ v.items ∷ []

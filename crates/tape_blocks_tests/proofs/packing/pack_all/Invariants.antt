@@ -1,8 +1,9 @@
 use Rattle.std.proofs.Common.{◌≡◌, false, List, take}
-use Rattle.tape_blocks.specs.Records.{contents, AreRecordsOf}
+use Rattle.tape_blocks_tests.specs.Records.{contents}
+use Rattle.tape_blocks.specs.Records.{AreRecordsOf}
 use Rattle.tape_blocks.specs.Run.{RunOf}
 use Rattle.tape_blocks.specs.Tight.{Filled, bytes_of_all}
-use Rattle.tape_blocks.proofs.packing.pack_all.Given as goal
+use Rattle.tape_blocks_tests.proofs.packing.pack_all.Given as goal
 
 abbrev pub invariant-loop-record : goal.invariant-loop-record
 invariant-loop-record l = record {

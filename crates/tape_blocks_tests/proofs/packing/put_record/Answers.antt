@@ -5,10 +5,10 @@ use Rattle.tape_blocks.specs.declared.offer.PackFault.TheVariants.{RecordLength}
 use Rattle.tape_blocks.specs.declared.parts.Shape.{Shape}
 use Rattle.tape_blocks.specs.declared.offer.Offer.TheVariants.{Taken, BlockReady}
 use Rattle.tape_blocks.specs.Packing.{Packing, Offers, HasRecordLength}
-use Rattle.tape_blocks.specs.Records.{contents, RefusesRecord}
-use Rattle.tape_blocks.proofs.PutsLaws.{puts_none, puts_block, going_refused}
+use Rattle.tape_blocks_tests.specs.Records.{contents, RefusesRecord}
+use Rattle.tape_blocks_tests.proofs.PutsLaws.{puts_none, puts_block, going_refused}
 use Rattle.tape_blocks.proofs.RunLaws.{offers_shape, going_ends, going_length}
-use Rattle.tape_blocks.proofs.packing.put_record.Goals as goal
+use Rattle.tape_blocks_tests.proofs.packing.put_record.Goals as goal
 
 pub offers-init : goal.offers-init
 offers-init c = record {

@@ -3,14 +3,14 @@ use Rattle.std.proofs.lemmas.List.{append-nil}
 use Rattle.tape_blocks.specs.Block.{Portion, Holds}
 use Rattle.tape_blocks.specs.Parts.{view}
 use Rattle.tape_blocks.specs.PartsLeft.{parts_left}
-use Rattle.tape_blocks.specs.Records.{contents}
+use Rattle.tape_blocks_tests.specs.Records.{contents}
 use Rattle.tape_blocks.specs.Spans.{leaves}
 use Rattle.tape_blocks.specs.Tight.{parts_of_all}
-use Rattle.tape_blocks.proofs.BackLaws.{here_at, in_contents, joined_as, joined_ends}
-use Rattle.tape_blocks.proofs.BackLaws.{joined_goes_on, text_at, parts_push, contents_push}
+use Rattle.tape_blocks_tests.proofs.BackLaws.{here_at, in_contents, joined_as, joined_ends}
+use Rattle.tape_blocks_tests.proofs.BackLaws.{joined_goes_on, text_at, parts_push, contents_push}
 use Rattle.tape_blocks.proofs.TightLaws.{parts_more}
 use Rattle.tape_blocks.proofs.YieldLaws.{yielded_parts}
-use Rattle.tape_blocks.proofs.laws.records_in_blocks.Goals as goal
+use Rattle.tape_blocks_tests.proofs.reading.records_in_blocks.Goals as goal
 
 pub new-part-items-requires : goal.new-part-items-requires
 new-part-items-requires c =

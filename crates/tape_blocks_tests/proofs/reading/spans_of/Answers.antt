@@ -3,8 +3,9 @@ use Rattle.std.proofs.lemmas.List.{append-nil}
 use Rattle.tape_blocks.specs.Block.{Portion}
 use Rattle.tape_blocks.specs.Parts.{view}
 use Rattle.tape_blocks.specs.PartsLeft.{parts_left}
-use Rattle.tape_blocks.proofs.YieldLaws.{yielded_parts, spans_same}
-use Rattle.tape_blocks.proofs.laws.spans_of.Goals as goal
+use Rattle.tape_blocks.proofs.YieldLaws.{yielded_parts}
+use Rattle.tape_blocks_tests.proofs.BackLaws.{spans_same}
+use Rattle.tape_blocks_tests.proofs.reading.spans_of.Goals as goal
 
 pub returns : goal.returns
 returns c = λ parts h.

@@ -1,9 +1,9 @@
 use Rattle.std.proofs.Common.{◌≡◌, ℕ, ◌+◌, List, length}
-use Rattle.tape_blocks.specs.Records.{contents}
+use Rattle.tape_blocks_tests.specs.Records.{contents}
 use Rattle.tape_blocks.specs.Run.{RunOf}
 use Rattle.tape_blocks.specs.Tight.{Filled}
-use Rattle.tape_blocks.proofs.PutsLaws.{Puts}
-use Rattle.tape_blocks.proofs.packing.put_record.Given as goal
+use Rattle.tape_blocks_tests.proofs.PutsLaws.{Puts}
+use Rattle.tape_blocks_tests.proofs.packing.put_record.Given as goal
 
 abbrev pub invariant-offers : goal.invariant-offers
 invariant-offers l = record {

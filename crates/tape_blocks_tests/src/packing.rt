@@ -1,17 +1,16 @@
-//! Whole lists of records packed.
+//! Packs whole lists of records.
 
 ghost use Rattle.std.specs.Prelude.{◌≡◌, ◌≢◌, List, [], ◌∷◌, ◌++◌, OnOk, IfOk, IfErr};
 ghost use Rattle.tape_blocks.specs.Packing.{Given, IsWritable, emptied};
-ghost use Rattle.tape_blocks.specs.Records.{contents, AreRecordsOf, IsRefusedFor, RefusesRecord};
-ghost use Rattle.tape_blocks.specs.Records.{PutsRecord};
+ghost use Rattle.tape_blocks_tests.specs.Records.{contents, IsRefusedFor, RefusesRecord};
+ghost use Rattle.tape_blocks_tests.specs.Records.{PutsRecord};
+ghost use Rattle.tape_blocks.specs.Records.{AreRecordsOf};
 ghost use Rattle.tape_blocks.specs.Tight.{Packs};
 
-use crate::offer::{Offer, PackFault};
-use crate::packer::Packer;
-use crate::parts::Shape;
 use std::alloc::Global;
+use tape_blocks::{Offer, PackFault, Packer, Shape};
 
-/// A copy of the block under way, if there is one, behind the others.
+/// Appends a copy of the packer's block to the others, if it has one.
 fn give(alloc: Global, packer: &mut Packer, blocks: &mut Vec<Vec<u8>>) -> Result<(), PackFault>
     ensures err { IfErr result (λ e. e ≡ PackFault.OutOfMemory) }
     ensures taken { OnOk result (packer.new ≡ emptied packer.old) }
@@ -30,7 +29,7 @@ fn give(alloc: Global, packer: &mut Packer, blocks: &mut Vec<Vec<u8>>) -> Result
     Ok(())
 }
 
-/// A whole record, each block copied when it is ready.
+/// Packs a whole record, and copies each block when it is ready.
 fn put_record(
     alloc: Global,
     packer: &mut Packer,
@@ -53,16 +52,16 @@ fn put_record(
     }
 }
 
-/// The blocks that these records are packed into, in order: one at each `BlockReady`, and the block
-/// under way at the end.
+/// Packs these records and returns the blocks, in order: one at each `BlockReady`, and the last one
+/// at the end.
 ///
 /// Their parts join to the records, and they are packed tightly: no block was closed that had room
-/// for what came next.
+/// for the next part.
 ///
 /// # Errors
 ///
-/// `ShapeRange` where [`Packer::new`] answers it, `RecordLength` where some record has a length
-/// that the shape does not allow, and `OutOfMemory` where memory is refused.
+/// `ShapeRange` if [`Packer::new`] returns it, `RecordLength` if a record has a length that the
+/// shape does not allow, and `OutOfMemory` if memory is refused.
 pub fn pack_all(alloc: Global, shape: Shape, records: &[Vec<u8>]) -> Result<Vec<Vec<u8>>, PackFault>
     ensures writable { IfOk result (λ _. IsWritable shape) }
     ensures packed { IfOk result (λ blocks.

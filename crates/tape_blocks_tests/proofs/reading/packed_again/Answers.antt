@@ -2,9 +2,9 @@ use Rattle.std.proofs.Common.{List, sym, subst}
 use Rattle.std.specs.declared.alloc.Global.{Global}
 use Rattle.std.specs.declared.vec.Vec.{Vec}
 use Rattle.tape_blocks.specs.Laws.{HoldRecords}
-use Rattle.tape_blocks.specs.Records.{contents}
+use Rattle.tape_blocks_tests.specs.Records.{contents}
 use Rattle.tape_blocks.proofs.BackLaws.{packs_hold}
-use Rattle.tape_blocks.proofs.laws.packed_again.Goals as goal
+use Rattle.tape_blocks_tests.proofs.reading.packed_again.Goals as goal
 
 pub records_in_blocks-requires : goal.records_in_blocks-requires
 records_in_blocks-requires c = (

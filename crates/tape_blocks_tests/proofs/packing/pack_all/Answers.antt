@@ -5,12 +5,13 @@ use Rattle.std.proofs.lemmas.List.{take_all, map-append}
 use Rattle.std.proofs.lemmas.Result.{err_from_is_err_and}
 use Rattle.tape_blocks.specs.declared.parts.Shape.{Shape}
 use Rattle.tape_blocks.specs.Packing.{HasRecordLength}
-use Rattle.tape_blocks.specs.Records.{contents, AreRecordsOf, IsRefusedOne}
+use Rattle.tape_blocks_tests.specs.Records.{contents, IsRefusedOne}
+use Rattle.tape_blocks.specs.Records.{AreRecordsOf}
 use Rattle.tape_blocks.specs.Run.{Run}
 use Rattle.tape_blocks.specs.Tight.{Filled, Packs, bytes_of_all}
-use Rattle.tape_blocks.proofs.RecordLaws.{one_more, lengths_push, has_record, refused_for}
-use Rattle.tape_blocks.proofs.PutsLaws.{last_block}
-use Rattle.tape_blocks.proofs.packing.pack_all.Goals as goal
+use Rattle.tape_blocks_tests.proofs.RecordLaws.{one_more, lengths_push, has_record, refused_for}
+use Rattle.tape_blocks_tests.proofs.PutsLaws.{last_block}
+use Rattle.tape_blocks_tests.proofs.packing.pack_all.Goals as goal
 
 pub loop-record-preserved : goal.loop-record-preserved
 loop-record-preserved c =

@@ -1,0 +1,79 @@
+//! Reads records again from the blocks that contain them, by plain programs.
+
+ghost use Rattle.std.specs.Prelude.{◌≡◌, List, ℕ, map, IfOk, IfErr};
+ghost use Rattle.tape_blocks.specs.Block.{Portion, Holds};
+ghost use Rattle.tape_blocks.specs.Laws.{HoldRecords};
+ghost use Rattle.tape_blocks.specs.Checked.{IsChecked};
+ghost use Rattle.tape_blocks_tests.specs.Records.{contents, IsRefusedFor};
+
+use crate::packing::pack_all;
+use std::alloc::{AllocError, Global};
+use tape_blocks::{PackFault, Parts, Shape, Span};
+
+/// Returns the spans of a checked block's parts, in order: a `for` over the parts yields exactly
+/// the parts of the block.
+///
+/// # Errors
+///
+/// Only if memory is refused.
+pub fn spans_of(alloc: Global, shape: &Shape, block: &[u8]) -> Result<Vec<Span>, AllocError>
+    requires { IsChecked shape.now block.now }
+    ensures { IfOk result (λ spans. (parts : List Portion)
+        → Holds shape.now.format shape.now.rec_len shape.now.offset block.now parts
+        → spans.items ≡ map (λ p. p.span) parts) }
+{
+    let mut spans = Vec::new(alloc);
+    for part in Parts::new(shape, block) {
+        spans.push(part.span)?;
+    }
+    Ok(spans)
+}
+
+/// Returns the records in these blocks: each block's parts are joined to those before. Blocks that
+/// were packed contain the records that they were packed from (`laws::packed_blocks_hold`).
+///
+/// # Errors
+///
+/// Only if memory is refused.
+pub fn records_in_blocks(
+    alloc: Global,
+    shape: &Shape,
+    blocks: &[Vec<u8>],
+) -> Result<Vec<Vec<u8>>, AllocError>
+    requires { (records : List (List ℕ)) × HoldRecords shape.now (contents blocks.now) records }
+    ensures { IfOk result (λ back. (records : List (List ℕ))
+        → HoldRecords shape.now (contents blocks.now) records → contents back.items ≡ records) }
+{
+    let mut records = Vec::new(alloc);
+    let mut record = Vec::new(alloc);
+    for block in blocks {
+        for part in Parts::new(shape, block) {
+            record.extend_from_slice(part.bytes)?;
+            if !part.span.leaves() {
+                records.push(record)?;
+                record = Vec::new(alloc);
+            }
+        }
+    }
+    Ok(records)
+}
+
+/// Packs records, and reads them from their blocks again: they are the same.
+///
+/// # Errors
+///
+/// Those of [`pack_all`].
+pub fn packed_again(
+    alloc: Global,
+    shape: Shape,
+    records: &[Vec<u8>],
+) -> Result<Vec<Vec<u8>>, PackFault>
+    ensures same { IfOk result (λ back. contents back.items ≡ contents records.now) }
+    ensures refused { IfErr result (IsRefusedFor shape (contents records.now)) }
+{
+    let blocks = pack_all(alloc, shape, records)?;
+    match records_in_blocks(alloc, &shape, blocks.as_slice()) {
+        Ok(back) => Ok(back),
+        Err(_) => Err(PackFault::OutOfMemory),
+    }
+}
