@@ -7,7 +7,8 @@ use std::process::Abort;
 use tape_core::Event::{Bad, Block, Mark};
 use tape_core::{Answer, Checkpoint, Event, ReaderCore};
 use tape_label::Format;
-use tape_set::{EntryLayout, Layout, Position, before, entries, far};
+use tape_set::{Layout, Position};
+use tape_set_tests::{EntryLayout, before, entries, far};
 
 /// Whether a record is begun before this block of a section.
 fn is_begun(style: Style, plan: &[Planned], file: u16, sect: u16, block: u32) -> bool {

@@ -1,23 +1,15 @@
 -- Answers that the contracts of positions, layouts and lists exclude: each is what a wrong body
 -- would give. A lemma has the name of the edit that makes this mistake.
-use Rattle.std.proofs.Common.{◌≡◌, ℕ, List, [], ◌∷◌, length, Bool, true, false}
+use Rattle.std.proofs.Common.{◌≡◌, ℕ, List, [], ◌∷◌, length, true, false}
 use Rattle.std.proofs.Common.{refl, sym, ap, ◌∙◌, subst₂, arith, inl, inr, lit<, Less, Greater}
-use Rattle.std.specs.Prelude.{get_or, replicate, Option, Some, None, Ok, option_map, unwrap_or}
+use Rattle.std.specs.Prelude.{get_or, Option, Some, None, option_map, unwrap_or}
 use Rattle.std.specs.Prelude.{option_and_then}
 use Rattle.tape_set.specs.declared.position.Position.{Position}
 use Rattle.tape_set.specs.declared.position.Position.TheVariants.{Awaits, Finished}
 use Rattle.tape_set.specs.declared.position.Want.{Want}
-use Rattle.tape_set.specs.Position.{start, is_start as begins, sect_of, block_of, part_of, IsBefore}
+use Rattle.tape_set.specs.Position.{is_start as begins, sect_of, block_of, part_of, IsBefore}
 use Rattle.tape_set.specs.Position.{want_at}
-use Rattle.tape_set.specs.Before.{before as parts_before}
-use Rattle.tape_set.specs.Contents.{entries_told}
-use Rattle.tape_set.specs.Layout.{Section, FileSet, nth as nth_of, section_of, volume_group}
-use Rattle.tape_set.specs.Layout.{entries as entries_of}
-use Rattle.tape_set.specs.Reach.{far as far_of}
-use Rattle.tape_set.proofs.Worked.{plain_volume}
-use Rattle.tape_set.proofs.WorkedFile.{one_volume}
-use Rattle.tape_set.proofs.contents.entries.Reads as entries
-use Rattle.tape_set.proofs.delivered.before.Reads as before
+use Rattle.tape_set.specs.Layout.{Section, nth as nth_of, section_of}
 use Rattle.tape_set.proofs.layout.label_count.Reads as label_count
 use Rattle.tape_set.proofs.layout.nth.Reads as nth
 use Rattle.tape_set.proofs.layout.volume_of.Reads as volume_of
@@ -32,7 +24,6 @@ use Rattle.tape_set.proofs.position.Position.next_section.Reads as next_section
 use Rattle.tape_set.proofs.position.Position.start.Reads as start_given
 use Rattle.tape_set.proofs.position.Position.want.Reads as want
 use Rattle.tape_set.proofs.position.position_cmp.Reads as position_cmp
-use Rattle.tape_set.proofs.reach.far.Reads as far
 
 -- ---- where positions go on
 
@@ -200,75 +191,3 @@ elements_lost : (T : _) (L : _) (κs : _) (a : _) (r : _) (s : _) → as_slice.L
     → length a.0.now ≡ 1 → length r.now ≡ 0 → ⊥
 elements_lost T L κs a r s h e w =
     absurd (let n : 0 ≡ 1 = sym w ∙ ap length h ∙ e in omega arith)
-
--- ---- plain programs, over the worked file of three blocks with 25 parts
-
--- how many parts are given before a position of the worked file
-parts_given : (κs : _) (a : _) (v : _) (s : _) (p : Position) → before.Learnt κs a (Ok v) s
-    → a.1.0.now ≡ one_volume → a.1.1.0 ≡ 1 → a.1.1.1.0.now ≡ p
-    → length v.items ≡ length (parts_before one_volume 1 p)
-parts_given κs a v s p h e k f =
-    ap length (h ∙ ap (λ set. parts_before set a.1.1.0 a.1.1.1.0.now) e
-    ∙ ap (λ file. parts_before one_volume file a.1.1.1.0.now) k ∙ ap (parts_before one_volume 1) f)
-
--- how far the position is taken by a reading of the worked file's volume
-reached : (κs : _) (a : _) (s : _) (to p : Position) (good : List Bool)
-    → far.Learnt-named κs a (Ok (Some to)) s → a.1.0.now ≡ one_volume → a.1.1.0 ≡ 1
-    → a.1.1.1.0 ≡ p → a.1.1.1.1.0 ≡ 1 → a.1.1.1.1.1.0.now ≡ good
-    → to ≡ far_of one_volume 1 p (record { volume = 1; good = good })
-reached κs a s to p good l e k f v g =
-    let over : FileSet → ℕ → Position → ℕ → List Bool → Position
-    = λ set file from volume met. far_of set file from (record { volume = volume; good = met }) in
-    l.found ∙ ap (λ set. over set a.1.1.0 a.1.1.1.0 a.1.1.1.1.0 a.1.1.1.1.1.0.now) e
-    ∙ ap (λ file. over one_volume file a.1.1.1.0 a.1.1.1.1.0 a.1.1.1.1.1.0.now) k
-    ∙ ap (λ from. over one_volume 1 from a.1.1.1.1.0 a.1.1.1.1.1.0.now) f
-    ∙ ap (λ volume. over one_volume 1 p volume a.1.1.1.1.1.0.now) v
-    ∙ ap (over one_volume 1 p 1) g
-
--- sections_left_out: on a volume its labels stand alone
-sections_left_out : (κs : _) (a : _) (v : _) (s : _) → entries.Learnt-named κs a (Ok v) s
-    → a.1.0.now ≡ one_volume → a.1.1.0 ≡ 1 → entries_told v.items ≡ volume_group plain_volume → ⊥
-sections_left_out κs a v s l e k w =
-    let same : volume_group plain_volume ≡ entries_of one_volume 1
-    = sym w ∙ l.entries ∙ ap (λ set. entries_of set a.1.1.0) e ∙ ap (entries_of one_volume) k in
-    absurd (let n : 1 ≡ 12 = ap length same in omega arith)
-
--- part_under_way_left_out: of the block that is awaited no part is given, where one was delivered
-part_under_way_left_out : (κs : _) (a : _) (v : _) (s : _) → before.Learnt κs a (Ok v) s
-    → a.1.0.now ≡ one_volume → a.1.1.0 ≡ 1 → a.1.1.1.0.now ≡ Awaits 1 0 1 → v.items ≡ [] → ⊥
-part_under_way_left_out κs a v s h e k p w =
-    absurd (let n : 0 ≡ 1 = ap length (sym w) ∙ parts_given κs a v s (Awaits 1 0 1) h e k p in
-    omega arith)
-
--- whole_file_before_each_position: all 25 parts are given before the start of the file
-whole_file_before_each_position : (κs : _) (a : _) (v : _) (s : _) → before.Learnt κs a (Ok v) s
-    → a.1.0.now ≡ one_volume → a.1.1.0 ≡ 1 → a.1.1.1.0.now ≡ start → length v.items ≡ 25 → ⊥
-whole_file_before_each_position κs a v s h e k p w =
-    absurd (let n : 25 ≡ 0 = sym w ∙ parts_given κs a v s start h e k p in omega arith)
-
--- met_from_the_front_of_the_volume: labels that were read well are counted as blocks
-met_from_the_front_of_the_volume : (κs : _) (a : _) (s : _)
-    → far.Learnt-named κs a (Ok (Some (Awaits 1 3 0))) s → a.1.0.now ≡ one_volume → a.1.1.0 ≡ 1
-    → a.1.1.1.0 ≡ start → a.1.1.1.1.0 ≡ 1 → a.1.1.1.1.1.0.now ≡ replicate 4 true → ⊥
-met_from_the_front_of_the_volume κs a s l e k p v g =
-    let same : Awaits 1 3 0 ≡ Awaits 1 0 0
-    = reached κs a s (Awaits 1 3 0) start (replicate 4 true) l e k p v g in
-    absurd (let n : 3 ≡ 0 = ap block_of same in omega arith)
-
--- part_kept_at_a_later_block: one block was read, and part 5 of the block before it is awaited
-part_kept_at_a_later_block : (κs : _) (a : _) (s : _)
-    → far.Learnt-named κs a (Ok (Some (Awaits 1 0 5))) s → a.1.0.now ≡ one_volume → a.1.1.0 ≡ 1
-    → a.1.1.1.0 ≡ Awaits 1 0 5 → a.1.1.1.1.0 ≡ 1 → a.1.1.1.1.1.0.now ≡ replicate 5 true → ⊥
-part_kept_at_a_later_block κs a s l e k p v g =
-    let same : Awaits 1 0 5 ≡ Awaits 1 1 0
-    = reached κs a s (Awaits 1 0 5) (Awaits 1 0 5) (replicate 5 true) l e k p v g in
-    absurd (let n : 5 ≡ 0 = ap part_of same in omega arith)
-
--- passes_bad_labels: the volume label was not read well, and a block behind it is passed
-passes_bad_labels : (κs : _) (a : _) (s : _)
-    → far.Learnt-named κs a (Ok (Some (Awaits 1 1 0))) s → a.1.0.now ≡ one_volume → a.1.1.0 ≡ 1
-    → a.1.1.1.0 ≡ start → a.1.1.1.1.0 ≡ 1 → a.1.1.1.1.1.0.now ≡ false ∷ replicate 4 true → ⊥
-passes_bad_labels κs a s l e k p v g =
-    let same : Awaits 1 1 0 ≡ Awaits 1 0 0
-    = reached κs a s (Awaits 1 1 0) start (false ∷ replicate 4 true) l e k p v g in
-    absurd (let n : 1 ≡ 0 = ap block_of same in omega arith)

@@ -1,6 +1,6 @@
--- Counts of failures, which are kept in 64 bits.
+-- Counts of failures, in 64 bits.
 use Rattle.std.specs.Prelude.{◌⊎◌, ℕ, ◌<◌, ◌≤◌}
 
--- a count of failures rose, or stands at its greatest value, where it stays
+-- a count of failures increased, or is at its greatest value, where it stays
 abbrev pub Rose : ℕ → ℕ → Type 0
 Rose old new = (old < new) ⊎ (18446744073709551615 ≤ new)

@@ -1,5 +1,5 @@
--- The file sets that the writer lays out: blocks as full as the rules of packing ask, and volumes
--- as full as their capacity allows, and no fuller.
+-- The file sets that the writer lays out: blocks as full as the rules of packing require, and
+-- volumes exactly as full as their capacity allows.
 use Rattle.std.specs.Prelude.{◌≡◌, ℕ, ◌+◌, ◌==◌, nat_le, ◌≤◌, Bool, true, false, if◌then◌else◌}
 use Rattle.std.specs.Prelude.{List, [], ◌∷◌, ◌++◌, length, MatchBool}
 use Rattle.std.specs.List.{AllByRecursion}
@@ -20,7 +20,7 @@ use Rattle.tape_set.specs.Sizes.{volume_end_size}
 
 -- ---- labels and blocks of a file
 
--- what the second labels of a file of this shape tell
+-- the fields in the second labels of a file of this shape
 abbrev pub second_of : Shape → Head2
 second_of shape = record {
   format = shape.format;
@@ -29,7 +29,7 @@ second_of shape = record {
   offset = shape.offset;
 }
 
--- EOF2 where the section ends its file, and EOV2 where the file goes on
+-- EOF2 if the section ends its file, and EOV2 if the file continues
 abbrev pub second_trailer : Section → Kind
 second_trailer s = if ends_file s then kinds.Eof2 else kinds.Eov2
 
@@ -37,7 +37,7 @@ second_trailer s = if ends_file s then kinds.Eof2 else kinds.Eov2
 abbrev pub least_capacity : Shape → ℕ
 least_capacity shape = 1024 + shape.block_len
 
--- The section's labels are two headers and two trailers, and the second of each tells the shape.
+-- The section's labels are two headers and two trailers, and the second of each states the shape.
 pub record HasPlainLabels (shape : Shape) (s : Section) : Type 0 where
   pub hdr2 : IsHead2 s.hdr2 kinds.Hdr2 (second_of shape)
   pub headers : s.headers ≡ []
@@ -46,8 +46,8 @@ pub record HasPlainLabels (shape : Shape) (s : Section) : Type 0 where
   pub trailer2 : IsHead2 second (second_trailer s) (second_of shape)
 
 -- The file's shape is one that is written, and the capacity has room for its labels and a block;
--- its labels tell the shape, and its blocks hold records of the shape's lengths, packed with no
--- room wasted.
+-- its labels state the shape, and its blocks contain records of the shape's lengths, packed without
+-- wasting room.
 pub record IsTightFile (capacity : ℕ) (shape : Shape) (f : List Section) : Type 0 where
   pub writable : IsWritable shape
   pub room : least_capacity shape ≤ capacity
@@ -56,7 +56,7 @@ pub record IsTightFile (capacity : ℕ) (shape : Shape) (f : List Section) : Typ
   pub lengths : AllByRecursion (λ r. HasRecordLength shape.format shape.rec_len (length r)) records
   pub packed : packing.IsTight shape records (blocks_of_all f)
 
--- Each file is tight in its shape, of which there is one for each.
+-- Each file is tight in its shape; there is one shape for each file.
 abbrev pub AreTightFiles : ℕ → List Shape → List (List Section) → Type 0
 AreTightFiles capacity [] [] = Unit {0}
 AreTightFiles capacity (shape ∷ shapes) (f ∷ fs) =
@@ -65,37 +65,38 @@ AreTightFiles capacity _ _ = ⊥
 
 -- ---- the change of volumes
 
--- whether a block of this size is written where so much of the volume is used: a volume end has to
--- fit behind it
+-- whether a block of this size is written when this much of the volume is used: the end of a volume
+-- must fit after it
 abbrev pub takes_block : ℕ → ℕ → ℕ → Bool
 takes_block capacity used size = nat_le (used + size + volume_end_size) capacity
 
--- whether a file end is written: the headers of another file and a volume end have to fit behind it
+-- whether the end of a file is written: the headers of another file and the end of a volume must
+-- fit after it
 abbrev pub takes_end : ℕ → ℕ → Bool
 takes_end capacity used = nat_le (used + file_end_size + (headers_size + volume_end_size)) capacity
 
--- whether that is written which comes next: the first of these blocks or, where there is none, the
--- file end
+-- whether the next thing is written: the first of these blocks or, if there is none, the end of the
+-- file
 abbrev pub takes_next : ℕ → ℕ → List Filled → Bool
 takes_next capacity used [] = takes_end capacity used
 takes_next capacity used (b ∷ bs) = takes_block capacity used (item_size (block b.bytes))
 
--- the size of what stands on a section's volume before the section's closing mark, where past are
+-- the size of the contents of a section's volume before the section's closing mark, if `past` are
 -- the sections before it in the order of the set
 abbrev pub used_before : List Volume → List Placed → Section → ℕ
 used_before volumes past s = entries_size (up_to_data volumes past s ++ data_group s.blocks)
 
--- Behind the data of a section a volume end fits; and where the section ends its file, its volume
--- took the file end.
+-- The end of a volume fits after the data of a section; and if the section ends its file, its
+-- volume had room for the end of the file.
 pub record IsTightEnd (volumes : List Volume) (capacity : ℕ) (past : List Placed) (x : Placed)
     : Type 0 where
   pub volume_end : used_before volumes past x.section + volume_end_size ≤ capacity
   pub file_end : ends_file x.section ≡ true
       → takes_end capacity (used_before volumes past x.section) ≡ true
 
--- The section y behind x is of the same file only where the volume of x did not take y's first
--- block or, where y has none, the file end; the first one of the next file stands on the volume of
--- x.
+-- The section y after x belongs to the same file only if the volume of x had no room for y's first
+-- block or, if y has none, for the end of the file; the first section of the next file is on the
+-- volume of x.
 abbrev pub IsTightChange : List Volume → ℕ → List Placed → Placed → Placed → Type 0
 IsTightChange volumes capacity past x y =
     MatchBool (x.file == y.file)
@@ -115,16 +116,16 @@ ChainBehind R past [] = Unit {0}
 ChainBehind R past (x ∷ []) = Unit {0}
 ChainBehind R past (x ∷ y ∷ xs) = R past x y × ChainBehind R (past ++ x ∷ []) (y ∷ xs)
 
--- the volume of the last of these sections; 0 where there is none
+-- the volume of the last of these sections; 0 if there is none
 abbrev pub last_volume : List Placed → ℕ
 last_volume [] = 0
 last_volume (x ∷ []) = x.section.volume
 last_volume (x ∷ y ∷ xs) = last_volume (y ∷ xs)
 
--- A set that is tight in a capacity and in one shape a file. It is said beside Lawful: no volume
--- has a further volume label, the last section stands on the last volume, the files are tight, and
--- files and volumes end where the rule of the change says. The characters of labels are not told
--- here beyond what they are read as.
+-- A set that is tight in a capacity and in one shape for each file. It is used together with
+-- `IsLawful`: no volume has a further volume label, the last section is on the last volume, the
+-- files are tight, and files and volumes end where the rule for the change of volumes says. The
+-- characters of labels are only determined as far as they are read.
 pub record IsTight (set : FileSet) (capacity : ℕ) (shapes : List Shape) : Type 0 where
   pub plain : AllByRecursion (λ v. v.labels ≡ []) set.volumes
   pub last : last_volume (sections set) ≡ length set.volumes

@@ -61,7 +61,7 @@ fn blocks(alloc: Global) -> Result<Sequence<BlockLayout>, AllocError> {
     Ok(Sequence::of_vec(vec![in alloc; first, second]?))
 }
 
-// A block with these parts. The tests don't look at how it spells them.
+// A block with these parts. The tests do not check how the block encodes them.
 fn block(alloc: Global, text: &[u8], contents: &[&[u8]]) -> Result<BlockLayout, AllocError> {
     let mut parts = Vec::new(alloc);
     for content in contents {

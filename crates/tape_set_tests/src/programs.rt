@@ -1,11 +1,14 @@
-//! The definitions as plain programs: what stands on a volume, the parts before a position, and how
-//! far a reading takes one.
+//! The definitions as plain programs: the contents of a volume, the parts before a position, and
+//! how far a reading moves one.
 
+use crate::contents::{EntryLayout, entries};
+use crate::delivered::before;
 use crate::layouts::two_files;
+use crate::reach::far;
 use std::alloc::{AllocError, Global};
 use std::process::Abort;
 use std::test::Fail;
-use tape_set::{EntryLayout, Layout, Position, Sequence, before, entries, far};
+use tape_set::{Layout, Position, Sequence};
 
 // A tape mark is `*`, and a data block begins with `=`.
 const VOLUME_1: &str = "VOL1|UVL1|HDR1|HDR2|*|=0002AB|=0006CDEF|*|EOF1|*|*|";
@@ -23,7 +26,7 @@ fn volumes_have_their_entries(rt: HostRuntime) -> Result<(), Fail> {
     Ok(())
 }
 
-// What stands on a volume, as one text.
+// Returns the contents of a volume, as one text.
 fn outline(alloc: Global, layout: &Layout, volume: usize) -> Result<String, AllocError> {
     let mut text = String::new(alloc);
     for entry in &entries(alloc, layout, volume)? {
@@ -85,7 +88,7 @@ fn all_parts_lie_before_the_end(rt: HostRuntime) -> Result<(), Fail> {
     Ok(())
 }
 
-// These are the parts before the position, each with a bar behind it.
+// These are the parts before the position, each followed by a bar.
 fn lie_before(
     rt: &impl Abort,
     alloc: Global,
@@ -143,7 +146,7 @@ fn readings_finish_files(rt: HostRuntime) -> Result<(), Fail> {
     Ok(())
 }
 
-// How far the reading takes the position.
+// Returns how far the reading moves the position.
 fn far_over(
     alloc: Global,
     layout: &Layout,

@@ -1,7 +1,0 @@
-use Rattle.std.proofs.Common.{arith}
-use Rattle.tape_set.specs.Contents.{entries_told}
-use Rattle.tape_set.proofs.ContentsLaws.{headers_put}
-use Rattle.tape_set.proofs.contents.put_headers.Goals as goal
-
-pub returns : goal.returns
-returns c = grind (arith, headers_put (entries_told c.args.entries.now.items) c.args.section.now)

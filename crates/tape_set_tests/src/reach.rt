@@ -1,0 +1,162 @@
+//! How far one reading moves a position: the definition as a plain program, for tests of faster
+//! readers.
+
+ghost use Rattle.std.specs.Prelude.{◌≡◌, ◌<◌, ◌≤◌, IfSome, IsSome, IfOk, length};
+ghost use Rattle.tape_set.specs.Layout.{is_data, ends_file};
+ghost use Rattle.tape_set.specs.Lawful.{IsLawful, most_blocks};
+ghost use Rattle.tape_set.specs.Reach.{far, passes, good_run, first_unread, both_good, moved};
+ghost use Rattle.tape_set.specs.Reach.{stopped, behind};
+ghost use Rattle.tape_set_tests.specs.Contents.{entry_told, entries_told};
+
+use crate::contents::{EntryLayout, before_data};
+use crate::list::{first, nth, rest};
+use std::alloc::{AllocError, Global};
+use tape_set::{Layout, Position, SectionLayout};
+
+/// Returns the position in a file that one reading of a volume moves a position to. `good` says for
+/// each item of the volume, in order from its start, whether it was read well.
+///
+/// Returns `None` if the numbers of that position are too great for a `Position`, which is
+/// impossible in a valid set.
+///
+/// # Errors
+///
+/// `AllocError` if memory is refused.
+pub fn far(
+    alloc: Global,
+    layout: &Layout,
+    file: u16,
+    position: Position,
+    volume: usize,
+    good: &[bool],
+) -> Result<Option<Position>, AllocError>
+    ensures found { IfOk result (λ o. IfSome o (λ p.
+        p ≡ far layout.now file position (record { volume = volume; good = good.now }))) }
+    ensures lawful { IsLawful layout.now → IfOk result (λ o. IsSome o) }
+{
+    let Position::Awaits { sect, block, .. } = position else {
+        return Ok(Some(position));
+    };
+    let Some(own) = nth(layout.files.as_slice(), usize::from(file)) else {
+        return Ok(Some(position));
+    };
+    let Some(section) = nth(own.sections.as_slice(), usize::from(sect)) else {
+        return Ok(Some(position));
+    };
+    if section.volume != volume {
+        return Ok(Some(position));
+    }
+    let past = before_data(alloc, layout, file, sect, own, section)?;
+    if !passes(good, past.as_slice()) {
+        return Ok(Some(position));
+    }
+    Ok(moved(position, sect, block, section, rest(good, past.len())))
+}
+
+/// Returns true if the reading includes all of this, and only data blocks were not read well.
+fn passes(good: &[bool], past: &[EntryLayout]) -> bool
+    ensures { result ≡ passes good.now (entries_told past.now) }
+{
+    let mut behind = good;
+    for entry in past {
+        match behind.first() {
+            Some(well) if *well || is_data(entry) => behind = rest(behind, 1),
+            _ => return false,
+        }
+    }
+    true
+}
+
+/// Returns true for a data block.
+fn is_data(entry: &EntryLayout) -> bool
+    ensures { result ≡ is_data (entry_told entry.now) }
+{
+    matches!(entry, EntryLayout::DataBlock(_))
+}
+
+/// Returns the position that is reached in this section; `good` begins after its headers.
+fn moved(
+    position: Position,
+    sect: u16,
+    block: u32,
+    section: &SectionLayout,
+    good: &[bool],
+) -> Option<Position>
+    ensures found { IfSome result (λ p. p ≡ moved position sect block section.now good.now) }
+    ensures some { length section.now.blocks ≤ most_blocks → sect < 65535 → IsSome result }
+{
+    let blocks = section.blocks.as_slice().len();
+    let from = block as usize;
+    if blocks < from {
+        return Some(position);
+    }
+    let reached = first_unread(good, from, blocks);
+    if reached < blocks {
+        return stopped(position, sect, block, reached);
+    }
+    if both_good(rest(good, blocks)) {
+        return behind(sect, section);
+    }
+    stopped(position, sect, block, blocks)
+}
+
+/// Returns the position, which is at this block, or the start of the block that was reached.
+fn stopped(position: Position, sect: u16, block: u32, reached: usize) -> Option<Position>
+    ensures found { IfSome result (λ p. p ≡ stopped position sect block reached) }
+    ensures some { reached ≤ most_blocks → IsSome result }
+{
+    let reached = u32::try_from(reached).ok()?;
+    if reached == block {
+        return Some(position);
+    }
+    Some(Position::awaiting(sect, reached))
+}
+
+/// Returns where the file continues after the section.
+fn behind(sect: u16, section: &SectionLayout) -> Option<Position>
+    ensures found { IfSome result (λ p. p ≡ behind sect section.now) }
+    ensures some { sect < 65535 → IsSome result }
+{
+    if ends_file(section) {
+        return Some(Position::Finished);
+    }
+    Some(Position::awaiting(sect.checked_add(1)?, 0))
+}
+
+/// Returns true if the section's trailer ends its file.
+fn ends_file(section: &SectionLayout) -> bool
+    ensures { result ≡ ends_file section.now }
+{
+    first(section.trailer.as_slice(), 4) == b"EOF1".as_slice()
+}
+
+/// Returns the first of so many blocks, from this one on, that was not read well, or their number.
+#[tactic(auto, using(tape_set::proofs::Reaching::first_unread_most))]
+fn first_unread(good: &[bool], block: usize, blocks: usize) -> usize
+    requires { block ≤ blocks }
+    ensures { result ≡ first_unread good.now block blocks }
+{
+    block + good_run(first(rest(good, block), blocks - block))
+}
+
+/// Returns how many were read well before the first that was not.
+fn good_run(good: &[bool]) -> usize
+    ensures { result ≡ good_run good.now }
+{
+    for (n, well) in good.iter().enumerate() {
+        if !*well {
+            return n;
+        }
+    }
+    good.len()
+}
+
+/// Returns true if the reading includes both of the next two items, and both were read well.
+fn both_good(good: &[bool]) -> bool
+    ensures { result ≡ both_good good.now }
+{
+    match good {
+        [closing, trailer, ..] => *closing && *trailer,
+        _ => false,
+    }
+}
