@@ -38,7 +38,7 @@ not_nil : (xs : List Told) (x : Told) → xs ++ x ∷ [] ≡ [] → ⊥
 not_nil [] x e = cc
 not_nil (y ∷ xs) x e = cc
 
--- the file under way is the last one told
+-- the current file is the last one passed
 pub last_told : {T : Type 0} (H : Tapes → Type 0) (w : SetState T) (o : OpenFile) (told : List Told)
     → w.phase ≡ Filing o → IsWriting H w told
     → IsFilingLast H w.volumes w.capacity w.set_id w.course o told
@@ -200,7 +200,7 @@ stuck_told H H' w out vs course o told is v stuck k =
           last.records) (sym v) f.inside));
     }
 
--- the same of a record that was offered behind them
+-- the same of a record that was offered after them
 pub stuck_put_told : {T : Type 0} (H H' : Tapes → Type 0) (w : SetState T) (out : T)
     (vs : List Vol1)
     (course : Course) (o : OpenFile) (told : List Told) (r : List ℕ)

@@ -1,4 +1,4 @@
--- A change of the volume keeps what was written a draft of a lawful, tight set.
+-- A change of the volume keeps what was written a draft of a valid, tight set.
 use Rattle.std.proofs.Common.{◌≡◌, ◌<◌, ◌≤◌, ℕ, ◌+◌, List, [], ◌∷◌, ◌++◌, length, Bool, true, false}
 use Rattle.std.proofs.Common.{Some, refl, sym, ap, ◌∙◌, subst, append_assoc, arith, length-append}
 use Rattle.std.specs.Prelude.{map, slice_get}
@@ -51,7 +51,7 @@ files_next file course d f s =
     ++ closing file course.volume course.sect d.blocks true ∷ []) (length d.files + 1) (omega arith)
     ∙ sects_next file course d true f s)
 
--- behind one more section the last is that one
+-- after one more section the last is that one
 pub last_is : (xs zs : List Placed) (y : Placed) (P : List Placed → Placed → Type 0)
     → zs ≡ xs ++ y ∷ [] → P xs y → OfLast zs P
 last_is xs zs y P e p ys x g =
@@ -104,7 +104,7 @@ done_push vs cap set_id n m file course bs eof xs d le r s p q few one ms sized 
           chain_behind_push (IsTightChange vs cap) [] xs (here file course bs eof) d.changes change;
     }
 
--- the items behind a section's end
+-- the items after a section's end
 pub body_ended : (vs : List Volume) (file : Opened) (course : Course) (d : Draft) (eof : Bool)
     → course.volume ≡ d.past + 1 → course.count ≡ length d.blocks
     → map item_of (body vs (placed d ++ here file course d.blocks eof ∷ []) d.past)
@@ -121,7 +121,7 @@ body_ended vs file course d eof v c =
     regroup : (a b c e : List TapeItem) → a ++ (b ++ c ++ e) ≡ a ++ b ++ c ++ e
     regroup a b c e = simp append_assoc
 
--- the volumes that ended, behind a change
+-- the volumes that ended, after a change
 pub ended_changed : (vs : List Volume) (file : Opened) (course : Course) (d : Draft)
     → file.head.sequence ≡ length d.files + 1 → course.sect ≡ length d.sects + 1
     → course.volume ≡ d.past + 1 → course.count ≡ length d.blocks
@@ -143,13 +143,13 @@ pub body_new : (vs : List Volume) (xs : List Placed) (k : ℕ) (v : Vol1)
 body_new vs xs k v h g = ap (λ z. map item_of (group_of z ++ all_entries (on (k + 1) xs))) g
     ∙ ap (λ z. block (volume_label v) ∷ map item_of (all_entries z)) (on_none (k + 1) xs h)
 
--- the volumes that a section stands on are begun
+-- the volumes that a section is on are begun
 below : (set_id : List ℕ) (n : ℕ) (xs : List Placed) → AllByRecursion (IsSection set_id n) xs
     → AllByRecursion (λ x. x.section.volume < n + 1) xs
 below set_id n xs h = all_weaken (IsSection set_id n)
     (λ x. x.section.volume < n + 1) (λ x k. omega (arith, k.volume.1)) xs h
 
--- behind a section on volume n every section stands before volume n + 1
+-- after a section on volume n every section is before volume n + 1
 before_next : (set_id : List ℕ) (n : ℕ) (xs : List Placed) (x : Placed)
     → AllByRecursion (IsSection set_id n) xs → x.section.volume ≡ n
     → AllByRecursion (λ y. y.section.volume < n + 1) (xs ++ x ∷ [])
@@ -234,7 +234,7 @@ changed vs cap set_id file course d next v wide few capacity most w refused more
       room = omega (arith, capacity);
     }
 
--- what is under way behind a change
+-- what is current after a change
 pub open_changed : (vs : List Volume) (set_id : List ℕ)
     (file : Opened) (course : Course) (d : Draft) (v : Vol1)
     → AllByRecursion (IsSection set_id (d.past + 1)) (placed d)

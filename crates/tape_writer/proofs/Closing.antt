@@ -22,14 +22,14 @@ closed old new current left items tapes some none more is =
     now ∙ (ap Ended (map-append volume_of old (items ∷ []))
     ∙ ap (λ z. Ended (all_volumes z)) before)
 
--- the element behind the first list
+-- the element after the first list
 get_behind : {A : Type 0} (xs ys : List A) (n : ℕ) → n ≡ length xs
     → slice_get (xs ++ ys) n ≡ slice_get ys 0
 get_behind [] ys n e = ap (slice_get ys) e
 get_behind (x ∷ xs) ys zero e = absurd (omega (arith, e))
 get_behind (x ∷ xs) ys (suc n) e = get_behind xs ys n (omega (arith, e))
 
--- and any other, where behind it there is one at most
+-- and any other, where after it there is one at most
 get_other : {A : Type 0} (xs ys : List A) (n : ℕ) → length ys ≤ 1 → n ≢ length xs
     → slice_get (xs ++ ys) n ≡ slice_get xs n
 get_other [] [] n s e = refl

@@ -1,4 +1,4 @@
--- The cases of tapes, of what a writer was told and of its refusals.
+-- The cases of tapes, of the files passed to a writer and of its refusals.
 use Rattle.std.proofs.Common.{◌≡◌, ℕ, List, [], refl, sym, ap, ◌∙◌, arith, subst, inl, inr, Some}
 use Rattle.std.proofs.Common.{◌≤◌, ◌⊎◌}
 use Rattle.tape_image.specs.Writer.{Writer, writing, broken}

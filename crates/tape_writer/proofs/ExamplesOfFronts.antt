@@ -59,7 +59,7 @@ of_none tapes w id shape cut fault (inl g) =
 of_none tapes w id shape cut fault (inr h) =
     (h.0, λ e. h.1 (subst IsOfInput (sym e) tt), h.2)
 
--- one record was told, and memory gave out
+-- one record was passed, and memory gave out
 longer : (tapes : Tapes) (w : SetState ℕ) (told : List Told) (r : List ℕ) (records : List (List ℕ))
     (g : IsLeftOf (λ t. t ≡ tapes) w ⊥ (Write OutOfMemory) told (r ∷ records))
     → g.front ≡ r ∷ [] → IsFirstLong (length r) records

@@ -1,4 +1,4 @@
--- The set is finished: its volumes are those of a lawful, tight set.
+-- The set is finished: its volumes are those of a valid, tight set.
 use Rattle.std.proofs.Common.{◌≡◌, ◌≢◌, ◌<◌, ◌≤◌, ℕ, zero, suc, ◌+◌, List, [], ◌∷◌, ◌++◌, length}
 use Rattle.std.proofs.Common.{Some, refl, sym, ap, ◌∙◌, subst, arith, take, add-one}
 use Rattle.std.specs.Prelude.{map, slice_get}
@@ -64,7 +64,7 @@ get_some [] k h = absurd (omega arith)
 get_some (v ∷ vs) zero h = (v, refl)
 get_some (v ∷ vs) (suc k) h = get_some vs k (omega arith)
 
--- ---- what was decided does not look at the volumes behind
+-- ---- what was decided does not look at the volumes after
 
 used_taken : (vs : List Volume) (n : ℕ) (past : List Placed) (s : Section) → s.volume ≤ n
     → used_before (take n vs) past s ≡ used_before vs past s

@@ -1,4 +1,4 @@
--- A front of what a call was to write is what it leaves.
+-- A prefix of what a call was to write is what it leaves.
 use Rattle.std.proofs.Common.{◌≡◌, ◌≢◌, List, [], ◌∷◌, ◌++◌, refl, sym, ap, ◌∙◌}
 use Rattle.std.proofs.Common.{subst, append_assoc, inl, inr}
 use Rattle.std.specs.Prelude.{◌⊎◌, IfErr, Result, Ok, Err}
@@ -15,7 +15,7 @@ behind-append : (a b : List Step) (t : Tapes)
 behind-append [] b t = refl
 behind-append (s ∷ a) b t = behind-append a b (behind_step s t)
 
--- what is held is a front of itself
+-- what is held is a prefix of itself
 pub front_here : (H : Tapes → Type 0) (t : Tapes) → H t → HoldsFront H t
 front_here H t h = record { now = t; held = h; steps = []; leads = refl }
 
@@ -39,7 +39,7 @@ behind-items vs items [] = ap (UnderWay vs) (sym (append-nil items))
 behind-items vs items (x ∷ more) = behind-items vs (items ++ x ∷ []) more
     ∙ ap (UnderWay vs) (append_assoc items (x ∷ []) more)
 
--- items go behind
+-- items go after
 pub front_items : (H : Tapes → Type 0) (vs : List (List TapeItem)) (items more : List TapeItem)
     → HoldsFront H (UnderWay vs items) → HoldsFront H (UnderWay vs (items ++ more))
 front_items H vs items more f =
@@ -85,12 +85,6 @@ took H H' more (Ok x) takes keeps vs items h = front_here H' _ (takes vs items h
 took H H' more (Err e) takes keeps vs items h =
     front_items H' vs items more (front_here H' _ (keeps _ h))
 
--- the last volume ended or not
-pub closes : (H H' : Tapes → Type 0) (r : Result (Unit {0}) WriteFault) → Closes H r H'
-    → Keeps H r H' → (t : Tapes) → H t → HoldsFront H' (Ended (all_volumes t))
-closes H H' (Ok x) ends keeps t h = front_here H' _ (ends t h)
-closes H H' (Err e) ends keeps t h = front_closed H' t (front_here H' _ (keeps t h))
-
 -- of any fault
 pub err_any : (r : Result (Unit {0}) WriteFault) (P : WriteFault → Type 0)
     → ((f : WriteFault) → P f) → IfErr r P
@@ -102,7 +96,7 @@ pub is_out : (f : WriteFault) → (f ≡ faults.OutOfVolumes) ⊎ (f ≢ faults.
 is_out faults.OutOfVolumes = inl refl
 is_out _ = inr (λ e. absurd cc)
 
--- ---- what is held stays in front
+-- ---- the contents stay at the start
 
 -- the first volume begins with these items
 pub record BeginsWith (items : List TapeItem) (t : Tapes) : Type 0 where

@@ -142,6 +142,6 @@ begins_by : (label : List ℕ) (eof : Bool) → positions label 1 4 ≡ identifi
 begins_by label true e = rw e refl
 begins_by label false e = rw e refl
 
--- a trailer tells whether its file ends
+-- a trailer says whether its file ends
 pub ends_by : (label : List ℕ) (t : Trail1) → IsTrail1 label t → begins_as label kinds.Eof1 ≡ t.eof
 ends_by label t is = begins_by label t.eof is.kind.named

@@ -1,4 +1,4 @@
--- What a refused call leaves on the tapes, told by what the writer was told.
+-- What a refused call leaves on the tapes, as a function of what was passed to the writer.
 use Rattle.std.proofs.Common.{◌≡◌, ◌≢◌, ◌≤◌, ℕ, ◌+◌, List, [], ◌∷◌, ◌++◌, length, refl, sym, ap}
 use Rattle.std.proofs.Common.{◌∙◌, subst, inl, inr, arith, drop}
 use Rattle.std.specs.Prelude.{IfErr, Result, Ok, Err}
@@ -142,7 +142,7 @@ end_left H H' vs cap set_id file course past fs records (Err e) room out closed 
           )
     ]
 
--- before the first volume nothing stands and nothing was told
+-- before the first volume there is nothing, and nothing was passed
 pub unbegun : (H : Tapes → Type 0) (vs : List Vol1) (cap : ℕ) (set_id : List ℕ) (course : Course)
     (told : List Told) → course.volume ≡ 0 → IsWaiting H vs cap set_id course told
     → H (Ended []) × (told ≡ [])

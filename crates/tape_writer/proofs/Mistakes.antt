@@ -1,4 +1,4 @@
--- Answers that the contracts of `SetWriter` exclude: each is what a wrong body would give.
+-- Results that the contracts of `SetWriter` exclude: each is the result of a wrong body.
 use Rattle.std.proofs.Common.{◌≡◌, ◌+◌, List, [], ◌∷◌, ◌++◌, length, sym, ap, ◌∙◌, subst, arith}
 use Rattle.std.proofs.Common.{length-append}
 use Rattle.std.specs.Prelude.{Ok, Err}
@@ -32,7 +32,7 @@ set_without_a_volume T L g d e κs a w s l text none =
     made_or_not w _
     (l.none text (subst (λ vs. AllByRecursion IsTextVolume vs) (sym none) tt) (ap length none))
 
--- blocks_in_place_of_bytes: behind three blocks, 2,292 bytes, the size told is 3
+-- blocks_in_place_of_bytes: after three blocks, 2,292 bytes, the size returned is 3
 blocks_in_place_of_bytes : (T : _) (L : _) (g : _) (d : _) (e : _) (κs : _) (a : _) (s : _)
     → used.Learnt T L g d e κs a 3 s
     → a.0.now.course ≡ record { volume = 1; sect = 1; count = 3; used = 2292 } → ⊥
@@ -78,7 +78,7 @@ last_file_refused : (T : _) (L : _) (g : _) (d : _) (e : _) (κs : _) (a : _) (s
 last_file_refused T L g d e κs a s l between many =
     let due = l.due between in absurd (omega (arith, due, many))
 
--- finished_at_file_end: behind the end of a file the set is finished
+-- finished_at_file_end: after the end of a file the set is finished
 finished_at_file_end : (T : _) (L : _) (g : _) (d : _) (e : _) (κs : _) (a : _) (s : _)
     → end_file.Learnt-named T L g d e κs a (Ok tt) s → s.0.now.phase ≡ Finished → ⊥
 finished_at_file_end T L g d e κs a s l p =
@@ -120,9 +120,8 @@ set_on_one_volume_not_ended : (T : _) (L : _) (g : _) (d : _) (e : _) (κs : _) 
 set_on_one_volume_not_ended T L g d e κs a s l between one =
     let due = l.due between in absurd (omega (arith, due, one))
 
--- last_volume_with_one_mark: behind the end of the set its volume has no mark more than before.
--- What the tapes hold is one thing alone, as of tapes in memory (`one_in_memory` in
--- MistakesOfTapes).
+-- last_volume_with_one_mark: after the end of the set its volume has no mark more than before. What
+-- the tapes hold is one thing alone, as of tapes in memory (`one_in_memory` in MistakesOfTapes).
 last_volume_with_one_mark : (T : _) (L : _) (g : _) (d : _) (e : _) (κs : _) (a : _) (s : _)
     (items : List TapeItem) → finish.Learnt-named T L g d e κs a (Ok tt) s
     → g.holds a.0.now.out (UnderWay [] items) → g.holds s.0.now.out (Ended (items ∷ []))

@@ -1,5 +1,4 @@
--- Answers that the contracts of volumes without files exclude: each is what a wrong body would
--- give.
+-- Results that the contracts of volumes without files exclude: each is the result of a wrong body.
 use Rattle.std.proofs.Common.{◌≡◌, refl, sym, ap, ◌∙◌, subst, arith, codes, inl, inr}
 use Rattle.std.specs.Prelude.{Some, slice_index}
 use Rattle.tape_writer.specs.Blank.{IsPrefixByte, IsPrefix, blank_image, blank_volume}
@@ -13,7 +12,7 @@ blank_volume_of_version_3 : (κs : _) (a : _) (z : _) (s : _) → blank_volume_o
 blank_volume_of_version_3 κs a z s h w =
     absurd (let d : 51 ≡ 52 = sym w ∙ ap (λ v. v.version) h in omega arith)
 
--- volume_numbers_begin_at_2: the first volume of the prefix ABC is told as ABC002
+-- volume_numbers_begin_at_2: the first volume of the prefix ABC is reported as ABC002
 volume_numbers_begin_at_2 : (κs : _) (z : _) (s : _)
     → blank_volume_of.Learnt κs (record { characters = codes "ABC" }, (1, tt)) z s
     → z.volume ≡ codes "ABC002" → ⊥
@@ -21,7 +20,7 @@ volume_numbers_begin_at_2 κs z s h w =
     absurd (let d : 50 ≡ 49 = ap (λ v. slice_index v 5) (sym w ∙ ap (λ v. v.volume) h) in
     omega arith)
 
--- one_mark_behind_the_label: the end word stands behind one tape mark
+-- one_mark_behind_the_label: the end-of-medium marker follows one tape mark
 one_mark_behind_the_label : (κs : _) (a : _) (z : _) (s : _) → blank_image_of.Learnt κs a z s
     → a.0.now ≡ blank_volume (codes "ABC") 1 → slice_index z.items 92 ≡ 255 → ⊥
 one_mark_behind_the_label κs a z s h e w =

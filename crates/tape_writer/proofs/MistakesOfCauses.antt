@@ -1,4 +1,4 @@
--- Refusals of a set writer and of its images that their contracts exclude: each is answered without
+-- Refusals of a set writer and of its images that their contracts exclude: each is returned without
 -- its cause, as a wrong body would.
 use Rattle.std.proofs.Common.{◌≡◌, inl, inr, ℕ, ◌+◌, ◌%◌, ◌≤◌, List, [], ◌∷◌, ◌++◌, length}
 use Rattle.std.proofs.Common.{true, false, refl, sym, ap, ◌∙◌, subst, arith, length-append}
@@ -24,7 +24,7 @@ use Rattle.tape_writer.proofs.set.SetWriter.end_file.Reads as end_file
 
 -- ---- no volume is left
 
--- of one file that was told the last one is this
+-- of one file that was passed the last one is this
 last_is : (t : Told) (past : List Told) (last : Told) → t ∷ [] ≡ past ++ last ∷ [] → t ≡ last
 last_is t [] last e = ap (λ ts. unwrap_or (slice_get ts 0) t) e
 last_is t (x ∷ xs) last e =
@@ -48,8 +48,8 @@ has_room shape capacity used (b ∷ bs) (w, ws) labels room refused =
     let within : n ≤ shape.block_len = w.within in
     taken capacity used (8 + n + n % 2) (omega (arith, labels, room, within)) refused
 
--- no_block_on_the_last_volume: on the last volume there stand its label and the headers of a
--- section and nothing else, and a record is refused for want of a volume
+-- no_block_on_the_last_volume: on the last volume there are its label and the headers of a section
+-- and nothing else, and a record is refused for lack of a volume
 no_block_on_the_last_volume : (T : _) (L : _) (g : _) (d : _) (e : _) (κs : _) (a : _) (s : _)
     (t : Told) → put.Learnt-named T L g d e κs a (Err faults.OutOfVolumes) s
     → IsWriting (g.holds a.0.now.out) a.0.now (t ∷ [])
@@ -65,8 +65,8 @@ no_block_on_the_last_volume T L g d e κs a s t l writing room labels =
     (all_back (packing.IsWritten w.last.file.shape) (open_blocks w.stuck.draft) w.stuck.next
     w.stuck.of_records.each) labels least w.stuck.due
 
--- third_volume_refused: nothing failed, there is a device for one more volume, and there is told to
--- be none
+-- third_volume_refused: nothing failed, there is a device for one more volume, and none
+-- is reported
 third_volume_refused : (S : _) (D : _) (L : _) (M : _) (g : _) (d : _) (h : _) (e : _) (f : _)
     (k : _) (κs : _) (a : _) (s : _)
     → has_next.Learnt-named S D L M g d h e f k κs a false s → a.0.now.failed ≡ 0
@@ -82,7 +82,7 @@ not_rose : Rose 3 3 → ⊥
 not_rose (inl e) = absurd (omega (arith, e))
 not_rose (inr e) = absurd (omega (arith, e))
 
--- put_gives_up_for_memory: a record is refused for want of memory, and the tapes were refused no
+-- put_gives_up_for_memory: a record is refused for lack of memory, and the tapes were refused no
 -- growth
 put_gives_up_for_memory : (T : _) (L : _) (g : _) (d : _) (e : _) (κs : _) (a : _) (s : _)
     (before now : Failures) → put.Learnt-named T L g d e κs a (Err faults.OutOfMemory) s
@@ -93,8 +93,8 @@ put_gives_up_for_memory T L g d e κs a s before now l was is three same =
     (subst (λ f. Rose f.memory (g.failures s.0.now.out).memory) was (l.cause.1 refl)) in
     not_rose (subst (λ n. Rose 3 n) same (subst (λ n. Rose n now.memory) three rose))
 
--- failed_devices_told_as_memory: at the end of a file the device failed, and it is told that there
--- was no memory
+-- failed_devices_told_as_memory: at the end of a file the device failed, and it is reported that
+-- there was no memory
 failed_devices_told_as_memory : (T : _) (L : _) (g : _) (d : _) (e : _) (κs : _) (a : _) (s : _)
     → end_file.Learnt-named T L g d e κs a (Err faults.OutOfMemory) s
     → g.failures a.0.now.out ≡ record { device = 3; memory = 3 }
@@ -105,7 +105,7 @@ failed_devices_told_as_memory T L g d e κs a s l was is =
 
 -- ---- room
 
--- empty_record_passed_over: an empty record is told as put, and the writer is as it was
+-- empty_record_passed_over: an empty record is reported as put, and the writer is as it was
 empty_record_passed_over : (T : _) (L : _) (g : _) (d : _) (e : _) (κs : _) (a : _) (s : _)
     → put.Learnt-named T L g d e κs a (Ok tt) s → s.0.now ≡ a.0.now → ⊥
 empty_record_passed_over T L g d e κs a s l same =
@@ -113,7 +113,7 @@ empty_record_passed_over T L g d e κs a s l same =
     = subst (λ w. room_left w < room_left a.0.now) same l.room in
     absurd (omega (arith, less))
 
--- place_taken_behind_the_labels: a file is refused for want of memory, and the tapes, which were
+-- place_taken_behind_the_labels: a file is refused for lack of memory, and the tapes, which were
 -- refused no growth, are not as they were
 place_taken_behind_the_labels : (T : _) (L : _) (g : _) (d : _) (e : _) (κs : _) (a : _) (s : _)
     (before now : Failures) → begin_file.Learnt-named T L g d e κs a (Err faults.OutOfMemory) s

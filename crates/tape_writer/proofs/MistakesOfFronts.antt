@@ -83,7 +83,7 @@ not_ended H v vs capacity set_id file course d x y z w one o none only =
     no_mark d.blocks b.more cc
 
 -- mark_behind_a_failed_record: the device failed in the first record of a set on one volume, and
--- behind the headers stands a mark, as if the data had ended
+-- there is a mark after the headers, as if the data had ended
 mark_behind_a_failed_record : (T : _) (L : _) (g : _) (d : _) (e : _) (κs : _) (a : _) (s : _)
     (t : Told) (v : Vol1) (x y z w : TapeItem)
     → put.Learnt-named T L g d e κs a (Err faults.Device) s

@@ -47,8 +47,8 @@ none_under_way [] p records r fixed none run =
 none_under_way (b ∷ bs) p records r fixed none run = not_full p.shape b bs fixed run.each
     (subst (λ ps. AreClosed p.shape (b ∷ bs) (first_len ps 0)) none run.closed)
 
--- record_per_block: in format F a block is written behind each record, and none is under way, where
--- the tapes held what was told
+-- record_per_block: in format F a block is written after each record, and none is current, where
+-- the tapes held what was passed
 record_per_block : (T : _) (L : _) (g : _) (d : _) (κs : _) (a : _) (s : _) (set_id : List ℕ)
     (fs : List (List Section)) (records : List (List ℕ))
     → put_record.Learnt-named T L g d κs a (Ok tt) s

@@ -1,4 +1,4 @@
--- Answers that the contracts of the tapes exclude: each is what a wrong body would give.
+-- Results that the contracts of the tapes exclude: each is the result of a wrong body.
 use Rattle.std.proofs.Common.{◌≡◌, ℕ, List, [], ◌∷◌, ◌++◌, length, sym, ap, ◌∙◌, subst, arith}
 use Rattle.std.proofs.Common.{length-append}
 use Rattle.std.specs.Prelude.{Some, Ok, true, false, slice_get}
@@ -21,13 +21,13 @@ use Rattle.tape_writer.proofs.refusing.RefusingTapeOut.block.Reads as refusing_b
 one_in_memory : (m : InMemory) (x y : Tapes) → m.tapes ≡ x → m.tapes ≡ y → x ≡ y
 one_in_memory m x y p q = sym p ∙ q
 
--- volume_under_way_not_counted: there is a volume under way, and 0 volumes are told
+-- volume_under_way_not_counted: there is a current volume, and 0 volumes are reported
 volume_under_way_not_counted : (κs : _) (a : _) (s : _) (items : List TapeItem)
     → count.Learnt κs a 0 s → a.0.now.tapes ≡ UnderWay [] items → ⊥
 volume_under_way_not_counted κs a s items h tapes =
     absurd (let n : 0 ≡ 1 = h ∙ ap (λ t. length (all_volumes t)) tapes in omega arith)
 
--- length_of_the_first_volume: the first volume has one item and the second none; 1 is told of the
+-- length_of_the_first_volume: the first volume has one item and the second none; 1 is said of the
 -- second
 length_of_the_first_volume : (κs : _) (a : _) (s : _) → length_of.Learnt κs a 1 s
     → a.0.now.tapes ≡ Ended ((mark ∷ []) ∷ [] ∷ []) → a.1.0 ≡ 1 → ⊥
@@ -35,7 +35,7 @@ length_of_the_first_volume κs a s h tapes second =
     absurd (let n : 1 ≡ 0 = h ∙ ap (λ t. length (volume_at t a.1.0)) tapes
     ∙ ap (λ k. length (volume_at (Ended ((mark ∷ []) ∷ [] ∷ [])) k)) second in omega arith)
 
--- mark_told_as_bad: a mark is given as a block that cannot be given
+-- mark_told_as_bad: a mark is returned as a block that cannot be given
 mark_told_as_bad : (κs : _) (a : _) (s : _) → item.Learnt κs a (Some Bad) s
     → a.0.now.tapes ≡ Ended ((mark ∷ []) ∷ []) → a.1.0 ≡ 0 → a.1.1.0 ≡ 0 → ⊥
 mark_told_as_bad κs a s h tapes first place =
@@ -66,7 +66,7 @@ ended_image_dropped S D L M g d h e f k κs a s items l held none one =
     let (_, on) = l.ok (UnderWay [] items) held in
     no_images_of items on.images (one on.images [] on.held none) on.spelled
 
--- image_not_handed_on: the next volume is under way, and the store was handed none of the first
+-- image_not_handed_on: the next volume is current, and the store was handed none of the first
 image_not_handed_on : (S : _) (D : _) (L : _) (M : _) (g : _) (d : _) (h : _) (e : _) (f : _)
     (k : _) (κs : _) (a : _) (s : _)
     (items : List TapeItem)
@@ -78,7 +78,7 @@ image_not_handed_on S D L M g d h e f k κs a s items l held none one =
     let (_, on) = l.ok (UnderWay [] items) held in
     no_images_of items on.images (one on.images [] on.held none) on.spelled
 
--- store_asked_for_another_volume: the next volume is under way, and the store was asked for another
+-- store_asked_for_another_volume: the next volume is current, and the store was asked for another
 -- one. It was asked by one label alone.
 store_asked_for_another_volume : (S : _) (D : _) (L : _) (M : _) (g : _) (d : _) (h : _) (e : _)
     (f : _) (k : _) (κs : _) (a : _) (s : _) (other : Vol1)
@@ -89,7 +89,7 @@ store_asked_for_another_volume S D L M g d h e f k κs a s other l one not =
 
 -- ---- a call that is refused
 
--- refused_call_passed_on: a block is answered as written, and what it was to be passed on to is as
+-- refused_call_passed_on: a block is returned as written, and what it was to be passed on to is as
 -- it was. What that holds is one thing alone, as of tapes in memory (`one_in_memory`).
 refused_call_passed_on : (T : _) (L : _) (g : _) (d : _) (κs : _) (a : _) (s : _)
     (items : List TapeItem) → refusing_block.Learnt-named T L g d κs a (Ok tt) s

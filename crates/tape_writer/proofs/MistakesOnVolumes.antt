@@ -1,5 +1,4 @@
--- Answers that the contracts of the steps on a volume exclude: each is what a wrong body would
--- give.
+-- Results that the contracts of the steps on a volume exclude: each is the result of a wrong body.
 use Rattle.std.proofs.Common.{◌≡◌, ◌<◌, ◌≤◌, ℕ, ◌+◌, ◌%◌, List, [], ◌∷◌, ◌++◌, length, Bool, true}
 use Rattle.std.proofs.Common.{false}
 use Rattle.std.proofs.Common.{refl, sym, ap, ◌∙◌, subst, arith, append_assoc, length-append}
@@ -20,16 +19,15 @@ use Rattle.tape_writer.specs.Tapes.{Tapes, UnderWay, volume_at}
 use Rattle.tape_writer.specs.Labels.{volume_label, trailer_label, header_items, trailer_items}
 use Rattle.tape_writer.specs.Draft.{Draft, IsOpen, Grew, OfLast, open_blocks, changed_course}
 use Rattle.tape_writer.proofs.tape.Tape.block.Reads as block_of
-use Rattle.tape_writer.proofs.tape.Tape.takes_block.Reads as takes_block
-use Rattle.tape_writer.proofs.tape.Tape.takes_end.Reads as takes_end
 use Rattle.tape_writer.proofs.tape.Tape.write_block.Reads as write_block
+use Rattle.tape_writer.proofs.tape.Tape.end_file.Reads as end_file
 use Rattle.tape_writer.proofs.tape.Tape.begin_section.Reads as begin_section
 use Rattle.tape_writer.proofs.tape.Tape.change_to.Reads as change_to
 use Rattle.tape_writer.proofs.labels.trailer_label.Reads as trailer_written
 
 -- ---- sizes
 
--- used_without_pad_byte: a block of 81 bytes is counted without the pad byte behind it
+-- used_without_pad_byte: a block of 81 bytes is counted without the pad byte after it
 used_without_pad_byte : (T : _) (L : _) (g : _) (d : _) (κs : _) (a : _) (s : _)
     → block_of.Learnt-named T L g d κs a (Ok tt) s → length a.1.0.now ≡ 81
     → s.0.now.course.used ≡ a.0.now.course.used + 89 → ⊥
@@ -39,26 +37,27 @@ used_without_pad_byte T L g d κs a s l odd short =
     (ap (λ c. c.used) l.course) in
     absurd (omega (arith, u, short))
 
--- volume_end_left_out: a block of 400 bytes is taken behind 1,884, where the capacity is 2,400; the
--- closing labels, of 192 bytes, would pass it
+-- volume_end_left_out: a block of 400 bytes is written after 1,884, where the capacity is 2,400; the
+-- closing labels, of 192 bytes, would exceed it
 volume_end_left_out : (T : _) (L : _) (g : _) (d : _) (κs : _) (a : _) (s : _)
-    → takes_block.Learnt-named T L g d κs a true s → a.0.now.course.used ≡ 1884 → a.1.0 ≡ 2400
-    → length a.1.1.0.now ≡ 400 → ⊥
-volume_end_left_out T L g d κs a s l used capacity size =
-    let fits : a.0.now.course.used + (8 + 400 + 400 % 2) + 192 ≤ a.1.0
-    = subst (λ n. a.0.now.course.used + (8 + n + n % 2) + 192 ≤ a.1.0) size (l.yes refl) in
+    → write_block.Learnt-named T L g d κs a (Ok tt) s → a.1.1.1.0 ≡ 2400
+    → s.0.now.course.used ≡ 2292 → ⊥
+volume_end_left_out T L g d κs a s l capacity used =
+    let fits : s.0.now.course.used + 192 ≤ a.1.1.1.0 = l.roomy.room in
     absurd (omega (arith, fits, used, capacity))
 
--- next_headers_left_out: a file end is taken behind 2,292 bytes, where the capacity is 2,500; the
--- headers of another file and the closing labels would pass it
+-- next_headers_left_out: the end of a file is written after 2,292 bytes, where the capacity is
+-- 2,500; the headers of another file and the closing labels would exceed it
 next_headers_left_out : (T : _) (L : _) (g : _) (d : _) (κs : _) (a : _) (s : _)
-    → takes_end.Learnt-named T L g d κs a true s → a.0.now.course.used ≡ 2292 → a.1.0 ≡ 2500 → ⊥
-next_headers_left_out T L g d κs a s l used capacity =
-    let fits = l.yes refl in absurd (omega (arith, fits, used, capacity))
+    → end_file.Learnt-named T L g d κs a (Ok tt) s → a.1.1.1.0 ≡ 2500
+    → s.0.now.course.used ≡ 2476 → ⊥
+next_headers_left_out T L g d κs a s l capacity used =
+    let fits : s.0.now.course.used + 372 ≤ a.1.1.1.0 = l.roomy.0 in
+    absurd (omega (arith, fits, used, capacity))
 
 -- ---- changes
 
--- volume_per_block: the second block of the volume fits, and is refused for want of another volume
+-- volume_per_block: the second block of the volume fits, and is refused for lack of another volume
 volume_per_block : (T : _) (L : _) (g : _) (d : _) (κs : _) (a : _) (s : _)
     → write_block.Learnt-named T L g d κs a (Err faults.OutOfVolumes) s
     → a.0.now.course ≡ record { volume = 1; sect = 1; count = 1; used = 1076 }
@@ -91,7 +90,7 @@ nothing_in : {A : Type 0} (xs : List A) → 0 ≡ length xs → xs ≡ []
 nothing_in [] e = refl
 nothing_in (x ∷ xs) e = absurd (omega (arith, e))
 
--- behind one block more the section under way has a block
+-- after one block more the current section has a block
 one_there : (H : Tapes → Type 0) (vs : List Vol1) (capacity : ℕ) (set_id : List ℕ)
     (file : Opened) (course : Course) (d : Draft) (b : Filled)
     → Grew H vs capacity set_id file course d b → course.count ≡ 0 → ⊥
@@ -110,7 +109,7 @@ one_there H vs capacity set_id file course d b w none =
     (λ ys x e f. w.is_open.steady.begins empty ys x e (f ∙ sym in_it.sequence))
 
 -- block_dropped_at_change: the volume is changed, and the block is not written on the next one,
--- where the tapes held what was told
+-- where the tapes contained what was passed
 block_dropped_at_change : (T : _) (L : _) (g : _) (d : _) (κs : _) (a : _) (s : _)
     (set_id : List ℕ) (dr : Draft) → write_block.Learnt-named T L g d κs a (Ok tt) s
     → IsOpen (g.holds a.0.now.out) a.1.1.0.now a.1.1.1.0 set_id a.1.0.now a.0.now.course dr
@@ -184,8 +183,8 @@ eof_where_eov_is_due T L g d κs a s items l held wrong one =
     = append_cancel_right (items ++ eov) (items ++ eof) (mark ∷ []) q in
     two_trailers file sect count (ap second_of_rest (append_cancel_left items eov eof r))
 
--- A label counts the last six digits of the number of its section's blocks: behind 1,000,003 blocks
--- EOF1 tells 3.
+-- A label counts the last six digits of the number of its section's blocks: after 1,000,003 blocks
+-- EOF1 says 3.
 abbrev the_head : Head1
 the_head = record {
   file_id = codes "PAYROLL          ";

@@ -22,7 +22,7 @@ use Rattle.tape_writer.specs.Draft.{Draft, IsOpen, Grew, open_blocks}
 use Rattle.tape_writer.specs.Inside.{IsInside, IsPacking, Flushed, IsFlat}
 use Rattle.tape_writer.proofs.Lists.{all_push}
 
--- ---- a block that is given has bytes
+-- ---- a block that is returned has bytes
 
 pub given_sized : (p : Packing) (text : List ℕ) → IsWritable p.shape → Given p text
     → (0 < length text) × (length text ≤ 99999)

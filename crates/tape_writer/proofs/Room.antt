@@ -68,7 +68,7 @@ flushed_room vs cap old new p q text (Ok x) given is passed roomy =
     subst (λ z. room_of vs cap new z ≤ room_of vs cap old p) (sym is)
     (block_room vs cap old new p text given passed roomy)
 
--- nothing was under way
+-- nothing was current
 pub none_room : (vs cap : ℕ) (course : Course) (p q : Packing) → p.parts ≡ [] → q ≡ emptied p
     → room_of vs cap course q ≤ room_of vs cap course p
 none_room vs cap course p q none is =
@@ -123,7 +123,7 @@ taken_room vs cap course p q rest w spanned judged ends =
     ap (λ l. (vs - course.volume) * (cap + l)) length_is in
     omega (arith, product, size, size_push p.shape p.parts x, some, ends.within, length_is)
 
--- a record that is begun stands in format S
+-- a record that is begun is in format S
 pub begun_spanned : (shape : Shape) (p q r : Packing) (rest : List ℕ) (n : ℕ) → p.shape ≡ shape
     → p.closed ≡ false → (p.begun ≡ true → shape.format ≡ Spanned)
     → Offers p rest (BlockReady n) q → r ≡ emptied q → r.begun ≡ true → shape.format ≡ Spanned

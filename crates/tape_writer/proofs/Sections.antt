@@ -85,7 +85,7 @@ trailer_size file sect n eof r p q =
 pub vol1_size : (v : Vol1) → IsWideVolume v → item_size (block (volume_label v)) ≡ 88
 vol1_size v w = label_size (volume_label v) (vol1_is v w).kind.size
 
--- ---- a lawful section
+-- ---- a valid section
 
 label_sized : (b : List ℕ) → length b ≡ 80 → (0 < length b) × (length b ≤ 99999)
 label_sized b e = (omega (arith, e), omega (arith, e))

@@ -1,4 +1,4 @@
--- Each step of the writer keeps what was written a draft of a lawful, tight set.
+-- Each step of the writer keeps what was written a draft of a valid, tight set.
 use Rattle.std.proofs.Common.{◌≡◌, ◌<◌, ◌≤◌, ℕ, ◌+◌, List, [], ◌∷◌, ◌++◌, length, Bool, true, false}
 use Rattle.std.proofs.Common.{Some, refl, sym, ap, ◌∙◌, subst, inl, append_assoc, arith}
 use Rattle.std.proofs.Common.{length-append}
@@ -71,7 +71,7 @@ added vs cap set_id file course d b sized w fits = record {
   };
 }
 
--- a block behind the ones of the section under way: the change before it stays due
+-- a block after the ones of the current section: the change before it stays due
 pub goes_on : (vs : List Volume) (cap : ℕ) (set_id : List ℕ)
     (file : Opened) (course : Course) (d : Draft) (b : Filled) → Steady vs cap set_id file course d
     → Within vs cap set_id file course (d.blocks ++ b ∷ []) d
@@ -104,7 +104,7 @@ goes_on vs cap set_id file course d b s = record {
         (rw (eqb_other x.file file.head.sequence (n refl)) at h)
     go (c ∷ bs) ys x h n = h
 
--- **a block is written** in the section under way
+-- **a block is written** in the current section
 pub added_here : (vs : List Volume) (cap : ℕ) (set_id : List ℕ)
     (file : Opened) (course : Course) (d : Draft) (b : Filled)
     → (0 < length b.bytes) × (length b.bytes ≤ 99999)
@@ -138,7 +138,7 @@ end_taken cap used h = go (nat_le (used + 184 + (180 + 192)) cap) refl
 pub end_refused : (cap used : ℕ) → cap < used + 184 + 372 → takes_next cap used [] ≡ false
 end_refused cap used h = end_due cap used h
 
--- **a block is written** behind a change of the volume
+-- **a block is written** after a change of the volume
 pub added_next : (vs : List Volume) (cap : ℕ) (set_id : List ℕ)
     (file : Opened) (course : Course) (d : Draft) (b : Filled) (v : Vol1)
     → IsWideVolume v → length vs ≤ 9999 → 1024 ≤ cap → cap ≤ 4294967295

@@ -31,7 +31,7 @@ use Rattle.tape_writer.proofs.Steps.{block_due, end_refused}
 abbrev the_joined : List (List ℕ) → Joined
 the_joined records = record { records = records; rest = None }
 
--- the block that is closed, and behind it the rest of its record
+-- the block that is closed, and after it the rest of its record
 pub continues_put : (taken : List Filled) (p q : Packing) (records : List (List ℕ))
     (whole rest text : List ℕ) (n : ℕ) → Going taken p records whole rest → IsJudged p rest
     → Offers p rest (BlockReady n) q → Given q text
@@ -74,7 +74,7 @@ continues_last taken p records text run given ended =
       ends = λ e. refl;
     }
 
--- nothing, where all records stand in blocks
+-- nothing, where all records are in blocks
 pub continues_end : (shape : Shape) (taken : List Filled) (records : List (List ℕ))
     → packing.IsTight shape records taken → Continues shape records taken []
 continues_end shape taken records tight =

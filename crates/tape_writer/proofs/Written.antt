@@ -31,7 +31,7 @@ contents_open items w s is =
 not_writing : (w : Writer) → w.standing ≡ writing → w.standing ≢ finished
 not_writing w a b = cc
 
--- the spelling that is written of a block has the block's size
+-- the encoding that is written of a block has the block's size
 block_size : (content : List ℕ)
     → length (written (block content)) ≡ item_size (block content)
 block_size content =
@@ -80,7 +80,7 @@ one_more item items old new is long put s =
       front = nothing_more;
     }
 
--- the end word
+-- the end-of-medium marker
 ended : (items : List TapeItem) (old new : Writer) → old.standing ≡ writing
     → PutsFrom old.standing (little_bytes 4 end_word) finished old (Ok tt) new
     → IsImageSoFar items old
@@ -114,7 +114,7 @@ block_open writing content old new h = refl
 block_open finished content old new (e, _) = absurd (cc e)
 block_open broken content old new (e, _) = absurd (cc e)
 
--- the image that is here is the one under way
+-- the image that is here is the current one
 under_way_is : (items : List TapeItem) (image : Option Writer) (u : Writer) → image ≡ Some u
     → IsUnderWay items image → IsImageSoFar items u
 under_way_is items image u e s = subst (IsUnderWay items) e s
@@ -150,7 +150,7 @@ started w stands size contents = record {
   front = nothing_more;
 }
 
--- a call that was refused: the items stay, and behind them stands a front of what it was to write
+-- a call that was refused: the items stay, and after them is a prefix of what it was to write
 put_refused : (bytes : List ℕ) (after s : Standing) (items : List TapeItem) (old new : Writer)
     (f : ImageWriteFault) → old.standing ≡ s → IsNext bytes
     → PutsFrom s bytes after old (Err f) new → IsImageSoFar items old → IsImageSoFar items new
@@ -254,7 +254,7 @@ put_kept bytes after H image other u w f tapes next there here put =
     kept_at H image other u w tapes there here
     (λ items so. put_refused bytes after u.standing items u w f refl next put so)
 
--- the image here, once its end word was put and it was handed on
+-- the image here, once its end-of-medium marker was put and it was handed on
 pub end_at : (H H' : StoreHolds) (image other : Option Writer) (u w : Writer) (tapes : Tapes)
     → image ≡ Some u → other ≡ None
     → PutsFrom u.standing (little_bytes 4 end_word) finished u (Ok tt) w

@@ -1,4 +1,4 @@
--- Volumes without files: their labels, by a prefix and a number, and their images.
+-- Blank volumes: their labels, from a prefix and a number, and their images.
 use Rattle.std.specs.Prelude.{◌≡◌, ◌⊎◌, ◌≤◌, ℕ, List, [], ◌∷◌, ◌++◌, length, replicate}
 use Rattle.std.specs.List.{AllByRecursion}
 use Rattle.tape_label.specs.declared.values.Vol1.{Vol1}
@@ -9,7 +9,7 @@ use Rattle.tape_label.specs.Written.{text_of, vol1_pieces}
 abbrev pub IsPrefixByte : ℕ → Type 0
 IsPrefixByte b = ((65 ≤ b) × (b ≤ 90)) ⊎ ((48 ≤ b) × (b ≤ 57))
 
--- what the identifiers of a set's volumes begin with
+-- the first three characters of the identifiers of a set's volumes
 abbrev pub IsPrefix : List ℕ → Type 0
 IsPrefix text = (length text ≡ 3) × AllByRecursion IsPrefixByte text
 
@@ -32,7 +32,8 @@ blank_volume prefix n = record {
 abbrev pub label_word : List ℕ
 label_word = 80 ∷ 0 ∷ 0 ∷ 0 ∷ []
 
--- Its image: the label between its two words, two tape marks of four zeros each, the end word.
+-- Its image: the label between its two words, two tape marks of four zeros each, and the
+-- end-of-medium marker.
 abbrev pub blank_image : Vol1 → List ℕ
 blank_image volume = label_word ++ text_of (vol1_pieces volume) ++ label_word
     ++ replicate 8 0 ++ replicate 4 255

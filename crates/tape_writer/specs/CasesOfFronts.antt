@@ -1,4 +1,4 @@
--- What the definitions of what a refusal leaves on the tapes say of cases. The call `laws::cases`
+-- Test cases for the definitions of what a refusal leaves on the tapes. The function `laws::cases`
 -- has them as its contract, too.
 use Rattle.std.specs.Prelude.{◌≡◌, ◌≢◌, ◌<◌, ◌⊎◌, ℕ, List, [], ◌∷◌, ◌++◌, Option, Some, length}
 use Rattle.tape_image.specs.Tape.{TapeItem}
@@ -25,16 +25,16 @@ use Rattle.tape_writer.specs.Front.{IsPartly, IsInLast, IsEndingLast, IsLeftInsi
 use Rattle.tape_writer.specs.Front.{IsLeftWhole}
 use Rattle.tape_writer.specs.LeftOf.{IsLeftOf, IsLeftIn, IsLeftOfAll, IsLeftSet, IsLeftUnbegun}
 
--- of fronts, and of what is left
+-- prefixes, and what remains
 pub record CasesOfFronts : Type 0 where
-  -- items go behind those of the volume under way, and a volume behind the others
+  -- items are appended to those of the current volume, and a volume to the others
   pub in_order : (u v w : TapeItem)
       → behind_steps (Change ∷ Item u ∷ Item v ∷ Change ∷ Item w ∷ []) (Ended [])
       ≡ UnderWay ((u ∷ v ∷ []) ∷ []) (w ∷ [])
   pub at_the_end : (u : TapeItem)
       → behind_steps (Close ∷ []) (UnderWay [] (u ∷ [])) ≡ Ended ((u ∷ []) ∷ [])
   pub no_volume : (u : TapeItem) → behind_steps (Item u ∷ []) (Ended []) ≡ Ended []
-  -- what is held leads to the whole, and nothing of it is taken back
+  -- the contents lead to the whole, and nothing of them is taken back
   pub leads_there : (now whole : Tapes) (f : HoldsFront (λ t. t ≡ now) whole)
       → behind_steps f.steps now ≡ whole
   pub not_back : (u : TapeItem) → HoldsFront (λ t. t ≡ UnderWay [] (u ∷ [])) (UnderWay [] []) → ⊥
@@ -50,7 +50,7 @@ pub record CasesOfFronts : Type 0 where
       → ((p : Packing) × IsInside (λ t. t ≡ tapes) volumes capacity id file course p fs records)
       ⊎ (IsMidRecord (λ t. t ≡ tapes) volumes capacity id file course fs records
       ⊎ IsFlat (λ t. t ≡ tapes) volumes capacity id file course fs records)
-  -- the files before the last one stand whole
+  -- the files before the last one are complete
   pub in_last : (tapes : Tapes) (volumes : List Vol1) (capacity : ℕ) (id : List ℕ)
       (told : List Told) (l : IsInLast (λ t. t ≡ tapes) volumes capacity id told)
       → (told ≡ l.past ++ l.last ∷ []) × AreFiled capacity l.past l.files
@@ -59,7 +59,7 @@ pub record CasesOfFronts : Type 0 where
       (told : List Told) → IsEndingLast (λ t. t ≡ tapes) volumes capacity id told
       → IsInLast (λ t. t ≡ tapes) volumes capacity id told
       ⊎ ((course : Course) × IsWaiting (λ t. t ≡ tapes) volumes capacity id course told)
-  -- a front of that is left
+  -- a prefix of that remains
   pub left : (tapes : Tapes) (w : SetState ℕ) (told : List Told)
       → (IsLeftInside (λ t. t ≡ tapes) w told
       → IsInLast (HoldsFront (λ t. t ≡ tapes)) w.volumes w.capacity w.set_id told)
@@ -67,20 +67,20 @@ pub record CasesOfFronts : Type 0 where
       × IsWaiting (HoldsFront (λ t. t ≡ tapes)) w.volumes w.capacity w.set_id course told)
       × (IsLeftWhole (λ t. t ≡ tapes) w told
       → IsWrittenSet (HoldsFront (λ t. t ≡ tapes)) w.volumes w.capacity w.set_id told)
-  -- of inputs: a front of the records was told, and a file ended only where that is all of them
+  -- for inputs: a prefix of the records was passed, and a file ended only if that is all of them
   pub left_of : (tapes : Tapes) (w : SetState ℕ) (told : List Told) (records : List (List ℕ))
       (g : IsLeftOf (λ t. t ≡ tapes) w ⊥ ReadFailed told records)
       → (records ≡ g.front ++ g.back)
       × (IsLeftInside (λ t. t ≡ tapes) w (with_records told g.front)
       ⊎ ((g.back ≡ []) × IsLeftBehind (λ t. t ≡ tapes) w (with_records told g.front)))
-  -- without a growth that the tapes were refused, memory gave out at a longer record
+  -- if the tapes were not refused memory, memory ran out at a longer record
   pub no_memory : (tapes : Tapes) (w : SetState ℕ) (told : List Told) (r s : List ℕ)
       (g : IsLeftOf (λ t. t ≡ tapes) w ⊥ (Write OutOfMemory) told (r ∷ s ∷ []))
       → g.front ≡ r ∷ [] → length r < length s
   pub not_at_the_end : (tapes : Tapes) (w : SetState ℕ) (told : List Told) (r : List ℕ)
       (g : IsLeftOf (λ t. t ≡ tapes) w ⊥ (Write OutOfMemory) told (r ∷ []))
       → g.front ≡ r ∷ [] → ⊥
-  -- where an input failed, or a record has a wrong length, all that was told is held
+  -- if an input failed, or a record has a wrong length, everything passed is on the tapes
   pub all_held : (tapes : Tapes) (w : SetState ℕ) (told : List Told) (records : List (List ℕ))
       (g : IsLeftOf (λ t. t ≡ tapes) w ⊥ ReadFailed told records)
       → IsInLast (λ t. t ≡ tapes) w.volumes w.capacity w.set_id (with_records told g.front)
@@ -93,7 +93,7 @@ pub record CasesOfFronts : Type 0 where
       → IsLeftIn (λ t. t ≡ tapes) w ⊥ fault id [] shape cut ((x.0, Some x.1) ∷ [])
       → IsLeftUnbegun (λ t. t ≡ tapes) w fault []
       ⊎ IsLeftOf (λ t. t ≡ tapes) w ⊥ fault (with_file id [] x.0 shape) (records_of cut x.1)
-  -- what was read of an input, or not, is no reason not to begin a file
+  -- the bytes read of an input are no reason for not beginning a file
   pub unbegun : (tapes : Tapes) (w : SetState ℕ) (told : List Told) (fault : SetFault)
       → IsLeftUnbegun (λ t. t ≡ tapes) w fault told
       → (fault ≢ ReadFailed) × (fault ≢ Write RecordLength) × IsLeftBehind (λ t. t ≡ tapes) w told

@@ -1,22 +1,22 @@
--- What the definitions of bytes held before a device say of cases. The call `laws::cases` has them
--- as its contract, too.
+-- Test cases for the definition of a write buffer. The function `laws::cases` has them as its
+-- contract, too.
 use Rattle.std.specs.Prelude.{◌≡◌, ℕ, ◌-◌, ◌^◌, true, false, List, [], ◌∷◌}
 use Rattle.std.specs.Prelude.{None, Some}
 use Rattle.std.specs.Io.KnownBytes.{Appends}
 use Rattle.tape_writer.specs.Holding.{Holding, taken, TakesAll, PassesOn, fresh, FileTakes}
 use Rattle.tape_writer.specs.Holding.{FilePasses}
 
--- of bytes held before a device, and of the file of an image
+-- a write buffer, and the file of an image
 pub record CasesOfHolding : Type 0 where
-  -- what was taken is what the device has, and behind it what is held
+  -- the accepted bytes are the device's contents, followed by the buffered bytes
   pub taken_is : taken (record {
     device = Some (1 ∷ []);
     held = 2 ∷ [];
     size = 2;
     failed = false;
   }) ≡ Some (1 ∷ 2 ∷ [])
-  -- bytes are taken behind those before, and counted, as far as the count goes; and the device did
-  -- not fail
+  -- bytes are accepted after those before, and counted, up to the limit of the count; and the
+  -- device did not fail
   pub takes : (bytes : List ℕ) (old new : Holding) → TakesAll bytes old new
       → Appends (taken old) (taken new) bytes
   pub counted : (new : Holding) → TakesAll (3 ∷ 4 ∷ []) (record {
@@ -28,25 +28,25 @@ pub record CasesOfHolding : Type 0 where
   pub counted_up_to : (old new : Holding) → TakesAll (3 ∷ []) old new → old.size ≡ 2 ^ 64 - 1
       → new.size ≡ 2 ^ 64 - 1
   pub did_not_fail : (old new : Holding) → TakesAll [] old new → new.failed ≡ true → ⊥
-  -- what is passed on stands behind what the device had, and is held no more
+  -- buffered bytes that are written follow the device's contents, and are no longer buffered
   pub passes : (old new : Holding) → PassesOn old new → Appends old.device new.device old.held
   pub none_held : (old new : Holding) → PassesOn old new → new.held ≡ 1 ∷ [] → ⊥
   pub not_counted : (old new : Holding) → PassesOn old new → new.size ≡ old.size
   pub passed_well : (old new : Holding) → PassesOn old new → new.failed ≡ true → ⊥
-  -- nothing was taken of a file that is opened
+  -- a file that was just opened accepted nothing
   pub opened : fresh (Some (7 ∷ [])) ≡ record {
     device = Some (7 ∷ []);
     held = [];
     size = 0;
     failed = false;
   }
-  -- a file that took bytes is open, and has them behind those that it took before
+  -- a file that accepted bytes is open, and has them after those that it accepted before
   pub first : (new : Holding) → FileTakes (3 ∷ 4 ∷ []) None (Some new) → new.size ≡ 2
   pub is_open : FileTakes [] None None → ⊥
   pub stays_open : (old : Holding) → FileTakes [] (Some old) None → ⊥
   pub further : (old new : Holding) → FileTakes (3 ∷ []) (Some old) (Some new)
       → TakesAll (3 ∷ []) old new
-  -- what is passed on is that of the file, and where none was opened there is none
+  -- only the bytes of an open file can be written, and there is none if none was opened
   pub no_file : (new : Holding) → FilePasses None (Some new) → ⊥
   pub same_file : (old : Holding) → FilePasses (Some old) None → ⊥
   pub of_file : (old new : Holding) → FilePasses (Some old) (Some new) → PassesOn old new

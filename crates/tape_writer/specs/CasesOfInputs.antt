@@ -1,5 +1,5 @@
--- What the definitions of sets written from inputs say of cases. The call `laws::cases` has them as
--- its contract, too.
+-- Test cases for the definitions of sets written from inputs. The function `laws::cases` has them
+-- as its contract, too.
 use Rattle.std.specs.Prelude.{◌≡◌, ◌⊎◌, ◌≤◌, ◌<◌, ℕ, List, [], ◌∷◌, ◌++◌, length, Option, Some}
 use Rattle.std.specs.Prelude.{None, true, false}
 use Rattle.tape_label.specs.declared.values.Format.TheVariants.{Fixed, Counted, Spanned}
@@ -29,9 +29,10 @@ use Rattle.tape_writer.specs.WriteFaults.{IsInputFault, IsFileFault, IsFilesFaul
 use Rattle.tape_writer.specs.WriteFaults.{IsFaultOfCut, told_as}
 use Rattle.tape_writer.specs.WriteSet.{cut_of, raw_cut}
 
--- of the records of inputs
+-- the records of inputs
 pub record CasesOfInputs : Type 0 where
-  -- 10 is the line feed: a line without one is a record, one that is empty too, and the end is none
+  -- 10 is the line feed: a last line without one is a record, an empty line is one too, and the end
+  -- is none
   pub lines : records_of Lines (65 ∷ 10 ∷ 10 ∷ 66 ∷ []) ≡ (65 ∷ []) ∷ [] ∷ (66 ∷ []) ∷ []
   pub last_line_ends : records_of Lines (65 ∷ 10 ∷ []) ≡ (65 ∷ []) ∷ []
   pub no_lines : records_of Lines [] ≡ []
@@ -46,69 +47,70 @@ pub record CasesOfInputs : Type 0 where
       × (raw_cut Spanned 0 ≡ Some Whole)
   pub lines_of_any : (shape : Shape) → cut_of forms.Lines shape ≡ Some Lines
   pub raw_of_shape : (shape : Shape) → cut_of forms.Raw shape ≡ raw_cut shape.format shape.rec_len
-  -- no record that a shape has is longer than its longest, which it has where it has any
+  -- no record of a shape is longer than its maximum, and there is one of this length if there is
+  -- any
   pub within_longest : (shape : Shape) (n : ℕ)
       → HasRecordLength shape.format shape.rec_len n → n ≤ longest shape
   pub has_longest : (shape : Shape) (n : ℕ) → HasRecordLength shape.format shape.rec_len n
       → HasRecordLength shape.format shape.rec_len (longest shape)
   pub longest_of_each : (longest_by Fixed 80 ≡ 80) × (longest_by Counted 80 ≡ 76)
       × (longest_by Spanned 0 ≡ 4294967295)
-  -- which record gets too long: the first, whatever comes
+  -- which record gets too long: the first, whatever follows
   pub none_is_long : (most : ℕ) → IsFirstLong most [] → ⊥
   pub first_is_long : (most : ℕ) (r : List ℕ) (rs : List (List ℕ))
       → IsFirstLong most (r ∷ rs) → most < length r
   pub grows_long : (most : ℕ) (cut : Cut) (r bytes : List ℕ) → GrowsLong most cut r bytes
       → (more : List ℕ) → IsFirstLong most (records_from cut r (bytes ++ more))
-  -- what is to come of an input that is over is nothing, and a record that was given comes first
+  -- nothing is to come of an input at its end, and a record that was returned comes first
   pub over : (cut : Cut) (bytes : List ℕ) → to_come cut true bytes ≡ []
   pub not_over : (cut : Cut) (bytes : List ℕ) → to_come cut false bytes ≡ records_of cut bytes
   pub given_first : (r : List ℕ) (rs : List (List ℕ)) → (given true r rs ≡ r ∷ rs)
       × (given false r rs ≡ rs)
-  -- what was read ahead is to come, and before what the reader has
+  -- bytes that were read ahead come before those of the reader
   pub ahead_first : (r : Records ℕ) → r.ahead ≡ 65 ∷ []
       → left_of (λ n. Some (66 ∷ [])) r ≡ Some (65 ∷ 66 ∷ [])
-  -- bytes are more of a record, or end it, whatever stands behind them
+  -- bytes continue a record, or end it, whatever follows them
   pub more_of_it : (cut : Cut) (old bytes new more : List ℕ) → Adds cut old bytes new false
       → records_from cut old (bytes ++ more) ≡ records_from cut new more
   pub ends_it : (cut : Cut) (old bytes new more : List ℕ) → Adds cut old bytes new true
       → records_from cut old (bytes ++ more) ≡ new ∷ records_from cut [] more
-  -- the files told are those of the inputs, numbered in their order, each with its own records
+  -- the files passed are those of the inputs, numbered in order, each with its own records
   pub told_in_order : (id : List ℕ) (shape : Shape) (cut : Cut) (h k : Head1) (a b : List ℕ)
       → told_files id shape cut 1 ((h, a) ∷ (k, b) ∷ [])
       ≡ record { file = opened_by id 1 h shape; records = records_of cut a }
       ∷ record { file = opened_by id 2 k shape; records = records_of cut b } ∷ []
   pub told_more : (t : Told) (r s : List ℕ) → with_records (t ∷ []) (r ∷ s ∷ [])
       ≡ record { file = t.file; records = (t.records ++ r ∷ []) ++ s ∷ [] } ∷ []
-  -- of inputs whose bytes are all known something is said, of these bytes
+  -- a claim is made if the bytes of all inputs are known, about these bytes
   pub all_known : (h k : Head1) (a b : List ℕ) (given : List (Head1 × List ℕ))
       → IfAllKnown ((h, Some a) ∷ (k, Some b) ∷ []) (λ fs. fs ≡ given)
       → (h, a) ∷ (k, b) ∷ [] ≡ given
-  -- a set was given up where a front of the records leaves no volume
+  -- a set was given up after a prefix of the records left no volume
   pub gave_up : (tapes : Tapes) (w : SetState ℕ) (told : List Told)
       (records : List (List ℕ)) (g : GaveUp (λ t. t ≡ tapes) w told records)
       → (records ≡ g.front ++ g.back)
       × IsOutOfVolumes (λ t. t ≡ tapes) w (with_records told g.front)
-  -- of the first of these files a front was told, behind none
+  -- a prefix of the first of these files was passed, after none
   pub gave_up_in : (tapes : Tapes) (w : SetState ℕ) (id : List ℕ) (shape : Shape) (cut : Cut)
       (x : Head1 × List ℕ)
       → GaveUpIn (λ t. t ≡ tapes) w id [] shape cut ((x.0, Some x.1) ∷ [])
       → GaveUp (λ t. t ≡ tapes) w (with_file id [] x.0 shape) (records_of cut x.1)
-  -- a writer of the plan did, over the tapes that are handed back
+  -- a writer of the plan gave up, on the tapes that are returned
   pub gave_up_set : (plan : SetPlan) (cut : Cut) (given : List (Head1 × Option (List ℕ)))
       (g : GaveUpSet {T = ℕ} (λ n t. t ≡ Ended []) (λ n. n ≡ 7) plan cut given)
       → (g.writer.out ≡ 7) × (g.writer.volumes ≡ plan.volumes.items)
       × (g.writer.capacity ≡ plan.capacity) × (g.writer.set_id ≡ plan.set_id)
 
--- of why no set is written from inputs
+-- why no set is written from inputs
 pub record CasesOfSetFaults : Type 0 where
   pub as_told : (told_as inputs.ReadFailed ≡ ReadFailed)
       × (told_as inputs.TooLong ≡ Write faults.RecordLength)
       × (told_as inputs.OutOfMemory ≡ Write faults.OutOfMemory)
-  -- a record that the shape has is no other, and none of no records is
+  -- a record of the shape is not a wrong one, and an empty list contains none
   pub none_is_other : (shape : Shape) → OneIsOther shape [] → ⊥
   pub one_is_other : (shape : Shape) (r : List ℕ) → OneIsOther shape (r ∷ [])
       → HasRecordLength shape.format shape.rec_len (length r) → ⊥
-  -- each fault for its cause, and no other fault
+  -- each fault has its cause, and there is no other fault
   pub of_writer : (one other : WriteFault) → IsOfWriter (λ f. f ≡ one) (Write other)
       → other ≡ one
   pub read_is_not : IsOfWriter (λ f. Unit {0}) ReadFailed → ⊥
@@ -130,12 +132,12 @@ pub record CasesOfSetFaults : Type 0 where
       (bytes : List ℕ)
       → IsFileFault capacity shape cut n (head, Some bytes) (Write faults.RecordLength)
       → OneIsOther shape (records_of cut bytes)
-  -- a set without inputs has no file, and that is why
+  -- a set without inputs has no file, and this is the cause
   pub of_nothing : (capacity : ℕ) (shape : Shape) (cut : Cut)
       → IsWholeFault capacity shape cut [] (Write faults.RecordLength) → ⊥
   pub some_file : (capacity : ℕ) (shape : Shape) (cut : Cut) (x : Head1 × Option (List ℕ))
       → IsWholeFault capacity shape cut (x ∷ []) (Write faults.NoFile) → ⊥
-  -- raw inputs that are no records of the format are refused as such
+  -- raw inputs that cannot be records of the format are refused as such
   pub not_cut : (plan : SetPlan) (given : List (Head1 × Option (List ℕ))) (fault : SetFault)
       → IsFaultOfCut plan given None fault → fault ≡ Write faults.BadShape
   pub cut_so : (plan : SetPlan) (given : List (Head1 × Option (List ℕ))) (cut : Cut)

@@ -1,4 +1,4 @@
--- A set that is being written: what stands on its volumes, and what was decided of it.
+-- A set that is being written: the contents of its volumes, and its structure so far.
 use Rattle.std.specs.Prelude.{◌≡◌, ◌<◌, ◌≤◌, ℕ, zero, suc, ◌+◌, List, [], ◌∷◌, ◌++◌, Bool, true}
 use Rattle.std.specs.Prelude.{false, length, map, slice_get}
 use Rattle.std.specs.List.{AllByRecursion}
@@ -20,8 +20,8 @@ use Rattle.tape_writer.specs.Labels.{IsReady, first_label, second_label, trailer
 use Rattle.tape_writer.specs.Labels.{header_items}
 use Rattle.tape_writer.specs.Told.{labelled, IsOfFile, IsWithin}
 
--- The files that are finished; of the file under way the sections that are, and the blocks of the
--- next one; and the number of volumes that ended.
+-- The files that are finished; the finished sections of the current file, and the blocks of its
+-- next section; and the number of volumes that ended.
 pub record Draft : Type 0 where
   pub files : List (List Section)
   pub sects : List Section
@@ -32,11 +32,11 @@ pub record Draft : Type 0 where
 abbrev pub placed : Draft → List Placed
 placed d = all_numbered 1 d.files ++ numbered (length d.files + 1) 1 d.sects
 
--- the blocks of the file under way
+-- the blocks of the current file
 abbrev pub open_blocks : Draft → List Filled
 open_blocks d = blocks_of_all d.sects ++ d.blocks
 
--- what stands on the volume behind the first k ones, but its last mark
+-- the contents of the volume after the first k ones, except its last mark
 abbrev pub body : List Volume → List Placed → ℕ → List Entry
 body volumes xs k = group_of (slice_get volumes k) ++ all_entries (on (k + 1) xs)
 
@@ -58,7 +58,7 @@ closing file volume sect blocks eof = record {
   trailers = second_label file (second_kind eof) ∷ [];
 }
 
--- the section under way, as if it ended here
+-- the current section, as if it ended here
 abbrev pub here : Opened → Course → List Filled → Bool → Placed
 here file course blocks eof = record {
   file = file.head.sequence;
@@ -70,11 +70,11 @@ here file course blocks eof = record {
 abbrev pub data_item : Filled → TapeItem
 data_item b = block b.bytes
 
--- the volume under way between two files
+-- the current volume between two files
 abbrev pub body_items : List Volume → Draft → List TapeItem
 body_items volumes d = map item_of (body volumes (placed d) d.past)
 
--- the volume under way inside a file
+-- the current volume inside a file
 abbrev pub open_items : List Volume → Opened → Course → Draft → List TapeItem
 open_items volumes file course d =
     body_items volumes d ++ header_items file course.sect ++ map data_item d.blocks
@@ -83,7 +83,7 @@ open_items volumes file course d =
 abbrev pub ended_volumes : List Volume → Draft → List (List TapeItem)
 ended_volumes volumes d = first_volumes volumes (placed d) d.past
 
--- finished sections on the first volumes, so many, and what was decided of them
+-- finished sections on the first volumes, and the rules that they follow
 pub record IsDone (volumes : List Volume) (capacity : ℕ) (set_id : List ℕ) (n : ℕ)
     (xs : List Placed) : Type 0 where
   pub each : AllByRecursion (IsSection set_id n) xs
@@ -92,11 +92,11 @@ pub record IsDone (volumes : List Volume) (capacity : ℕ) (set_id : List ℕ) (
   pub ends : EachBehind (IsTightEnd volumes capacity) [] xs
   pub changes : ChainBehind (IsTightChange volumes capacity) [] xs
 
--- what holds of the last of these and those before it
+-- a property of the last of these and those before it
 abbrev pub OfLast : List Placed → (List Placed → Placed → Type 0) → Type 0
 OfLast xs P = (ys : List Placed) (x : Placed) → xs ≡ ys ++ x ∷ [] → P ys x
 
--- a section that goes on
+-- a section after which the file continues
 abbrev pub IsGoing : Opened → Placed → Type 0
 IsGoing file x = IsOfFile file x × (ends_file x.section ≡ false)
 
@@ -115,7 +115,7 @@ pub record Between (volumes : List Volume) (capacity : ℕ) (set_id : List ℕ) 
   pub used : course.used ≡ items_size (body_items volumes d)
   pub room : course.used + (headers_size + volume_end_size) ≤ capacity
 
--- Inside a file, whose section under way begins with these blocks.
+-- Inside a file, whose current section begins with these blocks.
 pub record Within (volumes : List Volume) (capacity : ℕ) (set_id : List ℕ) (file : Opened)
     (course : Course) (next : List Filled) (d : Draft) : Type 0 where
   pub ready : IsReady file
@@ -145,7 +145,7 @@ pub record Steady (volumes : List Volume) (capacity : ℕ) (set_id : List ℕ) (
   pub inside : Within volumes capacity set_id file course d.blocks d
   pub begins : d.blocks ≡ [] → OfLast (placed d) (λ ys x. (x.file ≡ file.head.sequence) → ⊥)
 
--- the draft behind a section's end by EOV
+-- the draft after a section's end by EOV
 abbrev pub changed_draft : Opened → Course → Draft → Draft
 changed_draft file course d = record {
   files = d.files;
@@ -154,12 +154,12 @@ changed_draft file course d = record {
   past = d.past + 1;
 }
 
--- and the course: VOL1 and the headers are written on the next volume
+-- and the position: VOL1 and the headers are written on the next volume
 abbrev pub changed_course : Course → Course
 changed_course course =
     record { volume = course.volume + 1; sect = course.sect + 1; count = 0; used = 268 }
 
--- the draft behind a file's end
+-- the draft after the end of a file
 abbrev pub ended_draft : Opened → Course → Draft → Draft
 ended_draft file course d = record {
   files = d.files
@@ -173,27 +173,27 @@ ended_draft file course d = record {
 abbrev pub added_draft : Draft → Filled → Draft
 added_draft d b = record d { blocks = d.blocks ++ b ∷ [] }
 
--- and the course, where the block takes so much
+-- and the position, if the block takes this many bytes
 abbrev pub added_course : Course → ℕ → Course
 added_course course size = record course { count = course.count + 1; used = course.used + size }
 
--- the course behind a section's end
+-- the position after the end of a section
 abbrev pub ended_course : Course → Course
 ended_course course = record course { used = course.used + 184 }
 
--- the course behind the headers of a file's first section
+-- the position after the headers of a file's first section
 abbrev pub begun_course : Course → Course
 begun_course course =
     record { volume = course.volume; sect = 1; count = 0; used = course.used + 180 }
 
--- Inside a file the tapes hold what the draft tells.
+-- Inside a file the tapes contain what the draft describes.
 pub record IsOpen (H : Tapes → Type 0) (volumes : List Vol1) (capacity : ℕ) (set_id : List ℕ)
     (file : Opened) (course : Course) (d : Draft) : Type 0 where
   pub steady : Steady (map labelled volumes) capacity set_id file course d
   pub held : H (UnderWay (ended_volumes (map labelled volumes) d)
       (open_items (map labelled volumes) file course d))
 
--- So they do between two files.
+-- The same between two files.
 pub record IsResting (H : Tapes → Type 0) (volumes : List Vol1) (capacity : ℕ) (set_id : List ℕ)
     (course : Course) (d : Draft) : Type 0 where
   pub between : Between (map labelled volumes) capacity set_id course d
@@ -224,7 +224,7 @@ pub record Closed (H : Tapes → Type 0) (volumes : List Vol1) (capacity : ℕ) 
   pub ends : ends_file last.section ≡ true
   pub blocks : blocks_of_all (sects ++ last.section ∷ []) ≡ open_blocks d
 
--- The numbers allow what is written next, whatever the tapes tell.
+-- The numbers allow the next step, whatever the tapes contain.
 pub record IsRoomy (capacity volumes : ℕ) (course : Course) : Type 0 where
   pub room : course.used + volume_end_size ≤ capacity
   pub count : course.count ≤ course.used

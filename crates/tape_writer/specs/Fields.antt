@@ -8,14 +8,14 @@ use Rattle.tape_label.specs.declared.values.Head1.{Head1}
 abbrev pub IsText : List ℕ → Type 0
 IsText bytes = first_other bytes ≡ None
 
--- The volume's fields are a-characters; the version is written as it is given.
+-- The volume's fields are a-characters; the version is written unchanged.
 pub record IsTextVolume (v : Vol1) : Type 0 where
   pub volume : IsText v.volume
   pub access : IsText (v.access ∷ [])
   pub implementation : IsText v.implementation
   pub owner : IsText v.owner
 
--- The head's fields are a-characters, but for the set identifier, which is replaced.
+-- The head's fields are a-characters, except for the set identifier, which is replaced.
 pub record IsTextHead (h : Head1) : Type 0 where
   pub file_id : IsText h.file_id
   pub generation : IsText h.generation

@@ -1,5 +1,5 @@
--- What stands on the tapes behind a call that was refused on its way: a front of what it was to
--- write, and nothing else.
+-- The contents of the tapes after a call that was refused midway: a prefix of what it was writing,
+-- and nothing else.
 use Rattle.std.specs.Prelude.{◌≡◌, ◌⊎◌, ℕ, List, [], ◌∷◌, ◌++◌}
 use Rattle.tape_image.specs.Tape.{TapeItem}
 use Rattle.tape_label.specs.declared.values.Vol1.{Vol1}
@@ -12,26 +12,26 @@ use Rattle.tape_writer.specs.Told.{Told, AreFiled, IsWrittenSet}
 use Rattle.tape_writer.specs.Inside.{IsInside, IsPacking, IsFlat, IsWaiting}
 use Rattle.tape_writer.specs.State.{SetState}
 
--- what is done to tapes: an item is put on the volume under way, the next volume begins, or the
--- last one ends
+-- a step on tapes: an item is appended to the current volume, the next volume begins, or the last
+-- one ends
 pub data Step : Type 0 where
   Item : (item : TapeItem) → Step
   Change : Step
   Close : Step
 
--- the tapes behind it
+-- the tapes after this step
 abbrev pub behind_step : Step → Tapes → Tapes
 behind_step (Item item) (UnderWay volumes items) = UnderWay volumes (items ++ item ∷ [])
 behind_step (Item item) (Ended volumes) = Ended volumes
 behind_step Change tapes = UnderWay (all_volumes tapes) []
 behind_step Close tapes = Ended (all_volumes tapes)
 
--- and behind some of them
+-- and after these steps
 abbrev pub behind_steps : List Step → Tapes → Tapes
 behind_steps [] tapes = tapes
 behind_steps (s ∷ steps) tapes = behind_steps steps (behind_step s tapes)
 
--- A front of these tapes is held: what is done further leads to them.
+-- The tapes contain a prefix of these: further steps lead to them.
 pub record HoldsFront (H : Tapes → Type 0) (whole : Tapes) : Type 0 where
   pub now : Tapes
   pub held : H now
@@ -49,8 +49,8 @@ pub record IsMidRecord (H : Tapes → Type 0) (volumes : List Vol1) (capacity : 
   pub split : records ≡ before ++ whole ∷ []
   pub packing : IsPacking H volumes capacity set_id file course packer fs before whole rest
 
--- behind these files, inside this one, of which these records were given: some may be in the block
--- under way, the last one in part, or all stand in blocks
+-- after these files, inside this one, to which these records were passed: some may be in the
+-- current block, the last one in part, or all may be in blocks
 abbrev pub IsPartly : (Tapes → Type 0) → List Vol1 → ℕ → List ℕ → Opened → Course
     → List (List Section) → List (List ℕ) → Type 0
 IsPartly H volumes capacity set_id file course fs records =
@@ -74,18 +74,18 @@ abbrev pub IsEndingLast : (Tapes → Type 0) → List Vol1 → ℕ → List ℕ 
 IsEndingLast H volumes capacity set_id told = IsInLast H volumes capacity set_id told
     ⊎ ((course : Course) × IsWaiting H volumes capacity set_id course told)
 
--- ---- what is left: the volumes that ended are whole, the one under way has a front of its items,
--- ---- and nothing else is there
+-- ---- what remains: the volumes that ended are complete, the current one contains a prefix of its
+-- ---- items, and there is nothing else
 
--- the tapes hold a front of what is written inside the last of these files
+-- the tapes contain a prefix of what is written inside the last of these files
 abbrev pub IsLeftInside : {T : Type 0} → (Tapes → Type 0) → SetState T → List Told → Type 0
 IsLeftInside H w told = IsInLast (HoldsFront H) w.volumes w.capacity w.set_id told
 
--- of what is written where these files have ended
+-- a prefix of what is written when these files have ended
 abbrev pub IsLeftBehind : {T : Type 0} → (Tapes → Type 0) → SetState T → List Told → Type 0
 IsLeftBehind H w told =
     (course : Course) × IsWaiting (HoldsFront H) w.volumes w.capacity w.set_id course told
 
--- of what is written where the set of these files is whole
+-- a prefix of what is written when the set of these files is complete
 abbrev pub IsLeftWhole : {T : Type 0} → (Tapes → Type 0) → SetState T → List Told → Type 0
 IsLeftWhole H w told = IsWrittenSet (HoldsFront H) w.volumes w.capacity w.set_id told

@@ -1,10 +1,10 @@
--- Bytes that are held before they are written to a device.
+-- A write buffer: bytes that are kept before they are written to a device.
 use Rattle.std.specs.Prelude.{◌≡◌, ◌⊎◌, ℕ, ◌+◌, ◌-◌, ◌^◌, ◌≤◌, min, Bool, true, false, List}
 use Rattle.std.specs.Prelude.{[], ◌++◌, length, Option, None, Some}
 use Rattle.std.specs.Io.KnownBytes.{Appends, append_known}
 use Rattle.tape_image.specs.Written.{AppendsFront}
 
--- what the device has where that is known, what is held before it, how many bytes were taken, and
+-- the contents of the device, if known, the buffered bytes, how many bytes were accepted, and
 -- whether the device failed
 pub record Holding : Type 0 where
   pub device : Option (List ℕ)
@@ -12,25 +12,26 @@ pub record Holding : Type 0 where
   pub size : ℕ
   pub failed : Bool
 
--- what was taken, where that is known: what the device has, and what is held behind it
+-- the bytes that were accepted, if known: the contents of the device, followed by the buffered
+-- bytes
 abbrev pub taken : Holding → Option (List ℕ)
 taken h = append_known h.device h.held
 
--- these bytes were taken behind all others, and counted
+-- these bytes were accepted after all others, and counted
 pub record TakesAll (bytes : List ℕ) (old new : Holding) : Type 0 where
   pub takes : Appends (taken old) (taken new) bytes
   pub size : new.size ≡ min (old.size + length bytes) (2 ^ 64 - 1)
   pub stands : new.failed ≡ false
 
--- what was held stands behind what the device had, and nothing is held
+-- the buffered bytes were appended to the device, and the buffer is empty
 pub record PassesOn (old new : Holding) : Type 0 where
   pub passed : Appends old.device new.device old.held
   pub none : new.held ≡ []
   pub size : new.size ≡ old.size
   pub stands : new.failed ≡ false
 
--- a front of what was held was passed on, so that there is room for so many bytes more, or nothing
--- is held
+-- a prefix of the buffered bytes was written, so that there is room for this many more, or the
+-- buffer is empty
 pub record MakesRoom (count : ℕ) (old new : Holding) : Type 0 where
   pub moved : List ℕ
   pub passed : Appends old.device new.device moved
@@ -39,30 +40,30 @@ pub record MakesRoom (count : ℕ) (old new : Holding) : Type 0 where
   pub size : new.size ≡ old.size
   pub stands : new.failed ≡ false
 
--- the device failed: behind what it had stands a front of what was held and of these bytes
+-- the device failed: its contents are followed by a prefix of the buffered bytes and of these bytes
 pub record Stops (bytes : List ℕ) (old new : Holding) : Type 0 where
   pub front : AppendsFront old.device new.device (old.held ++ bytes)
   pub size : new.size ≡ old.size
   pub failed : new.failed ≡ true
 
--- nothing was taken yet, before a device that has these bytes
+-- nothing was accepted yet, for a device with these contents
 abbrev pub fresh : Option (List ℕ) → Holding
 fresh contents = record { device = contents; held = []; size = 0; failed = false }
 
--- a file is open: the one that was, or one of which nothing was taken
+-- a file is open: the one before, or a new one that accepted nothing yet
 abbrev pub Opens : Option Holding → Option Holding → Type 0
 Opens None None = ⊥
 Opens None (Some new) = (contents : Option (List ℕ)) × (new ≡ fresh contents)
 Opens (Some old) new = new ≡ Some old
 
--- a file took these bytes, as its first ones where it was not opened before
+-- a file accepted these bytes, as its first ones if it was not opened before
 abbrev pub FileTakes : List ℕ → Option Holding → Option Holding → Type 0
 FileTakes bytes None None = ⊥
 FileTakes bytes None (Some new) = (contents : Option (List ℕ)) × TakesAll bytes (fresh contents) new
 FileTakes bytes (Some old) None = ⊥
 FileTakes bytes (Some old) (Some new) = TakesAll bytes old new
 
--- a file was passed all that is held of it, if it was opened
+-- all buffered bytes of a file were written to it, if it was opened
 abbrev pub FilePasses : Option Holding → Option Holding → Type 0
 FilePasses None new = new ≡ None
 FilePasses (Some old) None = ⊥

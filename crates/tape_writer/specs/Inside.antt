@@ -1,4 +1,5 @@
--- The writer inside a file and between two: what the tapes hold, with what was told.
+-- The writer inside a file and between two: the contents of the tapes, and the files and records
+-- passed so far.
 use Rattle.std.specs.Prelude.{◌≡◌, ◌⊎◌, ◌≢◌, ◌≤◌, ℕ, ◌+◌, List, [], ◌∷◌, ◌++◌, false, None, length}
 use Rattle.std.specs.List.{AllByRecursion}
 use Rattle.tape_label.specs.declared.values.Vol1.{Vol1}
@@ -20,7 +21,7 @@ use Rattle.tape_writer.specs.Tapes.{Tapes, Ended}
 use Rattle.tape_writer.specs.Draft.{Draft, IsOpen, IsResting, open_blocks}
 use Rattle.tape_writer.specs.Told.{Told, AreFiled}
 
--- Behind the finished files fs, inside this one: these records were given.
+-- After the finished files fs, inside this one: these records were passed.
 pub record IsInside (H : Tapes → Type 0) (volumes : List Vol1) (capacity : ℕ) (set_id : List ℕ)
     (file : Opened) (course : Course) (p : Packing) (fs : List (List Section))
     (records : List (List ℕ)) : Type 0 where
@@ -43,7 +44,7 @@ pub record IsPacking (H : Tapes → Type 0) (volumes : List Vol1) (capacity : �
   pub going : Going (open_blocks draft) p records whole rest
   pub lengths : AreRecordsOf file.shape records
 
--- The block under way was written.
+-- The current block was written.
 pub record Flushed (H : Tapes → Type 0) (volumes : List Vol1) (capacity : ℕ) (set_id : List ℕ)
     (file : Opened) (course : Course) (d : Draft) (p : Packing) : Type 0 where
   pub draft : Draft
@@ -53,7 +54,7 @@ pub record Flushed (H : Tapes → Type 0) (volumes : List Vol1) (capacity : ℕ)
   pub files : draft.files ≡ d.files
   pub blocks : open_blocks draft ≡ open_blocks d ++ record { bytes = text; parts = p.parts } ∷ []
 
--- Inside a file, all its records stand in blocks.
+-- Inside a file, all its records are in blocks.
 pub record IsFlat (H : Tapes → Type 0) (volumes : List Vol1) (capacity : ℕ) (set_id : List ℕ)
     (file : Opened) (course : Course) (fs : List (List Section)) (records : List (List ℕ))
     : Type 0 where
@@ -63,14 +64,14 @@ pub record IsFlat (H : Tapes → Type 0) (volumes : List Vol1) (capacity : ℕ) 
   pub tight : packing.IsTight file.shape records (open_blocks draft)
   pub lengths : AreRecordsOf file.shape records
 
--- Between two files, these were told.
+-- Between two files, these were passed.
 pub record IsBetween (H : Tapes → Type 0) (volumes : List Vol1) (capacity : ℕ) (set_id : List ℕ)
     (course : Course) (told : List Told) : Type 0 where
   pub draft : Draft
   pub resting : IsResting H volumes capacity set_id course draft
   pub filed : AreFiled capacity told draft.files
 
--- Inside a file, behind the ones told before it.
+-- Inside a file, after the ones passed before it.
 pub record IsFiling (H : Tapes → Type 0) (volumes : List Vol1) (capacity : ℕ) (set_id : List ℕ)
     (file : Opened) (course : Course) (p : Packing) (past : List Told) (records : List (List ℕ))
     : Type 0 where
@@ -84,10 +85,10 @@ IsWaiting H volumes capacity set_id course told =
     ((course.volume ≡ 0) × H (Ended []) × (told ≡ []))
     ⊎ (IsBetween H volumes capacity set_id course told × (told ≢ []))
 
--- These blocks and then what comes next are a front of the records, packed in the shape: each is a
--- block that is written, they are as full as the rules of packing ask, and with the parts behind
--- them they join to just these records. What comes next is one block or, where all records stand in
--- the blocks, nothing.
+-- These blocks and the next one are a prefix of the records, packed in the shape: each is a block
+-- that is written, they are as full as the rules of packing require, and with the parts after them
+-- they join to exactly these records. Next comes one block or, if all records are in the blocks,
+-- nothing.
 pub record Continues (shape : Shape) (records : List (List ℕ)) (blocks next : List Filled)
     : Type 0 where
   pub each : AllByRecursion (packing.IsWritten shape) (blocks ++ next)
@@ -100,9 +101,9 @@ pub record Continues (shape : Shape) (records : List (List ℕ)) (blocks next : 
   pub most : length next ≤ 1
   pub ends : next ≡ [] → behind ≡ []
 
--- A change is due and no volume is left: behind the finished files fs the volume under way holds an
--- open section with its data blocks and no trailer, and the rule of the change refuses what comes
--- next of these records.
+-- The volume must be changed and none is left: after the finished files fs the current volume
+-- contains an open section with its data blocks and no trailer, and the rule for the change refuses
+-- the next block of these records.
 pub record IsStuck (H : Tapes → Type 0) (volumes : List Vol1) (capacity : ℕ) (set_id : List ℕ)
     (file : Opened) (course : Course) (fs : List (List Section)) (records : List (List ℕ))
     : Type 0 where
@@ -114,23 +115,23 @@ pub record IsStuck (H : Tapes → Type 0) (volumes : List Vol1) (capacity : ℕ)
   pub of_records : Continues file.shape records (open_blocks draft) next
   pub due : takes_next capacity course.used next ≡ false
 
--- The volume has no room for the block under way, which this packer gives, and no volume is left.
+-- The volume has no room for the packer's current block, and no volume is left.
 pub record IsLeftOut (volumes capacity : ℕ) (course : Course) (p : Packing) : Type 0 where
   pub text : List ℕ
   pub given : Given p text
   pub none_left : volumes ≤ course.volume
   pub due : takes_next capacity course.used (record { bytes = text; parts = p.parts } ∷ []) ≡ false
 
--- ---- where a call finds the tapes
+-- ---- the tapes before a call
 
--- where the tapes hold a draft inside this file, this is true of the set's identifier and of it
+-- if the tapes contain a draft inside this file, this holds for the set's identifier and the draft
 abbrev pub IfOpen : {T : Type 0} → Ghosts T → List Vol1 → ℕ → Opened → Tape T
     → (List ℕ → Draft → Type 0) → Type 0
 IfOpen g volumes capacity file tape P = (set_id : List ℕ) (d : Draft)
     → IsOpen (g.holds tape.out) volumes capacity set_id file tape.course d → P set_id d
 
--- where they are inside this file, with this packer, this is true of the set's identifier, the
--- finished files and the records given
+-- if they are inside this file, with this packer, this holds for the set's identifier, the finished
+-- files and the records passed
 abbrev pub IfInside : {T : Type 0} → Ghosts T → List Vol1 → ℕ → Opened → Tape T → Packing
     → (List ℕ → List (List Section) → List (List ℕ) → Type 0) → Type 0
 IfInside g volumes capacity file tape p P =
@@ -138,8 +139,8 @@ IfInside g volumes capacity file tape p P =
     → IsInside (g.holds tape.out) volumes capacity set_id file tape.course p fs records
     → P set_id fs records
 
--- where this file is the next one, this is true of the set's identifier, the files told before it
--- and a packer that holds nothing of it
+-- if this file is the next one, this holds for the set's identifier, the files before it and a
+-- packer without any of its records
 abbrev pub IfNext : Opened → (List ℕ → List Told → Packing → Type 0) → Type 0
 IfNext file P = (set_id : List ℕ) (told : List Told) (p : Packing)
     → file.head.set_id ≡ set_id → file.head.sequence ≡ length told + 1

@@ -1,4 +1,4 @@
--- What tapes in memory hold.
+-- The contents of tapes in memory.
 use Rattle.std.specs.Prelude.{◌≡◌, ◌≤◌, ℕ, ◌+◌, List, length, map, Bool, true, false, Option, Some}
 use Rattle.std.specs.Prelude.{None}
 use Rattle.tape_image.specs.Tape.{TapeItem, block, mark}
@@ -6,33 +6,34 @@ use Rattle.tape_writer.specs.Tapes.{Tapes, Ended, UnderWay}
 use Rattle.tape_writer.specs.declared.memory.Kept.{Kept}
 use Rattle.tape_writer.specs.declared.memory.Kept.TheVariants.{Block, Mark}
 
--- what is seen of tapes in memory: their volumes, how often they were misused, and how often a
--- growth was refused
+-- what contracts see of tapes in memory: their volumes, how often they were misused, and how often
+-- memory was refused
 pub record InMemory : Type 0 where
   pub tapes : Tapes
   pub misused : ℕ
   pub refused : ℕ
 
--- an item as it is kept
+-- an item in memory
 abbrev pub item_of : Kept → TapeItem
 item_of (Block bytes) = block bytes.items
 item_of Mark = mark
 
--- a volume as it is kept
+-- a volume in memory
 abbrev pub volume_of : List Kept → List TapeItem
 volume_of kept = map item_of kept
 
--- these volumes ended, and this one is under way, if one is
+-- these volumes ended, and this is the current one, if there is one
 abbrev pub tapes_of : List (List Kept) → Option (List Kept) → Tapes
 tapes_of ended None = Ended (map volume_of ended)
 tapes_of ended (Some current) = UnderWay (map volume_of ended) (volume_of current)
 
--- how many images are under way
+-- how many images are lent
 abbrev pub lent_count : Bool → ℕ
 lent_count true = 1
 lent_count false = 0
 
--- just these images are kept, and there is room for those that may come, the one under way too
+-- exactly these images are stored, and there is room for those that may follow, including the lent
+-- one
 abbrev pub HoldsImages : List (List ℕ) → ℕ → ℕ → Bool → List (List ℕ) → Type 0
 HoldsImages kept room left lent images =
     (kept ≡ images) × (length kept + left + lent_count lent ≤ room)

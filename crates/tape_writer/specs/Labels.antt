@@ -1,4 +1,4 @@
--- The labels that are written: each is the one text that `tape_label` writes of its fields.
+-- The labels that are written: each is the one text that `tape_label` writes for its fields.
 use Rattle.std.specs.Prelude.{◌≤◌, ℕ, List, [], ◌∷◌, Bool, if◌then◌else◌}
 use Rattle.tape_image.specs.Tape.{TapeItem, block, mark}
 use Rattle.tape_label.specs.declared.values.Vol1.{Vol1}
@@ -27,7 +27,8 @@ pub record IsReady (file : Opened) : Type 0 where
 abbrev pub head_at : Opened → ℕ → Head1
 head_at file sect = record file.head { sect = sect }
 
--- what the section's EOF1 or EOV1 tells: the head, and the last six digits of so many blocks
+-- the fields of the section's EOF1 or EOV1: the head, and the last six digits of the number of
+-- blocks
 abbrev pub trailer_at : Opened → ℕ → ℕ → Bool → Trail1
 trailer_at file sect count eof =
     record { eof = eof; head = head_at file sect; blocks = label_count count }
@@ -48,7 +49,7 @@ second_label file kind = text_of (head2_pieces kind (second_of file.shape))
 unfoldable pub trailer_label : Opened → ℕ → ℕ → Bool → List ℕ
 trailer_label file sect count eof = text_of (trail1_pieces (trailer_at file sect count eof))
 
--- EOF2 where the file ends, EOV2 where it goes on
+-- EOF2 if the file ends, EOV2 if it continues
 abbrev pub second_kind : Bool → Kind
 second_kind eof = if eof then kinds.Eof2 else kinds.Eov2
 

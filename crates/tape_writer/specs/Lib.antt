@@ -1,4 +1,4 @@
--- to be believed, in this order:
+-- the definitions that a reader has to trust, in this order:
 pub mod Tapes
 pub mod Kept
 pub mod Images
@@ -18,19 +18,19 @@ pub mod WriteSet
 pub mod NoVolume
 pub mod LeftOf
 pub mod WriteFaults
--- volumes without files:
+-- blank volumes:
 pub mod Blank
 -- images that are files:
 pub mod System
 pub mod Holding
--- what these say of cases:
+-- test cases for these:
 pub mod Cases
 pub mod CasesOfInputs
 pub mod CasesOfWritten
 pub mod CasesOfFronts
 pub mod CasesOfDrafts
 pub mod CasesOfHolding
--- what is written so far, in the proofs' own words:
+-- sets that are being written, used by the proofs only:
 pub mod Draft
 pub mod Inside
 pub mod Front

@@ -1,4 +1,4 @@
--- Where no volume is left for a set that is written from inputs.
+-- When no volume is left for a set that is written from inputs.
 use Rattle.std.specs.Prelude.{◌≡◌, ◌⊎◌, ℕ, ◌+◌, List, [], ◌∷◌, ◌++◌, length, Option, IfSome}
 use Rattle.tape_label.specs.declared.values.Head1.{Head1}
 use Rattle.tape_blocks.specs.declared.parts.Shape.{Shape}
@@ -11,8 +11,8 @@ use Rattle.tape_writer.specs.Records.{records_of}
 use Rattle.tape_writer.specs.ToldFiles.{with_records, told_files, IfAllKnown}
 use Rattle.tape_writer.specs.WriteSet.{cut_of}
 
--- The writer has no volume left, where a front of these records was told behind those: its last one
--- was offered, or the file was to end behind it.
+-- The writer has no volume left after a prefix of these records was passed after those: the last
+-- one was offered, or the file was to end after it.
 pub record GaveUp {T : Type 0} (H : Tapes → Type 0) (w : SetState T) (told : List Told)
     (records : List (List ℕ)) : Type 0 where
   pub front : List (List ℕ)
@@ -20,8 +20,9 @@ pub record GaveUp {T : Type 0} (H : Tapes → Type 0) (w : SetState T) (told : L
   pub split : records ≡ front ++ back
   pub out : IsOutOfVolumes H w (with_records told front)
 
--- The writer has no volume left for one of the files of these inputs: those before it were told
--- whole, and of its records a front. Nothing is said where one of these inputs tells no bytes.
+-- The writer has no volume left for one of the files of these inputs: those before it were passed
+-- completely, and a prefix of its records. Makes no claim if the bytes of one of these inputs are
+-- unknown.
 pub record GaveUpIn {T : Type 0} (H : Tapes → Type 0) (w : SetState T) (set_id : List ℕ)
     (told : List Told) (shape : Shape) (cut : Cut) (inputs : List (Head1 × Option (List ℕ)))
     : Type 0 where
@@ -33,8 +34,8 @@ pub record GaveUpIn {T : Type 0} (H : Tapes → Type 0) (w : SetState T) (set_id
       GaveUp H w (with_file set_id (told ++ told_files set_id shape cut (length told + 1) fs)
       input.0 shape) (records_of cut bytes)))
 
--- The same of a set: a writer of the plan, who was told nothing before, wrote on these tapes, of
--- which P is true.
+-- The same for a set: a writer of the plan, to which nothing was passed before, wrote on these
+-- tapes, which satisfy P.
 pub record GaveUpSet {T : Type 0} (H : T → Tapes → Type 0) (P : T → Type 0) (plan : SetPlan)
     (cut : Cut) (inputs : List (Head1 × Option (List ℕ))) : Type 0 where
   pub writer : SetState T
@@ -44,7 +45,8 @@ pub record GaveUpSet {T : Type 0} (H : T → Tapes → Type 0) (P : T → Type 0
   pub set_id : writer.set_id ≡ plan.set_id
   pub stuck : GaveUpIn (H writer.out) writer plan.set_id [] plan.shape cut inputs
 
--- the plan has no volume, or the last of its volumes does not take what comes next of the inputs
+-- the plan has no volume, or its last volume has no room for the next block or file end of the
+-- inputs
 abbrev pub HasNoVolume : {T : Type 0} → (T → Tapes → Type 0) → (T → Type 0) → SetPlan
     → List (Head1 × Option (List ℕ)) → Type 0
 HasNoVolume H P plan inputs = (length plan.volumes.items ≡ 0)

@@ -1,5 +1,5 @@
--- Which faults the calls of a set writer answer, and when: a fault that these definitions rule out
--- is not answered.
+-- Which faults the calls of a set writer return, and when: a fault that these definitions rule out
+-- is not returned.
 use Rattle.std.specs.Prelude.{◌≡◌, ◌<◌, ◌≤◌, ℕ, List, length}
 use Rattle.std.specs.List.{AllByRecursion}
 use Rattle.tape_label.specs.declared.values.Vol1.{Vol1}
@@ -19,19 +19,19 @@ use Rattle.tape_writer.specs.declared.fault.WriteFault.TheVariants.{Device, OutO
 use Rattle.tape_writer.specs.Fields.{IsText, IsTextVolume, IsTextHead}
 use Rattle.tape_writer.specs.State.{HasLength}
 
--- this file is under way
+-- this is the current file
 abbrev pub IsInFile : Opened → Phase → Type 0
 IsInFile file (Filing o) = o.file ≡ file
 IsInFile file _ = ⊥
 
--- why no set with this identifier is written on these volumes
+-- why no set with this identifier can be written on these volumes
 abbrev pub IsNewFault : List ℕ → List Vol1 → WriteFault → Type 0
 IsNewFault set_id volumes BadField = IsText set_id × AllByRecursion IsTextVolume volumes → ⊥
 IsNewFault set_id volumes OutOfVolumes = length volumes ≡ 0
 IsNewFault set_id volumes TooMany = 9999 < length volumes
 IsNewFault set_id volumes _ = ⊥
 
--- why a file of this head and shape is not begun behind n others, in this capacity
+-- why a file of this head and shape cannot begin after n others, in this capacity
 abbrev pub IsBeginFault : ℕ → ℕ → Head1 → Shape → WriteFault → Type 0
 IsBeginFault capacity n head shape BadField = IsTextHead head → ⊥
 IsBeginFault capacity n head shape BadShape = IsWritable shape → ⊥
@@ -41,7 +41,7 @@ IsBeginFault capacity n head shape Device = Unit {0}
 IsBeginFault capacity n head shape OutOfMemory = Unit {0}
 IsBeginFault capacity n head shape _ = ⊥
 
--- why a record is not put in the file under way
+-- why a record cannot be written into the current file
 abbrev pub IsPutFault : OpenFile → List ℕ → WriteFault → Type 0
 IsPutFault o bytes RecordLength = HasLength o bytes → ⊥
 IsPutFault o bytes OutOfVolumes = Unit {0}
@@ -49,7 +49,7 @@ IsPutFault o bytes Device = Unit {0}
 IsPutFault o bytes OutOfMemory = Unit {0}
 IsPutFault o bytes _ = ⊥
 
--- why a set is not ended of which so many volumes were begun
+-- why a set cannot be finished after this many volumes were begun
 abbrev pub IsFinishFault : ℕ → WriteFault → Type 0
 IsFinishFault volumes NoFile = volumes ≡ 0
 IsFinishFault volumes Device = Unit {0}

@@ -1,4 +1,4 @@
--- How much a writer can still take.
+-- How much a writer can still accept.
 use Rattle.std.specs.Prelude.{◌≡◌, ◌⊎◌, ℕ, ◌+◌, ◌-◌, ◌*◌, length}
 use Rattle.tape_blocks.specs.Packing.{Packing, size_of}
 use Rattle.tape_writer.specs.declared.course.Course.{Course}
@@ -6,23 +6,23 @@ use Rattle.tape_writer.specs.declared.phase.Phase.{Phase}
 use Rattle.tape_writer.specs.declared.phase.Phase.TheVariants.{Filing}
 use Rattle.tape_writer.specs.State.{SetState}
 
--- behind so many bytes more: further on in the volume, or on the next one
+-- after this many bytes more: later in the same volume, or on the next one
 abbrev pub Passed : Course → ℕ → Course → Type 0
 Passed old size new =
     ((new.volume ≡ old.volume) × (new.used ≡ old.used + size)) ⊎ (new.volume ≡ old.volume + 1)
 
--- so many bytes at most are taken before no volume is left: what is free of the block under way and
--- of the volume under way, and for each volume to come its capacity and a block
+-- an upper bound of the bytes that are accepted before no volume is left: the free bytes of the
+-- current block and of the current volume, and for each volume to come its capacity and a block
 abbrev pub room_of : ℕ → ℕ → Course → Packing → ℕ
 room_of volumes capacity course p =
     (volumes - course.volume) * (capacity + p.shape.block_len)
     + ((capacity - course.used) + (p.shape.block_len - size_of p.shape p.parts))
 
--- the same in each phase; outside a file no record is taken
+-- the same in each phase; outside a file no record is accepted
 abbrev pub room_in : ℕ → ℕ → Course → Phase → ℕ
 room_in volumes capacity course (Filing o) = room_of volumes capacity course o.packer
 room_in volumes capacity course _ = 0
 
--- the same of a writer
+-- the same for a writer
 abbrev pub room_left : {T : Type 0} → SetState T → ℕ
 room_left w = room_in (length w.volumes) w.capacity w.course w.phase

@@ -1,4 +1,4 @@
--- A set writer as its callers see it, and what holds of it where these files were told.
+-- A set writer as its callers see it, and its invariant when these files were passed.
 use Rattle.std.specs.Prelude.{◌≡◌, ◌⊎◌, ◌≤◌, ℕ, ◌+◌, List, [], ◌∷◌, ◌++◌, false, length, map}
 use Rattle.std.specs.Prelude.{Result, Err}
 use Rattle.std.specs.List.{AllByRecursion}
@@ -23,8 +23,8 @@ use Rattle.tape_writer.specs.Draft.{IsRoomy}
 use Rattle.tape_writer.specs.Told.{Told, AreFiled, IsWrittenSet}
 use Rattle.tape_writer.specs.Inside.{IsFiling, IsWaiting, IsStuck}
 
--- A writer: where it writes, the volumes and their capacity, the set's identifier, the files begun
--- so far, where it stands on the volumes, and what it does there.
+-- A writer: its output, the volumes and their capacity, the set's identifier, the files begun so
+-- far, the position on the volumes, and the phase.
 pub record SetState (T : Type 0) : Type 0 where
   pub out : T
   pub volumes : List Vol1
@@ -34,22 +34,22 @@ pub record SetState (T : Type 0) : Type 0 where
   pub course : Course
   pub phase : Phase
 
--- what it writes to, and where it stands
+-- its output, and the position
 abbrev pub tape_of : {T : Type 0} → SetState T → Tape T
 tape_of w = record { out = w.out; course = w.course }
 
--- what it writes to was asked for the volume under way by its own label
+-- its output was asked for the current volume with the volume's own label
 abbrev pub HasAsked : {T : Type 0} → Ghosts T → SetState T → Type 0
 HasAsked g w = WasAsked (g.asked w.out) w.volumes w.course.volume
 
--- these volumes, their capacity and the set's identifier are the same
+-- the volumes, their capacity and the set's identifier are the same
 abbrev pub SameSet : {T : Type 0} → SetState T → SetState T → Type 0
 SameSet old new = (new.volumes ≡ old.volumes) × (new.capacity ≡ old.capacity)
     × (new.set_id ≡ old.set_id)
 
--- ---- what was told is what is held
+-- ---- the tapes contain what was passed
 
--- Inside a file that is the last one told.
+-- Inside a file, the last one that was passed.
 pub record IsFilingLast (H : Tapes → Type 0) (volumes : List Vol1) (capacity : ℕ) (set_id : List ℕ)
     (course : Course) (o : OpenFile) (told : List Told) : Type 0 where
   pub past : List Told
@@ -57,7 +57,7 @@ pub record IsFilingLast (H : Tapes → Type 0) (volumes : List Vol1) (capacity :
   pub is_told : told ≡ past ++ record { file = o.file; records = records } ∷ []
   pub filing : IsFiling H volumes capacity set_id o.file course o.packer past records
 
--- what the tapes hold in each phase, where these files were told, with these records
+-- the contents of the tapes in each phase, if these files were passed, with these records
 abbrev pub Stands : (Tapes → Type 0) → List Vol1 → ℕ → List ℕ → Course → Phase → List Told → Type 0
 Stands H volumes capacity set_id course Between told =
     IsWaiting H volumes capacity set_id course told
@@ -67,8 +67,8 @@ Stands H volumes capacity set_id course Failed told = ⊥
 Stands H volumes capacity set_id course Finished told =
     IsWrittenSet H volumes capacity set_id told
 
--- The writer was told these files: it keeps their heads and shapes, and the tapes hold what was
--- told.
+-- These files were passed to the writer: it keeps their heads and shapes, and the tapes contain
+-- them.
 pub record IsWriting {T : Type 0} (H : Tapes → Type 0) (w : SetState T) (told : List Told)
     : Type 0 where
   pub kept : w.files ≡ map (λ t. t.file) told
@@ -76,19 +76,19 @@ pub record IsWriting {T : Type 0} (H : Tapes → Type 0) (w : SetState T) (told 
 
 -- ---- faults
 
--- what a refusal leaves: a writer that goes no further, where the fault ends it; else the same
+-- the effect of a refusal: a writer that failed, if the fault ends it; otherwise the same writer
 abbrev pub Leaves : {T : Type 0} → SetState T → SetState T → WriteFault → Type 0
 Leaves old new OutOfVolumes = new.phase ≡ Failed
 Leaves old new Device = new.phase ≡ Failed
 Leaves old new OutOfMemory = new.phase ≡ Failed
 Leaves old new _ = new ≡ old
 
--- the call answers this fault, and all is as it was
+-- the call returns this fault, and nothing changes
 abbrev pub Refuses : {T : Type 0} → SetState T → Result (Unit {0}) WriteFault → SetState T
     → WriteFault → Type 0
 Refuses old result new fault = (result ≡ Err fault) × (new ≡ old)
 
--- inside a file, of which this is true
+-- inside a file, for which this holds
 abbrev pub IfFiling : Phase → (OpenFile → Type 0) → Type 0
 IfFiling (Filing o) P = P o
 IfFiling _ P = Unit {0}
@@ -97,9 +97,8 @@ IfFiling _ P = Unit {0}
 abbrev pub HasLength : OpenFile → List ℕ → Type 0
 HasLength o bytes = HasRecordLength o.file.shape.format o.file.shape.rec_len (length bytes)
 
--- The writer has no volume left for the last of these files: the others stand whole, and what comes
--- next of its records, or its end, does not fit. What the tapes hold has nothing of the closing
--- labels.
+-- The writer has no volume left for the last of these files: the others are complete, and its next
+-- block, or its end, does not fit. The tapes contain none of the closing labels.
 pub record IsOutOfVolumes {T : Type 0} (H : Tapes → Type 0) (w : SetState T) (told : List Told)
     : Type 0 where
   pub past : List Told
@@ -109,9 +108,9 @@ pub record IsOutOfVolumes {T : Type 0} (H : Tapes → Type 0) (w : SetState T) (
   pub filed : AreFiled w.capacity past files
   pub stuck : IsStuck H w.volumes w.capacity w.set_id last.file w.course files last.records
 
--- ---- what the type keeps, whatever the tapes tell
+-- ---- the type's invariant, whatever the tapes contain
 
--- Inside a file the next call can be made.
+-- Inside a file the next call is possible.
 pub record IsSoundOpen (volumes : List Vol1) (capacity : ℕ) (course : Course) (o : OpenFile)
     : Type 0 where
   pub ready : IsReady o.file
@@ -121,7 +120,7 @@ pub record IsSoundOpen (volumes : List Vol1) (capacity : ℕ) (course : Course) 
   pub room : least_capacity o.file.shape ≤ capacity
   pub roomy : IsRoomy capacity (length volumes) course
 
--- the next file fits the volume under way, or none is begun
+-- the next file fits the current volume, or there is none
 abbrev pub IsSoundRest : List Vol1 → ℕ → Course → Type 0
 IsSoundRest volumes capacity course = (course.volume ≡ 0)
     ⊎ ((course.used + 372 ≤ capacity) × (course.volume ≤ length volumes) × (1 ≤ course.volume)
@@ -135,7 +134,7 @@ IsSoundIn volumes capacity course Failed = Unit {0}
 IsSoundIn volumes capacity course Finished = Unit {0}
 
 -- The volumes' labels can be written, there is a volume and no more than have numbers, and the next
--- call can be made.
+-- call is possible.
 pub record IsSound (volumes : List Vol1) (capacity : ℕ) (course : Course) (phase : Phase)
     : Type 0 where
   pub wide : AllByRecursion IsWideVolume volumes

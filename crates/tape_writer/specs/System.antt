@@ -5,7 +5,7 @@ use Rattle.tape_writer.specs.declared.system.fault.FileFault.TheVariants as file
 use Rattle.tape_writer.specs.declared.system.fault.SystemFault.{SystemFault}
 use Rattle.tape_writer.specs.declared.system.fault.SystemFault.TheVariants.{File, Write}
 
--- what is told where a set was not written
+-- the fault for a set that was not written
 abbrev pub of_set : SetFault → SystemFault
 of_set (sets.Write fault) = Write fault
 of_set sets.ReadFailed = File files.ReadFailed

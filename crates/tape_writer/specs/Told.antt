@@ -1,4 +1,4 @@
--- What a writer was told, and when that is written.
+-- The files and records passed to a writer, and what it means that they are written.
 use Rattle.std.specs.Prelude.{◌≡◌, ◌≤◌, ℕ, ◌+◌, List, [], ◌∷◌, ◌++◌, Bool, None, length, map, take}
 use Rattle.std.specs.List.{AllByRecursion}
 use Rattle.tape_image.specs.Tape.{TapeItem}
@@ -17,9 +17,9 @@ use Rattle.tape_writer.specs.Tapes.{Tapes, Ended}
 use Rattle.tape_writer.specs.Labels.{volume_label, first_label, second_label, trailer_label}
 use Rattle.tape_writer.specs.Labels.{second_kind}
 
--- ---- told
+-- ---- passed
 
--- A file that was begun: its head and shape, and the records given so far.
+-- A file that was begun: its head and shape, and the records passed so far.
 pub record Told : Type 0 where
   pub file : Opened
   pub records : List (List ℕ)
@@ -31,7 +31,7 @@ opened_by set_id number head shape = record {
   shape = shape;
 }
 
--- a file more was begun behind these
+-- one more file was begun after these
 abbrev pub with_file : List ℕ → List Told → Head1 → Shape → List Told
 with_file set_id told head shape =
     told ++ record { file = opened_by set_id (length told + 1) head shape; records = [] } ∷ []
@@ -48,11 +48,11 @@ with_record (t ∷ u ∷ ts) r = t ∷ with_record (u ∷ ts) r
 abbrev pub labelled : Vol1 → Volume
 labelled v = record { vol1 = volume_label v; labels = [] }
 
--- the items and the end word take no more than the capacity
+-- the items and the end-of-medium marker take no more than the capacity
 abbrev pub IsWithin : ℕ → List TapeItem → Type 0
 IsWithin capacity items = items_size items + 4 ≤ capacity
 
--- The section's labels are those that are written of this file, and no others.
+-- The section's labels are those that are written for this file, and no others.
 pub record IsOfFile (file : Opened) (x : Placed) : Type 0 where
   pub number : (1 ≤ x.sect) × (x.sect ≤ 9999)
   pub hdr1 : x.section.hdr1 ≡ first_label file x.sect
@@ -70,14 +70,15 @@ pub record IsFiled (capacity : ℕ) (told : Told) (f : List Section) : Type 0 wh
   pub labels : AllByRecursion (IsOfFile told.file) (numbered told.file.head.sequence 1 f)
   pub joins : join (section_parts f) ≡ record { records = told.records; rest = None }
 
--- each file is the one told at its place
+-- each file is the one passed with the same number
 abbrev pub AreFiled : ℕ → List Told → List (List Section) → Type 0
 AreFiled capacity [] [] = Unit {0}
 AreFiled capacity (t ∷ ts) (f ∷ fs) = IsFiled capacity t f × AreFiled capacity ts fs
 AreFiled capacity _ _ = ⊥
 
--- The tapes hold the volumes of a lawful set that is tight in the capacity and the shapes told; its
--- files are those told, and its volumes the first of those given; none is longer than the capacity.
+-- The tapes contain the volumes of a valid set that is tight in the capacity and the shapes passed;
+-- its files are those passed, and its volumes the first of those passed; none is longer than the
+-- capacity.
 pub record IsWrittenSet (H : Tapes → Type 0) (volumes : List Vol1) (capacity : ℕ) (set_id : List ℕ)
     (told : List Told) : Type 0 where
   pub layout : FileSet

@@ -1,4 +1,4 @@
--- Files told with the records of inputs.
+-- Files passed with the records of inputs.
 use Rattle.std.specs.Prelude.{ℕ, ◌+◌, List, [], ◌∷◌, Option, IfSome}
 use Rattle.tape_label.specs.declared.values.Head1.{Head1}
 use Rattle.tape_blocks.specs.declared.parts.Shape.{Shape}
@@ -19,7 +19,7 @@ told_files set_id shape cut n (f ∷ fs) = record {
   records = records_of cut f.1;
 } ∷ told_files set_id shape cut (n + 1) fs
 
--- where the bytes of all these inputs are known
+-- if the bytes of all these inputs are known
 abbrev pub IfAllKnown : List (Head1 × Option (List ℕ)) → (List (Head1 × List ℕ) → Type 0) → Type 0
 IfAllKnown [] P = P []
 IfAllKnown (x ∷ xs) P = IfSome x.1 (λ bytes. IfAllKnown xs (λ fs. P ((x.0, bytes) ∷ fs)))

@@ -1,4 +1,4 @@
--- Why `write` does not write a set: a fault that these definitions rule out is not answered.
+-- Why `write` does not write a set: a fault that these definitions rule out is not returned.
 use Rattle.std.specs.Prelude.{◌≡◌, ◌+◌, ◌⊎◌, ℕ, List, [], ◌∷◌, length, Option, Some, None}
 use Rattle.std.specs.Prelude.{IfSome, IfErr, Result}
 use Rattle.tape_label.specs.declared.values.Head1.{Head1}
@@ -19,13 +19,13 @@ use Rattle.tape_writer.specs.Records.{records_of}
 use Rattle.tape_writer.specs.Tapes.{Failures, Rose}
 use Rattle.tape_writer.specs.WriteSet.{cut_of}
 
--- how the fault of an input is told
+-- the fault that is returned for the fault of an input
 abbrev pub told_as : InputFault → SetFault
 told_as inputs.ReadFailed = ReadFailed
 told_as inputs.TooLong = Write RecordLength
 told_as inputs.OutOfMemory = Write OutOfMemory
 
--- `Device` is answered only where the tapes' device failed in the call
+-- `Device` is only returned if the tapes' device failed in the call
 abbrev pub StopsByDevice : Failures → Result (Unit {0}) SetFault → Failures → Type 0
 StopsByDevice old result new =
     IfErr result (λ fault. fault ≡ Write Device → Rose old.device new.device)
@@ -40,17 +40,17 @@ IsOfInput ReadFailed = Unit {0}
 IsOfInput (Write RecordLength) = Unit {0}
 IsOfInput (Write _) = ⊥
 
--- one of these records is such a one
+-- one of these records has a wrong length
 abbrev pub OneIsOther : Shape → List (List ℕ) → Type 0
 OneIsOther shape [] = ⊥
 OneIsOther shape (r ∷ rs) = IsOther shape r ⊎ OneIsOther shape rs
 
--- a fault of the writer, of which this is true
+-- a fault of the writer, for which this holds
 abbrev pub IsOfWriter : (WriteFault → Type 0) → SetFault → Type 0
 IsOfWriter P (Write fault) = P fault
 IsOfWriter P ReadFailed = ⊥
 
--- why records are not put in a file; RecordLength only where this is so
+-- why records are not written into a file; RecordLength only if this holds
 abbrev pub IsPuttingFault : Type 0 → WriteFault → Type 0
 IsPuttingFault other RecordLength = other
 IsPuttingFault other OutOfVolumes = Unit {0}
@@ -58,14 +58,14 @@ IsPuttingFault other Device = Unit {0}
 IsPuttingFault other OutOfMemory = Unit {0}
 IsPuttingFault other _ = ⊥
 
--- the same of the records of an input
+-- the same for the records of an input
 abbrev pub IsInputFault : Type 0 → SetFault → Type 0
 IsInputFault other (Write fault) = IsPuttingFault other fault
 IsInputFault other ReadFailed = Unit {0}
 
--- Why the file of this head is not written behind n others, with the records of an input that has
--- these bytes: it is not begun, or the records are not put. Of an input that tells no bytes it is
--- not said which records it has.
+-- Why the file of this head is not written after n others, with the records of an input that has
+-- these bytes: it cannot begin, or the records are not written. If the bytes of the input are
+-- unknown, so are its records.
 abbrev pub IsFileFault : ℕ → Shape → Cut → ℕ → Head1 × Option (List ℕ) → SetFault → Type 0
 IsFileFault capacity shape cut n input fault =
     IsOfWriter (IsBeginFault capacity n input.0 shape) fault
@@ -78,12 +78,12 @@ IsFilesFault capacity shape cut n [] fault = ⊥
 IsFilesFault capacity shape cut n (x ∷ xs) fault =
     IsFileFault capacity shape cut n x fault ⊎ IsFilesFault capacity shape cut (n + 1) xs fault
 
--- why the files of these inputs are not written, or the set is not ended behind them
+-- why the files of these inputs are not written, or the set is not finished after them
 abbrev pub IsWholeFault : ℕ → Shape → Cut → List (Head1 × Option (List ℕ)) → SetFault → Type 0
 IsWholeFault capacity shape cut inputs fault = IsFilesFault capacity shape cut 0 inputs fault
     ⊎ IsOfWriter (IsFinishFault (length inputs)) fault
 
--- why a set is not written, where inputs are cut so
+-- why a set is not written, if inputs are cut like this
 abbrev pub IsFaultOfCut : SetPlan → List (Head1 × Option (List ℕ)) → Option Cut → SetFault
     → Type 0
 IsFaultOfCut plan inputs None fault = fault ≡ Write BadShape

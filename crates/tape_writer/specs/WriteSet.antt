@@ -1,4 +1,4 @@
--- What `write` has written.
+-- The result of `write`.
 use Rattle.std.specs.Prelude.{ℕ, List, Bool, Option, Some, None}
 use Rattle.tape_label.specs.declared.values.Format.{Format}
 use Rattle.tape_label.specs.declared.values.Format.TheVariants.{Fixed, Counted, Spanned}
@@ -11,9 +11,9 @@ use Rattle.tape_blocks.specs.declared.parts.Form.TheVariants as forms
 use Rattle.tape_writer.specs.declared.inputs.cut.Cut.{Cut}
 use Rattle.tape_writer.specs.declared.inputs.cut.Cut.TheVariants.{Lines, Length, Whole}
 
--- The images that were handed on spell the volumes of a lawful set that is tight in the capacity
--- and the shapes told; its files are those told, and its volumes the first of those given. There
--- are no others.
+-- The images that were passed on encode the volumes of a valid set that is tight in the capacity
+-- and the shapes passed; its files are those passed, and its volumes the first of those passed.
+-- There are no others.
 abbrev pub IsSetOfImages :
     (Bool → List (List ℕ) → Type 0) → List Vol1 → ℕ → List ℕ → List Told → Type 0
 IsSetOfImages H volumes capacity set_id told =

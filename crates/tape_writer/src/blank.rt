@@ -1,4 +1,4 @@
-//! Volumes without files: their labels, by a prefix and a number, and their images.
+//! Blank volumes: their labels, from a prefix and a number, and their images.
 ghost use Rattle.std.specs.Prelude.{◌≡◌, ◌<◌, ◌≤◌, ◌+◌, ◌++◌, ◌↔◌, length, IsSome, IfSome, IsTrue};
 ghost use Rattle.arrayvec.specs.ArrayVec.{array_vec_len};
 ghost use Rattle.tape_writer.specs.Blank.{IsPrefixByte, IsPrefix, volume_id, blank_volume};
@@ -7,20 +7,20 @@ ghost use Rattle.tape_writer.specs.Blank.{blank_image};
 use arrayvec::ArrayVec;
 use tape_label::{Field, Vol1, digits_of, write_vol1};
 
-/// How many bytes the image of a volume without files takes.
+/// The size of the image of a blank volume in bytes.
 pub const BLANK: usize = 100;
 
-/// The image of a volume without files.
+/// The image of a blank volume: one without files.
 pub type BlankImage = ArrayVec<u8, BLANK>;
 
-/// The three characters that the identifiers of a set's volumes begin with: `A` to `Z`, `0` to `9`.
+/// The first three characters of the identifiers of a set's volumes: `A` to `Z`, `0` to `9`.
 #[derive(Clone, Copy, PartialEq, Eq)]
 pub struct Prefix {
     pub characters: [u8; 3],
 }
 
 impl Prefix {
-    /// The prefix, if these are three such characters.
+    /// Returns the prefix, or `None` if the text is not three such characters.
     pub fn new(text: &str) -> Option<Prefix>
         ensures some { IsSome result ↔ IsPrefix text.now }
         ensures same { IfSome result (λ prefix. prefix.characters ≡ text.now) }
@@ -35,14 +35,15 @@ impl Prefix {
     }
 }
 
-/// Whether the byte is a capital letter or a digit.
+/// Returns true for a capital letter or a digit.
 fn is_prefix_byte(byte: u8) -> bool
     ensures { IsTrue result ↔ IsPrefixByte byte }
 {
     byte.is_ascii_uppercase() || byte.is_ascii_digit()
 }
 
-/// The volume with this number: its identifier, version 4, and spaces in all other fields.
+/// Returns the label of the volume with this number: its identifier, version 4, and spaces in all
+/// other fields.
 pub fn blank_volume(prefix: Prefix, number: u16) -> Vol1
     requires { number < 1000 }
     ensures { result ≡ blank_volume prefix.characters number }
@@ -56,7 +57,7 @@ pub fn blank_volume(prefix: Prefix, number: u16) -> Vol1
     }
 }
 
-/// The prefix, and the number in three digits.
+/// Returns the prefix followed by the number in three digits.
 fn volume_id(prefix: Prefix, number: u16) -> Field<6>
     requires { number < 1000 }
     ensures { result ≡ volume_id prefix.characters number }
@@ -66,7 +67,7 @@ fn volume_id(prefix: Prefix, number: u16) -> Field<6>
     Field::of_bytes([a, b, c, d, e, f])
 }
 
-/// The image of a volume without files: its label, two tape marks and the end word.
+/// Returns the image of a blank volume: its label, two tape marks and the end-of-medium marker.
 pub fn blank_image(volume: &Vol1) -> BlankImage
     ensures { result.items ≡ blank_image volume.now }
 {
@@ -79,7 +80,7 @@ pub fn blank_image(volume: &Vol1) -> BlankImage
     image
 }
 
-/// More bytes of an image.
+/// Appends bytes to an image.
 fn put(image: &mut BlankImage, bytes: &[u8])
     requires { array_vec_len image.old + length bytes.now ≤ 100 }
     ensures items { image.new.items ≡ image.old.items ++ bytes.now }

@@ -1,4 +1,5 @@
-//! What is written where the volume has room for it, and else on the next one.
+//! Writes blocks and ends files on the current volume if it has room, and otherwise on the next
+//! one.
 
 ghost use Rattle.std.specs.Prelude.{◌≡◌, ◌≢◌, ◌<◌, ◌≤◌, ◌+◌, List, ℕ, length, OnOk, IfErr, Err};
 ghost use Rattle.std.specs.Prelude.{true, false};
@@ -6,7 +7,6 @@ ghost use Rattle.std.specs.List.{AllByRecursion};
 ghost use Rattle.tape_image.specs.Tape.{IsTapeItem, block as block_item};
 ghost use Rattle.tape_label.specs.Widths.{IsWideVolume};
 ghost use Rattle.tape_blocks.specs.Tight.{Filled};
-ghost use Rattle.tape_blocks.specs.Packing.{longest_block};
 ghost use Rattle.tape_set.specs.Sizes.{item_size};
 ghost use Rattle.tape_writer.specs.declared.course.Course.{Course};
 ghost use Rattle.tape_writer.specs.Front.{HoldsFront};
@@ -23,7 +23,7 @@ use crate::out::TapeOut;
 use crate::tape::Tape;
 use tape_label::Vol1;
 
-/// The end of a volume inside a file: a mark, EOV1, EOV2, two marks and the end word.
+/// The end of a volume inside a file: a mark, EOV1, EOV2, two marks and the end-of-medium marker.
 const VOLUME_END: u32 = 192;
 
 /// The end of a file: a mark, EOF1, EOF2 and a mark.
@@ -33,7 +33,7 @@ const FILE_END: u32 = 184;
 const HEADERS: u32 = 180;
 
 impl<T: TapeOut> Tape<T> {
-    /// Whether so many bytes more fit the capacity.
+    /// Returns true if `more` bytes fit the capacity.
     fn has_room(&self, capacity: u32, more: u32) -> bool
         ensures yes { result ≡ true → self.now.course.used + more ≤ capacity }
         ensures no { result ≡ false → capacity < self.now.course.used + more }
@@ -41,27 +41,7 @@ impl<T: TapeOut> Tape<T> {
         u64::from(self.course.used) + u64::from(more) <= u64::from(capacity)
     }
 
-    /// Whether the volume has room for a block of these bytes and a volume end.
-    fn takes_block(&self, capacity: u32, bytes: &[u8]) -> bool
-        requires { length bytes.now ≤ longest_block }
-        ensures yes { result ≡ true
-            → self.now.course.used + item_size (block_item bytes.now) + 192 ≤ capacity }
-        ensures no { result ≡ false
-            → capacity < self.now.course.used + item_size (block_item bytes.now) + 192 }
-    {
-        let size = (8 + bytes.len() + bytes.len() % 2) as u32;
-        self.has_room(capacity, size + VOLUME_END)
-    }
-
-    /// Whether the volume has room for a file end, the headers of another file and a volume end.
-    fn takes_end(&self, capacity: u32) -> bool
-        ensures yes { result ≡ true → self.now.course.used + 184 + 372 ≤ capacity }
-        ensures no { result ≡ false → capacity < self.now.course.used + 184 + 372 }
-    {
-        self.has_room(capacity, FILE_END + HEADERS + VOLUME_END)
-    }
-
-    /// Writes a data block, behind a change of the volume where one is due.
+    /// Writes a data block, after a change of the volume if it does not fit.
     #[tactic(auto, using(crate::proofs::Last::kept))]
     pub(crate) fn write_block(
         &mut self,
@@ -82,7 +62,7 @@ impl<T: TapeOut> Tape<T> {
             self.old.course d
             → OnOk result (Grew (T.holds self.new.out) volumes.now capacity set_id file.now
             self.new.course d b) }
-        // So far as no volume was wanted that is not there: what is held is a front of the same.
+        // Unless a volume was needed and none was left: the tapes contain a prefix of the same.
         ensures front { (set_id : List ℕ) (d : Draft) (b : Filled) → b.bytes ≡ bytes.now
             → IsOpen (T.holds self.old.out) volumes.now capacity set_id file.now
             self.old.course d
@@ -102,7 +82,8 @@ impl<T: TapeOut> Tape<T> {
         ensures lasting { TapeLasts T.TapeOut self.old self.new }
         ensures cause { FailsWith (T.failures self.old.out) result (T.failures self.new.out) }
     {
-        if self.takes_block(capacity, bytes) {
+        let size = (8 + bytes.len() + bytes.len() % 2) as u32;
+        if self.has_room(capacity, size + VOLUME_END) {
             return self.add_block(bytes);
         }
         let Some(volume) = volumes.get(usize::from(self.course.volume)) else {
@@ -112,7 +93,7 @@ impl<T: TapeOut> Tape<T> {
         self.add_block(bytes)
     }
 
-    /// Ends the file, behind a change of the volume where one is due.
+    /// Ends the file, after a change of the volume if its end does not fit.
     #[tactic(auto, using(crate::proofs::Last::kept))]
     pub(crate) fn end_file(
         &mut self,
@@ -145,7 +126,7 @@ impl<T: TapeOut> Tape<T> {
         ensures lasting { TapeLasts T.TapeOut self.old self.new }
         ensures cause { FailsWith (T.failures self.old.out) result (T.failures self.new.out) }
     {
-        if self.takes_end(capacity) {
+        if self.has_room(capacity, FILE_END + HEADERS + VOLUME_END) {
             return self.end_section(file, true);
         }
         let Some(volume) = volumes.get(usize::from(self.course.volume)) else {

@@ -1,4 +1,4 @@
-//! Where the writer stands on the volumes.
+//! The writer's position on the volumes.
 
 ghost use Rattle.std.specs.Prelude.{◌≡◌};
 ghost use Rattle.tape_set.specs.Tight.{second_of};
@@ -11,13 +11,13 @@ use tape_label::{Head1, Head2};
 /// its shape.
 #[derive(Clone, Copy)]
 pub struct Opened {
-    /// What HDR1 tells of the file's first section.
+    /// The fields of HDR1 in the file's first section.
     pub head: Head1,
-    /// How its records stand in blocks.
+    /// How the file's blocks contain its records.
     pub shape: Shape,
 }
 
-/// The volume and the section under way.
+/// The current volume and section.
 #[derive(Clone, Copy)]
 pub struct Course {
     /// The volume's number, from 1; 0 before the first.
@@ -26,12 +26,12 @@ pub struct Course {
     pub sect: u16,
     /// How many data blocks the section has so far.
     pub count: u32,
-    /// How many bytes the volume takes as an image, so far.
+    /// How many bytes the volume takes as an image so far.
     pub used: u32,
 }
 
 impl Course {
-    /// Before the first volume.
+    /// Returns the position before the first volume.
     pub(crate) fn start() -> Course
         ensures { result ≡ record { volume = 0; sect = 0; count = 0; used = 0 } }
     {
@@ -45,14 +45,14 @@ impl Course {
 }
 
 impl Opened {
-    /// What HDR1 tells of this section.
+    /// Returns the fields of HDR1 in this section.
     pub(crate) fn head_at(&self, sect: u16) -> Head1
         ensures { result ≡ head_at_of self.now sect }
     {
         Head1 { sect, ..self.head }
     }
 
-    /// What HDR2 tells of each section.
+    /// Returns the fields of HDR2 in each section.
     pub(crate) fn second(&self) -> Head2
         ensures { result ≡ second_of self.now.shape }
     {

@@ -8,38 +8,38 @@ ghost use Rattle.tape_writer.specs.Faults.{IsOfOut};
 pub enum OutFault {
     /// The device failed.
     Device,
-    /// A growth was refused.
+    /// Memory was refused.
     OutOfMemory,
 }
 
 /// Why a call of a set writer was refused.
 ///
-/// After `OutOfVolumes`, `Device` and `OutOfMemory` every call answers `Failed`; every other fault
-/// leaves the writer as it was. Of several faults the first of this order is answered: `Failed`,
-/// `Finished`, `NoFile`, `FileBegun`, and then as they stand here.
+/// After `OutOfVolumes`, `Device` and `OutOfMemory` every call returns `Failed`; every other fault
+/// leaves the writer unchanged. If several faults apply, the first in this order is returned:
+/// `Failed`, `Finished`, `NoFile`, `FileBegun`, and then the order below.
 #[derive(Clone, Copy, Debug, PartialEq, Eq)]
 pub enum WriteFault {
-    /// A byte of a field that is written is no a-character (ECMA-13, 4th edition, characters).
+    /// A field contains a byte that is not an a-character (ECMA-13, 4th edition, characters).
     BadField,
     /// Blocks of this shape are not written.
     BadShape,
-    /// The capacity is less than the block length and 1,024 bytes together.
+    /// The capacity is less than the block length plus 1,024 bytes.
     CapacityTooSmall,
-    /// The record's length is none of its file's shape.
+    /// The record's length is not one of its file's shape.
     RecordLength,
-    /// There is no file to put to or to end, or the set has no file at all.
+    /// There is no current file, or the set has no file at all.
     NoFile,
     /// A file was begun and has not ended.
     FileBegun,
-    /// A change of the volume is due and no volume is left.
+    /// The volume must be changed and no volume is left.
     OutOfVolumes,
-    /// More than 9,999 volumes or files: the labels have four digits for their numbers.
+    /// More than 9,999 volumes or files: labels have four digits for their numbers.
     TooMany,
     /// The device failed in this call.
     Device,
-    /// A growth was refused in this call.
+    /// Memory was refused in this call.
     OutOfMemory,
-    /// An earlier call ended by `OutOfVolumes`, `Device` or `OutOfMemory`.
+    /// An earlier call returned `OutOfVolumes`, `Device` or `OutOfMemory`.
     Failed,
     /// The set was finished.
     Finished,
@@ -48,13 +48,13 @@ pub enum WriteFault {
 /// Why a set was not written from its inputs.
 #[derive(Clone, Copy, Debug, PartialEq, Eq)]
 pub enum SetFault {
-    /// The set writer refused a call; or the records could not be told to it, and this says why.
+    /// The set writer refused a call, or a record could not be passed to it for this reason.
     Write(WriteFault),
-    /// An input could not be read on.
+    /// An input could not be read further.
     ReadFailed,
 }
 
-/// The same fault, as the writer answers it.
+/// Returns the same fault of the writer.
 pub(crate) fn fault_of(fault: OutFault) -> WriteFault
     ensures device { result ≡ WriteFault.Device → fault ≡ OutFault.Device }
     ensures memory { result ≡ WriteFault.OutOfMemory → fault ≡ OutFault.OutOfMemory }

@@ -1,4 +1,4 @@
-//! Which fields are written.
+//! Checks the fields of labels.
 
 ghost use Rattle.std.specs.Prelude.{◌↔◌, IsTrue};
 ghost use Rattle.std.specs.List.{AllByRecursion};
@@ -8,14 +8,14 @@ ghost use Rattle.tape_writer.specs.Fields.{IsText, IsTextVolume, IsTextHead};
 use tape_label::laws::volume_widths;
 use tape_label::{Head1, Vol1, first_other};
 
-/// Whether each byte is an a-character.
+/// Returns true if each byte is an a-character.
 pub(crate) fn is_text(bytes: &[u8]) -> bool
     ensures { IsTrue result ↔ IsText bytes.now }
 {
     first_other(bytes).is_none()
 }
 
-/// Whether the volume's fields are a-characters. The version is written as it is given.
+/// Returns true if the volume's fields are a-characters. The version is written unchanged.
 fn is_text_volume(volume: &Vol1) -> bool
     ensures { IsTrue result ↔ IsTextVolume volume.now }
 {
@@ -25,7 +25,8 @@ fn is_text_volume(volume: &Vol1) -> bool
         && is_text(volume.owner.bytes())
 }
 
-/// Whether the head's fields are a-characters. The set identifier is replaced and not looked at.
+/// Returns true if the head's fields are a-characters. The set identifier is replaced, so it is not
+/// checked.
 pub(crate) fn is_text_head(head: &Head1) -> bool
     ensures { IsTrue result ↔ IsTextHead head.now }
 {
@@ -38,14 +39,15 @@ pub(crate) fn is_text_head(head: &Head1) -> bool
         && is_text(head.implementation.bytes())
 }
 
-/// Whether the fields of all volumes are a-characters.
+/// Returns true if the fields of all volumes are a-characters.
 pub(crate) fn are_text_volumes(volumes: &[Vol1]) -> bool
     ensures { IsTrue result ↔ AllByRecursion IsTextVolume volumes.now }
 {
     volumes.iter().all(|volume| is_text_volume(volume))
 }
 
-/// What the types of the volumes' fields say of their lengths, as a fact on the volumes.
+/// Turns the widths of the volumes' fields, which their types guarantee, into a fact about the
+/// list.
 pub(crate) fn tell_all_widths(volumes: &[Vol1])
     ensures { AllByRecursion IsWideVolume volumes.now }
 {

@@ -1,4 +1,4 @@
-//! Files and the set, begun and ended.
+//! Begins and ends files, and ends the set.
 
 ghost use Rattle.std.specs.Prelude.{◌≡◌, ◌≢◌, ◌≤◌, ◌+◌, ◌++◌, ◌∷◌, [], ℕ, List, length, OnOk};
 ghost use Rattle.std.specs.Prelude.{IfErr};
@@ -19,14 +19,14 @@ ghost use Rattle.tape_writer.specs.Inside.{IsBetween, IsFiling, IsWaiting, IsStu
 ghost use Rattle.tape_writer.specs.Inside.{IfNext};
 
 use crate::course::Opened;
-use crate::fault::WriteFault;
+use crate::fault::{WriteFault, fault_of};
 use crate::out::TapeOut;
-use crate::records::flush_last;
+use crate::records::flush;
 use crate::tape::Tape;
 use tape_blocks::Packer;
 use tape_label::Vol1;
 
-/// Ends the file, behind its last block.
+/// Writes the file's last block, and ends the file.
 #[tactic(auto, using(crate::proofs::Last::kept))]
 pub(crate) fn close_file<T: TapeOut>(
     tape: &mut Tape<T>,
@@ -62,11 +62,11 @@ pub(crate) fn close_file<T: TapeOut>(
     ensures lasting { TapeLasts T.TapeOut tape.old tape.new }
     ensures cause { FailsWith (T.failures tape.old.out) result (T.failures tape.new.out) }
 {
-    flush_last(tape, packer, file, volumes, capacity)?;
+    flush(tape, packer, file, volumes, capacity)?;
     tape.end_file(file, volumes, capacity)
 }
 
-/// Begins a file, and before the first file a volume.
+/// Begins a file, and before the first file the first volume.
 #[tactic(auto, using(crate::proofs::Last::kept))]
 pub(crate) fn begin<T: TapeOut>(
     tape: &mut Tape<T>,
@@ -99,7 +99,7 @@ pub(crate) fn begin<T: TapeOut>(
     tape.begin_section(file, 1)
 }
 
-/// Ends the last volume: its second mark, and the end word.
+/// Ends the last volume: its second mark, and the end-of-medium marker.
 #[tactic(auto, using(crate::proofs::Last::kept))]
 pub(crate) fn end_set<T: TapeOut>(
     tape: &mut Tape<T>,
@@ -128,5 +128,9 @@ pub(crate) fn end_set<T: TapeOut>(
     ensures cause { FailsWith (T.failures tape.old.out) result (T.failures tape.new.out) }
 {
     tape.mark()?;
-    tape.close()
+    if let Err(fault) = tape.out.close() {
+        return Err(fault_of(fault));
+    }
+    tape.course.used += 4;
+    Ok(())
 }

@@ -14,15 +14,14 @@ use std::marker::Model;
 use tape_image::ImageWriter;
 use tape_label::Vol1;
 
-/// Writes each volume as an image in the form of "SIMH Magtape Representation and Handling": its
-/// items and the end word.
+/// Writes each volume as an image in the format of "SIMH Magtape Representation and Handling": its
+/// items and the end-of-medium marker.
 ///
-/// It holds the image of the volume under way and no other. One that has ended is flushed and
-/// handed to the store before the next volume begins, so no later failure can cost it.
+/// Keeps only the image of the current volume. When a volume ends, its image is flushed and passed
+/// to the store before the next one begins, so that no later failure can affect it.
 ///
-/// `Device` is answered where an image writer refuses, where no volume is under way, and where
-/// the store has no device for one more volume; behind it no further volume begins. It takes no
-/// memory.
+/// Returns `Device` if an image writer refuses, if there is no current volume, and if the store has
+/// no device for one more; after that no further volume begins. Does not allocate.
 #[derive(Drop)]
 pub struct ImageTapes<S: ImageStore + Drop> {
     store: S,
@@ -46,7 +45,7 @@ impl<S: ImageStore + Drop> Model for ImageTapes<S> {
 }
 
 impl<S: ImageStore + Drop> ImageTapes<S> {
-    /// No volume yet. The store was handed no image so far.
+    /// Creates a writer without a volume yet. The store must not have received an image.
     pub fn new(store: S) -> Self
         ensures store { result.store ≡ store }
         ensures image { result.image ≡ None }
@@ -60,12 +59,12 @@ impl<S: ImageStore + Drop> ImageTapes<S> {
         }
     }
 
-    /// Gives back the store, which was handed the images that ended, and the image of the volume
-    /// that is under way, if there is one.
+    /// Returns the store, which received the images that ended, and the image of the current
+    /// volume, if there is one.
     pub fn into_parts(self) -> (S, Option<ImageWriter<S::Device>>)
         ensures store { result.0 ≡ self.store }
         ensures image { result.1 ≡ self.image }
-        // Where a call failed the store has no device left, or the image takes no more.
+        // If a call failed, the store has no device left, or the image accepts nothing more.
         ensures stopped { 0 < self.failed → HasStopped (S.left result.0) result.1 }
     {
         let ImageTapes { store, image, .. } = self;
@@ -85,7 +84,7 @@ impl<S: ImageStore + Drop> ImageTapes<S> {
         OutFault::Device
     }
 
-    /// Whether there is a device for one more volume. Where a call failed there is no next one.
+    /// Returns true if there is a device for one more volume. After a failed call there is none.
     fn has_next(&self) -> bool
         ensures yes { OnTrue result ((self.now.failed ≡ 0) × (0 < S.left self.now.store)) }
         ensures no { OnFalse result ((0 < self.now.failed) ⊎ (S.left self.now.store ≡ 0)) }
@@ -94,7 +93,7 @@ impl<S: ImageStore + Drop> ImageTapes<S> {
         self.failed == 0 && self.store.left() > 0
     }
 
-    /// Ends the image of the volume under way, if there is one, and hands it on.
+    /// Ends the image of the current volume, if there is one, and passes it to the store.
     fn end_image(&mut self) -> Result<(), OutFault>
         ensures ok { Closes (Holds S.holds self.old) result (Holds S.holds self.new) }
         ensures err { Keeps (Holds S.holds self.old) result (Holds S.holds self.new) }
@@ -150,8 +149,8 @@ impl<S: ImageStore + Drop> TapeOut for ImageTapes<S> {
     }
 
     fn change_volume(&mut self, volume: &Vol1) -> Result<(), OutFault> {
-        // Looked at first: a volume that ends for want of the next one would be changed by a
-        // refusal.
+        // Checked first: otherwise a refusal because of the next volume would already have ended
+        // this one.
         if !self.has_next() {
             return Err(self.fail());
         }

@@ -1,4 +1,4 @@
-//! Sets written from inputs: each input is cut into the records of a file.
+//! Writes sets from inputs: each input is cut into the records of a file.
 mod chunk;
 mod cut;
 mod files;

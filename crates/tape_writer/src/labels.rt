@@ -9,7 +9,7 @@ use crate::course::Opened;
 use tape_label::{Kind, Trail1, Vol1, write_head1, write_head2, write_trail1, write_vol1};
 use tape_set::label_count;
 
-/// VOL1.
+/// Returns VOL1.
 #[tactic(auto, unfolding(crate::specs::Labels::volume_label))]
 pub(crate) fn volume_label(volume: &Vol1) -> [u8; 80]
     ensures { result ≡ volume_label volume.now }
@@ -17,7 +17,7 @@ pub(crate) fn volume_label(volume: &Vol1) -> [u8; 80]
     write_vol1(volume)
 }
 
-/// HDR1 of this section.
+/// Returns HDR1 of this section.
 #[tactic(auto, unfolding(crate::specs::Labels::first_label))]
 pub(crate) fn first_label(file: &Opened, sect: u16) -> [u8; 80]
     requires ready { IsReady file.now }
@@ -28,7 +28,7 @@ pub(crate) fn first_label(file: &Opened, sect: u16) -> [u8; 80]
     write_head1(&file.head_at(sect))
 }
 
-/// HDR2, EOF2 or EOV2.
+/// Returns HDR2, EOF2 or EOV2.
 #[tactic(auto, unfolding(crate::specs::Labels::second_label))]
 pub(crate) fn second_label(file: &Opened, kind: Kind) -> [u8; 80]
     requires ready { IsReady file.now }
@@ -38,7 +38,7 @@ pub(crate) fn second_label(file: &Opened, kind: Kind) -> [u8; 80]
     write_head2(&file.second(), kind)
 }
 
-/// EOF1 or EOV1 of a section with so many data blocks.
+/// Returns EOF1 or EOV1 of a section with this number of data blocks.
 #[tactic(auto, unfolding(crate::specs::Labels::trailer_label))]
 pub(crate) fn trailer_label(file: &Opened, sect: u16, count: u32, eof: bool) -> [u8; 80]
     requires ready { IsReady file.now }
@@ -53,7 +53,7 @@ pub(crate) fn trailer_label(file: &Opened, sect: u16, count: u32, eof: bool) -> 
     })
 }
 
-/// EOF2 where the file ends, EOV2 where it goes on.
+/// Returns EOF2 if the file ends, EOV2 if it continues.
 pub(crate) fn second_kind(eof: bool) -> Kind
     ensures is { result ≡ second_kind eof }
     ensures second { IsSecond result }

@@ -1,4 +1,4 @@
-//! Laws of the definitions that the contracts cite, each as the contract of a call that does
+//! Laws of the definitions that the contracts cite, each as the contract of a function that does
 //! nothing.
 
 ghost use Rattle.tape_writer.specs.Cases.{CasesOfTapes, CasesOfImages, CasesOfSets};
@@ -9,8 +9,8 @@ ghost use Rattle.tape_writer.specs.CasesOfFronts.{CasesOfFronts};
 ghost use Rattle.tape_writer.specs.CasesOfDrafts.{CasesOfDrafts, CasesOfInside};
 ghost use Rattle.tape_writer.specs.CasesOfHolding.{CasesOfHolding};
 
-/// What the definitions of tapes and images, of what was told and written, of refusals, of inputs,
-/// of what is left and of bytes held before a device say of cases: each says all that it should.
+/// Test cases for the definitions of tapes and images, of the files passed and written, of faults,
+/// of inputs, of unfinished images and of write buffers: each definition says all that it should.
 pub fn cases()
     ensures tapes { CasesOfTapes }
     ensures images { CasesOfImages }

@@ -1,4 +1,4 @@
-//! File sets written on labelled tape volumes: records in, volumes out.
+//! Writes file sets on labelled tape volumes: records in, volumes out.
 #![tactic(auto)]
 
 mod blank;

@@ -12,7 +12,7 @@ use std::marker::Model;
 use tape_image::Item;
 use tape_label::Vol1;
 
-/// An item that is kept.
+/// An item in memory.
 #[derive(Drop)]
 enum Kept {
     /// A block.
@@ -21,7 +21,7 @@ enum Kept {
     Mark,
 }
 
-/// The n-th element, counted from 0.
+/// Returns element number `n`, counted from 0.
 fn nth<T>(elements: &[T], n: usize) -> Option<&T>
     ensures { option_copied result ≡ slice_get elements.now n }
 {
@@ -30,8 +30,8 @@ fn nth<T>(elements: &[T], n: usize) -> Option<&T>
 
 /// Keeps the volumes in memory.
 ///
-/// What it holds is what `count`, `length` and `item` tell. `Device` is answered where no volume is
-/// under way.
+/// `count`, `length` and `item` return its contents. Returns `Device` if there is no current
+/// volume.
 #[derive(Drop)]
 pub struct MemoryTapes {
     alloc: Global,
@@ -58,7 +58,7 @@ impl Model for MemoryTapes {
 impl MemoryTapes {
     ghost use Rattle.tape_writer.specs.Kept.{volume_of};
 
-    /// No volumes.
+    /// Creates it without volumes.
     pub fn new(alloc: Global) -> Self
         ensures { result ≡ record { tapes = Ended []; misused = 0; refused = 0 } }
     {
@@ -71,7 +71,7 @@ impl MemoryTapes {
         }
     }
 
-    /// How many volumes there are, the one under way too.
+    /// Returns how many volumes there are, including the current one.
     pub fn count(&self) -> usize
         ensures { result ≡ length (all_volumes self.now.tapes) }
     {
@@ -81,7 +81,7 @@ impl MemoryTapes {
         }
     }
 
-    /// How many items stand on this volume, counted from 0; 0 where there is none.
+    /// Returns how many items this volume has, counted from 0; 0 if there is no such volume.
     #[tactic(auto, using(crate::proofs::Closing::kept_length))]
     pub fn length(&self, volume: usize) -> usize
         ensures { result ≡ length (volume_at self.now.tapes volume) }
@@ -89,7 +89,7 @@ impl MemoryTapes {
         self.items(volume).len()
     }
 
-    /// The item at this place of this volume, both counted from 0.
+    /// Returns the item with this number of this volume, both counted from 0.
     #[tactic(auto, using(crate::proofs::Closing::kept_item))]
     pub fn item(&self, volume: usize, place: usize) -> Option<Item<'_>>
         ensures { option_map tape_item result
@@ -102,7 +102,7 @@ impl MemoryTapes {
         }
     }
 
-    /// The items of this volume, counted from 0; none where there is no such volume.
+    /// Returns the items of this volume, counted from 0; none if there is no such volume.
     fn items(&self, volume: usize) -> &[Kept]
         ensures { volume_of result.now ≡ volume_at self.now.tapes volume }
     {
@@ -112,7 +112,7 @@ impl MemoryTapes {
         }
     }
 
-    /// This volume, counted from 0.
+    /// Returns this volume, counted from 0.
     fn volume(&self, volume: usize) -> Option<&Vec<Kept>>
         ensures { option_map (λ v. volume_of v.items) (option_copied result)
             ≡ slice_get (all_volumes self.now.tapes) volume }
@@ -126,7 +126,7 @@ impl MemoryTapes {
         nth(self.ended.as_slice(), volume)
     }
 
-    /// Counts a call that no volume was there for.
+    /// Counts a call without a current volume.
     fn misuse(&mut self) -> OutFault
         ensures fault { result ≡ OutFault.Device }
         ensures counted { Rose self.old.misused self.new.misused }
@@ -138,7 +138,7 @@ impl MemoryTapes {
         OutFault::Device
     }
 
-    /// Counts a growth that was refused.
+    /// Counts a refusal of memory.
     fn refuse(&mut self) -> OutFault
         ensures fault { result ≡ OutFault.OutOfMemory }
         ensures counted { Rose self.old.refused self.new.refused }

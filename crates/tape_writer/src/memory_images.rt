@@ -36,11 +36,11 @@ pub struct MemoryImages {
 }
 
 impl MemoryImages {
-    /// No image yet, and devices for so many.
+    /// Creates it without an image, and with `count` devices.
     ///
     /// # Errors
     ///
-    /// `AllocError` where there is no memory for a list of so many.
+    /// `AllocError` if there is no memory for a list of `count` images.
     pub fn new(alloc: Global, count: usize) -> Result<Self, AllocError>
         ensures left { IfOk result (λ images. images.left ≡ count) }
         ensures held { IfOk result (λ images. HoldsImages (map (λ v. v.items) images.images.items)
@@ -54,7 +54,7 @@ impl MemoryImages {
         })
     }
 
-    /// The images that ended, in their order.
+    /// Returns the images that ended, in order.
     pub fn into_images(self) -> Vec<Vec<u8>>
         ensures { result.items ≡ self.images.items }
     {

@@ -9,22 +9,22 @@ ghost use Rattle.tape_writer.specs.Tapes.{Failures, Grows};
 use crate::fault::OutFault;
 use tape_label::Vol1;
 
-/// Takes the items of volumes, one volume after another.
+/// Receives the items of volumes, one volume after another.
 ///
-/// A call that is refused changes nothing of what is held. Any failure of a device is `Device`, an
-/// interruption too.
+/// A call that is refused does not change the contents. Any failure of a device is `Device`,
+/// including an interruption.
 pub trait TapeOut {
-    /// Whether it holds these volumes. One that cannot be believed holds none at all.
+    /// Relates the value to the volumes it contains. An untrusted one satisfies it for no volumes.
     ghost holds: { Self → Tapes → Type 0 };
 
-    /// How many calls the device failed, and how many growths were refused, each up to 2^64 - 1.
+    /// How many calls the device failed, and how often memory was refused, each up to 2^64 - 1.
     ghost failures: { Self → Failures };
 
-    /// Whether the change of the volume that was made last named the volume with this label. Tapes
-    /// that keep no labels say so of each.
+    /// Whether the last change of the volume was called with this label. Tapes that do not keep
+    /// labels satisfy it for each.
     ghost asked: { Self → Vol1 → Type 0 };
 
-    /// Appends a block of 1 to 99,999 bytes to the volume under way.
+    /// Appends a block of 1 to 99,999 bytes to the current volume.
     fn block(&mut self, bytes: &[u8]) -> Result<(), OutFault>
         requires sized { IsTapeItem (block bytes.now) }
         ensures ok { Takes (block bytes.now ∷ []) (holds self.old) result (holds self.new) }
@@ -34,7 +34,7 @@ pub trait TapeOut {
             (failures self.old) result (failures self.new) }
         ensures asked { (v : Vol1) → asked self.old v → asked self.new v };
 
-    /// Appends a tape mark to the volume under way.
+    /// Appends a tape mark to the current volume.
     fn mark(&mut self) -> Result<(), OutFault>
         ensures ok { Takes (mark ∷ []) (holds self.old) result (holds self.new) }
         ensures err { Keeps (holds self.old) result (holds self.new) }
@@ -43,8 +43,8 @@ pub trait TapeOut {
             (failures self.old) result (failures self.new) }
         ensures asked { (v : Vol1) → asked self.old v → asked self.new v };
 
-    /// Ends the volume under way, if there is one, and begins the next, which this label names. The
-    /// label itself is written by `block`.
+    /// Ends the current volume, if there is one, and begins the next, with this label. The label
+    /// itself is written by `block`.
     fn change_volume(&mut self, volume: &Vol1) -> Result<(), OutFault>
         ensures ok { Changes [] (holds self.old) result (holds self.new) }
         ensures err { Keeps (holds self.old) result (holds self.new) }
@@ -53,7 +53,7 @@ pub trait TapeOut {
             (failures self.old) result (failures self.new) }
         ensures asked { OnOk result (asked self.new volume.now) };
 
-    /// Ends the volume under way, if there is one.
+    /// Ends the current volume, if there is one.
     fn close(&mut self) -> Result<(), OutFault>
         ensures ok { Closes (holds self.old) result (holds self.new) }
         ensures err { Keeps (holds self.old) result (holds self.new) }

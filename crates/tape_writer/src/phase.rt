@@ -1,26 +1,26 @@
-//! What a set writer does at present.
+//! The state of a set writer.
 
 use crate::course::Opened;
 use tape_blocks::Packer;
 
-/// The file under way, with the block under way.
+/// The current file, with its current block.
 #[derive(Drop)]
 pub struct OpenFile {
     /// Its head and shape.
     pub file: Opened,
-    /// What packs its records.
+    /// Packs its records.
     pub packer: Packer,
 }
 
-/// What a set writer does at present.
+/// The state of a set writer.
 #[derive(Drop)]
 pub enum Phase {
-    /// Before the first file, or between two.
+    /// Before the first file, or between two files.
     Between,
     /// Inside a file.
     Filing(OpenFile),
-    /// Nothing any more: a call failed.
+    /// A call failed, and every further call is refused.
     Failed,
-    /// Nothing any more: the set is whole.
+    /// The set is complete, and every further call is refused.
     Finished,
 }

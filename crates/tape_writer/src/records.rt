@@ -1,4 +1,4 @@
-//! Records put in the blocks of a file.
+//! Writes records into the blocks of a file.
 
 ghost use Rattle.std.specs.Prelude.{◌≡◌, ◌≢◌, ◌<◌, ◌≤◌, ◌++◌, ◌∷◌, [], length, OnOk};
 ghost use Rattle.std.specs.Prelude.{IfErr, Ok};
@@ -7,13 +7,13 @@ ghost use Rattle.std.specs.List.{AllByRecursion};
 ghost use Rattle.tape_blocks.specs.Packing.{emptied, HasRecordLength};
 ghost use Rattle.tape_set.specs.Tight.{least_capacity};
 ghost use Rattle.tape_writer.specs.declared.course.Course.{Course};
-ghost use Rattle.tape_writer.specs.Front.{HoldsFront, IsMidRecord, IsPartly};
+ghost use Rattle.tape_writer.specs.Front.{HoldsFront, IsMidRecord};
 ghost use Rattle.tape_writer.specs.Lasting.{TapeLasts, StaysAsked};
 ghost use Rattle.tape_writer.specs.Faults.{FailsWith, IsEnding};
 ghost use Rattle.tape_label.specs.Widths.{IsWideVolume};
 ghost use Rattle.tape_writer.specs.Labels.{IsReady};
 ghost use Rattle.tape_writer.specs.Draft.{IsRoomy};
-ghost use Rattle.tape_writer.specs.Inside.{IsInside, Flushed, IsFlat, IsStuck, IsLeftOut, IfInside};
+ghost use Rattle.tape_writer.specs.Inside.{IsInside, Flushed, IsStuck, IsLeftOut, IfInside};
 ghost use Rattle.tape_writer.specs.Inside.{IfOpen};
 ghost use Rattle.tape_writer.specs.Room.{room_of};
 
@@ -24,9 +24,9 @@ use crate::tape::Tape;
 use tape_blocks::{Offer, Packer};
 use tape_label::Vol1;
 
-/// Writes the block under way, if there is one.
+/// Writes the current block, if there is one.
 #[tactic(auto, using(crate::proofs::Last::kept))]
-fn flush<T: TapeOut>(
+pub(crate) fn flush<T: TapeOut>(
     tape: &mut Tape<T>,
     packer: &mut Packer,
     file: &Opened,
@@ -65,7 +65,7 @@ fn flush<T: TapeOut>(
     }
 }
 
-/// Puts a record in the file: each block is written when it is ready.
+/// Writes a record into the file: each block is written when it is ready.
 #[tactic(auto, using(crate::proofs::Last::kept))]
 pub(crate) fn put_record<T: TapeOut>(
     tape: &mut Tape<T>,
@@ -101,12 +101,12 @@ pub(crate) fn put_record<T: TapeOut>(
         → IfInside T.TapeOut volumes.now capacity file.now tape.old packer.old
         (λ set_id fs records. IsStuck (T.holds tape.new.out) volumes.now capacity set_id
         file.now tape.new.course fs (records ++ whole.now ∷ []))) }
-    // Whatever the fault: what is held is a front of the record's writing.
+    // Whatever the fault: the tapes contain a prefix of what is written for the record.
     ensures front { IfInside T.TapeOut volumes.now capacity file.now tape.old packer.old
         (λ set_id fs records. IfErr result (λ fault. IsEnding fault → (course : Course)
         × IsMidRecord (HoldsFront (T.holds tape.new.out)) volumes.now capacity set_id file.now
         course fs (records ++ whole.now ∷ []))) }
-    // So no input keeps a writer for ever.
+    // So no infinite input can keep the writer busy forever.
     ensures room { OnOk result (room_of (length volumes.now) capacity tape.new.course packer.new
         < room_of (length volumes.now) capacity tape.old.course packer.old) }
     ensures asked { StaysAsked T.TapeOut volumes.now tape.old result tape.new }
@@ -125,39 +125,4 @@ pub(crate) fn put_record<T: TapeOut>(
             }
         }
     }
-}
-
-/// Writes the last block of the file, if there is one.
-#[tactic(auto, using(crate::proofs::Last::kept))]
-pub(crate) fn flush_last<T: TapeOut>(
-    tape: &mut Tape<T>,
-    packer: &mut Packer,
-    file: &Opened,
-    volumes: &[Vol1],
-    capacity: u32,
-) -> Result<(), WriteFault>
-    requires ready { IsReady file.now }
-    requires wide { AllByRecursion IsWideVolume volumes.now }
-    requires roomy { IsRoomy capacity (length volumes.now) tape.old.course }
-    requires volumes { length volumes.now ≤ 9999 }
-    requires capacity { least_capacity file.now.shape ≤ capacity }
-    requires shape { packer.old.shape ≡ file.now.shape }
-    ensures roomy { OnOk result (IsRoomy capacity (length volumes.now) tape.new.course) }
-    ensures flat { IfInside T.TapeOut volumes.now capacity file.now tape.old packer.old
-        (λ set_id fs records. OnOk result (IsFlat (T.holds tape.new.out) volumes.now capacity
-        set_id file.now tape.new.course fs records)) }
-    ensures front { IfInside T.TapeOut volumes.now capacity file.now tape.old packer.old
-        (λ set_id fs records. IfErr result (λ _. (course : Course)
-        × IsPartly (HoldsFront (T.holds tape.new.out)) volumes.now capacity set_id file.now course
-        fs records)) }
-    ensures asked { StaysAsked T.TapeOut volumes.now tape.old result tape.new }
-    ensures ending { IfErr result IsEnding }
-    ensures stuck { IfErr result (λ fault. fault ≡ WriteFault.OutOfVolumes
-        → IfInside T.TapeOut volumes.now capacity file.now tape.old packer.old
-        (λ set_id fs records. IsStuck (T.holds tape.new.out) volumes.now capacity set_id
-        file.now tape.new.course fs records)) }
-    ensures lasting { TapeLasts T.TapeOut tape.old tape.new }
-    ensures cause { FailsWith (T.failures tape.old.out) result (T.failures tape.new.out) }
-{
-    flush(tape, packer, file, volumes, capacity)
 }

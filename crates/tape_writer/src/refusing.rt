@@ -8,7 +8,7 @@ use crate::fault::OutFault;
 use crate::out::TapeOut;
 use tape_label::Vol1;
 
-/// Passes calls on, but for one, which it refuses as a failing device does.
+/// Forwards all calls but one, which it refuses like a failing device.
 #[derive(Drop)]
 pub struct Refusing<T> {
     inner: T,
@@ -17,7 +17,7 @@ pub struct Refusing<T> {
 }
 
 impl<T: TapeOut> Refusing<T> {
-    /// Refuses the call after the next `left`.
+    /// Creates one that refuses the call after the next `left`.
     pub fn new(inner: T, left: usize) -> Self
         ensures inner { result.inner ≡ inner }
         ensures left { result.left ≡ left }
@@ -30,14 +30,14 @@ impl<T: TapeOut> Refusing<T> {
         }
     }
 
-    /// What the calls were passed on to.
+    /// Returns the tapes that the calls are forwarded to.
     pub fn inner(&self) -> &T
         ensures { result.now ≡ self.now.inner }
     {
         &self.inner
     }
 
-    /// Whether this call is the one.
+    /// Returns true if this is the call to refuse.
     fn is_refused(&mut self) -> bool
         ensures when { MatchBool result (self.old.left ≡ 0) (self.old.left ≡ self.new.left + 1) }
         ensures inner { self.new.inner ≡ self.old.inner }

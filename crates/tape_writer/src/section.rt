@@ -1,4 +1,4 @@
-//! Sections begun and ended.
+//! Begins and ends sections.
 
 ghost use Rattle.std.specs.Prelude.{◌≡◌, ◌≤◌, ◌+◌, ◌++◌, List, OnOk, IfErr};
 ghost use Rattle.tape_image.specs.Begins.{image_limit};
@@ -50,7 +50,7 @@ impl<T: TapeOut> Tape<T> {
         Ok(())
     }
 
-    /// Ends the section, and with it the file where `eof` is true: a mark, two labels, a mark.
+    /// Ends the section, and the file if `eof` is true: a mark, two labels, a mark.
     #[tactic(auto, using(crate::proofs::Last::lasting_then, crate::proofs::Last::rose_from))]
     pub(crate) fn end_section(&mut self, file: &Opened, eof: bool) -> Result<(), WriteFault>
         requires ready { IsReady file.now }

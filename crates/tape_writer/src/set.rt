@@ -20,20 +20,21 @@ use std::alloc::Global;
 use std::marker::Model;
 use tape_label::{Field, Vol1};
 
-/// The most volumes of a set: the labels have four digits for a section's number.
+/// The maximum number of volumes of a set: labels have four digits for a section's number.
 const MOST_VOLUMES: usize = 9_999;
 
-/// Writes a file set on volumes of one capacity, from the first record to the last volume's end
-/// (ECMA-13, 4th edition: the order of labels and tape marks on volumes, file sections).
+/// Writes a file set on volumes of one capacity, from the first record to the end of the last
+/// volume (ECMA-13, 4th edition: the order of labels and tape marks on volumes, file sections).
 ///
-/// Files are begun, given records and ended, one behind the other. The writer writes all labels,
-/// packs the records into blocks, and changes the volume where a block or a file end does not fit.
-/// It holds one block; of the files that ended it keeps the heads and shapes.
+/// The caller begins each file, puts its records, and ends it, one file after another. The writer
+/// writes all labels, packs the records into blocks, and changes the volume if a block or the end
+/// of a file does not fit. It keeps one block in memory, and the heads and shapes of the files that
+/// ended.
 ///
-/// What it promises of the volumes: they are those of a lawful file set whose files, in order, have
-/// the heads and shapes given and join to exactly the records given, and which is as tight as
-/// blocks and capacity allow. No volume is longer than the capacity, its end word included, and no
-/// call changes a volume that has ended.
+/// Its contracts promise that the volumes are those of a valid file set: its files, in order, have
+/// the heads and shapes passed and join to exactly the records passed, and it is as tight as blocks
+/// and capacity allow. No volume is longer than the capacity, including its end-of-medium marker,
+/// and no call changes a volume that has ended.
 #[derive(Drop)]
 pub struct SetWriter<T: TapeOut + Drop> {
     alloc: Global,
@@ -63,7 +64,7 @@ impl<T: TapeOut + Drop> Model for SetWriter<T> {
     ghost invariant = { λ w. IsSound w.volumes.items w.capacity w.tape.course w.phase };
 }
 
-/// Why there is no writer. What it was to write to is handed back.
+/// Why there is no writer, with the output that was passed.
 #[derive(Drop)]
 pub struct RefusedWriter<T: TapeOut + Drop> {
     pub fault: WriteFault,
@@ -73,15 +74,15 @@ pub struct RefusedWriter<T: TapeOut + Drop> {
 impl<T: TapeOut + Drop> SetWriter<T> {
     ghost use Rattle.tape_writer.specs.declared.phase.Phase.TheVariants.{Between};
 
-    /// A writer of the set with this identifier on these volumes, in their order, each an image of
-    /// at most `capacity` bytes. It takes no memory, and nothing is written. `out` holds no volume
-    /// yet.
+    /// Creates a writer of the set with this identifier on these volumes, in order, each an image
+    /// of at most `capacity` bytes. Does not allocate, and writes nothing. `out` must not contain a
+    /// volume yet.
     ///
     /// # Errors
     ///
-    /// `BadField` where the set identifier, or a field of a volume but its version, holds a byte
-    /// that is no a-character; `OutOfVolumes` where there is no volume; `TooMany` for more than
-    /// 9,999. A refusal hands `out` back, and drops the labels.
+    /// `BadField` if the set identifier, or a field of a volume other than its version, contains a
+    /// byte that is not an a-character; `OutOfVolumes` if there is no volume; `TooMany` for more
+    /// than 9,999. A refusal returns `out`, and drops the labels.
     pub fn new(
         alloc: Global,
         set_id: Field<6>,
@@ -110,7 +111,7 @@ impl<T: TapeOut + Drop> SetWriter<T> {
           course = record { volume = 0; sect = 0; count = 0; used = 0 };
           phase = Between;
         }) }
-        // Nothing was told so far.
+        // No file was passed so far.
         ensures told { T.holds out (Ended []) → IfOk result (λ w. IsWriting (T.holds w.out) w []) }
         ensures asked { IfOk result (λ w. HasAsked T.TapeOut w) }
     {
@@ -120,7 +121,7 @@ impl<T: TapeOut + Drop> SetWriter<T> {
         Ok(SetWriter::judged(alloc, set_id, volumes, capacity, out))
     }
 
-    /// A writer of the set with this identifier on these volumes, on which it can be written.
+    /// Creates a writer of the set with this identifier on these volumes, after they were checked.
     pub(crate) fn judged(
         alloc: Global,
         set_id: Field<6>,
@@ -157,22 +158,23 @@ impl<T: TapeOut + Drop> SetWriter<T> {
         }
     }
 
-    /// How many bytes the volume begun last takes as an image so far: 0 before the first file, with
-    /// the end word after `finish`, and after a failure those of what was taken of it.
+    /// Returns how many bytes the current or last volume takes as an image so far: 0 before the
+    /// first file, including the end-of-medium marker after `finish`, and after a failure as many
+    /// as were accepted.
     pub fn used(&self) -> u32
         ensures { result ≡ self.now.course.used }
     {
         self.tape.course.used
     }
 
-    /// What is written to.
+    /// Borrows the output.
     pub fn out(&self) -> &T
         ensures { result.now ≡ self.now.out }
     {
         &self.tape.out
     }
 
-    /// Gives back what was written to.
+    /// Returns the output.
     pub fn into_out(self) -> T
         ensures { result ≡ self.out }
     {
@@ -181,7 +183,7 @@ impl<T: TapeOut + Drop> SetWriter<T> {
         out
     }
 
-    /// Gives back what was written to, and the volumes' labels.
+    /// Returns the output and the volumes' labels.
     pub fn into_parts(self) -> (T, Vec<Vol1>)
         ensures out { result.0 ≡ self.out }
         ensures volumes { result.1.items ≡ self.volumes }
@@ -192,7 +194,7 @@ impl<T: TapeOut + Drop> SetWriter<T> {
     }
 }
 
-/// Whether a set with this identifier can be written on these volumes.
+/// Checks that a set with this identifier can be written on these volumes.
 pub(crate) fn judge_set(set_id: &Field<6>, volumes: &[Vol1]) -> Result<(), WriteFault>
     ensures field { (IsText set_id.now × AllByRecursion IsTextVolume volumes.now → ⊥)
         → result ≡ Err WriteFault.BadField }

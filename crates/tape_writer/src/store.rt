@@ -1,4 +1,4 @@
-//! Where images go.
+//! Where images are stored.
 
 ghost use Rattle.std.specs.Prelude.{◌≡◌, ◌<◌, ◌++◌, ◌∷◌, [], ℕ, List, Bool, true, false, Some};
 ghost use Rattle.std.specs.Prelude.{IsSome, IfSome};
@@ -7,30 +7,30 @@ ghost use Rattle.tape_label.specs.declared.values.Vol1.{Vol1};
 use std::io::Write;
 use tape_label::Vol1;
 
-/// Has a device for each image, one after another, and takes the images that have ended.
+/// Lends a device for each image, one after another, and receives the images that have ended.
 ///
-/// One device at a time is lent: an image comes back whole before the next device is asked for.
+/// Only one device is lent at a time: its image is returned before the next device is requested.
 pub trait ImageStore {
-    /// What an image is written to.
+    /// The device that an image is written to.
     type Device: Write + Drop;
 
-    /// Whether it was handed just these images, in this order, and whether the device of one more
-    /// is lent. One that cannot be believed was handed none at all.
+    /// Relates the store to exactly the images it received, in order, and to whether one more
+    /// device is lent. An untrusted store satisfies it for no images.
     ghost holds: { Self → Bool → List (List ℕ) → Type 0 };
 
     /// For how many more images it has a device.
     ghost left: { Self → ℕ };
 
-    /// Whether the device that was lent last was asked for by this label. A store that keeps no
-    /// labels says so of each.
+    /// Whether the last device was requested with this label. A store that does not keep labels
+    /// satisfies it for each.
     ghost asked: { Self → Vol1 → Type 0 };
 
-    /// For how many more images it has a device.
+    /// Returns for how many more images it has a device.
     fn left(&self) -> usize
         ensures { result ≡ left self.now };
 
-    /// Lends the device of the next image, which is that of the volume with this label. Nothing is
-    /// written to it yet. None where there is no device left.
+    /// Lends the device of the next image, for the volume with this label; nothing was written to
+    /// it yet. Returns `None` if no device is left.
     fn next(&mut self, volume: &Vol1) -> Option<Self::Device>
         ensures some { 0 < left self.old → IsSome result }
         ensures lent { (images : List (List ℕ)) → holds self.old false images
@@ -38,7 +38,7 @@ pub trait ImageStore {
             × holds self.new true images) }
         ensures asked { IfSome result (λ _. asked self.new volume.now) };
 
-    /// Takes the device that is lent. Its image has ended, and it was flushed.
+    /// Receives the device that is lent. Its image has ended and was flushed.
     fn keep(&mut self, device: Self::Device)
         ensures kept { (images : List (List ℕ)) (bytes : List ℕ) → holds self.old true images
             → Self.Device.contents device ≡ Some bytes

@@ -1,4 +1,4 @@
-//! Images and inputs that are files. Of what stands in files nothing is claimed.
+//! Images and inputs that are files. The contracts make no claim about the contents of files.
 mod bytes;
 mod fault;
 mod folder;

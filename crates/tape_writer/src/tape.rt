@@ -1,10 +1,10 @@
-//! Items written, and their sizes counted.
+//! Writes items, and counts their sizes.
 
 ghost use Rattle.std.specs.Prelude.{◌≡◌, ◌<◌, ◌≤◌, ◌+◌, ◌∷◌, [], length, OnOk, IfErr};
 ghost use Rattle.tape_image.specs.Begins.{image_limit};
 ghost use Rattle.tape_image.specs.Tape.{IsTapeItem, block as block_item, mark as mark_item};
 ghost use Rattle.tape_set.specs.Sizes.{item_size};
-ghost use Rattle.tape_writer.specs.Tapes.{Takes, Closes, Keeps, Grows};
+ghost use Rattle.tape_writer.specs.Tapes.{Takes, Keeps};
 ghost use Rattle.tape_label.specs.declared.values.Vol1.{Vol1};
 ghost use Rattle.tape_writer.specs.Lasting.{TapeLasts};
 ghost use Rattle.tape_writer.specs.Draft.{added_course};
@@ -14,7 +14,7 @@ use crate::course::Course;
 use crate::fault::{WriteFault, fault_of};
 use crate::out::TapeOut;
 
-/// What is written to, and where it stands.
+/// The output, and the position on it.
 #[derive(Drop)]
 pub struct Tape<T> {
     pub(crate) out: T,
@@ -84,12 +84,12 @@ impl<T: TapeOut> Tape<T> {
         self.block(&label)
     }
 
-    /// Writes a data block of the section under way.
+    /// Writes a data block of the current section.
     #[tactic(auto, using(crate::proofs::Last::kept))]
     pub(crate) fn add_block(&mut self, bytes: &[u8]) -> Result<(), WriteFault>
         requires sized { IsTapeItem (block_item bytes.now) }
         requires room { self.old.course.used + item_size (block_item bytes.now) ≤ image_limit }
-        // So the count stays in its 32 bits.
+        // So the count fits 32 bits.
         requires count { self.old.course.count ≤ self.old.course.used }
         ensures ok { Takes (block_item bytes.now ∷ [])
             (T.holds self.old.out) result (T.holds self.new.out) }
@@ -103,26 +103,6 @@ impl<T: TapeOut> Tape<T> {
     {
         self.block(bytes)?;
         self.course.count += 1;
-        Ok(())
-    }
-
-    /// Ends the last volume.
-    pub(crate) fn close(&mut self) -> Result<(), WriteFault>
-        requires room { self.old.course.used + 4 ≤ image_limit }
-        ensures ok { Closes (T.holds self.old.out) result (T.holds self.new.out) }
-        ensures err { Keeps (T.holds self.old.out) result (T.holds self.new.out) }
-        ensures course { OnOk result (self.new.course
-            ≡ record self.old.course { used = self.old.course.used + 4 }) }
-        ensures lasting { IfErr result (λ _. TapeLasts T.TapeOut self.old self.new) }
-        ensures count { Grows (T.failures self.old.out) (T.failures self.new.out) }
-        ensures cause { FailsWith (T.failures self.old.out) result (T.failures self.new.out) }
-        ensures asked { (v : Vol1) → T.asked self.old.out v → T.asked self.new.out v }
-        ensures out { IfErr result IsOfOut }
-    {
-        if let Err(fault) = self.out.close() {
-            return Err(fault_of(fault));
-        }
-        self.course.used += 4;
         Ok(())
     }
 }

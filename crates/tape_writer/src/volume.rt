@@ -1,9 +1,9 @@
-//! Volumes begun and changed.
+//! Begins and changes volumes.
 
 ghost use Rattle.std.specs.Prelude.{◌≡◌, ◌<◌, ◌≤◌, ◌+◌, ◌++◌, ◌∷◌, [], List, OnOk, IfErr, false};
 ghost use Rattle.tape_image.specs.Begins.{image_limit};
 ghost use Rattle.tape_image.specs.Tape.{TapeItem, block as block_item, mark as mark_item};
-ghost use Rattle.tape_writer.specs.Tapes.{Tapes, UnderWay, Changes, Keeps, all_volumes};
+ghost use Rattle.tape_writer.specs.Tapes.{Tapes, UnderWay, Changes, all_volumes};
 ghost use Rattle.tape_writer.specs.Front.{HoldsFront};
 ghost use Rattle.tape_writer.specs.Lasting.{TapeLasts};
 ghost use Rattle.tape_writer.specs.Faults.{FailsWith, IsOfOut};
@@ -19,28 +19,6 @@ use crate::tape::Tape;
 use tape_label::Vol1;
 
 impl<T: TapeOut> Tape<T> {
-    /// Begins a volume with nothing on it.
-    fn next_volume(&mut self, volume: &Vol1) -> Result<(), WriteFault>
-        requires few { self.old.course.volume < 65535 }
-        ensures ok { Changes [] (T.holds self.old.out) result (T.holds self.new.out) }
-        ensures err { Keeps (T.holds self.old.out) result (T.holds self.new.out) }
-        ensures course { OnOk result (self.new.course
-            ≡ record self.old.course { volume = self.old.course.volume + 1; used = 0 }) }
-        ensures lasting { TapeLasts T.TapeOut self.old self.new }
-        ensures cause { FailsWith (T.failures self.old.out) result (T.failures self.new.out) }
-        ensures asked { OnOk result (T.asked self.new.out volume.now) }
-        ensures out { IfErr result IsOfOut }
-    {
-        match self.out.change_volume(volume) {
-            Ok(()) => {
-                self.course.volume += 1;
-                self.course.used = 0;
-                Ok(())
-            }
-            Err(fault) => Err(fault_of(fault)),
-        }
-    }
-
     /// Begins a volume with its VOL1.
     #[tactic(auto, using(crate::proofs::Last::lasting_then, crate::proofs::Last::rose_from))]
     pub(crate) fn begin_volume(&mut self, volume: &Vol1) -> Result<(), WriteFault>
@@ -57,11 +35,15 @@ impl<T: TapeOut> Tape<T> {
         ensures asked { OnOk result (T.asked self.new.out volume.now) }
         ensures out { IfErr result IsOfOut }
     {
-        self.next_volume(volume)?;
+        if let Err(fault) = self.out.change_volume(volume) {
+            return Err(fault_of(fault));
+        }
+        self.course.volume += 1;
+        self.course.used = 0;
         self.label(volume_label(volume))
     }
 
-    /// Ends the section by EOV, and goes on in the next volume, which this label names.
+    /// Ends the section by EOV, and continues on the next volume, with this label.
     #[tactic(auto, using(crate::proofs::Last::lasting_then, crate::proofs::Last::rose_from))]
     pub(crate) fn change_to(&mut self, file: &Opened, volume: &Vol1) -> Result<(), WriteFault>
         requires ready { IsReady file.now }

@@ -1,4 +1,4 @@
-//! Prefixes, and volumes without files.
+//! Prefixes, and blank volumes.
 
 use crate::images::Piece::{Block, End, Mark};
 use crate::images::image_of;
@@ -30,7 +30,8 @@ fn prefixes(rt: HostRuntime) {
     }
 }
 
-/// Whether the image of the first volume is its label, two tape marks and the end word.
+/// Returns true if the image of the first volume is its label, two tape marks and the end-of-medium
+/// marker.
 fn is_blank(alloc: Global) -> Result<bool, AllocError> {
     let wanted = image_of(alloc, &[Block(VOL1_FIRST), Mark, Mark, End])?;
     Ok(match Prefix::new("ABC") {

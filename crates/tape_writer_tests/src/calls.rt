@@ -1,4 +1,4 @@
-//! Calls of a writer in a row, and what each of them answers.
+//! Sequences of calls of a writer, and the result of each.
 
 use crate::sets::{COUNTED, FIXED, head, spanned};
 use std::process::Abort;
@@ -10,27 +10,27 @@ const SEVENS: [u8; 290] = [b'7'; 290];
 /// A call of a writer, or several of one kind.
 #[derive(Clone, Copy)]
 pub(crate) enum Call {
-    /// The next file begins, in records of 80 bytes and blocks of 800.
+    /// Begins the next file, in records of 80 bytes and blocks of 800.
     Begin,
-    /// The next file begins, in records of up to 16 bytes behind their four digits, and in blocks
-    /// of at most 100.
+    /// Begins the next file, in records of up to 16 bytes after their four digits, and in blocks of
+    /// at most 100.
     BeginCounted,
-    /// The next file begins, in records of any length and blocks of at most this one.
+    /// Begins the next file, in records of any length and blocks of at most this one.
     BeginSpanned(u32),
-    /// A record of so many bytes `7`, at most 290.
+    /// Writes a record of so many bytes `7`, at most 290.
     Put(usize),
-    /// So many records of 80 bytes, one after another.
+    /// Writes so many records of 80 bytes, one after another.
     Records(u32),
-    /// The file ends.
+    /// Ends the file.
     EndFile,
-    /// The set ends.
+    /// Ends the set.
     Finish,
 }
 
-/// A call, what it answers, and the length of the volume under way then.
+/// A call, its result, and the length of the current volume after it.
 pub(crate) type Row = (Call, Result<(), WriteFault>, u32);
 
-/// Puts a record of so many bytes `7`.
+/// Writes a record of so many bytes `7`.
 fn put<T: TapeOut + Drop>(writer: &mut SetWriter<T>, length: usize) -> Result<(), WriteFault> {
     match SEVENS.get(..length) {
         Some(record) => writer.put(record),
@@ -38,7 +38,7 @@ fn put<T: TapeOut + Drop>(writer: &mut SetWriter<T>, length: usize) -> Result<()
     }
 }
 
-/// Makes the call; of several it answers the first that is refused.
+/// Makes the call; for several, returns the first refusal.
 pub(crate) fn perform<T: TapeOut + Drop>(
     writer: &mut SetWriter<T>,
     call: Call,
@@ -59,7 +59,7 @@ pub(crate) fn perform<T: TapeOut + Drop>(
     }
 }
 
-/// Makes the call of each row, counted from 0, and compares what it answers.
+/// Makes the call of each row, counted from 0, and compares its result.
 pub(crate) fn follow<T: TapeOut + Drop>(rt: &impl Abort, writer: &mut SetWriter<T>, rows: &[Row]) {
     for (at, row) in rows.iter().enumerate() {
         let answer = perform(writer, row.0);

@@ -11,7 +11,7 @@ use tape_image::Item;
 use tape_writer::MemoryTapes;
 use tape_writer::WriteFault::{CapacityTooSmall, Failed, OutOfVolumes, RecordLength};
 
-/// A file whose end has no room on the one volume.
+/// A file whose end does not fit the only volume.
 const NO_ROOM: &[Row] = &[
     (Begin, Ok(()), 268),
     (Records(25), Ok(()), 1_884),
@@ -30,8 +30,8 @@ fn no_volume_left_for_the_file_end(rt: HostRuntime) -> Result<(), Fail> {
     Ok(())
 }
 
-/// Whether the three labels, a tape mark and the three blocks stand, and nothing of the closing
-/// labels does.
+/// Returns true if the tapes contain the three labels, a tape mark and the three blocks, and
+/// nothing of the closing labels.
 fn are_seven_items(tapes: &MemoryTapes) -> bool {
     tapes.count() == 1
         && tapes.length(0) == 7
@@ -46,8 +46,8 @@ fn seven_items_where_no_volume_is_left(rt: HostRuntime) -> Result<(), Fail> {
     Ok(())
 }
 
-/// A set: its name, the capacity of its volumes and how many there are, the calls, and how long the
-/// images are then.
+/// A set: its name, the capacity of its volumes and their number, the calls, and the lengths of the
+/// images after them.
 type Set<'a> = (&'a str, u32, usize, &'a [Row], &'a [usize]);
 
 const SETS: &[Set<'_>] = &[
@@ -63,8 +63,8 @@ const SETS: &[Set<'_>] = &[
         ],
         &[1_032, 486],
     ),
-    // Behind the first file's end 372 bytes are left, for the second one's headers and a volume
-    // end; its first section has no block, and its only block stands on the second volume.
+    // After the first file's end 372 bytes are left, for the second one's headers and the end of a
+    // volume; its first section has no block, and its only block is on the second volume.
     (
         "an empty section ended by EOV",
         2_848,
@@ -119,7 +119,7 @@ const SETS: &[Set<'_>] = &[
     ),
 ];
 
-/// The set is written so.
+/// The set is written like this.
 fn is_written(rt: &impl Abort, alloc: Global, set: &Set<'_>) -> Result<(), Fail> {
     let (name, capacity, count, rows, lengths) = set;
     let images = written(rt, alloc, *capacity, *count, rows)?;

@@ -5,7 +5,7 @@ use std::io::{Error, ErrorKind, Read, Result, Write};
 use tape_label::Vol1;
 use tape_writer::ImageStore;
 
-/// Gives one byte a call, and is interrupted once it has given as many as `left` says.
+/// Returns one byte for each call, and is interrupted after as many as `left` says.
 #[derive(Drop)]
 pub(crate) struct Dribble<'a> {
     pub(crate) bytes: &'a [u8],
@@ -29,7 +29,7 @@ impl Read for Dribble<'_> {
     }
 }
 
-/// Gives what is asked for without an end, and counts the bytes.
+/// Returns infinitely many bytes, and counts them.
 #[derive(Drop)]
 pub(crate) struct Endless {
     pub(crate) given: usize,
@@ -43,7 +43,7 @@ impl Read for Endless {
     }
 }
 
-/// Takes one byte a call, and none once it has taken as many as `left` says.
+/// Accepts one byte for each call, and none after as many as `left` says.
 #[derive(Drop)]
 pub(crate) struct Narrow {
     pub(crate) taken: Vec<u8>,
@@ -51,7 +51,7 @@ pub(crate) struct Narrow {
 }
 
 impl Narrow {
-    /// A writer that takes so many bytes.
+    /// Creates a writer that accepts so many bytes.
     pub(crate) fn new(alloc: Global, left: usize) -> Narrow {
         Narrow {
             taken: Vec::new(alloc),
@@ -77,7 +77,7 @@ impl Write for Narrow {
     }
 }
 
-/// Has so many writers that take so many bytes each.
+/// A store of so many writers that accept so many bytes each.
 #[derive(Drop)]
 pub(crate) struct Narrows {
     pub(crate) alloc: Global,

@@ -1,4 +1,4 @@
-//! Images and inputs that are files. Each test has a folder of its own.
+//! Images and inputs that are files. Each test has a directory of its own.
 
 use crate::inputs::{one_file, payroll, plan};
 use crate::sets::{FIXED, head, spanned};
@@ -16,7 +16,8 @@ use tape_writer::system::{
 };
 use tape_writer::{Input, Prefix, WriteFault};
 
-/// The image of the first volume without files: its label, two tape marks and the end of medium.
+/// The image of the first volume when it is blank: its label, two tape marks and the end-of-medium
+/// marker.
 const BLANK: &[u8] = b"\
     P\0\0\0VOL1ABC001                                                                     4P\0\0\0\
     \0\0\0\0\0\0\0\0\xFF\xFF\xFF\xFF";
@@ -25,7 +26,7 @@ const ABC: Prefix = Prefix {
     characters: *b"ABC",
 };
 
-/// A file of these bytes.
+/// Creates a file of these bytes.
 fn put<R: Runtime>(rt: &R, path: &str, bytes: &[u8]) -> Result<(), Fail> {
     let mut file = File::create(rt, path)?;
     Ok(file.write_all(bytes)?)
@@ -38,8 +39,8 @@ fn holds<R: Runtime + AllocGlobal + Abort>(rt: &R, path: &str, bytes: &[u8]) -> 
     Ok(())
 }
 
-/// Folders and numbers of volumes, what comes of making their images, and where each stands. The
-/// second and the third are there.
+/// Directories and numbers of volumes, the result of creating their images, and the path of each.
+/// The second and the third already exist.
 const MADE: &[(&str, u16, Option<FileFault>, &str)] = &[
     ("made", 1, None, "made/ABC001.tap"),
     ("made", 1, Some(FileFault::Exists), "made/ABC001.tap"),
@@ -68,7 +69,7 @@ fn blank_images(rt: HostRuntime) -> Result<(), Fail> {
     holds(&rt, "made/ABC020.tap", b"kept")
 }
 
-/// Writes the bytes as a file on volumes of this folder, and says on which.
+/// Writes the bytes as a file on volumes of this directory, and returns the volumes.
 fn ended<R: Runtime + AllocGlobal>(
     rt: &R,
     folder: &str,
@@ -90,7 +91,7 @@ fn ended<R: Runtime + AllocGlobal>(
     write_in_folder(rt, &plan, &mut files)
 }
 
-/// The same, and says on how many, of which the last has so many bytes.
+/// The same, and returns their number and the size of the last one.
 fn write<R: Runtime + AllocGlobal>(
     rt: &R,
     folder: &str,
@@ -106,7 +107,7 @@ fn write<R: Runtime + AllocGlobal>(
     Ok((ended.len(), size))
 }
 
-/// So many of the first bytes of the blank image, and zeros behind them.
+/// Returns so many of the first bytes of the blank image, followed by zeros.
 fn changed(alloc: Global, kept: usize, zeros: u8) -> Result<Vec<u8>, AllocError> {
     let mut bytes = Vec::from_slice(alloc, BLANK)?;
     bytes.truncate(kept);
@@ -116,8 +117,8 @@ fn changed(alloc: Global, kept: usize, zeros: u8) -> Result<Vec<u8>, AllocError>
     Ok(bytes)
 }
 
-/// How many bytes of the blank image are there, and how many zeros behind them. All but the last
-/// are left alone.
+/// How many bytes of the blank image already exist, and how many zeros follow them. All but the
+/// last are left alone.
 const THERE: &[(usize, u8)] = &[(100, 1), (99, 0), (99, 1), (0, 0), (100, 0)];
 
 #[test]
@@ -139,7 +140,7 @@ fn images_that_are_there(rt: HostRuntime) -> Result<(), Fail> {
     Ok(())
 }
 
-/// Writes the worked records, and this comes of it.
+/// Writes the worked records, with this result.
 fn comes_to<R: Runtime + AllocGlobal + Abort>(
     rt: &R,
     folder: &str,
@@ -152,8 +153,8 @@ fn comes_to<R: Runtime + AllocGlobal + Abort>(
     Ok(())
 }
 
-/// The worked volume; over it no more; on two volumes, of which the second is there already; and
-/// where something else stands in the place of the first.
+/// The worked volume; over it no more; on two volumes, the second of which already exists; and with
+/// something else in place of the first.
 #[test]
 fn a_set_in_a_folder(rt: HostRuntime) -> Result<(), Fail> {
     let exists = Err(SystemFault::File(FileFault::Exists));
@@ -173,16 +174,16 @@ fn a_set_in_a_folder(rt: HostRuntime) -> Result<(), Fail> {
     holds(&rt, "second/ABC002.tap", b"kept")
 }
 
-/// A folder, a capacity, the length of blocks of format S, and that of the record in them, whose
-/// bytes differ from block to block. Blocks longer than what is held, blocks of which one is held
-/// and two are not, and short ones; on one volume, on two and on three.
+/// A directory, a capacity, the length of blocks of format S, and that of the record in them, whose
+/// bytes differ from block to block. Blocks longer than the buffer, blocks of which one fits the
+/// buffer and two do not, and short ones; on one volume, on two and on three.
 const AS_IN_MEMORY: &[(&str, u32, u32, usize)] = &[
     ("long", 150_000, 9_999, 120_000),
     ("middle", 100_000, 5_000, 120_000),
     ("short", 1_042, 18, 650),
 ];
 
-/// So many bytes, of which no two in a row are the same.
+/// Returns so many bytes, no two consecutive ones equal.
 fn counted_up(alloc: Global, count: usize) -> Result<Vec<u8>, AllocError> {
     let mut bytes = Vec::new(alloc);
     for number in 0..count as u64 {
@@ -191,7 +192,7 @@ fn counted_up(alloc: Global, count: usize) -> Result<Vec<u8>, AllocError> {
     Ok(bytes)
 }
 
-/// Whether such a volume was told, and the file has the bytes of the image.
+/// Returns true if this volume was returned, and the file has the bytes of the image.
 fn is_image<R: Runtime + AllocGlobal>(
     rt: &R,
     folder: &str,
@@ -204,12 +205,12 @@ fn is_image<R: Runtime + AllocGlobal>(
     Ok(is_told && fs::read(rt, path.as_str())?.as_slice() == image)
 }
 
-/// The identifier of the volume.
+/// Returns the identifier of the volume.
 fn text_of(ended: &Ended) -> &str {
     str::from_utf8(ended.volume.bytes()).unwrap_or("")
 }
 
-/// The record becomes on files what it becomes in memory, and the same is told.
+/// The record is written to files as it is in memory, with the same result.
 #[test]
 fn files_are_as_in_memory(rt: HostRuntime) -> Result<(), Fail> {
     for (folder, capacity, block_len, count) in AS_IN_MEMORY {
@@ -225,7 +226,7 @@ fn files_are_as_in_memory(rt: HostRuntime) -> Result<(), Fail> {
     Ok(())
 }
 
-/// The bytes as one record become on files what they become in memory.
+/// The bytes as one record are written to files as they are in memory.
 fn are_as_in_memory<R: Runtime + AllocGlobal + Abort>(
     rt: &R,
     folder: &str,
@@ -251,7 +252,7 @@ fn are_as_in_memory<R: Runtime + AllocGlobal + Abort>(
     Ok(())
 }
 
-/// Volumes 1 to 256 are there, and no more: each takes 22 blocks of 18 bytes, of which 13 are the
+/// There are volumes 1 to 256, and no more: each takes 22 blocks of 18 bytes, of which 13 are the
 /// record's.
 #[test]
 fn the_last_volume(rt: HostRuntime) -> Result<(), Fail> {
@@ -265,7 +266,7 @@ fn the_last_volume(rt: HostRuntime) -> Result<(), Fail> {
     Ok(())
 }
 
-/// Paths of inputs, and the fault at which there is none.
+/// Paths of inputs, and the fault if there is none.
 const INPUTS: &[(&str, Option<FileFault>)] = &[
     ("input.txt", None),
     ("missing.txt", Some(FileFault::NotOpened)),

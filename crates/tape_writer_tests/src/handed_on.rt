@@ -1,4 +1,4 @@
-//! Images that ended, where the next volume begins.
+//! Images that ended, when the next volume begins.
 
 use crate::inputs::{payroll, plan};
 use crate::sets::{FIXED, head};
@@ -11,7 +11,7 @@ use tape_image::ImageWriter;
 use tape_label::Vol1;
 use tape_writer::{ImageStore, Input, RefusedSet, SetFault, WriteFault, WrittenSet, write_set};
 
-/// Keeps what it takes, and how much of it was there at the last flush. So many flushes succeed.
+/// Keeps the bytes it accepts, and their number at the last flush. So many flushes succeed.
 #[derive(Drop)]
 struct Flushed {
     bytes: Vec<u8>,
@@ -20,7 +20,8 @@ struct Flushed {
 }
 
 impl Flushed {
-    /// Whether these are its bytes, and all of them were there at its last flush. There was one.
+    /// Returns true if these are its bytes, and all of them were accepted before its last flush.
+    /// There was one.
     fn is_whole(&self, bytes: &[u8]) -> bool {
         self.bytes.as_slice() == bytes && self.flushed == Some(bytes.len()) && self.left == 0
     }
@@ -42,7 +43,7 @@ impl Write for Flushed {
     }
 }
 
-/// Has two devices, and notes how many it lent, and how many images it was handed before the last
+/// Has two devices, and records how many it lent, and how many images it received before the last
 /// of these. Each device can be flushed so often.
 #[derive(Drop)]
 struct Noting {
@@ -81,7 +82,7 @@ impl ImageStore for Noting {
     }
 }
 
-/// What the worked file becomes on two such devices.
+/// Returns the result of writing the worked file to two such devices.
 fn written(
     alloc: Global,
     records: &[u8],
@@ -102,7 +103,8 @@ fn written(
     Ok(write_set(alloc, plan, &mut files, images))
 }
 
-/// Whether both images were handed on, each whole and flushed, the first before the second began.
+/// Returns true if the store received both images, each complete and flushed, the first before the
+/// second began.
 fn are_handed_on(alloc: Global, records: &[u8], images: &Noting) -> Result<bool, AllocError> {
     let first = first_of_two(alloc, records)?;
     let second = second_of_two(alloc)?;
@@ -116,7 +118,7 @@ fn are_handed_on(alloc: Global, records: &[u8], images: &Noting) -> Result<bool,
     })
 }
 
-/// Where the second volume begins the first one's image is handed on, whole and flushed.
+/// When the second volume begins, the store receives the first one's image, complete and flushed.
 #[test]
 fn the_first_image_is_handed_on_before_the_second_begins(rt: HostRuntime) -> Result<(), Fail> {
     let records = payroll(rt.alloc(), b"")?;
@@ -128,7 +130,7 @@ fn the_first_image_is_handed_on_before_the_second_begins(rt: HostRuntime) -> Res
     Ok(())
 }
 
-/// Whether the set was refused by the first device, which has all of its image.
+/// Returns true if the set was refused by the first device, which has all of its image.
 fn is_refused(
     alloc: Global,
     records: &[u8],
@@ -141,7 +143,7 @@ fn is_refused(
     Ok(is_first && facts == (SetFault::Write(WriteFault::Device), 1, 0))
 }
 
-/// Whether there is an image, and its device has these bytes.
+/// Returns true if there is an image, and its device has these bytes.
 fn has_bytes(image: Option<ImageWriter<Flushed>>, bytes: &[u8]) -> bool {
     match image {
         Some(image) => image.into_device().bytes.as_slice() == bytes,
@@ -149,7 +151,7 @@ fn has_bytes(image: Option<ImageWriter<Flushed>>, bytes: &[u8]) -> bool {
     }
 }
 
-/// A device that can't be flushed: no further volume begins.
+/// A device that cannot be flushed: no further volume begins.
 #[test]
 fn an_image_that_is_not_flushed(rt: HostRuntime) -> Result<(), Fail> {
     let records = payroll(rt.alloc(), b"")?;

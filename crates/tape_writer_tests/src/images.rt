@@ -1,4 +1,4 @@
-//! Images that were written, and those that should have been.
+//! Images that were written, and the expected ones.
 
 use crate::calls::{Row, follow};
 use crate::sets::on_images;
@@ -7,18 +7,18 @@ use std::process::Abort;
 use std::test::Fail;
 use tape_writer::{ImageTapes, MemoryImages};
 
-/// What stands in an image.
+/// A piece of an image.
 #[derive(Clone, Copy)]
 pub(crate) enum Piece<'a> {
     /// A block.
     Block(&'a [u8]),
     /// A tape mark.
     Mark,
-    /// The end word.
+    /// The end-of-medium marker.
     End,
 }
 
-/// A block between two words of its length, with a pad byte where it is odd.
+/// Appends a block between two words of its length, with a pad byte if it is odd.
 fn add_block(bytes: &mut Vec<u8>, content: &[u8]) -> Result<(), AllocError> {
     let word = (content.len() as u64).to_le_bytes();
     bytes.extend_from_slice(&word[..4])?;
@@ -29,7 +29,7 @@ fn add_block(bytes: &mut Vec<u8>, content: &[u8]) -> Result<(), AllocError> {
     bytes.extend_from_slice(&word[..4])
 }
 
-/// What stands behind these bytes of an image.
+/// Appends a piece to these bytes of an image.
 fn add(bytes: &mut Vec<u8>, piece: &Piece) -> Result<(), AllocError> {
     match piece {
         Piece::Block(content) => add_block(bytes, content),
@@ -38,7 +38,7 @@ fn add(bytes: &mut Vec<u8>, piece: &Piece) -> Result<(), AllocError> {
     }
 }
 
-/// These pieces, one behind the other.
+/// Appends these pieces, one after another.
 pub(crate) fn add_all(bytes: &mut Vec<u8>, pieces: &[Piece]) -> Result<(), AllocError> {
     for piece in pieces {
         add(bytes, piece)?;
@@ -46,14 +46,14 @@ pub(crate) fn add_all(bytes: &mut Vec<u8>, pieces: &[Piece]) -> Result<(), Alloc
     Ok(())
 }
 
-/// The bytes of an image.
+/// Returns the bytes of an image.
 pub(crate) fn image_of(alloc: Global, pieces: &[Piece]) -> Result<Vec<u8>, AllocError> {
     let mut bytes = Vec::new(alloc);
     add_all(&mut bytes, pieces)?;
     Ok(bytes)
 }
 
-/// The images that stand behind the calls of these rows, on so many volumes.
+/// Returns the images after the calls of these rows, on so many volumes.
 pub(crate) fn written(
     rt: &impl Abort,
     alloc: Global,
@@ -66,7 +66,7 @@ pub(crate) fn written(
     Ok(images_of(writer.into_out())?)
 }
 
-/// The images that ended, and behind them that of the volume under way, if there is one.
+/// Returns the images that ended, followed by that of the current volume, if there is one.
 pub(crate) fn images_of(tapes: ImageTapes<MemoryImages>) -> Result<Vec<Vec<u8>>, AllocError> {
     let (store, under_way) = tapes.into_parts();
     let mut images = store.into_images();
@@ -76,7 +76,7 @@ pub(crate) fn images_of(tapes: ImageTapes<MemoryImages>) -> Result<Vec<Vec<u8>>,
     Ok(images)
 }
 
-/// How many images ended, and how long that of the volume under way is, if there is one.
+/// Returns how many images ended, and the length of that of the current volume, if there is one.
 pub(crate) fn ended(tapes: ImageTapes<MemoryImages>) -> (usize, Option<usize>) {
     let (store, under_way) = tapes.into_parts();
     let length = match under_way {
@@ -86,7 +86,7 @@ pub(crate) fn ended(tapes: ImageTapes<MemoryImages>) -> (usize, Option<usize>) {
     (store.into_images().len(), length)
 }
 
-/// Whether the images have these lengths, and there are no others.
+/// Returns true if the images have these lengths, and there are no others.
 pub(crate) fn have_lengths(images: &[Vec<u8>], lengths: &[usize]) -> bool {
     for (image, length) in images.iter().zip(lengths) {
         if image.len() != *length {
@@ -96,7 +96,7 @@ pub(crate) fn have_lengths(images: &[Vec<u8>], lengths: &[usize]) -> bool {
     images.len() == lengths.len()
 }
 
-/// Whether the image at this place of the list has, behind so many bytes, these alone.
+/// Returns true if the image at this index of the list has, after so many bytes, only these.
 pub(crate) fn ends_with(images: &[Vec<u8>], at: usize, behind: usize, bytes: &[u8]) -> bool {
     match images.get(at) {
         Some(image) => image.get(behind..) == Some(bytes),

@@ -62,7 +62,7 @@ const REFUSED: [(usize, Shape, Form, usize, u32, WriteFault); 9] = [
     ),
 ];
 
-/// The fault at which the records are not written.
+/// Returns the fault with which the records are not written.
 fn fault_of(
     alloc: Global,
     length: usize,
@@ -89,11 +89,11 @@ fn refusals(rt: HostRuntime) -> Result<(), Fail> {
     Ok(())
 }
 
-/// What became of a set: how many files were written; or the fault, whether the image under way
-/// comes back, and how many images are left.
+/// The result of writing a set: how many files were written; or the fault, whether the current
+/// image is returned, and how many images are left.
 type Became = Result<usize, (SetFault, bool, usize)>;
 
-/// What the files become on one volume.
+/// Returns the result of writing the files on one volume.
 fn told<R: Read, S: ImageStore + Drop>(
     alloc: Global,
     shape: Shape,
@@ -121,7 +121,7 @@ fn no_files(rt: HostRuntime) -> Result<(), Fail> {
     Ok(())
 }
 
-/// Of two files the second has a head that can't be labelled: nothing is written of the first.
+/// The second of two files has a head that cannot be labelled: nothing is written of the first.
 #[test]
 fn a_head_that_cannot_be_labelled(rt: HostRuntime) -> Result<(), Fail> {
     let bad = Head1 {
@@ -139,7 +139,7 @@ fn a_head_that_cannot_be_labelled(rt: HostRuntime) -> Result<(), Fail> {
     Ok(())
 }
 
-/// What two lines become of which so many bytes can be read, one byte a call.
+/// Returns the result of writing two lines, so many bytes of which can be read, one for each call.
 fn of_dribble(alloc: Global, left: usize) -> Result<Became, Fail> {
     let mut files = [Input {
         head: head(),
@@ -152,7 +152,7 @@ fn of_dribble(alloc: Global, left: usize) -> Result<Became, Fail> {
     told(alloc, COUNTED, Form::Lines, &mut files, images)
 }
 
-/// A reader that fails, at each byte of an input that is read one byte a call.
+/// A reader that fails, at each byte of an input that is read one byte for each call.
 #[test]
 fn an_input_that_fails(rt: HostRuntime) -> Result<(), Fail> {
     for left in 0..7 {
@@ -162,7 +162,7 @@ fn an_input_that_fails(rt: HostRuntime) -> Result<(), Fail> {
     Ok(())
 }
 
-/// What a line without an end becomes, and how many bytes of it were read.
+/// Returns the result of writing an infinite line, and how many bytes of it were read.
 fn of_endless(alloc: Global, shape: Shape) -> Result<(Became, usize), Fail> {
     let mut files = [Input {
         head: head(),
@@ -173,7 +173,7 @@ fn of_endless(alloc: Global, shape: Shape) -> Result<(Became, usize), Fail> {
     Ok((told, files[0].reader.given))
 }
 
-/// A line without an end: it is refused at once, since the first piece is longer than a record.
+/// An infinite line: it is refused at once, because the first piece is longer than a record.
 #[test]
 fn a_line_without_end(rt: HostRuntime) -> Result<(), Fail> {
     let refused = Err((SetFault::Write(WriteFault::RecordLength), true, 0));
@@ -184,8 +184,9 @@ fn a_line_without_end(rt: HostRuntime) -> Result<(), Fail> {
     Ok(())
 }
 
-/// What one line becomes on a device that takes so many bytes: how many images are left, and how
-/// many files were written; or the fault, and how many bytes the device took that comes back.
+/// Returns the result of writing one line to a device that accepts so many bytes: how many images
+/// are left, and how many files were written; or the fault, and how many bytes the device that is
+/// returned accepted.
 fn on_narrow(
     alloc: Global,
     left: usize,
@@ -206,7 +207,7 @@ fn on_narrow(
     })
 }
 
-/// How many bytes the device of an image took.
+/// Returns how many bytes the device of an image accepted.
 fn taken(image: Option<ImageWriter<Narrow>>) -> Option<usize> {
     match image {
         Some(image) => Some(image.into_device().taken.len()),
@@ -214,8 +215,8 @@ fn taken(image: Option<ImageWriter<Narrow>>) -> Option<usize> {
     }
 }
 
-/// A device that fails, at each byte of an image, of which what was written comes back; and one
-/// that takes just the image.
+/// A device that fails, at each byte of an image, whose written bytes are returned; and one that
+/// accepts exactly the image.
 #[test]
 fn a_device_that_fails(rt: HostRuntime) -> Result<(), Fail> {
     for left in 0..487 {

@@ -1,4 +1,4 @@
-//! Sets written from inputs, against images written out from their formats.
+//! Sets written from inputs, compared with images written out from their formats.
 
 use crate::sets::{FIXED, head, volumes};
 use crate::volumes::{first_of_two, one_volume, second_of_two};
@@ -26,7 +26,7 @@ const SPANNED: Shape = Shape {
     pad_full: false,
 };
 
-/// The first volumes of the set, so many, with all files in one shape and form.
+/// Returns a plan with so many of the set's first volumes, and all files in one shape and form.
 pub(crate) fn plan(
     alloc: Global,
     count: usize,
@@ -43,8 +43,8 @@ pub(crate) fn plan(
     })
 }
 
-/// The 25 records of the worked file, each with these bytes behind it. Record i is i in four digits
-/// and 76 spaces.
+/// Returns the 25 records of the worked file, each followed by these bytes. Record i is i in four
+/// digits and 76 spaces.
 pub(crate) fn payroll(alloc: Global, behind: &[u8]) -> Result<Vec<u8>, AllocError> {
     let mut bytes = Vec::new(alloc);
     for number in 1..26u8 {
@@ -54,7 +54,7 @@ pub(crate) fn payroll(alloc: Global, behind: &[u8]) -> Result<Vec<u8>, AllocErro
     Ok(bytes)
 }
 
-/// A record of the worked file.
+/// Returns a record of the worked file.
 fn record(number: u8) -> [u8; 80] {
     let mut record = [b' '; 80];
     record[..2].fill(b'0');
@@ -63,7 +63,7 @@ fn record(number: u8) -> [u8; 80] {
     record
 }
 
-/// What a set of one file became: its images' bytes, or the fault.
+/// Returns the images' bytes of a set of one file, or the fault.
 pub(crate) fn one_file(
     alloc: Global,
     plan: SetPlan,
@@ -80,7 +80,7 @@ pub(crate) fn one_file(
     }
 }
 
-/// The images that a set of one file became, which should be written.
+/// Returns the images of a set of one file, which must be written.
 fn written(alloc: Global, plan: SetPlan, input: &[u8]) -> Result<Vec<Vec<u8>>, Fail> {
     match one_file(alloc, plan, input)? {
         Ok(images) => Ok(images),
@@ -88,7 +88,7 @@ fn written(alloc: Global, plan: SetPlan, input: &[u8]) -> Result<Vec<Vec<u8>>, F
     }
 }
 
-/// The image at this place of the list, or nothing.
+/// Returns the image at this index of the list, or nothing.
 fn at<'a>(images: &'a [Vec<u8>], place: usize) -> &'a [u8] {
     match images.get(place) {
         Some(image) => image.as_slice(),
@@ -96,13 +96,13 @@ fn at<'a>(images: &'a [Vec<u8>], place: usize) -> &'a [u8] {
     }
 }
 
-/// Whether the images are these two, or the first one alone where the second one is empty.
+/// Returns true if the images are these two, or only the first one if the second one is empty.
 fn are(images: &[Vec<u8>], first: &[u8], second: &[u8]) -> bool {
     let count = if second.is_empty() { 1 } else { 2 };
     images.len() == count && at(images, 0) == first && at(images, 1) == second
 }
 
-/// So many bytes of the records, with these behind each, become the worked image.
+/// So many bytes of the records, each followed by these, are written as the worked image.
 fn is_worked(alloc: Global, form: Form, behind: &[u8], length: usize) -> Result<bool, Fail> {
     let mut input = payroll(alloc, behind)?;
     input.truncate(length);
@@ -115,7 +115,7 @@ fn is_worked(alloc: Global, form: Form, behind: &[u8], length: usize) -> Result<
     Ok(are(images.as_slice(), wanted.as_slice(), &[]))
 }
 
-/// Lines of which the last one has a line feed, and has none; and raw bytes.
+/// Lines, the last of which has a line feed, or has none; and raw bytes.
 const INPUTS: &[(Form, &[u8], usize)] = &[
     (Form::Lines, b"\n", 2025),
     (Form::Lines, b"\n", 2024),
@@ -133,8 +133,8 @@ fn the_worked_volume(rt: HostRuntime) -> Result<(), Fail> {
     Ok(())
 }
 
-/// Whether three volumes of 2,500 bytes take the raw records so: the third block fits on the first
-/// volume, the file's end does not, so that section 2 is empty.
+/// Returns true if three volumes of 2,500 bytes contain the raw records like this: the third block
+/// fits on the first volume, the file's end does not, so that section 2 is empty.
 fn are_small(alloc: Global) -> Result<bool, Fail> {
     let records = payroll(alloc, b"")?;
     let plan = plan(alloc, 3, 2_500, FIXED, Form::Raw)?;
@@ -150,7 +150,8 @@ fn two_volumes(rt: HostRuntime) -> Result<(), Fail> {
     Ok(())
 }
 
-/// Shapes, forms and capacities, how long the one record is, or none, and the sizes of two images.
+/// Shapes, forms and capacities, the length of the only record, if there is one, and the sizes of
+/// two images.
 const SIZES: [(Shape, Form, u32, usize, usize, usize); 6] = [
     (FIXED, Form::Lines, 100_000, 0, 460, 0),
     (FIXED, Form::Raw, 100_000, 0, 460, 0),
@@ -160,7 +161,7 @@ const SIZES: [(Shape, Form, u32, usize, usize, usize); 6] = [
     (SPANNED, Form::Lines, 1_042, 290, 1_032, 486),
 ];
 
-/// How long the two images are that a record of so many bytes becomes.
+/// Returns the sizes of the two images for a record of so many bytes.
 fn sizes_of(
     alloc: Global,
     shape: Shape,
@@ -187,13 +188,13 @@ fn sizes(rt: HostRuntime) -> Result<(), Fail> {
     Ok(())
 }
 
-/// Lines, and the block of 18 bytes that is the first behind the headers, in format D.
+/// Lines, and the block of 18 bytes that is the first after the headers, in format D.
 const LINES: &[(&[u8], &[u8])] = &[
     (b"AB\n\n", b"0006AB0004^^^^^^^^"),
     (b"A\r\n\nB", b"0006A\r00040005B^^^"),
 ];
 
-/// Whether the lines become a volume with this block.
+/// Returns true if the lines are written as a volume with this block.
 fn have_block(alloc: Global, lines: &[u8], block: &[u8]) -> Result<bool, Fail> {
     let plan = plan(alloc, 1, 100_000, COUNTED, Form::Lines)?;
     let images = written(alloc, plan, lines)?;

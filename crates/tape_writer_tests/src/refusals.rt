@@ -1,4 +1,4 @@
-//! What is refused, in which order, and what stands then.
+//! Refusals, their order, and the state after them.
 
 use crate::calls::Call::{Begin, BeginSpanned, EndFile, Finish, Put, Records};
 use crate::calls::{Row, follow, perform};
@@ -49,7 +49,7 @@ fn files_that_are_not_begun(rt: HostRuntime) -> Result<(), Fail> {
     };
     assert!(rt; writer.begin_file(bad, spanned(17)) == Err(BadField));
     follow(&rt, &mut writer, NOT_BEGUN);
-    // The set identifier of a head is replaced, and not looked at.
+    // The set identifier of a head is replaced, and not checked.
     let other = Head1 {
         set_id: Field::of_bytes(*b"xxxxxx"),
         ..head()
@@ -58,7 +58,7 @@ fn files_that_are_not_begun(rt: HostRuntime) -> Result<(), Fail> {
     Ok(())
 }
 
-/// What `new` answers for so many volumes of this name.
+/// Returns the result of `new` for so many volumes with this name.
 fn made(
     alloc: Global,
     set_id: [u8; 6],
@@ -73,7 +73,7 @@ fn made(
     }
 }
 
-/// The names of a set and of its volumes, how many these are, and what `new` answers.
+/// The names of a set and of its volumes, their number, and the result of `new`.
 const MADE: &[(&[u8; 6], &[u8; 6], usize, Option<WriteFault>)] = &[
     (b"abc001", b"ABC001", 0, Some(BadField)),
     (b"ABC001", b"abc001", 1, Some(BadField)),
@@ -91,7 +91,7 @@ fn sets_that_are_not_begun(rt: HostRuntime) -> Result<(), Fail> {
     Ok(())
 }
 
-/// Writes 25 records on two volumes, to the first refusal.
+/// Writes 25 records on two volumes, up to the first refusal.
 fn write_all(writer: &mut SetWriter<Refusing<MemoryTapes>>) -> Result<(), WriteFault> {
     for call in [Begin, Records(25), EndFile, Finish] {
         perform(writer, call)?;
@@ -99,12 +99,12 @@ fn write_all(writer: &mut SetWriter<Refusing<MemoryTapes>>) -> Result<(), WriteF
     Ok(())
 }
 
-/// What was answered, what the next call answers, how many volumes there are, and how many items on
+/// The result, the result of the next call, how many volumes there are, and how many items are on
 /// the first of them.
 type Stands = (Result<(), WriteFault>, Result<(), WriteFault>, usize, usize);
 
-/// What stands where the call after this many was refused. The volume changes by the 14th call of
-/// the tapes.
+/// Returns the state after the call after this many was refused. The volume changes by the 14th
+/// call of the tapes.
 fn stands_behind(left: usize) -> Stands {
     match left {
         0 => (Err(Device), Err(Failed), 0, 0),
@@ -114,7 +114,7 @@ fn stands_behind(left: usize) -> Stands {
     }
 }
 
-/// Writes a set whose tapes refuse the call after this many, and tells what stands then.
+/// Writes a set whose tapes refuse the call after this many, and returns the state after that.
 fn refused_behind(alloc: Global, left: usize) -> Result<Stands, Fail> {
     let volumes = volumes(alloc, 2)?;
     let out = Refusing::new(MemoryTapes::new(alloc), left);

@@ -1,4 +1,4 @@
-//! What a set is written of: labels, shapes and volumes.
+//! The parts of a set: labels, shapes and volumes.
 
 use std::alloc::{AllocError, Global};
 use std::test::Fail;
@@ -15,7 +15,7 @@ pub(crate) const FIXED: Shape = Shape {
     pad_full: false,
 };
 
-/// Records of up to 16 bytes behind their four digits, in blocks of at most 100.
+/// Records of up to 16 bytes after their four digits, in blocks of at most 100.
 pub(crate) const COUNTED: Shape = Shape {
     format: Format::Counted,
     block_len: 100,
@@ -24,7 +24,7 @@ pub(crate) const COUNTED: Shape = Shape {
     pad_full: false,
 };
 
-/// Records of any length in blocks of at most this one.
+/// Returns records of any length in blocks of at most this one.
 pub(crate) fn spanned(block_len: u32) -> Shape {
     Shape {
         format: Format::Spanned,
@@ -35,7 +35,7 @@ pub(crate) fn spanned(block_len: u32) -> Shape {
     }
 }
 
-/// The label of a volume.
+/// Returns the label of a volume.
 pub(crate) fn volume(id: [u8; 6]) -> Vol1 {
     Vol1 {
         volume: Field::of_bytes(id),
@@ -46,7 +46,7 @@ pub(crate) fn volume(id: [u8; 6]) -> Vol1 {
     }
 }
 
-/// A head whose set identifier and numbers are not those that are written.
+/// Returns a head whose set identifier and numbers are not those that are written.
 pub(crate) fn head() -> Head1 {
     Head1 {
         file_id: Field::of_bytes(*b"PAYROLL          "),
@@ -62,13 +62,13 @@ pub(crate) fn head() -> Head1 {
     }
 }
 
-/// The first volumes of a set, of these three.
+/// Returns the first volumes of a set, of these three.
 pub(crate) fn volumes(alloc: Global, count: usize) -> Result<Vec<Vol1>, AllocError> {
     let all = [volume(*b"ABC001"), volume(*b"ABC002"), volume(*b"ABC003")];
     Vec::from_slice(alloc, &all[..count.min(3)])
 }
 
-/// A writer of items in memory, on so many of the three volumes.
+/// Returns a writer of items in memory, on so many of the three volumes.
 pub(crate) fn in_memory(
     alloc: Global,
     capacity: u32,
@@ -79,7 +79,7 @@ pub(crate) fn in_memory(
     made(SetWriter::new(alloc, set_id, volumes, capacity, MemoryTapes::new(alloc)))
 }
 
-/// A writer of images in memory, on so many of the three volumes.
+/// Returns a writer of images in memory, on so many of the three volumes.
 pub(crate) fn on_images(
     alloc: Global,
     capacity: u32,
@@ -91,7 +91,7 @@ pub(crate) fn on_images(
     made(SetWriter::new(alloc, set_id, volumes, capacity, out))
 }
 
-/// The writer, which is not refused.
+/// Returns the writer, which is not refused.
 fn made<T: TapeOut + Drop>(
     writer: Result<SetWriter<T>, RefusedWriter<T>>,
 ) -> Result<SetWriter<T>, Fail> {

@@ -24,7 +24,7 @@ pub(crate) const HDR1_SECOND_FILE: &[u8; 80] =
 pub(crate) const HDR2: &[u8; 80] =
     b"HDR2F0080000080                                   00                            ";
 
-/// EOV1 of the first section, behind three blocks.
+/// EOV1 of the first section, after three blocks.
 pub(crate) const EOV1: &[u8; 80] =
     b"EOV1PAYROLL          ABC00100010001000100 00000 00000 000003                    ";
 
@@ -32,19 +32,19 @@ pub(crate) const EOV1: &[u8; 80] =
 pub(crate) const EOV2: &[u8; 80] =
     b"EOV2F0080000080                                   00                            ";
 
-/// EOF1 of the first file, behind three blocks.
+/// EOF1 of the first file, after three blocks.
 pub(crate) const EOF1: &[u8; 80] =
     b"EOF1PAYROLL          ABC00100010001000100 00000 00000 000003                    ";
 
-/// EOF1 behind no block.
+/// EOF1 after no block.
 pub(crate) const EOF1_EMPTY: &[u8; 80] =
     b"EOF1PAYROLL          ABC00100010001000100 00000 00000 000000                    ";
 
-/// EOF1 of the second section, behind no block.
+/// EOF1 of the second section, after no block.
 pub(crate) const EOF1_SECOND_SECTION: &[u8; 80] =
     b"EOF1PAYROLL          ABC00100020001000100 00000 00000 000000                    ";
 
-/// EOF1 of the second file, behind one block.
+/// EOF1 of the second file, after one block.
 pub(crate) const EOF1_SECOND_FILE: &[u8; 80] =
     b"EOF1PAYROLL          ABC00100010002000100 00000 00000 000001                    ";
 

@@ -5,19 +5,19 @@ use crate::images::{Piece, add_all, image_of};
 use crate::texts::*;
 use std::alloc::{AllocError, Global};
 
-/// The volume of the whole file.
+/// Returns the volume of the whole file.
 pub(crate) fn one_volume(alloc: Global, records: &[u8]) -> Result<Vec<u8>, AllocError> {
     let closing = [Mark, Block(EOF1), Block(EOF2), Mark, Mark, End];
     of_records(alloc, records, &closing)
 }
 
-/// The volume that the file fills, where its end stands on the next.
+/// Returns the volume that the file fills, if its end is on the next.
 pub(crate) fn first_of_two(alloc: Global, records: &[u8]) -> Result<Vec<u8>, AllocError> {
     let closing = [Mark, Block(EOV1), Block(EOV2), Mark, Mark, End];
     of_records(alloc, records, &closing)
 }
 
-/// The next one, with the file end alone.
+/// Returns the next one, which contains only the file's end.
 pub(crate) fn second_of_two(alloc: Global) -> Result<Vec<u8>, AllocError> {
     let pieces = [
         Block(VOL1_SECOND),
@@ -34,7 +34,7 @@ pub(crate) fn second_of_two(alloc: Global) -> Result<Vec<u8>, AllocError> {
     image_of(alloc, &pieces)
 }
 
-/// The first volume, with these records in blocks of 800 bytes, and these pieces behind them.
+/// Returns the first volume, with these records in blocks of 800 bytes, followed by these pieces.
 fn of_records(alloc: Global, records: &[u8], closing: &[Piece]) -> Result<Vec<u8>, AllocError> {
     let mut bytes = image_of(alloc, &[Block(VOL1_FIRST), Block(HDR1), Block(HDR2), Mark])?;
     for block in records.chunks(800) {

@@ -1,4 +1,4 @@
-//! Sets written whole, byte by byte and by their lengths.
+//! Sets written completely, byte by byte and by their lengths.
 
 use crate::calls::Call::{Begin, BeginSpanned, EndFile, Finish, Put, Records};
 use crate::calls::{Row, follow, perform};
@@ -16,7 +16,7 @@ use tape_writer::MemoryTapes;
 /// 25 records of 80 bytes.
 const SEVENS: [u8; 2_000] = [b'7'; 2_000];
 
-/// Sets on one volume: a name, the calls, and what stands behind so many bytes of the image.
+/// Sets on one volume: a name, the calls, and the bytes after so many of the image.
 const ON_ONE_VOLUME: &[(&str, &[Row], usize, &[Piece<'_>])] = &[
     (
         "a file of 25 records",
@@ -91,7 +91,7 @@ const ON_ONE_VOLUME: &[(&str, &[Row], usize, &[Piece<'_>])] = &[
     ),
 ];
 
-/// What the calls write on one volume ends with these pieces.
+/// The calls write one volume that ends with these pieces.
 fn is_written(
     rt: &impl Abort,
     alloc: Global,
@@ -125,7 +125,7 @@ const TWO_VOLUMES: &[Row] = &[
     (Finish, Ok(()), 460),
 ];
 
-/// Whether these are the images of the two volumes.
+/// Returns true if these are the images of the two volumes.
 fn are_both(alloc: Global, images: &[Vec<u8>]) -> Result<bool, Fail> {
     let first = first_of_two(alloc, &SEVENS)?;
     let second = second_of_two(alloc)?;
@@ -143,7 +143,7 @@ fn file_end_on_the_second_volume(rt: HostRuntime) -> Result<(), Fail> {
     Ok(())
 }
 
-/// A set that ended has no volume under way, and gives its labels back.
+/// A set that ended has no current volume, and returns its labels.
 #[test]
 fn nothing_is_under_way_at_the_end(rt: HostRuntime) -> Result<(), Fail> {
     let mut writer = on_images(rt.alloc(), 2_500, 2)?;
@@ -165,10 +165,10 @@ fn a_record_over_many_blocks(rt: HostRuntime) -> Result<(), Fail> {
     Ok(())
 }
 
-/// Volumes in memory, and how many items stand on each.
+/// Volumes in memory, and the number of items on each.
 const LENGTHS: &[(usize, usize)] = &[(0, 12), (1, 9), (2, 0)];
 
-/// What stands at some places of them.
+/// Some of their items.
 const ITEMS: &[(usize, usize, Option<Item<'_>>)] = &[
     (0, 8, Some(Item::Block(EOV1))),
     (0, 11, Some(Item::Mark)),
@@ -177,7 +177,7 @@ const ITEMS: &[(usize, usize, Option<Item<'_>>)] = &[
     (2, 0, None),
 ];
 
-/// These are what was written of 25 records on two volumes in memory.
+/// These are the two volumes in memory that were written for 25 records.
 fn are_two(rt: &impl Abort, tapes: &MemoryTapes) {
     assert!(rt; tapes.count() == 2);
     for (volume, length) in LENGTHS {

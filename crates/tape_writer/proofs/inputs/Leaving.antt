@@ -163,7 +163,7 @@ put_left H mid w G file cut a b c all left next old r f p is k leaves grew ends 
 
 -- ---- a file
 
--- it was begun, and no record was told
+-- it was begun, and no record was passed
 pub none_left : {T : Type 0} (H : Tapes → Type 0) (w : SetState T) (G : Type 0) (fault : SetFault)
     (told : List Told) (records : List (List ℕ)) → IsLeftInside H w told
     → (IsOfInput fault → ⊥) → IsLeftOf H w G fault told records
@@ -176,7 +176,7 @@ none_left H w G fault told records left other = record {
   all = λ e. absurd (other e);
 }
 
--- it was not begun, or no record was told
+-- it was not begun, or no record was passed
 pub begin_left : {T : Type 0} (H : T → Tapes → Type 0) (old w : SetState T) (G : Type 0)
     (f : WriteFault) (told more : List Told) (records : List (List ℕ)) (capacity n : ℕ)
     (head : Head1) (shape : Shape) → IsBeginFault capacity n head shape f → Leaves old w f
@@ -283,7 +283,7 @@ behind_more H w G G' fault first told records more (inr l) =
 
 -- ---- one of the files
 
--- the file that comes behind those that are written
+-- the file that comes after those that are written
 pub wrote_left : {T : Type 0} (H : Tapes → Type 0) (w : SetState T) (G G' : Type 0)
     (fault : SetFault) (X : Type 0)
     (view : X → Head1 × Option (List ℕ)) (set_id : List ℕ) (shape : Shape) (cut : Cut)

@@ -1,4 +1,4 @@
--- Answers that the contracts of writing from inputs exclude: each is what a wrong body would give.
+-- Results that the contracts of writing from inputs exclude: each is the result of a wrong body.
 use Rattle.std.proofs.Common.{◌≡◌, ℕ, List, [], ◌∷◌, ◌++◌, length, true, false, refl, sym, ap, ◌∙◌}
 use Rattle.std.proofs.Common.{subst, arith, codes, inl, inr, ◌+◌}
 use Rattle.std.specs.Prelude.{Option, Some, None, Ok, Err, IfSome, map, take, get_or, vec_capacity}
@@ -65,7 +65,7 @@ to_come_of : (cut : Cut) (over : _) (xs : List ℕ) (c : Cut) → cut ≡ c → 
     → to_come cut over xs ≡ to_come c false xs
 to_come_of cut over xs c e f = ap (λ v. to_come v over xs) e ∙ ap (λ v. to_come c v xs) f
 
--- empty_line_dropped: an empty line stands first, and the line behind it is given
+-- empty_line_dropped: an empty line is first, and the line after it is returned
 empty_line_dropped : (R : _) (L : _) (g : _) (d : _) (h : _) (κs : _) (a : _) (s : _) (ys : List ℕ)
     → next.Learnt-named R L g d h κs a (Ok true) s → a.0.now.cut ≡ Lines → a.0.now.over ≡ false
     → left_of g.remaining a.0.now ≡ Some (codes "\nA\n") → left_of g.remaining s.0.now ≡ Some ys
@@ -85,7 +85,7 @@ rest_padded R L g d h κs a s ys l cut over old new w =
     ∙ gives R L g d h κs a true s (codes "AB") ys l old new in
     absurd (let n : 2 ≡ 3 = ap (λ v. length (get_or v 0 [])) e ∙ ap length w in omega arith)
 
--- longest_record_refused: a record that has just as many bytes as the limit is told as too long
+-- longest_record_refused: a record that has just as many bytes as the limit is reported as too long
 longest_record_refused : (R : _) (L : _) (g : _) (d : _) (h : _) (κs : _) (a : _) (s : _)
     (xs : List ℕ) (r : List ℕ) (rs : List (List ℕ))
     → next.Learnt-named R L g d h κs a (Err TooLong) s → left_of g.remaining a.0.now ≡ Some xs
@@ -103,7 +103,7 @@ line_gathered_to_its_end : (R : _) (L : _) (g : _) (d : _) (h : _) (κs : _) (a 
 line_gathered_to_its_end R L g d h κs a answer s l w = absurd (omega (arith, l.within, w))
 
 -- memory_gives_out_with_room: the next record is no longer than the buffer has room for, and it is
--- told that there was no memory
+-- reported that there was no memory
 memory_gives_out_with_room : (R : _) (L : _) (g : _) (d : _) (h : _) (κs : _) (a : _) (s : _)
     (xs : List ℕ) (r : List ℕ) (rs : List (List ℕ))
     → next.Learnt-named R L g d h κs a (Err inputs.OutOfMemory) s
@@ -128,7 +128,7 @@ bytes_lost_at_a_failed_read R L g d h κs a s l old new none =
     (subst (λ v. IfKnown v (left_of g.remaining s.0.now) k) old l.taken) in
     absurd (let n : 2 ≡ 0 = ap length e ∙ ap (λ r. length (r ++ [])) none in omega arith)
 
--- read_failure_behind_the_end: the input's end was met, and a failed read is told
+-- read_failure_behind_the_end: the input's end was met, and a failed read is reported
 read_failure_behind_the_end : (R : _) (L : _) (g : _) (d : _) (h : _) (κs : _) (a : _) (s : _)
     → next.Learnt-named R L g d h κs a (Err ReadFailed) s → a.0.now.over ≡ true → ⊥
 read_failure_behind_the_end R L g d h κs a s l over =
@@ -183,7 +183,7 @@ empty_record_told_as_wrong_length T R LT LR g d e h f κs a s head l between one
     (sets.Write write_faults.RecordLength)) one (l.due between))
 
 -- read_failure_told_as_record_length: an input fails whose one record has a length of the shape,
--- and a record of another length is told
+-- and a record of another length is reported
 read_failure_told_as_record_length : (T : _) (R : _) (LT : _) (LR : _) (g : _) (d : _) (e : _) (h :
     _)
     (f : _) (κs : _) (a : _) (s : _) (head : Head1)
@@ -224,7 +224,7 @@ only_shape : (plan : _) (inputs : _) (fault : _) → IsSetFault plan inputs faul
     → cut_of plan.form plan.shape ≡ None → fault ≡ sets.Write write_faults.BadShape
 only_shape plan inputs fault h none = subst (λ v. IsFaultOfCut plan inputs v fault) none h
 
--- raw_counted_told_as_no_file: a form that cannot cut the shape is told as a set without a file
+-- raw_counted_told_as_no_file: a form that cannot cut the shape is reported as a set without a file
 raw_counted_told_as_no_file : (R : _) (S : _) (D : _) (LR : _) (LS : _) (LD : _) (g : _) (d : _)
     (h : _) (e : _) (i : _) (f : _) (j : _) (k : _) (κs : _) (a : _) (refused : _) (s : _)
     → write_set.Learnt-named R S D LR LS LD g d h e i f j k κs a (Err refused) s
@@ -247,7 +247,7 @@ device_lent_at_a_refusal R S D LR LS LD g d h e i f j k κs a refused s l none f
     absurd (let n : 3 ≡ 4 = sym three ∙ ap h.left (l.nothing (inl none)).0 ∙ four in omega arith)
 
 -- volume_begun_for_no_shape: a set of one file is refused, whose blocks are too large for the
--- volumes, and an image is under way
+-- volumes, and an image is current
 volume_begun_for_no_shape : (R : _) (S : _) (D : _) (LR : _) (LS : _) (LD : _) (g : _) (d : _)
     (h : _) (e : _) (i : _) (f : _) (j : _) (k : _) (κs : _) (a : _) (refused : _) (s : _)
     → write_set.Learnt-named R S D LR LS LD g d h e i f j k κs a (Err refused) s
@@ -266,7 +266,7 @@ has_a_file plan input (Some cut) (inr (inl (inl (inr put)))) = put
 has_a_file plan input (Some cut) (inr (inl (inr none))) = none
 has_a_file plan input (Some cut) (inr (inr end)) = absurd (omega (arith, end))
 
--- one_file_told_as_none: a set of one file is told as a set without a file
+-- one_file_told_as_none: a set of one file is reported as a set without a file
 one_file_told_as_none : (R : _) (S : _) (D : _) (LR : _) (LS : _) (LD : _) (g : _) (d : _)
     (h : _) (e : _) (i : _) (f : _) (j : _) (k : _) (κs : _) (a : _) (refused : _) (s : _)
     (input : Head1 × Option (List ℕ))

@@ -1,4 +1,4 @@
--- Refusals of sets and of files from inputs that their contracts exclude: each is answered without
+-- Refusals of sets and of files from inputs that their contracts exclude: each is returned without
 -- its cause, as a wrong body would.
 use Rattle.std.proofs.Common.{◌≡◌, ◌≢◌, inl, inr, ℕ, ◌≤◌, List, [], ◌∷◌, ◌++◌, length}
 use Rattle.std.proofs.Common.{refl, sym, subst, arith}
@@ -28,7 +28,7 @@ use Rattle.tape_writer.proofs.MistakesOfFronts.{open_of}
 use Rattle.tape_writer.proofs.inputs.files.write_files.Reads as write_files
 use Rattle.tape_writer.proofs.inputs.set.write_set.Reads as write_set
 
--- each of these inputs tells its bytes
+-- each of these inputs says its bytes
 abbrev AreKnown : List (Head1 × Option (List ℕ)) → Type 0
 AreKnown inputs = AllByRecursion (λ i. i.1 ≢ None) inputs
 
@@ -63,8 +63,8 @@ on_last H w set_id told shape cut inputs g known =
       none_left = k.2.out.stuck.none_left;
     }
 
--- third_file_has_no_volume: the second of three volumes is under way, and files are refused for
--- want of a volume
+-- third_file_has_no_volume: the second of three volumes is current, and files are refused for lack
+-- of a volume
 third_file_has_no_volume : (T : _) (R : _) (LT : _) (LR : _) (g : _) (d : _) (e : _) (h : _)
     (f : _) (κs : _) (a : _) (s : _) (told : List Told)
     → write_files.Learnt-named T R LT LR g d e h f κs a (Err (Write OutOfVolumes)) s
@@ -81,7 +81,7 @@ not_rose : Rose 3 3 → ⊥
 not_rose (inl e) = absurd (omega (arith, e))
 not_rose (inr e) = absurd (omega (arith, e))
 
--- read_failure_told_as_device: an input fails, and it is told that the device of the tapes did
+-- read_failure_told_as_device: an input fails, and it is reported that the device of the tapes did
 read_failure_told_as_device : (T : _) (R : _) (LT : _) (LR : _) (g : _) (d : _) (e : _) (h : _)
     (f : _) (κs : _) (a : _) (s : _)
     → write_files.Learnt-named T R LT LR g d e h f κs a (Err (Write Device)) s
@@ -91,7 +91,7 @@ read_failure_told_as_device T R LT LR g d e h f κs a s l was is =
     not_rose (subst (λ v. Rose 3 v.device) is
     (subst (λ v. Rose v.device (g.failures s.1.0.now.out).device) was (l.cause refl)))
 
--- tapes on which a writer gave up have an image under way
+-- tapes on which a writer gave up have a current image
 under_way : {S : Type 0} (H : S → Bool → List (List ℕ) → Type 0) (store : S) (plan : SetPlan)
     (cut : Cut) (inputs : List (Head1 × Option (List ℕ)))
     → GaveUpSet (Holds H) (λ t. (t.store ≡ store) × (t.image ≡ None)) plan cut inputs
@@ -114,8 +114,8 @@ none_under_way H store plan inputs cut (inr gave) one is known =
     GaveUpSet (Holds H) (λ t. (t.store ≡ store) × (t.image ≡ None)) plan d inputs)) is gave)
     known
 
--- files_counted_as_volumes: there are more files than volumes, and the set is refused for want of
--- a volume while no image is under way
+-- files_counted_as_volumes: there are more files than volumes, and the set is refused for lack of a
+-- volume while no image is current
 files_counted_as_volumes : (R : _) (S : _) (D : _) (LR : _) (LS : _) (LD : _) (g : _) (d : _)
     (h : _) (e : _) (i : _) (f : _) (j : _) (k : _) (κs : _) (a : _) (refused : _) (s : _)
     (cut : Cut)
@@ -157,7 +157,7 @@ refusals_told_as_device : (R : _) (S : _) (D : _) (LR : _) (LS : _) (LD : _) (g 
 refusals_told_as_device R S D LR LS LD g d h e i f j k κs a refused s w l is three there =
     takes_more (h.left refused.images) refused.under_way w (l.device is) three there
 
--- where an input failed an image is under way
+-- where an input failed an image is current
 image_there : {S : Type 0} (H : S → Bool → List (List ℕ) → Type 0) (store : S) (plan : SetPlan)
     (cut : Cut) (inputs : List (Head1 × Option (List ℕ)))
     (l : IsLeftSet (Holds H) (λ t. (t.store ≡ store) × (t.image ≡ None)) ReadFailed plan cut inputs)
@@ -177,7 +177,7 @@ image_there H store plan cut inputs l (inl k) known =
     ]
 
 -- reader_failed_before_a_file: a set of known inputs is refused as if one had failed, and no image
--- is under way
+-- is current
 reader_failed_before_a_file : (R : _) (S : _) (D : _) (LR : _) (LS : _) (LD : _) (g : _) (d : _)
     (h : _) (e : _) (i : _) (f : _) (j : _) (k : _) (κs : _) (a : _) (refused : _) (s : _)
     (cut : Cut)
@@ -205,7 +205,7 @@ reader_failed_before_a_file R S D LR LS LD g d h e i f j k κs a refused s cut l
           image_there h.holds refused.images a.1.0 cut inputs n n.left known
     ]
 
--- head_judged_at_its_turn: a head can't be labelled, and an image is under way
+-- head_judged_at_its_turn: a head can't be labelled, and an image is current
 head_judged_at_its_turn : (R : _) (S : _) (D : _) (LR : _) (LS : _) (LD : _) (g : _) (d : _)
     (h : _) (e : _) (i : _) (f : _) (j : _) (k : _) (κs : _) (a : _) (refused : _) (s : _)
     → write_set.Learnt-named R S D LR LS LD g d h e i f j k κs a (Err refused) s

@@ -1,4 +1,4 @@
--- What a front of some bytes does to a record.
+-- What a prefix of some bytes does to a record.
 use Rattle.std.proofs.Common.{◌≡◌, ◌≢◌, ◌<◌, ◌≤◌, ℕ, zero, suc, ◌+◌, ◌∙◌, List, [], ◌∷◌, ◌++◌, Bool}
 use Rattle.std.proofs.Common.{true, false, length, take, get_or, sym, ap, subst, arith}
 use Rattle.std.proofs.Common.{append_assoc, append-nil, length-append}
@@ -44,7 +44,7 @@ line_ended hay p r within before at =
     subst (λ n. Adds Lines r (take n hay) (r ++ take p hay) true) same
     (λ more. line_ends hay p r more within before at)
 
--- without a line feed the record goes on
+-- without a line feed the record continues
 pub line_inside : (hay r : List ℕ) → ((k : ℕ) → k < length hay → get_or hay k 0 ≢ 10)
     → Adds Lines r hay (r ++ hay) false
 line_inside hay r none = λ more. line_goes_on hay r more (no_feed hay none)
@@ -80,7 +80,7 @@ whole_more (b ∷ l) r ys = whole_more l (r ++ b ∷ []) ys
 pub whole_inside : (l r : List ℕ) → Adds Whole r l (r ++ l) false
 whole_inside l r = λ more. whole_more l r more
 
--- all bytes are their own front
+-- all bytes are their own prefix
 pub adds_all : (cut : Cut) (n : ℕ) (l r : List ℕ) (ended : Bool) → n ≡ length l
     → Adds cut r l (r ++ l) ended → Adds cut r (take n l) (r ++ take n l) ended
 adds_all cut n l r ended is adds =

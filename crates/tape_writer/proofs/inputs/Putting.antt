@@ -118,7 +118,7 @@ of_file told file before (r ∷ rs) =
     ∙ of_file told file (before ++ r ∷ []) rs
     ∙ ap (λ l. told ++ record { file = file; records = l } ∷ []) (append_assoc before (r ∷ []) rs)
 
--- what a reading gave, told with the cut that was there at first
+-- what a reading returned, described with the cut that was there at first
 pub given_cut : (cut here then' : Cut) (b c : Bool) (more m : Bool) (r : List ℕ)
     (left next : Option (List ℕ)) → here ≡ cut → then' ≡ here → more ≡ m
     → IfKnown left next (λ xs ys. to_come here b xs ≡ given more r (to_come then' c ys))

@@ -236,7 +236,7 @@ pub next_fault : (other : Type 0) (fault : InputFault) (told : SetFault) → tol
     → (fault ≡ inputs.TooLong → other) → IsInputFault other told
 next_fault other fault told is f = subst (IsInputFault other) (sym is) (told_input other fault f)
 
--- the records of an input were not put, told by the input
+-- the records of an input were not put, as a property of the input
 pub input_fault : (shape : Shape) (cut here : Cut) (over : Bool) (input all : Option (List ℕ))
     (fault : SetFault) → all ≡ input → here ≡ cut → over ≡ false
     → IsInputFault (IfSome all (λ xs. OneIsOther shape (to_come here over xs))) fault
@@ -249,7 +249,7 @@ input_fault shape cut here over input all fault a e f p =
 
 -- ---- one of the files
 
--- the fault is that of the file behind these
+-- the fault is that of the file after these
 fault_behind : (capacity : ℕ) (shape : Shape) (cut : Cut) (n m : ℕ)
     (xs ys : List (Head1 × Option (List ℕ))) (x : Head1 × Option (List ℕ)) (fault : SetFault)
     → m ≡ n + length xs → IsFileFault capacity shape cut m x fault
@@ -260,7 +260,7 @@ fault_behind capacity shape cut n m [] ys x fault e p =
 fault_behind capacity shape cut n m (y ∷ xs) ys x fault e p =
     inr (fault_behind capacity shape cut (n + 1) m xs ys x fault (omega (arith, e)) p)
 
--- the file that comes behind those that are written
+-- the file that comes after those that are written
 pub wrote_fault : (X : Type 0) (view : X → Head1 × Option (List ℕ)) (set_id : List ℕ)
     (shape : Shape) (cut : Cut) (first now : List X) (at : ℕ) (old mid : List Told → Type 0)
     (capacity here n m : ℕ) (x d : X) (fault : SetFault)

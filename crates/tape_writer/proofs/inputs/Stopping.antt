@@ -85,7 +85,7 @@ end_out H w told cut here over input all next mid a e f put stuck =
     file_out H w told cut here over input all a e f
     (known_end H w told here over all next mid put stuck)
 
--- the file that comes behind those that are written
+-- the file that comes after those that are written
 pub wrote_out : {T : Type 0} (H : Tapes → Type 0) (w : SetState T) (X : Type 0)
     (view : X → Head1 × Option (List ℕ)) (set_id : List ℕ) (shape : Shape) (cut : Cut)
     (first now : List X) (at : ℕ) (old mid : List Told → Type 0) (here : List ℕ) (x d : X)
@@ -118,7 +118,7 @@ grows_then a b c k l = (omega (arith, k.0, l.0), omega (arith, k.1, l.1))
 pub grows_self : (a : Failures) → Grows a a
 grows_self a = (omega arith, omega arith)
 
--- a call of the writer, behind others
+-- a call of the writer, after others
 pub stops : (a b c : Failures) (fault : WriteFault) (told : SetFault)
     → Grows a b → (fault ≡ Device → Rose b.device c.device) → told ≡ Write fault
     → told ≡ Write Device → Rose a.device c.device

@@ -1,4 +1,4 @@
-//! Bytes read ahead of their use.
+//! Bytes that were read ahead.
 ghost use Rattle.std.specs.Prelude.{◌≡◌, ◌≤◌, ◌<◌, [], ◌∷◌, drop, length, vec_len, take, IfOk};
 ghost use Rattle.std.specs.Prelude.{OnOk, OnErr, IsOkUnless, MatchBool};
 ghost use Rattle.std.specs.Io.KnownBytes.{Keeps, Consumes, IsAtEnd, prepend_known};
@@ -8,10 +8,10 @@ use std::alloc::{AllocError, Global};
 use std::io::Read;
 use std::marker::Model;
 
-/// How many bytes are read at once, at most.
+/// The maximum number of bytes that are read at once.
 const ROOM: usize = 8_192;
 
-/// Bytes of a reader that were read and not yet used.
+/// Bytes that were read from a reader and not used yet.
 #[derive(Drop)]
 pub struct Chunk {
     bytes: Vec<u8>,
@@ -31,7 +31,7 @@ impl Model for Chunk {
 }
 
 impl Chunk {
-    /// No bytes, and room for 8,192.
+    /// Creates an empty chunk with room for 8,192 bytes.
     pub fn new(alloc: Global) -> Result<Chunk, AllocError>
         ensures { IfOk result (λ c. c ≡ []) }
     {
@@ -44,21 +44,21 @@ impl Chunk {
         })
     }
 
-    /// The bytes.
+    /// Returns the bytes.
     pub fn as_slice(&self) -> &[u8]
         ensures { result.now ≡ self.now }
     {
         &self.bytes[self.start..self.end]
     }
 
-    /// Whether there are none.
+    /// Returns true if there are none.
     pub fn is_empty(&self) -> bool
         ensures { MatchBool result (self.now ≡ []) (0 < length self.now) }
     {
         self.start == self.end
     }
 
-    /// Uses so many of them, or all where there are fewer.
+    /// Uses `count` of them, or all if there are fewer.
     pub fn skip(&mut self, count: usize)
         ensures { self.new ≡ drop count self.old }
     {
@@ -66,7 +66,7 @@ impl Chunk {
         self.start += left.min(count);
     }
 
-    /// Reads once where there are none.
+    /// Reads once if there are none.
     pub fn fill<R: Read>(&mut self, reader: &mut R) -> Result<(), InputFault>
         ensures bytes { Keeps (prepend_known self.old (R.remaining reader.old))
             (prepend_known self.new (R.remaining reader.new)) }
@@ -89,7 +89,7 @@ impl Chunk {
     }
 }
 
-/// Reads once, over these bytes.
+/// Reads once, replacing these bytes.
 fn read_over<R: Read>(reader: &mut R, bytes: &mut Vec<u8>) -> Result<usize, InputFault>
     ensures len { vec_len bytes.new ≡ vec_len bytes.old }
     ensures within { IfOk result (λ n. n ≤ vec_len bytes.new) }

@@ -8,7 +8,7 @@ use memchr::memchr;
 /// Where an input is cut into records.
 #[derive(Clone, Copy)]
 pub enum Cut {
-    /// Behind each line feed, which is in no record.
+    /// After each line feed, which is in no record.
     Lines,
     /// Into records of this length.
     Length(u32),
@@ -16,19 +16,19 @@ pub enum Cut {
     Whole,
 }
 
-/// The front of some bytes that goes on a record.
+/// The first of some bytes, which continue a record.
 #[derive(Clone, Copy)]
 pub struct Piece {
     /// How many of the bytes are in the record.
     pub content: usize,
-    /// How many of them are taken: these, and a line feed behind them.
+    /// How many of them are used: these, and a line feed that follows them.
     pub taken: usize,
-    /// Whether the record ends with it.
+    /// Whether the record ends with them.
     pub ended: bool,
 }
 
 impl Cut {
-    /// The front of these bytes that goes on a record of so many bytes.
+    /// Returns the first of these bytes that continue a record of `held` bytes.
     pub fn piece(self, held: usize, bytes: &[u8]) -> Piece
         ensures within { (result.content ≤ result.taken) × (result.taken ≤ count bytes.now) }
         ensures some { 0 < count bytes.now → 0 < result.taken }
@@ -43,7 +43,7 @@ impl Cut {
         }
     }
 
-    /// Whether so many bytes at the input's end are a record.
+    /// Returns true if `held` bytes at the input's end are a record.
     pub fn is_last(self, held: usize) -> bool
         ensures { (r : List ℕ) → held ≡ count r
             → MatchBool result (last_record self r ≡ r ∷ []) (last_record self r ≡ []) }
@@ -56,7 +56,7 @@ impl Cut {
 }
 
 impl Piece {
-    /// All of so many bytes, which are inside a record.
+    /// Returns all of these bytes, which are inside a record.
     fn inside(length: usize) -> Piece
         ensures { result ≡ record { content = length; taken = length; ended = false } }
     {
@@ -68,7 +68,7 @@ impl Piece {
     }
 }
 
-/// Up to the line feed, or all where there is none.
+/// Returns the bytes up to the line feed, or all if there is none.
 fn line_piece(bytes: &[u8]) -> Piece
     ensures within { (result.content ≤ result.taken) × (result.taken ≤ count bytes.now) }
     ensures some { 0 < count bytes.now → 0 < result.taken }
@@ -86,7 +86,7 @@ fn line_piece(bytes: &[u8]) -> Piece
     }
 }
 
-/// Up to this length of the record, or all where it is not reached.
+/// Returns the bytes up to this length of the record, or all if it is not reached.
 fn length_piece(length: u32, held: usize, bytes: &[u8]) -> Piece
     ensures within { (result.content ≤ result.taken) × (result.taken ≤ count bytes.now) }
     ensures some { 0 < count bytes.now → 0 < result.taken }
@@ -98,7 +98,7 @@ fn length_piece(length: u32, held: usize, bytes: &[u8]) -> Piece
     let all = Piece::inside(bytes.len());
     let length = length as usize;
     if held >= length {
-        // What is that long already is never whole. It takes a length of 0 to come here.
+        // A record that is already this long is never whole. This only happens if the length is 0.
         return all;
     }
     let wanted = length - held;

@@ -1,4 +1,4 @@
-//! Files written from inputs.
+//! Writes files from inputs.
 ghost use Rattle.std.specs.Prelude.{◌≡◌, ◌<◌, ◌≤◌, ◌++◌, ◌+◌, ◌∷◌, [], List, length, map};
 ghost use Rattle.std.specs.Prelude.{◌⊎◌, OnOk, IfErr, IfSome};
 ghost use Rattle.tape_image.specs.Reader.{IfKnown};
@@ -28,10 +28,10 @@ use std::io::Read;
 use tape_blocks::Shape;
 use tape_label::Head1;
 
-/// A file that is to be written: its head, and where its records come from.
+/// A file to be written: its head, and the source of its records.
 #[derive(Drop)]
 pub struct Input<R> {
-    /// Of this head the set identifier and the numbers of section and file are replaced.
+    /// Its set identifier and the numbers of section and file are replaced.
     pub head: Head1,
     pub reader: R,
 }
@@ -40,9 +40,9 @@ pub struct Input<R> {
 ///
 /// # Errors
 ///
-/// `Write` with what the writer refuses, with `RecordLength` as soon as a record has more bytes
-/// than any of the shape and with `OutOfMemory` for memory of the engine's own; `ReadFailed` where
-/// an input fails.
+/// `Write` with the writer's fault, with `RecordLength` as soon as a record has more bytes than any
+/// of the shape, and with `OutOfMemory` if memory of this function is refused; `ReadFailed` if an
+/// input fails.
 pub fn write_files<T: TapeOut + Drop, R: Read>(
     alloc: Global,
     writer: &mut SetWriter<T>,
@@ -55,21 +55,21 @@ pub fn write_files<T: TapeOut + Drop, R: Read>(
         → OnOk result (IfAllKnown (map (λ f. (f.head, R.remaining f.reader)) files.old) (λ fs.
         IsWriting (T.holds writer.new.out) writer.new
         (told ++ told_files writer.old.set_id shape cut (length told + 1) fs))) }
-    // No fault is answered where it is not due.
+    // No fault is returned without its cause.
     ensures due { writer.old.phase ≡ Between
         → IfErr result (IsFilesFault writer.old.capacity shape cut (length writer.old.files)
         (map (λ f. (f.head, R.remaining f.reader)) files.old)) }
-    // Without a volume left, what comes next of the files told so far does not fit.
+    // If no volume is left, the next block or file end of the files so far does not fit.
     ensures stuck { IfErr result (λ fault. fault ≡ SetFault.Write WriteFault.OutOfVolumes
         → (told : List Told) → IsWriting (T.holds writer.old.out) writer.old told
         → GaveUpIn (T.holds writer.new.out) writer.new writer.old.set_id told shape cut
         (map (λ f. (f.head, R.remaining f.reader)) files.old)) }
-    // Where no file of this shape can be written, nothing was.
+    // If no file of this shape can be written, nothing was.
     ensures unfit { writer.old.phase ≡ Between
         → (IsWritable shape → least_capacity shape ≤ writer.old.capacity → ⊥)
         → 0 < length files.old → (writer.new ≡ writer.old) × OnOk result ⊥ }
-    // Whatever the fault: the tapes hold a front of what is written of the files told so far; and
-    // want of memory has its cause.
+    // Whatever the fault: the tapes contain a prefix of what is written for the files so far, and
+    // `OutOfMemory` has its cause.
     ensures front { writer.old.phase ≡ Between
         → (told : List Told) → IsWriting (T.holds writer.old.out) writer.old told
         → IfErr result (λ fault. IsLeftIn (T.holds writer.new.out) writer.new
@@ -141,7 +141,7 @@ fn write_file<T: TapeOut + Drop, R: Read>(
     }
 }
 
-/// Puts the records to come of an input in the file under way.
+/// Writes the remaining records of an input into the current file.
 fn put_records<T: TapeOut + Drop, R: Read + Drop>(
     writer: &mut SetWriter<T>,
     records: &mut Records<R>,
@@ -172,7 +172,7 @@ fn put_records<T: TapeOut + Drop, R: Read + Drop>(
         → OnOk result (IsInFile file writer.new.phase) }
     ensures files { writer.new.files ≡ writer.old.files }
 {
-    // An input need not end, but each record that is put takes room of the writer.
+    // An input may be infinite, but each record that is written takes room of the writer.
     'records: loop {
         match records.next() {
             Ok(true) => match writer.put(records.record()) {
@@ -185,7 +185,7 @@ fn put_records<T: TapeOut + Drop, R: Read + Drop>(
     }
 }
 
-/// How an input's fault is told.
+/// Returns the fault of an input as a fault of the set.
 fn fault_of(fault: InputFault) -> SetFault
     ensures { result ≡ told_as fault }
 {

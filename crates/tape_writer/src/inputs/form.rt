@@ -1,4 +1,4 @@
-//! Where an input of a form is cut into records, and how long a record can be.
+//! Where an input of a form is cut into records, and the maximum length of a record.
 ghost use Rattle.std.specs.Prelude.{◌≡◌};
 ghost use Rattle.tape_writer.specs.Records.{longest as longest_of};
 ghost use Rattle.tape_writer.specs.WriteSet.{cut_of as cut_by};
@@ -7,8 +7,8 @@ use crate::inputs::cut::Cut;
 use tape_blocks::{Form, Shape};
 use tape_label::Format;
 
-/// Where inputs of this form are cut for files of this shape, if they can be: raw ones in format D
-/// can't.
+/// Returns where inputs of this form are cut for files of this shape, or `None` for raw inputs in
+/// format D, which cannot be cut.
 pub fn cut_of(form: Form, shape: &Shape) -> Option<Cut>
     ensures { result ≡ cut_by form shape.now }
 {
@@ -22,7 +22,7 @@ pub fn cut_of(form: Form, shape: &Shape) -> Option<Cut>
     }
 }
 
-/// The most bytes that a record of a file of this shape has.
+/// Returns the maximum length of a record in a file of this shape.
 pub fn longest(shape: &Shape) -> u32
     ensures { result ≡ longest_of shape.now }
 {

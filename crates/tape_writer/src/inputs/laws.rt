@@ -1,5 +1,5 @@
-//! Laws of what the contracts call the records of an input: calls that do nothing, whose contract
-//! is the law.
+//! Laws of the definition of an input's records: functions that do nothing, with the law as their
+//! contract.
 ghost use Rattle.tape_writer.specs.RecordLaws.{LinesAreCut, PiecesAreCut, WholeIsOne};
 
 /// Lines are cut at their line feeds, and are the input up to a last line feed.

@@ -17,7 +17,7 @@ pub enum InputFault {
     ReadFailed,
     /// The record has more bytes than the limit.
     TooLong,
-    /// A growth was refused.
+    /// Memory was refused.
     OutOfMemory,
 }
 
@@ -26,17 +26,17 @@ pub enum InputFault {
 pub struct Records<R> {
     pub device: R,
     pub cut: Cut,
-    /// The most bytes of a record.
+    /// The maximum length of a record.
     pub limit: u32,
-    /// Whether the input's end was met.
+    /// Whether the end of the input was read.
     pub over: bool,
     pub record: Vec<u8>,
     pub ahead: Chunk,
 }
 
 impl<R: Read + Drop> Records<R> {
-    /// The records of this input, from where it stands, each of at most so many bytes. Nothing is
-    /// read.
+    /// Creates a reader for the records of this input, from its current position, each of at most
+    /// `limit` bytes. Reads nothing.
     pub fn new(alloc: Global, device: R, cut: Cut, limit: u32) -> Result<Self, AllocError>
         ensures device { IfOk result (λ r. (r.device ≡ device) × (r.ahead ≡ [])) }
         ensures left { IfOk result (λ r. left_of R.remaining r ≡ R.remaining device) }
@@ -55,41 +55,42 @@ impl<R: Read + Drop> Records<R> {
         })
     }
 
-    /// The record that was read last.
+    /// Returns the record that was read last.
     pub fn record(&self) -> &[u8]
         ensures { result.now ≡ self.now.record.items }
     {
         self.record.as_slice()
     }
 
-    /// Reads the next record, if there is one. Behind the end the reader is not asked again.
+    /// Reads the next record, and returns false if there is none. After the end it does not call
+    /// the reader again.
     ///
     /// # Errors
     ///
-    /// `ReadFailed` where the reader answers an error; `TooLong` as soon as what was read shows
-    /// that the record has more bytes than the limit, whatever comes behind; `OutOfMemory`. Then
-    /// nothing more is to be read.
+    /// `ReadFailed` if the reader returns an error; `TooLong` as soon as the bytes read show that
+    /// the record has more bytes than the limit, whatever follows; `OutOfMemory`. After an error
+    /// nothing more can be read.
     pub fn next(&mut self) -> Result<bool, InputFault>
         ensures given { IfOk result (λ more.
             IfKnown (left_of R.remaining self.old) (left_of R.remaining self.new) (λ xs ys.
             to_come self.old.cut self.old.over xs
             ≡ given more self.new.record.items (to_come self.new.cut self.new.over ys))) }
         ensures end { IfOk result (λ more. more ≡ false → self.new.over ≡ true) }
-        // At a refusal too: no more than the limit is held of a record.
+        // After an error too, no more bytes of a record than the limit are kept.
         ensures within { length self.new.record.items ≤ self.old.limit }
         ensures long { IfErr result (λ fault. fault ≡ InputFault.TooLong
             → IfSome (left_of R.remaining self.old) (λ xs.
             IsFirstLong self.old.limit (to_come self.old.cut self.old.over xs))) }
-        // No growth is due where the next record is no longer than the buffer has room for.
+        // Memory is only needed if the next record is longer than the capacity of the buffer.
         ensures memory { IfErr result (λ fault. fault ≡ InputFault.OutOfMemory
             → IfSome (left_of R.remaining self.old) (λ xs. IsFirstLong
             (vec_capacity self.old.record) (to_come self.old.cut self.old.over xs))) }
         ensures room { (vec_capacity self.old.record ≤ vec_capacity self.new.record)
             × (length self.new.record.items ≤ vec_capacity self.new.record) }
-        // The reader is asked where nothing is read ahead, and not behind its end.
+        // The reader is called only if no bytes are left to use, and not after its end.
         ensures due { IfErr result (λ fault. fault ≡ InputFault.ReadFailed
             → (self.old.over ≡ false) × (self.new.ahead ≡ [])) }
-        // Nothing of the input is lost at a refusal.
+        // An error loses no byte of the input.
         ensures taken { OnErr result (IfKnown (left_of R.remaining self.old)
             (left_of R.remaining self.new) (λ xs ys. xs ≡ self.new.record.items ++ ys)) }
         ensures cut { self.new.cut ≡ self.old.cut }
@@ -113,7 +114,8 @@ impl<R: Read + Drop> Records<R> {
     }
 }
 
-/// Moves the next piece of a record from the bytes read ahead. Whether the record ends with it.
+/// Moves the next piece of a record from the bytes that were read ahead. Returns whether the record
+/// ends with it.
 fn take_piece(
     cut: Cut,
     limit: u32,

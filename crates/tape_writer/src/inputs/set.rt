@@ -1,4 +1,4 @@
-//! A set written as images.
+//! Writes a set as images.
 ghost use Rattle.std.specs.Prelude.{◌≡◌, ◌≢◌, ◌<◌, ◌≤◌, ◌++◌, ◌+◌, [], List, length, map, None};
 ghost use Rattle.std.specs.Prelude.{◌⊎◌, ◌↔◌, IfOk, IfErr, IfSome, IsTrue, OnOk, false};
 ghost use Rattle.std.specs.List.{AllByRecursion};
@@ -31,19 +31,20 @@ use tape_blocks::{Form, Shape};
 use tape_image::ImageWriter;
 use tape_label::{Field, Vol1};
 
-/// How a set is to be written: on which volumes, all of one capacity, with all files in one shape
-/// and their inputs in one form.
+/// How to write a set: on which volumes, all of one capacity, with all files in one shape and their
+/// inputs in one form.
 #[derive(Drop)]
 pub struct SetPlan {
     pub set_id: Field<6>,
     pub volumes: Vec<Vol1>,
-    /// The most bytes of an image.
+    /// The maximum size of an image in bytes.
     pub capacity: u32,
     pub shape: Shape,
     pub form: Form,
 }
 
-/// What was written: so many files, and the store that was handed the images of the first volumes.
+/// The number of files that were written, and the store that received the images of the first
+/// volumes.
 #[derive(Drop)]
 pub struct WrittenSet<S> {
     pub files: usize,
@@ -51,8 +52,8 @@ pub struct WrittenSet<S> {
     pub images: S,
 }
 
-/// Why a set was not written. The store was handed the images of the volumes that ended; that of
-/// the volume under way, if there is one, ends where the fault came.
+/// Why a set was not written. The store received the images of the volumes that ended; the image of
+/// the current volume, if there is one, ends where the fault happened.
 #[derive(Drop)]
 pub struct RefusedSet<S: ImageStore + Drop> {
     pub fault: SetFault,
@@ -60,19 +61,19 @@ pub struct RefusedSet<S: ImageStore + Drop> {
     pub under_way: Option<ImageWriter<S::Device>>,
 }
 
-/// Writes files as a set, each volume as an image on a device of this store, which was handed none
-/// yet. An image is handed on before the next volume begins. Each input is read to its end, and a
-/// record of it is held.
+/// Writes files as a set, each volume as an image on a device of this store, which must not have
+/// received an image yet. Passes each image to the store before the next volume begins. Reads each
+/// input to its end, and keeps one record of it in memory.
 ///
 /// # Errors
 ///
-/// `Write` with what the set writer refuses (with `OutOfVolumes` where there is no volume, with
-/// `NoFile` where there is no file); with `BadShape` where raw inputs are no records of the format,
+/// `Write` with the fault of the set writer (including `OutOfVolumes` if there is no volume, and
+/// `NoFile` if there is no file); with `BadShape` if raw inputs cannot be records of the format,
 /// and with `BadField` for any head, before anything is written; with `RecordLength` as soon as a
-/// record has more bytes than any of the shape, and no more is read; with `Device` also where the
-/// store has no device left. `ReadFailed` where an input fails. No other fault comes, and none but
-/// `Device`, `OutOfMemory` and `ReadFailed` without its cause in the plan or the inputs:
-/// `OutOfVolumes` only where what comes next of the inputs, or a file's end behind them, does not
+/// record has more bytes than any of the shape, and then no more is read; with `Device` also if the
+/// store has no device left. `ReadFailed` if an input fails. There are no other faults, and all but
+/// `Device`, `OutOfMemory` and `ReadFailed` have their cause in the plan or the inputs:
+/// `OutOfVolumes` is only returned if the next block of the inputs, or the end of a file, does not
 /// fit the last volume.
 pub fn write_set<R: Read, S: ImageStore + Drop>(
     alloc: Global,
@@ -87,33 +88,33 @@ pub fn write_set<R: Read, S: ImageStore + Drop>(
         (told_files plan.set_id plan.shape cut 1 fs)))) }
     ensures volumes { IfOk result (λ done. done.volumes.items ≡ plan.volumes.items) }
     ensures files { IfOk result (λ done. done.files ≡ length files.old) }
-    // No fault is answered where it is not due.
+    // No fault is returned without its cause.
     ensures due { IfErr result (λ refused.
         IsSetFault plan (map (λ f. (f.head, R.remaining f.reader)) files.old) refused.fault) }
-    // Without a volume left, what comes next of the inputs read so far does not fit.
+    // If no volume is left, the next block or file end of the inputs read so far does not fit.
     ensures stuck { S.holds images false [] → IfErr result (λ refused.
         refused.fault ≡ SetFault.Write WriteFault.OutOfVolumes
         → HasNoVolume (Holds S.holds)
         (λ tapes. (tapes.store ≡ refused.images) × (tapes.image ≡ refused.under_way)) plan
         (map (λ f. (f.head, R.remaining f.reader)) files.old)) }
-    // Whatever the fault: nothing was written; or the images that were handed on are whole, and
-    // with the one under way a front of what is written of the files told so far, and no more; all
-    // of it where an input failed or a record has a wrong length. Want of memory comes only where a
-    // file is begun, or a record is longer than those before it.
+    // Whatever the fault: nothing was written; or the images that the store received are complete,
+    // and together with the current one they are a prefix of what is written for the files so far,
+    // and no more; all of it if an input failed or a record has a wrong length. `OutOfMemory` is
+    // only returned when a file begins, or if a record is longer than those before it.
     ensures front { S.holds images false [] → IfErr result (λ refused.
         ((refused.images ≡ images) × (refused.under_way ≡ None) × (IsOfInput refused.fault → ⊥))
         ⊎ IfSome (cut_by plan.form plan.shape) (λ cut. IsLeftSet (Holds S.holds)
         (λ tapes. (tapes.store ≡ refused.images) × (tapes.image ≡ refused.under_way))
         refused.fault plan cut (map (λ f. (f.head, R.remaining f.reader)) files.old))) }
-    // Where no file of this shape can be written in this capacity, nothing was.
+    // If no file of this shape can be written in this capacity, nothing was.
     ensures unfit { (IsWritable plan.shape → least_capacity plan.shape ≤ plan.capacity → ⊥)
         → 0 < length files.old
         → IfErr result (λ refused. (refused.images ≡ images) × (refused.under_way ≡ None)) }
-    // The device failed: the store has none left, or no image is under way that would take more.
+    // The device failed: the store has none left, or there is no current image that accepts more.
     ensures device { IfErr result (λ refused. refused.fault ≡ SetFault.Write WriteFault.Device
         → HasStopped (S.left refused.images) refused.under_way) }
     ensures raw { OnOk result (cut_by plan.form plan.shape ≢ None) }
-    // Where raw inputs are no records of the format, or the set, its volumes or a file can't be
+    // If raw inputs cannot be records of the format, or the set, its volumes or a file cannot be
     // labelled, nothing was written.
     ensures nothing { (cut_by plan.form plan.shape ≡ None)
         ⊎ (IsText plan.set_id × AllByRecursion IsTextVolume plan.volumes.items
@@ -144,7 +145,7 @@ pub fn write_set<R: Read, S: ImageStore + Drop>(
     }
 }
 
-/// Whether the fields of all heads are a-characters.
+/// Returns true if the fields of all heads are a-characters.
 fn are_text_heads<R>(files: &[Input<R>]) -> bool
     ensures { IsTrue result ↔ AllByRecursion (λ f. IsTextHead f.head) files.now }
 {
@@ -156,7 +157,7 @@ fn are_text_heads<R>(files: &[Input<R>]) -> bool
     true
 }
 
-/// A refusal before anything is written.
+/// Refuses before anything is written.
 fn refused<S: ImageStore + Drop>(fault: WriteFault, images: S) -> RefusedSet<S>
     ensures fault { result.fault ≡ SetFault.Write fault }
     ensures images { result.images ≡ images }
@@ -169,7 +170,7 @@ fn refused<S: ImageStore + Drop>(fault: WriteFault, images: S) -> RefusedSet<S>
     }
 }
 
-/// Takes apart what was written where the set is not.
+/// Returns the parts of a writer whose set is not complete.
 fn left<S: ImageStore + Drop>(fault: SetFault, writer: SetWriter<ImageTapes<S>>) -> RefusedSet<S>
     ensures fault { result.fault ≡ fault }
     ensures images { result.images ≡ writer.out.store }
@@ -185,7 +186,7 @@ fn left<S: ImageStore + Drop>(fault: SetFault, writer: SetWriter<ImageTapes<S>>)
     }
 }
 
-/// Takes apart what was written.
+/// Returns the parts of a writer whose set is complete.
 fn written<S: ImageStore + Drop>(files: usize, writer: SetWriter<ImageTapes<S>>) -> WrittenSet<S>
     ensures files { result.files ≡ files }
     ensures volumes { result.volumes.items ≡ writer.volumes }

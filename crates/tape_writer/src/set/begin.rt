@@ -1,4 +1,4 @@
-//! Files begun.
+//! Begins files.
 
 ghost use Rattle.std.specs.Prelude.{◌≡◌, ◌≢◌, ◌<◌, ◌≤◌, ◌+◌, [], List, length, OnOk};
 ghost use Rattle.std.specs.Prelude.{◌⊎◌, IfErr, Err, false};
@@ -26,23 +26,23 @@ use tape_blocks::{Packer, Shape};
 use tape_label::Head1;
 use tape_label::laws::widths;
 
-/// The most files of a set: the labels have four digits for a file's number.
+/// The maximum number of files of a set: labels have four digits for a file's number.
 const MOST_FILES: usize = 9_999;
 
-/// A volume of a set has room for this and a block.
+/// A volume of a set must have room for this and a block.
 const LEAST_CAPACITY: u64 = 1_024;
 
 impl<T: TapeOut + Drop> SetWriter<T> {
-    /// Begins the next file. Of the head, the set identifier and the numbers of section and file
-    /// are replaced by the writer's. The first file begins the first volume.
+    /// Begins the next file. The set identifier of the head and the numbers of section and file are
+    /// replaced by the writer's. The first file begins the first volume.
     ///
     /// # Errors
     ///
-    /// `Failed` and `Finished`, `FileBegun` inside a file; `BadField` where a field of the head but
-    /// its set identifier holds a byte that is no a-character; `BadShape` where blocks of this
-    /// shape are not written; `CapacityTooSmall` where the capacity is less than the block length
-    /// and 1,024 bytes together; `TooMany` for the 10,000th file; these leave all as it was. Then,
-    /// as they come, `OutOfMemory` and `Device`.
+    /// `Failed` and `Finished`, `FileBegun` inside a file; `BadField` if a field of the head other
+    /// than its set identifier contains a byte that is not an a-character; `BadShape` if blocks of
+    /// this shape are not written; `CapacityTooSmall` if the capacity is less than the block length
+    /// plus 1,024 bytes; `TooMany` for the 10,000th file; after these the writer is unchanged. Then
+    /// `OutOfMemory` and `Device`, in the order in which they happen.
     #[tactic(auto, using(crate::proofs::Last::lasting_self, crate::proofs::Calls::leaves_failed))]
     pub fn begin_file(&mut self, head: Head1, shape: Shape) -> Result<(), WriteFault>
         ensures same { SameSet self.old self.new }
@@ -62,23 +62,22 @@ impl<T: TapeOut + Drop> SetWriter<T> {
         ensures many { self.old.phase ≡ Between → IsTextHead head → IsWritable shape
             → least_capacity shape ≤ self.old.capacity → 9999 ≤ length self.old.files
             → Refuses self.old result self.new WriteFault.TooMany }
-        // Where blocks of this shape are not written, or the capacity is too small, all is as it
-        // was.
+        // If blocks of this shape are not written, or the capacity is too small, nothing changed.
         ensures unfit { self.old.phase ≡ Between
             → (IsWritable shape → least_capacity shape ≤ self.old.capacity → ⊥)
             → (self.new ≡ self.old) × OnOk result ⊥ }
-        // No fault is answered where it is not due.
+        // No fault is returned without its cause.
         ensures due { self.old.phase ≡ Between
             → IfErr result (IsBeginFault self.old.capacity (length self.old.files) head shape) }
         ensures opened { OnOk result (IsInFile
             (opened_by self.old.set_id (length self.old.files + 1) head shape) self.new.phase) }
         ensures files { OnOk result (length self.new.files ≡ length self.old.files + 1) }
-        // One file more was told, without a record.
+        // One more file was passed, without a record.
         ensures told { (told : List Told) → IsWriting (T.holds self.old.out) self.old told
             → OnOk result (IsWriting (T.holds self.new.out) self.new
             (with_file self.old.set_id told head shape)) }
-        // Whatever fault ends the writer: the tapes hold a front of what is written up to the end
-        // of the files told, or of this file's beginning.
+        // Whatever fault ends the writer: the tapes contain a prefix of what is written up to the
+        // end of the files so far, or up to the start of this file.
         ensures front { (told : List Told) → IsWriting (T.holds self.old.out) self.old told
             → IfErr result (λ fault. IsEnding fault
             → IsLeftBehind (T.holds self.new.out) self.new told
@@ -88,7 +87,7 @@ impl<T: TapeOut + Drop> SetWriter<T> {
         ensures asked { HasAsked T.TapeOut self.old → OnOk result (HasAsked T.TapeOut self.new) }
         ensures leaves { IfErr result (Leaves self.old self.new) }
         ensures cause { FailsByDevice (T.failures self.old.out) result (T.failures self.new.out) }
-        // Memory of its own is taken before anything is written.
+        // The writer's own memory is allocated before anything is written.
         ensures memory { IfErr result (λ fault. fault ≡ WriteFault.OutOfMemory
             → (self.new.out ≡ self.old.out)
             ⊎ Rose (T.failures self.old.out).memory (T.failures self.new.out).memory) }
@@ -100,10 +99,25 @@ impl<T: TapeOut + Drop> SetWriter<T> {
             self.phase = Phase::Failed;
             return Err(WriteFault::OutOfMemory);
         };
-        self.begin_with(head, shape, packer)
+        let file = self.next_file(head, shape);
+        widths(&file.head);
+        if self.files.push(file).is_err() {
+            self.phase = Phase::Failed;
+            return Err(WriteFault::OutOfMemory);
+        }
+        match begin(&mut self.tape, &file, &self.volumes, self.capacity) {
+            Ok(()) => {
+                self.phase = Phase::Filing(OpenFile { file, packer });
+                Ok(())
+            }
+            Err(fault) => {
+                self.phase = Phase::Failed;
+                Err(fault)
+            }
+        }
     }
 
-    /// Whether a file of this head and shape can be begun now.
+    /// Checks that a file of this head and shape can begin now.
     fn judge_file(&self, head: &Head1, shape: &Shape) -> Result<(), WriteFault>
         ensures failed { self.now.phase ≡ Failed → result ≡ Err WriteFault.Failed }
         ensures finished { self.now.phase ≡ Finished → result ≡ Err WriteFault.Finished }
@@ -148,7 +162,7 @@ impl<T: TapeOut + Drop> SetWriter<T> {
         Ok(())
     }
 
-    /// The next file of the set: the set identifier and the numbers are the writer's.
+    /// Returns the next file of the set, with the writer's set identifier and numbers.
     fn next_file(&self, head: Head1, shape: Shape) -> Opened
         requires few { length self.now.files < 9999 }
         ensures { result ≡ opened_by self.now.set_id (length self.now.files + 1) head shape }
@@ -161,55 +175,6 @@ impl<T: TapeOut + Drop> SetWriter<T> {
                 ..head
             },
             shape,
-        }
-    }
-
-    /// Begins the next file, whose records this packer packs.
-    #[tactic(auto, using(crate::proofs::Calls::leaves_failed))]
-    fn begin_with(&mut self, head: Head1, shape: Shape, packer: Packer) -> Result<(), WriteFault>
-        requires between { self.old.phase ≡ Between }
-        requires writable { IsWritable shape }
-        requires capacity { least_capacity shape ≤ self.old.capacity }
-        requires few { length self.old.files < 9999 }
-        requires packer { packer
-            ≡ record { shape = shape; parts = []; begun = false; closed = false } }
-        ensures same { SameSet self.old self.new }
-        ensures out { IfErr result IsOfOut }
-        ensures opened { OnOk result (IsInFile
-            (opened_by self.old.set_id (length self.old.files + 1) head shape) self.new.phase) }
-        ensures files { OnOk result (length self.new.files ≡ length self.old.files + 1) }
-        ensures told { (told : List Told) → IsWriting (T.holds self.old.out) self.old told
-            → OnOk result (IsWriting (T.holds self.new.out) self.new
-            (with_file self.old.set_id told head shape)) }
-        ensures front { (told : List Told) → IsWriting (T.holds self.old.out) self.old told
-            → IfErr result (λ fault. IsEnding fault
-            → IsLeftBehind (T.holds self.new.out) self.new told
-            ⊎ IsLeftInside (T.holds self.new.out) self.new
-            (with_file self.old.set_id told head shape)) }
-        ensures lasting { TapeLasts T.TapeOut (tape_of self.old) (tape_of self.new) }
-        ensures asked { HasAsked T.TapeOut self.old → OnOk result (HasAsked T.TapeOut self.new) }
-        ensures leaves { IfErr result (Leaves self.old self.new) }
-        ensures cause { FailsByDevice (T.failures self.old.out) result (T.failures self.new.out) }
-        // Memory of its own is taken before anything is written.
-        ensures memory { IfErr result (λ fault. fault ≡ WriteFault.OutOfMemory
-            → (self.new.out ≡ self.old.out)
-            ⊎ Rose (T.failures self.old.out).memory (T.failures self.new.out).memory) }
-    {
-        let file = self.next_file(head, shape);
-        widths(&file.head);
-        if self.files.push(file).is_err() {
-            self.phase = Phase::Failed;
-            return Err(WriteFault::OutOfMemory);
-        }
-        match begin(&mut self.tape, &file, &self.volumes, self.capacity) {
-            Ok(()) => {
-                self.phase = Phase::Filing(OpenFile { file, packer });
-                Ok(())
-            }
-            Err(fault) => {
-                self.phase = Phase::Failed;
-                Err(fault)
-            }
         }
     }
 }

@@ -1,4 +1,4 @@
-//! Records put, files and the set ended.
+//! Writes records, ends files, and ends the set.
 
 ghost use Rattle.std.specs.Prelude.{◌≡◌, ◌⊎◌, ◌<◌, ◌+◌, ◌++◌, ◌∷◌, [], List, OnOk, IfErr};
 ghost use Rattle.tape_image.specs.Tape.{TapeItem, mark as mark_item};
@@ -22,14 +22,15 @@ use crate::records::put_record;
 use crate::set::SetWriter;
 
 impl<T: TapeOut + Drop> SetWriter<T> {
-    /// Puts a record in the file under way. Each block is written when it is full; where its volume
-    /// has no room, behind a change of the volume.
+    /// Writes a record into the current file. Each block is written when it is full, after a change
+    /// of the volume if it does not fit.
     ///
     /// # Errors
     ///
-    /// `Failed`, `Finished` and `NoFile` by what the writer does; `RecordLength` where the record
-    /// has none of the lengths of the file's shape; these leave all as it was. Then, as they come,
-    /// `OutOfVolumes`, where a change is due and no volume is left, `Device` and `OutOfMemory`.
+    /// `Failed`, `Finished` and `NoFile` depending on the writer's state; `RecordLength` if the
+    /// record has none of the lengths of the file's shape; after these the writer is unchanged.
+    /// Then, in the order in which they happen, `OutOfVolumes` if the volume must be changed and
+    /// none is left, `Device` and `OutOfMemory`.
     #[tactic(auto, using(crate::proofs::Last::lasting_self, crate::proofs::Calls::leaves_failed))]
     pub fn put(&mut self, bytes: &[u8]) -> Result<(), WriteFault>
         ensures same { SameSet self.old self.new }
@@ -42,25 +43,25 @@ impl<T: TapeOut + Drop> SetWriter<T> {
         ensures length { IfFiling self.old.phase (λ o. (HasLength o bytes.now → ⊥)
             → Refuses self.old result self.new WriteFault.RecordLength) }
         ensures fits { OnOk result (IfFiling self.old.phase (λ o. HasLength o bytes.now)) }
-        // No fault is answered where it is not due.
+        // No fault is returned without its cause.
         ensures due { IfFiling self.old.phase (λ o. IfErr result (IsPutFault o bytes.now)) }
         ensures stays { (file : Opened) → IsInFile file self.old.phase
             → OnOk result (IsInFile file self.new.phase) }
-        // Each record takes room, so records without end are not taken.
+        // Each record takes room, so infinitely many records are not accepted.
         ensures room { OnOk result (room_left self.new < room_left self.old) }
         ensures files { self.new.files ≡ self.old.files }
-        // The last file told has one record more, and nothing else is changed of what was told.
+        // The last file has one more record, and the other files are unchanged.
         ensures told { (told : List Told) → IsWriting (T.holds self.old.out) self.old told
             → OnOk result (IsWriting (T.holds self.new.out) self.new (with_record told bytes.now)) }
         ensures stuck { (told : List Told) → IsWriting (T.holds self.old.out) self.old told
             → IfErr result (λ fault. fault ≡ WriteFault.OutOfVolumes
             → IsOutOfVolumes (T.holds self.new.out) self.new (with_record told bytes.now)) }
-        // Whatever fault ends the writer: the tapes hold a front of what is written of the records
-        // told, this one with them.
+        // Whatever fault ends the writer: the tapes contain a prefix of what is written for the
+        // records so far, including this one.
         ensures front { (told : List Told) → IsWriting (T.holds self.old.out) self.old told
             → IfErr result (λ fault. IsEnding fault
             → IsLeftInside (T.holds self.new.out) self.new (with_record told bytes.now)) }
-        // Whatever the call answers.
+        // Whatever the call returns.
         ensures lasting { TapeLasts T.TapeOut (tape_of self.old) (tape_of self.new) }
         ensures asked { HasAsked T.TapeOut self.old → OnOk result (HasAsked T.TapeOut self.new) }
         ensures leaves { IfErr result (Leaves self.old self.new) }
@@ -89,15 +90,15 @@ impl<T: TapeOut + Drop> SetWriter<T> {
         }
     }
 
-    /// Ends the file under way: its last block, if there is one, and its end are written, behind a
-    /// change of the volume where there is no room. The volume then has room for another file's
-    /// headers and a volume end.
+    /// Ends the current file: writes its last block, if there is one, and its end, after a change
+    /// of the volume if they do not fit. The volume then has room for the headers of another file
+    /// and the end of a volume.
     ///
     /// # Errors
     ///
-    /// `Failed`, `Finished` and `NoFile` by what the writer does, and all is as it was; then, as
-    /// they come, `OutOfVolumes`, where a change is due and no volume is left, `Device` and
-    /// `OutOfMemory`.
+    /// `Failed`, `Finished` and `NoFile` depending on the writer's state, which is unchanged; then,
+    /// in the order in which they happen, `OutOfVolumes` if the volume must be changed and none is
+    /// left, `Device` and `OutOfMemory`.
     #[tactic(auto, using(crate::proofs::Last::lasting_self, crate::proofs::Calls::leaves_failed))]
     pub fn end_file(&mut self) -> Result<(), WriteFault>
         ensures same { SameSet self.old self.new }
@@ -149,12 +150,12 @@ impl<T: TapeOut + Drop> SetWriter<T> {
         }
     }
 
-    /// Ends the set: the second mark of its last volume and the end word are written.
+    /// Ends the set: writes the second mark of its last volume and the end-of-medium marker.
     ///
     /// # Errors
     ///
-    /// `Failed` and `Finished`, `FileBegun` inside a file, `NoFile` before the first one, and all
-    /// is as it was; then `Device` and `OutOfMemory`, as they come.
+    /// `Failed` and `Finished`, `FileBegun` inside a file, `NoFile` before the first one, and the
+    /// writer is unchanged; then `Device` and `OutOfMemory`, in the order in which they happen.
     #[tactic(auto, using(crate::proofs::Last::lasting_self, crate::proofs::Calls::leaves_failed))]
     pub fn finish(&mut self) -> Result<(), WriteFault>
         ensures same { SameSet self.old self.new }
@@ -168,16 +169,16 @@ impl<T: TapeOut + Drop> SetWriter<T> {
             → Refuses self.old result self.new WriteFault.NoFile }
         ensures due { self.old.phase ≡ Between
             → IfErr result (IsFinishFault self.old.course.volume) }
-        // With `end`: the tapes hold a whole set of what was told.
+        // Together with `end`: the tapes contain a complete set of the files passed.
         ensures told { (told : List Told) → IsWriting (T.holds self.old.out) self.old told
             → OnOk result (IsWriting (T.holds self.new.out) self.new told) }
         ensures end { OnOk result (self.new.phase ≡ Finished) }
-        // The last volume has a mark more, and the others are as they were.
+        // The last volume has one more mark, and the others are unchanged.
         ensures closes { (volumes : List (List TapeItem)) (items : List TapeItem)
             → T.holds self.old.out (UnderWay volumes items)
             → OnOk result (T.holds self.new.out
             (Ended (volumes ++ (items ++ mark_item ∷ []) ∷ []))) }
-        // The mark and the end word.
+        // The mark and the end-of-medium marker.
         ensures used { OnOk result (self.new.course.used ≡ self.old.course.used + 8) }
         ensures front { (told : List Told) → IsWriting (T.holds self.old.out) self.old told
             → IfErr result (λ fault. IsEnding fault

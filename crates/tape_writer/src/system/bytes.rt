@@ -1,4 +1,4 @@
-//! Bytes of files, in whatever pieces a system takes them.
+//! Writes bytes, in whatever pieces the system accepts.
 ghost use Rattle.std.specs.Prelude.{OnOk, OnErr, IsOkUnless};
 ghost use Rattle.std.specs.Io.KnownBytes.{Appends};
 ghost use Rattle.tape_image.specs.Written.{AppendsFront};
@@ -6,12 +6,12 @@ ghost use Rattle.tape_image.specs.Written.{AppendsFront};
 use crate::system::fault::FileFault;
 use std::io::Write;
 
-/// Writes all of these bytes, or a front of them where the writer fails.
+/// Writes all of these bytes, or a prefix of them if the writer fails.
 ///
 /// # Errors
 ///
-/// `WriteFailed` where the writer answers an error, or takes nothing of what is left. An
-/// interruption is a failure too: std's own call would try again.
+/// `WriteFailed` if the writer returns an error, or accepts none of the remaining bytes. An
+/// interruption is a failure too, while std's own function would try again.
 pub fn put_all<W: Write>(writer: &mut W, bytes: &[u8]) -> Result<(), FileFault>
     ensures ok { OnOk result (Appends (W.contents writer.old) (W.contents writer.new) bytes.now) }
     ensures err { OnErr result

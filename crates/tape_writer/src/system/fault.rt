@@ -1,12 +1,12 @@
 //! Why files were not written, or not read.
 use crate::fault::WriteFault;
 
-/// Why a file is of no use.
+/// Why a file cannot be used.
 #[derive(Clone, Copy, Debug, PartialEq, Eq)]
 pub enum FileFault {
-    /// It is there already, and would be overwritten.
+    /// It already exists, and would be overwritten.
     Exists,
-    /// It could not be opened or made.
+    /// It could not be opened or created.
     NotOpened,
     /// Reading from it failed.
     ReadFailed,

@@ -1,11 +1,11 @@
-//! Names of files, kept on the disk.
+//! Makes the names of files durable.
 use std::fs::{File, Files, OpenFile};
 use std::io;
 use std::io::ErrorKind;
 
-/// Has the disk keep the names of the folder that this path is in. Where the folder may not be
-/// read, and on a file system that has no such call, as some over a network, they are kept in its
-/// own time.
+/// Syncs the directory that this path is in. If the directory may not be read, or the file system
+/// has no such call, like some over a network, the system makes the names durable at a time of its
+/// own choice.
 pub fn sync_folder_of<R: Files>(files: &R, path: &str) -> io::Result<()> {
     let Ok(folder) = File::open(files, folder_of(path)) else {
         return Ok(());
@@ -16,7 +16,7 @@ pub fn sync_folder_of<R: Files>(files: &R, path: &str) -> io::Result<()> {
     }
 }
 
-/// The folder that this path is in.
+/// Returns the directory that this path is in.
 pub fn folder_of(path: &str) -> &str {
     match path.rfind('/') {
         Some(0) => "/",
@@ -25,7 +25,7 @@ pub fn folder_of(path: &str) -> &str {
     }
 }
 
-/// The name that this path has in its folder.
+/// Returns the name of this path in its directory.
 pub fn name_in_folder(path: &str) -> &str {
     match path.rfind('/') {
         Some(end) => &path[end + 1..],
@@ -33,7 +33,7 @@ pub fn name_in_folder(path: &str) -> &str {
     }
 }
 
-/// Whether a file system answers so where it has no such call for folders.
+/// Returns true if a file system reports this when it cannot sync directories.
 fn is_unable(kind: ErrorKind) -> bool {
     matches!(kind, ErrorKind::InvalidInput | ErrorKind::Unsupported)
 }

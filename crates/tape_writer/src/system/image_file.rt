@@ -1,4 +1,4 @@
-//! Files of images, made when they are first written to.
+//! Files of images, created when they are first written to.
 ghost use Rattle.std.specs.Prelude.{◌≡◌, length, None, Some, IsSome, OnSome};
 ghost use Rattle.std.specs.Prelude.{OnOk, OnErr, IfOk, IsErr};
 ghost use Rattle.std.specs.Option.{option_map_or};
@@ -18,13 +18,13 @@ use std::io;
 use std::io::{Error, ErrorKind, Write};
 use std::rt::Runtime;
 
-/// A growth was refused.
+/// Memory was refused.
 pub const NO_MEMORY: SystemFault = SystemFault::Write(WriteFault::OutOfMemory);
 
-/// The file of an image. It is made at the first write; one that is there has to be a blank volume.
+/// The file of an image. It is created at the first write; an existing file must be a blank volume.
 ///
-/// Bytes are held and written together. A flush has the disk keep all of them, under the file's
-/// name. A fault is kept: every later call is refused.
+/// Bytes are buffered and written together. A flush makes all of them durable, under the file's
+/// name. After a fault every later call is refused.
 #[derive(Drop)]
 pub struct ImageFile<'a, R: Runtime + AllocGlobal> {
     rt: &'a R,
@@ -36,7 +36,7 @@ pub struct ImageFile<'a, R: Runtime + AllocGlobal> {
 }
 
 impl<'a, R: Runtime + AllocGlobal> ImageFile<'a, R> {
-    /// The file of the volume with this number, from 1 to 999. Nothing is opened yet.
+    /// Creates the value for the volume with this number, from 1 to 999. Opens nothing.
     pub fn new(rt: &'a R, folder: &'a str, prefix: Prefix, number: u16) -> ImageFile<'a, R> {
         ImageFile {
             rt,
@@ -48,7 +48,7 @@ impl<'a, R: Runtime + AllocGlobal> ImageFile<'a, R> {
         }
     }
 
-    /// How many bytes were taken.
+    /// Returns how many bytes were accepted.
     pub fn size(&self) -> u64
         ensures { result ≡ option_map_or (λ file. file.size) self.now.file 0 }
     {
@@ -58,7 +58,7 @@ impl<'a, R: Runtime + AllocGlobal> ImageFile<'a, R> {
         }
     }
 
-    /// Writes what is held, and says what failed, if anything did.
+    /// Writes the buffered bytes, and returns the fault if anything failed.
     pub fn end(&mut self) -> Option<SystemFault>
         ensures passed { result ≡ None → FilePasses self.old.file self.new.file }
         ensures fault { result ≡ self.new.fault }
@@ -71,7 +71,7 @@ impl<'a, R: Runtime + AllocGlobal> ImageFile<'a, R> {
         self.fault
     }
 
-    /// Keeps a fault: from now on all is refused.
+    /// Records a fault: from now on every call is refused.
     fn fail(&mut self, fault: SystemFault) -> Error
         ensures { self.new.fault ≡ Some fault }
     {
@@ -79,7 +79,7 @@ impl<'a, R: Runtime + AllocGlobal> ImageFile<'a, R> {
         Error::from(ErrorKind::Other)
     }
 
-    /// Where the file stands.
+    /// Returns the path of the file.
     fn path(&self) -> Result<String, SystemFault> {
         match image_path(self.rt.alloc(), self.folder, self.prefix, self.number) {
             Ok(path) => Ok(path),
@@ -87,7 +87,7 @@ impl<'a, R: Runtime + AllocGlobal> ImageFile<'a, R> {
         }
     }
 
-    /// Opens the file, once. What is held of it has its room before.
+    /// Opens the file, once, after allocating its buffer.
     fn make_ready(&mut self) -> Result<(), SystemFault>
         ensures { OnOk result (Opens self.old.file self.new.file) }
     {
@@ -101,7 +101,7 @@ impl<'a, R: Runtime + AllocGlobal> ImageFile<'a, R> {
         Ok(())
     }
 
-    /// Makes the file, or takes the one that is there, if it is a blank volume.
+    /// Creates the file, or opens the existing one, if it is a blank volume.
     fn open(&self) -> Result<<R as Files>::File, SystemFault> {
         let path = self.path()?;
         match open_image(self.rt, path.as_str(), self.prefix, self.number) {
@@ -110,7 +110,7 @@ impl<'a, R: Runtime + AllocGlobal> ImageFile<'a, R> {
         }
     }
 
-    /// Takes bytes, and opens the file for the first.
+    /// Accepts bytes, and opens the file for the first of them.
     fn take(&mut self, bytes: &[u8]) -> Result<(), SystemFault>
         ensures { OnOk result (FileTakes bytes.now self.old.file self.new.file) }
     {
@@ -124,7 +124,7 @@ impl<'a, R: Runtime + AllocGlobal> ImageFile<'a, R> {
         }
     }
 
-    /// Writes what is held.
+    /// Writes the buffered bytes.
     fn pass_on(&mut self) -> Result<(), SystemFault>
         ensures { OnOk result (FilePasses self.old.file self.new.file) }
     {
@@ -137,7 +137,7 @@ impl<'a, R: Runtime + AllocGlobal> ImageFile<'a, R> {
         }
     }
 
-    /// Has the disk keep what was written, and the file's name.
+    /// Makes the written bytes and the file's name durable.
     fn sync(&self) -> Result<(), SystemFault> {
         let Some(file) = &self.file else {
             return Ok(());

@@ -8,19 +8,19 @@ use std::alloc::{AllocError, Global};
 use std::rt::Runtime;
 use tape_label::{Field, Vol1};
 
-/// How many volumes a set in a folder has at most.
+/// The maximum number of volumes of a set in a directory.
 pub const VOLUMES: u16 = 256;
 
 /// A volume that was written.
 #[derive(Clone, Copy)]
 pub struct Ended {
     pub volume: Field<6>,
-    /// How many bytes its image has, its end word included.
+    /// The size of its image in bytes, including its end-of-medium marker.
     pub size: u64,
 }
 
-/// Lends the file of each image in turn. One that has ended is closed, and noted. Of what stands in
-/// files nothing is claimed.
+/// Lends the file of each image in turn. Closes and records each one that has ended. The contracts
+/// make no claim about the contents of files.
 #[derive(Drop)]
 pub struct ImageFiles<'a, R: Runtime + AllocGlobal> {
     rt: &'a R,
@@ -32,7 +32,7 @@ pub struct ImageFiles<'a, R: Runtime + AllocGlobal> {
 }
 
 impl<'a, R: Runtime + AllocGlobal> ImageFiles<'a, R> {
-    /// The files of volumes with this prefix, in this folder. None is opened yet.
+    /// Creates the value for volumes with this prefix, in this directory. Opens nothing.
     pub fn new(
         rt: &'a R,
         folder: &'a str,
@@ -47,7 +47,7 @@ impl<'a, R: Runtime + AllocGlobal> ImageFiles<'a, R> {
         })
     }
 
-    /// The volumes whose images ended, and their sizes.
+    /// Returns the volumes whose images ended, and their sizes.
     pub fn into_ended(self) -> Vec<Ended> {
         self.ended
     }

@@ -1,4 +1,4 @@
-//! Inputs, each opened when its turn comes.
+//! Inputs, each opened when it is needed.
 use crate::system::fault::FileFault;
 use std::fs::{File, Files};
 use std::io::{Read, Result};
@@ -12,24 +12,24 @@ pub struct InputFile<'a, R: Files> {
     turn: Turn<R::File>,
 }
 
-/// What an input waits for.
+/// The state of an input.
 #[derive(Drop)]
 enum Turn<F> {
-    /// Its first read.
+    /// Not yet read.
     Waits,
-    /// Its end.
+    /// Being read.
     Runs(F),
-    /// Nothing.
+    /// Read to its end.
     Ended,
 }
 
 impl<'a, R: Files> InputFile<'a, R> {
-    /// The input with this path, which is looked for: nothing is read. What is no plain file is not
-    /// opened either, since the writer of a pipe would find it closed again.
+    /// Finds the input with this path, without reading it. Does not open anything but plain files,
+    /// because the writer of a pipe would see it closed again.
     ///
     /// # Errors
     ///
-    /// `NotOpened` where it is missing or may not be read, `ReadFailed` where it is a folder.
+    /// `NotOpened` if it is missing or may not be read, `ReadFailed` if it is a directory.
     pub fn find(files: &'a R, path: &'a str) -> std::result::Result<Self, FileFault> {
         let Ok(found) = fs::metadata(files, path) else {
             return Err(FileFault::NotOpened);
@@ -47,7 +47,7 @@ impl<'a, R: Files> InputFile<'a, R> {
         })
     }
 
-    /// Takes the file that is read, which is opened where it waits for that.
+    /// Takes the open file, after opening it if it was not yet read.
     fn take(&mut self) -> Result<Option<R::File>> {
         match mem::replace(&mut self.turn, Turn::Ended) {
             Turn::Waits => Ok(Some(File::open(self.files, self.path)?)),

@@ -1,4 +1,4 @@
-//! Files of images: how they are opened.
+//! Opens the files of images.
 ghost use Rattle.std.specs.Prelude.{◌≡◌, ◌↔◌, min, IfOk, IfSome, IsOkUnless, IsTrue};
 ghost use Rattle.tape_writer.specs.Blank.{blank_image, blank_volume};
 
@@ -10,7 +10,7 @@ use std::io::{ErrorKind, Read};
 use std::rt::Runtime;
 use tape_image::fill;
 
-/// Makes the file of an image, or takes the one that is there, if it is a blank volume.
+/// Creates the file of an image, or opens the existing one, if it is a blank volume.
 pub fn open_image<R: Runtime>(
     rt: &R,
     path: &str,
@@ -23,7 +23,7 @@ pub fn open_image<R: Runtime>(
     }
 }
 
-/// Makes a file where none is.
+/// Creates a file that must not exist.
 fn make_file<R: Runtime>(rt: &R, path: &str) -> Result<<R as Files>::File, FileFault> {
     let mut options = OpenOptions::new();
     options.write(true).create_new(true);
@@ -34,7 +34,7 @@ fn make_file<R: Runtime>(rt: &R, path: &str) -> Result<<R as Files>::File, FileF
     }
 }
 
-/// Opens a file that is there, if it is a blank volume, from its start.
+/// Opens an existing file at its start, if it is a blank volume.
 fn open_blank<R: Runtime>(
     rt: &R,
     path: &str,
@@ -56,17 +56,17 @@ fn open_blank<R: Runtime>(
     }
 }
 
-/// Whether the reader gives just the image of this blank volume.
+/// Returns true if the reader contains exactly the image of this blank volume.
 ///
 /// # Errors
 ///
-/// `ReadFailed` where a read fails.
+/// `ReadFailed` if a read fails.
 fn is_blank<R: Read>(reader: &mut R, prefix: Prefix, number: u16) -> Result<bool, FileFault>
     ensures found { IfOk result (λ blank. IfSome (R.remaining reader.old) (λ bytes. IsTrue blank
         ↔ (bytes ≡ blank_image (blank_volume prefix.characters (min number 999))))) }
     ensures fault { IsOkUnless result FileFault.ReadFailed }
 {
-    // One byte more than a blank volume has.
+    // One byte more than the image of a blank volume.
     let mut bytes = [0; BLANK + 1];
     match fill(reader, &mut bytes) {
         Ok(count) => Ok(&bytes[..count] == image_of(prefix, number).as_slice()),
@@ -74,12 +74,12 @@ fn is_blank<R: Read>(reader: &mut R, prefix: Prefix, number: u16) -> Result<bool
     }
 }
 
-/// Makes the image of a volume without files, with this number from 1 to 999, in a new file.
+/// Creates the image of the blank volume with this number, from 1 to 999, in a new file.
 ///
 /// # Errors
 ///
-/// `Exists` where something is there, `NotOpened` where the file can't be made, `WriteFailed` where
-/// it takes not all.
+/// `Exists` if the path exists, `NotOpened` if the file cannot be created, `WriteFailed` if not all
+/// bytes could be written.
 pub fn make_image<R: Runtime>(
     rt: &R,
     path: &str,
@@ -90,7 +90,7 @@ pub fn make_image<R: Runtime>(
     put_all(&mut file, &image_of(prefix, number))
 }
 
-/// The image of a volume without files.
+/// Returns the image of a blank volume.
 fn image_of(prefix: Prefix, number: u16) -> BlankImage
     ensures { result.items ≡ blank_image (blank_volume prefix.characters (min number 999)) }
 {

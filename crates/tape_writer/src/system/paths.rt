@@ -1,9 +1,9 @@
-//! Where the images of a set stand.
+//! The paths of a set's images.
 use crate::blank::Prefix;
 use std::alloc::{AllocError, Global};
 use std::io::Write;
 
-/// Where the image of a volume stands: in this folder, under its identifier and `.tap`.
+/// Returns the path of a volume's image: in this directory, its identifier followed by `.tap`.
 pub fn image_path(
     alloc: Global,
     folder: &str,
@@ -15,7 +15,7 @@ pub fn image_path(
     Ok(path)
 }
 
-/// Writes behind a text where the image of a volume stands.
+/// Appends the path of a volume's image to a text.
 pub fn put_image_path(
     path: &mut String,
     folder: &str,

@@ -1,4 +1,4 @@
-//! Bytes that are held before they are written to a device.
+//! A write buffer for a device.
 ghost use Rattle.std.specs.Prelude.{◌≡◌, ◌⊎◌, ◌≤◌, ◌+◌, [], Err, false, length, vec_capacity};
 ghost use Rattle.std.specs.Prelude.{OnOk, OnErr, IsOkUnless};
 ghost use Rattle.std.specs.Bool.{OnTrue};
@@ -10,14 +10,14 @@ use crate::system::fault::FileFault;
 use std::io::Write;
 use std::marker::Model;
 
-/// How many bytes are held, at most.
+/// The size of the buffer in bytes.
 pub const ROOM: usize = 8_192;
 
-/// A device before which up to 8,192 bytes are held, so that small writes in a row are one write of
-/// it. What is held is written where more comes than there is room for, and when it is passed on.
+/// A device behind a write buffer of 8,192 bytes, which merges small writes. The buffer is written
+/// when it is full, and when `pass_on` is called.
 ///
-/// Where the device fails, a front of what was taken stands in it, and every later call is refused.
-/// One that is let go does not write what it holds.
+/// If the device fails, it contains a prefix of the accepted bytes, and every later call is
+/// refused. Dropping it discards the buffer.
 #[derive(Drop)]
 pub struct WriteBehind<W: Write + Drop> {
     device: W,
@@ -43,7 +43,7 @@ impl<W: Write + Drop> Model for WriteBehind<W> {
 }
 
 impl<W: Write + Drop> WriteBehind<W> {
-    /// Nothing is held yet. `room` was reserved for what will be, and does not grow.
+    /// Creates it with an empty buffer. `room` was reserved for the buffer, and does not grow.
     pub fn over(room: Vec<u8>, device: W) -> WriteBehind<W>
         requires none { room.items ≡ [] }
         requires room { 8192 ≤ vec_capacity room }
@@ -57,25 +57,25 @@ impl<W: Write + Drop> WriteBehind<W> {
         }
     }
 
-    /// The device. What is held is not in it.
+    /// Borrows the device. Buffered bytes are not in it.
     pub fn device(&self) -> &W
         ensures { W.contents result.now ≡ self.now.device }
     {
         &self.device
     }
 
-    /// How many bytes were taken.
+    /// Returns how many bytes were accepted.
     pub fn size(&self) -> u64
         ensures { result ≡ self.now.size }
     {
         self.size
     }
 
-    /// Takes these bytes, behind all that were taken before.
+    /// Accepts these bytes, after all that were accepted before.
     ///
     /// # Errors
     ///
-    /// `WriteFailed` where the device failed before, or fails now.
+    /// `WriteFailed` if the device failed before, or fails now.
     pub fn take(&mut self, bytes: &[u8]) -> Result<(), FileFault>
         ensures ok { OnOk result (TakesAll bytes.now self.old self.new) }
         ensures err { OnErr result (Stops bytes.now self.old self.new) }
@@ -89,11 +89,11 @@ impl<W: Write + Drop> WriteBehind<W> {
         Ok(())
     }
 
-    /// Writes what is held.
+    /// Writes the buffered bytes.
     ///
     /// # Errors
     ///
-    /// As `take`.
+    /// Those of `take`.
     pub fn pass_on(&mut self) -> Result<(), FileFault>
         ensures ok { OnOk result (PassesOn self.old self.new) }
         ensures err { OnErr result (Stops [] self.old self.new) }
@@ -112,8 +112,7 @@ impl<W: Write + Drop> WriteBehind<W> {
         Ok(())
     }
 
-    /// Writes what is held where so many bytes more are too many. Where the device failed that is
-    /// refused.
+    /// Writes the buffered bytes if `count` more do not fit. Returns an error if the device failed.
     fn make_room(&mut self, count: usize) -> Result<(), FileFault>
         ensures ok { OnOk result (MakesRoom count self.old self.new) }
         ensures err { OnErr result (Stops [] self.old self.new) }
@@ -127,8 +126,8 @@ impl<W: Write + Drop> WriteBehind<W> {
         Ok(())
     }
 
-    /// Holds bytes for which there is room. More than are ever held are written, and then nothing
-    /// is held before them.
+    /// Buffers bytes if they fit. More than the buffer can contain are written, and the buffer
+    /// stays empty.
     fn hold(&mut self, bytes: &[u8]) -> Result<(), FileFault>
         requires stands { self.old.failed ≡ false }
         requires room { (length self.old.held + length bytes.now ≤ 8192) ⊎ (self.old.held ≡ []) }

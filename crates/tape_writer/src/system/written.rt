@@ -1,4 +1,4 @@
-//! A set written on images that are files of a folder.
+//! Writes a set on images that are files of a directory.
 ghost use Rattle.std.specs.Prelude.{◌≡◌};
 ghost use Rattle.tape_writer.specs.Blank.{volume_id};
 ghost use Rattle.tape_writer.specs.System.{of_set};
@@ -15,24 +15,24 @@ use std::rt::Runtime;
 use tape_blocks::{Form, Shape};
 use tape_label::{Field, Vol1};
 
-/// How a set is to be written in a folder: on up to 256 volumes whose identifiers begin so, all of
-/// one capacity, with all files in one shape and their inputs in one form.
+/// How to write a set in a directory: on up to 256 volumes whose identifiers begin with the prefix,
+/// all of one capacity, with all files in one shape and their inputs in one form.
 #[derive(Clone, Copy)]
 pub struct FolderPlan<'a> {
     pub folder: &'a str,
     pub prefix: Prefix,
-    /// The most bytes of an image.
+    /// The maximum size of an image in bytes.
     pub capacity: u32,
     pub shape: Shape,
     pub form: Form,
 }
 
-/// Writes a set, and says on which volumes. One image is open at a time. It is made when it is
-/// first written to; an image that is there has to be a blank volume.
+/// Writes a set, and returns its volumes. One image is open at a time. It is created when it is
+/// first written to; an existing image must be a blank volume.
 ///
 /// # Errors
 ///
-/// Those of `write_set`, with the fault of its file in place of that of a device.
+/// Those of `write_set`, with the fault of the file instead of that of a device.
 pub fn write_in_folder<R: Runtime + AllocGlobal, I: Read>(
     rt: &R,
     plan: &FolderPlan<'_>,
@@ -50,7 +50,7 @@ pub fn write_in_folder<R: Runtime + AllocGlobal, I: Read>(
     }
 }
 
-/// The volumes that a set may have.
+/// Returns the volumes that a set may have.
 fn volumes_of(alloc: Global, prefix: Prefix) -> Result<Vec<Vol1>, AllocError> {
     let mut volumes = Vec::new(alloc);
     for number in 1..=VOLUMES {
@@ -59,7 +59,7 @@ fn volumes_of(alloc: Global, prefix: Prefix) -> Result<Vec<Vol1>, AllocError> {
     Ok(volumes)
 }
 
-/// The plan of the set on these volumes.
+/// Returns the plan of the set on these volumes.
 fn set_plan(plan: &FolderPlan<'_>, volumes: Vec<Vol1>) -> SetPlan {
     SetPlan {
         set_id: set_id(plan.prefix),
@@ -70,15 +70,15 @@ fn set_plan(plan: &FolderPlan<'_>, volumes: Vec<Vol1>) -> SetPlan {
     }
 }
 
-/// The set has the identifier of its first volume.
+/// Returns the set's identifier, which is that of its first volume.
 fn set_id(prefix: Prefix) -> Field<6>
     ensures { result ≡ volume_id prefix.characters 1 }
 {
     blank_volume(prefix, 1).volume
 }
 
-/// What to tell of a refusal: in place of a device's fault, that of the file. What is held of the
-/// volume under way is written first.
+/// Returns the fault of a refusal: instead of a device's fault, that of the file. Writes the
+/// buffered bytes of the current volume first.
 fn told<R: Runtime + AllocGlobal>(refused: RefusedSet<ImageFiles<'_, R>>) -> SystemFault {
     let RefusedSet {
         fault,
@@ -95,7 +95,7 @@ fn told<R: Runtime + AllocGlobal>(refused: RefusedSet<ImageFiles<'_, R>>) -> Sys
     }
 }
 
-/// The fault of a set, as it is told.
+/// Returns the fault of a set as a fault of the system.
 fn of_set(fault: SetFault) -> SystemFault
     ensures { result ≡ of_set fault }
 {

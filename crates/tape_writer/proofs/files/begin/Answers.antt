@@ -40,7 +40,7 @@ returns-in_err-begin_volume-clause-front g c = λ set_id told p s f e k.
           (header_items c.args.file.now 1) h) refl,
     ))
 
--- a volume is under way
+-- a volume is current
 under_way : (g : _) (c : goal.After-begin_section g) (set_id : List ℕ) (told : List Told)
     → IsWaiting (g.T.TapeOut.holds c.args.tape.now.out) c.args.volumes.now c.args.capacity set_id
     c.args.tape.now.course told

@@ -10,7 +10,7 @@ use Rattle.tape_writer.specs.State.{IsWriting}
 use Rattle.tape_writer.specs.NoVolume.{GaveUp}
 use Rattle.tape_writer.proofs.inputs.files.put_records.Reads as put_records
 
--- no_more_than_a_million_records: the second of three volumes is under way, and no more records are
+-- no_more_than_a_million_records: the second of three volumes is current, and no more records are
 -- put, as if there were no volume left
 no_more_than_a_million_records : (T : _) (R : _) (LT : _) (LR : _) (g : _) (d : _) (e : _) (h : _)
     (f : _) (i : _) (κs : _) (a : _) (s : _) (told : List Told) (xs : List ℕ)

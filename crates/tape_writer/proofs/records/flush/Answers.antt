@@ -1,4 +1,4 @@
--- The block under way is written.
+-- The current block is written.
 use Rattle.std.proofs.Common.{refl, sym, subst, length}
 use Rattle.std.specs.Prelude.{Ok}
 use Rattle.tape_blocks.specs.Tight.{Filled}

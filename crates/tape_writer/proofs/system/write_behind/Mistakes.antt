@@ -1,5 +1,5 @@
--- Answers that the contracts of bytes held before a device exclude: each is what a wrong body would
--- give.
+-- Results that the contracts of bytes held before a device exclude: each is the result of a wrong
+-- body.
 use Rattle.std.proofs.Common.{◌≡◌, ℕ, List, [], ◌∷◌, ◌++◌, length, sym, ap}
 use Rattle.std.proofs.Common.{◌∙◌, subst, arith, true, false, get_or, length-append}
 use Rattle.std.specs.Prelude.{Ok, Err, Some, Option}
@@ -16,7 +16,7 @@ appended : (old new : Option (List ℕ)) (bytes before after : List ℕ) → App
 appended old new bytes before after h o n =
     subst (λ z. Appends (Some before) z bytes) n (subst (λ z. Appends z new bytes) o h)
 
--- held_bytes_dropped: a byte was held, and behind the passing on the device has what it had
+-- held_bytes_dropped: a byte was held, and after the passing on the device has what it had
 held_bytes_dropped : (W : _) (L : _) (g : _) (d : _) (f : _) (κs : _) (a : _) (s : _)
     (had : List ℕ) → pass_on.Learnt-named W L g d f κs a (Ok tt) s → a.0.now.device ≡ Some had
     → a.0.now.held ≡ 1 ∷ [] → s.0.now.device ≡ Some had → ⊥
@@ -24,7 +24,7 @@ held_bytes_dropped W L g d f κs a s had l old held new =
     let e = appended _ _ a.0.now.held had had l.ok.passed old new in
     absurd (omega (arith, ap length e, length-append had a.0.now.held, ap length held))
 
--- held_bytes_written_twice: the byte that was held stands in the device twice
+-- held_bytes_written_twice: the byte that was held is in the device twice
 held_bytes_written_twice : (W : _) (L : _) (g : _) (d : _) (f : _) (κs : _) (a : _) (s : _)
     (had : List ℕ) → pass_on.Learnt-named W L g d f κs a (Ok tt) s → a.0.now.device ≡ Some had
     → a.0.now.held ≡ 1 ∷ [] → s.0.now.device ≡ Some (had ++ 1 ∷ 1 ∷ []) → ⊥
@@ -59,7 +59,7 @@ written_behind_a_failure W L g d f κs a s l failed =
     l.refused in
     absurd (cc)
 
--- new_block_before_the_held_ones: 1 was held, 2 was taken, and 2 stands in the device before 1
+-- new_block_before_the_held_ones: 1 was held, 2 was taken, and 2 is in the device before 1
 new_block_before_the_held_ones : (W : _) (L : _) (g : _) (d : _) (f : _) (κs : _) (a : _) (s : _)
     → take.Learnt-named W L g d f κs a (Ok tt) s → a.0.now.device ≡ Some [] → a.0.now.held ≡ 1 ∷ []
     → a.1.0.now ≡ 2 ∷ [] → s.0.now.device ≡ Some (2 ∷ []) → s.0.now.held ≡ 1 ∷ [] → ⊥
@@ -72,14 +72,14 @@ new_block_before_the_held_ones W L g d f κs a s l old held bytes new left =
     = appended (taken a.0.now) (taken s.0.now) a.1.0.now _ _ l.ok.takes before after in
     absurd (let two : 2 ≡ 1 = ap (λ l. get_or l 0 0) e in omega arith)
 
--- device_failure_forgotten: the device failed, and goes on being written to
+-- device_failure_forgotten: the device failed, and is written to again
 device_failure_forgotten : (W : _) (L : _) (g : _) (d : _) (f : _) (κs : _) (a : _) (s : _)
     → take.Learnt-named W L g d f κs a (Err WriteFailed) s → s.0.now.failed ≡ false → ⊥
 device_failure_forgotten W L g d f κs a s l stands =
     let e : false ≡ true = sym stands ∙ l.err.failed in
     absurd (cc)
 
--- calls_counted_in_place_of_bytes: behind the first 80 bytes the size is 1
+-- calls_counted_in_place_of_bytes: after the first 80 bytes the size is 1
 calls_counted_in_place_of_bytes : (W : _) (L : _) (g : _) (d : _) (f : _) (κs : _) (a : _) (s : _)
     → take.Learnt-named W L g d f κs a (Ok tt) s → a.0.now.size ≡ 0 → length a.1.0.now ≡ 80
     → s.0.now.size ≡ 1 → ⊥

@@ -1,7 +1,11 @@
-use Rattle.std.proofs.Common.{inl, refl, sym, ap, subst, ◌∙◌}
+use Rattle.std.proofs.Common.{rules, inl, inr, refl, sym, ap, subst, ◌∙◌}
 use Rattle.tape_writer.specs.Faults.{IsEnding}
 use Rattle.tape_writer.specs.State.{SetState}
 use Rattle.tape_writer.proofs.Standing.{behind_writing}
+use Rattle.tape_writer.specs.declared.phase.Phase.TheVariants.{Failed}
+use Rattle.tape_writer.proofs.Asked.{asked_of}
+use Rattle.tape_writer.proofs.Calls.{begin_told}
+use Rattle.tape_writer.proofs.Left.{left_begin}
 use Rattle.tape_writer.proofs.Last.{lasting_self}
 use Rattle.tape_writer.proofs.set.SetWriter.begin_file.Goals as goal
 
@@ -41,6 +45,90 @@ pub returns-in_default-new-clause-unfit : goal.returns-in_default-new-clause-unf
 returns-in_default-new-clause-unfit g c = λ between unfit.
     let fits = c.in_default.ensures.ok in absurd (unfit fits.2 fits.3)
 
-pub returns-clause-unfit : goal.returns-clause-unfit
-returns-clause-unfit g c = λ between unfit.
+pub returns-then-is_err-clause-unfit : goal.returns-then-is_err-clause-unfit
+returns-then-is_err-clause-unfit g c = λ between unfit.
     let fits = c.in_default.ensures.ok in absurd (unfit fits.2 fits.3)
+
+pub returns-in-Ok-begin-clause-unfit : goal.returns-in-Ok-begin-clause-unfit
+returns-in-Ok-begin-clause-unfit g c = λ between unfit.
+    let fits = c.in_default.ensures.ok in absurd (unfit fits.2 fits.3)
+
+pub returns-in-Err-begin-clause-unfit : goal.returns-in-Err-begin-clause-unfit
+returns-in-Err-begin-clause-unfit g c = λ between unfit.
+    let fits = c.in_default.ensures.ok in absurd (unfit fits.2 fits.3)
+
+pub returns-then-is_err-clause-lasting : goal.returns-then-is_err-clause-lasting
+returns-then-is_err-clause-lasting g c = rw (← c.self.view_is) (lasting_self _ _ _)
+
+pub returns-in-Ok-begin-clause-told : goal.returns-in-Ok-begin-clause-told
+returns-in-Ok-begin-clause-told g c =
+    let old : SetState g.row.T.Denot = record {
+      out = c.self.inside.tape.out;
+      volumes = c.self.inside.volumes.items;
+      capacity = c.self.inside.capacity;
+      set_id = c.self.inside.set_id;
+      files = c.self.inside.files.items;
+      course = c.self.inside.tape.course;
+      phase = c.self.inside.phase;
+    } in
+    let between = ap (λ (z : SetState g.row.T.Denot). z.phase) c.self.view_is
+    ∙ c.in_default.ensures.ok.0 in
+    rw (← c.self.view_is) (λ told k.
+    begin_told (g.T.TapeOut.holds c.self.inside.tape.out)
+    (g.T.TapeOut.holds c.begin.new.tape.out) old
+    c.begin.new.tape.out c.deref.result.now c.push.new.self.items c.next_file-file.result
+    c.begin.new.tape.course c.in-Ok.packer told c.args.head c.args.shape between (search rules)
+    (search rules) (search rules)
+    (λ s f x.
+    c.in-Ok-begin.ensures.filing c.self.inside.set_id told c.in-Ok.packer s f (search rules) x) k)
+
+pub returns-in-Ok-begin-clause-asked : goal.returns-in-Ok-begin-clause-asked
+returns-in-Ok-begin-clause-asked g c =
+    rw (← c.self.view_is) (λ w.
+    asked_of (g.T.TapeOut.asked c.self.inside.tape.out)
+    (g.T.TapeOut.asked c.begin.new.tape.out) c.deref.result.now c.self.inside.volumes.items
+    c.self.inside.tape.course.volume c.begin.new.tape.course.volume (search rules)
+    c.in-Ok-begin.ensures.asked w)
+
+pub returns-then-is_err-clause-front : goal.returns-then-is_err-clause-front
+returns-then-is_err-clause-front g c =
+    let old : SetState g.row.T.Denot = record {
+      out = c.self.inside.tape.out;
+      volumes = c.self.inside.volumes.items;
+      capacity = c.self.inside.capacity;
+      set_id = c.self.inside.set_id;
+      files = c.self.inside.files.items;
+      course = c.self.inside.tape.course;
+      phase = c.self.inside.phase;
+    } in
+    let between = ap (λ (z : SetState g.row.T.Denot). z.phase) c.self.view_is
+    ∙ c.in_default.ensures.ok.0 in
+    rw (← c.self.view_is) (λ told k ends.
+    inl (behind_writing (g.T.TapeOut.holds c.self.inside.tape.out) old told between k))
+
+pub returns-in-Err-begin-clause-front : goal.returns-in-Err-begin-clause-front
+returns-in-Err-begin-clause-front g c =
+    let old : SetState g.row.T.Denot = record {
+      out = c.self.inside.tape.out;
+      volumes = c.self.inside.volumes.items;
+      capacity = c.self.inside.capacity;
+      set_id = c.self.inside.set_id;
+      files = c.self.inside.files.items;
+      course = c.self.inside.tape.course;
+      phase = c.self.inside.phase;
+    } in
+    let between = ap (λ (z : SetState g.row.T.Denot). z.phase) c.self.view_is
+    ∙ c.in_default.ensures.ok.0 in
+    rw (← c.self.view_is) (λ told k ends.
+    inr (left_begin (g.T.TapeOut.holds c.self.inside.tape.out)
+    (g.T.TapeOut.holds c.begin.new.tape.out) old (record old { phase = Failed })
+    c.deref.result.now c.next_file-file.result c.in-Ok.packer told c.args.head c.args.shape
+    between (search rules) (refl, refl, refl) (search rules)
+    (λ s f x. c.in-Err-begin.ensures.front c.self.inside.set_id told c.in-Ok.packer s f (search rules)
+    x) k))
+
+pub returns-then-is_err-clause-memory : goal.returns-then-is_err-clause-memory
+returns-then-is_err-clause-memory g c = rw (← c.self.view_is) (λ e. inl refl)
+
+pub returns-in-Err-begin-clause-memory : goal.returns-in-Err-begin-clause-memory
+returns-in-Err-begin-clause-memory g c = rw (← c.self.view_is) (λ e. inr (c.in-Err-begin.ensures.cause.1 e))

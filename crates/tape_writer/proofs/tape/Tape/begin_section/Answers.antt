@@ -1,4 +1,4 @@
--- The headers, or a front of them.
+-- The headers, or a prefix of them.
 use Rattle.std.proofs.Common.{◌++◌, ◌∷◌, [], List, subst}
 use Rattle.tape_image.specs.Tape.{TapeItem, block, mark}
 use Rattle.tape_label.specs.declared.values.Kind.TheVariants as kinds

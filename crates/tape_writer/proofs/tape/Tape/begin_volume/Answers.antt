@@ -1,20 +1,25 @@
--- A volume with its label, or a front of it.
-use Rattle.std.proofs.Common.{◌∷◌, [], subst}
+-- A volume with its label, or a prefix of it.
+use Rattle.std.proofs.Common.{◌∷◌, [], refl, subst}
 use Rattle.tape_image.specs.Tape.{block}
 use Rattle.tape_writer.specs.Tapes.{UnderWay, all_volumes}
 use Rattle.tape_writer.proofs.Fronts.{front_here, front_changed, took}
+use Rattle.tape_writer.proofs.Last.{lasting_err}
 use Rattle.tape_writer.specs.Front.{HoldsFront}
 use Rattle.tape_writer.proofs.tape.Tape.begin_volume.Goals as goal
 
-pub returns-in_err-next_volume-clause-front : goal.returns-in_err-next_volume-clause-front
-returns-in_err-next_volume-clause-front g c = λ tapes h.
-    front_changed _ tapes _ (front_here (g.T.TapeOut.holds c.next_volume.new.self.out) tapes
-    (c.in_err-next_volume.ensures.err tapes h))
+pub returns-in-Err-clause-lasting : goal.returns-in-Err-clause-lasting
+returns-in-Err-clause-lasting g c =
+    lasting_err _ _ _ _ _ _ c.in-Err.ensures.err c.change_volume.ensures.count refl
+
+pub returns-in-Err-clause-front : goal.returns-in-Err-clause-front
+returns-in-Err-clause-front g c = λ tapes h.
+    front_changed _ tapes _ (front_here (g.T.TapeOut.holds c.change_volume.new.self) tapes
+    (c.in-Err.ensures.err tapes h))
 
 pub returns-clause-front : goal.returns-clause-front
 returns-clause-front g c = λ tapes h.
     let H = g.T.TapeOut.holds c.label.new.self.out in
     subst (λ z. HoldsFront H (UnderWay (all_volumes tapes) (block z ∷ []))) c.volume_label.ensures
-    (took (g.T.TapeOut.holds c.next_volume.new.self.out) H (block c.volume_label.result ∷ [])
+    (took (g.T.TapeOut.holds c.change_volume.new.self) H (block c.volume_label.result ∷ [])
     c.label.result c.label.ensures.ok c.label.ensures.err (all_volumes tapes) []
-    (c.in_ok-next_volume.ensures.ok tapes h))
+    (c.in_default.ensures.ok tapes h))

@@ -1,4 +1,4 @@
--- A file's end in the section under way, and behind a change.
+-- A file's end in the current section, and after a change.
 use Rattle.std.proofs.Common.{rules, arith, refl, true}
 use Rattle.std.specs.Prelude.{Ok}
 use Rattle.tape_writer.specs.Draft.{ended_course, changed_course}
@@ -12,12 +12,12 @@ use Rattle.tape_writer.proofs.Last.{lasting_self}
 use Rattle.tape_writer.proofs.Held.{got, close_here, close_next}
 use Rattle.tape_writer.proofs.tape.Tape.end_file.Goals as goal
 
-pub returns-then-takes_end-clause-closed : goal.returns-then-takes_end-clause-closed
-returns-then-takes_end-clause-closed g c = λ set_id d o.
+pub returns-then-has_room-clause-closed : goal.returns-then-has_room-clause-closed
+returns-then-has_room-clause-closed g c = λ set_id d o.
     close_here (g.T.TapeOut.holds c.args.self.now.out)
     (g.T.TapeOut.holds c.end_section.new.self.out) c.args.volumes.now c.args.capacity set_id
     c.args.file.now c.args.self.now.course c.end_section.new.self.course d c.end_section.result
-    o c.requires.volumes (omega arith) (let fits = c.takes_end.ensures.yes (search rules) in
+    o c.requires.volumes (omega arith) (let fits = c.has_room.ensures.yes (search rules) in
     omega (arith, fits)) c.end_section.ensures.ok c.end_section.ensures.course
 
 pub returns-clause-closed : goal.returns-clause-closed
@@ -28,7 +28,7 @@ returns-clause-closed g c = λ set_id d o.
     (g.T.TapeOut.holds c.end_section-2.new.self.out) c.args.volumes.now c.args.capacity set_id
     c.args.file.now c.args.self.now.course c.change_to.new.self.course
     c.end_section-2.new.self.course d c.in-Some.volume.now c.end_section-2.result
-    o (let due = c.takes_end.ensures.no (search rules) in omega (arith, due)) there
+    o (let due = c.has_room.ensures.no (search rules) in omega (arith, due)) there
     (every_at IsWideVolume c.args.volumes.now c.args.self.now.course.volume c.in-Some.volume.now
     c.requires.wide there) c.requires.volumes c.requires.capacity
     (omega arith) c.in_ok-change_to.ensures.ok c.in_ok-change_to.ensures.course
@@ -37,8 +37,8 @@ returns-clause-closed g c = λ set_id d o.
 pub returns-in_default-clause-lasting : goal.returns-in_default-clause-lasting
 returns-in_default-clause-lasting g c = lasting_self _ _ _
 
-pub returns-then-takes_end-clause-front : goal.returns-then-takes_end-clause-front
-returns-then-takes_end-clause-front g c = λ set_id d o.
+pub returns-then-has_room-clause-front : goal.returns-then-has_room-clause-front
+returns-then-has_room-clause-front g c = λ set_id d o.
     err_any c.end_section.result _ (λ f not.
     let new = ended_course c.args.self.now.course in (
       new,
@@ -46,7 +46,7 @@ returns-then-takes_end-clause-front g c = λ set_id d o.
           (HoldsFront (g.T.TapeOut.holds c.end_section.new.self.out)) c.args.volumes.now
           c.args.capacity set_id c.args.file.now c.args.self.now.course new d (Ok tt)
           o c.requires.volumes (omega arith)
-          (let fits = c.takes_end.ensures.yes (search rules) in omega (arith, fits))
+          (let fits = c.has_room.ensures.yes (search rules) in omega (arith, fits))
           c.end_section.ensures.front refl,
     ))
 
@@ -62,7 +62,7 @@ returns-in_err-change_to-clause-front g c =
       two,
       close_next (g.T.TapeOut.holds c.args.self.now.out) K K c.args.volumes.now c.args.capacity
           set_id c.args.file.now c.args.self.now.course one two d c.in-Some.volume.now (Ok tt)
-          o (let due = c.takes_end.ensures.no (search rules) in omega (arith, due)) there
+          o (let due = c.has_room.ensures.no (search rules) in omega (arith, due)) there
           (every_at IsWideVolume c.args.volumes.now c.args.self.now.course.volume
           c.in-Some.volume.now c.requires.wide there) c.requires.volumes c.requires.capacity
           (omega arith) c.change_to.ensures.front refl
@@ -83,7 +83,7 @@ returns-clause-front g c = λ set_id d o.
           (HoldsFront (g.T.TapeOut.holds c.end_section-2.new.self.out)) c.args.volumes.now
           c.args.capacity set_id c.args.file.now c.args.self.now.course one two d
           c.in-Some.volume.now (Ok tt)
-          o (let due = c.takes_end.ensures.no (search rules) in omega (arith, due)) there
+          o (let due = c.has_room.ensures.no (search rules) in omega (arith, due)) there
           (every_at IsWideVolume c.args.volumes.now c.args.self.now.course.volume
           c.in-Some.volume.now c.requires.wide there) c.requires.volumes c.requires.capacity
           (omega arith) c.in_ok-change_to.ensures.ok c.in_ok-change_to.ensures.course

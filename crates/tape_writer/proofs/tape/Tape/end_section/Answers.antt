@@ -1,4 +1,4 @@
--- The end of a section, or a front of it.
+-- The end of a section, or a prefix of it.
 use Rattle.std.proofs.Common.{◌++◌, ◌∷◌, [], List, subst, ◌∙◌, ap}
 use Rattle.tape_image.specs.Tape.{TapeItem, block, mark}
 use Rattle.tape_writer.specs.Tapes.{UnderWay}

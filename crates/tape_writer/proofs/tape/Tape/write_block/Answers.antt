@@ -1,4 +1,4 @@
--- A block in the section under way, and one behind a change.
+-- A block in the current section, and one after a change.
 use Rattle.std.proofs.Common.{rules, arith, refl, ◌∷◌, []}
 use Rattle.std.specs.Prelude.{Ok}
 use Rattle.tape_image.specs.Tape.{block}
@@ -13,12 +13,13 @@ use Rattle.tape_writer.proofs.Last.{lasting_self}
 use Rattle.tape_writer.proofs.Held.{got, write_here, write_next}
 use Rattle.tape_writer.proofs.tape.Tape.write_block.Goals as goal
 
-pub returns-then-takes_block-clause-grew : goal.returns-then-takes_block-clause-grew
-returns-then-takes_block-clause-grew g c = λ set_id d b e o.
+pub returns-then-has_room-clause-grew : goal.returns-then-has_room-clause-grew
+returns-then-has_room-clause-grew g c = λ set_id d b e o.
     write_here (g.T.TapeOut.holds c.args.self.now.out) (g.T.TapeOut.holds c.add_block.new.self.out)
     c.args.volumes.now c.args.capacity set_id c.args.file.now c.args.self.now.course
     c.add_block.new.self.course d b c.args.bytes.now c.add_block.result
-    e c.requires.sized o (c.takes_block.ensures.yes (search rules)) c.add_block.ensures.ok
+    e c.requires.sized o (let fits = c.has_room.ensures.yes (search rules) in
+    omega (arith, fits)) c.add_block.ensures.ok
     c.add_block.ensures.course
 
 pub returns-clause-grew : goal.returns-clause-grew
@@ -29,7 +30,8 @@ returns-clause-grew g c = λ set_id d b e o.
     (g.T.TapeOut.holds c.add_block-2.new.self.out) c.args.volumes.now c.args.capacity set_id
     c.args.file.now c.args.self.now.course c.change_to.new.self.course c.add_block-2.new.self.course
     d b c.in-Some.volume.now c.args.bytes.now c.add_block-2.result
-    e c.requires.sized o (c.takes_block.ensures.no (search rules)) there (every_at IsWideVolume
+    e c.requires.sized o (let due = c.has_room.ensures.no (search rules) in
+    omega (arith, due)) there (every_at IsWideVolume
     c.args.volumes.now c.args.self.now.course.volume c.in-Some.volume.now c.requires.wide there)
     c.requires.volumes c.requires.capacity (omega arith) c.in_ok-change_to.ensures.ok
     c.in_ok-change_to.ensures.course c.add_block-2.ensures.ok c.add_block-2.ensures.course
@@ -37,15 +39,16 @@ returns-clause-grew g c = λ set_id d b e o.
 pub returns-in_default-clause-lasting : goal.returns-in_default-clause-lasting
 returns-in_default-clause-lasting g c = lasting_self _ _ _
 
-pub returns-then-takes_block-clause-front : goal.returns-then-takes_block-clause-front
-returns-then-takes_block-clause-front g c = λ set_id d b e o.
+pub returns-then-has_room-clause-front : goal.returns-then-has_room-clause-front
+returns-then-has_room-clause-front g c = λ set_id d b e o.
     err_any c.add_block.result _ (λ f not.
     let new = added_course c.args.self.now.course (item_size (block c.args.bytes.now)) in (
       new,
       write_here (g.T.TapeOut.holds c.args.self.now.out)
           (HoldsFront (g.T.TapeOut.holds c.add_block.new.self.out)) c.args.volumes.now
           c.args.capacity set_id c.args.file.now c.args.self.now.course new d b c.args.bytes.now
-          (Ok tt) e c.requires.sized o (c.takes_block.ensures.yes (search rules))
+          (Ok tt) e c.requires.sized o (let fits = c.has_room.ensures.yes (search rules) in
+          omega (arith, fits))
           (took (g.T.TapeOut.holds c.args.self.now.out)
           (g.T.TapeOut.holds c.add_block.new.self.out) (block c.args.bytes.now ∷ [])
           c.add_block.result c.add_block.ensures.ok c.add_block.ensures.err) refl,
@@ -63,7 +66,8 @@ returns-in_err-change_to-clause-front g c =
       two,
       write_next (g.T.TapeOut.holds c.args.self.now.out) K K c.args.volumes.now c.args.capacity
           set_id c.args.file.now c.args.self.now.course one two d b c.in-Some.volume.now
-          c.args.bytes.now (Ok tt) e c.requires.sized o (c.takes_block.ensures.no (search rules))
+          c.args.bytes.now (Ok tt) e c.requires.sized o (let due = c.has_room.ensures.no (search rules) in
+          omega (arith, due))
           there (every_at IsWideVolume c.args.volumes.now c.args.self.now.course.volume
           c.in-Some.volume.now c.requires.wide there) c.requires.volumes c.requires.capacity
           (omega arith) c.change_to.ensures.front refl
@@ -84,7 +88,8 @@ returns-clause-front g c = λ set_id d b e o.
           (HoldsFront (g.T.TapeOut.holds c.add_block-2.new.self.out)) c.args.volumes.now
           c.args.capacity set_id c.args.file.now c.args.self.now.course one two d b
           c.in-Some.volume.now c.args.bytes.now (Ok tt) e c.requires.sized o
-          (c.takes_block.ensures.no (search rules)) there (every_at IsWideVolume
+          (let due = c.has_room.ensures.no (search rules) in
+          omega (arith, due)) there (every_at IsWideVolume
           c.args.volumes.now c.args.self.now.course.volume c.in-Some.volume.now c.requires.wide
           there) c.requires.volumes c.requires.capacity (omega arith)
           c.in_ok-change_to.ensures.ok c.in_ok-change_to.ensures.course
