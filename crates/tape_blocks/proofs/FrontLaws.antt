@@ -1,5 +1,5 @@
--- Fronts of a block: of two fronts one goes on with the other, and none goes on where no unit in
--- order stands.
+-- Prefixes of a block: of two prefixes one continues with the other, and none continues where
+-- there is no unit in order.
 use Rattle.std.proofs.Common.{◌≡◌, ℕ, ◌+◌, ◌≤◌, Bool, true, false, List, [], ◌∷◌, ◌++◌, length}
 use Rattle.std.proofs.Common.{drop, Option, Some, None, Result, Ok, Err, refl, sym, ap, subst, ◌∙◌}
 use Rattle.std.proofs.Common.{append_assoc, arith, length-append, inl, inr}
@@ -76,7 +76,7 @@ same_part format rec_len p q x y is_p is_q e =
     ∙ ap (drop (head_len format + length q.bytes)) e ∙ rest_of format q y in
     (part, rest)
 
--- The second list of parts goes on with the first, by units that stand in its rest.
+-- The second list of parts continues with the first, by units in its rest.
 pub record GoesOn (format : Format) (rec_len : ℕ) (ps qs : List Portion)
     (rest left : List ℕ) : Type 0 where
   pub more : List Portion
@@ -121,9 +121,9 @@ either_goes_on format rec_len (p ∷ ps) (q ∷ qs) rest left all_p all_q e =
     either_behind format rec_len p q ps qs rest left same.0
     (either_goes_on format rec_len ps qs rest left all_p.1 all_q.1 same.1)
 
--- ---- the longest front
+-- ---- the longest prefix
 
--- No unit stands here that is in order.
+-- There is no unit in order here.
 abbrev pub NoUnit : Bool → Result (Option Found) BlockFault → Type 0
 NoUnit begun (Ok (Some found)) = bool_eq (continues found.span) begun ≡ false
 NoUnit begun (Ok None) = Unit {0}
@@ -153,7 +153,7 @@ no_more format rec_len begun end [] rest left never all order e =
 no_more format rec_len begun end (p ∷ more) rest left never all order e =
     absurd (no_first format rec_len begun end p more rest left never all order e)
 
--- A front behind which no unit in order stands is the longest one.
+-- A prefix that no unit in order follows is the longest one.
 pub longest : (format : Format) (rec_len offset : ℕ) (begun end last : Bool) (block : List ℕ)
     (ps others : List Portion) (rest left : List ℕ) → NoUnit end (unit_at format rec_len rest)
     → IsFront format rec_len offset begun block ps end rest
@@ -168,7 +168,7 @@ longest format rec_len offset begun end last block ps others rest left never fro
           omega (arith, long, length-append (spellings format on.more) rest))
     ]
 
--- ---- a front and the unit behind it
+-- ---- a prefix and the unit after it
 
 pub begins_more : (format : Format) (rec_len offset : ℕ) (block : List ℕ) (ps : List Portion)
     (place : ℕ) (found : Found) → BeginsWith format rec_len offset block ps (drop place block)

@@ -1,4 +1,4 @@
--- A block is judged as its fronts tell: it passes where it holds parts in order, and else it has
+-- A block is judged as its prefixes say: it passes where it holds parts in order, and else it has
 -- the fault.
 use Rattle.std.proofs.Common.{◌≡◌, ℕ, ◌+◌, ◌≤◌, Bool, true, false, ltb, List, length, Option, Some}
 use Rattle.std.proofs.Common.{None, Result, Ok, Err, refl, sym, ap, subst, ◌∙◌, inl, inr}
@@ -148,7 +148,7 @@ not_in_order : (b : Bool) (at : ℕ) (f : BlockFault)
 not_in_order true at f e = absurd cc
 not_in_order false at f e = refl
 
--- Where a test fails no unit stands in order.
+-- Where a test fails no unit is in order.
 never_by : (u : Result (Option Found) BlockFault) (end : Bool) (at : ℕ) (f : BlockFault)
     → moved at (stop_by end u) ≡ Some f → NoUnit end u
 never_by (Err g) end at f e = tt

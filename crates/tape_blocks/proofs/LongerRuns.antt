@@ -55,7 +55,7 @@ pub spanned_room : (format : Format) (n size block_len : ℕ) → size + least_r
 spanned_room format n size block_len le e =
     subst (λ (f : Format). size + least_room f n ≤ block_len) e le
 
--- The record ends in the block under way.
+-- The record ends in the current block.
 pub run_ends : (taken : List Filled) (p q : Packing) (records : List (List ℕ))
     (front : Option (List ℕ)) (rest : List ℕ) (n : ℕ) → Run taken p records front (length rest)
     → Ends p rest q → Run taken q (records ++ content_after front rest ∷ []) None n

@@ -1,4 +1,4 @@
--- The longest front of units in order: each block has one, and it is judged by what stands behind.
+-- The longest prefix of units in order: each block has one, and it is judged by what follows.
 use Rattle.std.proofs.Common.{◌≡◌, ℕ, zero, suc, ◌+◌, ◌<◌, ◌≤◌, Bool, true, false, List, [], ◌∷◌}
 use Rattle.std.proofs.Common.{◌++◌, length, drop, Option, Some, None, Result, Ok, Err, refl, sym}
 use Rattle.std.proofs.Common.{ap, subst, ◌∙◌, arith, length-append}
@@ -22,7 +22,7 @@ use Rattle.tape_blocks.proofs.PartsLaws.{found_size}
 use Rattle.tape_blocks.proofs.TestLaws.{stop_by, moved, tests_are}
 use Rattle.tape_blocks.proofs.UnitLaws.{unit_found}
 
--- ---- a front behind which no unit in order stands
+-- ---- a prefix that no unit in order follows
 
 in_order-front : (begun end : Bool) (ps qs : List Portion) → InOrder begun ps end
     → in_order begun (ps ++ qs) ≡ ps ++ in_order end qs
@@ -48,13 +48,13 @@ none_by (Ok None) format rec_len end rest some e never =
 none_by (Ok (Some found)) format rec_len end rest some e never =
     ap (in_order end) (parts_next format rec_len rest found some e) ∙ rw never refl
 
--- such a front in a block, and what a step finds behind it
+-- such a prefix in a block, and what a step finds after it
 pub record Ends (format : Format) (rec_len offset : ℕ) (begun : Bool) (block : List ℕ)
     (ps : List Portion) (end : Bool) (rest : List ℕ) : Type 0 where
   pub front : IsFront format rec_len offset begun block ps end rest
   pub none : NoUnit end (unit_at format rec_len rest)
 
--- The block is judged by what stands behind it.
+-- The block is judged by what follows it.
 pub judged_at : (format : Format) (rec_len offset : ℕ) (begun : Bool) (block : List ℕ)
     (ps : List Portion) (end : Bool) (rest : List ℕ) → (format ≡ Fixed → 1 ≤ rec_len)
     → Ends format rec_len offset begun block ps end rest
@@ -92,7 +92,7 @@ judged_by_step format rec_len offset begun block ps end rest u some ends e =
     rest ∙ ap (λ (v : Result (Option Found) BlockFault). moved (offset
     + length (spellings format ps)) (stop_by end v)) e)
 
--- The same where a walk stands at a place of the block.
+-- The same where a walk is at a place of the block.
 pub judged_where : (format : Format) (rec_len offset : ℕ) (begun : Bool) (block : List ℕ)
     (ps : List Portion) (going : Bool) (place : ℕ) (u : Result (Option Found) BlockFault)
     → (format ≡ Fixed → 1 ≤ rec_len) → place ≤ length block
@@ -122,7 +122,7 @@ pub judged_short : (format : Format) (rec_len offset : ℕ) (begun : Bool) (bloc
 unfolding judged
 judged_short format rec_len offset begun block short = rw (lt-ltb _ _ short) refl
 
--- ---- each block has such a front
+-- ---- each block has such a prefix
 
 pub record Walked (format : Format) (rec_len : ℕ) (begun : Bool) (bytes : List ℕ) : Type 0 where
   pub parts : List Portion

@@ -1,5 +1,5 @@
--- Answers that the contracts of units and of checked blocks exclude: each is what a wrong body
--- would give.
+-- Results that the contracts of units and of checked blocks exclude: each is the result of a wrong
+-- body.
 use Rattle.std.proofs.Common.{◌≡◌, ◌<◌, ℕ, Bool, true, false, List, [], ◌∷◌, refl, sym, ap}
 use Rattle.std.proofs.Common.{◌∙◌, subst, arith, codes, Option, Some, None, Result, Ok, Err, Bor}
 use Rattle.std.proofs.Common.{true≢false}
@@ -141,7 +141,7 @@ pack_fault_of_another_number κs a s h e =
 
 -- ---- shapes and spans
 
--- offset_of_label_forgotten: a label tells an offset of 2, and its shape has none
+-- offset_of_label_forgotten: a label says an offset of 2, and its shape has none
 offset_of_label_forgotten : (κs : _) (a : _) (z : _) (s : _) → shape_of.Learnt-named κs a z s
     → a.0.now.offset ≡ 2 → z.offset ≡ 0 → ⊥
 offset_of_label_forgotten κs a z s l e w =
@@ -152,7 +152,7 @@ block_length_17 : (κs : _) (a : _) (s : _) → is_writable.Learnt κs a true s
     → a.0.now.block_len ≡ 17 → ⊥
 block_length_17 κs a s h e = omega (arith, (h.0 refl).least, e)
 
--- last_begins_a_record: a last segment goes on with no record
+-- last_begins_a_record: a last segment continues no record
 last_begins_a_record : (κs : _) (s : _) → span_continues.Learnt κs (Last, tt) false s → ⊥
 last_begins_a_record κs s h = true≢false (sym h)
 
@@ -174,7 +174,7 @@ unfolding unit_at
 last_read_as_middle κs b s l =
     middle_or_last (ap span_found l.exact)
 
--- padding_with_other_bytes: an A behind two circumflexes is taken for padding
+-- padding_with_other_bytes: an A after two circumflexes is taken for padding
 padding_with_other_bytes : (κs : _) (b : Bor (List ℕ)) (s : _)
     → unit.Learnt-named κs (before Counted 18 b (codes "^^A")) none s → ⊥
 unfolding unit_at
@@ -218,7 +218,7 @@ abbrev checked : Bor Shape → Shape → Bool → Bor (List ℕ) → List ℕ
 checked h shape begun b block =
     (record h { now = shape }, (begun, (record b { now = block }, tt)))
 
--- what passes begins with a part that may stand there
+-- a block that passes begins with a part that may be there
 first_may_stand : (κs : _) (a : _) (end : _) (s : _) (p : Portion) (ps : List Portion)
     → check_block.Learnt-named κs a (Ok end) s
     → Holds a.0.now.format a.0.now.rec_len a.0.now.offset a.1.1.0.now (p ∷ ps)

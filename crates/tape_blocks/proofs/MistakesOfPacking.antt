@@ -1,4 +1,4 @@
--- Answers that the contracts of packing exclude: each is what a wrong body would give.
+-- Results that the contracts of packing exclude: each is the result of a wrong body.
 use Rattle.std.proofs.Common.{◌≡◌, ◌<◌, ◌≤◌, ℕ, true, false, List, [], ◌∷◌, length, take}
 use Rattle.std.proofs.Common.{get_or, refl, sym, ap, ◌∙◌, arith, codes, Some, Ok}
 use Rattle.std.proofs.Common.{Err, Bor, MutBor, inl, inr, true≢false}
@@ -58,7 +58,7 @@ pad_full_ignored κs h s l = absurd (let n : 18 ≡ 24 = l in omega arith)
 last_or_middle : Last ≡ Middle → ⊥
 last_or_middle e = absurd (cc)
 
--- middle_and_last_swapped: what goes on with a record and leaves it begun is its last segment
+-- middle_and_last_swapped: a segment that continues a record and leaves it unfinished is its last
 middle_and_last_swapped : (κs : _) (s : _) → span.Learnt κs (true, (true, tt)) Last s → ⊥
 middle_and_last_swapped κs s h = last_or_middle h
 
@@ -161,7 +161,7 @@ closed_block_judges_length κs a s l w =
 
 -- ---- what is taken
 
--- a packer with an empty record behind an offset of two bytes
+-- a packer with an empty record after an offset of two bytes
 abbrev behind_offset : Packing
 behind_offset = the_packing (counted_shape 18 14 2) (whole [] ∷ []) false false
 
@@ -173,12 +173,12 @@ no_spaces_of_offset κs m b s l w =
     let n : 94 ≡ 32 = ap (λ (xs : List ℕ). get_or xs 0 0) (sym w ∙ l.found.text_is) in
     absurd (omega (arith, n))
 
--- block_given_twice: the block was given, and the packer has its parts still
+-- block_given_twice: the block was returned, and the packer has its parts still
 block_given_twice : (κs : _) (a : _) (z : _) (s : _) (h : take_block.tells κs a z s)
     → (a.0.now.parts ≡ [] → ⊥) → h.0.lender-at-none.parts ≡ a.0.now.parts → ⊥
 block_given_twice κs a z s h some same = some (sym same ∙ ap (λ p. p.parts) h.0.holds-at-none)
 
--- offset_as_block_under_way: a block is under way that has nothing behind its offset
+-- offset_as_block_under_way: there is a current block with nothing after its offset
 offset_as_block_under_way : (κs : _) (a : _) (s : _) → rest.Learnt κs a true s
     → a.0.now.parts ≡ [] → ⊥
 offset_as_block_under_way κs a s h none = h.0 refl none

@@ -1,5 +1,4 @@
--- Answers that the contracts of parts exclude: each is what a wrong body
--- would give.
+-- Results that the contracts of parts exclude: each is the result of a wrong body.
 use Rattle.std.proofs.Common.{◌≡◌, ◌<◌, ℕ, List, [], ◌∷◌, length, get_or, refl, sym, ap, ◌∙◌}
 use Rattle.std.proofs.Common.{arith, codes, Some, None, Bor, MutBor}
 use Rattle.tape_label.specs.declared.values.Format.{Format}
@@ -32,7 +31,7 @@ holds_behind = (
 
 -- ---- parts that are lent
 
--- part_begins_inside_the_offset: behind an offset of 2 stands an empty record, and no part is left
+-- part_begins_inside_the_offset: an offset of 2 is followed by an empty record, and no part is left
 part_begins_inside_the_offset : (κs : _) (h : Bor Shape) (b : Bor (List ℕ)) (z : _) (s : _)
     → new.Learnt κs
     (record h { now = counted_shape 18 14 2 }, (record b { now = codes "??0004" }, tt)) z s
@@ -62,7 +61,7 @@ first_left : (κs : _) (a : _) (part : Part) (s : _) (p : Portion)
     → next.Learnt-named κs a (Some part) s → parts_left a.0.now ≡ p ∷ [] → view part ≡ p
 first_left κs a part s p l e = ap (λ (ps : List Portion). get_or ps 0 p) (sym l.steps ∙ e)
 
--- head_left_in_part: the count stands in the part
+-- head_left_in_part: the count is in the part
 head_left_in_part : (κs : _) (m : MutBor Parts) (b : Bor (List ℕ)) (part : Part) (s : _)
     → next.Learnt-named κs (over m Counted b (codes "0006AB")) (Some part) s
     → part.bytes.now ≡ codes "0006AB" → ⊥
@@ -73,7 +72,7 @@ head_left_in_part κs m b part s l w =
     absurd (let n : 6 ≡ 2 = sym (ap length w) ∙ ap (λ (p : Portion). length p.bytes) e in
     omega arith)
 
--- part_of_another_span: a first segment is told as a whole record
+-- part_of_another_span: a first segment is reported as a whole record
 part_of_another_span : (κs : _) (m : MutBor Parts) (b : Bor (List ℕ)) (part : Part) (s : _)
     → next.Learnt-named κs (over m Spanned b (codes "10006A")) (Some part) s
     → part.span ≡ Whole → ⊥
@@ -83,7 +82,7 @@ part_of_another_span κs m b part s l w =
     let e : view part ≡ p = first_left κs (over m Spanned b (codes "10006A")) part s p l refl in
     whole_or_first (sym w ∙ ap (λ (q : Portion). q.span) e)
 
--- padding_yielded: two circumflexes behind the records are yielded as a part
+-- padding_yielded: two circumflexes after the records are yielded as a part
 padding_yielded : (κs : _) (m : MutBor Parts) (b : Bor (List ℕ)) (part : Part) (s : _)
     → next.Learnt-named κs (over m Counted b (codes "^^")) (Some part) s → ⊥
 unfolding parts_by unit_at

@@ -1,4 +1,4 @@
--- What the bytes of a block under way stand for, and what is put behind them.
+-- What the bytes of a current block represent, and what is put after them.
 use Rattle.std.proofs.Common.{◌≡◌, ◌≢◌, ℕ, zero, suc, ◌+◌, ◌-◌, ◌<◌, ◌≤◌, Bool, true, false, List}
 use Rattle.std.proofs.Common.{[], ◌∷◌, ◌++◌, length, take, drop, replicate, max, not, ◌==◌, ltb}
 use Rattle.std.proofs.Common.{None, refl, sym, ap, subst, ◌∙◌, append_assoc, arith, length-append}
@@ -20,7 +20,7 @@ use Rattle.tape_blocks.proofs.FrontLaws.{all_append, spellings_push}
 use Rattle.tape_blocks.proofs.PartsLaws.{parts_are, unit_size}
 use Rattle.tape_blocks.proofs.UnitLaws.{length-spelling}
 
--- ---- the block under way
+-- ---- the current block
 
 pub keeps_len : (shape : Shape) (items : List ℕ) (len : ℕ) (parts : List Portion)
     → Keeps shape items len parts → len ≡ size_of shape parts
@@ -55,7 +55,7 @@ size_push shape ps p =
       length-spelling shape.format p,
     )
 
--- what stands behind the block under way counts for nothing
+-- what follows the current block counts for nothing
 pub keeps_front : (shape : Shape) (items : List ℕ) (m len : ℕ) (parts : List Portion) → len ≤ m
     → m ≤ length items
     → Keeps shape (take m items) len parts → Keeps shape items len parts
@@ -229,7 +229,7 @@ written_holds shape parts all =
           (size_of shape parts) shape.some_record,
     )
 
--- what is given away
+-- what is taken
 pub written_is : (shape : Shape) (items text : List ℕ) (len last : ℕ) (parts : List Portion)
     → Keeps shape items len parts
     → last ≡ padded_len shape len → text ≡ take len items ++ replicate (last - len) 94

@@ -101,7 +101,7 @@ pub written_in : (block : Vec ℕ Global) (lent more : List ℕ) → lent ≡ bl
 written_in block lent more same size =
     with_items_is block more (omega (arith, ap length same, size, block.ok))
 
--- padded where the block under way ends
+-- padded where the current block ends
 pub padded_in : (block : Vec ℕ Global) (lent more : List ℕ) (len last : ℕ) → lent ≡ block.items
     → length more ≡ length lent
     → take last more ≡ take len lent ++ replicate (last - len) 94
@@ -110,7 +110,7 @@ padded_in block lent more len last same size e =
     ap (take last) (written_in block lent more same size) ∙ e
     ∙ ap (λ (s : List ℕ). take len s ++ replicate (last - len) 94) same
 
--- the spaces of a block that was given away
+-- the spaces of a block that was taken
 pub given_keeps : (shape : Shape) (block : Vec ℕ Global) (lent more : List ℕ)
     (len last n : ℕ) (parts : List Portion) → IsWritable shape
     → Keeps shape block.items len parts → block.len ≡ shape.block_len → lent ≡ block.items

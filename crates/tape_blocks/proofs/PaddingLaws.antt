@@ -1,4 +1,4 @@
--- Padding: what no unit stands on, and its spelling read again.
+-- Padding: bytes without a unit; and the encoding of a unit read again.
 use Rattle.std.proofs.Common.{◌≡◌, ℕ, suc, ◌-◌, Bool, true, false, not, cond, ltb, eqb, List, []}
 use Rattle.std.proofs.Common.{◌∷◌, length, take, drop, Option, Some, None, Result, Ok, Err, refl}
 use Rattle.std.proofs.Common.{arith}

@@ -116,7 +116,7 @@ parts_next format rec_len bytes found some e =
     ∙ ap (λ (ps : List Portion). portion found bytes ∷ ps) (parts_by-any (length bytes) (length
     rest) format rec_len rest some (omega (arith, length-drop found.len bytes)) (omega arith))
 
--- the content of a unit, cut from it or from what it stands at
+-- the content of a unit, cut from it or from the bytes that begin with it
 pub content_of : (bytes : List ℕ) (h len : ℕ) → h ≤ len → len ≤ length bytes
     → take (length (take len bytes) - h) (drop h (take len bytes)) ≡ take (len - h) (drop h bytes)
 content_of bytes h len le lt =
@@ -163,7 +163,7 @@ pub parts_fault : (format : Format) (rec_len : ℕ) (bytes : List ℕ) (f : Bloc
 parts_fault format rec_len bytes f e =
     stops_by (Err f) (length bytes) format rec_len bytes e (λ found g. cc)
 
--- Behind these units come those of the rest.
+-- After these units come those of the rest.
 pub parts_front : (format : Format) (rec_len : ℕ) (ps : List Portion) (bytes rest : List ℕ)
     → (format ≡ Fixed → 1 ≤ rec_len) → AllByRecursion (IsUnit format rec_len) ps
     → bytes ≡ spellings format ps ++ rest
@@ -185,7 +185,7 @@ parts_front format rec_len (p ∷ ps) bytes rest some all e =
     ∙ ap (λ (xs : List Portion). p ∷ xs) (parts_front format rec_len ps
     (drop (head_len format + length p.bytes) bytes) rest some all.1 left)
 
--- Padding tells that a record of format F has a length.
+-- Padding says that a record of format F has a length.
 pub some_of : (format : Format) (rec_len : ℕ) (padding : List ℕ) → IsPadding format rec_len padding
     → format ≡ Fixed → 1 ≤ rec_len
 some_of Fixed rec_len padding is e = omega (arith, is.1)

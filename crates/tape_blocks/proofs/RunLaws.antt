@@ -1,4 +1,4 @@
--- Each offer keeps what stands behind the offers before it.
+-- Each offer keeps what follows the offers before it.
 use Rattle.std.proofs.Common.{◌≡◌, ◌≢◌, ℕ, zero, ◌+◌, ◌<◌, Bool, true, false, List, [], ◌∷◌, ◌++◌}
 use Rattle.std.proofs.Common.{length, take, drop, Option, Some, None, refl, sym, ap, subst, ◌∙◌}
 use Rattle.std.proofs.Common.{append_assoc, arith, inl, inr}
@@ -33,7 +33,7 @@ take_parts : (taken : List Filled) (b : Filled)
     → parts_of_all (taken ++ b ∷ []) ++ [] ≡ parts_of_all taken ++ b.parts
 take_parts taken b = append-nil (parts_of_all (taken ++ b ∷ [])) ∙ parts_more taken b
 
--- a block under way, closed for n bytes that come next
+-- a current block, closed for n bytes that come next
 record Full (taken : List Filled) (p : Packing) (records : List (List ℕ)) (front : Option (List ℕ))
     (n : ℕ) : Type 0 where
   closed : AreClosed p.shape taken (first_len p.parts 0)

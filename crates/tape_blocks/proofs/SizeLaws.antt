@@ -8,7 +8,7 @@ use Rattle.tape_label.specs.declared.values.Format.TheVariants.{Fixed, Counted, 
 use Rattle.tape_blocks.specs.Block.{Portion, Holds, IsUnit, spelling, spellings}
 use Rattle.tape_blocks.proofs.UnitLaws.{length-spelling}
 
--- ---- one unit, and units one behind another
+-- ---- one unit, and units one after another
 
 -- a unit has a byte
 unit_some : (format : Format) (rec_len : ℕ) (p : Portion) → (format ≡ Fixed → 1 ≤ rec_len)
@@ -77,7 +77,7 @@ here : (n : ℕ) (ys rest : List Portion) (p : Portion)
 here n [] rest p all = all.0
 here n (y ∷ ys) rest p all = here n ys rest p all.1
 
--- the same of a part with those before and behind it
+-- the same of a part with those before and after it
 pub short_part : (format : Format) (rec_len offset : ℕ) (block : List ℕ) (ps ys rest : List Portion)
     (p : Portion)
     → ps ≡ ys ++ p ∷ rest → Holds format rec_len offset block ps → length p.bytes ≤ length block

@@ -1,4 +1,4 @@
--- The unit that is found at the front is the one that is spelled there.
+-- The unit that is found at the start is the one that is encoded there.
 use Rattle.std.proofs.Common.{◌≡◌, ℕ, ◌+◌, ◌-◌, ◌/◌, ◌%◌, ◌^◌, ◌<◌, ◌≤◌, Bool, true, false, not}
 use Rattle.std.proofs.Common.{cond, ltb, eqb, List, [], ◌∷◌, ◌++◌, length, take, drop, Option, Some}
 use Rattle.std.proofs.Common.{None, Result, Ok, Err, refl, sym, ap, subst, ◌∙◌, append_assoc, arith}
@@ -66,7 +66,7 @@ counted_cases span h bytes found e =
       found_is = p.4;
     }
 
--- four digits, what they count of the bytes behind them, and the rest
+-- four digits, what they count of the bytes after them, and the rest
 four_digits : (bytes : List ℕ) (len : ℕ) → 4 ≤ length bytes → all_ascii_digits (take 4 bytes) ≡ true
     → digits 4 (number_of (take 4 bytes)) ≡ take 4 bytes
 four_digits bytes len room there =
@@ -202,7 +202,7 @@ unit_found Spanned rec_len (c ∷ cs) found e =
     (λ s is. span_is c (eqb c 48) (eqb c 49) (eqb c 50) (eqb c 51) s refl refl refl refl is)
     (not_padding (eqb c 94) (first_other (c ∷ cs)) (spanned (span_by c) (c ∷ cs)) found e) rec_len
 
--- ---- a unit that is spelled
+-- ---- a unit that is encoded
 
 counted_again : (span : Span) (h k : ℕ) (bytes : List ℕ) → h ≤ length bytes
     → take 4 (drop (h - 4) bytes) ≡ digits 4 k → k < 10000 → h ≤ k → k ≤ length bytes

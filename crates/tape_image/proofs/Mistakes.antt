@@ -1,4 +1,4 @@
--- Answers that the contracts of this crate exclude: each is what a wrong body would give. Here are
+-- Results that the contracts of this crate exclude: each is the result of a wrong body. Here are
 -- the numbers of faults, and the calls of a reader that read no item.
 use Rattle.std.proofs.Common.{◌≡◌, [], ◌∷◌, length, sym, ap, ◌∙◌, arith}
 use Rattle.std.specs.Prelude.{Some, None, Err}
@@ -27,7 +27,7 @@ finished_is_number_four : (κs : _) (a : _) (s : _) → write_number.Learnt κs 
 finished_is_number_four κs a s h e =
     absurd (let d : 4 ≡ 3 = h ∙ ap write_number_of e in omega arith)
 
--- buffer_reserved_and_not_filled: the memory is there, and no byte stands in it
+-- buffer_reserved_and_not_filled: the memory is there, and no byte is in it
 buffer_reserved_and_not_filled : (buffer : Inside) → the_invariant buffer
     → buffer.bytes.items ≡ [] → ⊥
 buffer_reserved_and_not_filled buffer h e =
@@ -45,13 +45,13 @@ reads_before_the_first_call : (T : _) (L : _) (g : _) (d : _) (κs : _) (a : _) 
 reads_before_the_first_call T L g d κs a z s l e w =
     absurd (let d : Some [] ≡ Some (7 ∷ []) = sym w ∙ l.unread ∙ e in cc)
 
--- ending_never_told: behind an end word nothing is said of how the medium ended
+-- ending_never_told: after an end-of-medium marker nothing is said of how the medium ended
 ending_never_told : (T : _) (L : _) (g : _) (d : _) (κs : _) (a : _) (s : _)
     → ending.Learnt T L g d κs a None s → a.0.now.status ≡ ended Marked → ⊥
 ending_never_told T L g d κs a s h e =
     absurd (let d : None ≡ Some Marked = h ∙ ap ending_of e in cc)
 
--- place_not_told_at_first: behind a first block of 80 bytes the place is still 0
+-- place_not_told_at_first: after a first block of 80 bytes the place is still 0
 place_not_told_at_first : (T : _) (L : _) (g : _) (d : _) (κs : _) (a : _) (s : _)
     → place.Learnt T L g d κs a 0 s → a.0.now.place ≡ 88 → ⊥
 place_not_told_at_first T L g d κs a s h e =

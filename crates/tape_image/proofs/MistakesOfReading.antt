@@ -1,5 +1,5 @@
--- Answers of `ImageReader::next`, and what the reader then is, that its contract excludes: each is
--- what a wrong body would give for the bytes that are written out.
+-- Results of `ImageReader::next`, and what the reader then is, that its contract excludes: each is
+-- the result of a wrong body for the bytes that are written out.
 use Rattle.std.proofs.Common.{◌≡◌, ◌≢◌, ◌≤◌, ◌+◌, ℕ, List, [], ◌∷◌, ◌++◌, length, refl, sym, ap}
 use Rattle.std.proofs.Common.{◌∙◌}
 use Rattle.std.proofs.Common.{subst, arith, length-append}
@@ -24,7 +24,7 @@ use Rattle.tape_image.proofs.reader.ImageReader.next.Reads as next
 
 -- ---- readers and bytes
 
--- a reader that goes on at a place, whose device has these bytes left
+-- a reader that continues at a place, whose device has these bytes left
 abbrev at : ℕ → List ℕ → ℕ → ℕ → Reader
 at place left device room = record {
   place = place;
@@ -60,7 +60,7 @@ gives_first p xs device room old new result item items end stop h e w b =
     (Walks-item p new.place xs ys item takes) gave.within b in
     (more, same)
 
--- so no item is given of bytes that begin with none
+-- so no item is returned of bytes that begin with none
 gives_none : (p : ℕ) (xs : List ℕ) (device room : ℕ) (old new : Reader)
     (result : Result (Option Item) ImageFault) (item : TapeItem) (end : ℕ) (stop : Stop)
     → HasMoved old result new → old ≡ at p xs device room
@@ -69,7 +69,7 @@ gives_none p xs device room old new result item end stop h e w b =
     let (more, same) = gives_first p xs device room old new result item [] end stop h e w b in
     absurd (cc same)
 
--- what a call took of the bytes for the fault that it told
+-- what a call took of the bytes for the fault that it returned
 takes_fault : (p : ℕ) (xs : List ℕ) (device room : ℕ) (old new : Reader)
     (result : Result (Option Item) ImageFault) (f : ImageFault) → HasMoved old result new
     → old ≡ at p xs device room → seen result ≡ Err f
@@ -155,7 +155,7 @@ module _ (T : _) (L : _) (g : _) (d : _) (κs : _) (a : _) (z : _) (s : _)
   abbrev new : Reader
   new = h.0.lender-at-none
 
-  -- words_not_compared: a block is given whose leading word is 1, and its trailing word 2
+  -- words_not_compared: a block is returned whose leading word is 1, and its trailing word 2
   words_not_compared : a.0.now ≡ at 0 (1 ∷ 0 ∷ 0 ∷ 0 ∷ 7 ∷ 0 ∷ 2 ∷ 0 ∷ 0 ∷ 0 ∷ []) device room
       → seen z ≡ Ok (Some (block (7 ∷ []))) → ⊥
   words_not_compared e w =
@@ -166,7 +166,7 @@ module _ (T : _) (L : _) (g : _) (d : _) (κs : _) (a : _) (z : _) (s : _)
       (words_differ (omega arith) 1 refl (omega arith) (omega arith)
       (λ same. let n : 2 ≡ 1 = same in omega arith) refl))
 
-  -- bad_block_words_not_compared: a block that was recorded with an error is told as such, and
+  -- bad_block_words_not_compared: a block that was recorded with an error is reported as such, and
   -- its trailing word is another one
   bad_block_words_not_compared :
       a.0.now ≡ at 0 (1 ∷ 0 ∷ 0 ∷ 128 ∷ 7 ∷ 0 ∷ 1 ∷ 0 ∷ 0 ∷ 0 ∷ []) device room
@@ -179,7 +179,7 @@ module _ (T : _) (L : _) (g : _) (d : _) (κs : _) (a : _) (z : _) (s : _)
       (words_differ (omega arith) 1 refl (omega arith) (omega arith)
       (λ same. let n : 1 ≡ 2147483649 = same in omega arith) refl))
 
-  -- block_before_trailing_word: a block is given, and the bytes end before its trailing word
+  -- block_before_trailing_word: a block is returned, and the bytes end before its trailing word
   block_before_trailing_word : a.0.now ≡ at 0 (1 ∷ 0 ∷ 0 ∷ 0 ∷ 7 ∷ 0 ∷ []) device room
       → seen z ≡ Ok (Some (block (7 ∷ []))) → ⊥
   block_before_trailing_word e w =
@@ -189,7 +189,7 @@ module _ (T : _) (L : _) (g : _) (d : _) (κs : _) (a : _) (z : _) (s : _)
       (at_once 0 xs (faults Truncated) (omega arith)
       (in_block (omega arith) 10 refl (omega arith) (omega arith) refl))
 
-  -- pad_byte_forgotten: a block of one byte is given, with no pad byte before its trailing word
+  -- pad_byte_forgotten: a block of one byte is returned, with no pad byte before its trailing word
   pad_byte_forgotten : a.0.now ≡ at 0 (1 ∷ 0 ∷ 0 ∷ 0 ∷ 7 ∷ 1 ∷ 0 ∷ 0 ∷ 0 ∷ []) device room
       → seen z ≡ Ok (Some (block (7 ∷ []))) → ⊥
   pad_byte_forgotten e w =
@@ -211,7 +211,7 @@ module _ (T : _) (L : _) (g : _) (d : _) (κs : _) (a : _) (z : _) (s : _)
       (at_once 0 xs (faults Truncated) (omega arith)
       (in_block (omega arith) 10 refl (omega arith) (omega arith) refl))
 
-  -- end_word_read_past: the mark behind an end word is given
+  -- end_word_read_past: the mark after an end-of-medium marker is returned
   end_word_read_past :
       a.0.now ≡ at 0 (255 ∷ 255 ∷ 255 ∷ 255 ∷ 0 ∷ 0 ∷ 0 ∷ 0 ∷ []) device room
       → seen z ≡ Ok (Some mark) → ⊥
@@ -221,7 +221,7 @@ module _ (T : _) (L : _) (g : _) (d : _) (κs : _) (a : _) (z : _) (s : _)
       (at_once 0 xs (ends Marked) (omega arith)
       (at_end_word (omega arith) refl (omega arith) refl))
 
-  -- gap_given_as_mark: an erase gap is given as a mark
+  -- gap_given_as_mark: an erase gap is returned as a mark
   gap_given_as_mark : a.0.now ≡ at 0 (254 ∷ 255 ∷ 255 ∷ 255 ∷ []) device room
       → seen z ≡ Ok (Some mark) → ⊥
   gap_given_as_mark e w =
@@ -235,7 +235,7 @@ module _ (T : _) (L : _) (g : _) (d : _) (κs : _) (a : _) (z : _) (s : _)
       (block (7 ∷ []) ∷ []) 10 (ends Physical) h.0.holds-at-none e w one_byte_begins in
       absurd (let n : 1 ≡ 0 = ap first_length same in omega arith)
 
-  -- whole_bytes_told_as_truncated: a whole block is told as cut off
+  -- whole_bytes_told_as_truncated: a whole block is reported as cut off
   whole_bytes_told_as_truncated : a.0.now ≡ at 0 one_byte device room
       → seen z ≡ Err (fault 0 Truncated) → ⊥
   whole_bytes_told_as_truncated e w =
@@ -244,7 +244,7 @@ module _ (T : _) (L : _) (g : _) (d : _) (κs : _) (a : _) (z : _) (s : _)
       one_byte_begins in
       absurd (cc none)
 
-  -- too_long_told_as_truncated: a mark that would end past the limit is told as cut off
+  -- too_long_told_as_truncated: a mark that would end past the limit is reported as cut off
   too_long_told_as_truncated : a.0.now ≡ at 4294967292 (0 ∷ 0 ∷ 0 ∷ 0 ∷ []) device room
       → seen z ≡ Err (fault 4294967292 Truncated) → ⊥
   too_long_told_as_truncated e w =
@@ -267,7 +267,7 @@ module _ (T : _) (L : _) (g : _) (d : _) (κs : _) (a : _) (z : _) (s : _)
       let word : 4294967290 + length takes.given ≡ 4294967290 + 4 = takes.cause.1 in
       absurd (omega (arith, whole, word, ap length left))
 
-  -- place_behind_the_fault: the reader stands behind the word that begins nothing
+  -- place_behind_the_fault: the reader is after the word that begins nothing
   place_behind_the_fault : (p w : ℕ) → a.0.now.status ≡ going
       → seen z ≡ Err (fault p (Reserved w)) → new.place ≡ p + 4 → ⊥
   place_behind_the_fault p w on e far =
@@ -275,7 +275,7 @@ module _ (T : _) (L : _) (g : _) (d : _) (κs : _) (a : _) (z : _) (s : _)
       (from_going a.0.now z new h.0.holds-at-none on) in
       absurd (omega (arith, far, m.place))
 
-  -- fault_not_kept: behind a word that begins nothing the reader goes on
+  -- fault_not_kept: after a word that begins nothing the reader continues
   fault_not_kept : (p w : ℕ) → a.0.now.status ≡ going → seen z ≡ Err (fault p (Reserved w))
       → new.status ≡ going → ⊥
   fault_not_kept p w on e goes_on =
@@ -283,7 +283,7 @@ module _ (T : _) (L : _) (g : _) (d : _) (κs : _) (a : _) (z : _) (s : _)
       (from_going a.0.now z new h.0.holds-at-none on) in
       absurd (let d : going ≡ failed (fault p (Reserved w)) = sym goes_on ∙ m.failed in cc)
 
-  -- end_answered_once: behind the end that it answered the reader goes on
+  -- end_answered_once: after the end that it returned the reader continues
   end_answered_once : a.0.now.status ≡ ended Marked → new.status ≡ going → ⊥
   end_answered_once e goes_on =
       let (_, same) = stays_ended a.0.now z new Marked h.0.holds-at-none e in

@@ -1,5 +1,5 @@
--- Answers of a writer, and what its device then holds, that its contracts exclude: each is what a
--- wrong body would give.
+-- Results of a writer, and what its device then holds, that its contracts exclude: each is the
+-- result of a wrong body.
 use Rattle.std.proofs.Common.{◌≡◌, ℕ, List, [], ◌∷◌, length, sum, sym, ap, ◌∙◌, subst, arith}
 use Rattle.std.specs.Prelude.{Bool, true, false, MatchBool, ◌==◌, ◌||◌, nat_lt, Result, Ok, Err}
 use Rattle.std.specs.Prelude.{Some}
@@ -18,11 +18,12 @@ use Rattle.tape_image.proofs.writer.ImageWriter.block.Reads as block
 use Rattle.tape_image.proofs.writer.ImageWriter.mark.Reads as mark_call
 use Rattle.tape_image.proofs.writer.ImageWriter.finish.Reads as finish
 
--- a writer that counts so many bytes, and what its device holds
+-- a writer that counts this many bytes, and what its device holds
 abbrev at : ℕ → Standing → List ℕ → Writer
 at size standing held = record { size = size; standing = standing; contents = Some held }
 
--- what a call for a mark or an end word gives and leaves, where the states are written out
+-- what a call for a mark or an end-of-medium marker gives and leaves, where the states are written
+-- out
 puts : (bytes : List ℕ) (after : Standing) (result : Result (Unit {0}) ImageWriteFault)
     (old new before behind : Writer)
     → PutsFrom old.standing bytes after old result new → old ≡ before → new ≡ behind
@@ -48,12 +49,12 @@ end_word_counted_at_first : (T : _) (L : _) (g : _) (d : _) (f : _) (κs : _) (a
 end_word_counted_at_first T L g d f κs a z s h e =
     absurd (let d : 4 ≡ 0 = sym e ∙ ap (λ w. w.size) h in omega arith)
 
--- size_one_less: behind a mark the size is 3
+-- size_one_less: after a mark the size is 3
 size_one_less : (T : _) (L : _) (g : _) (d : _) (f : _) (κs : _) (a : _) (s : _)
     → size.Learnt T L g d f κs a 3 s → a.0.now.size ≡ 4 → ⊥
 size_one_less T L g d f κs a s h e = absurd (let d : 3 ≡ 4 = h ∙ e in omega arith)
 
--- pad_byte_is_one: a byte 1 stands behind the block's one byte
+-- pad_byte_is_one: a byte 1 follows the block's one byte
 pad_byte_is_one : (T : _) (L : _) (g : _) (d : _) (f : _) (κs : _) (a : _) (s : _)
     → block.Learnt T L g d f κs a (Ok tt) s → a.1.0.now ≡ 7 ∷ []
     → a.0.now ≡ at 0 writing []
@@ -96,7 +97,7 @@ longest_block_refused T L g d f κs a s h n e =
     let P : Standing → Type 0 = λ r. BlockFrom r a.1.0.now a.0.now (Err BlockLength) s.0.now in
     is_block (is_no_block a.1.0.now) _ (subst P e h) (ap (λ l. (l == 0) || nat_lt 99999 l) n)
 
--- too_long_after_the_write: a block that would end past the limit is refused, and stands there
+-- too_long_after_the_write: a block that would end past the limit is refused, and is there
 too_long_after_the_write : (T : _) (L : _) (g : _) (d : _) (f : _) (κs : _) (a : _) (s : _)
     → block.Learnt T L g d f κs a (Err TooLong) s → a.1.0.now ≡ 7 ∷ []
     → a.0.now ≡ at 4294967290 writing []
@@ -125,7 +126,7 @@ taking_nothing_is_success T L g d f κs a s h e w =
     (at 4 writing []) h e w in
     absurd (let d : 0 ≡ 4 = ap length p.wrote in omega arith)
 
--- failed_writer_goes_on: behind a failure of its device the writer is still open
+-- failed_writer_goes_on: after a failure of its device the writer is still open
 failed_writer_goes_on : (T : _) (L : _) (g : _) (d : _) (f : _) (κs : _) (a : _) (s : _)
     → mark_call.Learnt T L g d f κs a (Err Device) s → a.0.now ≡ at 0 writing []
     → s.0.now ≡ at 0 writing [] → ⊥
@@ -143,7 +144,7 @@ writes_again_after_a_failure T L g d f κs a s h e w =
     (at 4 writing (0 ∷ 0 ∷ 0 ∷ 0 ∷ [])) h e w in
     absurd (let d : Ok tt ≡ Err Device = p.0 in cc)
 
--- end_word_twice: two end words stand behind the items
+-- end_word_twice: two end-of-medium markers follow the items
 end_word_twice : (T : _) (L : _) (g : _) (d : _) (f : _) (κs : _) (a : _) (s : _)
     → finish.Learnt T L g d f κs a (Ok tt) s → a.0.now ≡ at 0 writing []
     → s.0.now ≡ at 8 finished (255 ∷ 255 ∷ 255 ∷ 255 ∷ 255 ∷ 255 ∷ 255 ∷ 255 ∷ []) → ⊥

@@ -5,7 +5,7 @@ use Rattle.std.specs.Io.KnownBytes.{Appends}
 use Rattle.std.proofs.KnownBytes.{Appends-trans}
 use Rattle.tape_image.specs.Written.{AppendsFront}
 
--- a front of the piece behind those that are done is a front of all
+-- a prefix of the piece after those that are done is a prefix of all
 pub front_behind : (a b c : Option (List ℕ)) (done piece : List ℕ) → Appends a b done
     → AppendsFront b c piece → AppendsFront a c (done ++ piece)
 front_behind a b c done piece whole (front, rest, some, e) = (
@@ -15,7 +15,7 @@ front_behind a b c done piece whole (front, rest, some, e) = (
   ap (λ l. done ++ l) e ∙ sym (append_assoc done front rest),
 )
 
--- a front of some bytes is a front of these and more
+-- a prefix of some bytes is a prefix of these and more
 pub front_more : (a b : Option (List ℕ)) (bytes more : List ℕ) → AppendsFront a b bytes
     → AppendsFront a b (bytes ++ more)
 front_more a b bytes more (front, rest, some, e) =

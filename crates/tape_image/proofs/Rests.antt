@@ -1,4 +1,4 @@
--- A block's content and what stands behind it, taken at once.
+-- A block's content and what follows it, taken at once.
 use Rattle.std.proofs.Common.{◌≡◌, ℕ, ◌+◌, ◌-◌, ◌≤◌, ◌%◌, List, ◌++◌, length, take, drop, Option}
 use Rattle.std.proofs.Common.{Some, None, refl, sym, ap, subst, ◌∙◌, arith, append_assoc}
 use Rattle.std.proofs.Common.{length-drop}
@@ -10,7 +10,7 @@ use Rattle.byteorder.specs.Numbers.{little_from-take}
 use Rattle.tape_image.specs.Device.{TakesRest}
 use Rattle.tape_image.proofs.Words.{word-append}
 
--- the word behind the pad bytes, as the code cuts it
+-- the word after the pad bytes, as the code cuts it
 pub trail_word : (pads n : ℕ) (held more : List ℕ) → 4 ≤ n → length held ≡ pads + 4
     → little_number 4 (take n (drop pads (held ++ more))) ≡ little_number 4 (drop pads held)
 trail_word pads n held more room long =
@@ -26,7 +26,7 @@ two_pieces (Some xs) None front back taken = absurd taken
 two_pieces (Some xs) (Some ys) front back taken =
     (Some (back ++ ys), taken ∙ append_assoc front back ys, refl)
 
--- content, pad byte and word that were taken at once into the front of the buffer
+-- content, pad byte and word that were taken at once into the start of the buffer
 pub rest_at_once : (old new : Option (List ℕ)) (w n end long v : ℕ) (held more : List ℕ)
     → Consumes old new held → length held ≡ end → end ≡ n + (n % 2 + 4) → 4 ≤ long
     → v ≡ little_number 4 (take long (drop (end - 4) (held ++ more)))

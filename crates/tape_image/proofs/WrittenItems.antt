@@ -1,4 +1,4 @@
--- What a writer wrote spells its items.
+-- What a writer wrote encodes its items.
 use Rattle.std.proofs.Common.{◌≡◌, ℕ, ◌+◌, ◌<◌, ◌≤◌, ◌%◌, ◌^◌, Bool, true, false, List, [], ◌∷◌}
 use Rattle.std.proofs.Common.{◌++◌, length, replicate, Option, Some, None, Ok, Err, refl, sym, ap}
 use Rattle.std.proofs.Common.{◌∙◌, arith, append_assoc, append-nil, length-append}
@@ -31,7 +31,7 @@ word_bytes w h = record {
 block_word : (n : ℕ) → 0 < n → n ≤ 99999 → block_len n ≡ Some n
 block_word n some few = grind (arith, nat_tests)
 
--- a block's written spelling is one
+-- a block's written encoding is one
 pub block_spelled : (content : List ℕ) → is_no_block content ≡ false
     → IsSpelling (written_block content) (block content ∷ [])
 block_spelled content is =
@@ -102,7 +102,7 @@ known_after None new xs bytes e h = absurd (cc e)
 known_after (Some ys) None xs bytes e h = absurd h
 known_after (Some ys) (Some zs) xs bytes e h = let same : ys ≡ xs = cc in cc
 
--- the calls for these items wrote one spelling of each
+-- the calls for these items wrote one encoding of each
 put_items : (items : List TapeItem) (old new : Writer) (before : List ℕ)
     → old.contents ≡ Some before → PutItems items old new
     → (new.contents ≡ Some (before ++ flat_map written items)) × Leads (flat_map written
@@ -153,7 +153,7 @@ written_spells old mid new items before after known end puts done =
       ),
     )
 
--- what a call wrote that failed: nothing where the device failed before, and else a front
+-- what a call wrote that failed: nothing where the device failed before, and else a prefix
 pub record FailsWith (bytes : List ℕ) (old new : Writer) : Type 0 where
   pub front : List ℕ
   pub rest : List ℕ

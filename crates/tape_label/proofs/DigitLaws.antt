@@ -1,4 +1,4 @@
--- A number and its digits with leading zeros are told by each other.
+-- A number and its digits with leading zeros determine each other.
 use Rattle.std.proofs.Common.{◌≡◌, ℕ, zero, suc, ◌+◌, ◌-◌, ◌*◌, ◌/◌, ◌%◌, ◌^◌, ◌<◌, ◌≤◌, true}
 use Rattle.std.proofs.Common.{List, [], ◌∷◌, ◌++◌, length, drop, arith, add-one, refl, sym}
 use Rattle.std.proofs.Common.{◌∙◌, append_assoc, rules}

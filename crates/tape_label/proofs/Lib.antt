@@ -7,7 +7,6 @@ pub mod Widths
 pub mod Texts
 pub mod Apart
 pub mod VolumeLabels
-pub mod Cases
 pub mod AnyLabel
 mod Mistakes
 mod MistakesOfWriting

@@ -1,5 +1,5 @@
--- Answers that the contracts of labels exclude: each is what a wrong body would give. A lemma has
--- the name of the edit that makes this mistake.
+-- Results that the contracts of labels exclude: each is the result of a wrong body. A lemma has the
+-- name of the edit that makes this mistake.
 use Rattle.std.proofs.Common.{◌≡◌, ◌≤◌, ℕ, List, [], length, true, false, refl, sym, ap, ◌∙◌, subst}
 use Rattle.std.proofs.Common.{arith, codes, lit≤}
 use Rattle.std.specs.Prelude.{◌++◌, ◌-◌, replicate, slice_index, Some, None, unwrap_or, IfNone}
@@ -128,7 +128,7 @@ bytes_lost : (f : _) (κs : _) (s : _)
     → of_bytes.Learnt 3 f κs (codes "ABC", tt) (codes "   ") s → ⊥
 bytes_lost f κs s h = absurd (let n : 32 ≡ 65 = ap (λ v. slice_index v 0) h in omega arith)
 
--- bytes_without_the_last: of a field of three characters two are given
+-- bytes_without_the_last: of a field of three characters two are returned
 bytes_without_the_last : (f : _) (κs : _) (a : _) (r : _) (s : _)
     → bytes.Learnt-named 3 f κs a r s → r.now ≡ codes "AB" → ⊥
 bytes_without_the_last f κs a r s l e =

@@ -1,5 +1,5 @@
--- Answers that the contracts of writing, and of the laws, exclude: each is what a wrong body would
--- give. A lemma has the name of the edit that makes this mistake.
+-- Results that the contracts of writing, and of the laws, exclude: each is the result of a wrong
+-- body. A lemma has the name of the edit that makes this mistake.
 use Rattle.std.proofs.Common.{◌≡◌, ◌≤◌, true, false, sym, ap, ◌∙◌, arith, codes}
 use Rattle.std.specs.Prelude.{slice_index, Ok}
 use Rattle.tape_label.specs.declared.values.Kind.TheVariants as kinds
@@ -35,7 +35,7 @@ section_number_shifted κs a r s l w e =
     = sym w ∙ l.label.head.sect.spelled ∙ ap (digits 4) e in
     absurd (let n : 48 ≡ 49 = ap (λ v. slice_index v 3) same in omega arith)
 
--- what stands in the place of the block count of a first header
+-- what replaces the block count of a first header
 block_count : (κs : _) (a : _) (r : _) (s : _) → write_head1.Learnt-named κs a r s
     → a.0.now ≡ payroll → positions r 55 60 ≡ codes "000000"
 block_count κs a r s l e =

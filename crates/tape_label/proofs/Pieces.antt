@@ -1,10 +1,10 @@
--- Where the pieces of a text stand in it.
+-- The positions of the pieces of a text.
 use Rattle.std.proofs.Common.{◌≡◌, ℕ, ◌+◌, List, [], ◌∷◌, ◌++◌, length, take, drop, refl, sym, ap}
 use Rattle.std.proofs.Common.{◌∙◌, arith, append_assoc, length-append}
 use Rattle.std.proofs.lemmas.List.{take_at, drop_at, append-nil}
 use Rattle.tape_label.specs.Written.{Piece, text_of, HaveWidths}
 
--- From there on the pieces stand one after another.
+-- From this position on the pieces follow one another.
 abbrev pub StandAt : ℕ → List Piece → List ℕ → Type 0
 StandAt i [] label = length label ≡ i
 StandAt i (p ∷ ps) label = (take p.width (drop i label) ≡ p.text) × StandAt (i + p.width) ps label

@@ -14,6 +14,5 @@ pub mod Widths
 pub mod Written
 pub mod Faults
 pub mod Laws
-pub mod Cases
 -- only for the order of the faults:
 pub mod Reading

@@ -8,7 +8,6 @@ ghost use Rattle.tape_label.specs.Head2.{Head2Fits};
 ghost use Rattle.tape_label.specs.Trail1.{IsTrail1, TrailFits};
 ghost use Rattle.tape_label.specs.Kinds.{IsSecond};
 ghost use Rattle.tape_label.specs.Widths.{IsWide, IsWideVolume};
-ghost use Rattle.tape_label.specs.Cases.{CasesOfLabels};
 ghost use Rattle.tape_label.specs.Laws.{HasOneKind, IsNotBoth, IsSecondLabel, readings};
 
 use crate::label::LabelFault;
@@ -76,12 +75,6 @@ pub fn readings(block: &[u8]) -> usize
         + usize::from(read_head2(block).is_ok())
         + usize::from(read_trail1(block).is_ok())
 }
-
-/// Test cases for the definitions of labels: the fields of every label can be written, and each
-/// rule that only one clause states says all that it should.
-pub fn cases()
-    ensures { CasesOfLabels }
-{}
 
 /// Compares two fields: they are equal if and only if their bytes are.
 pub fn same_field<const N: usize>(a: &Field<N>, b: &Field<N>) -> bool

@@ -20,7 +20,7 @@ use Rattle.tape_set.proofs.Numbering.{placed, section_found, section_stands}
 use Rattle.tape_set.proofs.FileParts.{ends_at, file_is}
 use Rattle.tape_set.proofs.Whole.{whole_gives}
 
--- ---- the next section stands on the next volume
+-- ---- the next section is on the next volume
 
 on_next : (x y : Placed) → x.file ≡ y.file → GoesOn x y → y.section.volume ≡ x.section.volume + 1
 on_next x y e h =
@@ -36,7 +36,7 @@ chain_behind : (xs ys : List Placed) → Chain GoesOn (xs ++ ys) → Chain GoesO
 chain_behind [] ys c = c
 chain_behind (x ∷ xs) ys c = chain_behind xs ys (chain_rest x (xs ++ ys) c)
 
--- of two sections of a file, one behind the other among those numbered from j on
+-- of two sections of a file, one after the other among those numbered from j on
 next_volume : (file j : ℕ) (ss : List Section) (rest : List Placed) (i : ℕ) (s t : Section)
     → Chain GoesOn (numbered file j ss ++ rest) → slice_get ss i ≡ Some s
     → slice_get ss (i + 1) ≡ Some t → t.volume ≡ s.volume + 1
@@ -81,7 +81,7 @@ goes_on_on_next set lawful file sect s t here there =
     next_in 1 a.file_at.place set.files a.sections a.sect_at.place s t lawful.goes_on
     a.file_at.found a.sect_at.found next
 
--- ---- a file and a section of a lawful set
+-- ---- a file and a section of a valid set
 
 pub file_is_lawful : (set : FileSet) (file : ℕ) (f : List Section) → IsLawful set
     → file_of set file ≡ Some f → IsFile f
@@ -113,14 +113,14 @@ lawful_section set file sect s l e =
     (every_stands (IsSection set.set_id (length set.volumes)) (sections set)
     (placed file sect s) l.each (section_stands set file sect s e)).volume
 
--- ---- what is to come of the file behind volume k
+-- ---- what is to come of the file after volume k
 
--- the file is finished, or the front of a section on a later volume is awaited
+-- the file is finished, or the start of a section on a later volume is expected
 abbrev pub ToCome : FileSet → ℕ → ℕ → Position → Type 0
 ToCome set file k p = (p ≡ Finished) ⊎ ((sect : ℕ) × (s : Section)
     × (section_of set file sect ≡ Some s) × (k < s.volume) × (p ≡ awaiting sect 0))
 
--- behind a section its file is finished, or goes on on a later volume
+-- after a section its file is finished, or continues on a later volume
 pub onward : (set : FileSet) (file sect : ℕ) (s : Section) → IsLawful set
     → section_of set file sect ≡ Some s → ToCome set file s.volume (behind sect s)
 onward set zero sect s l e = absurd (cc)
@@ -150,8 +150,7 @@ onward set (suc n) (suc i) s l e = go (slice_get set.files n) refl e
     go None g h = absurd (cc)
     go (Some f) g h = by_end f g h (ends_at f i s (file_is_lawful set (suc n) f l g).ends h)
 
--- a whole reading of the next volume passes its section, or leaves the position where none stands
--- on it
+-- a whole reading of the next volume passes its section, or leaves the position where none is on it
 pub step_over : (set : FileSet) (file k : ℕ) (p : Position) → IsLawful set → ToCome set file k p
     → ToCome set file (k + 1) (far set file p (whole_reading set (k + 1)))
 step_over set file k p l (inl e) = inl (rw e refl)
@@ -189,7 +188,7 @@ all_over set file (suc n) k p l e t =
     all_over set file n (k + 1) (far set file p (whole_reading set (k + 1))) l
     (omega (arith, e)) (step_over set file k p l t)
 
--- at its start a file is still to come behind no volume
+-- at its start a file is still to come after no volume
 pub to_come_at_start : (set : FileSet) (file : ℕ) → IsLawful set → IsSome (file_of set file)
     → ToCome set file 0 start
 to_come_at_start set file l has =

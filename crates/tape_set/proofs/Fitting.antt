@@ -1,4 +1,4 @@
--- Positions of a lawful set have numbers that fit the digits of a checkpoint.
+-- Positions of a valid set have numbers that fit the digits of a checkpoint.
 use Rattle.std.proofs.Common.{◌≡◌, ◌<◌, ◌≤◌, ◌⊎◌, ℕ, zero, suc, List, [], ◌∷◌, ◌++◌, length, drop}
 use Rattle.std.proofs.Common.{Option, Some, None, refl, ap, subst, inl, inr, append_assoc, arith}
 use Rattle.std.proofs.Common.{length-append}

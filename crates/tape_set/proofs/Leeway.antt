@@ -1,5 +1,5 @@
--- What lawful and tight leave free: sets that are both, which no writer should write. A writer's
--- own contract has to refuse them.
+-- What valid and tight leave free: sets that are both, which no writer should write. A writer's own
+-- contract has to refuse them.
 use Rattle.std.proofs.Common.{ℕ, List, [], ◌∷◌, ◌++◌, true, refl, codes, lit≤, lit<}
 use Rattle.std.specs.Prelude.{replicate}
 use Rattle.tape_image.specs.Tape.{IsTapeItem, block}
@@ -26,7 +26,7 @@ nothing_lawful = record { volumes = tt; each = tt; files = tt; first = tt; goes_
 nothing_tight : (capacity : ℕ) → IsTight nothing capacity []
 nothing_tight capacity = record { plain = tt; last = refl; files = tt; ends = tt; changes = tt }
 
--- ---- labels of other characters: those of VOL1 are no bytes, and the trailer label tells another
+-- ---- labels of other characters: those of VOL1 are no bytes, and the trailer label says another
 -- file, set and day
 
 abbrev odd_volume : Volume

@@ -1,5 +1,5 @@
--- Answers that the contracts of positions, layouts and lists exclude: each is what a wrong body
--- would give. A lemma has the name of the edit that makes this mistake.
+-- Results that the contracts of positions, layouts and lists exclude: each is the result of a wrong
+-- body. A lemma has the name of the edit that makes this mistake.
 use Rattle.std.proofs.Common.{◌≡◌, ℕ, List, [], ◌∷◌, length, true, false}
 use Rattle.std.proofs.Common.{refl, sym, ap, ◌∙◌, subst₂, arith, inl, inr, lit<, Less, Greater}
 use Rattle.std.specs.Prelude.{get_or, Option, Some, None, option_map, unwrap_or}
@@ -25,13 +25,13 @@ use Rattle.tape_set.proofs.position.Position.start.Reads as start_given
 use Rattle.tape_set.proofs.position.Position.want.Reads as want
 use Rattle.tape_set.proofs.position.position_cmp.Reads as position_cmp
 
--- ---- where positions go on
+-- ---- where positions continue
 
 -- file_starts_at_section_0: a file begins in section 0
 file_starts_at_section_0 : (κs : _) (a : _) (s : _) → start_given.Learnt κs a (Awaits 0 0 0) s → ⊥
 file_starts_at_section_0 κs a s h = absurd (let n : 0 ≡ 1 = ap sect_of h in omega arith)
 
--- front_is_second_part: the front of a block is behind its first part
+-- front_is_second_part: the start of a block is after its first part
 front_is_second_part : (κs : _) (s : _)
     → awaiting.Learnt κs (1, (0, tt)) (Awaits 1 0 1) s → ⊥
 front_is_second_part κs s h = absurd (let n : 1 ≡ 0 = ap part_of h in omega arith)
@@ -46,7 +46,7 @@ first_part_skipped : (κs : _) (s : _)
     → at_part.Learnt κs (Awaits 1 2 3, (0, tt)) (Awaits 1 2 1) s → ⊥
 first_part_skipped κs s h = absurd (let n : 1 ≡ 0 = ap part_of h in omega arith)
 
--- each_part_is_the_start: a file begins behind the first parts of its first block
+-- each_part_is_the_start: a file begins after the first parts of its first block
 each_part_is_the_start : (κs : _) (a : _) (s : _) → is_start.Learnt κs a true s
     → a.0.now ≡ Awaits 1 0 5 → ⊥
 each_part_is_the_start κs a s h e = absurd (let n : true ≡ false = h ∙ ap begins e in cc)
@@ -56,39 +56,39 @@ each_section_is_the_start : (κs : _) (a : _) (s : _) → is_start.Learnt κs a 
     → a.0.now ≡ Awaits 2 0 0 → ⊥
 each_section_is_the_start κs a s h e = absurd (let n : true ≡ false = h ∙ ap begins e in cc)
 
--- block_delivered_twice: behind block 2 block 2 is awaited again
+-- block_delivered_twice: after block 2 block 2 is expected again
 block_delivered_twice : (κs : _) (s : _)
     → next_block.Learnt κs (Awaits 1 2 0, tt) (Awaits 1 2 0) s → ⊥
 block_delivered_twice κs s h = absurd (let n : 2 ≡ 3 = ap block_of h in omega arith)
 
--- part_kept_in_next_block: part 3 of the next block is awaited
+-- part_kept_in_next_block: part 3 of the next block is expected
 part_kept_in_next_block : (κs : _) (s : _)
     → next_block.Learnt κs (Awaits 1 2 3, tt) (Awaits 1 3 3) s → ⊥
 part_kept_in_next_block κs s h = absurd (let n : 3 ≡ 0 = ap part_of h in omega arith)
 
--- part_kept_in_next_section: part 3 of the next section's first block is awaited
+-- part_kept_in_next_section: part 3 of the next section's first block is expected
 part_kept_in_next_section : (κs : _) (s : _)
     → next_section.Learnt κs (Awaits 1 2 3, tt) (Awaits 2 0 3) s → ⊥
 part_kept_in_next_section κs s h = absurd (let n : 3 ≡ 0 = ap part_of h in omega arith)
 
--- section_passed_over: the next section is awaited from its second block on
+-- section_passed_over: the next section is expected from its second block on
 section_passed_over : (κs : _) (s : _)
     → next_section.Learnt κs (Awaits 1 2 3, tt) (Awaits 2 1 0) s → ⊥
 section_passed_over κs s h = absurd (let n : 1 ≡ 0 = ap block_of h in omega arith)
 
--- ---- what is wanted at a position
+-- ---- what is expected at a position
 
 abbrev part_wanted : Option Want → ℕ
 part_wanted None = 0
 part_wanted (Some w) = w.part
 
--- finished_file_wanted: of a file that is complete something is wanted
+-- finished_file_wanted: of a file that is complete something is expected
 finished_file_wanted : (κs : _) (a : _) (w : Want) (s : _) → want.Learnt κs a (Some w) s
     → a.0.now ≡ Finished → ⊥
 finished_file_wanted κs a w s h e =
     absurd (let n : Some w ≡ None = h ∙ ap (want_at a.1.0) e in cc)
 
--- whole_block_wanted: the five parts that were delivered are wanted again
+-- whole_block_wanted: the five parts that were delivered are expected again
 whole_block_wanted : (κs : _) (a : _) (w : Want) (s : _) → want.Learnt κs a (Some w) s
     → a.0.now ≡ Awaits 1 0 5 → w.part ≡ 0 → ⊥
 whole_block_wanted κs a w s h e z =
@@ -96,30 +96,30 @@ whole_block_wanted κs a w s h e z =
 
 -- ---- the order of positions
 
--- where a is before b, it is not told to be behind it
+-- where a is before b, it is not reported to be after it
 not_behind : (κs : _) (a : _) (s : _) (p q : Position) → position_cmp.Learnt-named κs a Greater s
     → a.0.now ≡ p → a.1.0.now ≡ q → IsBefore p q → ⊥
 not_behind κs a s p q l e f b =
     absurd (let n : Greater ≡ Less = l.less.1 (subst₂ IsBefore (sym e) (sym f) b) in cc)
 
--- finished_is_least: a block is behind the end of the file
+-- finished_is_least: a block is after the end of the file
 finished_is_least : (κs : _) (a : _) (s : _) → position_cmp.Learnt-named κs a Greater s
     → a.0.now ≡ Awaits 1 0 0 → a.1.0.now ≡ Finished → ⊥
 finished_is_least κs a s l e f = not_behind κs a s (Awaits 1 0 0) Finished l e f tt
 
--- positions_by_block_first: block 5 of section 1 is behind block 0 of section 2
+-- positions_by_block_first: block 5 of section 1 is after block 0 of section 2
 positions_by_block_first : (κs : _) (a : _) (s : _) → position_cmp.Learnt-named κs a Greater s
     → a.0.now ≡ Awaits 1 5 0 → a.1.0.now ≡ Awaits 2 0 0 → ⊥
 positions_by_block_first κs a s l e f =
     not_behind κs a s (Awaits 1 5 0) (Awaits 2 0 0) l e f (inl (lit< tt))
 
--- part_compared_before_block: part 5 of block 0 is behind the front of block 1
+-- part_compared_before_block: part 5 of block 0 is after the start of block 1
 part_compared_before_block : (κs : _) (a : _) (s : _) → position_cmp.Learnt-named κs a Greater s
     → a.0.now ≡ Awaits 1 0 5 → a.1.0.now ≡ Awaits 1 1 0 → ⊥
 part_compared_before_block κs a s l e f =
     not_behind κs a s (Awaits 1 0 5) (Awaits 1 1 0) l e f (inr (refl, inl (lit< tt)))
 
--- later_part_first: part 1 of a block is behind its part 2
+-- later_part_first: part 1 of a block is after its part 2
 later_part_first : (κs : _) (a : _) (s : _) → position_cmp.Learnt-named κs a Greater s
     → a.0.now ≡ Awaits 1 0 1 → a.1.0.now ≡ Awaits 1 0 2 → ⊥
 later_part_first κs a s l e f =
@@ -138,20 +138,20 @@ label_counts_all_blocks : (κs : _) (s : _)
     → label_count.Learnt-named κs (1000003, tt) 999999 s → ⊥
 label_counts_all_blocks κs s l = absurd (let n : 999999 ≡ 3 = l.last_digits in omega arith)
 
--- what is told of a section that is found
+-- what is said of a section that is found
 volume_is : (κs : _) (a : _) (s : _) (told volume : ℕ) → volume_of.Learnt κs a (Some told) s
     → option_map (λ s. s.volume) (section_of a.0.now a.1.0 a.1.1.0) ≡ Some volume
     → told ≡ volume
 volume_is κs a s told volume h e = ap (λ v. unwrap_or v 0) (h ∙ e)
 
--- volume_of_another_file: the section stands on volume 3, and the volume 5 of a section of another
--- file is answered
+-- volume_of_another_file: the section is on volume 3, and the volume 5 of a section of another file
+-- is returned
 volume_of_another_file : (κs : _) (a : _) (s : _) → volume_of.Learnt κs a (Some 5) s
     → option_map (λ s. s.volume) (section_of a.0.now a.1.0 a.1.1.0) ≡ Some 3 → ⊥
 volume_of_another_file κs a s h e =
     absurd (let n : 5 ≡ 3 = volume_is κs a s 5 3 h e in omega arith)
 
--- volume_off_by_one: the section stands on volume 3, and 2 is answered
+-- volume_off_by_one: the section is on volume 3, and 2 is returned
 volume_off_by_one : (κs : _) (a : _) (s : _) → volume_of.Learnt κs a (Some 2) s
     → option_map (λ s. s.volume) (section_of a.0.now a.1.0 a.1.1.0) ≡ Some 3 → ⊥
 volume_off_by_one κs a s h e =
@@ -162,7 +162,7 @@ no_section_0 : (file : Option (List Section))
 no_section_0 None = refl
 no_section_0 (Some f) = refl
 
--- volume_of_section_0: a section with the number 0 stands on a volume
+-- volume_of_section_0: a section with the number 0 is on a volume
 volume_of_section_0 : (κs : _) (a : _) (s : _) (volume : ℕ) → volume_of.Learnt κs a (Some volume) s
     → a.1.1.0 ≡ 0 → ⊥
 volume_of_section_0 κs a s volume h e =

@@ -1,4 +1,4 @@
--- What lies before positions tells their order, as far as blocks without parts allow.
+-- What lies before positions says their order, as far as blocks without parts allow.
 use Rattle.std.proofs.Common.{◌≡◌, ◌<◌, ◌⊎◌, inl, inr, ℕ, ◌+◌, List, [], ◌∷◌, ◌++◌, length, Bool}
 use Rattle.std.proofs.Common.{true, false, ltb, Option, Some, None, refl, sym, ap, subst, ◌∙◌}
 use Rattle.std.proofs.Common.{arith, length-append}
@@ -56,7 +56,7 @@ either (Awaits s b j) (Awaits t c k) = by_section (three s t)
     by_section (inr (inl e)) = by_block e (three b c)
     by_section (inr (inr h)) = inr (inr (inl h))
 
--- ---- a longer front of parts
+-- ---- a longer prefix of parts
 
 longer_later : (set : FileSet) (file : ℕ) (p q : Position)
     → length (before set file p) < length (before set file q) → IsBefore p q
@@ -72,7 +72,7 @@ longer_later set file p q less = go (either p q)
         ap length front.1 in
         absurd (omega (arith, less, long, length-append (before set file q) front.0))
 
--- ---- the same front of parts
+-- ---- the same prefix of parts
 
 -- with one part more a position is still up to each later one
 next_part : (s b k : ℕ) (q : Position) → IsBefore (Awaits s b k) q → IsUpTo (Awaits s b (k + 1)) q
@@ -88,7 +88,7 @@ some_there : {A : Type 0} (o : Option A) → IsSome o → (x : A) × (o ≡ Some
 some_there None h = absurd (cc)
 some_there (Some x) h = (x, refl)
 
--- a part that is still to come of the block stands before no later position
+-- a part that is still to come of the block is before no later position
 none_to_come : (set : FileSet) (file s b k : ℕ) (w : Section) (d : Filled) (q : Position)
     → section_of set file s ≡ Some w → slice_get w.blocks b ≡ Some d → k < length d.parts
     → IsBefore (Awaits s b k) q → before set file (Awaits s b k) ≡ before set file q → ⊥

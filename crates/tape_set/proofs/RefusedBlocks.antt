@@ -1,5 +1,5 @@
--- Small sets that are refused by the size of one block alone, wherever it stands; and blocks of the
--- greatest size, and blocks behind a buffer offset, in sets that are lawful.
+-- Small sets that are refused by the size of one block alone, wherever it is; and blocks of the
+-- greatest size, and blocks after a buffer offset, in sets that are valid.
 use Rattle.std.proofs.Common.{◌≡◌, ◌<◌, ◌≤◌, ℕ, List, [], ◌∷◌, length, true, false, refl, arith}
 use Rattle.std.proofs.Common.{lit≤, lit<}
 use Rattle.std.specs.Prelude.{map, replicate}
@@ -33,7 +33,7 @@ use Rattle.tape_set.proofs.RefusedSets.{fit_of}
 
 -- ---- all clauses but that on the sizes of blocks
 
--- a section with further blocks behind its header labels and behind its trailer label
+-- a section with further blocks after its header labels and after its trailer label
 abbrev section : List (List ℕ) → List Filled → List (List ℕ) → Section
 section headers blocks trailers =
     record (made shape 1 1 1 true blocks) { headers = headers; trailers = trailers }
@@ -48,7 +48,7 @@ record AllButSized (s : Section) : Type 0 where
   first : StartsOnFirst (sections (set_of s))
   goes_on : Chain GoesOn (sections (set_of s))
 
--- where the sizes are right too, the set is lawful
+-- where the sizes are right too, the set is valid
 lawful_if_sized : (s : Section) → AllButSized s
     → AllByRecursion IsTapeItem (map item_of (section_entries s)) → IsLawful (set_of s)
 lawful_if_sized s but sized = record {

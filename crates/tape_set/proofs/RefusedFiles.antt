@@ -1,4 +1,4 @@
--- For each clause of a lawful file a file that this clause alone refuses.
+-- For each clause of a valid file a file that this clause alone refuses.
 use Rattle.std.proofs.Common.{◌≡◌, [], ◌∷◌, length, true, false, refl, sym, ap, ◌∙◌, subst, arith}
 use Rattle.std.proofs.Common.{lit≤, lit<}
 use Rattle.std.specs.Prelude.{replicate}

@@ -1,5 +1,5 @@
 -- Small sets that volume labels and second labels of another kind refuse, and files whose sections
--- tell other forms.
+-- state other forms.
 use Rattle.std.proofs.Common.{◌≡◌, ℕ, List, [], ◌∷◌, ◌++◌, true, false, refl, sym, ap, ◌∙◌, inl}
 use Rattle.std.proofs.Common.{inr, arith, codes, lit≤}
 use Rattle.std.specs.Prelude.{replicate, slice_index}
@@ -82,7 +82,7 @@ volume_labels = record {
 plain : TellsForm (form shape) (made shape 1 1 1 true [])
 plain = (empty_form 1 1 1 true (lit≤ tt) (lit≤ tt) (lit≤ tt) (lit≤ tt)).labels
 
--- EOF2 stands where HDR2 belongs, and nothing that is a label
+-- EOF2 is in the place of HDR2, or a block that is not a label
 abbrev with_second : List ℕ → Section
 with_second label = record (made shape 1 1 1 true []) { hdr2 = label }
 
@@ -100,9 +100,9 @@ no_second told h =
     let e : 32 ≡ 72 = ap (λ v. slice_index v 0) named in
     absurd (omega (arith, e))
 
--- ---- sections that tell other forms
+-- ---- sections that state other forms
 
--- no form is told by both of these labels
+-- no form is stated by both of these labels
 apart : (h g : Section) (a b : FileForm) → TellsForm a h → TellsForm b g → (a ≡ b → ⊥)
     → (told : FileForm) → TellsForm told h → TellsForm told g → ⊥
 apart h g a b x y differ told u v = differ (sym (one_form h told a u x) ∙ one_form g told b v y)
@@ -134,7 +134,8 @@ other_record_length =
     }))
     (λ e. let d : 80 ≡ 100 = ap (λ v. v.rec_len) e in absurd (omega arith))
 
--- another format, with records that bind no reader in either: the lengths are 0 in what is told
+-- another format, with records that bind no reader in either: the lengths are 0 in the form that is
+-- stated
 abbrev counted : Shape
 counted = record {
   format = Counted;

@@ -1,5 +1,5 @@
--- Sets that are not tight by what stands behind their first section or file, and by the number of
--- their shapes.
+-- Sets that are not tight by what follows their first section or file, and by the number of their
+-- shapes.
 use Rattle.std.proofs.Common.{◌≡◌, ◌≤◌, ℕ, List, [], ◌∷◌, ◌++◌, true, false, refl, ap, arith, codes}
 use Rattle.std.proofs.Common.{lit≤}
 use Rattle.std.specs.Prelude.{replicate, length}
@@ -73,7 +73,7 @@ small_file capacity volume file room = record {
   packed = nothing_packed span.shape;
 }
 
--- two files without blocks stand on a volume of 1,187 bytes: behind the second one's end the next
+-- two files without blocks are on a volume of 1,187 bytes: after the second one's end the next
 -- one's headers and a volume end would need 1,188
 abbrev two_small : FileSet
 two_small = record {

@@ -23,7 +23,7 @@ no_sections = record {
   refused = λ h. absurd h.0.ends;
 }
 
--- EOF1 stands in both sections
+-- EOF1 is in both sections
 abbrev ended_twice : FileSet
 ended_twice = record {
   set_id = set_id;
@@ -43,7 +43,7 @@ ends_in_first = record {
   refused = λ h. let e : true ≡ false = h.0.ends.0 in absurd (cc);
 }
 
--- EOV1 stands in both
+-- EOV1 is in both
 abbrev never_ended : FileSet
 never_ended = record {
   set_id = set_id;
@@ -90,7 +90,7 @@ begun_before = (
 
 -- ---- the order of sections
 
--- the second section of a file stands on volume 3, behind one on volume 1
+-- the second section of a file is on volume 3, after one on volume 1
 abbrev volume_skipped : FileSet
 volume_skipped = record {
   set_id = set_id;

@@ -21,7 +21,7 @@ use Rattle.tape_set.proofs.RefusedTight.{OnlyFiles, OnlyChanges}
 
 -- ---- second labels, each wrong by itself
 
--- a label tells one block length
+-- a label says one block length
 one_length : (label : List ℕ) (kind : Kind) (h g : Head2) → IsHead2 label kind h
     → IsHead2 label kind g → h.block_len ≡ g.block_len
 one_length label kind h g a b = ap (λ v. v.block_len) same
@@ -59,7 +59,7 @@ other_in_trailer p =
     (second_of shape) (second_is kinds.Eof2 shorter tt shorter_fits) tells in
     absurd (omega (arith, e))
 
--- EOF2 behind EOV1
+-- EOF2 after EOV1
 abbrev ended_behind : Section
 ended_behind = record (made shape 1 1 1 false []) { trailers = second kinds.Eof2 shape ∷ [] }
 
@@ -99,8 +99,8 @@ second_file_not_tight = record {
 
 -- ---- a file end that has no room, where a block would have it
 
--- a spanned record of 121 bytes fills ten blocks of 18 bytes; behind them on a volume of 1,083
--- bytes the file end would need 1,084, and one block more only 746
+-- a spanned record of 121 bytes fills ten blocks of 18 bytes; after them on a volume of 1,083 bytes
+-- the file end would need 1,084, and one block more only 746
 abbrev ten_blocks : List Filled
 ten_blocks = span.first_block ∷ replicate 8 span.middle_block ++ span.last_block ∷ []
 

@@ -1,4 +1,4 @@
--- For each further clause of a lawful set, and of its volumes and files, a small set that this
+-- For each further clause of a valid set, and of its volumes and files, a small set that this
 -- clause alone refuses.
 use Rattle.std.proofs.Common.{◌≡◌, ◌≤◌, ℕ, [], ◌∷◌, length, Bool, true, false, refl, ap, inl, inr}
 use Rattle.std.proofs.Common.{arith, codes, lit≤}
@@ -51,7 +51,7 @@ pub record OnlyGoesOn (set : FileSet) : Type 0 where
   pub first : StartsOnFirst (sections set)
   pub refused : Chain GoesOn (sections set) → ⊥
 
--- a set that one of the clauses refuses is not lawful
+-- a set that one of the clauses refuses is not valid
 volumes_refuse : (set : FileSet) → OnlyVolumes set → IsLawful set → ⊥
 volumes_refuse set only l = only.refused l.volumes
 
@@ -72,7 +72,7 @@ pub fit_of : (file sect n : ℕ) → 1 ≤ file → file ≤ 9999 → 1 ≤ sect
 fit_of file sect n a b c d e =
     record { file_least = a; file_most = b; sect_least = c; sect_most = d; count_most = e }
 
--- a section without blocks of so many volumes
+-- a section without blocks of this many volumes
 pub empty_section : (volumes volume file sect : ℕ) (eof : Bool) → 1 ≤ volume → volume ≤ volumes
     → 1 ≤ file → file ≤ 9999 → 1 ≤ sect → sect ≤ 9999
     → IsSection set_id volumes (placed file sect (made shape volume file sect eof []))
@@ -180,7 +180,7 @@ empty_block = record {
 
 -- ---- the order of sections
 
--- the first section stands on volume 2
+-- the first section is on volume 2
 abbrev begun_on_second : FileSet
 begun_on_second = record {
   set_id = set_id;
@@ -198,7 +198,7 @@ not_on_first = record {
   refused = λ h. let e : 2 ≡ 1 = h in absurd (omega arith);
 }
 
--- the second file begins on volume 3, behind one that ends on volume 1
+-- the second file begins on volume 3, after one that ends on volume 1
 abbrev volume_left_out : FileSet
 volume_left_out = record {
   set_id = set_id;
@@ -222,7 +222,7 @@ not_on_next = record {
   ];
 }
 
--- both sections of a file stand on one volume
+-- both sections of a file are on one volume
 abbrev volume_twice : FileSet
 volume_twice = record {
   set_id = set_id;

@@ -77,7 +77,7 @@ no_room = (
   nothing_packed shape,
 )
 
--- its label HDR2 tells another block length
+-- its label HDR2 says another block length
 other_length : OnlyFiles (set_of plain_file) 100000 (shorter ∷ []) × IsWritable shorter
     × (least_capacity shorter ≤ 100000) × packing.IsTight shorter [] (blocks_of_all plain_file)
 other_length = (
@@ -138,7 +138,7 @@ no_second_trailer = (
   nothing_packed shape,
 )
 
--- its second trailer label is EOV2, behind EOF1
+-- its second trailer label is EOV2, after EOF1
 abbrev wrong_second : List Section
 wrong_second = record (made shape 1 1 1 true []) { trailers = second kinds.Eov2 shape ∷ [] } ∷ []
 

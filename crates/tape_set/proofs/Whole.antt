@@ -1,4 +1,4 @@
--- A whole reading of a section's volume takes each position in the section behind it.
+-- A whole reading of a section's volume takes each position in the section after it.
 use Rattle.std.proofs.Common.{◌≡◌, ◌≤◌, ℕ, zero, suc, ◌+◌, ◌-◌, List, [], ◌∷◌, ◌++◌, length, take}
 use Rattle.std.proofs.Common.{drop, Bool, true, false, ltb, refl, ap, ◌∙◌, arith, eq-eqb}
 use Rattle.std.proofs.Common.{length-append}
@@ -59,7 +59,7 @@ all_moved p sect b s q le =
     let at_end : ltb n n ≡ false = grind (arith, nat_tests) in
     rw (not_behind, reached, at_end, both_of_all n q) refl
 
--- behind a section's data stand its closing mark, its trailer label and a mark at least
+-- after a section's data are its closing mark, its trailer label and a mark at least
 trailers_three : (s : Section) → length (trailer_group s) ≡ length s.trailers + 3
 trailers_three s = omega (
   arith,

@@ -1,4 +1,4 @@
--- Labels, blocks and sections of which the worked sets are made, and what they are lawful by.
+-- Labels, blocks and sections of which the worked sets are made, and why they are valid.
 use Rattle.std.proofs.Common.{◌≡◌, ◌≤◌, ℕ, List, [], ◌∷◌, ◌++◌, length, Bool, true, false, refl}
 use Rattle.std.proofs.Common.{arith, codes}
 use Rattle.std.specs.Prelude.{map, replicate, if◌then◌else◌}
@@ -134,7 +134,7 @@ filled shape parts = record { bytes = written shape parts; parts = parts }
 abbrev pub form : Shape → FileForm
 form shape = form_of (head 1 1) (second_of shape)
 
--- ---- what they are lawful by
+-- ---- why they are valid
 
 -- the numbers of a file and of a section fit their digits, and the section has not too many blocks
 pub record Fit (file sect n : ℕ) : Type 0 where

@@ -53,7 +53,7 @@ writable =
 abbrev pub record_of : ℕ → List ℕ
 record_of i = digits 4 i ++ replicate 76 32
 
--- so many records from this number on
+-- this many records from this number on
 abbrev pub records : ℕ → ℕ → List (List ℕ)
 records i zero = []
 records i (suc n) = record_of i ∷ records (i + 1) n
@@ -172,18 +172,18 @@ one_volume_items : items one_volume 1 ≡
     ∷ mark ∷ block (trailer true 1 1 3) ∷ block (second kinds.Eof2 shape) ∷ mark ∷ mark ∷ []
 one_volume_items = refl
 
--- they take 2,480 bytes of an image, and the end word 4 more
+-- they take 2,480 bytes of an image, and the end-of-medium marker 4 more
 one_volume_size : items_size (items one_volume 1) ≡ 2480
 one_volume_size = refl
 
--- nothing stands on other volumes
+-- nothing is on other volumes
 none_before : items one_volume 0 ≡ []
 none_before = refl
 
 none_behind : items one_volume 2 ≡ []
 none_behind = refl
 
--- its first 20 records stand before block 2
+-- its first 20 records are before block 2
 twenty_before : before one_volume 1 (awaiting 1 2) ≡ wholes 1 20
 twenty_before = refl
 
@@ -247,7 +247,7 @@ one_volume_tight = record {
   changes = tt;
 }
 
--- ---- on two volumes of 2,500 bytes: the file end does not fit behind the third block, and the
+-- ---- on two volumes of 2,500 bytes: the file end does not fit after the third block, and the
 -- second section is empty
 
 abbrev pub two_volumes : FileSet
@@ -316,7 +316,7 @@ two_volumes_tight = record {
   changes = (refl, tt);
 }
 
--- with their end words the volumes have 2,484 and 460 bytes
+-- with their end-of-medium marker the volumes have 2,484 and 460 bytes
 two_volumes_sizes : map items_size (all_items two_volumes) ≡ 2480 ∷ 456 ∷ []
 two_volumes_sizes = refl
 

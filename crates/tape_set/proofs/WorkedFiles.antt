@@ -1,6 +1,6 @@
--- Two files of 25 records on two volumes of 2,848 bytes: behind the first file's end there is just
--- room for a section without blocks, so the first section of the second file has none, and ends
--- with EOV1.
+-- Two files of 25 records on two volumes of 2,848 bytes: after the first file's end there is
+-- exactly enough room for a section without blocks, so the first section of the second file has
+-- none, and ends with EOV1.
 use Rattle.std.proofs.Common.{◌≡◌, ◌≤◌, ℕ, [], ◌∷◌, ◌++◌, true, false, refl, inl, lit≤}
 use Rattle.std.specs.Prelude.{map, replicate}
 use Rattle.tape_set.specs.declared.position.Position.TheVariants.{Finished}
@@ -112,16 +112,16 @@ two_files_tight = record {
   changes = (refl, (refl, tt));
 }
 
--- the first volume is full to its last byte, with its end word
+-- the first volume is full to its last byte, with its end-of-medium marker
 two_files_sizes : map items_size (all_items two_files) ≡ 2844 ∷ 2480 ∷ []
 two_files_sizes = refl
 
--- a reading of the first volume takes the second file behind its empty section, whose labels alone
--- tell its form
+-- a reading of the first volume takes the second file after its empty section, whose labels alone
+-- state its form
 behind_empty_section : far two_files 2 start (reading 1 (replicate 19 true)) ≡ awaiting 2 0
 behind_empty_section = refl
 
--- where the trailer label of the empty section was not read, its end is awaited, which is the start
+-- where the trailer label of the empty section was not read, its end is expected: the start
 cut_in_empty_section : far two_files 2 start (reading 1 (replicate 15 true)) ≡ start
 cut_in_empty_section = refl
 
@@ -135,7 +135,7 @@ bad_data_passed : far two_files 2 start (reading 1 (replicate 5 true ++ false �
     ≡ awaiting 2 0
 bad_data_passed = refl
 
--- a mark and a label of the first file: nothing behind them counts
+-- a mark and a label of the first file: nothing after them counts
 bad_mark_passed : far two_files 2 start (reading 1 (replicate 7 true ++ false ∷ replicate 11 true))
     ≡ start
 bad_mark_passed = refl
@@ -144,13 +144,13 @@ bad_trailer_passed : far two_files 2 start (reading 1
     (replicate 8 true ++ false ∷ replicate 10 true)) ≡ start
 bad_trailer_passed = refl
 
--- the closing mark of the section that is wanted: its end is awaited, though its trailer label was
--- read well
+-- the closing mark of the section that is expected: its end is expected, though its trailer label
+-- was read well
 bad_closing_mark : far two_files 1 start (reading 1 (replicate 7 true ++ false ∷ replicate 11 true))
     ≡ awaiting 1 3
 bad_closing_mark = refl
 
--- what stands behind the trailer label is of no account
+-- what follows the trailer label is of no account
 bad_behind_trailer : far two_files 1 start (reading 1 (replicate 9 true ++ replicate 10 false))
     ≡ Finished
 bad_behind_trailer = refl
@@ -163,6 +163,6 @@ behind_empty_section_none = refl
 second_section_parts : before two_files 2 (awaiting 2 1) ≡ wholes 1 10
 second_section_parts = refl
 
--- the records of the first file stand before none of the second's positions
+-- the records of the first file are before none of the second's positions
 first_file_apart : before two_files 1 Finished ≡ wholes 1 25
 first_file_apart = refl

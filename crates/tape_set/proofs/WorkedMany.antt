@@ -1,6 +1,6 @@
 -- Sections of many blocks of one byte: up to the most blocks that a section may have they are
--- lawful, and their labels tell the last six digits of the number; with one block more the number
--- of blocks alone refuses them.
+-- valid, and their labels say the last six digits of the number; with one block more the number of
+-- blocks alone refuses them.
 use Rattle.std.proofs.Common.{◌≡◌, ◌<◌, ◌≤◌, ℕ, zero, suc, List, [], ◌∷◌, length, true, false, refl}
 use Rattle.std.proofs.Common.{sym, ap, subst, arith, codes, lit≤, lit<}
 use Rattle.std.specs.Prelude.{map, replicate}
@@ -75,7 +75,7 @@ set_of s = record { set_id = set_id; volumes = plain_volume ∷ []; files = (s �
 abbrev many : ℕ → FileSet
 many n = set_of (section n)
 
--- all clauses of a lawful section but that on the number of its blocks
+-- all clauses of a valid section but that on the number of its blocks
 record AllButFew (of_set : List ℕ) (volumes : ℕ) (x : Placed) : Type 0 where
   header : (h : Head1) × IsHeader of_set x h
   trailer : (t : Trail1) × IsTrailer x t

@@ -30,7 +30,7 @@ no_more_of_block_2 = refl
 part_9 : IsIn one_volume 1 (at_part 9 (awaiting 1 1))
 part_9 = (_, refl, omega arith, inr (lit< tt))
 
--- where all parts were delivered the next block is awaited
+-- where all parts were delivered the next block is expected
 no_part_10 : IsIn one_volume 1 (at_part 10 (awaiting 1 1)) → ⊥
 no_part_10 (s, found, block, inl h) = absurd (omega arith)
 no_part_10 (s, found, block, inr h) =
@@ -57,7 +57,7 @@ block_not_read : far one_volume 1 (at_part 3 (awaiting 1 1)) (reading 1
     (replicate 5 true ++ false ∷ replicate 6 true)) ≡ at_part 3 (awaiting 1 1)
 block_not_read = refl
 
--- behind block 1 no part is kept
+-- after block 1 no part is kept
 cut_behind_block : far one_volume 1 (at_part 3 (awaiting 1 1)) (reading 1 (replicate 6 true))
     ≡ awaiting 1 2
 cut_behind_block = refl
@@ -85,7 +85,7 @@ part_of_end : far one_volume 1 (at_part 1 (awaiting 1 3)) (reading 1 (replicate 
     ≡ at_part 1 (awaiting 1 3)
 part_of_end = refl
 
--- the front of the next block and of the next section
+-- the start of the next block and of the next section
 behind_parts : next_block (at_part 3 (awaiting 1 1)) ≡ awaiting 1 2
 behind_parts = refl
 

@@ -21,7 +21,7 @@ end_of_file = refl
 no_end_of_file_2 : IsIn one_volume 2 Finished → ⊥
 no_end_of_file_2 h = let e : IsSome (file_of one_volume 2) = h in absurd (cc)
 
--- the end of a section is one, and the place behind it is not
+-- the end of a section is one, and the place after it is not
 end_of_section : IsIn one_volume 1 (awaiting 1 3)
 end_of_section = (_, refl, omega arith, inl refl)
 
@@ -35,7 +35,7 @@ no_section_2 (s, found, block, part) =
     let e : None ≡ section_of one_volume 1 2 = refl in
     absurd (cc)
 
--- a block without parts is awaited at its front alone
+-- a block without parts is only expected at its start
 before_no_parts : IsIn sparse 1 start
 before_no_parts = (_, refl, omega arith, inl refl)
 
@@ -48,7 +48,7 @@ readings_in_order = refl
 over_both : far_over two_volumes 1 start (whole_readings two_volumes 0 2) ≡ Finished
 over_both = refl
 
--- the first volume again finds nothing that is wanted
+-- the first volume again finds nothing that is expected
 over_the_first : far_over two_volumes 1 start (reading 2 (replicate 9 true)
     ∷ reading 1 (replicate 12 true) ∷ reading 1 (replicate 12 true) ∷ []) ≡ awaiting 2 0
 over_the_first = refl

@@ -19,22 +19,22 @@ use Rattle.tape_set.proofs.WorkedFile.{shape, wholes, one_volume, two_volumes}
 abbrev pub reading : ℕ → List Bool → Reading
 reading k good = record { volume = k; good = good }
 
--- cut behind the last block: the section's end is awaited, and nothing more of the file
+-- cut after the last block: the section's end is expected, and nothing more of the file
 cut_behind_blocks : far one_volume 1 (awaiting 1 0) (reading 1 (replicate 7 true)) ≡ awaiting 1 3
 cut_behind_blocks = refl
 
--- cut behind the closing mark, and behind the trailer label
+-- cut after the closing mark, and after the trailer label
 cut_behind_mark : far one_volume 1 (awaiting 1 0) (reading 1 (replicate 8 true)) ≡ awaiting 1 3
 cut_behind_mark = refl
 
 cut_behind_trailer : far one_volume 1 (awaiting 1 0) (reading 1 (replicate 9 true)) ≡ Finished
 cut_behind_trailer = refl
 
--- cut behind the headers
+-- cut after the headers
 cut_behind_headers : far one_volume 1 (awaiting 1 0) (reading 1 (replicate 4 true)) ≡ awaiting 1 0
 cut_behind_headers = refl
 
--- the headers' mark was not read well: nothing behind it counts
+-- the headers' mark was not read well: nothing after it counts
 bad_header_mark : far one_volume 1 (awaiting 1 0) (reading 1
     (replicate 3 true ++ false ∷ replicate 8 true)) ≡ awaiting 1 0
 bad_header_mark = refl
@@ -79,7 +79,7 @@ five_blocks = record {
       ∷ []) ∷ []) ∷ [];
 }
 
--- block 3 was not read well, and is awaited
+-- block 3 was not read well, and is expected
 block_3_bad : far five_blocks 1 (awaiting 1 0) (reading 1
     (replicate 7 true ++ false ∷ replicate 6 true)) ≡ awaiting 1 3
 block_3_bad = refl

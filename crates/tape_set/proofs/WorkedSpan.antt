@@ -215,14 +215,14 @@ spanned_tight = record {
   changes = (refl, tt);
 }
 
--- the parts of the first section stand before the second, the last of them before its end
+-- the parts of the first section are before the second, the last of them before its end
 before_second : before spanned 1 (awaiting 2 0) ≡ first ∷ replicate 21 middle
 before_second = refl
 
 before_last : before spanned 1 (at_part 1 (awaiting 2 0)) ≡ first ∷ replicate 21 middle ++ last ∷ []
 before_last = refl
 
--- with their end words the volumes have 1,032 and 486 bytes
+-- with their end-of-medium marker the volumes have 1,032 and 486 bytes
 spanned_sizes : map items_size (all_items spanned) ≡ 1028 ∷ 482 ∷ []
 spanned_sizes = refl
 

@@ -1,4 +1,4 @@
--- A lawful set that no writer writes: a data block without parts, a volume that ends with EOF1 and
+-- A valid set that no writer writes: a data block without parts, a volume that ends with EOF1 and
 -- the next file on the next one, and a volume without sections.
 use Rattle.std.proofs.Common.{◌≡◌, ◌≤◌, ℕ, [], ◌∷◌, true, refl, inr, lit≤, lit<}
 use Rattle.std.specs.Prelude.{map, replicate, length}

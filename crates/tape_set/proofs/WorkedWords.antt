@@ -1,4 +1,4 @@
--- Words of the laws, worked out: fronts of lists, what stands in a list, positions up to another,
+-- Words of the laws, worked out: prefixes of lists, what is in a list, positions up to another,
 -- numbers that fit their digits, and the first item that was not read.
 use Rattle.std.proofs.Common.{◌≡◌, ◌≤◌, ℕ, [], ◌∷◌, ◌++◌, length, Bool, true, false, Option, Some}
 use Rattle.std.proofs.Common.{refl, ap, inl, inr, arith, lit≤, lit<, length-append}
@@ -7,7 +7,7 @@ use Rattle.tape_set.specs.declared.position.Position.TheVariants.{Awaits, Finish
 use Rattle.tape_set.specs.Position.{awaiting, block_of, IsUpTo}
 use Rattle.tape_set.specs.Laws.{IsFrontOf, StandsIn, FitsDigits, IsFirstUnread}
 
--- ---- fronts
+-- ---- prefixes
 
 front : IsFrontOf {A = ℕ} (1 ∷ []) (1 ∷ 2 ∷ [])
 front = (2 ∷ [], refl)
@@ -20,11 +20,11 @@ no_longer_front (rest, e) =
     let two : length (1 ∷ 2 ∷ rest) ≡ 1 = ap length e in
     absurd (omega (arith, two))
 
--- what stands at the end is no front
+-- what is at the end is no prefix
 no_end_front : IsFrontOf {A = ℕ} (2 ∷ []) (1 ∷ 2 ∷ []) → ⊥
 no_end_front (rest, e) = let d : 2 ≡ 1 = ap (λ v. slice_index v 0) e in absurd (omega (arith, d))
 
--- ---- what stands in a list
+-- ---- what is in a list
 
 last_stands : StandsIn {A = ℕ} (1 ∷ 2 ∷ []) 2
 last_stands = (1 ∷ [], [], refl)

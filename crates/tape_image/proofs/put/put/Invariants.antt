@@ -2,7 +2,7 @@ use Rattle.std.proofs.Common.{◌≡◌, ℕ, List, ◌++◌, length}
 use Rattle.std.specs.Io.KnownBytes.{Appends}
 use Rattle.tape_image.proofs.put.put.Given as goal
 
--- a front of the bytes was appended, and the rest is left
+-- a prefix of the bytes was appended, and the rest is left
 abbrev pub invariant-writes : goal.invariant-writes
 invariant-writes g l =
     (front : List ℕ) × Appends (g.W.Write.contents l.fn.device) (g.W.Write.contents l.device) front

@@ -18,7 +18,7 @@ part c = record { span = span_of c.self.inside.begun c.args.goes_on; bytes = c.a
 abbrev more : goal.After-self-4-1 → List Portion
 more c = parts_in c.self.inside.shape c.self.inside.block.items c.self.inside.len ++ part c ∷ []
 
--- what stands in the block behind the call
+-- what is in the block after the call
 abbrev text : goal.After-self-4-1 → List ℕ
 text c = (with_items c.self.inside.block c.put_unit.new.block).items
 
