@@ -111,7 +111,7 @@ rest_mounted Broken q = refl
 rest_mounted _ Finished = refl
 rest_mounted _ (Awaits sect b part) = refl
 
-rest_twice : (p : Phase) → resting (resting p) ≡ resting p
+pub rest_twice : (p : Phase) → resting (resting p) ≡ resting p
 rest_twice Broken = refl
 rest_twice _ = refl
 

@@ -1,11 +1,13 @@
 -- The cases of surveys.
-use Rattle.std.proofs.Common.{◌≡◌, List, [], ◌∷◌, ◌++◌, refl, ap, ◌∙◌}
-use Rattle.std.specs.Prelude.{map}
+use Rattle.std.proofs.Common.{◌≡◌, Bool, List, [], ◌∷◌, ◌++◌, Option, refl, ap, ◌∙◌}
+use Rattle.std.specs.Prelude.{map, is_some, if◌then◌else◌}
+use Rattle.indexmap.specs.IndexMap.{insert_entry}
 use Rattle.std.specs.List.{flat_map}
 use Rattle.tape_image.specs.Tape.{TapeItem, block, mark}
 use Rattle.tape_label.specs.Kinds.{kind_at}
 use Rattle.tape_label.specs.Reading.{vol1_at}
-use Rattle.tape_run.specs.Lacks.{lack_of}
+use Rattle.tape_run.specs.Lacks.{lack_of, key_at}
+use Rattle.tape_run.specs.Noted.{same_key}
 use Rattle.tape_run.specs.SurveyGlance.{is_ebcdic}
 use Rattle.tape_run.specs.SurveyLaws.{IsVolumeInOrder, end_marks}
 use Rattle.tape_run.specs.CasesOfSurveys.{CasesOfGlances, CasesOfWholes, CasesOfSurveys}
@@ -92,7 +94,14 @@ cases_of_surveys = record {
   left_unopened = λ c d v. v;
   unopened = λ s c d v. v;
   opened = λ before c d v. v;
-  viewed = λ before s c d v. (v.1.glance, v.1.noted, v.1.named, v.2);
+  viewed = λ before s c d v. (v.1.glance, v.1.noted, v.1.named, v.1.places, v.2, v.3);
+  no_location = λ c l image. refl;
+  location = λ c image h e. ap (λ (o : Option Bool). if is_some o then []
+      else insert_entry same_key [] (key_at h.set_id h.sequence h.sect) image) e;
+  good_location = λ c l image h ends e. ap (λ (o : Option Bool). if is_some o then l
+      else insert_entry same_key l (key_at h.set_id h.sequence h.sect) image) e;
+  first_image = refl;
+  second_image = refl;
   tells = λ y reel name c d old new t. (t.1, t.2);
   summary_last = λ y d. refl;
   no_summary_before = λ y d. refl;

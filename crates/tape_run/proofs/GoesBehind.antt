@@ -321,7 +321,7 @@ pub record EndedWell (core : State) (bytes left : List ℕ) : Type 0 where
   pub ended : EndsSection (step_of (behind_items core items) (Some item)).0
   pub taken : Walks 0 bytes (items ++ item ∷ []) at left
 
-ended_well : (core : State) (bytes left : List ℕ) (answer : ReelAnswer)
+pub ended_well : (core : State) (bytes left : List ℕ) (answer : ReelAnswer)
     → is_finished core.position ≡ false → ReadsReel core bytes left answer
     → EndsSection answer.answer → EndedWell core bytes left
 ended_well core bytes left answer waits r ends = elim r.ended [

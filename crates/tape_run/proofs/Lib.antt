@@ -27,6 +27,7 @@ pub mod NotedSoFar
 pub mod Noting
 pub mod GoesBehind
 pub mod BehindReads
+pub mod Located
 pub mod SectionRuns
 pub mod StayingGood
 pub mod NothingLacks

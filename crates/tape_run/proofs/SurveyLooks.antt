@@ -14,10 +14,12 @@ use Rattle.tape_run.specs.declared.survey.glance.Glance.{Glance}
 use Rattle.tape_run.specs.declared.survey.view.Sight.{Sight}
 use Rattle.tape_run.specs.Added.{StopsBehind, stop_at}
 use Rattle.tape_run.specs.Noted.{noted_all}
-use Rattle.tape_run.specs.Passing.{Told, step, in_list, phase_after, under_way}
+use Rattle.tape_run.specs.Passing.{Told, step, in_list, phase_after, told_from, under_way}
 use Rattle.tape_run.specs.SurveyFiles.{Filed, with_met, with_all, filed_in}
 use Rattle.tape_run.specs.SurveyGlance.{blank_glance, head_in, look_to, look_all, glance_of}
+use Rattle.tape_run.specs.SurveyLocations.{Located, with_location, locate_all, located_in}
 use Rattle.tape_run.specs.SurveyRead.{ViewsItems}
+use Rattle.tape_run.proofs.KeepingPlaces.{noted_all-append}
 use Rattle.tape_run.proofs.NotedSoFar.{SoFar, starts, one_more, by_ending, all_noted}
 
 -- one more item was looked at
@@ -35,37 +37,58 @@ with_all-append files p [] x = refl
 with_all-append files p (y ∷ ys) x =
     with_all-append (with_met files (head_in p y)) (step p y).0 ys x
 
+-- and where its section is
+pub locate_all-append : (image : ℕ) (sections : List Told) (located : List Located) (p : Phase)
+    (xs : List TapeItem) (x : TapeItem)
+    → locate_all image sections located p (xs ++ x ∷ [])
+    ≡ with_location (noted_all sections (told_from p xs))
+    (locate_all image sections located p xs) image (head_in (phase_after p xs) x)
+locate_all-append image sections located p [] x = refl
+locate_all-append image sections located p (y ∷ ys) x =
+    let first = in_list (step p y).1 in
+    let then = told_from (step p y).0 ys in
+    let here = with_location sections located image (head_in p y) in
+    locate_all-append image (noted_all sections first) here (step p y).0 ys x
+    ∙ ap (λ (r : List Told). with_location r
+    (locate_all image (noted_all sections first) here (step p y).0 ys) image
+    (head_in (phase_after (step p y).0 ys) x)) (sym (noted_all-append sections first then))
+
 -- Of the bytes `all` the items up to a place were looked at, and what they tell was noted.
-pub record LookedSoFar (all left : Option (List ℕ)) (place : ℕ) (sections : List Told)
-    (files : List Filed) (phase : Phase) (g : Glance) (told : List Told) (filed : List Filed) :
-    Type 0 where
+pub record LookedSoFar (all left : Option (List ℕ)) (place image : ℕ) (sections : List Told)
+    (files : List Filed) (located : List Located) (phase : Phase) (g : Glance) (told : List Told)
+    (filed : List Filed) (locations : List Located) : Type 0 where
   pub count : ℕ
   pub so_far : SoFar all left place count sections phase told
   pub counted : g.items ≡ count
   pub glance : g ≡ glance_of so_far.items
   pub named : filed ≡ filed_in files so_far.items
+  pub places : locations ≡ located_in image sections located so_far.items
 
-pub looks_start : (all left : Option (List ℕ)) (place : ℕ) (sections : List Told)
-    (files : List Filed) (g : Glance) → place ≡ 0 → left ≡ all → g ≡ blank_glance
-    → LookedSoFar all left place sections files Volume g sections files
-looks_start all left place sections files g first same none = record {
+pub looks_start : (all left : Option (List ℕ)) (place image : ℕ) (sections : List Told)
+    (files : List Filed) (located : List Located) (g : Glance) → place ≡ 0 → left ≡ all
+    → g ≡ blank_glance
+    → LookedSoFar all left place image sections files located Volume g sections files located
+looks_start all left place image sections files located g first same none = record {
   count = 0;
   so_far = starts all left place sections first same;
   counted = ap (λ (h : Glance). h.items) none;
   glance = none;
   named = refl;
+  places = refl;
 }
 
-pub looks_more : (all left next : Option (List ℕ)) (p q : ℕ) (item : TapeItem)
-    (sections : List Told) (files : List Filed) (phase after : Phase) (g h : Glance)
-    (mid told : List Told) (named filed : List Filed)
-    → LookedSoFar all left p sections files phase g mid named
+pub looks_more : (all left next : Option (List ℕ)) (p q image : ℕ) (item : TapeItem)
+    (sections : List Told) (files : List Filed) (located : List Located) (phase after : Phase)
+    (g h : Glance) (mid told : List Told) (named filed : List Filed) (there locations : List Located)
+    → LookedSoFar all left p image sections files located phase g mid named there
     → IfKnown left next (TakesItem p item q) → after ≡ (step phase item).0
     → told ≡ noted_all mid (in_list (step phase item).1)
-    → filed ≡ with_met named (head_in phase item) → h ≡ look_to g phase item after
-    → LookedSoFar all next q sections files after h told filed
-looks_more all left next p q item sections files phase after g h mid told named filed s takes goes
-    notes names looks =
+    → filed ≡ with_met named (head_in phase item)
+    → locations ≡ with_location mid there image (head_in phase item)
+    → h ≡ look_to g phase item after
+    → LookedSoFar all next q image sections files located after h told filed locations
+looks_more all left next p q image item sections files located phase after g h mid told named filed
+    there locations s takes goes notes names places looks =
     let items = s.so_far.items in
     let stands : phase ≡ phase_after Volume items = s.so_far.stands in
     let behind = phase_after Volume items in
@@ -81,16 +104,23 @@ looks_more all left next p q item sections files phase after g h mid told named 
       named = names ∙ ap (λ (r : Phase). with_met named (head_in r item)) stands
           ∙ ap (λ (r : List Filed). with_met r (head_in behind item)) s.named
           ∙ sym (with_all-append files Volume items item);
+      places = places ∙ ap (λ (r : Phase). with_location mid there image (head_in r item)) stands
+          ∙ ap (λ (r : List Told). with_location r there image (head_in behind item))
+          s.so_far.noted
+          ∙ ap (λ (r : List Located). with_location (noted_all sections (told_from Volume items)) r
+          image (head_in behind item)) s.places
+          ∙ sym (locate_all-append image sections located Volume items item);
     }
 
-pub viewed_end : (all left next : Option (List ℕ)) (p q : ℕ) (ending : Ending)
-    (sections : List Told) (files : List Filed) (phase : Phase) (sight : Sight)
-    (mid told : List Told) (filed : List Filed)
-    → LookedSoFar all left p sections files phase sight.glance mid filed
+pub viewed_end : (all left next : Option (List ℕ)) (p q image : ℕ) (ending : Ending)
+    (sections : List Told) (files : List Filed) (located : List Located) (phase : Phase)
+    (sight : Sight) (mid told : List Told) (filed : List Filed) (locations : List Located)
+    → LookedSoFar all left p image sections files located phase sight.glance mid filed locations
     → IfKnown left next (TakesEnd p [] ending q)
     → told ≡ noted_all mid (in_list (under_way phase)) → sight.stop ≡ stop_at ending
-    → ViewsItems all next sections files sight told filed
-viewed_end all left next p q ending sections files phase sight mid told filed s takes notes stop =
+    → ViewsItems all next image sections files located sight told filed locations
+viewed_end all left next p q image ending sections files located phase sight mid told filed
+    locations s takes notes stop =
     let items = s.so_far.items in
     record {
       items = items;
@@ -101,16 +131,18 @@ viewed_end all left next p q ending sections files phase sight mid told filed s 
       glance = s.glance;
       noted = all_noted all left p s.count sections phase mid told s.so_far notes;
       named = s.named;
+      places = s.places;
     }
 
-pub viewed_fault : (all left next : Option (List ℕ)) (p : ℕ) (fault : ImageFault)
-    (sections : List Told) (files : List Filed) (phase : Phase) (sight : Sight)
-    (mid told : List Told) (filed : List Filed)
-    → LookedSoFar all left p sections files phase sight.glance mid filed
+pub viewed_fault : (all left next : Option (List ℕ)) (p image : ℕ) (fault : ImageFault)
+    (sections : List Told) (files : List Filed) (located : List Located) (phase : Phase)
+    (sight : Sight) (mid told : List Told) (filed : List Filed) (locations : List Located)
+    → LookedSoFar all left p image sections files located phase sight.glance mid filed locations
     → IfKnown left next (TakesFault p [] fault)
     → told ≡ noted_all mid (in_list (under_way phase)) → sight.stop ≡ Fault fault
-    → ViewsItems all next sections files sight told filed
-viewed_fault all left next p fault sections files phase sight mid told filed s takes notes stop =
+    → ViewsItems all next image sections files located sight told filed locations
+viewed_fault all left next p image fault sections files located phase sight mid told filed
+    locations s takes notes stop =
     let items = s.so_far.items in
     record {
       items = items;
@@ -119,4 +151,5 @@ viewed_fault all left next p fault sections files phase sight mid told filed s t
       glance = s.glance;
       noted = all_noted all left p s.count sections phase mid told s.so_far notes;
       named = s.named;
+      places = s.places;
     }

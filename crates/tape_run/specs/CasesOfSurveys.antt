@@ -47,6 +47,8 @@ use Rattle.tape_run.specs.SurveyWording.{image_text, summary, sections_text, end
 use Rattle.tape_run.specs.SurveyLine.{trimmed_text, named}
 use Rattle.tape_run.specs.SurveyRows.{section_row, sight_cells, eof_cell, standing_cells}
 use Rattle.tape_run.specs.SurveyRows.{mixed_cell}
+use Rattle.tape_run.specs.Lacks.{good_end, entry_at, key_at}
+use Rattle.tape_run.specs.SurveyLocations.{Located, with_location, located_in, next_image}
 use Rattle.tape_run.specs.SurveyRead.{Found, nothing_found, is_whole_sight, IsViewed, AreViewed}
 use Rattle.tape_run.specs.SurveySets.{standing_of, is_all}
 use Rattle.tape_run.specs.Survey.{image_texts, TellsSight, Surveys, SurveysInPart, summary_at}
@@ -78,7 +80,13 @@ first_week = label (codes "WEEKLY.BCK       ") (codes " 85100") (codes "0001")
 -- what was found, where all images are whole and this was met
 abbrev pub found : Bool → List Filed → Found
 found whole files =
-    record { sections = met 1 1 true Good ∷ []; files = files; whole = whole }
+    record {
+      sections = met 1 1 true Good ∷ [];
+      files = files;
+      whole = whole;
+      locations = [];
+      images = 1;
+    }
 
 -- of images at a glance
 pub record CasesOfGlances : Type 0 where
@@ -188,13 +196,26 @@ pub record CasesOfSurveys : Type 0 where
   -- an image has a line by its name, and one that was not opened is left over
   pub line : (y : Wording) (name : List ℕ) (s : Option Sight)
       → image_texts y (name ∷ name ∷ []) (s ∷ []) ≡ image_text y name s ++ []
-  pub left_unopened : (c d : Found) → IsViewed None None c d → d ≡ record c { whole = false }
+  pub left_unopened : (c d : Found) → IsViewed None None c d
+      → d ≡ record c { whole = false; images = next_image c.images }
   pub unopened : (s : Sight) (c d : Found) → IsViewed None (Some s) c d → ⊥
   pub opened : (before : Option (List ℕ)) (c d : Found) → IsViewed (Some before) None c d → ⊥
   pub viewed : (before : Option (List ℕ)) (s : Sight) (c d : Found)
       (v : IsViewed (Some before) (Some s) c d) → (s.glance ≡ glance_of v.1.items)
       × (d.sections ≡ noted_all c.sections (met_in v.1.items))
-      × (d.files ≡ filed_in c.files v.1.items) × (d.whole ≡ (c.whole && is_whole_sight s))
+      × (d.files ≡ filed_in c.files v.1.items)
+      × (d.locations ≡ located_in c.images c.sections c.locations v.1.items)
+      × (d.whole ≡ (c.whole && is_whole_sight s)) × (d.images ≡ next_image c.images)
+  -- a section is on the image on which its label was found, unless it is known as good by then
+  pub no_location : (c : List Told) (l : List Located) (image : ℕ) → with_location c l image None ≡ l
+  pub location : (c : List Told) (image : ℕ) (h : Head1)
+      → good_end (entry_at c (key_at h.set_id h.sequence h.sect)) ≡ None
+      → with_location c [] image (Some h) ≡ (key_at h.set_id h.sequence h.sect, image) ∷ []
+  pub good_location : (c : List Told) (l : List Located) (image : ℕ) (h : Head1) (ends : Bool)
+      → good_end (entry_at c (key_at h.set_id h.sequence h.sect)) ≡ Some ends
+      → with_location c l image (Some h) ≡ l
+  pub first_image : nothing_found.images ≡ 0
+  pub second_image : next_image 0 ≡ 1
   pub tells : (y : Wording) (reel : Reel) (name : List ℕ) (c d : Found)
       (old new : Option (List ℕ)) (t : TellsSight y reel name c d old new) → IsViewed reel t.0 c d
       × Appends old new (image_text y name t.0)

@@ -53,6 +53,7 @@ pub mod SurveyGlance
 pub mod SurveyFiles
 pub mod SurveyRead
 pub mod SurveyLine
+pub mod SurveyLocations
 pub mod SurveySets
 pub mod SurveyRows
 pub mod SurveyWording
@@ -72,6 +73,7 @@ pub mod Reeling
 pub mod Extracting
 pub mod Rounds
 pub mod ExtractingAgain
+pub mod ExtractingLocated
 pub mod ExtractingNow
 pub mod ExtractExamples
 -- Cases, which hold the definitions from below.

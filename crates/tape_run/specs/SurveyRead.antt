@@ -15,16 +15,21 @@ use Rattle.tape_run.specs.Passing.{Told, met_in}
 use Rattle.tape_run.specs.Reeling.{Mounting}
 use Rattle.tape_run.specs.SurveyFiles.{Filed, filed_in}
 use Rattle.tape_run.specs.SurveyGlance.{glance_of}
+use Rattle.tape_run.specs.SurveyLocations.{Located, located_in, next_image}
 
--- what is known of sections and of files, and whether nothing on the images is left over
+-- what is known of sections and of files, whether nothing on the images is left over, on which image
+-- each section is, and how many images there were
 pub record Found : Type 0 where
   pub sections : List Told
   pub files : List Filed
   pub whole : Bool
+  pub locations : List Located
+  pub images : ℕ
 
 -- nothing was met
 abbrev pub nothing_found : Found
-nothing_found = record { sections = []; files = []; whole = true }
+nothing_found =
+    record { sections = []; files = []; whole = true; locations = []; images = 0 }
 
 -- the image does not stop by a fault
 abbrev pub is_end : ImageStop → Bool
@@ -46,22 +51,26 @@ is_none (Some n) = false
 abbrev pub is_whole_sight : Sight → Bool
 is_whole_sight s = is_ended s.glance.course && (is_none s.glance.unread && is_end s.stop)
 
--- All items that a reader gave were looked at, and the sections and the header labels that they
--- tell were noted. Before the call the reader had the bytes `before`, and then the bytes `after`.
-pub record ViewsItems (before after : Option (List ℕ)) (sections : List Told) (files : List Filed)
-    (sight : Sight) (told : List Told) (filed : List Filed) : Type 0 where
+-- All items that a reader of the image with this number gave were looked at, and the sections and
+-- the header labels that they tell were noted, and where the sections are. Before the call the reader
+-- had the bytes `before`, and then the bytes `after`.
+pub record ViewsItems (before after : Option (List ℕ)) (image : ℕ) (sections : List Told)
+    (files : List Filed) (located : List Located) (sight : Sight) (told : List Told)
+    (filed : List Filed) (locations : List Located) : Type 0 where
   pub items : List TapeItem
   pub stop : IfKnown before after (StopsBehind items sight.stop)
   pub glance : sight.glance ≡ glance_of items
   pub noted : told ≡ noted_all sections (met_in items)
   pub named : filed ≡ filed_in files items
+  pub places : locations ≡ located_in image sections located items
 
 -- An image was read, and nothing is left over on it where it is whole; or it was not opened.
 abbrev pub IsViewed : Reel → Option Sight → Found → Found → Type 0
-IsViewed None None c d = d ≡ record c { whole = false }
+IsViewed None None c d = d ≡ record c { whole = false; images = next_image c.images }
 IsViewed (Some before) (Some sight) c d = (after : Option (List ℕ))
-    × ViewsItems before after c.sections c.files sight d.sections d.files
-    × (d.whole ≡ (c.whole && is_whole_sight sight))
+    × ViewsItems before after c.images c.sections c.files c.locations sight d.sections d.files
+    d.locations
+    × (d.whole ≡ (c.whole && is_whole_sight sight)) × (d.images ≡ next_image c.images)
 IsViewed _ _ c d = ⊥
 
 -- Images of a shelf from this number on, mounted one after another, were read.

@@ -1,7 +1,7 @@
 -- Which files are unpacked from images, and under which names.
 use Rattle.std.specs.Prelude.{◌≡◌, ◌==◌, ◌&&◌, ◌||◌, not, ℕ, zero, suc, ◌+◌, ◌/◌, ◌%◌, nat_le}
 use Rattle.std.specs.Prelude.{nat_lt, Bool, if◌then◌else◌, List, [], ◌∷◌, ◌++◌, length, map, take}
-use Rattle.std.specs.Prelude.{Option, Some, None, option_map, codes, decimal}
+use Rattle.std.specs.Prelude.{Option, Some, None, option_map, is_some, codes, decimal}
 use Rattle.std.specs.List.{flat_map}
 use Rattle.tape_run.specs.declared.survey.view.Sight.{Sight}
 use Rattle.tape_run.specs.declared.survey.files.FileNote.{FileNote}
@@ -9,7 +9,7 @@ use Rattle.tape_run.specs.declared.unpack.Heading.{Heading}
 use Rattle.tape_run.specs.declared.unpack.Heading.TheVariants.{NotMet, Differs, Named}
 use Rattle.tape_run.specs.declared.unpack.SetFile.{SetFile}
 use Rattle.tape_run.specs.declared.unpack.ShelfFiles.{ShelfFiles}
-use Rattle.tape_run.specs.Lacks.{SetFiles, sets_from}
+use Rattle.tape_run.specs.Lacks.{SetFiles, sets_from, lack_of}
 use Rattle.tape_run.specs.Reeling.{Mounting}
 use Rattle.tape_run.specs.SurveyFiles.{note_at, file_key}
 use Rattle.tape_run.specs.SurveyLine.{trimmed_len}
@@ -26,6 +26,7 @@ file_of d set_id file = record {
   set_id = set_id;
   file = file;
   heading = heading_of (note_at d.files (file_key set_id file));
+  lacks = is_some (lack_of d.sections set_id file);
 }
 
 -- n files of a set, from this one on
@@ -56,13 +57,14 @@ pub record ViewsAll {L R : Type 0} (size : L → ℕ) (gives : Mounting L R)
   pub sets_are : sets ≡ map set_of sights
 
 -- These are the files of all sets that were met on them, and it is told so of which set each image
--- is, and whether nothing on them is left over.
+-- is, whether nothing on them is left over, and on which image each section begins.
 pub record FilesOn {L R : Type 0} (size : L → ℕ) (gives : Mounting L R)
     (remaining : R → Option (List ℕ)) (shelf left : L) (met : ShelfFiles) : Type 0 where
   pub found : Found
   pub viewed : ViewsAll size gives remaining shelf left found met.sets
   pub files : met.files ≡ files_of found
   pub whole : met.whole ≡ found.whole
+  pub locations : met.locations.entries ≡ found.locations
 
 -- ---- names
 

@@ -5,6 +5,7 @@ mod again;
 mod front;
 pub mod images;
 pub mod line;
+mod located;
 mod now;
 mod out_sink;
 
@@ -30,6 +31,7 @@ pub use again::extract_again;
 use front::write_parts;
 use images::read_images;
 pub use line::{ReportLine, last_line, reel_line};
+pub use located::{Mounted, extract_located};
 pub use now::{Place, extract_now};
 pub use out_sink::OutSink;
 use std::io::{Read, Write};

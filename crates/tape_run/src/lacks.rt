@@ -11,7 +11,7 @@ use tape_label::Field;
 const MOST: u16 = 9_999;
 
 /// Whether a good section ends its file, and `None` where it is not there as good.
-fn good_end(sections: &Sections, key: &SectionKey) -> Option<bool>
+pub(crate) fn good_end(sections: &Sections, key: &SectionKey) -> Option<bool>
     ensures { result ≡ good_end (entry_at sections.now.entries key.now) }
 {
     match sections.get(key) {

@@ -37,8 +37,8 @@ pub use crate::extract::images::Shelf;
 pub use catalogue::Catalogue;
 pub use check::check_to;
 pub use extract::{
-    OutSink, Place, ReportLine, extract_again, extract_now, extract_to, last_line, reel_line,
-    write_file,
+    Mounted, OutSink, Place, ReportLine, extract_again, extract_located, extract_now, extract_to,
+    last_line, reel_line, write_file,
 };
 pub use fault::{EngineFault, ListFault, RunFault, Stopped, WriteFailed};
 pub use intake::ReelAnswer;
@@ -49,6 +49,7 @@ pub use report::{Report, check_set};
 pub use script::{Step, run};
 pub use section::{Entry, ImageLine, ImageStop, Lack, SectionKey, SectionLine, SectionState};
 pub use session::Session;
+pub use survey::locations::Locations;
 pub use survey::{Wording, survey_to};
 pub use text::{flush, write_text};
 pub use unpack::line::{Fate, fate_text, file_line, left_over_line};

@@ -15,6 +15,7 @@ mod course;
 pub(crate) mod files;
 mod glance;
 mod line;
+pub(crate) mod locations;
 mod rows;
 mod sets;
 mod texts;

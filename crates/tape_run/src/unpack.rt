@@ -13,8 +13,10 @@ ghost use Rattle.tape_run.specs.declared.fault.RunFault.TheVariants as faults;
 
 use crate::extract::images::Shelf;
 use crate::fault::RunFault;
+use crate::lacks::lack_of;
 use crate::report::{Sets, sets_of};
 use crate::survey::files::{FileKey, FileNote};
+use crate::survey::locations::Locations;
 use crate::survey::view::{Findings, Sight};
 use std::alloc::{AllocError, Global};
 use std::io::Read;
@@ -39,6 +41,8 @@ pub struct SetFile {
     /// Its number in the set, from 1.
     pub file: u16,
     pub heading: Heading,
+    /// Whether one of its sections is whole on no image.
+    pub lacks: bool,
 }
 
 /// What was met on the images of a shelf.
@@ -53,6 +57,8 @@ pub struct ShelfFiles {
     /// Whether nothing on the images is left over: each was opened, and is a volume from its label
     /// to its end, in formats that are read.
     pub whole: bool,
+    /// For each section the number of an image on which it begins.
+    pub locations: Locations,
 }
 
 /// The files of all sets that were met on the images of a shelf: just those that `survey` tells of.
@@ -80,6 +86,7 @@ pub fn files_on<R: Read + Drop, L: Shelf<R>>(
             files: Sequence::of_vec(files),
             sets: Sequence::of_vec(sets),
             whole,
+            locations: findings.locations,
         }),
         Err(_) => Err(RunFault::OutOfMemory),
     }
@@ -141,10 +148,12 @@ fn add_file(
 {
     let key = FileKey { set_id, file };
     let heading = heading_of(findings.files.get(&key));
+    let lacks = lack_of(&findings.sections, set_id, file).is_some();
     let added = files.push(SetFile {
         set_id,
         file,
         heading,
+        lacks,
     });
     match added {
         Ok(()) => Ok(()),

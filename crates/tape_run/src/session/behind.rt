@@ -1,16 +1,18 @@
 //! Reading on behind a section of an earlier file.
 
-ghost use Rattle.std.specs.Prelude.{◌≡◌, OnOk, IfOk, IfSome};
+ghost use Rattle.std.specs.Prelude.{◌≡◌, IfOk, IfErr, IfSome};
 ghost use Rattle.tape_image.specs.Reader.{IfKnown};
 ghost use Rattle.tape_core.specs.Weight.{IsFront};
 ghost use Rattle.tape_run.specs.Crash.{BringsNoMore};
 ghost use Rattle.tape_run.specs.Given.{is_device, counted};
 ghost use Rattle.tape_run.specs.GoesBehind.{ReeledBehind, ReadsBehind};
 ghost use Rattle.tape_run.specs.Seen.{IsKept, IfSeen, IsSeen};
+ghost use Rattle.tape_run.specs.Steps.{Refuses};
 
 use super::{Session, counted};
 use crate::fault::RunFault;
 use crate::intake::ReelAnswer;
+use crate::survey::files::FileKey;
 use std::io::Read;
 use tape_core::{Answer, PartSink};
 use tape_image::{ImageBuffer, ImageReader};
@@ -37,6 +39,8 @@ impl<S: PartSink> Session<S> {
             self.new.failures ≡ counted (is_device answer.fault) self.old.failures) }
         ensures calm { IfOk result (λ _.
             S.refusals self.new.sink ≡ S.refusals self.old.sink) }
+        ensures refuses { IfErr result (λ fault.
+            Refuses S.PartSink fault self.old self.new) }
         ensures answer { IfOk result (λ answer. IfKnown (R.remaining device.old)
             (R.remaining device.new)
             (λ bytes left. ReadsBehind self.old.core.position self.old.core bytes left answer)) }
@@ -62,6 +66,18 @@ impl<S: PartSink> Session<S> {
                 Ok(answer)
             }
             Err(cause) => Err(RunFault::Sink(cause)),
+        }
+    }
+
+    /// Which file it reads: the identifier of its set, and its number.
+    pub(crate) fn file_key(&self) -> FileKey
+        ensures set_id { result.set_id ≡ self.now.core.set_id }
+        ensures file { result.file ≡ self.now.core.file }
+    {
+        let point = self.intake.core.save(0);
+        FileKey {
+            set_id: point.set_id,
+            file: point.file,
         }
     }
 }

@@ -12,6 +12,7 @@ ghost use Rattle.tape_run.specs.SurveyRead.{nothing_found, is_ended, is_none, is
 use super::course::Course;
 use super::files::{Files, note_met};
 use super::glance::{Glance, blank_glance, head_in, look};
+use super::locations::{Locations, note_location};
 use crate::catalogue::stop_at;
 use crate::fault::RunFault;
 use crate::passing::Phase;
@@ -37,9 +38,14 @@ pub(crate) struct Findings {
     pub(crate) files: Files,
     /// Whether nothing on the images is left over.
     pub(crate) whole: bool,
+    /// The image on which each section is.
+    pub(crate) locations: Locations,
+    /// How many images there were.
+    images: usize,
 }
 
-// In contracts findings are what is known of sections and files, and whether all images are whole.
+// In contracts findings are what is known of sections and files, whether all images are whole, where
+// the sections are, and how many images there were.
 impl Model for Findings {
     ghost use Rattle.tape_run.specs.SurveyRead.{Found};
 
@@ -49,6 +55,8 @@ impl Model for Findings {
       sections = f.sections.entries;
       files = f.files.entries;
       whole = f.whole;
+      locations = f.locations.entries;
+      images = f.images;
     } };
 }
 
@@ -101,6 +109,8 @@ impl Findings {
             sections: Sections::new(alloc),
             files: Files::new(alloc),
             whole: true,
+            locations: Locations::new(alloc),
+            images: 0,
         }
     }
 
@@ -115,11 +125,13 @@ impl Findings {
     {
         let Some(mut reader) = image else {
             self.whole = false;
+            self.images = self.images.saturating_add(1);
             return Ok(None);
         };
         let sight = self.read_items(&mut reader)?;
         let whole = sight.is_whole();
         self.whole = self.whole && whole;
+        self.images = self.images.saturating_add(1);
         Ok(Some(sight))
     }
 
@@ -127,14 +139,21 @@ impl Findings {
     fn read_items<R: Read>(&mut self, reader: &mut R) -> Result<Sight, RunFault>
         ensures fault { IsOkUnless result faults.OutOfMemory }
         ensures ok { IfOk result (λ sight. ViewsItems (R.remaining reader.old)
-            (R.remaining reader.new) self.old.sections self.old.files sight self.new.sections
-            self.new.files) }
+            (R.remaining reader.new) self.old.images self.old.sections self.old.files
+            self.old.locations sight self.new.sections self.new.files self.new.locations) }
         ensures same { OnOk result (self.new.whole ≡ self.old.whole) }
+        ensures count { OnOk result (self.new.images ≡ self.old.images) }
     {
         let Ok(mut image) = ImageReader::new(self.alloc, reader) else {
             return Err(RunFault::OutOfMemory);
         };
-        let viewed = view_items(&mut self.sections, &mut self.files, &mut image);
+        let viewed = view_items(
+            &mut self.sections,
+            &mut self.files,
+            &mut self.locations,
+            self.images,
+            &mut image,
+        );
         // What the reader has left is its caller's again.
         image.into_device();
         viewed
@@ -145,14 +164,17 @@ impl Findings {
 fn view_items<R: Read>(
     sections: &mut Sections,
     files: &mut Files,
+    locations: &mut Locations,
+    number: usize,
     image: &mut ImageReader<'_, R>,
 ) -> Result<Sight, RunFault>
     requires going { image.old.status ≡ going }
     requires first { image.old.place ≡ 0 }
     ensures same_device { image.new.device ≡ image.old.device }
     ensures fault { IsOkUnless result faults.OutOfMemory }
-    ensures ok { IfOk result (λ sight. ViewsItems image.old.left image.new.left
-        sections.old.entries files.old.entries sight sections.new.entries files.new.entries) }
+    ensures ok { IfOk result (λ sight. ViewsItems image.old.left image.new.left number
+        sections.old.entries files.old.entries locations.old.entries sight sections.new.entries
+        files.new.entries locations.new.entries) }
 {
     let mut phase = Phase::Volume;
     let mut glance = blank_glance();
@@ -160,6 +182,7 @@ fn view_items<R: Read>(
         match image.next() {
             Ok(Some(item)) => {
                 note_met(files, head_in(&phase, item))?;
+                note_location(locations, sections, number, head_in(&phase, item))?;
                 let behind = take_behind(sections, &phase, item)?;
                 glance = look(&glance, &phase, item, &behind);
                 phase = behind;

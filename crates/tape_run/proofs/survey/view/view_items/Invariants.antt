@@ -14,8 +14,10 @@ invariant-items g l = record {
   bad : l.glance.bad ≤ l.glance.items;
   blocks : blocks_of l.phase ≤ l.glance.items;
   same_device : l.image.device ≡ l.fn.image.device;
-  looked : LookedSoFar l.fn.image.left l.image.left l.image.place l.fn.sections.entries
-      l.fn.files.entries l.phase l.glance l.sections.entries l.files.entries;
+  looked : LookedSoFar l.fn.image.left l.image.left l.image.place l.number
+      l.fn.sections.entries
+      l.fn.files.entries l.fn.locations.entries l.phase l.glance l.sections.entries
+      l.files.entries l.locations.entries;
 }
 
 abbrev pub decreases-items : goal.decreases-items

@@ -1,0 +1,32 @@
+use Rattle.std.proofs.Common.{◌∙◌}
+use Rattle.tape_run.specs.Given.{is_device}
+use Rattle.tape_run.proofs.Located.{part_front, held_front, not_finished}
+use Rattle.tape_run.proofs.extract.located.read_front.Goals as goal
+
+pub returns-then-ends_section-clause-ok : goal.returns-then-ends_section-clause-ok
+returns-then-ends_section-clause-ok g c =
+    let had = g.R.Read.remaining c.args.device in
+    let left = g.R.Read.remaining c.reel.new.device in
+    let answer = c.in_ok-answer.answer in
+    let core = c.args.session.now.core in
+    part_front g.S.PartSink g.R.Read.remaining had left (is_device answer.fault)
+    c.args.session.now c.reel.new.self _
+    (λ held was.
+    let (now, has, (front, keeps, reeled)) = c.in_ok-answer.ensures.ok held was in
+    (now, has, reeled))
+    (held_front had left core answer c.file_key-file.result
+    (not_finished core.position c.requires.waits)
+    (c.file_key-file.ensures.set_id ∙ c.reel.ensures.file.0)
+    (c.file_key-file.ensures.file ∙ c.reel.ensures.file.1) c.if-ends_section.ensures
+    c.in_ok-answer.ensures.answer)
+
+pub returns-clause-ok : goal.returns-clause-ok
+returns-clause-ok g c =
+    let had = g.R.Read.remaining c.args.device in
+    let left = g.R.Read.remaining c.reel.new.device in
+    part_front g.S.PartSink g.R.Read.remaining had left (is_device c.in_ok-answer.answer.fault)
+    c.args.session.now c.reel.new.self _
+    (λ held was.
+    let (now, has, (front, keeps, reeled)) = c.in_ok-answer.ensures.ok held was in
+    (now, has, reeled))
+    tt

@@ -1,0 +1,191 @@
+-- What `unpack` leaves of a file that is whole, where an image is read once for all of its files.
+use Rattle.std.specs.Prelude.{◌≡◌, ◌≢◌, ◌⊎◌, ℕ, ◌<◌, Bool, false, List, [], ◌∷◌, ◌++◌}
+use Rattle.std.specs.Prelude.{Option, Some, None, IsSome, ⊤}
+use Rattle.tape_blocks.specs.Block.{Portion}
+use Rattle.tape_blocks.specs.declared.parts.Form.{Form}
+use Rattle.tape_image.specs.Begins.{Stop, Begins, Walks}
+use Rattle.tape_image.specs.Reader.{IfKnown}
+use Rattle.tape_image.specs.Tape.{TapeItem}
+use Rattle.tape_set.specs.Layout.{FileSet}
+use Rattle.tape_set.specs.Lawful.{IsLawful}
+use Rattle.tape_set.specs.declared.position.Position.{Position}
+use Rattle.tape_set.specs.declared.position.Position.TheVariants.{Finished}
+use Rattle.tape_core.specs.Known.{is_finished}
+use Rattle.tape_core.specs.Place.{IsPlaced}
+use Rattle.tape_core.specs.State.{State}
+use Rattle.tape_core.specs.Table.{mount_of}
+use Rattle.tape_core.specs.declared.event.Phase.TheVariants.{Broken}
+use Rattle.tape_core.specs.declared.sink.PartSink.{Ghosts}
+use Rattle.tape_run.specs.ByTable.{IsLed}
+use Rattle.tape_run.specs.ExtractingNow.{IsPut}
+use Rattle.tape_run.specs.Given.{IsGiven}
+use Rattle.tape_run.specs.GoesBehind.{PassedOver}
+use Rattle.tape_run.specs.Lead.{Lead, over_reel}
+use Rattle.tape_run.specs.Mount.{Happening, IsMount, after_mount}
+use Rattle.tape_run.specs.Reeling.{Mounting}
+use Rattle.tape_run.specs.Seen.{Seen, IfSeen, IsSeen}
+use Rattle.tape_run.specs.Story.{Story}
+use Rattle.tape_run.specs.declared.extract.located.Mounted.{Mounted}
+use Rattle.tape_run.specs.declared.survey.files.FileKey.{FileKey}
+
+-- ---- an image that stays mounted
+
+-- The session of every later file of the set passes these items over.
+abbrev pub ArePassed : FileKey → List TapeItem → Type 0
+ArePassed key front = (core : State) → core.set_id ≡ key.set_id → key.file < core.file
+    → is_finished core.position ≡ false → core.phase ≢ Broken → PassedOver core front
+
+-- The bytes of an image begin with items that every later file's session passes over, and these are
+-- left.
+pub record PassesTo (key : FileKey) (bytes left : List ℕ) : Type 0 where
+  pub front : List TapeItem
+  pub at : ℕ
+  pub walks : Walks 0 bytes front at left
+  pub passed : ArePassed key front
+
+-- The image that is mounted, if one is, has these bytes, and later files' sessions read on where its
+-- reader is.
+abbrev pub IsHeld : {R : Type 0} → (R → Option (List ℕ)) → Option (Mounted R) → Option (List ℕ)
+    → Type 0
+IsHeld remaining None whole = ⊤
+IsHeld remaining (Some m) whole = IfKnown whole (remaining m.device) (PassesTo m.file)
+
+-- ---- what a session reads
+
+-- What a session read of an image: the bytes that the image has, the items before those that it
+-- read, the bytes that the reader had after these and has left, and whether it failed.
+pub record Stretch : Type 0 where
+  pub whole : Option (List ℕ)
+  pub front : List TapeItem
+  pub had : Option (List ℕ)
+  pub left : Option (List ℕ)
+  pub failed : Bool
+
+-- The image begins with the items before, and the reader had what follows them.
+abbrev pub IsPartOf : Stretch → Type 0
+IsPartOf s = IfKnown s.whole s.had (λ bytes rest. (at : ℕ) × Walks 0 bytes s.front at rest)
+
+-- The session went where the table leads over the whole image: over the items before, and those of
+-- the bytes that the reader gave, all that it had or, where it failed, what it has not left.
+pub record ReadsOn (s : Stretch) (old new : Seen) : Type 0 where
+  pub given : List ℕ
+  pub is_given : IfKnown s.whole s.had (λ bytes had. IsGiven s.failed had s.left given)
+  pub same_file : IsSome s.whole → new.place.file ≡ old.place.file
+  pub table : IsSome s.whole → (xs : List TapeItem) (end : ℕ) (stop : Stop)
+      → Begins 0 given xs end stop
+      → IsLed (s.front ++ xs) (mount_of old.place) new.place old.parts new.parts
+
+-- The bytes were given, of each stretch those that its reader gave.
+abbrev pub AreGivenOf : List Stretch → List (List ℕ) → Type 0
+AreGivenOf [] [] = ⊤
+AreGivenOf (s ∷ ss) (g ∷ given) =
+    IfKnown s.whole s.had (λ bytes had. IsGiven s.failed had s.left g) × AreGivenOf ss given
+AreGivenOf ss given = ⊥
+
+-- The items of each image: those before, and those that the bytes given begin with. Each reader told
+-- its bytes.
+abbrev pub AreTapesOf : List Stretch → List (List ℕ) → List (List TapeItem) → Type 0
+AreTapesOf [] [] [] = ⊤
+AreTapesOf (s ∷ ss) (g ∷ given) (xs ∷ tapes) = IsSome s.whole
+    × ((more : List TapeItem) × (end : ℕ) × (stop : Stop) × Begins 0 g more end stop
+    × (xs ≡ s.front ++ more))
+    × AreTapesOf ss given tapes
+AreTapesOf ss given tapes = ⊥
+
+-- The tapes are these mounts: copies of the set's volumes, or reels of others.
+abbrev pub AreMountsOf : FileSet → List (List TapeItem) → List Happening → Type 0
+AreMountsOf set [] [] = ⊤
+AreMountsOf set (xs ∷ tapes) (h ∷ hs) = IsMount set xs h × AreMountsOf set tapes hs
+AreMountsOf set tapes hs = ⊥
+
+-- the position that mounts, one after another, make of p
+abbrev pub reached : FileSet → ℕ → Position → List Happening → Position
+reached set file p [] = p
+reached set file p (h ∷ hs) = reached set file (after_mount set file p h) hs
+
+-- The session is at the position that the mounts lead to, with exactly the parts before it.
+pub record Arrives (set : FileSet) (old : Seen) (hs : List Happening) (new : Seen) : Type 0 where
+  pub at : IsPlaced set new.place new.parts
+  pub same_file : new.place.file ≡ old.place.file
+  pub position : new.place.position ≡ reached set old.place.file old.place.position hs
+
+-- where the reader's table leads over tapes, one after another
+abbrev pub over_tapes : Lead → List (List TapeItem) → Lead
+over_tapes t [] = t
+over_tapes t (xs ∷ tapes) = over_tapes (over_reel t xs) tapes
+
+-- The session is there, and its sink holds the parts that were delivered up to there.
+pub record IsThere (t : Lead) (s : Seen) : Type 0 where
+  pub place : s.place ≡ t.place
+  pub parts : s.parts ≡ t.parts
+
+-- Of every lawful set and all mounts that the images are, the session is where these lead; and
+-- whatever the images are, it is where the table leads.
+pub record GathersOf (stretches : List Stretch) (old new : Seen) : Type 0 where
+  pub given : List (List ℕ)
+  pub are_given : AreGivenOf stretches given
+  pub arrives : (set : FileSet) (tapes : List (List TapeItem)) (hs : List Happening)
+      → IsLawful set → AreTapesOf stretches given tapes → AreMountsOf set tapes hs
+      → IsPlaced set old.place old.parts → Arrives set old hs new
+  pub led : (t : Lead) (tapes : List (List TapeItem)) → AreTapesOf stretches given tapes
+      → IsThere t old → IsThere (over_tapes t tapes) new
+
+-- ---- which images
+
+-- Each stretch is of the image that is mounted, which has these bytes, or of one that the shelf gave,
+-- and this is mounted then. The shelf may have given one more.
+abbrev pub AreFrom : {L R : Type 0} → Mounting L R → (R → Option (List ℕ)) → Option (List ℕ) → L
+    → List Stretch → L → Type 0
+AreFrom gives remaining whole shelf [] last = (last ≡ shelf)
+    ⊎ ((number : ℕ) × (image : Option _) × gives shelf number image last)
+AreFrom gives remaining whole shelf (s ∷ ss) last = IsPartOf s
+    × (((s.whole ≡ whole) × AreFrom gives remaining s.whole shelf ss last)
+    ⊎ ((number : ℕ) × (device : _) × (next : _) × gives shelf number (Some device) next
+    × (s.whole ≡ remaining device) × AreFrom gives remaining s.whole next ss last))
+
+-- the bytes of the image that is mounted after these stretches
+abbrev pub held_behind : Option (List ℕ) → List Stretch → Option (List ℕ)
+held_behind whole [] = whole
+held_behind whole (s ∷ ss) = held_behind s.whole ss
+
+-- ---- calls
+
+-- A stretch of the image with these bytes was read; if a section ended well the image stays mounted.
+pub record ReadsPart {S R : Type 0} (g : Ghosts S) (remaining : R → Option (List ℕ))
+    (whole : Option (List ℕ)) (old new : Story S) (after : Option (Mounted R)) : Type 0 where
+  pub stretch : Stretch
+  pub of_image : stretch.whole ≡ whole
+  pub is_part : IsPartOf stretch
+  pub reads : IfSeen g old (λ was. IsSeen g new (λ is. ReadsOn stretch was is))
+  pub held : IsHeld remaining after whole
+
+-- A stretch was read of the image that was mounted or of one that the shelf gave; or this is not
+-- there, and nothing changed.
+abbrev pub ReadsLocated : {S L R : Type 0} → Ghosts S → Mounting L R → (R → Option (List ℕ))
+    → Story S → Story S → L → L → Option (List ℕ) → Option (Mounted R) → Type 0
+ReadsLocated g gives remaining old new shelf left whole after =
+    ((left ≡ shelf) × ReadsPart g remaining whole old new after)
+    ⊎ (((number : ℕ) × (device : _) × gives shelf number (Some device) left
+    × ReadsPart g remaining (remaining device) old new after)
+    ⊎ ((number : ℕ) × gives shelf number None left × (new ≡ old) × (after ≡ None)))
+
+-- Stretches of images were read, one after another, and this image is mounted then.
+pub record ReadsSections {S L R : Type 0} (g : Ghosts S) (gives : Mounting L R)
+    (remaining : R → Option (List ℕ)) (old new : Story S) (shelf left : L)
+    (whole : Option (List ℕ)) (after : Option (Mounted R)) : Type 0 where
+  pub stretches : List Stretch
+  pub are_from : AreFrom gives remaining whole shelf stretches left
+  pub held : IsHeld remaining after (held_behind whole stretches)
+  pub gathers : IfSeen g old (λ was. IsSeen g new (λ is. GathersOf stretches was is))
+
+-- So a file was read. Where it is complete its records, and nothing else, stand under the output's
+-- name.
+pub record ExtractsLocated {S L R : Type 0} (g : Ghosts S) (gives : Mounting L R)
+    (remaining : R → Option (List ℕ)) (session : Story S) (shelf left : L)
+    (whole : Option (List ℕ)) (after : Option (Mounted R)) (form : Form) (tells : Type 0)
+    (stands : Option (List ℕ)) (records : Option ℕ) : Type 0 where
+  pub last : Story S
+  pub reads : ReadsSections g gives remaining session last shelf left whole after
+  pub complete : (n : ℕ) → records ≡ Some n → (last.core.position ≡ Finished)
+      × ((parts : List Portion) → g.holds last.sink parts
+      → IsPut None tells n form stands parts)

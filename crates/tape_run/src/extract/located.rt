@@ -1,0 +1,204 @@
+//! `unpack` of files that are whole: each image is read once for all of its files.
+
+ghost use Rattle.std.specs.Prelude.{◌≡◌, ◌≢◌, ◌<◌, List, Option, Some, None, ℕ, true, OnOk, IfOk};
+ghost use Rattle.std.specs.Prelude.{OnErr, IfErr};
+ghost use Rattle.std.specs.Bool.{OnTrue};
+ghost use Rattle.tape_set.specs.declared.position.Position.TheVariants.{Finished};
+ghost use Rattle.tape_run.specs.Causes.{IsExtractFault};
+ghost use Rattle.tape_run.specs.ExtractingLocated.{IsHeld, ReadsPart, ReadsLocated};
+ghost use Rattle.tape_run.specs.ExtractingLocated.{ReadsSections, ExtractsLocated};
+ghost use Rattle.tape_run.specs.GoesBehind.{EndsSection};
+ghost use Rattle.tape_run.specs.OutSinks.{TellsAlways};
+ghost use Rattle.tape_run.specs.declared.fault.EngineFault.TheVariants as engine;
+
+use crate::extract::images::Shelf;
+use crate::extract::now::Place;
+use crate::extract::out_sink::OutSink;
+use crate::fault::{EngineFault, NO_MEMORY, RunFault};
+use crate::intake::ReelAnswer;
+use crate::section::SectionKey;
+use crate::session::Session;
+use crate::survey::files::FileKey;
+use crate::survey::locations::Locations;
+use std::io::{Read, Write};
+use tape_blocks::Form;
+use tape_core::{Answer, PartSink};
+
+/// An image that stays mounted from file to file. It was read up to and including the first trailer
+/// label of a section.
+#[derive(Drop)]
+pub struct Mounted<R> {
+    /// The image's number.
+    number: usize,
+    /// The file of the section.
+    file: FileKey,
+    device: R,
+}
+
+/// Reads a file from the images on which its sections begin, each section from one image, and
+/// writes the file's records as they come. If the file is complete its output is placed under its
+/// name; returns how many records it has. Returns `None` if a section has no image in `locations`,
+/// or could not be read to its end from its image. Then the output's name is not touched, and what
+/// was written is dropped with the session.
+///
+/// The image of the last section stays mounted. The session of a later file of the set reads on
+/// there, as if it had read the image from its front. So each byte of an image is read once for all
+/// files that are on it one after another.
+///
+/// # Errors
+///
+/// `Run` with the fault of a reel, with `OutOfMemory` if there was no memory to mount an image, or
+/// with `Sink(Failed)` if a record is begun and not ended; `WriteFailed` if the output could not be
+/// placed. What is under the output's name did not change.
+pub fn extract_located<W: Write + Drop, R: Read + Drop, L: Shelf<R>, O: Place<W>>(
+    session: Session<OutSink<W>>,
+    images: &mut L,
+    mounted: &mut Option<Mounted<R>>,
+    locations: &Locations,
+    form: Form,
+    out: &mut O,
+) -> Result<Option<u64>, EngineFault>
+    // Whatever image is mounted, it is one of these bytes.
+    ensures ok { IfOk result (λ records. (whole : Option (List ℕ))
+        → IsHeld R.remaining mounted.old whole
+        → ExtractsLocated ⟦<OutSink<W> as PartSink>⟧ L.gives R.remaining session images.old
+        images.new whole mounted.new form (TellsAlways W.contents) (O.stands out.new) records) }
+    ensures untouched { IfOk result (λ records. records ≡ None → out.new ≡ out.old) }
+    ensures err { OnErr result (O.stands out.new ≡ O.stands out.old) }
+    ensures cause { IfErr result IsExtractFault }
+{
+    let mut session = session;
+    let complete = read_sections(&mut session, images, mounted, locations)?;
+    if complete {
+        let (written, records) = session.into_sink().finish(form)?;
+        out.place(written)?;
+        return Ok(Some(records));
+    }
+    Ok(None)
+}
+
+/// Reads the sections of the session's file, each from the image on which it begins. Returns whether
+/// the file is complete.
+fn read_sections<S: PartSink, R: Read + Drop, L: Shelf<R>>(
+    session: &mut Session<S>,
+    images: &mut L,
+    mounted: &mut Option<Mounted<R>>,
+    locations: &Locations,
+) -> Result<bool, EngineFault>
+    ensures ok { OnOk result ((whole : Option (List ℕ)) → IsHeld R.remaining mounted.old whole
+        → ReadsSections S.PartSink L.gives R.remaining session.old session.new images.old images.new
+        whole mounted.new) }
+    ensures complete { IfOk result (λ complete. complete ≡ true
+        → session.new.core.position ≡ Finished) }
+    ensures cause { IfErr result IsExtractFault }
+{
+    let mut last = 0u16;
+    'sections: while let Some(want) = session.want() {
+        if want.sect <= last {
+            return Ok(false);
+        }
+        last = want.sect;
+        let FileKey { set_id, file } = session.file_key();
+        let sect = want.sect;
+        let Some(&number) = locations.get(&SectionKey { set_id, file, sect }) else {
+            return Ok(false);
+        };
+        let held = mounted.take();
+        *mounted = read_section(session, images, held, number)?;
+        if mounted.is_none() {
+            return Ok(false);
+        }
+    }
+    Ok(true)
+}
+
+/// Reads a section from an image: on from where this is, if it is the one that is mounted and it was
+/// left by an earlier file of the set, or from its front. Returns the image, if a section ended.
+fn read_section<S: PartSink, R: Read + Drop, L: Shelf<R>>(
+    session: &mut Session<S>,
+    images: &mut L,
+    held: Option<Mounted<R>>,
+    number: usize,
+) -> Result<Option<Mounted<R>>, EngineFault>
+    requires waits { session.old.core.position ≢ Finished }
+    ensures ok { IfOk result (λ after. (whole : Option (List ℕ)) → IsHeld R.remaining held whole
+        → ReadsLocated S.PartSink L.gives R.remaining session.old session.new images.old images.new
+        whole after) }
+    ensures cause { IfErr result IsExtractFault }
+{
+    let key = session.file_key();
+    match held {
+        Some(held) => {
+            if held.number == number
+                && held.file.set_id == key.set_id
+                && held.file.file < key.file
+            {
+                return Ok(read_on(session, held)?);
+            }
+        }
+        None => {}
+    }
+    match images.mount(number) {
+        Ok(Some(device)) => Ok(read_front(session, device, number)?),
+        Ok(None) => Ok(None),
+        Err(_) => Err(NO_MEMORY),
+    }
+}
+
+/// Reads an image from its front.
+fn read_front<S: PartSink, R: Read + Drop>(
+    session: &mut Session<S>,
+    device: R,
+    number: usize,
+) -> Result<Option<Mounted<R>>, RunFault>
+    requires waits { session.old.core.position ≢ Finished }
+    ensures ok { IfOk result (ReadsPart S.PartSink R.remaining (R.remaining device)
+        session.old session.new) }
+    ensures cause { IfErr result (λ fault. IsExtractFault (engine.Run fault)) }
+{
+    let mut device = device;
+    let answer = session.reel(&mut device)?;
+    if ends_section(&answer) {
+        let file = session.file_key();
+        return Ok(Some(Mounted {
+            number,
+            file,
+            device,
+        }));
+    }
+    Ok(None)
+}
+
+/// Reads an image on from where the session of an earlier file left it.
+fn read_on<S: PartSink, R: Read + Drop>(
+    session: &mut Session<S>,
+    held: Mounted<R>,
+) -> Result<Option<Mounted<R>>, RunFault>
+    requires waits { session.old.core.position ≢ Finished }
+    requires same_set { held.file.set_id ≡ session.old.core.set_id }
+    requires later { held.file.file < session.old.core.file }
+    ensures ok { IfOk result (λ after. (whole : Option (List ℕ))
+        → IsHeld R.remaining (Some held) whole
+        → ReadsPart S.PartSink R.remaining whole session.old session.new after) }
+    ensures cause { IfErr result (λ fault. IsExtractFault (engine.Run fault)) }
+{
+    let number = held.number;
+    let mut device = held.device;
+    let answer = session.reel_behind(&mut device)?;
+    if ends_section(&answer) {
+        let file = session.file_key();
+        return Ok(Some(Mounted {
+            number,
+            file,
+            device,
+        }));
+    }
+    Ok(None)
+}
+
+/// Whether a reading ended a section well.
+fn ends_section(answer: &ReelAnswer) -> bool
+    ensures { OnTrue result (EndsSection answer.now.answer) }
+{
+    matches!(answer.answer, Answer::SectionDone | Answer::Complete)
+}
