@@ -94,3 +94,17 @@ mod MistakesOfRuns
 mod MistakesOfStops
 mod MistakesOfSaves
 mod MistakesOfCauses
+mod MergeReadings
+mod MergePlaces
+mod MergeAsking
+mod MergeRounds
+mod MergeRefusals
+mod MergeLoops
+mod MergeJoins
+mod MergeBest
+mod MergeGiven
+mod MergeBytes
+mod MergeOpening
+mod MergedBetter
+mod MergedCopies
+mod MergedFar

@@ -76,6 +76,15 @@ pub mod ExtractingAgain
 pub mod ExtractingLocated
 pub mod ExtractingNow
 pub mod ExtractExamples
+-- Readings of one tape, merged: to be believed, in this order.
+pub mod Merging
+pub mod MergeSteps
+pub mod MergeCalls
+pub mod MergedImages
+pub mod MergeLines
+-- Laws of those.
+pub mod MergeLaws
+pub mod MergedCopies
 -- Cases, which hold the definitions from below.
 pub mod Cases
 pub mod CasesOfRuns

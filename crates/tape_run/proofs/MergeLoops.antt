@@ -1,0 +1,371 @@
+-- What merging has done after some items, and what it does from there.
+use Rattle.std.proofs.Common.{◌≡◌, ◌≢◌, ℕ, ◌+◌, ◌≤◌, List, [], ◌∷◌, ◌++◌, length}
+use Rattle.std.proofs.Common.{Option, Some, None, Bool, true, false, refl, sym, ap, subst, ◌∙◌, arith, inl}
+use Rattle.std.proofs.Common.{length-append, append-nil}
+use Rattle.std.specs.Prelude.{is_some}
+use Rattle.tape_image.specs.Tape.{TapeItem, block, bad, mark}
+use Rattle.tape_image.specs.Begins.{image_limit}
+use Rattle.tape_image.specs.Reader.{Reader}
+use Rattle.tape_image.specs.Written.{written}
+use Rattle.tape_image.specs.Writer.{Writer, writing, PutItem, PutItems}
+use Rattle.tape_image.proofs.WrittenItems.{put_item}
+use Rattle.tape_run.specs.Merging.{IsReadFrom, AreReadFrom, IsMerged}
+use Rattle.tape_run.specs.MergeSteps.{best_items, AskedAll, HaveRead}
+use Rattle.std.proofs.Common.{Result, Err}
+use Rattle.std.specs.Prelude.{IfErr}
+use Rattle.tape_image.specs.declared.item.ImageWriteFault.{ImageWriteFault}
+use Rattle.tape_run.specs.declared.merge.MergeFault.{MergeFault}
+use Rattle.tape_run.specs.declared.merge.MergeFault.TheVariants as faults
+use Rattle.std.specs.Prelude.{IfSome}
+use Rattle.tape_run.specs.declared.merge.Merged.{Merged}
+use Rattle.tape_run.specs.declared.passing.Phase.{Phase}
+use Rattle.tape_run.specs.declared.passing.Phase.TheVariants.{Volume}
+use Rattle.tape_run.specs.Passing.{Told, step, in_list, phase_after, told_from, blocks_of}
+use Rattle.tape_run.specs.MergeCalls.{Counts, bads, is_bad_one, one_if, miscounted_in}
+use Rattle.tape_run.specs.MergeCalls.{miscounted_of, has_wrong_count}
+use Rattle.tape_run.specs.declared.section.SectionState.{SectionState}
+use Rattle.tape_run.specs.declared.section.SectionState.TheVariants as states
+use Rattle.tape_run.proofs.NotedSoFar.{phase_after-append, told_from-append, one_block}
+use Rattle.tape_run.proofs.MergeRefusals.{best_fits}
+use Rattle.tape_run.specs.MergeCalls.{AsksAll, Puts, Merges, DiffersAt, FitsFault, RefusesCandidate}
+use Rattle.tape_run.proofs.MergeAsking.{AtPlace, HaveCandidate, all_best, all_differ}
+
+-- ---- writing
+
+pub put_one_more : (items : List TapeItem) (a b c : Writer) (x : TapeItem) → PutItems items a b
+    → PutItem x b c → PutItems (items ++ x ∷ []) a c
+put_one_more [] a b c x same put = (c, subst (λ (w : Writer). PutItem x w c) same put, refl)
+put_one_more (y ∷ items) a b c x (mid, first, then) put =
+    (mid, first, put_one_more items mid b c x then put)
+
+written_some : (x : TapeItem) → 4 ≤ length (written x)
+written_some (block bytes) = omega arith
+written_some bad = omega arith
+written_some mark = omega arith
+
+pub put_moves : (x : TapeItem) (a b : Writer) → PutItem x a b
+    → (a.size + 4 ≤ b.size) × (b.size ≤ image_limit) × (b.standing ≡ writing)
+put_moves x a b put =
+    let all = (put_item x a b put).1 in
+    (omega (arith, all.size, written_some x), all.within, all.stands)
+
+pub was_put : (best : Option TapeItem) (a b : Writer) → Puts best true a b
+    → (x : TapeItem) × (best ≡ Some x) × PutItem x a b
+was_put None a b h = absurd (cc h.0)
+was_put (Some x) a b h = (x, refl, h.1)
+
+pub was_none : (best : Option TapeItem) (a b : Writer) → Puts best false a b
+    → (best ≡ None) × (b ≡ a)
+was_none None a b h = (refl, h.1)
+was_none (Some x) a b h = absurd (cc h.0)
+
+-- ---- counting
+
+bads-append : (xs ys : List TapeItem) → bads (xs ++ ys) ≡ bads xs + bads ys
+bads-append [] ys = omega arith
+bads-append (x ∷ xs) ys =
+    let ih : bads (xs ++ ys) ≡ bads xs + bads ys = bads-append xs ys in
+    omega arith
+
+miscounted-append : (ts us : List Told)
+    → miscounted_in (ts ++ us) ≡ miscounted_in ts + miscounted_in us
+miscounted-append [] us = omega arith
+miscounted-append (t ∷ ts) us =
+    let ih : miscounted_in (ts ++ us) ≡ miscounted_in ts + miscounted_in us =
+    miscounted-append ts us in
+    omega arith
+
+pub one_at_most : (b : Bool) → one_if b ≤ 1
+one_at_most true = omega arith
+one_at_most false = omega arith
+
+wrong_one : (s : SectionState) → has_wrong_count s ≤ 1
+wrong_one states.Good = omega arith
+wrong_one states.Bad = omega arith
+wrong_one states.Count = omega arith
+wrong_one states.Cut = omega arith
+
+pub wrong_at_most : (t : Option Told) → miscounted_of t ≤ 1
+wrong_at_most None = omega arith
+wrong_at_most (Some t) = wrong_one t.1.state
+
+miscounted_one : (t : Option Told) → miscounted_in (in_list t ++ []) ≡ miscounted_of t
+miscounted_one None = refl
+miscounted_one (Some t) = omega arith
+
+-- what counting one more item changes
+pub record CountsOne (a b : Merged) (p q : Phase) (x : TapeItem) : Type 0 where
+  pub items : b.items ≡ a.items + 1
+  pub bad : b.bad ≡ a.bad + one_if (is_bad_one (Some x))
+  pub miscounted : b.miscounted ≡ a.miscounted + miscounted_of (step p x).1
+  pub phase : q ≡ (step p x).0
+
+counts_more : (merged : List TapeItem) (x : TapeItem) (a b : Merged) (p q : Phase)
+    → Counts merged a → p ≡ phase_after Volume merged → CountsOne a b p q x
+    → Counts (merged ++ x ∷ []) b
+counts_more merged x a b p q counts at one =
+    let more : miscounted_in (told_from Volume (merged ++ x ∷ []))
+    ≡ miscounted_in (told_from Volume merged) + miscounted_of (step p x).1 =
+    ap miscounted_in (told_from-append Volume merged (x ∷ []))
+    ∙ miscounted-append (told_from Volume merged) (told_from (phase_after Volume merged) (x ∷ []))
+    ∙ ap (λ (s : Phase). miscounted_in (told_from Volume merged) + miscounted_in (told_from s (x ∷ [])))
+    (sym at)
+    ∙ ap (λ k. miscounted_in (told_from Volume merged) + k) (miscounted_one (step p x).1) in
+    record {
+      items = omega (arith, length-append merged (x ∷ []), counts.items, one.items);
+      bad = omega (arith, bads-append merged (x ∷ []), counts.bad, one.bad);
+      miscounted = omega (arith, more, counts.miscounted, one.miscounted);
+    }
+
+phase_more : (merged : List TapeItem) (x : TapeItem) (a b : Merged) (p q : Phase)
+    → p ≡ phase_after Volume merged → CountsOne a b p q x
+    → q ≡ phase_after Volume (merged ++ x ∷ [])
+phase_more merged x a b p q at one =
+    one.phase ∙ ap (λ (s : Phase). (step s x).0) at
+    ∙ sym (phase_after-append Volume merged (x ∷ []))
+
+-- ---- the loop
+
+-- items were merged, written and counted
+pub record SoFar (firsts nows : List Reader) (m : Merged) (phase : Phase) (old new : Writer)
+    : Type 0 where
+  pub readings : List (List TapeItem)
+  pub have : HaveRead firsts nows readings
+  pub merged : List TapeItem
+  pub at : AtPlace nows readings (length merged)
+  pub is : IsMerged readings merged
+  pub count : Counts merged m
+  pub phase_is : phase ≡ phase_after Volume merged
+  pub wrote : PutItems merged old new
+
+-- nothing was read yet
+nothing : List Reader → List (List TapeItem)
+nothing [] = []
+nothing (r ∷ rs) = [] ∷ nothing rs
+
+nothing_read : (rs : List Reader) → HaveRead rs rs (nothing rs)
+unfolding nothing
+nothing_read [] = tt
+nothing_read (r ∷ rs) =
+    (record { behind = r; gave = refl; stands = inl refl }, nothing_read rs)
+
+nothing_at : (rs : List Reader) → AtPlace rs (nothing rs) 0
+unfolding nothing
+nothing_at [] = tt
+nothing_at (r ∷ rs) = (λ _. refl, nothing_at rs)
+
+nothing_best : (rs : List Reader) → AreReadFrom (nothing rs) []
+unfolding nothing
+nothing_best [] = tt
+nothing_best (r ∷ rs) = (tt, nothing_best rs)
+
+pub starts : (rs : List Reader) (w : Writer)
+    → SoFar rs rs (record { items = 0; bad = 0; alone = 0; miscounted = 0 }) Volume w w
+starts rs w = record {
+  readings = nothing rs;
+  have = nothing_read rs;
+  merged = [];
+  at = nothing_at rs;
+  is = record { all = nothing_best rs; least = λ tape h. tt };
+  count = record { items = refl; bad = refl; miscounted = refl };
+  phase_is = refl;
+  wrote = refl;
+}
+
+-- a round was made, and all agreed
+pub round : (firsts olds nows : List Reader) (a : Merged) (p : Phase) (old new : Writer)
+    (now : Option TapeItem) → (s : SoFar firsts olds a p old new) → AskedAll olds nows None now true
+    → HaveCandidate firsts nows s.merged None now (λ _. Unit {0})
+round firsts olds nows a p old new now s asked =
+    let empty : s.merged ≡ s.merged ++ [] = sym (append-nil s.merged) in
+    all_best firsts olds nows s.readings s.merged None now true (λ _. Unit {0}) s.have s.at
+    (subst (λ (l : List TapeItem). AreReadFrom s.readings l) empty s.is.all)
+    (λ tape k reads. subst (λ (l : List TapeItem). IsReadFrom l tape) empty
+    (s.is.least tape reads)) asked refl
+
+-- there was an item, and it was written
+pub goes_on : (firsts olds nows : List Reader) (a b : Merged) (p q : Phase) (old mid new : Writer)
+    (now : Option TapeItem) (x : TapeItem) → SoFar firsts olds a p old mid
+    → AskedAll olds nows None now true → now ≡ Some x → PutItem x mid new → CountsOne a b p q x
+    → SoFar firsts nows b q old new
+goes_on firsts olds nows a b p q old mid new now x s asked is put one =
+    let h = round firsts olds nows a p old mid now s asked in
+    let shown : s.merged ++ best_items now ≡ s.merged ++ x ∷ [] =
+    ap (λ (t : Option TapeItem). s.merged ++ best_items t) is in
+    let long : length (s.merged ++ x ∷ []) ≡ length s.merged + 1 = length-append s.merged (x ∷ []) in
+    record {
+      readings = h.readings;
+      have = h.have;
+      merged = s.merged ++ x ∷ [];
+      at = subst (λ (k : ℕ). AtPlace nows h.readings k) (sym long) h.at;
+      is = record {
+        all = subst (λ (l : List TapeItem). AreReadFrom h.readings l) shown h.all;
+        least = λ tape reads. subst (λ (l : List TapeItem). IsReadFrom l tape) shown
+            (h.least tape tt reads);
+      };
+      count = counts_more s.merged x a b p q s.count s.phase_is one;
+      phase_is = phase_more s.merged x a b p q s.phase_is one;
+      wrote = put_one_more s.merged old mid new x s.wrote put;
+    }
+
+-- there was none: all have stopped
+pub ends : (firsts olds nows : List Reader) (a : Merged) (p : Phase) (old mid new : Writer)
+    (now : Option TapeItem) → SoFar firsts olds a p old mid → AskedAll olds nows None now true
+    → now ≡ None → new ≡ mid → Merges firsts nows a old new
+ends firsts olds nows a p old mid new now s asked is same =
+    let h = round firsts olds nows a p old mid now s asked in
+    let shown : s.merged ++ best_items now ≡ s.merged =
+    ap (λ (t : Option TapeItem). s.merged ++ best_items t) is ∙ append-nil s.merged in
+    record {
+      readings = h.readings;
+      have = h.have;
+      ended = h.none is;
+      merged = s.merged;
+      is = record {
+        all = subst (λ (l : List TapeItem). AreReadFrom h.readings l) shown h.all;
+        least = λ tape reads. subst (λ (l : List TapeItem). IsReadFrom l tape) shown
+            (h.least tape tt reads);
+      };
+      count = s.count;
+      wrote = subst (λ (w : Writer). PutItems s.merged old w) (sym same) s.wrote;
+    }
+
+-- one did not agree
+pub differs : (firsts olds nows : List Reader) (a : Merged) (p : Phase) (old new : Writer)
+    (now : Option TapeItem) → SoFar firsts olds a p old new → AskedAll olds nows None now false
+    → DiffersAt firsts nows (a.items + 1) old new
+differs firsts olds nows a p old new now s asked =
+    let empty : s.merged ≡ s.merged ++ [] = sym (append-nil s.merged) in
+    let h = all_differ firsts olds nows s.readings s.merged None now false (λ _. Unit {0}) s.have s.at
+    (subst (λ (l : List TapeItem). AreReadFrom s.readings l) empty s.is.all)
+    (λ tape k reads. subst (λ (l : List TapeItem). IsReadFrom l tape) empty
+    (s.is.least tape reads)) asked refl in
+    record {
+      readings = h.readings;
+      have = h.have;
+      differ = λ tape reads. h.differ tape tt reads;
+      mids = olds;
+      fronts = s.readings;
+      had = s.have;
+      merged = s.merged;
+      is = s.is;
+      count = ap (λ k. k + 1) s.count.items;
+      wrote = s.wrote;
+    }
+
+-- ---- as the code finds it
+
+agree : (olds nows : List Reader) (now other : Option TapeItem) → AsksAll olds nows now other
+    → other ≡ None → AskedAll olds nows None now true
+agree olds nows now other (true, asked, alike, apart) none = asked
+agree olds nows now other (false, asked, alike, apart) none = absurd (apart refl none)
+
+disagree : (olds nows : List Reader) (now other : Option TapeItem) → AsksAll olds nows now other
+    → other ≢ None → AskedAll olds nows None now false
+disagree olds nows now other (true, asked, alike, apart) some = absurd (some (alike refl))
+disagree olds nows now other (false, asked, alike, apart) some = asked
+
+not_none : (t : Option TapeItem) → is_some t ≡ true → t ≢ None
+not_none None is = absurd (cc is)
+not_none (Some x) is = λ e. cc e
+
+is_none : (t : Option TapeItem) → is_some t ≡ false → t ≡ None
+is_none None is = refl
+is_none (Some x) is = absurd (cc is)
+
+-- readings differed
+pub stops_at : (firsts olds nows : List Reader) (a : Merged) (p : Phase) (old new : Writer)
+    (now other : Option TapeItem) → SoFar firsts olds a p old new → AsksAll olds nows now other
+    → is_some other ≡ true → DiffersAt firsts nows (a.items + 1) old new
+stops_at firsts olds nows a p old new now other s h is =
+    differs firsts olds nows a p old new now s
+    (disagree olds nows now other h (not_none other is))
+
+-- nothing was written
+pub comes_to_end : (firsts olds nows : List Reader) (a : Merged) (p : Phase) (old mid new : Writer)
+    (now other : Option TapeItem) (some : Bool) → SoFar firsts olds a p old mid
+    → AsksAll olds nows now other → is_some other ≡ false → Puts now some mid new
+    → some ≡ false → Merges firsts nows a old new
+comes_to_end firsts olds nows a p old mid new now other some s h none puts is =
+    let (nothing, same) =
+    was_none now mid new (subst (λ (b : Bool). Puts now b mid new) is puts) in
+    ends firsts olds nows a p old mid new now s (agree olds nows now other h (is_none other none))
+    nothing same
+
+-- one item more was written and counted
+pub record OneMore (firsts nows : List Reader) (b : Merged) (p q : Phase) (old mid new : Writer)
+    : Type 0 where
+  pub so_far : SoFar firsts nows b q old new
+  pub moves : mid.size + 4 ≤ new.size
+  pub within : new.size ≤ image_limit
+  pub stands : new.standing ≡ writing
+  pub blocks : blocks_of q ≤ blocks_of p + 1
+
+-- so was the candidate
+pub counted : (a b : Merged) (p : Phase) (next : Phase × Option Told) (now : Option TapeItem)
+    (x : TapeItem) (is_bad : Bool) → now ≡ Some x → IfSome now (λ x. next ≡ step p x)
+    → is_bad ≡ is_bad_one now → b.items ≡ a.items + 1 → b.bad ≡ a.bad + one_if is_bad
+    → b.miscounted ≡ a.miscounted + miscounted_of next.1 → CountsOne a b p next.0 x
+counted a b p next now x is_bad is stepped kind items more_bad miscounted =
+    let here : next ≡ step p x = subst (λ (t : Option TapeItem). IfSome t (λ x. next ≡ step p x)) is stepped in
+    record {
+      items = items;
+      bad = more_bad ∙ ap (λ (b : Bool). a.bad + one_if b) (kind ∙ ap is_bad_one is);
+      miscounted = miscounted
+          ∙ ap (λ (s : Phase × Option Told). a.miscounted + miscounted_of s.1) here;
+      phase = ap (λ (s : Phase × Option Told). s.0) here;
+    }
+
+pub one_more : (firsts olds nows : List Reader) (a b : Merged) (p : Phase)
+    (next : Phase × Option Told) (old mid new : Writer) (now other : Option TapeItem)
+    (some is_bad : Bool) → SoFar firsts olds a p old mid
+    → AsksAll olds nows now other → is_some other ≡ false → Puts now some mid new
+    → some ≡ true → IfSome now (λ x. next ≡ step p x)
+    → is_bad ≡ is_bad_one now → b.items ≡ a.items + 1 → b.bad ≡ a.bad + one_if is_bad
+    → b.miscounted ≡ a.miscounted + miscounted_of next.1
+    → OneMore firsts nows b p next.0 old mid new
+one_more firsts olds nows a b p next old mid new now other some is_bad s h none puts is stepped kind
+    items more_bad miscounted =
+    let (x, best, put) =
+    was_put now mid new (subst (λ (b : Bool). Puts now b mid new) is puts) in
+    let moved = put_moves x mid new put in
+    let one = counted a b p next now x is_bad best stepped kind items more_bad miscounted in
+    record {
+      so_far = goes_on firsts olds nows a b p next.0 old mid new now x s
+          (agree olds nows now other h (is_none other none)) best put one;
+      moves = moved.0;
+      within = moved.1;
+      stands = moved.2;
+      blocks = subst (λ (q : Phase). blocks_of q ≤ blocks_of p + 1) (sym one.phase) (one_block p x);
+    }
+
+-- the item was refused
+pub refused_at : (firsts olds nows : List Reader) (a : Merged) (p : Phase) (old mid new : Writer)
+    (now other : Option TapeItem) (fault : ImageWriteFault) → SoFar firsts olds a p old mid
+    → AsksAll olds nows now other → mid.standing ≡ writing → RefusesCandidate now fault mid new
+    → FitsFault firsts nows old new (faults.Write fault)
+refused_at firsts olds nows a p old mid new None other fault s h on refused = absurd refused
+refused_at firsts olds nows a p old mid new (Some x) other fault s h on refused = (
+  mid,
+  record {
+    mids = olds;
+    fronts = s.readings;
+    had = s.have;
+    merged = s.merged;
+    is = s.is;
+    wrote = s.wrote;
+  },
+  on,
+  x,
+  best_fits olds nows None (Some x) h.0 tt h.1,
+  refused,
+)
+
+pub refused_now : {T : Type 0} (result : Result T MergeFault) (firsts olds nows : List Reader)
+    (a : Merged) (p : Phase) (old mid new : Writer) (now other : Option TapeItem)
+    (fault : ImageWriteFault) → result ≡ Err (faults.Write fault) → SoFar firsts olds a p old mid
+    → AsksAll olds nows now other → mid.standing ≡ writing → RefusesCandidate now fault mid new
+    → IfErr result (FitsFault firsts nows old new)
+refused_now {T} result firsts olds nows a p old mid new now other fault is s h on refused =
+    let P : Result T MergeFault → Type 0 = λ r. IfErr r (FitsFault firsts nows old new) in
+    subst P (sym is) (refused_at firsts olds nows a p old mid new now other fault s h on refused)

@@ -1,0 +1,56 @@
+-- Readers at the beginning of images, one for each device that an iterator yielded.
+use Rattle.std.proofs.Common.{◌≡◌, ℕ, List, [], ◌∷◌, ◌++◌, length, map, Option, refl, sym, ap, subst}
+use Rattle.std.proofs.Common.{◌∙◌, arith, append_assoc, append-nil}
+use Rattle.std.proofs.lemmas.List.{map-append}
+use Rattle.tape_image.specs.Reader.{Reader, going}
+use Rattle.tape_run.specs.MergeCalls.{AreAtFront}
+
+front_more : (bs : List (Option (List ℕ))) (rs : List Reader) (b : Option (List ℕ)) (r : Reader)
+    → AreAtFront bs rs → r.left ≡ b → r.status ≡ going → r.place ≡ 0
+    → AreAtFront (bs ++ b ∷ []) (rs ++ r ∷ [])
+front_more [] [] b r h left on first = (left, on, first, tt)
+front_more [] (q ∷ rs) b r h left on first = absurd h
+front_more (a ∷ bs) [] b r h left on first = absurd h
+front_more (a ∷ bs) (q ∷ rs) b r h left on first =
+    (h.0, h.1, h.2, front_more bs rs b r h.3 left on first)
+
+pub open_more : {X Y : Type 0} (bytes : X → Option (List ℕ)) (reader : Y → Reader) (xs : List X)
+    (ys : List Y) (x : X) (y : Y) (all : List Y)
+    → AreAtFront (map bytes xs) (map reader ys) → all ≡ ys ++ y ∷ []
+    → (reader y).left ≡ bytes x → (reader y).status ≡ going → (reader y).place ≡ 0
+    → AreAtFront (map bytes (xs ++ x ∷ [])) (map reader all)
+open_more {X} {Y} bytes reader xs ys x y all h is left on first =
+    let more = front_more (map bytes xs) (map reader ys) (bytes x) (reader y) h left on first in
+    let there : AreAtFront (map bytes (xs ++ x ∷ [])) (map reader ys ++ reader y ∷ []) =
+    subst (λ (l : List (Option (List ℕ))). AreAtFront l (map reader ys ++ reader y ∷ []))
+    (sym (map-append bytes xs (x ∷ []))) more in
+    subst (λ (l : List Reader). AreAtFront (map bytes (xs ++ x ∷ [])) l)
+    (sym (ap (map reader) is ∙ map-append reader ys (y ∷ []))) there
+
+pub split_more : {X D : Type 0} (value : X → D) (xs : List X) (x : X) (old rest devices : List D)
+    → map value xs ++ old ≡ devices → old ≡ value x ∷ rest
+    → map value (xs ++ x ∷ []) ++ rest ≡ devices
+split_more {X} {D} value xs x old rest devices e is =
+    ap (λ (l : List D). l ++ rest) (map-append value xs (x ∷ []))
+    ∙ append_assoc (map value xs) (value x ∷ []) rest
+    ∙ ap (λ (l : List D). map value xs ++ l) (sym is) ∙ e
+
+none_left : {D : Type 0} (l : List D) → length l ≡ 0 → l ≡ []
+none_left {D} [] e = refl
+none_left {D} (x ∷ l) e = absurd (omega arith)
+
+map_twice : {X D B : Type 0} (f : D → B) (value : X → D) (xs : List X)
+    → map (λ x. f (value x)) xs ≡ map f (map value xs)
+map_twice {X} {D} {B} f value [] = refl
+map_twice {X} {D} {B} f value (x ∷ xs) = ap (λ (l : List B). f (value x) ∷ l) (map_twice f value xs)
+
+pub all_open : {X D : Type 0} (bytes : D → Option (List ℕ)) (value : X → D) (xs : List X)
+    (rest devices : List D) (rs : List Reader)
+    → AreAtFront (map (λ x. bytes (value x)) xs) rs → map value xs ++ rest ≡ devices
+    → length rest ≡ 0 → AreAtFront (map bytes devices) rs
+all_open {X} {D} bytes value xs rest devices rs h e none =
+    let values : map value xs ≡ devices =
+    sym (append-nil (map value xs)) ∙ ap (λ (l : List D). map value xs ++ l)
+    (sym (none_left rest none)) ∙ e in
+    subst (λ (l : List (Option (List ℕ))). AreAtFront l rs)
+    (map_twice bytes value xs ∙ ap (map bytes) values) h

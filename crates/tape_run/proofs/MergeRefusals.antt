@@ -1,0 +1,81 @@
+-- Why a merged item is not written.
+use Rattle.std.proofs.Common.{◌≡◌, ◌≢◌, ◌<◌, ◌≤◌, ℕ, List, [], ◌∷◌, length, Option, Some, None, Bool}
+use Rattle.std.proofs.Common.{true, false, Err, sym, subst, arith}
+use Rattle.std.specs.Prelude.{MatchBool}
+use Rattle.std.proofs.lemmas.Bool.Decides.{nat_tests}
+use Rattle.tape_image.specs.declared.item.ImageWriteFault.{ImageWriteFault}
+use Rattle.tape_image.specs.declared.item.ImageWriteFault.TheVariants.{BlockLength, Finished}
+use Rattle.tape_image.specs.declared.item.ImageWriteFault.TheVariants.{TooLong, Device}
+use Rattle.tape_image.specs.Tape.{TapeItem, block, bad, mark, IsTapeItem}
+use Rattle.tape_image.specs.Reader.{Reader}
+use Rattle.tape_image.specs.Written.{written, is_no_block}
+use Rattle.tape_image.specs.Writer.{Writer, Standing, writing, Puts, PutsFrom, BlockFrom}
+use Rattle.tape_run.specs.MergeSteps.{agrees, joined, Takes, Asked, gives, stops, AskedAll}
+use Rattle.tape_run.specs.MergeCalls.{Refuses, RefusesCandidate}
+
+abbrev FitsCandidate : Option TapeItem → Type 0
+FitsCandidate None = Unit {0}
+FitsCandidate (Some x) = IsTapeItem x
+
+joined_fits : (best : Option TapeItem) (x : TapeItem) → FitsCandidate best → IsTapeItem x
+    → IsTapeItem (joined best x)
+joined_fits None x h k = k
+joined_fits (Some bad) x h k = k
+joined_fits (Some (block bytes)) x h k = h
+joined_fits (Some mark) x h k = h
+
+takes_fits : (best : Option TapeItem) (x : TapeItem) (b : Bool) (now : Option TapeItem)
+    → FitsCandidate best → IsTapeItem x → Takes best x b now → FitsCandidate now
+takes_fits best x true now h k (a, is) = subst FitsCandidate (sym is) (joined_fits best x h k)
+takes_fits best x false now h k (a, is) = subst FitsCandidate (sym is) h
+
+asked_fits : (o n : Reader) (best : Option TapeItem) (b : Bool) (now : Option TapeItem)
+    → FitsCandidate best → Asked o n best b now → FitsCandidate now
+asked_fits o n best b now h (gives x on given takes) = takes_fits best x b now h given.fits takes
+asked_fits o n best b now h (stops off agreed same) = subst FitsCandidate (sym same) h
+
+-- the best item is an item of a tape
+pub best_fits : (olds nows : List Reader) (best now : Option TapeItem) (all : Bool)
+    → FitsCandidate best → AskedAll olds nows best now all → FitsCandidate now
+best_fits [] [] best now all h (same, is) = subst FitsCandidate (sym same) h
+best_fits [] (n ∷ nows) best now all h asked = absurd asked
+best_fits (o ∷ olds) [] best now all h asked = absurd asked
+best_fits (o ∷ olds) (n ∷ nows) best now all h (mid, this, those, one, rest, is) =
+    best_fits olds nows mid now those (asked_fits o n best this mid h one) rest
+
+-- an open writer refuses it since the device fails, or since there is no room
+puts_fault : (bytes : List ℕ) (after : Standing) (old new : Writer) (fault : ImageWriteFault)
+    → Puts bytes after old (Err fault) new → (fault ≢ BlockLength) × (fault ≢ Finished)
+puts_fault bytes after old new TooLong h = (λ e. cc e, λ e. cc e)
+puts_fault bytes after old new Device h = (λ e. cc e, λ e. cc e)
+puts_fault bytes after old new BlockLength h = absurd h
+puts_fault bytes after old new Finished h = absurd h
+
+from_fault : (s after : Standing) (bytes : List ℕ) (old new : Writer) (fault : ImageWriteFault)
+    → s ≡ writing → PutsFrom s bytes after old (Err fault) new
+    → (fault ≢ BlockLength) × (fault ≢ Finished)
+from_fault s after bytes old new fault is h = puts_fault bytes after old new fault
+    (subst (λ (t : Standing). PutsFrom t bytes after old (Err fault) new) is h)
+
+block_fault : (b : Bool) (content : List ℕ) (old new : Writer) (fault : ImageWriteFault)
+    (P : Type 0) → b ≡ false
+    → MatchBool b P (Puts (written (block content)) writing old (Err fault) new)
+    → (fault ≢ BlockLength) × (fault ≢ Finished)
+block_fault true content old new fault P is h = absurd (cc is)
+block_fault false content old new fault P is h =
+    puts_fault (written (block content)) writing old new fault h
+
+is_block : (content : List ℕ) → 0 < length content → length content ≤ 99999
+    → is_no_block content ≡ false
+is_block content some few = grind (arith, nat_tests)
+
+pub refuses_fault : (x : TapeItem) (old new : Writer) (fault : ImageWriteFault) → IsTapeItem x
+    → old.standing ≡ writing → Refuses x fault old new
+    → (fault ≢ BlockLength) × (fault ≢ Finished)
+refuses_fault (block content) old new fault fits is h =
+    block_fault (is_no_block content) content old new fault _ (is_block content fits.0 fits.1)
+    (subst (λ (t : Standing). BlockFrom t content old (Err fault) new) is h)
+refuses_fault bad old new fault fits is h =
+    from_fault old.standing writing (written bad) old new fault is h
+refuses_fault mark old new fault fits is h =
+    from_fault old.standing writing (written mark) old new fault is h

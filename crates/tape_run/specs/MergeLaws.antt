@@ -1,0 +1,76 @@
+-- Laws of readings, and of the tape that they make together.
+use Rattle.std.specs.Prelude.{◌≡◌, ◌≢◌, ◌⊎◌, ◌<◌, ◌↔◌, ℕ, List, [], ◌∷◌, ◌++◌, length, max, slice_get}
+use Rattle.std.specs.Prelude.{Some, None, ⊤}
+use Rattle.tape_image.specs.declared.item.Ending.{Ending}
+use Rattle.tape_image.specs.declared.item.ImageFault.{ImageFault}
+use Rattle.tape_image.specs.Tape.{TapeItem, bad}
+use Rattle.tape_image.specs.Reader.{Reader, going}
+use Rattle.tape_image.specs.Step.{TakesEnd, TakesFault}
+use Rattle.tape_run.specs.MergeSteps.{HasRead}
+use Rattle.tape_run.specs.Merging.{IsReadFrom, IsMerged, Differ}
+
+-- To be a reading is an order of tapes: the longer and the better read ones are greater.
+pub record ReadingsAreOrdered : Type 0 where
+  pub itself : (t : List TapeItem) → IsReadFrom t t
+  pub through : (r s t : List TapeItem) → IsReadFrom r s → IsReadFrom s t → IsReadFrom r t
+  pub both : (r s : List TapeItem) → IsReadFrom r s → IsReadFrom s r → r ≡ s
+
+-- Readings either make one tape together, or differ: there is no tape of which all are readings.
+pub record MakeOneOrDiffer : Type 0 where
+  pub either : (rs : List (List TapeItem)) → ((m : List TapeItem) × IsMerged rs m) ⊎ Differ rs
+  pub apart : (rs : List (List TapeItem)) (m : List TapeItem) → IsMerged rs m → Differ rs → ⊥
+  pub one : (rs : List (List TapeItem)) (m n : List TapeItem)
+      → IsMerged rs m → IsMerged rs n → m ≡ n
+
+-- the length of the longest reading
+abbrev pub longest : List (List TapeItem) → ℕ
+longest [] = 0
+longest (r ∷ rs) = max (length r) (longest rs)
+
+-- The tape that they make is as long as the longest of them.
+abbrev pub AsLongAsLongest : Type 0
+AsLongAsLongest = (rs : List (List TapeItem)) (m : List TapeItem) → IsMerged rs m
+    → length m ≡ longest rs
+
+-- every reading that reaches this item has it as a bad one
+abbrev pub AllBadAt : ℕ → List (List TapeItem) → Type 0
+AllBadAt j [] = ⊤
+AllBadAt j (r ∷ rs) = ((slice_get r j ≡ None) ⊎ (slice_get r j ≡ Some bad)) × AllBadAt j rs
+
+-- An item of that tape is bad exactly if it is bad in every reading that reaches it.
+abbrev pub BadWhereAllBad : Type 0
+BadWhereAllBad = (rs : List (List TapeItem)) (m : List TapeItem) (j : ℕ) → IsMerged rs m
+    → j < length m → (slice_get m j ≡ Some bad) ↔ AllBadAt j rs
+
+-- each of these is a prefix of the one of the others at its place
+abbrev pub AreFronts : List (List TapeItem) → List (List TapeItem) → Type 0
+AreFronts [] [] = ⊤
+AreFronts (r ∷ rs) (s ∷ ss) = ((more : List TapeItem) × (s ≡ r ++ more)) × AreFronts rs ss
+AreFronts _ _ = ⊥
+
+-- If prefixes of readings differ, so do the readings.
+abbrev pub DifferForGood : Type 0
+DifferForGood = (fronts readings : List (List TapeItem)) → AreFronts fronts readings
+    → Differ fronts → Differ readings
+
+-- the reading is one of these
+abbrev pub IsOneOf : List TapeItem → List (List TapeItem) → Type 0
+IsOneOf r [] = ⊥
+IsOneOf r (s ∷ ss) = (r ≡ s) ⊎ IsOneOf r ss
+
+-- Neither the order of the readings matters, nor how often one is listed.
+abbrev pub OrderDoesNotMatter : Type 0
+OrderDoesNotMatter = (rs ss : List (List TapeItem)) (m : List TapeItem)
+    → ((r : List TapeItem) → IsOneOf r rs → IsOneOf r ss)
+    → ((r : List TapeItem) → IsOneOf r ss → IsOneOf r rs)
+    → IsMerged rs m → IsMerged ss m
+
+-- What a reader returned from the beginning of an image until it stopped: the items that its bytes
+-- begin with, up to the end of the medium or to a fault of the image. If the device failed, those of
+-- the bytes that it returned.
+abbrev pub ReadersGiveImages : Type 0
+ReadersGiveImages = (first now : Reader) (items : List TapeItem) (bytes : List ℕ)
+    → HasRead first now items → first.status ≡ going → now.status ≢ going
+    → first.left ≡ Some bytes
+    → ((ending : Ending) × (left : List ℕ) × TakesEnd first.place items ending now.place bytes left)
+    ⊎ ((fault : ImageFault) × (left : List ℕ) × TakesFault first.place items fault bytes left)

@@ -1,0 +1,53 @@
+-- Images that are copies of one volume, and the merged one.
+use Rattle.std.specs.Prelude.{◌≡◌, ℕ, Bool, true, List, [], ◌∷◌, IsSome, ⊤}
+use Rattle.std.specs.List.{AllByRecursion}
+use Rattle.tape_image.specs.Tape.{TapeItem}
+use Rattle.tape_run.specs.Merging.{IsMerged}
+use Rattle.tape_set.specs.declared.position.Position.{Position}
+use Rattle.tape_set.specs.Position.{IsUpTo}
+use Rattle.tape_set.specs.Layout.{FileSet, nth}
+use Rattle.tape_set.specs.Reading.{Reading}
+use Rattle.tape_set.specs.Reach.{far, far_over}
+use Rattle.tape_set.specs.Lawful.{IsLawful}
+use Rattle.tape_run.specs.Mount.{IsCopy}
+
+-- these are the items of copies of volume k, with these readings
+abbrev pub AreCopies : FileSet → ℕ → List (List TapeItem) → List Reading → Type 0
+AreCopies set k [] [] = ⊤
+AreCopies set k (xs ∷ images) (r ∷ rs) =
+    IsCopy set xs r × (r.volume ≡ k) × AreCopies set k images rs
+AreCopies set k _ _ = ⊥
+
+-- each item that was read well in one was read well in the other
+abbrev pub IsWithin : List Bool → List Bool → Type 0
+IsWithin [] hs = ⊤
+IsWithin (g ∷ gs) [] = ⊥
+IsWithin (g ∷ gs) (h ∷ hs) = (g ≡ true → h ≡ true) × IsWithin gs hs
+
+abbrev pub AreWithin : List Reading → Reading → Type 0
+AreWithin [] s = ⊤
+AreWithin (r ∷ rs) s = IsWithin r.good s.good × AreWithin rs s
+
+-- The merged items of copies of a volume are a copy of it, with a reading in which each item was read
+-- well that was read well in one of theirs.
+abbrev pub MergedIsCopy : Type 0
+MergedIsCopy = (set : FileSet) (k : ℕ) (images : List (List TapeItem)) (rs : List Reading)
+    (merged : List TapeItem) → IsSome (nth set.volumes k) → AreCopies set k images rs
+    → IsMerged images merged
+    → (r : Reading) × (r.volume ≡ k) × IsCopy set merged r × AreWithin rs r
+
+-- A better reading takes each position of each file at least as far.
+abbrev pub BetterIsAsFar : Type 0
+BetterIsAsFar = (set : FileSet) (file : ℕ) (p : Position) (r s : Reading) → r.volume ≡ s.volume
+    → IsWithin r.good s.good → IsUpTo (far set file p r) (far set file p s)
+
+-- s is a reading of the volume that r is of, and a better one
+abbrev pub IsBetter : Reading → Reading → Type 0
+IsBetter s r = (r.volume ≡ s.volume) × IsWithin r.good s.good
+
+-- In a lawful set, it takes a position at least as far as all the others together, one after another,
+-- in any order and each as often as one likes.
+abbrev pub OnceIsEnough : Type 0
+OnceIsEnough = (set : FileSet) (file : ℕ) (p : Position) (rs : List Reading) (s : Reading)
+    → IsLawful set → AllByRecursion (λ r. IsBetter s r) rs
+    → IsUpTo (far_over set file p rs) (far set file p s)

@@ -1,0 +1,206 @@
+//! The lines of `merge` and `compare`.
+
+ghost use Rattle.std.specs.Prelude.{◌≡◌, ◌≤◌, ◌++◌, length, IfOk};
+ghost use Rattle.arrayvec.specs.ArrayVec.{array_vec_len};
+ghost use Rattle.tape_run.specs.MergeLines.{reading_text, reading_line, end_text, merged_line};
+ghost use Rattle.tape_run.specs.MergeLines.{merged_end, miscounted_text, differ_line, has_text, has_line};
+ghost use Rattle.tape_run.specs.MergeLines.{kind_text, with_name};
+
+use super::Merged;
+use crate::check_line::stop_text;
+use crate::section::ImageStop;
+use crate::survey::name_text;
+use crate::text::{Text, put, put_decimal};
+use std::alloc::{AllocError, Global};
+
+/// What was read from an image beside others.
+#[derive(Clone, Copy)]
+pub(crate) struct ReadingLine {
+    /// How many items.
+    pub items: u64,
+    /// How many of these are bad.
+    pub bad: u64,
+    /// How it stopped, if it did.
+    pub stop: Option<ImageStop>,
+}
+
+/// How the merged image ends.
+#[derive(Clone, Copy, PartialEq, Eq)]
+pub(crate) enum MergedEnd {
+    /// By an end word.
+    Marked,
+    /// By the end of its bytes.
+    Physical,
+    /// Where each of the longest readings stopped at a fault.
+    Cut,
+}
+
+/// An item, without its bytes.
+#[derive(Clone, Copy)]
+pub(crate) enum ItemKind {
+    /// A block of so many bytes.
+    Block(u64),
+    Mark,
+    Bad,
+}
+
+/// What a reading has where readings differ.
+#[derive(Clone, Copy)]
+pub(crate) struct HasLine {
+    /// Which of the differing items it is, by a letter.
+    pub letter: u8,
+    pub kind: ItemKind,
+    /// The byte offset at which it begins.
+    pub from: u64,
+}
+
+/// The line of the reading with this number and name.
+pub(crate) fn reading_line(
+    alloc: Global,
+    number: usize,
+    reading: &ReadingLine,
+    name: &str,
+) -> Result<Vec<u8>, AllocError>
+    ensures { IfOk result (λ line. line.items ≡ reading_line number reading.now name.now) }
+{
+    with_name(alloc, &reading_text(number, reading), name)
+}
+
+/// The same without its name.
+fn reading_text(number: usize, reading: &ReadingLine) -> Text
+    ensures { result.items ≡ reading_text number reading.now }
+{
+    let mut line = Text::new();
+    put(&mut line, b"IMAGE ");
+    put_decimal(&mut line, number as u64);
+    put(&mut line, b" ");
+    put_decimal(&mut line, reading.items);
+    put(&mut line, b" ");
+    put_decimal(&mut line, reading.bad);
+    put(&mut line, b" ");
+    put_end(&mut line, &reading.stop);
+    line
+}
+
+/// How a reading stopped, or `-`.
+fn put_end(line: &mut Text, stop: &Option<ImageStop>)
+    requires room { array_vec_len line.old ≤ 100 }
+    ensures { line.new.items ≡ line.old.items ++ end_text stop.now }
+{
+    match stop {
+        Some(stop) => put(line, &stop_text(stop)),
+        None => put(line, b"-"),
+    }
+}
+
+/// A line that ends with a name.
+fn with_name(alloc: Global, text: &[u8], name: &str) -> Result<Vec<u8>, AllocError>
+    ensures { IfOk result (λ line. line.items ≡ with_name text.now name.now) }
+{
+    let mut line = Vec::from_slice(alloc, text)?;
+    line.push(b' ')?;
+    let name = name_text(alloc, name)?;
+    line.extend_from_slice(name.as_slice())?;
+    line.push(b'\n')?;
+    Ok(line)
+}
+
+/// The line of the merged image.
+pub(crate) fn merged_line(merged: &Merged, end: MergedEnd) -> Text
+    ensures { result.items ≡ merged_line merged.now end }
+{
+    let mut line = Text::new();
+    put(&mut line, b"MERGED ");
+    put_decimal(&mut line, merged.items);
+    put(&mut line, b" ");
+    put_decimal(&mut line, merged.bad);
+    put(&mut line, b" ");
+    put_decimal(&mut line, merged.alone);
+    put(&mut line, b" ");
+    put(&mut line, merged_end(end));
+    put_miscounted(&mut line, merged.miscounted);
+    put(&mut line, b"\n");
+    line
+}
+
+/// How the merged image ends.
+fn merged_end(end: MergedEnd) -> &'static [u8]
+    ensures text { result.now ≡ merged_end end }
+    ensures short { length result.now ≤ 8 }
+{
+    match end {
+        MergedEnd::Marked => b"MARKED",
+        MergedEnd::Physical => b"PHYSICAL",
+        MergedEnd::Cut => b"CUT",
+    }
+}
+
+/// How many sections have a wrong count, if any do.
+fn put_miscounted(line: &mut Text, sections: u64)
+    requires room { array_vec_len line.old ≤ 200 }
+    ensures items { line.new.items ≡ line.old.items ++ miscounted_text sections }
+    ensures len { array_vec_len line.new ≤ 300 }
+{
+    match sections {
+        0 => {}
+        _ => {
+            put(line, b" COUNT ");
+            put_decimal(line, sections);
+        }
+    }
+}
+
+/// The line of the first item at which readings differ.
+pub(crate) fn differ_line(item: u64) -> Text
+    ensures { result.items ≡ differ_line item }
+{
+    let mut line = Text::new();
+    put(&mut line, b"DIFFER ");
+    put_decimal(&mut line, item);
+    put(&mut line, b"\n");
+    line
+}
+
+/// The line of what the reading with this number and name has there.
+pub(crate) fn has_line(
+    alloc: Global,
+    number: usize,
+    has: &HasLine,
+    name: &str,
+) -> Result<Vec<u8>, AllocError>
+    ensures { IfOk result (λ line. line.items ≡ has_line number has.now name.now) }
+{
+    with_name(alloc, &has_text(number, has), name)
+}
+
+/// The same without its name.
+fn has_text(number: usize, has: &HasLine) -> Text
+    ensures { result.items ≡ has_text number has.now }
+{
+    let mut line = Text::new();
+    put(&mut line, b"HAS ");
+    put_decimal(&mut line, number as u64);
+    put(&mut line, b" ");
+    line.push(has.letter);
+    put(&mut line, b" ");
+    put_kind(&mut line, has.kind);
+    put(&mut line, b" ");
+    put_decimal(&mut line, has.from);
+    line
+}
+
+/// An item, as `list` prints it without labels.
+fn put_kind(line: &mut Text, kind: ItemKind)
+    requires room { array_vec_len line.old ≤ 100 }
+    ensures items { line.new.items ≡ line.old.items ++ kind_text kind }
+    ensures len { array_vec_len line.new ≤ 200 }
+{
+    match kind {
+        ItemKind::Block(length) => {
+            put(line, b"BLOCK ");
+            put_decimal(line, length);
+        }
+        ItemKind::Mark => put(line, b"MARK"),
+        ItemKind::Bad => put(line, b"BAD"),
+    }
+}

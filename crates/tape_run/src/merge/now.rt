@@ -1,0 +1,247 @@
+//! `merge` and `compare` over images: they are read side by side, and the merged one is put in its
+//! place.
+
+ghost use Rattle.std.specs.Prelude.{◌≡◌, ◌≢◌, IfOk};
+ghost use Rattle.tape_run.specs.declared.merge.now.MergeEnd.TheVariants.{Differs};
+ghost use Rattle.tape_run.specs.declared.merge.now.MergeStop.TheVariants as stops;
+
+use super::candidate::Candidate;
+use super::line::{
+    HasLine, ItemKind, MergedEnd, ReadingLine, differ_line, has_line, merged_line, reading_line,
+};
+use super::open::open_all;
+use super::reading::{Reading, Verdict};
+use super::{MergeFault, Merged, merge_items};
+use crate::catalogue::stop_at;
+use crate::check::pass_on;
+use crate::extract::Place;
+use crate::extract::images::Shelf;
+use crate::fault::WriteFailed;
+use crate::section::ImageStop;
+use crate::text::flush;
+use std::alloc::{AllocError, Global};
+use std::io::{Read, Write};
+use tape_image::{Ending, ImageWriteFault, ImageWriter};
+
+/// What came of merging.
+#[derive(Clone, Copy, Debug, PartialEq, Eq)]
+pub enum MergeEnd {
+    /// The merged image is whole, as far as its readings show.
+    Whole,
+    /// An item of it is bad, a section has a wrong count, or it is cut.
+    Partial,
+    /// The readings differ: there is no merged image.
+    Differs,
+}
+
+/// Why there is no merged image, although no two readings were found to differ.
+#[derive(Clone, Copy, Debug, PartialEq, Eq)]
+pub enum MergeStop {
+    /// The image with this number, counted from 0, could not be opened.
+    NotOpened(usize),
+    /// The merged image would be longer than an image may be: it has so many bytes so far.
+    TooLong(u64),
+    OutOfMemory,
+    /// The merged image or the report could not be written.
+    WriteFailed,
+}
+
+impl From<AllocError> for MergeStop {
+    ghost from_gives = { λ _ e. e ≡ stops.OutOfMemory };
+
+    fn from(_error: AllocError) -> MergeStop {
+        MergeStop::OutOfMemory
+    }
+}
+
+impl From<WriteFailed> for MergeStop {
+    ghost from_gives = { λ _ e. e ≡ stops.WriteFailed };
+
+    fn from(_fault: WriteFailed) -> MergeStop {
+        MergeStop::WriteFailed
+    }
+}
+
+/// Why the merged image of so many bytes could not be written on.
+fn write_stop(fault: ImageWriteFault, size: u64) -> MergeStop {
+    match fault {
+        ImageWriteFault::TooLong => MergeStop::TooLong(size),
+        _ => MergeStop::WriteFailed,
+    }
+}
+
+/// Reads the images of a shelf side by side, all of them opened first, and writes to `out` the tape
+/// that they make together. Then `out` comes to stand in its place, and the report ends with its
+/// line. If the images differ, the place is not touched, and the report says what each image has
+/// there.
+///
+/// It allocates 100,000 bytes for each image, what mounting takes, and 200,000.
+///
+/// # Errors
+///
+/// `NotOpened` before anything is read; `OutOfMemory`; `WriteFailed` if `out`, its place or the
+/// report failed; `TooLong`.
+pub fn merge_now<R: Read + Drop, L: Shelf<R>, W: Write + Drop, O: Place<W>, P: Write>(
+    alloc: Global,
+    images: &mut L,
+    names: &[&str],
+    out: W,
+    place: &mut O,
+    report: &mut P,
+) -> Result<MergeEnd, MergeStop>
+    ensures untouched { IfOk result (λ end. end ≡ Differs → place.new ≡ place.old) }
+{
+    let mut devices = mount_all(alloc, images)?;
+    let mut readings = open_all(alloc, devices.as_mut_slice())?;
+    merge_readings(alloc, readings.as_mut_slice(), names, out, place, report)
+}
+
+/// Mounts all images.
+fn mount_all<R: Read + Drop, L: Shelf<R>>(
+    alloc: Global,
+    images: &mut L,
+) -> Result<Vec<R>, MergeStop> {
+    let mut devices = Vec::new(alloc);
+    for number in 0..images.count() {
+        let Some(device) = images.mount(number)? else {
+            return Err(MergeStop::NotOpened(number));
+        };
+        let Ok(()) = devices.push(device) else {
+            return Err(MergeStop::OutOfMemory);
+        };
+    }
+    Ok(devices)
+}
+
+/// Merges readings that were opened.
+fn merge_readings<R: Read, W: Write + Drop, O: Place<W>, P: Write>(
+    alloc: Global,
+    readings: &mut [Reading<'_, R>],
+    names: &[&str],
+    out: W,
+    place: &mut O,
+    report: &mut P,
+) -> Result<MergeEnd, MergeStop>
+    ensures untouched { IfOk result (λ end. end ≡ Differs → place.new ≡ place.old) }
+{
+    let mut best = Candidate::new(alloc)?;
+    let mut other = Candidate::new(alloc)?;
+    let mut image = ImageWriter::new(out);
+    match merge_items(readings, &mut best, &mut other, &mut image) {
+        Ok(merged) => {
+            let end = end_of(readings, merged.items);
+            if end == MergedEnd::Marked {
+                if let Err(fault) = image.finish() {
+                    return Err(write_stop(fault, image.size()));
+                }
+            }
+            report_readings(alloc, readings, names, report)?;
+            let mut written = image.into_device();
+            flush(&mut written)?;
+            place.place(written)?;
+            pass_on(report, &merged_line(&merged, end))?;
+            Ok(whole_or_partial(&merged, end))
+        }
+        Err(MergeFault::Differ(item)) => {
+            report_readings(alloc, readings, names, report)?;
+            pass_on(report, &differ_line(item))?;
+            report_items(alloc, readings, names, report)?;
+            Ok(MergeEnd::Differs)
+        }
+        Err(MergeFault::OutOfMemory) => Err(MergeStop::OutOfMemory),
+        Err(MergeFault::Write(fault)) => Err(write_stop(fault, image.size())),
+    }
+}
+
+/// Whether the merged image is whole.
+fn whole_or_partial(merged: &Merged, end: MergedEnd) -> MergeEnd
+    ensures { result ≢ Differs }
+{
+    if merged.bad == 0 && merged.miscounted == 0 && end != MergedEnd::Cut {
+        MergeEnd::Whole
+    } else {
+        MergeEnd::Partial
+    }
+}
+
+/// How the merged image ends: as one of its longest readings, by an end word if one of them does.
+fn end_of<R: Read>(readings: &[Reading<'_, R>], items: u64) -> MergedEnd {
+    let mut end = MergedEnd::Cut;
+    for reading in readings {
+        if reading.items == items {
+            match reading.image.ending() {
+                Some(Ending::Marked) => return MergedEnd::Marked,
+                Some(Ending::Physical) => end = MergedEnd::Physical,
+                None => {}
+            }
+        }
+    }
+    end
+}
+
+/// Reports a line for each reading.
+fn report_readings<R: Read, P: Write>(
+    alloc: Global,
+    readings: &[Reading<'_, R>],
+    names: &[&str],
+    report: &mut P,
+) -> Result<(), MergeStop> {
+    for number in 0..readings.len() {
+        let name = names.get(number).unwrap_or(&"");
+        let line = reading_line(alloc, number + 1, &line_of(&readings[number]), *name)?;
+        pass_on(report, line.as_slice())?;
+    }
+    Ok(())
+}
+
+/// What was read of a reading.
+fn line_of<R: Read>(reading: &Reading<'_, R>) -> ReadingLine {
+    let stop = match (reading.image.ending(), reading.verdict) {
+        (Some(ending), _) => Some(stop_at(ending)),
+        (None, Verdict::Failed(fault)) => Some(ImageStop::Fault(fault)),
+        (None, _) => None,
+    };
+    ReadingLine {
+        items: reading.items,
+        bad: reading.bad,
+        stop,
+    }
+}
+
+/// Reports what each reading has where they differ, if it has an item there.
+fn report_items<R: Read, P: Write>(
+    alloc: Global,
+    readings: &[Reading<'_, R>],
+    names: &[&str],
+    report: &mut P,
+) -> Result<(), MergeStop> {
+    for number in 0..readings.len() {
+        if let Some(has) = has_of(&readings[number]) {
+            let name = names.get(number).unwrap_or(&"");
+            let line = has_line(alloc, number + 1, &has, *name)?;
+            pass_on(report, line.as_slice())?;
+        }
+    }
+    Ok(())
+}
+
+/// The item that a reading was asked for last, if it has one.
+fn has_of<R: Read>(reading: &Reading<'_, R>) -> Option<HasLine> {
+    let letter = match reading.verdict {
+        Verdict::First => b'A',
+        Verdict::Second => b'B',
+        Verdict::Third => b'C',
+        Verdict::Bad => b'-',
+        Verdict::Ended | Verdict::Failed(_) => return None,
+    };
+    let kind = match reading.verdict {
+        Verdict::Bad => ItemKind::Bad,
+        _ if reading.length == 0 => ItemKind::Mark,
+        _ => ItemKind::Block(reading.length),
+    };
+    Some(HasLine {
+        letter,
+        kind,
+        from: reading.from,
+    })
+}

@@ -1,0 +1,61 @@
+//! Readings of images on devices.
+
+ghost use Rattle.std.specs.Prelude.{◌≡◌, ℕ, List, Some, IfOk, IfErr, map};
+ghost use Rattle.tape_image.specs.Writer.{writing};
+ghost use Rattle.tape_run.specs.MergeCalls.{AreAtFront};
+ghost use Rattle.tape_run.specs.MergedImages.{MergesImages, FaultsImages};
+
+use super::candidate::Candidate;
+use super::reading::Reading;
+use super::{MergeFault, Merged, merge_items};
+use std::alloc::{AllocError, Global};
+use std::io::{Read, Write};
+use tape_image::{ImageBuffer, ImageReader, ImageWriter};
+
+/// Creates a reading of the image on each device. Nothing is read yet.
+///
+/// # Errors
+///
+/// `AllocError` if memory for a buffer is refused.
+pub fn open_all<'r, R: Read>(
+    alloc: Global,
+    devices: &'r mut [R],
+) -> Result<Vec<Reading<'r, R>>, AllocError>
+    ensures { IfOk result (λ readings. AreAtFront (map R.remaining devices.old)
+        (map (λ r. r.image) readings.items)) }
+{
+    let mut readings = Vec::new(alloc);
+    let opened = devices.iter_mut();
+    for device in opened {
+        let buffer = ImageBuffer::new(alloc)?;
+        readings.push(Reading::new(ImageReader::over(buffer, device)))?;
+    }
+    Ok(readings)
+}
+
+/// Merges the images on these devices, which are read side by side, and writes the tape that they
+/// make together.
+///
+/// It allocates 100,000 bytes for each device, and 200,000.
+///
+/// # Errors
+///
+/// Those of `merge_items`; `OutOfMemory` also if memory for a buffer is refused, before anything is
+/// read.
+pub fn merge_to<R: Read, W: Write + Drop>(
+    alloc: Global,
+    devices: &mut [R],
+    out: &mut ImageWriter<W>,
+) -> Result<Merged, MergeFault>
+    requires { out.old.standing ≡ writing }
+    ensures ok { IfOk result (λ merged. (images : List (List ℕ))
+        → map R.remaining devices.old ≡ map Some images
+        → MergesImages images merged out.old out.new) }
+    ensures fault { IfErr result (λ fault. (images : List (List ℕ))
+        → map R.remaining devices.old ≡ map Some images → FaultsImages images fault) }
+{
+    let mut best = Candidate::new(alloc)?;
+    let mut other = Candidate::new(alloc)?;
+    let mut readings = open_all(alloc, devices)?;
+    merge_items(readings.as_mut_slice(), &mut best, &mut other, out)
+}

@@ -1,0 +1,43 @@
+//! Laws of readings and of the tape that they make together: calls that do nothing, whose contract
+//! is the law.
+
+ghost use Rattle.tape_run.specs.MergeLaws.{ReadingsAreOrdered, MakeOneOrDiffer, AsLongAsLongest};
+ghost use Rattle.tape_run.specs.MergeLaws.{BadWhereAllBad, DifferForGood};
+ghost use Rattle.tape_run.specs.MergeLaws.{OrderDoesNotMatter, ReadersGiveImages};
+ghost use Rattle.tape_run.specs.MergedCopies.{MergedIsCopy, BetterIsAsFar, OnceIsEnough};
+
+/// To be a reading of a tape is an order of tapes.
+pub fn readings_are_ordered()
+    ensures { ReadingsAreOrdered }
+{}
+
+/// Readings either make one tape together, or differ.
+pub fn readings_make_one_tape_or_differ()
+    ensures either { MakeOneOrDiffer }
+    ensures lasting { DifferForGood }
+{}
+
+/// The merged tape is as long as the longest reading, and an item of it is bad only if it is bad in
+/// every reading that reaches it.
+pub fn merged_is_as_good_as_each()
+    ensures long { AsLongAsLongest }
+    ensures bad { BadWhereAllBad }
+{}
+
+/// The merged tape does not depend on the order of the readings, nor on how often one is named.
+pub fn order_does_not_matter()
+    ensures { OrderDoesNotMatter }
+{}
+
+/// The items that a reader returns until it stops are those that the bytes of its image begin with.
+pub fn readers_give_images()
+    ensures { ReadersGiveImages }
+{}
+
+/// The merged image of copies of a volume is a copy of it. Read once, it takes each position at least
+/// as far as they do, each alone and all of them in turn.
+pub fn merged_copies()
+    ensures copy { MergedIsCopy }
+    ensures far { BetterIsAsFar }
+    ensures once { OnceIsEnough }
+{}
