@@ -6,7 +6,7 @@ use Rattle.std.proofs.lemmas.List.{append-nil}
 use Rattle.tape_image.specs.Tape.{TapeItem}
 use Rattle.tape_writer.specs.declared.fault.WriteFault.{WriteFault}
 use Rattle.tape_writer.specs.declared.fault.WriteFault.TheVariants as faults
-use Rattle.tape_writer.specs.Tapes.{Tapes, Ended, UnderWay, all_volumes, Takes, Closes, Keeps}
+use Rattle.tape_writer.specs.Tapes.{Tapes, Ended, UnderWay, all_volumes, Takes, Keeps}
 use Rattle.tape_writer.specs.Front.{Step, Item, Change, Close, behind_step, behind_steps}
 use Rattle.tape_writer.specs.Front.{HoldsFront}
 

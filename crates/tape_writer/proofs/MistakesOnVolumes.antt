@@ -37,8 +37,8 @@ used_without_pad_byte T L g d κs a s l odd short =
     (ap (λ c. c.used) l.course) in
     absurd (omega (arith, u, short))
 
--- volume_end_left_out: a block of 400 bytes is written after 1,884, where the capacity is 2,400; the
--- closing labels, of 192 bytes, would exceed it
+-- volume_end_left_out: a block of 400 bytes is written after 1,884, where the capacity is 2,400;
+-- the closing labels, of 192 bytes, would exceed it
 volume_end_left_out : (T : _) (L : _) (g : _) (d : _) (κs : _) (a : _) (s : _)
     → write_block.Learnt-named T L g d κs a (Ok tt) s → a.1.1.1.0 ≡ 2400
     → s.0.now.course.used ≡ 2292 → ⊥
@@ -49,10 +49,10 @@ volume_end_left_out T L g d κs a s l capacity used =
 -- next_headers_left_out: the end of a file is written after 2,292 bytes, where the capacity is
 -- 2,500; the headers of another file and the closing labels would exceed it
 next_headers_left_out : (T : _) (L : _) (g : _) (d : _) (κs : _) (a : _) (s : _)
-    → end_file.Learnt-named T L g d κs a (Ok tt) s → a.1.1.1.0 ≡ 2500
+    → end_file.Learnt-named T L g d κs a (Ok tt) s → a.1.1.1.1.0 ≡ 2500
     → s.0.now.course.used ≡ 2476 → ⊥
 next_headers_left_out T L g d κs a s l capacity used =
-    let fits : s.0.now.course.used + 372 ≤ a.1.1.1.0 = l.roomy.0 in
+    let fits : s.0.now.course.used + 372 ≤ a.1.1.1.1.0 = l.room.0 in
     absurd (omega (arith, fits, used, capacity))
 
 -- ---- changes

@@ -17,6 +17,7 @@ use Rattle.tape_set.specs.Layout.{Section}
 use Rattle.tape_writer.specs.declared.fault.WriteFault.{WriteFault}
 use Rattle.tape_writer.specs.declared.course.Opened.{Opened}
 use Rattle.tape_writer.specs.declared.course.Course.{Course}
+use Rattle.tape_writer.specs.declared.tape.Tape.{Tape}
 use Rattle.tape_writer.specs.Tapes.{Tapes}
 use Rattle.tape_writer.specs.Draft.{Draft, IsOpen, Grew, open_blocks}
 use Rattle.tape_writer.specs.Inside.{IsInside, IsPacking, Flushed, IsFlat}
@@ -182,19 +183,31 @@ flushed_by H vs cap set_id file course d p text (Ok x) given grew = record {
   blocks = grew.blocks;
 }
 
-pub flat_by : (H H' : Tapes → Type 0) (vs : List Vol1) (cap : ℕ) (set_id : List ℕ)
+flat_from : (H H' : Tapes → Type 0) (vs : List Vol1) (cap : ℕ) (set_id : List ℕ)
     (file : Opened) (course course' : Course) (p : Packing) (fs : List (List Section))
-    (records : List (List ℕ)) (r : Result (Unit {0}) WriteFault) (ps : List Portion) → p.parts ≡ ps
+    (records : List (List ℕ)) (ps : List Portion) → p.parts ≡ ps
     → (p.parts ≡ [] → IsInside H' vs cap set_id file course' p fs records)
-    → (p.parts ≢ [] → (d : Draft) → IsOpen H vs cap set_id file course d → OnOk r (Flushed H' vs cap
-    set_id file course' d p))
+    → (p.parts ≢ [] → (d : Draft) → IsOpen H vs cap set_id file course d
+    → Flushed H' vs cap set_id file course' d p)
     → IsInside H vs cap set_id file course p fs records
-    → OnOk r (IsFlat H' vs cap set_id file course' fs records)
-flat_by H H' vs cap set_id file course course' p fs records (Err e) ps is none some k = tt
-flat_by H H' vs cap set_id file course course' p fs records (Ok x) [] is none some k =
+    → IsFlat H' vs cap set_id file course' fs records
+flat_from H H' vs cap set_id file course course' p fs records [] is none some k =
     flat_none H' vs cap set_id file course' p fs records is (none is)
-flat_by H H' vs cap set_id file course course' p fs records (Ok x) (q ∷ ps) is none some k =
+flat_from H H' vs cap set_id file course course' p fs records (q ∷ ps) is none some k =
     flat_some H H' vs cap set_id file course course' p fs records (some (λ e. absurd (cc))) k
+
+-- all records are in blocks after the packer's block was written, or if it had none
+pub flat_flushed : {T : Type 0} (G : T → Tapes → Type 0) (vs : List Vol1) (cap : ℕ)
+    (set_id : List ℕ) (file : Opened) (old new : Tape T) (p : Packing) (fs : List (List Section))
+    (records : List (List ℕ)) → (p.parts ≡ [] → new ≡ old)
+    → (p.parts ≢ [] → (d : Draft) → IsOpen (G old.out) vs cap set_id file old.course d
+    → Flushed (G new.out) vs cap set_id file new.course d p)
+    → IsInside (G old.out) vs cap set_id file old.course p fs records
+    → IsFlat (G new.out) vs cap set_id file new.course fs records
+flat_flushed G vs cap set_id file old new p fs records none some k =
+    flat_from (G old.out) (G new.out) vs cap set_id file old.course new.course p fs records p.parts
+    refl (λ e. subst (λ t. IsInside (G t.out) vs cap set_id file t.course p fs records)
+    (sym (none e)) k) some k
 
 -- what was judged of a record's first offer holds of the whole
 pub judged_more : (shape : Shape) (first p : Packing) (whole rest : List ℕ) → first.shape ≡ shape

@@ -5,7 +5,7 @@ use Rattle.std.proofs.Common.{inl, inr, None, Ok, Err, length, ◌%◌, replicat
 use Rattle.std.proofs.Common.{ap, subst, ◌∙◌, arith, append-nil, length-append}
 use Rattle.byteorder.specs.Endian.{little_bytes}
 use Rattle.tape_image.specs.declared.item.Ending.TheVariants.{Marked}
-use Rattle.tape_image.specs.Tape.{TapeItem, block, bad, mark}
+use Rattle.tape_image.specs.Tape.{TapeItem, block, mark}
 use Rattle.tape_image.specs.Word.{end_word}
 use Rattle.tape_image.specs.declared.item.ImageWriteFault.{ImageWriteFault}
 use Rattle.tape_image.specs.declared.item.ImageWriteFault.TheVariants as faults

@@ -1,26 +1,31 @@
 //! Writes blocks and ends files on the current volume if it has room, and otherwise on the next
 //! one.
 
-ghost use Rattle.std.specs.Prelude.{◌≡◌, ◌≢◌, ◌<◌, ◌≤◌, ◌+◌, List, ℕ, length, OnOk, IfErr, Err};
+ghost use Rattle.std.specs.Prelude.{◌≡◌, ◌≢◌, ◌<◌, ◌≤◌, ◌+◌, ◌++◌, ◌∷◌, [], List, ℕ, length, OnOk};
+ghost use Rattle.std.specs.Prelude.{IfErr, Err};
 ghost use Rattle.std.specs.Prelude.{true, false};
 ghost use Rattle.std.specs.List.{AllByRecursion};
 ghost use Rattle.tape_image.specs.Tape.{IsTapeItem, block as block_item};
 ghost use Rattle.tape_label.specs.Widths.{IsWideVolume};
 ghost use Rattle.tape_blocks.specs.Tight.{Filled};
 ghost use Rattle.tape_set.specs.Sizes.{item_size};
+ghost use Rattle.tape_set.specs.Tight.{least_capacity};
 ghost use Rattle.tape_writer.specs.declared.course.Course.{Course};
-ghost use Rattle.tape_writer.specs.Front.{HoldsFront};
+ghost use Rattle.tape_writer.specs.Front.{HoldsFront, IsEndingLast};
 ghost use Rattle.tape_writer.specs.Lasting.{TapeLasts, StaysAsked};
 ghost use Rattle.tape_writer.specs.Faults.{FailsWith, IsEnding};
 ghost use Rattle.tape_writer.specs.Labels.{IsReady};
-ghost use Rattle.tape_writer.specs.Draft.{Draft, IsOpen, IsRoomy, Grew, Closed};
+ghost use Rattle.tape_writer.specs.Draft.{Draft, IsOpen, IsRoomy, Grew};
 ghost use Rattle.tape_writer.specs.Room.{Passed};
-ghost use Rattle.tape_writer.specs.Inside.{IfOpen};
+ghost use Rattle.tape_writer.specs.Inside.{IsFiling, IsBetween, IsStuck, IfInside};
+ghost use Rattle.tape_writer.specs.Told.{Told};
 
 use crate::course::Opened;
 use crate::fault::WriteFault;
 use crate::out::TapeOut;
+use crate::records::flush;
 use crate::tape::Tape;
+use tape_blocks::Packer;
 use tape_label::Vol1;
 
 /// The end of a volume inside a file: a mark, EOV1, EOV2, two marks and the end-of-medium marker.
@@ -93,10 +98,12 @@ impl<T: TapeOut> Tape<T> {
         self.add_block(bytes)
     }
 
-    /// Ends the file, after a change of the volume if its end does not fit.
+    /// Writes the file's last block, and ends the file, after a change of the volume if its end
+    /// does not fit.
     #[tactic(auto, using(crate::proofs::Last::kept))]
     pub(crate) fn end_file(
         &mut self,
+        packer: &mut Packer,
         file: &Opened,
         volumes: &[Vol1],
         capacity: u32,
@@ -105,27 +112,30 @@ impl<T: TapeOut> Tape<T> {
         requires wide { AllByRecursion IsWideVolume volumes.now }
         requires roomy { IsRoomy capacity (length volumes.now) self.old.course }
         requires volumes { length volumes.now ≤ 9999 }
-        requires capacity { 1024 ≤ capacity }
-        ensures roomy { OnOk result ((self.new.course.used + 372 ≤ capacity)
+        requires capacity { least_capacity file.now.shape ≤ capacity }
+        requires shape { packer.old.shape ≡ file.now.shape }
+        ensures room { OnOk result ((self.new.course.used + 372 ≤ capacity)
             × (self.new.course.volume ≤ length volumes.now) × (1 ≤ self.new.course.volume)) }
-        ensures closed { IfOpen T.TapeOut volumes.now capacity file.now self.old (λ set_id d.
-            OnOk result (Closed (T.holds self.new.out) volumes.now capacity set_id file.now
-            self.new.course d)) }
-        ensures front { IfOpen T.TapeOut volumes.now capacity file.now self.old (λ set_id d.
-            IfErr result (λ fault. fault ≢ WriteFault.OutOfVolumes → (course : Course)
-            × Closed (HoldsFront (T.holds self.new.out)) volumes.now capacity set_id file.now
-            course d)) }
-        ensures none { IfErr result (λ fault. fault ≡ WriteFault.OutOfVolumes
-            → (self.new ≡ self.old) × (length volumes.now ≤ self.old.course.volume)
-            × (capacity < self.old.course.used + 184 + 372)) }
-        ensures always { length volumes.now ≤ self.old.course.volume
-            → capacity < self.old.course.used + 184 + 372
-            → result ≡ Err WriteFault.OutOfVolumes }
+        ensures filed { (set_id : List ℕ) (past : List Told) (records : List (List ℕ))
+            → IsFiling (T.holds self.old.out) volumes.now capacity set_id file.now
+            self.old.course packer.old past records
+            → OnOk result (IsBetween (T.holds self.new.out) volumes.now capacity set_id
+            self.new.course (past ++ record { file = file.now; records = records } ∷ [])) }
+        ensures front { (set_id : List ℕ) (past : List Told) (records : List (List ℕ))
+            → IsFiling (T.holds self.old.out) volumes.now capacity set_id file.now
+            self.old.course packer.old past records
+            → IfErr result (λ _. IsEndingLast (HoldsFront (T.holds self.new.out)) volumes.now
+            capacity set_id (past ++ record { file = file.now; records = records } ∷ [])) }
         ensures asked { StaysAsked T.TapeOut volumes.now self.old result self.new }
         ensures ending { IfErr result IsEnding }
+        ensures stuck { IfErr result (λ fault. fault ≡ WriteFault.OutOfVolumes
+            → IfInside T.TapeOut volumes.now capacity file.now self.old packer.old
+            (λ set_id fs records. IsStuck (T.holds self.new.out) volumes.now capacity set_id
+            file.now self.new.course fs records)) }
         ensures lasting { TapeLasts T.TapeOut self.old self.new }
         ensures cause { FailsWith (T.failures self.old.out) result (T.failures self.new.out) }
     {
+        flush(self, packer, file, volumes, capacity)?;
         if self.has_room(capacity, FILE_END + HEADERS + VOLUME_END) {
             return self.end_section(file, true);
         }

@@ -1,70 +1,26 @@
-//! Begins and ends files, and ends the set.
+//! Begins files, and ends the set.
 
 ghost use Rattle.std.specs.Prelude.{◌≡◌, ◌≢◌, ◌≤◌, ◌+◌, ◌++◌, ◌∷◌, [], ℕ, List, length, OnOk};
 ghost use Rattle.std.specs.Prelude.{IfErr};
 ghost use Rattle.std.specs.List.{AllByRecursion};
 ghost use Rattle.tape_image.specs.Tape.{TapeItem, mark as mark_item};
-ghost use Rattle.tape_set.specs.Tight.{least_capacity};
 ghost use Rattle.tape_writer.specs.declared.course.Course.{Course};
 ghost use Rattle.tape_writer.specs.Tapes.{Ended, UnderWay, Grows};
-ghost use Rattle.tape_writer.specs.Front.{HoldsFront, IsEndingLast};
+ghost use Rattle.tape_writer.specs.Front.{HoldsFront};
 ghost use Rattle.tape_writer.specs.Lasting.{TapeLasts, StaysAsked};
-ghost use Rattle.tape_writer.specs.Faults.{FailsWith, IsEnding, IsOfOut};
+ghost use Rattle.tape_writer.specs.Faults.{FailsWith, IsOfOut};
 ghost use Rattle.tape_label.specs.Widths.{IsWideVolume};
 ghost use Rattle.tape_writer.specs.Labels.{IsReady};
 ghost use Rattle.tape_writer.specs.Draft.{IsRoomy};
 ghost use Rattle.tape_writer.specs.State.{IsSoundRest};
 ghost use Rattle.tape_writer.specs.Told.{Told, IsWrittenSet};
-ghost use Rattle.tape_writer.specs.Inside.{IsBetween, IsFiling, IsWaiting, IsStuck, IfInside};
-ghost use Rattle.tape_writer.specs.Inside.{IfNext};
+ghost use Rattle.tape_writer.specs.Inside.{IsBetween, IsFiling, IsWaiting, IfNext};
 
 use crate::course::Opened;
 use crate::fault::{WriteFault, fault_of};
 use crate::out::TapeOut;
-use crate::records::flush;
 use crate::tape::Tape;
-use tape_blocks::Packer;
 use tape_label::Vol1;
-
-/// Writes the file's last block, and ends the file.
-#[tactic(auto, using(crate::proofs::Last::kept))]
-pub(crate) fn close_file<T: TapeOut>(
-    tape: &mut Tape<T>,
-    packer: &mut Packer,
-    file: &Opened,
-    volumes: &[Vol1],
-    capacity: u32,
-) -> Result<(), WriteFault>
-    requires ready { IsReady file.now }
-    requires wide { AllByRecursion IsWideVolume volumes.now }
-    requires roomy { IsRoomy capacity (length volumes.now) tape.old.course }
-    requires volumes { length volumes.now ≤ 9999 }
-    requires capacity { least_capacity file.now.shape ≤ capacity }
-    requires shape { packer.old.shape ≡ file.now.shape }
-    ensures room { OnOk result ((tape.new.course.used + 372 ≤ capacity)
-        × (tape.new.course.volume ≤ length volumes.now) × (1 ≤ tape.new.course.volume)) }
-    ensures filed { (set_id : List ℕ) (past : List Told) (records : List (List ℕ))
-        → IsFiling (T.holds tape.old.out) volumes.now capacity set_id file.now
-        tape.old.course packer.old past records
-        → OnOk result (IsBetween (T.holds tape.new.out) volumes.now capacity set_id
-        tape.new.course (past ++ record { file = file.now; records = records } ∷ [])) }
-    ensures front { (set_id : List ℕ) (past : List Told) (records : List (List ℕ))
-        → IsFiling (T.holds tape.old.out) volumes.now capacity set_id file.now
-        tape.old.course packer.old past records
-        → IfErr result (λ _. IsEndingLast (HoldsFront (T.holds tape.new.out)) volumes.now capacity
-        set_id (past ++ record { file = file.now; records = records } ∷ [])) }
-    ensures asked { StaysAsked T.TapeOut volumes.now tape.old result tape.new }
-    ensures ending { IfErr result IsEnding }
-    ensures stuck { IfErr result (λ fault. fault ≡ WriteFault.OutOfVolumes
-        → IfInside T.TapeOut volumes.now capacity file.now tape.old packer.old
-        (λ set_id fs records. IsStuck (T.holds tape.new.out) volumes.now capacity set_id
-        file.now tape.new.course fs records)) }
-    ensures lasting { TapeLasts T.TapeOut tape.old tape.new }
-    ensures cause { FailsWith (T.failures tape.old.out) result (T.failures tape.new.out) }
-{
-    flush(tape, packer, file, volumes, capacity)?;
-    tape.end_file(file, volumes, capacity)
-}
 
 /// Begins a file, and before the first file the first volume.
 #[tactic(auto, using(crate::proofs::Last::kept))]

@@ -15,7 +15,7 @@ ghost use Rattle.tape_writer.specs.declared.course.Opened.{Opened};
 ghost use Rattle.tape_writer.specs.declared.phase.Phase.TheVariants.{Between, Failed, Finished};
 
 use crate::fault::WriteFault;
-use crate::files::{close_file, end_set};
+use crate::files::end_set;
 use crate::out::TapeOut;
 use crate::phase::Phase;
 use crate::records::put_record;
@@ -132,13 +132,10 @@ impl<T: TapeOut + Drop> SetWriter<T> {
             Phase::Failed => return Err(WriteFault::Failed),
             Phase::Finished => return Err(WriteFault::Finished),
         };
-        match close_file(
-            &mut self.tape,
-            &mut file.packer,
-            &file.file,
-            &self.volumes,
-            self.capacity,
-        ) {
+        match self
+            .tape
+            .end_file(&mut file.packer, &file.file, &self.volumes, self.capacity)
+        {
             Ok(()) => {
                 self.phase = Phase::Between;
                 Ok(())

@@ -1,4 +1,4 @@
-use Rattle.std.proofs.Common.{refl, sym, subst, rules, arith, ◌+◌, ◌≡◌, ℕ, List, []}
+use Rattle.std.proofs.Common.{refl, sym, subst, rules, arith, ◌+◌, ℕ, List}
 use Rattle.std.specs.Prelude.{Ok}
 use Rattle.tape_label.specs.Widths.{IsWideVolume}
 use Rattle.tape_set.proofs.Everywhere.{every_at}

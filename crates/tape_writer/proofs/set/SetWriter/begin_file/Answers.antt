@@ -124,11 +124,12 @@ returns-in-Err-begin-clause-front g c =
     (g.T.TapeOut.holds c.begin.new.tape.out) old (record old { phase = Failed })
     c.deref.result.now c.next_file-file.result c.in-Ok.packer told c.args.head c.args.shape
     between (search rules) (refl, refl, refl) (search rules)
-    (λ s f x. c.in-Err-begin.ensures.front c.self.inside.set_id told c.in-Ok.packer s f (search rules)
-    x) k))
+    (λ s f x. c.in-Err-begin.ensures.front c.self.inside.set_id told c.in-Ok.packer s f
+    (search rules) x) k))
 
 pub returns-then-is_err-clause-memory : goal.returns-then-is_err-clause-memory
 returns-then-is_err-clause-memory g c = rw (← c.self.view_is) (λ e. inl refl)
 
 pub returns-in-Err-begin-clause-memory : goal.returns-in-Err-begin-clause-memory
-returns-in-Err-begin-clause-memory g c = rw (← c.self.view_is) (λ e. inr (c.in-Err-begin.ensures.cause.1 e))
+returns-in-Err-begin-clause-memory g c =
+    rw (← c.self.view_is) (λ e. inr (c.in-Err-begin.ensures.cause.1 e))

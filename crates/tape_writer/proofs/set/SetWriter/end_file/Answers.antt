@@ -28,8 +28,8 @@ returns-in-Ok-clause-told g c =
     } in
     rw (← c.self.view_is) (λ told k.
     end_told (g.T.TapeOut.holds c.self.inside.tape.out)
-    (g.T.TapeOut.holds c.close_file.new.tape.out) old
-    c.close_file.new.tape.out c.deref.result.now c.close_file.new.tape.course c.in-Filing.file told
+    (g.T.TapeOut.holds c.end_file.new.self.out) old
+    c.end_file.new.self.out c.deref.result.now c.end_file.new.self.course c.in-Filing.file told
     c.in-Filing.is (search rules)
     (λ past records x. c.in-Ok.ensures.filed c.self.inside.set_id past records x) k)
 
@@ -46,8 +46,8 @@ returns-in-Err-clause-stuck g c =
     } in
     rw (← c.self.view_is) (λ told k e.
     stuck_told (g.T.TapeOut.holds c.self.inside.tape.out)
-    (g.T.TapeOut.holds c.close_file.new.tape.out) old
-    c.close_file.new.tape.out c.deref.result.now c.close_file.new.tape.course c.in-Filing.file told
+    (g.T.TapeOut.holds c.end_file.new.self.out) old
+    c.end_file.new.self.out c.deref.result.now c.end_file.new.self.course c.in-Filing.file told
     c.in-Filing.is
     (search rules)
     (λ fs records x. c.in-Err.ensures.stuck e c.self.inside.set_id fs records x) k)
@@ -56,8 +56,8 @@ pub returns-in-Ok-clause-asked : goal.returns-in-Ok-clause-asked
 returns-in-Ok-clause-asked g c =
     rw (← c.self.view_is) (λ w.
     asked_of (g.T.TapeOut.asked c.self.inside.tape.out)
-    (g.T.TapeOut.asked c.close_file.new.tape.out) c.deref.result.now c.self.inside.volumes.items
-    c.self.inside.tape.course.volume c.close_file.new.tape.course.volume (search rules)
+    (g.T.TapeOut.asked c.end_file.new.self.out) c.deref.result.now c.self.inside.volumes.items
+    c.self.inside.tape.course.volume c.end_file.new.self.course.volume (search rules)
     c.in-Ok.ensures.asked w)
 
 pub returns-in-Err-clause-front : goal.returns-in-Err-clause-front
@@ -73,7 +73,7 @@ returns-in-Err-clause-front g c =
     } in
     rw (← c.self.view_is) (λ told k ends.
     left_end (g.T.TapeOut.holds c.self.inside.tape.out)
-    (g.T.TapeOut.holds c.close_file.new.tape.out) old c.deref.result.now c.in-Filing.file told
+    (g.T.TapeOut.holds c.end_file.new.self.out) old c.deref.result.now c.in-Filing.file told
     c.in-Filing.is (search rules)
     (λ past records x. c.in-Err.ensures.front c.self.inside.set_id past records x) k)
 

@@ -1,91 +1,222 @@
--- A file's end in the current section, and after a change.
-use Rattle.std.proofs.Common.{rules, arith, refl, true}
-use Rattle.std.specs.Prelude.{Ok}
+-- A file's last block and its end, in the current section, and after a change.
+use Rattle.std.proofs.Common.{rules, arith, refl, true, sym, subst, inl}
+use Rattle.std.specs.Prelude.{Ok, Err}
+use Rattle.std.proofs.lemmas.Result.{err_from_is_err_and}
+use Rattle.tape_label.specs.Widths.{IsWideVolume}
+use Rattle.tape_set.proofs.Everywhere.{every_at}
+use Rattle.tape_writer.specs.declared.fault.WriteFault.TheVariants.{OutOfVolumes}
 use Rattle.tape_writer.specs.Draft.{ended_course, changed_course}
 use Rattle.tape_writer.specs.Labels.{trailer_items}
 use Rattle.tape_writer.specs.Front.{HoldsFront}
+use Rattle.tape_writer.specs.Inside.{IsStuck}
+use Rattle.tape_writer.proofs.Ends.{between_closed}
 use Rattle.tape_writer.proofs.Fronts.{front_items, err_any}
-use Rattle.std.proofs.lemmas.Result.{err_from_is_err_and}
-use Rattle.tape_set.proofs.Everywhere.{every_at}
-use Rattle.tape_label.specs.Widths.{IsWideVolume}
-use Rattle.tape_writer.proofs.Last.{lasting_self}
 use Rattle.tape_writer.proofs.Held.{got, close_here, close_next}
+use Rattle.tape_writer.proofs.Last.{lasting_then}
+use Rattle.tape_writer.proofs.Left.{last_left, end_left}
+use Rattle.tape_writer.proofs.Packed.{flat_flushed, err_map}
+use Rattle.tape_writer.proofs.Stuck.{stuck_last, stuck_end}
 use Rattle.tape_writer.proofs.tape.Tape.end_file.Goals as goal
 
-pub returns-then-has_room-clause-closed : goal.returns-then-has_room-clause-closed
-returns-then-has_room-clause-closed g c = λ set_id d o.
-    close_here (g.T.TapeOut.holds c.args.self.now.out)
+pub returns-then-has_room-clause-filed : goal.returns-then-has_room-clause-filed
+returns-then-has_room-clause-filed g c = λ set_id past records k.
+    let flat = flat_flushed g.T.TapeOut.holds c.args.volumes.now c.args.capacity set_id
+    c.args.file.now c.args.self.now c.flush.new.tape c.args.packer.now k.files records
+    (λ e. (c.flush.ensures.none e).1) (λ some d o. c.in_ok-flush.ensures.flushed some set_id d o)
+    k.inside in
+    between_closed (g.T.TapeOut.holds c.flush.new.tape.out) (g.T.TapeOut.holds
+    c.end_section.new.self.out)
+    c.args.volumes.now c.args.capacity set_id c.args.file.now c.flush.new.tape.course
+    c.end_section.new.self.course past k.files records c.end_section.result c.requires.capacity
+    k.filed flat
+    (λ d o. close_here (g.T.TapeOut.holds c.flush.new.tape.out)
     (g.T.TapeOut.holds c.end_section.new.self.out) c.args.volumes.now c.args.capacity set_id
-    c.args.file.now c.args.self.now.course c.end_section.new.self.course d c.end_section.result
-    o c.requires.volumes (omega arith) (let fits = c.has_room.ensures.yes (search rules) in
-    omega (arith, fits)) c.end_section.ensures.ok c.end_section.ensures.course
+    c.args.file.now c.flush.new.tape.course c.end_section.new.self.course d c.end_section.result
+    o c.requires.volumes (omega arith) (let fits = c.has_room.ensures.yes (search rules) in omega
+    (arith, fits))
+    c.end_section.ensures.ok c.end_section.ensures.course)
 
-pub returns-clause-closed : goal.returns-clause-closed
-returns-clause-closed g c = λ set_id d o.
-    let there = got c.args.volumes.now c.from.result c.args.self.now.course.volume
+pub returns-clause-filed : goal.returns-clause-filed
+returns-clause-filed g c = λ set_id past records k.
+    let flat = flat_flushed g.T.TapeOut.holds c.args.volumes.now c.args.capacity set_id
+    c.args.file.now c.args.self.now c.flush.new.tape c.args.packer.now k.files records
+    (λ e. (c.flush.ensures.none e).1) (λ some d o. c.in_ok-flush.ensures.flushed some set_id d o)
+    k.inside in
+    let there = got c.args.volumes.now c.from.result c.flush.new.tape.course.volume
     c.in-Some.volume.now (search rules) c.in-Some.ensures.lookup.3.0 c.in-Some.ensures.lookup.1 in
-    close_next (g.T.TapeOut.holds c.args.self.now.out) (g.T.TapeOut.holds c.change_to.new.self.out)
+    between_closed (g.T.TapeOut.holds c.flush.new.tape.out) (g.T.TapeOut.holds
+    c.end_section-2.new.self.out)
+    c.args.volumes.now c.args.capacity set_id c.args.file.now c.flush.new.tape.course
+    c.end_section-2.new.self.course past k.files records c.end_section-2.result
+    c.requires.capacity k.filed flat
+    (λ d o. close_next (g.T.TapeOut.holds c.flush.new.tape.out) (g.T.TapeOut.holds
+    c.change_to.new.self.out)
     (g.T.TapeOut.holds c.end_section-2.new.self.out) c.args.volumes.now c.args.capacity set_id
-    c.args.file.now c.args.self.now.course c.change_to.new.self.course
+    c.args.file.now c.flush.new.tape.course c.change_to.new.self.course
     c.end_section-2.new.self.course d c.in-Some.volume.now c.end_section-2.result
     o (let due = c.has_room.ensures.no (search rules) in omega (arith, due)) there
-    (every_at IsWideVolume c.args.volumes.now c.args.self.now.course.volume c.in-Some.volume.now
-    c.requires.wide there) c.requires.volumes c.requires.capacity
+    (every_at IsWideVolume c.args.volumes.now c.flush.new.tape.course.volume c.in-Some.volume.now
+    c.requires.wide there) c.requires.volumes (omega (arith, c.requires.capacity))
     (omega arith) c.in_ok-change_to.ensures.ok c.in_ok-change_to.ensures.course
-    c.end_section-2.ensures.ok c.end_section-2.ensures.course
+    c.end_section-2.ensures.ok c.end_section-2.ensures.course)
 
-pub returns-in_default-clause-lasting : goal.returns-in_default-clause-lasting
-returns-in_default-clause-lasting g c = lasting_self _ _ _
+pub returns-in_err-flush-clause-stuck : goal.returns-in_err-flush-clause-stuck
+returns-in_err-flush-clause-stuck g c =
+    let p = err_from_is_err_and c.from_residual.result
+    c.from_residual.ensures.1 in
+    rw (p.1, p.2) (λ e set_id fs records k.
+    let q = c.in_err-flush.ensures.stuck e in
+    subst (λ t. IsStuck (g.T.TapeOut.holds t.out) c.args.volumes.now c.args.capacity set_id
+    c.args.file.now t.course fs records) (sym q.0)
+    (stuck_last (g.T.TapeOut.holds c.args.self.now.out) c.args.volumes.now c.args.capacity set_id
+    c.args.file.now c.args.self.now.course c.args.packer.now fs records k q.1))
+
+pub returns-then-has_room-clause-stuck : goal.returns-then-has_room-clause-stuck
+returns-then-has_room-clause-stuck g c =
+    err_map c.end_section.result _ _ (λ f p e. absurd (p.1 e)) c.end_section.ensures.out
+
+pub returns-in_default-clause-stuck : goal.returns-in_default-clause-stuck
+returns-in_default-clause-stuck g c = λ e set_id fs records k.
+    let flat = flat_flushed g.T.TapeOut.holds c.args.volumes.now c.args.capacity set_id
+    c.args.file.now c.args.self.now c.flush.new.tape c.args.packer.now fs records
+    (λ e. (c.flush.ensures.none e).1) (λ some d o. c.in_ok-flush.ensures.flushed some set_id d o)
+    k in
+    stuck_end (g.T.TapeOut.holds c.flush.new.tape.out) c.args.volumes.now c.args.capacity set_id
+    c.args.file.now c.flush.new.tape.course fs records flat (search rules)
+    (let due = c.has_room.ensures.no (search rules) in omega (arith, due))
+
+pub returns-in_err-change_to-clause-stuck : goal.returns-in_err-change_to-clause-stuck
+returns-in_err-change_to-clause-stuck g c =
+    let p = err_from_is_err_and c.from_residual-in_err-change_to.result
+    c.from_residual-in_err-change_to.ensures.1 in
+    rw (p.1, p.2) (λ e. absurd (c.in_err-change_to.ensures.out.1 e))
+
+pub returns-clause-stuck : goal.returns-clause-stuck
+returns-clause-stuck g c =
+    err_map c.end_section-2.result _ _ (λ f p e. absurd (p.1 e)) c.end_section-2.ensures.out
+
+pub returns-then-has_room-clause-lasting : goal.returns-then-has_room-clause-lasting
+returns-then-has_room-clause-lasting g c =
+    lasting_then _ _ _ _ _ _ _ _ _ c.flush.ensures.lasting c.end_section.ensures.lasting
+
+pub returns-in_err-change_to-clause-lasting : goal.returns-in_err-change_to-clause-lasting
+returns-in_err-change_to-clause-lasting g c =
+    lasting_then _ _ _ _ _ _ _ _ _ c.flush.ensures.lasting c.change_to.ensures.lasting
+
+pub returns-clause-lasting : goal.returns-clause-lasting
+returns-clause-lasting g c = lasting_then _ _ _ _ _ _ _ _ _ c.flush.ensures.lasting
+    (lasting_then _ _ _ _ _ _ _ _ _ c.change_to.ensures.lasting c.end_section-2.ensures.lasting)
+
+pub returns-in_err-flush-clause-front : goal.returns-in_err-flush-clause-front
+returns-in_err-flush-clause-front g c =
+    let p = err_from_is_err_and c.from_residual.result
+    c.from_residual.ensures.1 in
+    rw p.1 (λ set_id past records k.
+    let q = last_left (g.T.TapeOut.holds c.args.self.now.out)
+    (g.T.TapeOut.holds c.flush.new.tape.out) c.args.volumes.now c.args.capacity set_id
+    c.args.file.now c.args.self.now.course c.args.packer.now k.files records _
+    c.args.packer.now.parts refl (λ e. (c.in_err-flush.ensures.none e).0)
+    (λ e t h. subst (λ z. g.T.TapeOut.holds z.out t) (sym (c.in_err-flush.ensures.stuck e).0) h)
+    (λ some d o. c.in_err-flush.ensures.front some set_id d o) k.inside in
+    inl record {
+      past = past;
+      last = record { file = c.args.file.now; records = records };
+      is_told = refl;
+      files = k.files;
+      filed = k.filed;
+      course = q.0;
+      partly = q.1;
+    })
 
 pub returns-then-has_room-clause-front : goal.returns-then-has_room-clause-front
-returns-then-has_room-clause-front g c = λ set_id d o.
-    err_any c.end_section.result _ (λ f not.
-    let new = ended_course c.args.self.now.course in (
+returns-then-has_room-clause-front g c = λ set_id past records k.
+    let flat = flat_flushed g.T.TapeOut.holds c.args.volumes.now c.args.capacity set_id
+    c.args.file.now c.args.self.now c.flush.new.tape c.args.packer.now k.files records
+    (λ e. (c.flush.ensures.none e).1) (λ some d o. c.in_ok-flush.ensures.flushed some set_id d o)
+    k.inside in
+    end_left (g.T.TapeOut.holds c.flush.new.tape.out) (g.T.TapeOut.holds c.end_section.new.self.out)
+    c.args.volumes.now c.args.capacity set_id c.args.file.now c.flush.new.tape.course past k.files
+    records c.end_section.result c.requires.capacity
+    (err_map c.end_section.result _ _ (λ f p e. absurd (p.1 e)) c.end_section.ensures.out)
+    (λ d o. err_any c.end_section.result _ (λ f not.
+    let new = ended_course c.flush.new.tape.course in (
       new,
-      close_here (g.T.TapeOut.holds c.args.self.now.out)
+      close_here (g.T.TapeOut.holds c.flush.new.tape.out)
           (HoldsFront (g.T.TapeOut.holds c.end_section.new.self.out)) c.args.volumes.now
-          c.args.capacity set_id c.args.file.now c.args.self.now.course new d (Ok tt)
-          o c.requires.volumes (omega arith)
-          (let fits = c.has_room.ensures.yes (search rules) in omega (arith, fits))
+          c.args.capacity set_id c.args.file.now c.flush.new.tape.course new d (Ok tt)
+          o c.requires.volumes (omega arith) (let fits = c.has_room.ensures.yes (search rules) in
+          omega (arith, fits))
           c.end_section.ensures.front refl,
-    ))
+    ))) k.filed flat
+
+pub returns-in_default-clause-front : goal.returns-in_default-clause-front
+returns-in_default-clause-front g c = λ set_id past records k.
+    let flat = flat_flushed g.T.TapeOut.holds c.args.volumes.now c.args.capacity set_id
+    c.args.file.now c.args.self.now c.flush.new.tape c.args.packer.now k.files records
+    (λ e. (c.flush.ensures.none e).1) (λ some d o. c.in_ok-flush.ensures.flushed some set_id d o)
+    k.inside in
+    end_left (g.T.TapeOut.holds c.flush.new.tape.out) (g.T.TapeOut.holds c.flush.new.tape.out)
+    c.args.volumes.now c.args.capacity set_id c.args.file.now c.flush.new.tape.course past k.files
+    records (Err OutOfVolumes) c.requires.capacity (λ e t h. h) (λ d o not. absurd (not refl))
+    k.filed flat
 
 pub returns-in_err-change_to-clause-front : goal.returns-in_err-change_to-clause-front
 returns-in_err-change_to-clause-front g c =
-    let p = err_from_is_err_and c.from_residual.result c.from_residual.ensures.1 in
-    rw (p.1, p.2) (λ set_id d o not.
-    let there = got c.args.volumes.now c.from.result c.args.self.now.course.volume
+    let p = err_from_is_err_and c.from_residual-in_err-change_to.result
+    c.from_residual-in_err-change_to.ensures.1 in
+    rw p.1 (λ set_id past records k.
+    let flat = flat_flushed g.T.TapeOut.holds c.args.volumes.now c.args.capacity set_id
+    c.args.file.now c.args.self.now c.flush.new.tape c.args.packer.now k.files records
+    (λ e. (c.flush.ensures.none e).1) (λ some d o. c.in_ok-flush.ensures.flushed some set_id d o)
+    k.inside in
+    let there = got c.args.volumes.now c.from.result c.flush.new.tape.course.volume
     c.in-Some.volume.now (search rules) c.in-Some.ensures.lookup.3.0 c.in-Some.ensures.lookup.1 in
     let K = HoldsFront (g.T.TapeOut.holds c.change_to.new.self.out) in
-    let one = changed_course c.args.self.now.course in
-    let two = ended_course one in (
+    let one = changed_course c.flush.new.tape.course in
+    let two = ended_course one in
+    end_left (g.T.TapeOut.holds c.flush.new.tape.out) (g.T.TapeOut.holds c.change_to.new.self.out)
+    c.args.volumes.now c.args.capacity set_id c.args.file.now c.flush.new.tape.course past k.files
+    records (Err c.in_err-change_to.field-0.0) c.requires.capacity
+    (λ e. absurd (c.in_err-change_to.ensures.out.1 e))
+    (λ d o not. (
       two,
-      close_next (g.T.TapeOut.holds c.args.self.now.out) K K c.args.volumes.now c.args.capacity
-          set_id c.args.file.now c.args.self.now.course one two d c.in-Some.volume.now (Ok tt)
+      close_next (g.T.TapeOut.holds c.flush.new.tape.out) K K c.args.volumes.now c.args.capacity
+          set_id c.args.file.now c.flush.new.tape.course one two d c.in-Some.volume.now (Ok tt)
           o (let due = c.has_room.ensures.no (search rules) in omega (arith, due)) there
-          (every_at IsWideVolume c.args.volumes.now c.args.self.now.course.volume
-          c.in-Some.volume.now c.requires.wide there) c.requires.volumes c.requires.capacity
+          (every_at IsWideVolume c.args.volumes.now c.flush.new.tape.course.volume
+          c.in-Some.volume.now
+          c.requires.wide there) c.requires.volumes (omega (arith, c.requires.capacity))
           (omega arith) c.change_to.ensures.front refl
           (λ vs items h. front_items (g.T.TapeOut.holds c.change_to.new.self.out) vs items
           (trailer_items c.args.file.now one.sect one.count true) h) refl,
-    ))
+    )) k.filed flat)
 
 pub returns-clause-front : goal.returns-clause-front
-returns-clause-front g c = λ set_id d o.
-    err_any c.end_section-2.result _ (λ f not.
-    let there = got c.args.volumes.now c.from.result c.args.self.now.course.volume
+returns-clause-front g c = λ set_id past records k.
+    let flat = flat_flushed g.T.TapeOut.holds c.args.volumes.now c.args.capacity set_id
+    c.args.file.now c.args.self.now c.flush.new.tape c.args.packer.now k.files records
+    (λ e. (c.flush.ensures.none e).1) (λ some d o. c.in_ok-flush.ensures.flushed some set_id d o)
+    k.inside in
+    let there = got c.args.volumes.now c.from.result c.flush.new.tape.course.volume
     c.in-Some.volume.now (search rules) c.in-Some.ensures.lookup.3.0 c.in-Some.ensures.lookup.1 in
     let one = c.change_to.new.self.course in
-    let two = ended_course one in (
+    let two = ended_course one in
+    end_left (g.T.TapeOut.holds c.flush.new.tape.out) (g.T.TapeOut.holds
+    c.end_section-2.new.self.out)
+    c.args.volumes.now c.args.capacity set_id c.args.file.now c.flush.new.tape.course past k.files
+    records c.end_section-2.result c.requires.capacity
+    (err_map c.end_section-2.result _ _ (λ f p e. absurd (p.1 e)) c.end_section-2.ensures.out)
+    (λ d o. err_any c.end_section-2.result _ (λ f not. (
       two,
-      close_next (g.T.TapeOut.holds c.args.self.now.out)
-          (g.T.TapeOut.holds c.change_to.new.self.out)
+      close_next (g.T.TapeOut.holds c.flush.new.tape.out) (g.T.TapeOut.holds
+          c.change_to.new.self.out)
           (HoldsFront (g.T.TapeOut.holds c.end_section-2.new.self.out)) c.args.volumes.now
-          c.args.capacity set_id c.args.file.now c.args.self.now.course one two d
+          c.args.capacity set_id c.args.file.now c.flush.new.tape.course one two d
           c.in-Some.volume.now (Ok tt)
           o (let due = c.has_room.ensures.no (search rules) in omega (arith, due)) there
-          (every_at IsWideVolume c.args.volumes.now c.args.self.now.course.volume
-          c.in-Some.volume.now c.requires.wide there) c.requires.volumes c.requires.capacity
+          (every_at IsWideVolume c.args.volumes.now c.flush.new.tape.course.volume
+          c.in-Some.volume.now
+          c.requires.wide there) c.requires.volumes (omega (arith, c.requires.capacity))
           (omega arith) c.in_ok-change_to.ensures.ok c.in_ok-change_to.ensures.course
           c.end_section-2.ensures.front refl,
-    ))
+    ))) k.filed flat

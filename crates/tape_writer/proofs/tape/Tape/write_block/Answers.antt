@@ -66,7 +66,8 @@ returns-in_err-change_to-clause-front g c =
       two,
       write_next (g.T.TapeOut.holds c.args.self.now.out) K K c.args.volumes.now c.args.capacity
           set_id c.args.file.now c.args.self.now.course one two d b c.in-Some.volume.now
-          c.args.bytes.now (Ok tt) e c.requires.sized o (let due = c.has_room.ensures.no (search rules) in
+          c.args.bytes.now (Ok tt) e c.requires.sized o (let due = c.has_room.ensures.no (search
+          rules) in
           omega (arith, due))
           there (every_at IsWideVolume c.args.volumes.now c.args.self.now.course.volume
           c.in-Some.volume.now c.requires.wide there) c.requires.volumes c.requires.capacity
