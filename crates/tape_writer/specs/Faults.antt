@@ -20,6 +20,6 @@ IsEnding Device = Unit {0}
 IsEnding OutOfMemory = Unit {0}
 IsEnding _ = ⊥
 
--- those of them that do not come from a change of the volume
+-- those of them that an output causes: all but `OutOfVolumes`
 abbrev pub IsOfOut : WriteFault → Type 0
 IsOfOut fault = IsEnding fault × (fault ≢ OutOfVolumes)
