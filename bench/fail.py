@@ -161,7 +161,7 @@ UNPACK = {
 }
 UNPACKED = "ABC001.1.PAYROLL"
 WANTED = r"FILE ABC001 1 (COMPLETE|AWAITS) .*\n"
-UNPACK_REPORTS = {kind: {0: WANTED, 3: f"({WANTED})?(LEFT OVER\n)?"} for kind in "orwyl"}
+UNPACK_REPORTS = {kind: {0: WANTED, 3: f"({WANTED})?(INCOMPLETE IMAGES\n)?"} for kind in "orwyl"}
 FAILED = re.compile(r"FILE ABC001 1 FAILED .*\n\Z")
 
 
@@ -184,7 +184,7 @@ def trials(program):
         Trial("list, standard input", ["list"], LIST, stdin=ONE, image=ONE),
         Trial("list, a file", ["list", "one.tap"], LIST, reels, image=ONE),
         Trial("list, an image cut off", ["list", "cut.tap"], LIST, {"cut.tap": ONE[:20_000]}, image=ONE),
-        Trial("list, places", ["list", "--places", "one.tap"], LIST, reels, image=ONE),
+        Trial("list, places", ["list", "--offsets", "one.tap"], LIST, reels, image=ONE),
         Trial("init, two volumes", ["init", ".", "ABC", "2"], INIT),
         Trial("write, F", ["write", ".", "ABC", "30000", "PAYROLL=lines", *shape], WRITE, lines),
         Trial("write, D", ["write", ".", "ABC", "100000", "PAYROLL=lines"], WRITE, lines),
@@ -201,9 +201,9 @@ def trials(program):
         Trial("stage, broken off", ["stage", "--damaged", "torn.stage", "OUT"], STAGE,
             {"torn.stage": stage["kept.stage"][:20_000]}, result="OUT"),
         Trial("check, two reels", ["check", "one.tap", "two.tap"], CHECK, reels, reports=CHECK_REPORTS),
-        Trial("check, names in a list", ["check", "one.tap", "--from", "names"], CHECK_LIST, reels | {"names": b"two.tap\n"},
+        Trial("check, names in a list", ["check", "one.tap", "--files-from", "names"], CHECK_LIST, reels | {"names": b"two.tap\n"},
             reports=CHECK_REPORTS),
-        Trial("extract, names on standard input", ["extract", "ABC001", "1", "OUT", "--from", "-", "--null"], EXTRACT, reels,
+        Trial("extract, names on standard input", ["extract", "ABC001", "1", "OUT", "--files-from", "-", "--null"], EXTRACT, reels,
             stdin=b"one.tap\0two.tap\0", result="OUT", reports=EXTRACT_REPORTS),
         Trial("unpack, two reels", ["unpack", ".", "two.tap", "one.tap"], UNPACK, reels, result=UNPACKED, stays=f"{UNPACKED}.stage",
             reports=UNPACK_REPORTS),

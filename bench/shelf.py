@@ -43,7 +43,7 @@ class Trial:
 
     def run(self, *words, names=None):
         text = None if names is None else "\0".join(names)
-        listed = [] if names is None else ["--from", "-", "--null"]
+        listed = [] if names is None else ["--files-from", "-", "--null"]
         return subprocess.run([self.options.program, *words, *listed], cwd=self.folder, input=text, capture_output=True,
             text=True, check=False)
 
@@ -56,7 +56,7 @@ def check_survey(trial, shelf, there, names):
     told = {(row[1], int(row[2])): row for row in rows if row[0] == "FILE"}
     for set_id, files in shelf.files.items():
         if set_id == shelf.mixed:
-            trial.is_so(told[set_id, 1][8] == "MIXED", f"survey: {told[set_id, 1]}")
+            trial.is_so(told[set_id, 1][8] == "CONFLICT", f"survey: {told[set_id, 1]}")
             continue
         reels = [reel for reel in there if reel.set_id == set_id]
         met = {key[0] for reel in reels for key in sections_of(reel)}
@@ -78,12 +78,12 @@ def check_unpack(trial, shelf, there, names, day):
     done = trial.run("unpack", "out", names=names)
     trial.is_so(done.stderr == "" and done.returncode in (0, 3), f"unpack: status {done.returncode}, {done.stderr!r}")
     lines = done.stdout.splitlines()
-    trial.is_so(lines[-1] == "LEFT OVER", f"unpack: the last line {lines[-1]!r}")
+    trial.is_so(lines[-1] == "INCOMPLETE IMAGES", f"unpack: the last line {lines[-1]!r}")
     lines = [line.split(" ", 3) for line in lines[:-1]]
     trial.is_so(all(line[0] == "FILE" for line in lines), f"unpack: {done.stdout[:200]!r}")
     told = {(line[1], int(line[2])): line[3] for line in lines}
     trial.is_so(len(told) == len(lines), "unpack: a file is told twice")
-    counts = dict.fromkeys(["complete", "kept", "wanted", "not met", "mixed"], 0)
+    counts = dict.fromkeys(["complete", "exists", "awaits", "not found", "conflict"], 0)
     for set_id, files in shelf.files.items():
         reels = [reel for reel in there if reel.set_id == set_id]
         greatest = max((key[0] for reel in reels for key in sections_of(reel)), default=0)
@@ -94,16 +94,16 @@ def check_unpack(trial, shelf, there, names, day):
             kept = any(path.name in before for path in made)
             want = wanted(file.number, reels)
             if set_id == shelf.mixed:
-                fate, right = "mixed", line == "DIFFERS" and not made
+                fate, right = "conflict", line == "CONFLICT" and not made
             elif file.number > greatest:
-                fate, right = "not met", not line and not made
+                fate, right = "not found", not line and not made
             elif file.number not in headers:
-                fate, right = "not met", line == "NOT MET" and not made
+                fate, right = "not found", line == "NOT FOUND" and not made
             elif want is None:
-                fate = "kept" if kept else "complete"
+                fate = "exists" if kept else "complete"
                 right = line.startswith(fate.upper()) and [path.read_bytes() for path in made] == [file.text]
             else:
-                fate, right = "wanted", line.startswith(f"AWAITS {file.number} {want[0]} {want[1]} ") and not made
+                fate, right = "awaits", line.startswith(f"AWAITS {file.number} {want[0]} {want[1]} ") and not made
             counts[fate] += 1
             trial.is_so(right, f"unpack, day {day}: {set_id} {file.number}: {line!r}, {fate}, wanted {want}")
     trial.is_so(not told, f"unpack: of no file: {told}")

@@ -218,7 +218,7 @@ def damage_stages(options):
             (folder / "OUT").unlink(missing_ok=True)
             done = subprocess.run([options.program, "stage", "--damaged", "torn", "OUT"], cwd=folder, capture_output=True,
                 text=True, check=False)
-            told = f"STAGE ABC001 1 {len(records)}\n" + ("AWAITS" if broken is None else f"BREAKS OFF {broken}\n")
+            told = f"STAGE ABC001 1 {len(records)}\n" + ("AWAITS" if broken is None else f"TRUNCATED AT {broken}\n")
             lines = b"".join(record + b"\n" for record in records)
             if done.returncode != 3 or not done.stdout.startswith(told) or (folder / "OUT").read_bytes() != lines:
                 wrong += 1

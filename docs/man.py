@@ -21,18 +21,18 @@ COMPLETION = os.path.join(TOP, "docs", "tape.bash")
 
 # For each command its usage, and its words with the name of what they say in help.rt.
 COMMANDS = {
-    "list": ("[--places] [IMAGE]", [("IMAGE", "IMAGE"), ("--places", "PLACES")]),
-    "check": ("[--from LIST [--null]] [IMAGE]...", [
-        ("IMAGE", "IMAGES"), ("--from LIST", "FROM"), ("--null", "NULL")]),
-    "survey": ("[--tsv] [--from LIST [--null]] [IMAGE]...", [
-        ("IMAGE", "SHELF"), ("--from LIST", "FROM"), ("--null", "NULL"), ("--tsv", "ROWS")]),
+    "list": ("[--offsets] [IMAGE]", [("IMAGE", "IMAGE"), ("--offsets", "OFFSETS")]),
+    "check": ("[--files-from LIST [--null]] [IMAGE]...", [
+        ("IMAGE", "IMAGES"), ("--files-from LIST", "FROM"), ("--null", "NULL")]),
+    "survey": ("[--tsv] [--files-from LIST [--null]] [IMAGE]...", [
+        ("IMAGE", "SHELF"), ("--files-from LIST", "FROM"), ("--null", "NULL"), ("--tsv", "ROWS")]),
     "extract": ("[OPTIONS] SET FILE OUT [IMAGE]...", [
         ("SET", "SET"), ("FILE", "FILE"), ("OUT", "OUT"), ("IMAGE", "REELS"),
-        ("--from LIST", "FROM"), ("--null", "NULL"),
+        ("--files-from LIST", "FROM"), ("--null", "NULL"),
         ("--form lines|raw", "FORM_OF_OUT"), ("--stage PATH", "STAGE"),
         ("--again", "AGAIN")]),
-    "unpack": ("[--form FORM] [--from LIST [--null]] DIR [IMAGE]...", [
-        ("DIR", "FOLDER_OF_FILES"), ("IMAGE", "SHELF"), ("--from LIST", "FROM"),
+    "unpack": ("[--form FORM] [--files-from LIST [--null]] DIR [IMAGE]...", [
+        ("DIR", "FOLDER_OF_FILES"), ("IMAGE", "SHELF"), ("--files-from LIST", "FROM"),
         ("--null", "NULL"), ("--form lines|raw", "FORM_OF_FILES")]),
     "stage": ("[--form FORM] [--damaged] PATH [OUT]", [
         ("PATH", "STAGE_READ"), ("OUT", "OUT_OF_STAGE"), ("--form lines|raw", "FORM_OF_OUT"),
@@ -101,7 +101,7 @@ def read(*path):
 
 def texts():
     """The texts of help.rt and help/ by their names."""
-    below = [("help", f"{name}.rt") for name in ("lists", "stage", "unpack", "volumes")]
+    below = [("help", f"{name}.rt") for name in ("extract", "lists", "stage", "survey", "unpack", "volumes")]
     parts = [("help.rt",), *below]
     source = "".join(read(SOURCE, *part) for part in parts)
     found = re.findall(r'pub const (\w+): &str =\s*"((?:[^"\\]|\\.)*)";', source, re.S)
@@ -191,15 +191,14 @@ def paragraphs(text):
 
 
 def titled(text):
-    """A text in sections by the headings that stand alone in it, as `Faults of an image:`."""
-    out = []
+    """A text in sections by the headings that stand alone in it, such as `Image faults:`."""
+    out = [".SH DIAGNOSTICS"]
     for part in re.split(r"\n\n", text):
         first, _, rest = part.partition("\n")
         if first.startswith("Example"):
             out += [".SH EXAMPLES", *paragraphs(rest)]
         elif first.startswith("Exit status: "):
-            sentence, _, more = part.removeprefix("Exit status: ").partition("\n")
-            out += [".SH EXIT STATUS", *paragraphs(sentence), ".SH DIAGNOSTICS", *paragraphs(more)]
+            out += [".SH EXIT STATUS", *paragraphs(part.removeprefix("Exit status: "))]
         elif first.endswith(":"):
             out += [f".SS {quoted(first[:-1])}", *paragraphs(rest)]
         else:

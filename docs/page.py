@@ -5,7 +5,7 @@
 
 A strip of squares for each reel, one for each item or, on a long reel, for several of which the
 worst decides; behind them a table of the files, with the state of each section that was met and
-what is wanted. It asks `tape survey --tsv` and `tape list --places`; TAPE names another program.
+what is wanted. It asks `tape survey --tsv` and `tape list --offsets`; TAPE names another program.
 docs/page.html is the page of three images, which docs/examples.sh draws anew and compares.
 """
 import collections
@@ -31,8 +31,8 @@ svg { display: block; margin: .3em 0 }
 .block { fill: #7fb685 } .mark { fill: #555 } .label { fill: #2b6ca3 } .bad { fill: #c0392b }
 .end { fill: #fff; stroke: #c0392b; stroke-width: 2 }
 .COMPLETE, .GOOD, .WHOLE { background: #e3f1e5 }
-.BAD, .COUNT, .CUT, .LEFT { background: #f9e6c8 }
-.WANTED, .MIXED, .NOT { background: #f6d5d1 }
+.BAD, .COUNT, .CUT, .PARTIAL { background: #f9e6c8 }
+.MISSING, .CONFLICT, .NOT { background: #f6d5d1 }
 td svg { display: inline; margin: 0 .4em 0 0 }
 p span, td span { padding: 0 .4em; margin-right: .3em }
 """
@@ -44,7 +44,7 @@ LEGEND = (("block", "a block"), ("label", "a label"), ("mark", "a tape mark"),
 def rows_of(paths):
     """The rows of the survey of any number of images. Status 3 says that something lacks."""
     names = b"".join(os.fsencode(path) + b"\0" for path in paths)
-    done = subprocess.run([TAPE, "survey", "--tsv", "--from", "-", "--null"],
+    done = subprocess.run([TAPE, "survey", "--tsv", "--files-from", "-", "--null"],
                           input=names, stdout=subprocess.PIPE, check=False)
     if done.returncode not in (0, 3):
         sys.exit("page.py: tape survey failed")
@@ -92,7 +92,7 @@ def strip(items):
 def reel(row):
     """The part of an image, by its row in the survey."""
     path, (state, words) = row["path"], (row["state"], row["words"])
-    items = [item for line in told("list", "--places", path) if (item := item_of(line))]
+    items = [item for line in told("list", "--offsets", path) if (item := item_of(line))]
     head = f'<h2>{html.escape(row["name"])}</h2>\n'
     about = f'<p><span class="{state.split()[0]}">{state.lower()}</span>{html.escape(words)}</p>\n'
     return head + about + (strip(items) if items and state != "NOT OPENED" else "")
@@ -106,8 +106,8 @@ def file_row(row, sections):
     """The row of a file, with its sections in the order of their numbers."""
     _, set_id, file, name, created, state, sect, volume, mixed = row
     met = [cell(s[6], f"{s[3]} {s[6]} on {s[4]}") for s in sections[set_id, file]]
-    if state == "WANTED":
-        met.append(cell(state, f"{sect} WANTED" + (f", behind {volume}" if volume else "")))
+    if state == "MISSING":
+        met.append(cell(state, f"{sect} MISSING" + (f", after {volume}" if volume else "")))
     if mixed:
         met.append(cell(mixed, "labels of different files"))
     columns = (html.escape(set_id), file, html.escape(name), html.escape(created.strip()),

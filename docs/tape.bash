@@ -16,13 +16,13 @@ _tape() {
     esac
     case $command:$cur in
     help:*) COMPREPLY=($(compgen -W 'list check survey extract unpack stage init write' -- "$cur")); return ;;
-    list:-*) COMPREPLY=($(compgen -W '--places --explain --help' -- "$cur")); return ;;
-    check:-*) COMPREPLY=($(compgen -W '--from --null --explain --help' -- "$cur")); return ;;
-    survey:-*) COMPREPLY=($(compgen -W '--from --null --tsv --explain --help' -- "$cur")); return ;;
-    unpack:-*) COMPREPLY=($(compgen -W '--from --null --form --explain --help' -- "$cur")); return ;;
+    list:-*) COMPREPLY=($(compgen -W '--offsets --explain --help' -- "$cur")); return ;;
+    check:-*) COMPREPLY=($(compgen -W '--files-from --null --explain --help' -- "$cur")); return ;;
+    survey:-*) COMPREPLY=($(compgen -W '--files-from --null --tsv --explain --help' -- "$cur")); return ;;
+    unpack:-*) COMPREPLY=($(compgen -W '--files-from --null --form --explain --help' -- "$cur")); return ;;
     stage:-*) COMPREPLY=($(compgen -W '--form --damaged --explain --help' -- "$cur")); return ;;
     extract:-*)
-        COMPREPLY=($(compgen -W '--from --null --form --stage --again --explain --help' -- "$cur"))
+        COMPREPLY=($(compgen -W '--files-from --null --form --stage --again --explain --help' -- "$cur"))
         return ;;
     write:-*)
         COMPREPLY=($(compgen -W \
@@ -34,7 +34,7 @@ _tape() {
     for ((at = 2; at < COMP_CWORD; at++)); do
         word=${COMP_WORDS[at]}
         case $word in
-        --from | --form | --stage | --format | --block | --record | --offset) at=$((at + 1)) ;;
+        --files-from | --form | --stage | --format | --block | --record | --offset) at=$((at + 1)) ;;
         -*) ;;
         *) place=$((place + 1)) ;;
         esac
@@ -43,10 +43,10 @@ _tape() {
     local IFS=$'\n'
     case $command:$place in
     extract:1 | extract:2 | init:2 | init:3 | write:2 | write:3)
-        case $prev in --from | --stage) ;; *) return ;; esac ;;
+        case $prev in --files-from | --stage) ;; *) return ;; esac ;;
     esac
     case $command:$place:$prev in
-    *:--from) COMPREPLY=($(compgen -f -- "$cur")) ;;
+    *:--files-from) COMPREPLY=($(compgen -f -- "$cur")) ;;
     init:1:* | write:1:* | unpack:1:*) COMPREPLY=($(compgen -d -- "$cur")) ;;
     # No image is offered for OUT, which would be written over, nor for a stage.
     extract:3:* | stage:[12]:* | *:--stage) COMPREPLY=($(compgen -f -X '*.[tT][aA][pP]' -- "$cur")) ;;

@@ -229,7 +229,7 @@ pub record CasesOfSurveys : Type 0 where
   pub other_section : eof_cell false ≡ []
   pub no_columns : sight_cells None ≡ codes "NOT OPENED\t\t\t\t\t\t\t"
   pub wanted : (n : ℕ) → standing_cells (Behind n (codes "ABC001"))
-      ≡ codes "WANTED\t" ++ decimal n ++ codes "\t" ++ codes "ABC001"
+      ≡ codes "MISSING\t" ++ decimal n ++ codes "\t" ++ codes "ABC001"
   pub nothing_wanted : standing_cells Complete ≡ codes "COMPLETE\t\t"
   pub not_mixed : mixed_cell None ≡ codes "\t\n"
   -- the survey that is written is that of the images viewed, each of them in its place

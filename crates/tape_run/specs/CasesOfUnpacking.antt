@@ -6,14 +6,14 @@ use Rattle.tape_run.specs.declared.survey.view.Sight.{Sight}
 use Rattle.tape_run.specs.declared.survey.files.FileNote.{FileNote}
 use Rattle.tape_run.specs.declared.unpack.Heading.TheVariants.{NotMet, Differs, Named}
 use Rattle.tape_run.specs.declared.unpack.ShelfFiles.{ShelfFiles}
-use Rattle.tape_run.specs.declared.unpack.line.Fate.TheVariants as fates
+use Rattle.tape_run.specs.declared.unpack.line.UnpackOutcome.TheVariants as outcomes
 use Rattle.tape_run.specs.CasesOfExtracts.{Readers}
 use Rattle.tape_run.specs.Reeling.{Took}
 use Rattle.tape_run.specs.SurveyFiles.{note_at, file_key}
 use Rattle.tape_run.specs.SurveyRead.{Found, nothing_found, AreViewed}
 use Rattle.tape_run.specs.Unpacking.{heading_of, file_of, set_files, files_of, file_name, FilesOn}
 use Rattle.tape_run.specs.Unpacking.{set_of}
-use Rattle.tape_run.specs.UnpackLine.{file_line, fate_text, left_over_line}
+use Rattle.tape_run.specs.UnpackLine.{file_line, unpack_outcome_text, left_over_line}
 use Rattle.tape_run.specs.UnpackLaws.{NamesDiffer, NamesStay, AreBytes, IsNameOfOne}
 
 -- what unpacking says of files, names and lines
@@ -41,12 +41,12 @@ pub record CasesOfUnpacking : Type 0 where
   -- lines
   pub line : file_line (codes "ABC001") 1 (codes "COMPLETE 25") (codes "out/ABC001.1.PAYROLL")
       ≡ codes "FILE ABC001 1 COMPLETE 25 out/ABC001.1.PAYROLL\n"
-  pub no_path : file_line (codes "AB 001") 2 (fate_text fates.Differs) []
-      ≡ codes "FILE AB 001 2 DIFFERS\n"
-  pub kept : fate_text fates.Kept ≡ codes "KEPT"
-  pub not_met : fate_text fates.NotMet ≡ codes "NOT MET"
-  pub failed : fate_text fates.Failed ≡ codes "FAILED"
-  pub left_over : left_over_line false ≡ codes "LEFT OVER\n"
+  pub no_path : file_line (codes "AB 001") 2 (unpack_outcome_text outcomes.Conflict) []
+      ≡ codes "FILE AB 001 2 CONFLICT\n"
+  pub kept : unpack_outcome_text outcomes.Exists ≡ codes "EXISTS"
+  pub not_met : unpack_outcome_text outcomes.NotFound ≡ codes "NOT FOUND"
+  pub failed : unpack_outcome_text outcomes.Failed ≡ codes "FAILED"
+  pub left_over : left_over_line false ≡ codes "INCOMPLETE IMAGES\n"
   pub nothing_left : left_over_line true ≡ []
   -- the files are those of the images, all of which were viewed, each in its place
   pub on_images : (shelf left : Readers) (met : ShelfFiles)

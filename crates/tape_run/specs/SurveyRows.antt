@@ -20,7 +20,7 @@ use Rattle.tape_run.specs.SurveySets.{standing_of, is_mixed}
 
 -- whether nothing is left over on an image
 abbrev pub whole_cell : Bool → List ℕ
-whole_cell whole = if whole then codes "WHOLE" else codes "LEFT OVER"
+whole_cell whole = if whole then codes "WHOLE" else codes "PARTIAL"
 
 -- the volume, where there is a volume label first
 abbrev pub volume_cell : First → List ℕ
@@ -94,12 +94,12 @@ wanted_cells state sect volume =
 abbrev pub standing_cells : Standing → List ℕ
 standing_cells Complete = codes "COMPLETE\t\t"
 standing_cells (Damaged sect entry) = wanted_cells (state_text entry.state) sect entry.volume
-standing_cells (Behind sect volume) = wanted_cells (codes "WANTED") sect volume
-standing_cells (Missing sect) = wanted_cells (codes "WANTED") sect []
+standing_cells (Behind sect volume) = wanted_cells (codes "MISSING") sect volume
+standing_cells (Missing sect) = wanted_cells (codes "MISSING") sect []
 
 -- labels of different files were met under its number
 abbrev pub mixed_cell : Option FileNote → List ℕ
-mixed_cell note = if is_mixed note then codes "\tMIXED\n" else codes "\t\n"
+mixed_cell note = if is_mixed note then codes "\tCONFLICT\n" else codes "\t\n"
 
 -- the row of a file
 abbrev pub file_row : Found → List ℕ → ℕ → List ℕ

@@ -1,16 +1,17 @@
 -- The lines that `unpack` tells.
 use Rattle.std.specs.Prelude.{ℕ, Bool, true, false, List, [], ◌∷◌, ◌++◌, codes, decimal}
-use Rattle.tape_run.specs.declared.unpack.line.Fate.{Fate}
-use Rattle.tape_run.specs.declared.unpack.line.Fate.TheVariants.{Kept, Differs, NotMet, Failed}
+use Rattle.tape_run.specs.declared.unpack.line.UnpackOutcome.{UnpackOutcome}
+use Rattle.tape_run.specs.declared.unpack.line.UnpackOutcome.TheVariants.{Exists, Conflict}
+use Rattle.tape_run.specs.declared.unpack.line.UnpackOutcome.TheVariants.{NotFound, Failed}
 use Rattle.tape_run.specs.Identifier.{identifier_text}
 use Rattle.tape_run.specs.SurveyLine.{name_text}
 
--- what is told of a file that was not gathered
-abbrev pub fate_text : Fate → List ℕ
-fate_text Kept = codes "KEPT"
-fate_text Differs = codes "DIFFERS"
-fate_text NotMet = codes "NOT MET"
-fate_text Failed = codes "FAILED"
+-- why a file was not unpacked, as `unpack` prints it
+abbrev pub unpack_outcome_text : UnpackOutcome → List ℕ
+unpack_outcome_text Exists = codes "EXISTS"
+unpack_outcome_text Conflict = codes "CONFLICT"
+unpack_outcome_text NotFound = codes "NOT FOUND"
+unpack_outcome_text Failed = codes "FAILED"
 
 -- the words in front: set and number
 abbrev pub file_front : List ℕ → ℕ → List ℕ
@@ -29,4 +30,4 @@ file_line set_id file told path = file_front set_id file ++ told ++ path_text pa
 -- the last line, which there is where something on the images is left over
 abbrev pub left_over_line : Bool → List ℕ
 left_over_line true = []
-left_over_line false = codes "LEFT OVER\n"
+left_over_line false = codes "INCOMPLETE IMAGES\n"

@@ -59,7 +59,7 @@ pub use session::Session;
 pub use survey::locations::Locations;
 pub use survey::{Wording, survey_to};
 pub use text::{flush, write_text};
-pub use unpack::line::{Fate, fate_text, file_line, left_over_line};
+pub use unpack::line::{UnpackOutcome, file_line, left_over_line, unpack_outcome_text};
 pub use unpack::name::file_name;
 pub use unpack::{Heading, SetFile, ShelfFiles, files_on};
 pub use whole::{go_on, read_file};

@@ -1,4 +1,4 @@
-//! `list --places`: the listing of an image, with the place and the size of each item.
+//! `list --offsets`: the listing of an image, with the place and the size of each item.
 
 ghost use Rattle.std.specs.Prelude.{◌≡◌, ◌≤◌, ◌+◌, ◌++◌, length, decimal, IfErr, OnOk, OnErr};
 ghost use Rattle.std.specs.Prelude.{codes};

@@ -233,7 +233,7 @@ fn damaged_and_mixed(rt: HostRuntime) -> Result<(), Fail> {
 
 const ROWS: &str = "IMAGE\t1?.tap\tWHOLE\tABC001\tABC001\t\t12\t1\t0\tMARKED\tvolume ABC001, \
          1 file
-IMAGE\tcut.tap\tLEFT OVER\tABC001\tABC001\t\t6\t1\t0\tFAULT 1 1884\tvolume ABC001, 1 file; \
+IMAGE\tcut.tap\tPARTIAL\tABC001\tABC001\t\t6\t1\t0\tFAULT 1 1884\tvolume ABC001, 1 file; \
          image fault 1 at 1884
 IMAGE\tlost.tap\tNOT OPENED\t\t\t\t\t\t\t\tnot opened
 SECTION\tABC001\t1\t1\tABC001\t3\tGOOD\tEOF

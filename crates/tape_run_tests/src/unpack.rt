@@ -5,14 +5,28 @@ use crate::volumes::EOF_ONE;
 use std::alloc::{AllocError, Global};
 use std::process::Abort;
 use std::test::Fail;
-use tape_run::{Fate, Heading, SetFile, fate_text, file_line, file_name, files_on};
+use tape_run::{
+    Heading, SetFile, UnpackOutcome, file_line, file_name, files_on, unpack_outcome_text,
+};
 
 /// The line of a file: its name, or what is told in its place.
 fn line_of(alloc: Global, file: &SetFile) -> Result<Vec<u8>, AllocError> {
     let (set_id, number) = (&file.set_id, file.file);
     match file.heading {
-        Heading::NotMet => file_line(alloc, set_id, number, fate_text(Fate::NotMet), ""),
-        Heading::Differs => file_line(alloc, set_id, number, fate_text(Fate::Differs), ""),
+        Heading::NotMet => file_line(
+            alloc,
+            set_id,
+            number,
+            unpack_outcome_text(UnpackOutcome::NotFound),
+            "",
+        ),
+        Heading::Differs => file_line(
+            alloc,
+            set_id,
+            number,
+            unpack_outcome_text(UnpackOutcome::Conflict),
+            "",
+        ),
         Heading::Named(file_id) => {
             let name = file_name(set_id, number, &file_id);
             file_line(alloc, set_id, number, &name, "out/a\n")
@@ -62,11 +76,11 @@ fn files_of_shelves(rt: HostRuntime) -> Result<(), Fail> {
         |image| Some(image.bytes.as_slice()),
     );
     let payroll = "FILE ABC001 1 ABC001.1.PAYROLL out/a?\n";
-    let thirds = "FILE AB. 01 1 NOT MET
-FILE AB. 01 2 NOT MET
+    let thirds = "FILE AB. 01 1 NOT FOUND
+FILE AB. 01 2 NOT FOUND
 FILE AB. 01 3 AB%2E_01.3.TH_RD out/a?
 ";
-    let mixed = "FILE ABC001 1 DIFFERS\n";
+    let mixed = "FILE ABC001 1 CONFLICT\n";
     found(&rt, &[], true, "")?;
     found(&rt, &[None], false, "")?;
     found(&rt, &[second, first], true, payroll)?;

@@ -223,8 +223,8 @@ cases_of_orders = record {
   input = λ named n. n.list.file;
   no_list = λ named n. n.list.file;
   few = λ named n. absurd (let h : 257 ≤ 256 = n.few in omega (arith, h));
-  list = λ order a. (one_text order.image (codes "a.tap") a.image, a.places.given refl);
-  list_input = λ order a. (no_text order.image a.image, a.places.none refl);
+  list = λ order a. (one_text order.image (codes "a.tap") a.image, a.offsets.given refl);
+  list_input = λ order a. (no_text order.image a.image, a.offsets.none refl);
   list_dash = λ order a. never_dash order.image a.image a.named;
   survey = λ order a. (told_in_rows order.wording (a.wording.given refl), a.images.words);
   survey_words = λ order a. told_in_words order.wording (a.wording.none refl);

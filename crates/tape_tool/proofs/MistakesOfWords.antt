@@ -35,12 +35,12 @@ prefix_taken_for_folder κs a o s l asked got =
     absurd (let n : 65 ≡ 111 = ap (λ t. slice_index t 0) (sym got ∙ l.ok.folder ∙ asked) in
     omega arith)
 
--- places_inverted: places are asked for, and are not told
-places_inverted : (κs : _) (a : _) (o : _) (s : _) → list_order.Learnt-named κs a (Ok o) s
-    → one_of (codes "places") (rows_of (found_of a.1.0.now)) ≡ Some (codes "true")
-    → o.places ≡ false → ⊥
-places_inverted κs a o s l asked none =
-    absurd (let n : 0 ≡ 1 = ap (λ b. bit b) (sym none ∙ l.ok.places.given asked) in omega arith)
+-- offsets_inverted: offsets are asked for, and are not told
+offsets_inverted : (κs : _) (a : _) (o : _) (s : _) → list_order.Learnt-named κs a (Ok o) s
+    → one_of (codes "offsets") (rows_of (found_of a.1.0.now)) ≡ Some (codes "true")
+    → o.offsets ≡ false → ⊥
+offsets_inverted κs a o s l asked none =
+    absurd (let n : 0 ≡ 1 = ap (λ b. bit b) (sym none ∙ l.ok.offsets.given asked) in omega arith)
 
 -- second_image_passed_over: two images are named, and one is looked at
 second_image_passed_over : (κs : _) (a : _) (o : _) (s : _)

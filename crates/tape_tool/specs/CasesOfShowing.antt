@@ -89,7 +89,7 @@ pub record CasesOfShowing : Type 0 where
   pub complete : told_of (point_at Finished) None 25 ≡ codes "STAGE ABC001 1 25\nCOMPLETE 25\n"
   -- and where the frames break off, though the checkpoint tells that the file is complete
   pub breaks : told_of (point_at Finished) (Some 1276) 12
-      ≡ codes "STAGE ABC001 1 12\nBREAKS OFF 1276\n"
+      ≡ codes "STAGE ABC001 1 12\nTRUNCATED AT 1276\n"
   -- how a run ends
   pub ends : (want : Want) (fault : ToolFault) → (stage_end (Ok None) ≡ Done)
       × (stage_end (Ok (Some want)) ≡ Incomplete)

@@ -40,7 +40,7 @@ word id texts = record {
 -- two images, and a list that is not read from standard input
 abbrev pub shelf : List Row
 shelf = word (codes "IMAGE") (codes "a.tap" ∷ codes "b.tap" ∷ [])
-    ∷ word (codes "from") (codes "names" ∷ []) ∷ word (codes "null") (codes "true" ∷ []) ∷ []
+    ∷ word (codes "files-from") (codes "names" ∷ []) ∷ word (codes "null") (codes "true" ∷ []) ∷ []
 
 abbrev pub file_of : Option ListFile → Option (Option (List ℕ))
 file_of list = option_map (λ (l : ListFile). option_map (λ p. p.now) l.file) list
@@ -109,18 +109,18 @@ pub record CasesOfOrders : Type 0 where
   pub nulls : (named : Named) (list : ListFile) → NamesImages shelf named
       → named.list ≡ Some list → list.null ≡ true
   -- a list on standard input has no file, and without the option there is no list
-  pub input : (named : Named) → NamesImages (word (codes "from") (codes "-" ∷ []) ∷ []) named
+  pub input : (named : Named) → NamesImages (word (codes "files-from") (codes "-" ∷ []) ∷ []) named
       → file_of named.list ≡ Some None
   pub no_list : (named : Named) → NamesImages [] named → file_of named.list ≡ None
   -- 257 words are too many
   pub few : (named : Named)
       → NamesImages (word (codes "IMAGE") (replicate 257 (codes "a")) ∷ []) named → ⊥
-  -- `list` lists the image that is named, or standard input, and its places where it is asked to
+  -- `list` lists the image that is named, or standard input, and its offsets if it is asked to
   pub list : (order : Listing) → AsksToList (word (codes "IMAGE") (codes "a.tap" ∷ [])
-      ∷ word (codes "places") (codes "true" ∷ []) ∷ []) order
-      → (option_map (λ i. i.now) order.image ≡ Some (codes "a.tap")) × (order.places ≡ true)
+      ∷ word (codes "offsets") (codes "true" ∷ []) ∷ []) order
+      → (option_map (λ i. i.now) order.image ≡ Some (codes "a.tap")) × (order.offsets ≡ true)
   pub list_input : (order : Listing) → AsksToList [] order
-      → (option_map (λ i. i.now) order.image ≡ None) × (order.places ≡ false)
+      → (option_map (λ i. i.now) order.image ≡ None) × (order.offsets ≡ false)
   pub list_dash : (order : Listing)
       → AsksToList (word (codes "IMAGE") (codes "-" ∷ []) ∷ []) order → ⊥
   -- `survey` tells rows where it is asked to

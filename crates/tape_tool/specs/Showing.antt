@@ -31,7 +31,7 @@ stage_line point records =
 
 -- where the frames of a stage break off
 abbrev pub break_line : ℕ → List ℕ
-break_line place = codes "BREAKS OFF " ++ decimal place ++ codes "\n"
+break_line place = codes "TRUNCATED AT " ++ decimal place ++ codes "\n"
 
 -- what follows the parts: the last line that `extract` would give, or where the frames break off
 abbrev pub ending_line : StageEnding → ℕ → List ℕ

@@ -87,7 +87,7 @@ list_file path = if bytes_eq path (codes "-") then None else Some path
 -- the list that is named, if one is
 pub record IsListIn (rows : List Row) (list : Option ListFile) : Type 0 where
   pub file : option_map (λ (l : ListFile). option_map (λ p. p.now) l.file) list
-      ≡ option_map list_file (first_of (codes "from") rows)
+      ≡ option_map list_file (first_of (codes "files-from") rows)
   pub null : IfSome list (λ (l : ListFile). IsFlag rows (codes "null") l.null)
 
 -- The images of a run: those of the words, in their order, of which there are 256 at most, and
@@ -107,7 +107,7 @@ AreTooMany rows = 256 < length (texts_in rows (codes "IMAGE"))
 pub record AsksToList (rows : List Row) (order : Listing) : Type 0 where
   pub image : texts_in rows (codes "IMAGE") ≡ texts_of_one order.image
   pub named : IfSome order.image (λ (i : Bor (List ℕ)). i.now ≢ codes "-")
-  pub places : IsFlag rows (codes "places") order.places
+  pub offsets : IsFlag rows (codes "offsets") order.offsets
 
 -- whether a survey is told in rows
 abbrev pub is_in_rows : Wording → Bool

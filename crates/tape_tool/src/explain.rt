@@ -1,17 +1,19 @@
-//! What a fault means, in words: behind its one line, where `--explain` asks for them.
+//! What a fault means, in words: after its one line, if `--explain` asks for them.
 mod files;
+mod reason;
 
 use crate::fault::{ToolFault, number_of_file, number_of_write};
 use files::{
-    FILE, FILE_OF_FOLDER, FILE_OF_IMAGE, FILE_OF_LINES, FILE_OF_LIST, FILE_OF_OUT, FILE_OF_STAGE,
-    FILE_OF_VOLUME,
+    FILE_OF_FOLDER, FILE_OF_IMAGE, FILE_OF_IMAGES, FILE_OF_INPUT, FILE_OF_LINES, FILE_OF_LIST,
+    FILE_OF_OUT, FILE_OF_STAGE, FILE_OF_VOLUME,
 };
-use std::fmt;
+pub use reason::reason_of;
+use std::{fmt, io};
 use tape_image::{ImageCause, ImageFault};
 use tape_run::RunFault;
 use tape_writer::Prefix;
 
-/// What the program was at when a fault came, where it knows that.
+/// What the program worked on when a fault came, as far as it knows that.
 #[derive(Clone, Copy, PartialEq, Eq)]
 pub enum Site<'a> {
     /// It does not know.
@@ -19,20 +21,22 @@ pub enum Site<'a> {
     /// Its lines on standard output.
     Lines,
     /// The image on standard input.
-    Input,
+    Stdin,
     /// The image at this path.
     Image(&'a str),
-    /// The image of the volume with this number.
-    Volume(Prefix, u16),
-    /// The file that this word of `write` names.
-    File(&'a str),
+    /// The image of the volume with this number in this directory.
+    Volume(&'a str, Prefix, u16),
+    /// The input that this word of `write` names.
+    Input(&'a str),
+    /// The images that `write` writes into this directory.
+    Images(&'a str),
     /// The list of images in this file, or on standard input.
     List(Option<&'a str>),
     /// Where the records of a file go.
     Out(&'a str),
-    /// Where what was gathered is kept.
+    /// Where recovered data is saved.
     Stage(&'a str),
-    /// The folder that files are unpacked into.
+    /// The directory that files are unpacked into.
     Folder(&'a str),
 }
 
@@ -40,13 +44,13 @@ impl fmt::Display for Site<'_> {
     fn fmt<W: fmt::Write>(&self, f: &mut fmt::Formatter<W>) -> fmt::Result {
         match self {
             Site::Unknown => Ok(()),
-            Site::Volume(prefix, number) => {
+            Site::Volume(folder, prefix, number) => {
                 let [a, b, c] = prefix.characters.map(char::from);
-                writeln!(f, "  Image: {a}{b}{c}{number:03}.tap")
+                write!(f, "  Image: {folder}/{a}{b}{c}{number:03}.tap")
             }
             _ => {
                 let (kind, name) = self.named();
-                writeln!(f, "  {kind}: {name}")
+                write!(f, "  {kind}: {name}")
             }
         }
     }
@@ -56,38 +60,44 @@ impl<'a> Site<'a> {
     /// What kind of thing it is, and its name.
     fn named(&self) -> (&'static str, &'a str) {
         match *self {
-            Site::Unknown | Site::Volume(_, _) => ("", ""),
+            Site::Unknown | Site::Volume(_, _, _) => ("", ""),
             Site::Lines => ("Output", "standard output"),
-            Site::Input => ("Image", "standard input"),
+            Site::Stdin => ("Image", "standard input"),
             Site::Image(path) => ("Image", path),
-            Site::File(word) => ("File", word),
+            Site::Input(word) => ("Input", word),
             Site::List(path) => ("List", path.unwrap_or("standard input")),
             Site::Out(path) => ("OUT", path),
             Site::Stage(path) => ("Stage", path),
-            Site::Folder(path) => ("DIR", path),
+            Site::Folder(path) | Site::Images(path) => ("DIR", path),
         }
     }
 }
 
-/// A fault and where it came, as lines of text.
+/// A fault, where it came and the system's reason, as lines of text.
 #[derive(Clone, Copy)]
 pub struct Explanation<'a> {
     pub fault: ToolFault,
     pub site: Site<'a>,
+    /// What the system says of the file, if it says something.
+    pub reason: Option<io::Error>,
 }
 
 impl fmt::Display for Explanation<'_> {
     fn fmt<W: fmt::Write>(&self, f: &mut fmt::Formatter<W>) -> fmt::Result {
         let text = text_of(self.fault, self.site);
         let site = site_of(self.fault, self.site);
-        if text != NO_MEMORY && is_at(self.fault, site) {
+        if text != NO_MEMORY && is_at(self.fault, site) && site != Site::Unknown {
             write!(f, "{site}")?;
+            if let Some(reason) = self.reason {
+                write!(f, ": {reason}")?;
+            }
+            f.write_str("\n")?;
         }
         f.write_str(text)
     }
 }
 
-/// Where it is told to have come: the folder of `unpack` has a stage for each file.
+/// Where it came: the directory of `unpack` has a stage for each file.
 fn site_of<'a>(fault: ToolFault, site: Site<'a>) -> Site<'a> {
     let is_stage = matches!(
         fault,
@@ -108,7 +118,7 @@ fn is_at(fault: ToolFault, site: Site<'_>) -> bool {
     }
 }
 
-/// What the fault is, what stands now, and what to do next.
+/// What the fault is, what was kept, and what to do next.
 pub fn text_of(fault: ToolFault, site: Site<'_>) -> &'static str {
     match fault {
         ToolFault::Image(fault) => image_text(fault),
@@ -135,14 +145,15 @@ fn image_text(fault: ImageFault) -> &'static str {
 /// The texts of a file's faults there.
 fn files_at(site: Site<'_>) -> &'static [&'static str] {
     match site {
-        Site::Input | Site::Image(_) => FILE_OF_IMAGE,
-        Site::Volume(_, _) => FILE_OF_VOLUME,
+        Site::Stdin | Site::Image(_) => FILE_OF_IMAGE,
+        Site::Volume(_, _, _) => FILE_OF_VOLUME,
         Site::List(_) => FILE_OF_LIST,
         Site::Out(_) => FILE_OF_OUT,
         Site::Stage(_) => FILE_OF_STAGE,
         Site::Folder(_) => FILE_OF_FOLDER,
         Site::Lines => FILE_OF_LINES,
-        Site::File(_) | Site::Unknown => FILE,
+        Site::Input(_) => FILE_OF_INPUT,
+        Site::Images(_) | Site::Unknown => FILE_OF_IMAGES,
     }
 }
 
@@ -155,41 +166,43 @@ fn nth(texts: &'static [&'static str], number: u8) -> &'static str {
 }
 
 /// The stage of the file at which `unpack` ended, by the line of that file.
-const STAGE_OF_FAILED: &str = "the path told as FAILED, with .stage behind it";
+const STAGE_OF_FAILED: &str = "the path reported as FAILED, with .stage after it";
 
 // The texts of each kind of fault, in the order of its numbers.
 
-/// What the program never tells.
-const NEVER: &str = "  Nothing that was asked for leads to this: the program itself is wrong.
-  What a report of it has to hold stands in CONTRIBUTING.md.
+/// What the program never reports.
+const NEVER: &str = "  This should never happen: it is a bug in tape.
+  CONTRIBUTING.md says what to include in a report.
 ";
 
-const NO_MEMORY: &str = "  There was not enough memory. What was written before it stays.
-  End other programs, and call again.
+const NO_MEMORY: &str = "  Out of memory. What was written before it remains.
+  Close other programs and try again.
 ";
 
-/// An image's first bytes are none of an image.
-const NO_IMAGE: &str = "  This does not begin as a .tap image. Nothing was listed.
-  Is it compressed ('zcat NAME | tape list' lists that), or something else?
+/// The first bytes are not those of an image.
+const NO_IMAGE: &str = "  This does not look like a .tap image. Nothing was listed.
+  Is it compressed (try 'zcat NAME | tape list'), or a different kind of file?
 ";
 
 const IMAGE: &[&str] = &[
-    "  The image ends inside a block: it was cut off. What was listed is right.
-  Copy it again from its source, or 'extract' from it and from another copy.
+    "  The image ends in the middle of a block: it was cut off. The items listed are
+  what it contains before that. Copy the image again from its source, or use
+  'extract' with this and other copies.
 ",
-    "  The lengths before and behind a block differ: the image is damaged there, or
-  ends there and goes on with what an older recording left.
-  What was listed is right. Copy it again, or 'extract' from another copy too.
+    "  The lengths before and after a block differ: the image is damaged, or remains
+  of an older recording follow the end. The items listed precede that place.
+  Copy the image again, or use 'extract' with other copies too.
 ",
-    "  A word stands there that begins nothing: the image is damaged there, or ends
-  there and goes on with what an older recording left.
-  What was listed is right. Copy it again, or 'extract' from another copy too.
+    "  The bytes there are not a record length: the image is damaged, or remains of
+  an older recording follow the end. The items listed precede that place.
+  Copy the image again, or use 'extract' with other copies too.
 ",
-    "  The image has more than 4,294,967,295 bytes, and is not read behind them.
-  What was listed is right, and all that can be read of it here.
+    "  The image is longer than 4,294,967,295 bytes; tape reads no further.
+  The items listed precede that place.
 ",
-    "  Reading the image failed there: it is a folder, or the disk fails.
-  What was listed is right. Copy the image to another disk, and list the copy.
+    "  The image could not be read there: is it a directory, or is the disk failing?
+  The items listed, if any, precede that place.
+  If the disk is failing, copy the image to another disk and use the copy.
 ",
     NO_MEMORY,
 ];
@@ -200,33 +213,33 @@ const LABEL: &[&str] = &[
     NEVER,
     NEVER,
     NEVER,
-    "  A character of the ID can't stand in a label. Nothing was written.
-  Take A to Z, 0 to 9, space and ! \" % & ' ( ) * + , - . / : ; < = > ? _
+    "  The ID contains a character that labels do not allow. Nothing was written.
+  Allowed: A to Z, 0 to 9, space and ! \" % & ' ( ) * + , - . / : ; < = > ? _
 ",
     "  The ID is longer than 17 characters. Nothing was written.
-  Write a shorter one before the '='.
+  Shorten the part before the '='.
 ",
 ];
 
 const WRITE: &[&str] = &[
     NEVER,
-    "  Blocks and records of these lengths are not written. Nothing was written.
-  'tape write --help' tells what --block, --record, --offset, --pad-full take.
+    "  These block and record lengths are not possible. Nothing was written.
+  'tape write --help' gives the ranges of --block, --record and --offset.
 ",
-    "  CAPACITY is less than the block length and 1,024 bytes together. Nothing was
-  written. Name a greater one: with the default --block of 2048 at least 3072.
+    "  CAPACITY is less than the block length plus 1,024 bytes. Nothing was written.
+  With the default --block of 2048 it must be at least 3072.
 ",
-    "  A record is too long, or with F not as long as --record says.
-  Images that were begun are not blank any more: remove them. Then name greater
-  --block and --record, or --format S, which takes records of any length.
+    "  A record is too long or, with --format F, not as long as --record says.
+  Remove the images that were started; they are no longer blank. Then increase
+  --block and --record, or use --format S, which has no limit.
 ",
     NEVER,
     NEVER,
-    "  The set has no room on 256 volumes. Those that were written stay.
-  Remove them, and name a greater CAPACITY, or fewer files.
+    "  The set does not fit on 256 volumes. Those written so far remain.
+  Remove them, and increase CAPACITY or write fewer files.
 ",
-    "  There are more than 9,999 files. Write several sets.
-  Images that were begun are not blank any more: remove them first.
+    "  A set can have at most 9,999 files: split it into several sets.
+  Remove the images that were started; they are no longer blank.
 ",
     NEVER,
     NO_MEMORY,
@@ -235,34 +248,36 @@ const WRITE: &[&str] = &[
 ];
 
 const RUN: &[&str] = &[
-    "  What was gathered could not be kept: no memory, or a full or failing disk.
-  What the stage had saved before stays.
-  Make room, and call again; on a failing disk go on with a copy of the stage.
+    "  The recovered data could not be saved: out of memory, or the disk is full or
+  failing. Data saved in the stage earlier is safe. Free some space and run it
+  again; if the disk is failing, continue with a copy of the stage.
 ",
     NEVER,
     NEVER,
     NO_MEMORY,
-    "  It is the stage of another file, or of another set, and stays as it is.
-  Name the SET and FILE that it is of, or another stage; else move it away.
+    "  This stage belongs to another file or set; it was not changed.
+  Give the SET and FILE it belongs to, or name another stage.
 ",
 ];
 
 const STAGE: &[&str] = &[
-    "  It is no stage, and was left as it is. Is the name right? If so move it away.
-  A file of at most 256 bytes may be left by a first run that was stopped:
-  nothing is in it, and it may be removed.
+    "  This is not a stage, and it was not changed. Is the name right?
+  A file of at most 256 bytes may come from a first run that was interrupted:
+  it contains no data and can be deleted.
 ",
-    "  It was a stage, and something else wrote to it. It was left as it is.
-  Go on with an older copy, or a new stage; 'stage --damaged' has its records.
+    "  The stage was damaged by another program; it was not changed.
+  Use an older copy or start a new stage. 'tape stage --damaged' recovers the
+  records before the damage.
 ",
-    "  Reading or writing it failed: a full or a failing disk. What was saved stays.
-  Make room, and call again; on a failing disk go on with a copy of the stage.
+    "  The stage could not be read or written: the disk is full or failing.
+  Data saved earlier is safe. Free some space and run it again; if the disk is
+  failing, continue with a copy of the stage.
 ",
     NO_MEMORY,
     NEVER,
     NEVER,
-    "  Another run has it open. Nothing was read of it, and nothing changed.
-  Wait until that run has ended, and call again.
+    "  Another run is using this stage. It was neither read nor changed.
+  Wait until that run has finished.
 ",
 ];
 
@@ -273,7 +288,8 @@ pub const TEXTS: &[&[&str]] = &[
     IMAGE,
     LABEL,
     WRITE,
-    FILE,
+    FILE_OF_INPUT,
+    FILE_OF_IMAGES,
     FILE_OF_LINES,
     FILE_OF_IMAGE,
     FILE_OF_VOLUME,

@@ -14,6 +14,7 @@ pub struct Outline {
     /// As usage names it.
     pub called: &'static str,
     pub about: &'static str,
+    /// What the long help says after the arguments.
     pub after_help: &'static str,
     /// The usage, where it is not that of the words.
     pub usage: Option<&'static str>,
@@ -64,7 +65,7 @@ pub fn command_of<'a>(alloc: Global, outline: &Outline) -> Result<Command<'a>, A
 fn bare<'a>(alloc: Global, outline: &Outline) -> Result<Command<'a>, AllocError> {
     Command::new(alloc, outline.name)
         .about(outline.about)
-        .after_help(outline.after_help)
+        .after_long_help(outline.after_help)
         .bin_name(outline.called)
 }
 

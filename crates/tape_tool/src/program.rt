@@ -8,7 +8,7 @@ ghost use Rattle.tape_tool.specs.Ends.{stage_end, damaged_end};
 ghost use Rattle.tape_tool.specs.Fault.{no_memory};
 
 use crate::check::check;
-use crate::explain::{Explanation, Site};
+use crate::explain::{Explanation, Site, reason_of};
 use crate::extract::extract;
 use crate::fault::{FileFault, OUT_OF_MEMORY, ToolFault};
 use crate::help;
@@ -189,13 +189,18 @@ pub struct Outcome<'a> {
     pub explained: Option<Site<'a>>,
 }
 
-/// Tells how a call ended, and gives the exit status.
-fn tell<R: Eprint>(rt: &R, outcome: Outcome<'_>) -> u8
+/// Reports how a call ended, and returns the exit status.
+fn tell<R: Host>(rt: &R, outcome: Outcome<'_>) -> u8
     ensures { result ≡ exit_status outcome.entry.end }
 {
     let status = finish(rt, outcome.end);
     if let (End::Faulted(fault), Some(site)) = (outcome.end, outcome.explained) {
-        let _ = rt.eprint(Explanation { fault, site });
+        let reason = reason_of(rt, fault, site);
+        let _ = rt.eprint(Explanation {
+            fault,
+            site,
+            reason,
+        });
     }
     status
 }
@@ -214,11 +219,22 @@ pub fn without_words<R: Eprint>(rt: &R, kind: io::ErrorKind) -> End
 /// Does what the words ask for, the program's own name first.
 pub fn perform<'a, R: Host>(rt: &R, words: &'a [String]) -> Outcome<'a> {
     match call_of(rt.alloc(), words) {
-        Ok(call) => follow(rt, &call),
+        Ok(mut call) => {
+            call.explained = call.explained || is_asked(rt);
+            follow(rt, &call)
+        }
         Err(error) => Outcome {
             end: refuse(rt, &error),
             explained: None,
         },
+    }
+}
+
+/// Whether the environment asks for explanations.
+fn is_asked<R: Host>(rt: &R) -> bool {
+    match env::var(rt, "TAPE_EXPLAIN") {
+        Ok(value) => !value.as_str().is_empty(),
+        Err(_) => false,
     }
 }
 

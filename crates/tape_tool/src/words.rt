@@ -122,7 +122,7 @@ pub fn named<'a>(
 fn list_of<'a>(matches: &ArgMatches<'a>) -> Option<List<'a>>
     ensures { IsListIn (rows_of (found_of matches.now)) result }
 {
-    match option_of(matches, "from") {
+    match option_of(matches, "files-from") {
         None => None,
         Some(path) => Some(List {
             file: file_of(path),
@@ -142,7 +142,7 @@ fn file_of<'a>(path: &'a str) -> Option<&'a str>
 #[derive(Drop)]
 pub struct Call<'a> {
     pub order: Order<'a>,
-    /// Whether a fault is to be told in words too.
+    /// Whether errors are to be explained.
     pub explained: bool,
 }
 

@@ -4,7 +4,7 @@ use Rattle.std.proofs.Common.{arith, codes}
 use Rattle.std.specs.Prelude.{Ok, Option, Some, None, slice_index, option_map}
 use Rattle.std.specs.Fmt.{digits}
 use Rattle.tape_run.specs.declared.survey.view.Sight.{Sight}
-use Rattle.tape_run.specs.declared.unpack.line.Fate.TheVariants as fates
+use Rattle.tape_run.specs.declared.unpack.line.UnpackOutcome.TheVariants as outcomes
 use Rattle.tape_run.specs.Reeling.{Mounting}
 use Rattle.tape_run.specs.SurveyRead.{Found, nothing_found, AreViewed}
 use Rattle.tape_run.specs.Unpacking as unpacking
@@ -14,7 +14,7 @@ use Rattle.tape_run.proofs.unpack.files_on.Reads as files_on
 use Rattle.tape_run.proofs.unpack.set_of.Reads as set_of
 use Rattle.tape_run.proofs.unpack.name.file_name.Reads as file_name
 use Rattle.tape_run.proofs.unpack.line.file_line.Reads as file_line
-use Rattle.tape_run.proofs.unpack.line.fate_text.Reads as fate_text
+use Rattle.tape_run.proofs.unpack.line.unpack_outcome_text.Reads as unpack_outcome_text
 use Rattle.tape_run.proofs.unpack.line.left_over_line.Reads as left_over_line
 
 -- slash_kept: the name of a file leads into another folder
@@ -41,28 +41,29 @@ stop_of_a_set_kept κs a z s h set file name w =
 
 -- path_left_out: it is not told where the records of a file are
 path_left_out : (κs : _) (a : _) (z : _) (s : _) → file_line.Learnt κs a (Ok z) s
-    → a.1.0.now ≡ codes "ABC001" → a.1.1.0 ≡ 1 → a.1.1.1.0.now ≡ codes "KEPT"
+    → a.1.0.now ≡ codes "ABC001" → a.1.1.0 ≡ 1 → a.1.1.1.0.now ≡ codes "EXISTS"
     → a.1.1.1.1.0.now ≡ codes "out/ABC001.1.PAYROLL"
-    → z.items ≡ codes "FILE ABC001 1 KEPT\n" → ⊥
+    → z.items ≡ codes "FILE ABC001 1 EXISTS\n" → ⊥
 unfolding digits
 path_left_out κs a z s h set file told path w =
-    absurd (let e : 10 ≡ 32 = ap (λ v. slice_index v 18) (sym w ∙ h
+    absurd (let e : 10 ≡ 32 = ap (λ v. slice_index v 20) (sym w ∙ h
     ∙ ap (λ x. lines.file_line x a.1.1.0 a.1.1.1.0.now a.1.1.1.1.0.now) set
     ∙ ap (λ n. lines.file_line (codes "ABC001") n a.1.1.1.0.now a.1.1.1.1.0.now) file
     ∙ ap (λ x. lines.file_line (codes "ABC001") 1 x a.1.1.1.1.0.now) told
-    ∙ ap (lines.file_line (codes "ABC001") 1 (codes "KEPT")) path) in omega arith)
+    ∙ ap (lines.file_line (codes "ABC001") 1 (codes "EXISTS")) path) in omega arith)
 
 -- mixed_told_as_kept: labels of different files were met, and that is not told
-mixed_told_as_kept : (κs : _) (z : _) (s : _) → fate_text.Learnt κs (fates.Differs, tt) z s
-    → z.now ≡ codes "KEPT" → ⊥
+mixed_told_as_kept : (κs : _) (z : _) (s : _)
+    → unpack_outcome_text.Learnt κs (outcomes.Conflict, tt) z s
+    → z.now ≡ codes "EXISTS" → ⊥
 mixed_told_as_kept κs z s h w =
-    absurd (let e : 75 ≡ 68 = ap (λ v. slice_index v 0) (sym w ∙ h) in omega arith)
+    absurd (let e : 69 ≡ 67 = ap (λ v. slice_index v 0) (sym w ∙ h) in omega arith)
 
 -- left_over_not_told: something on the images is left over, and that is not told
 left_over_not_told : (κs : _) (z : _) (s : _) → left_over_line.Learnt κs (false, tt) z s
     → z.now ≡ [] → ⊥
 left_over_not_told κs z s h w =
-    absurd (let e : 0 ≡ 10 = ap length (sym w ∙ h) in omega arith)
+    absurd (let e : 0 ≡ 18 = ap length (sym w ∙ h) in omega arith)
 
 -- of no image nothing was found
 none_found : {L R : Type 0} (gives : Mounting L R) (remaining : R → Option (List ℕ))

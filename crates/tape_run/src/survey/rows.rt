@@ -79,7 +79,7 @@ fn whole_cell(whole: bool) -> &'static [u8]
     ensures text { result.now ≡ whole_cell whole }
     ensures short { length result.now ≤ 9 }
 {
-    if whole { b"WHOLE" } else { b"LEFT OVER" }
+    if whole { b"WHOLE" } else { b"PARTIAL" }
 }
 
 /// The volume, where there is a volume label first.
@@ -221,15 +221,15 @@ fn put_standing(text: &mut Text, standing: &Standing)
         Standing::Damaged(sect, entry) => {
             put_wanted(text, state_text(entry.state), *sect, &entry.volume);
         }
-        Standing::Behind(sect, volume) => put_wanted(text, b"WANTED", *sect, volume),
-        Standing::Missing(sect) => put_wanted(text, b"WANTED", *sect, &Field::of_bytes([b' '; 6])),
+        Standing::Behind(sect, volume) => put_wanted(text, b"MISSING", *sect, volume),
+        Standing::Missing(sect) => put_wanted(text, b"MISSING", *sect, &Field::of_bytes([b' '; 6])),
     }
 }
 
 /// A section, in this state, and a volume.
 fn put_wanted(text: &mut Text, state: &[u8], sect: u16, volume: &Field<6>)
     requires room { array_vec_len text.old ≤ 160 }
-    requires short { length state.now ≤ 6 }
+    requires short { length state.now ≤ 7 }
     ensures items { text.new.items ≡ text.old.items ++ wanted_cells state.now sect volume.now }
     ensures len { array_vec_len text.new ≤ 300 }
 {
@@ -246,7 +246,7 @@ fn mixed_cell(note: Option<&FileNote>) -> &'static [u8]
     ensures short { length result.now ≤ 10 }
 {
     if is_mixed(note) {
-        b"\tMIXED\n"
+        b"\tCONFLICT\n"
     } else {
         b"\t\n"
     }

@@ -1,7 +1,7 @@
 //! The lines that `unpack` tells.
 ghost use Rattle.std.specs.Prelude.{◌≡◌, ◌≤◌, ◌++◌, length, IfOk};
 ghost use Rattle.arrayvec.specs.ArrayVec.{array_vec_len};
-ghost use Rattle.tape_run.specs.UnpackLine.{file_front, path_text, file_line, fate_text};
+ghost use Rattle.tape_run.specs.UnpackLine.{file_front, path_text, file_line, unpack_outcome_text};
 ghost use Rattle.tape_run.specs.UnpackLine.{left_over_line};
 
 use crate::survey::name_text;
@@ -9,28 +9,28 @@ use crate::text::{Text, put, put_decimal, put_identifier};
 use std::alloc::{AllocError, Global};
 use tape_label::Field;
 
-/// What became of a file that was not gathered.
+/// Why a file was not unpacked.
 #[derive(Clone, Copy, PartialEq, Eq)]
-pub enum Fate {
-    /// Something of its name is there, and is left as it is.
-    Kept,
-    /// Labels of different files were met under its number.
-    Differs,
-    /// No label of it was met.
-    NotMet,
-    /// A fault ended it.
+pub enum UnpackOutcome {
+    /// A file of its name exists; it was not changed.
+    Exists,
+    /// Labels of different files have its number.
+    Conflict,
+    /// No label of it was found.
+    NotFound,
+    /// An error ended the run.
     Failed,
 }
 
-/// What is told of a file of which this became.
-pub fn fate_text(fate: Fate) -> &'static [u8]
-    ensures { result.now ≡ fate_text fate }
+/// Returns the words that `unpack` prints for an outcome.
+pub fn unpack_outcome_text(outcome: UnpackOutcome) -> &'static [u8]
+    ensures { result.now ≡ unpack_outcome_text outcome }
 {
-    match fate {
-        Fate::Kept => b"KEPT",
-        Fate::Differs => b"DIFFERS",
-        Fate::NotMet => b"NOT MET",
-        Fate::Failed => b"FAILED",
+    match outcome {
+        UnpackOutcome::Exists => b"EXISTS",
+        UnpackOutcome::Conflict => b"CONFLICT",
+        UnpackOutcome::NotFound => b"NOT FOUND",
+        UnpackOutcome::Failed => b"FAILED",
     }
 }
 
@@ -87,5 +87,5 @@ fn put_path(alloc: Global, line: &mut Vec<u8>, path: &str) -> Result<(), AllocEr
 pub fn left_over_line(whole: bool) -> &'static [u8]
     ensures { result.now ≡ left_over_line whole }
 {
-    if whole { b"" } else { b"LEFT OVER\n" }
+    if whole { b"" } else { b"INCOMPLETE IMAGES\n" }
 }

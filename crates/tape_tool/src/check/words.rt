@@ -18,9 +18,9 @@ pub const CHECK: Outline = Outline {
     after_help: help::AFTER_CHECK,
     usage: None,
     words: &[
-        Word("IMAGE", Kind::TextsOr("from"), help::IMAGES),
-        Word("from", Kind::TextOption("LIST"), help::FROM),
-        Word("null", Kind::FlagOf("from"), help::NULL),
+        Word("IMAGE", Kind::TextsOr("files-from"), help::IMAGES),
+        Word("files-from", Kind::TextOption("LIST"), help::FROM),
+        Word("null", Kind::FlagOf("files-from"), help::NULL),
     ],
 };
 

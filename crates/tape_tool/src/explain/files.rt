@@ -1,21 +1,33 @@
 //! What the faults of a file mean, by what the file is for: each list in the order of its numbers.
 use super::NEVER;
 
-/// Of `write`, where it is not known which file it was.
-pub const FILE: &[&str] = &[
-    "  An image of the set is there already and is not blank: it was left as it is.
-  Remove it if you do not need it, or name another PRE or DIR. Images that were
-  written before it are not blank any more.
+/// An input of `write` that was not found.
+pub const FILE_OF_INPUT: &[&str] = &[
+    NEVER,
+    "  The input could not be opened. Nothing was written.
+  Check its name and your permissions.
 ",
-    "  An input or an image could not be opened or made: are the names right, is DIR
-  there, may you read and write there?
-  Images that were begun are not blank any more: remove them first.
+    NEVER,
+    NEVER,
+];
+
+/// The images of `write`, and its inputs once they are read.
+pub const FILE_OF_IMAGES: &[&str] = &[
+    "  An image of this set already exists and is not blank; it was not changed.
+  Remove it, or choose another PRE or DIR. Images that were written before it,
+  if any, are no longer blank.
 ",
-    "  Reading an input, or an image that is there, failed: a folder, or a bad disk.
-  Images that were begun are not blank any more: remove them first.
+    "  An image or an input could not be opened or created. Does DIR exist, and may
+  you read and write there? Images that were started before it, if any, are no
+  longer blank: remove them before you try again.
 ",
-    "  Writing failed: a full disk, or standard output was closed.
-  Images that were begun are not blank any more: remove them first.
+    "  An input or an existing image could not be read: is it a directory, or is the
+  disk failing? Images that were started, if any, are no longer blank: remove
+  them before you try again.
+",
+    "  Writing failed: the disk is full, or standard output was closed.
+  Images that were started, if any, are no longer blank: remove them before you
+  try again.
 ",
 ];
 
@@ -23,65 +35,65 @@ pub const FILE_OF_LINES: &[&str] = &[
     NEVER,
     NEVER,
     NEVER,
-    "  It takes no more: a full disk, or a pipe that was closed, as by 'head'.
-  What was printed is right, and what was made stays. On a full disk make room.
+    "  Output failed: the disk is full, or the pipe was closed (by 'head', say).
+  What was printed before it is right, and what was created is kept.
 ",
 ];
 
 pub const FILE_OF_IMAGE: &[&str] = &[
     NEVER,
-    "  It could not be opened. Nothing was read.
-  Is the name right, and may you read it?
+    "  The image could not be opened. Nothing was read.
+  Check its name and your permissions.
 ",
     NEVER,
     NEVER,
 ];
 
 pub const FILE_OF_VOLUME: &[&str] = &[
-    "  It is there already, and was left as it is. Those made before it stay.
-  Name another PRE or DIR, or remove it if you do not need it.
+    "  The image already exists; it was not changed. Images created before it, if
+  any, are complete. Choose another PRE or DIR, or remove the image.
 ",
-    "  It could not be made. Those made before it stay.
-  Is DIR there, and may you write to it?
+    "  The image could not be created. Does DIR exist, and may you write to it?
+  Images created before it, if any, are complete.
 ",
     NEVER,
-    "  It could not be written whole: is the disk full? Those made before it stay.
-  Remove it before you call again.
+    "  The image could not be written completely: is the disk full? Remove it before
+  you try again. Images created before it, if any, are complete.
 ",
 ];
 
 pub const FILE_OF_LIST: &[&str] = &[
     NEVER,
-    "  It could not be opened. No image was read.
-  Is the name right, and may you read it?
+    "  The list could not be opened. No image was read.
+  Check its name and your permissions.
 ",
-    "  Reading it failed: it is a folder, or the disk fails. No image was read.
-  Name a file, or copy the list to another disk, and call again.
+    "  The list could not be read: is it a directory, or is the disk failing?
+  No image was read.
 ",
     NEVER,
 ];
 
 pub const FILE_OF_OUT: &[&str] = &[
-    "  It may keep a tape, and was left as it is: an image, compressed, or a stage.
-  With 'extract' it stands before the images: SET FILE OUT IMAGE..
-  Name another OUT, or remove the file if you do not need it.
+    "  OUT already exists and might be a tape image, an archive or a stage. It was
+  not changed. With 'extract' OUT comes before the images: SET FILE OUT IMAGE..
+  Choose another name, or remove the file.
 ",
-    "  It could not be opened or made. What a stage keeps stays.
-  Is its folder there, and may you read and write there?
+    "  OUT could not be opened or created. Data saved in a stage is safe.
+  Does its directory exist, and may you read and write there?
 ",
-    "  It could not be read, so it can't be seen whether it keeps a tape.
-  It was left as it is, and nothing else was read. Name another OUT.
+    "  OUT already exists and could not be read, so tape cannot tell whether it is a
+  tape image. It was not changed. Choose another name.
 ",
-    "  It, or standard output, takes no more: a full disk, or a closed pipe.
-  OUT may not be whole. What a stage keeps stays.
-  Make room, or name an OUT on another disk, and call again.
+    "  Writing to OUT or standard output failed: the disk is full, or a pipe was
+  closed. OUT may be incomplete. Data saved in a stage is safe.
+  Free some space, or choose an OUT on another disk, and try again.
 ",
 ];
 
 pub const FILE_OF_STAGE: &[&str] = &[
     NEVER,
-    "  It could not be opened, or not be made, and no image was read. Is the name
-  right, is its folder there, may you read there, and with 'extract' write?
+    "  The stage could not be opened or created. No image was read. Check its name,
+  that its directory exists, and your permissions ('extract' needs to write).
 ",
     NEVER,
     NEVER,
@@ -89,11 +101,12 @@ pub const FILE_OF_STAGE: &[&str] = &[
 
 pub const FILE_OF_FOLDER: &[&str] = &[
     NEVER,
-    "  It, or a file in it, could not be opened or made. Files told before stay.
-  Is DIR there, and may you read and write there?
+    "  DIR, or a file in it, could not be opened or created. Files reported earlier
+  are kept. Does DIR exist, and may you read and write there?
 ",
     NEVER,
-    "  A file in it, or standard output, takes no more: a full disk, or a closed
-  pipe. Files told before stay, and the stages. Make room, and call again.
+    "  Writing to DIR or standard output failed: the disk is full, or a pipe was
+  closed. Files reported earlier, and the stages, are kept. Free some space and
+  try again.
 ",
 ];

@@ -45,9 +45,9 @@ pub const EXTRACT: Outline = Outline {
         Word("SET", Kind::Text, help::SET),
         Word("FILE", Kind::Number(1, 9_999), help::FILE),
         Word("OUT", Kind::Text, help::OUT),
-        Word("IMAGE", Kind::TextsOr("from"), help::REELS),
-        Word("from", Kind::TextOption("LIST"), help::FROM),
-        Word("null", Kind::FlagOf("from"), help::NULL),
+        Word("IMAGE", Kind::TextsOr("files-from"), help::REELS),
+        Word("files-from", Kind::TextOption("LIST"), help::FROM),
+        Word("null", Kind::FlagOf("files-from"), help::NULL),
         Word(
             "form",
             Kind::NameOption("FORM", FORMS, &["lines"]),

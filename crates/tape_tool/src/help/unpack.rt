@@ -1,59 +1,58 @@
-//! The texts of `unpack`.
+//! The texts of help for `unpack`.
 
 /// What `unpack` does.
-pub const ABOUT_UNPACK: &str = "Gets every file of every set back into a folder";
+pub const ABOUT_UNPACK: &str = "Recover every file on the images into a directory";
 
 /// What DIR is.
-pub const FOLDER_OF_FILES: &str = "The folder, which is there, for the files and their stages";
+pub const FOLDER_OF_FILES: &str = "Existing directory for the files and their stages";
 
 /// What the form is.
-pub const FORM_OF_FILES: &str =
-    "How records stand in a file: each with a line feed, or just joined";
+pub const FORM_OF_FILES: &str = "lines: end each record with a line feed; raw: do not";
 
 /// Too many images.
-pub const TOO_MANY_TO_UNPACK: &str = "unpack takes up to 256 images as words, and any number from \
-a list:
-  find . -name '*.tap' -print0 | tape unpack DIR --from - --null";
+pub const TOO_MANY_TO_UNPACK: &str =
+    "unpack takes up to 256 IMAGEs, and any number of names from a list:
+  find . -name '*.tap' -print0 | tape unpack DIR --files-from - --null";
 
 /// DIR is no folder.
-pub const DIR_IS_NO_FOLDER: &str = "DIR is no folder: it stands before the images,
-as 'mkdir ../out; tape unpack ../out *.tap'";
+pub const DIR_IS_NO_FOLDER: &str = "DIR is not a directory. It comes before the images:
+  mkdir ../out; tape unpack ../out *.tap";
 
-/// Help behind the words of `unpack`.
-pub const AFTER_UNPACK: &str = "Examples:
-  mkdir ../out; tape unpack ../out *.tap
-  find . -name '*.tap' -print0 | tape unpack ../out --from - --null
+/// Help after the arguments of `unpack`.
+pub const AFTER_UNPACK: &str =
+    "tape first reads all images to find out which sets and files they contain, as
+'tape survey' reports them. Then it recovers each file as 'tape extract --again'
+does. A file that is incomplete leaves a stage in DIR, and the next run
+continues from it, with other images too. Images are opened more than once, so a
+pipe such as '<(zcat NAME)' does not work.
 
-The images are read once to see which sets and files are on them, those of
-which 'tape survey' tells. Then each file is got back as 'tape extract' does:
-at once where the images have it so, and else round by round (--again) over a
-stage in DIR. So another day's call goes on there, with other images too. An
-image is opened more than once: a pipe, as '<(zcat NAME)', will not do.
-
-A line for each file, as soon as it is known: its set, its number, and
+One line per file:
   FILE ABC001 1 COMPLETE 25 ../out/ABC001.1.PAYROLL
-           it was written, with 25 records
+           written, 25 records
   FILE ABC001 2 AWAITS 2 2 14 ../out/ABC001.2.LEDGER.stage
-           the last line of 'extract': file, section, block and, where some of
-           its parts are there, the part that is wanted; and its stage
-  FILE ABC001 3 KEPT ../out/ABC001.3.TAXES
-           something of this name was there, and is left as it is
-  FILE ABC001 4 DIFFERS
-           labels of different files were met under this number, so nothing is
-           gathered: keep the images of each set in a folder of its own
-  FILE ABC001 5 NOT MET
-           no label of it was met, but one of a later file of the set
+           incomplete: file, section, block (and part) missing; its stage
+  FILE ABC001 3 EXISTS ../out/ABC001.3.TAXES
+           a file of this name exists; it was not changed
+  FILE ABC001 4 CONFLICT
+           labels of different files have this number: nothing was written. Keep
+           the images of each set in a directory of its own
+  FILE ABC001 5 NOT FOUND
+           no label of this file was found, only of a later one of its set
   FILE ABC001 6 FAILED ../out/ABC001.6.INDEX
-           a fault ended the run here; the files before it stay
-The last line, LEFT OVER, stands there where an image could not be opened, or
-is no whole volume in formats that are read: 'tape survey' tells which.
+           an error ended the run; the files before it are kept
+and a last line 'INCOMPLETE IMAGES' if an image could not be opened, or is not a
+whole volume in formats that tape reads. 'tape survey' shows which.
 
-A file is named SET.FILE.NAME by its labels, so no two have one name. In SET
-'_' stands for a space, and '%' with two hexadecimal digits for all but digits
-and letters; in NAME '_' stands for '/' and for what can't be printed, and the
-spaces at its end are left out. A file comes to stand under its name when it is
-complete, and is never written over. Its stage, NAME.stage, is removed then.
+Files are named SET.FILE.NAME after their labels. In SET, '_' replaces a space
+and %XX any other character except digits and letters; in NAME, '_' replaces '/'
+and unprintable characters, and spaces at the end are left out. A file gets its
+name when it is complete, and its stage, NAME.stage, is then removed. Existing
+files are never overwritten.
 
-Exit status: 0 all files of the sets that were met are there, and nothing on
-the images is left over; 1 a fault, 2 a wrong command line, 3 a file is wanted,
-differs or was not met, something is left over, or no file was met.";
+Exit status: 0 all files complete and all images read, 1 error, 2 usage error,
+3 a file is incomplete, in conflict or not found, an image was not read to its
+end, or no file was found
+
+Examples:
+  mkdir ../out; tape unpack ../out *.tap
+  find . -name '*.tap' -print0 | tape unpack ../out --files-from - --null";

@@ -1,96 +1,105 @@
 //! The texts of help for `init` and `write`.
 
 /// What `init` does.
-pub const ABOUT_INIT: &str = "Makes images of blank volumes, for 'tape write' or an old machine";
+pub const ABOUT_INIT: &str = "Create blank labelled volumes";
 
 /// What DIR is.
-pub const FOLDER: &str = "The folder of the images, which is there already";
+pub const FOLDER: &str = "Existing directory for the images";
 
 /// What PRE is.
-pub const PREFIX: &str = "What the volume identifiers begin with: three of A to Z and 0 to 9";
+pub const PREFIX: &str = "First three characters of the volume identifiers: A to Z, 0 to 9";
 
 /// What COUNT is.
-pub const COUNT: &str = "How many volumes, 1 to 999: PRE001, PRE002, ..";
+pub const COUNT: &str = "Number of volumes, 1 to 999: PRE001, PRE002, ...";
 
 /// DIR is empty.
-pub const NO_FOLDER: &str = "DIR is empty: write '.' for the folder that you are in";
+pub const NO_FOLDER: &str = "DIR is empty: write '.' for the current directory";
 
 /// PRE is none.
-pub const WRONG_PREFIX: &str = "PRE is three characters of A to Z and 0 to 9, as 'ABC'";
+pub const WRONG_PREFIX: &str =
+    "PRE must be three characters from A to Z and 0 to 9, for example 'ABC'";
 
-/// Help behind the words of `init`.
-pub const AFTER_INIT: &str = "Example:
-  tape init . ABC 2          makes ABC001.tap and ABC002.tap, and prints 'INIT 2'
+/// Help after the arguments of `init`.
+pub const AFTER_INIT: &str = "Each image is 100 bytes long: a volume label, two tape marks and the
+end-of-medium marker. Existing files are not overwritten ('tape: file fault 1');
+images created before the error are kept.
 
-Each image has 100 bytes: the volume label, two tape marks and the end word. A file that is there
-already is refused ('tape: file fault 1'); images that were made before it stay.
+Exit status: 0 all created, 1 error, 2 usage error
 
-Exit status: 0 all were made, 1 a fault, 2 a wrong command line.";
+Example:
+  tape init . ABC 2          creates ABC001.tap and ABC002.tap, and prints
+                             'INIT 2'";
 
 /// What `write` does.
-pub const ABOUT_WRITE: &str = "Writes files on labelled volumes, as images";
+pub const ABOUT_WRITE: &str = "Write files to labelled volumes";
 
 /// What CAPACITY is.
-pub const CAPACITY: &str =
-    "The most bytes of an image, at least the block length and 1,024 together";
+pub const CAPACITY: &str = "Maximum size of an image in bytes, at least --block plus 1024";
 
 /// What ID=PATH is.
-pub const FILES: &str = "A file: its identifier, up to the first '=', and where its records are";
+pub const FILES: &str = "File identifier (for the label) and the file with its records";
 
 /// What FORMAT is.
-pub const FORMAT: &str = "F fixed, D counted, or S spanned records";
+pub const FORMAT: &str = "Record format: F fixed, D variable, S spanned";
 
 /// What the block length is.
-pub const BLOCK: &str = "The greatest length of a block, 18 to 99999; with S at most 9999";
+pub const BLOCK: &str = "Maximum block length, 18 to 99999 (S: to 9999)";
 
 /// What the record length is.
-pub const RECORD: &str = "The length of a record: wanted with F, 18 to 99999; with D the greatest \
-and 4 more, up to 9999, which is the default where blocks have room; none with S";
+pub const RECORD: &str = "Record length. F: required, 18 to 99999. D: maximum plus 4, up to
+9999 [default: as much as a block holds]. S: not allowed";
 
 /// What the offset is.
-pub const OFFSET: &str = "How many characters stand before the records of a block, 0 to 99";
+pub const OFFSET: &str = "Bytes before the first record of each block, 0 to 99";
 
 /// What padding is.
-pub const PAD_FULL: &str = "With D: each block is filled to the block length";
+pub const PAD_FULL: &str = "D: fill every block to --block with padding";
 
 /// What FORM is.
-pub const FORM: &str = "lines: each line is a record, without its line feed; raw: with F the input \
-is cut into records, with S it is one";
+pub const FORM: &str = "lines: one record per line; raw: F cuts the input into records, S
+takes it as one record";
 
 /// An ID=PATH has no '='.
-pub const NO_PATH: &str = "a file is named as ID=PATH, as 'PAYROLL=payroll.txt'";
+pub const NO_PATH: &str = "files are given as ID=PATH, for example 'PAYROLL=payroll.txt'";
 
 /// An input is an image.
-pub const INPUT_IS_IMAGE: &str = "an input is an image of the set itself, and would be lost: name
-other inputs, another DIR or another PRE";
+pub const INPUT_IS_IMAGE: &str =
+    "an input is one of the images to be written and would be overwritten:
+choose other inputs, another DIR or another PRE";
 
 /// F without a record length.
-pub const RECORD_WANTED: &str = "--format F wants --record N";
+pub const RECORD_WANTED: &str = "--format F requires --record N";
 
 /// S with a record length.
-pub const NO_RECORD: &str = "--format S takes no --record";
+pub const NO_RECORD: &str = "--format S does not take --record";
 
 /// D with raw inputs.
-pub const RAW_COUNTED: &str = "--form raw goes with --format F or S";
+pub const RAW_COUNTED: &str = "--form raw requires --format F or S";
 
-/// Help behind the words of `write`.
-pub const AFTER_WRITE: &str = "Example:
+/// Help after the arguments of `write`.
+pub const AFTER_WRITE: &str =
+    "Images are created as DIR/PRE001.tap, DIR/PRE002.tap and so on, as many as
+needed, up to 256. An existing image must be blank, as 'tape init' creates it;
+any other is refused ('tape: file fault 1'). The set is named after its first
+volume. After an error, images that were started remain. They are no longer
+blank: remove them before you try again.
+
+Label faults:
+  6  ID contains a character other than A to Z, 0 to 9, space and
+     ! \" % & ' ( ) * + , - . / : ; < = > ? _
+  7  ID is longer than 17 characters
+
+Write faults:
+  2  these block and record lengths are not possible
+  3  CAPACITY is less than --block plus 1024
+  4  a record is too long or, with F, not as long as --record
+  7  more than 256 volumes are needed
+  8  more than 9,999 files
+ 10  out of memory
+
+Exit status: 0 all files written, 1 error, 2 usage error
+
+Example:
   printf 'one\\ntwo\\n' > words.txt
   tape write . ABC 100000 WORDS=words.txt
-makes ABC001.tap and prints 'VOLUME ABC001 486' and 'FILES 1 VOLUMES 1'.
-
-The images are DIR/PRE001.tap, DIR/PRE002.tap and so on, as many as are needed, up to 256. One that
-is there must be blank, as 'tape init' makes it; any other is refused ('tape: file fault 1'). The
-set's identifier is that of its first volume. When a fault ends the command, images that were begun
-or ended stay; they are not blank any more, and have to go before the command is tried again.
-
-Faults of a label:                            Faults of writing:
-  6  a character of ID is none of labels        2  blocks of these lengths are not written
-     (A to Z, 0 to 9, space and                 3  CAPACITY is less than 1,024 and a block together
-     ! \" % & ' ( ) * + , - . / : ; < = > ? _)   4  a record is too long, or with F not as long
-  7  ID is longer than 17                       7  the 257th volume is wanted
-                                                8  more than 9,999 files
-                                               10  no memory
-Faults of a file: 1 an image is there, 2 one could not be opened, 3 reading, 4 writing failed.
-
-Exit status: 0 all was written, 1 a fault, 2 a wrong command line.";
+creates ABC001.tap and prints 'VOLUME ABC001 486' and 'FILES 1 VOLUMES 1'.";

@@ -10,9 +10,9 @@ use tape_run::{WriteFailed, flush, write_text};
 use tape_writer::system::{image_path, make_image};
 
 /// Makes the images, and says how many. At a fault the site is where it came.
-pub fn init<R: Runtime + AllocGlobal>(rt: &R, order: &Init<'_>, site: &mut Site<'_>) -> End {
+pub fn init<'a, R: Runtime + AllocGlobal>(rt: &R, order: &Init<'a>, site: &mut Site<'a>) -> End {
     for number in 1..=order.count {
-        *site = Site::Volume(order.prefix, number);
+        *site = Site::Volume(order.folder, order.prefix, number);
         if let Err(fault) = make(rt, order, number) {
             return End::Faulted(fault);
         }

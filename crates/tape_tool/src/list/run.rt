@@ -20,8 +20,8 @@ const NO_MEMORY: ToolFault = ToolFault::Image(ImageFault {
 /// Lists the image at the path, or that on standard input.
 pub fn list<'a, R: Runtime + AllocGlobal>(rt: &R, order: Listing<'a>, site: &mut Site<'a>) -> End {
     let (listed, read) = match order.image {
-        None => (list_input(rt, rt.reader(), order.places), Site::Input),
-        Some(path) => (list_file(rt, path, order.places), Site::Image(path)),
+        None => (list_input(rt, rt.reader(), order.offsets), Site::Stdin),
+        Some(path) => (list_file(rt, path, order.offsets), Site::Image(path)),
     };
     *site = match listed {
         Err(ToolFault::File(FileFault::WriteFailed)) => Site::Lines,
@@ -31,9 +31,9 @@ pub fn list<'a, R: Runtime + AllocGlobal>(rt: &R, order: Listing<'a>, site: &mut
 }
 
 /// Lists the image at the path.
-fn list_file<R: Runtime + AllocGlobal>(rt: &R, path: &str, places: bool) -> Result<(), ToolFault> {
+fn list_file<R: Runtime + AllocGlobal>(rt: &R, path: &str, offsets: bool) -> Result<(), ToolFault> {
     match File::open(rt, path) {
-        Ok(file) => list_input(rt, file, places),
+        Ok(file) => list_input(rt, file, offsets),
         Err(_) => Err(ToolFault::File(FileFault::NotOpened)),
     }
 }
@@ -42,24 +42,24 @@ fn list_file<R: Runtime + AllocGlobal>(rt: &R, path: &str, places: bool) -> Resu
 fn list_input<R: Print + AllocGlobal, I: Read + Drop>(
     rt: &R,
     input: I,
-    places: bool,
+    offsets: bool,
 ) -> Result<(), ToolFault> {
     let Ok(mut reader) = BufReader::with_capacity(rt.alloc(), READ_AHEAD, input) else {
         return Err(NO_MEMORY);
     };
-    list_from(rt, &mut reader, places)
+    list_from(rt, &mut reader, offsets)
 }
 
 /// Lists what this reader has left.
 fn list_from<R: Print + AllocGlobal, I: Read>(
     rt: &R,
     reader: &mut I,
-    places: bool,
+    offsets: bool,
 ) -> Result<(), ToolFault> {
     let Ok(mut writer) = BufWriter::new(rt.alloc(), io::writer(rt)) else {
         return Err(NO_MEMORY);
     };
-    let listed = if places {
+    let listed = if offsets {
         list_places_to(rt.alloc(), reader, &mut writer)
     } else {
         list_to(rt.alloc(), reader, &mut writer)

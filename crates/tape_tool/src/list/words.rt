@@ -14,7 +14,7 @@ use std::alloc::Global;
 pub struct Listing<'a> {
     pub image: Option<&'a str>,
     /// Whether the place and the size of each item are told.
-    pub places: bool,
+    pub offsets: bool,
 }
 
 /// `list`. It takes any number of images, so that a second one is answered with a loop.
@@ -23,10 +23,10 @@ pub const LIST: Outline = Outline {
     called: "tape list",
     about: help::ABOUT_LIST,
     after_help: help::AFTER_LIST,
-    usage: Some("tape list [--places] [IMAGE]"),
+    usage: Some("tape list [--offsets] [IMAGE]"),
     words: &[
         Word("IMAGE", Kind::AnyTexts, help::IMAGE),
-        Word("places", Kind::Flag, help::PLACES),
+        Word("offsets", Kind::Flag, help::OFFSETS),
     ],
 };
 
@@ -40,7 +40,7 @@ pub fn list_order<'a>(alloc: Global, matches: &ArgMatches<'a>) -> Result<Listing
     match at_most_one(images, help::DASH, help::ONE_IMAGE) {
         Ok(image) => Ok(Listing {
             image,
-            places: flag_of(matches, "places"),
+            offsets: flag_of(matches, "offsets"),
         }),
         Err(text) => Err(mistake(alloc, &LIST, text)),
     }

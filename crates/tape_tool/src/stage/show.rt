@@ -221,7 +221,7 @@ fn put_break(lines: &mut Lines, place: u64)
     requires { array_vec_len lines.old ≤ 200 }
     ensures { lines.new.items ≡ lines.old.items ++ break_line place }
 {
-    put(lines, b"BREAKS OFF ");
+    put(lines, b"TRUNCATED AT ");
     put_decimal(lines, place);
     put(lines, b"\n");
 }

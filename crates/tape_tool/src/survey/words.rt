@@ -26,9 +26,9 @@ pub const SURVEY: Outline = Outline {
     after_help: help::AFTER_SURVEY,
     usage: None,
     words: &[
-        Word("IMAGE", Kind::TextsOr("from"), help::SHELF),
-        Word("from", Kind::TextOption("LIST"), help::FROM),
-        Word("null", Kind::FlagOf("from"), help::NULL),
+        Word("IMAGE", Kind::TextsOr("files-from"), help::SHELF),
+        Word("files-from", Kind::TextOption("LIST"), help::FROM),
+        Word("null", Kind::FlagOf("files-from"), help::NULL),
         Word("tsv", Kind::Flag, help::ROWS),
     ],
 };

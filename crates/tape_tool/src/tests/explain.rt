@@ -51,25 +51,25 @@ const SITES: &[(&str, Option<Site<'_>>)] = &[
         Some(Site::Image("told_cut.tap")),
     ),
     ("--explain list lost.tap", Some(Site::Image("lost.tap"))),
-    ("init . TLD 1 --explain", Some(Site::Volume(TLD, 1))),
+    ("init . TLD 1 --explain", Some(Site::Volume(".", TLD, 1))),
     (
         "write . TLD 100000 A=told.tap Ab=told.tap --explain",
-        Some(Site::File("Ab=told.tap")),
+        Some(Site::Input("Ab=told.tap")),
     ),
     (
         "write none TLD 100000 A=told.stage --explain",
-        Some(Site::Unknown),
+        Some(Site::Images("none")),
     ),
     (
         "extract ABC001 1 told.tap lost.tap --explain",
         Some(Site::Out("told.tap")),
     ),
     (
-        "check told.tap --from lost.names --explain",
+        "check told.tap --files-from lost.names --explain",
         Some(Site::List(Some("lost.names"))),
     ),
     (
-        "extract ABC001 1 told.txt --from . --explain",
+        "extract ABC001 1 told.txt --files-from . --explain",
         Some(Site::List(Some("."))),
     ),
     (
@@ -125,67 +125,63 @@ const TOLD: &[(ToolFault, Site<'_>, &str)] = &[
     (
         CUT_OFF,
         Site::Image("cut.tap"),
-        "  Image: cut.tap\n  The image ends inside a block: it was cut off.",
+        "  Image: cut.tap\n  The image ends in the middle of a block: it was cut off.",
     ),
     (
         NO_IMAGE,
-        Site::Input,
-        "  Image: standard input\n  This does not begin as a .tap image.",
+        Site::Stdin,
+        "  Image: standard input\n  This does not look like a .tap image.",
     ),
-    (
-        NO_MEMORY,
-        Site::Image("a.tap"),
-        "  There was not enough memory.",
-    ),
+    (NO_MEMORY, Site::Image("a.tap"), "  Out of memory."),
     (
         ToolFault::File(FileFault::Exists),
-        Site::Volume(TLD, 7),
-        "  Image: TLD007.tap\n  It is there already, and was left as it is.",
+        Site::Volume("box", TLD, 7),
+        "  Image: box/TLD007.tap\n  The image already exists; it was not changed.",
     ),
     (
         ToolFault::File(FileFault::Exists),
         Site::Out("a.tap"),
-        "  OUT: a.tap\n  It may keep a tape, and was left as it is:",
+        "  OUT: a.tap\n  OUT already exists and might be a tape image,",
     ),
     (
         ToolFault::File(FileFault::WriteFailed),
         Site::Lines,
-        "  Output: standard output\n  It takes no more: a full disk,",
+        "  Output: standard output\n  Output failed: the disk is full,",
     ),
     (
         ToolFault::StageInUse,
         Site::Stage("s"),
-        "  Stage: s\n  Another run has it open.",
+        "  Stage: s\n  Another run is using this stage.",
     ),
     (
         ToolFault::Run(RunFault::OtherFile),
         Site::Stage("s"),
-        "  Stage: s\n  It is the stage of another file,",
+        "  Stage: s\n  This stage belongs to another file",
     ),
     (
         ToolFault::Stage(StageFault::NoPoint),
         Site::Folder("d"),
-        "  Stage: the path told as FAILED, with .stage behind it\n  It is no stage, and was left",
+        "  Stage: the path reported as FAILED, with .stage after it\n  This is not a stage,",
     ),
     (
         ToolFault::StageInUse,
         Site::Folder("d"),
-        "  Stage: the path told as FAILED, with .stage behind it\n  Another run has it open.",
+        "  Stage: the path reported as FAILED, with .stage after it\n  Another run is using",
     ),
     (
         ToolFault::Run(RunFault::OtherFile),
         Site::Folder("d"),
-        "  Stage: the path told as FAILED, with .stage behind it\n  It is the stage of another",
+        "  Stage: the path reported as FAILED, with .stage after it\n  This stage belongs",
     ),
     (
         ToolFault::File(FileFault::WriteFailed),
         Site::Folder("d"),
-        "  DIR: d\n  A file in it, or standard output, takes no more:",
+        "  DIR: d\n  Writing to DIR or standard output failed:",
     ),
     (
         ToolFault::Run(RunFault::OutOfMemory),
         Site::Out("o"),
-        "  There was not enough memory.",
+        "  Out of memory.",
     ),
 ];
 
@@ -195,6 +191,7 @@ fn faults_are_told_in_words(rt: HostRuntime) -> Result<(), Fail> {
         let explanation = Explanation {
             fault: *fault,
             site: *site,
+            reason: None,
         };
         let told = format!(in rt.alloc(); "{explanation}")?;
         assert!(rt; told.as_str().starts_with(text), "{told}");

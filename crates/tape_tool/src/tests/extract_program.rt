@@ -76,11 +76,11 @@ const NEVER_OUT: &[Step<'_>] = &[
     // The same where a list names it, and the list itself.
     Step::Put("only.names", b"other.tap\nonly.tap"),
     Step::Ends(
-        "extract ABC001 1 linked.tap --from only.names",
+        "extract ABC001 1 linked.tap --files-from only.names",
         End::WrongWords,
     ),
     Step::Ends(
-        "extract ABC001 1 ./only.names other.tap --from only.names",
+        "extract ABC001 1 ./only.names other.tap --files-from only.names",
         End::WrongWords,
     ),
     Step::Holds("only.names", b"other.tap\nonly.tap"),

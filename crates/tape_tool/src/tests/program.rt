@@ -108,7 +108,7 @@ fn ends(rt: HostRuntime) -> Result<(), Fail> {
 const LISTED: &[Step<'_>] = &[
     Step::PutWorked("reel.tap", 2484),
     Step::Ends("list reel.tap", End::Done),
-    Step::Ends("list --places reel.tap", End::Done),
+    Step::Ends("list --offsets reel.tap", End::Done),
 ];
 
 #[test]

@@ -20,7 +20,7 @@ const MADE: &[Step<'_>] = &[
 
 const ROWS: &[Row<'_>] = &[
     (
-        "list --places seen_cut.tap",
+        "list --offsets seen_cut.tap",
         1,
         "0 88 000001 VOL1 ABC001\n\
             88 88 000002 HDR1 PAYROLL           ABC001 0001 0001\n\
@@ -195,7 +195,7 @@ fn looks_for_all(seen: &Seen, first: &str, last: &str) -> bool {
 /// A call by this line, with 256 images behind it and those of a list.
 fn called_with_all(rt: &HostRuntime, line: &str) -> Result<Seen, Fail> {
     let mut line = with_images(rt.alloc(), line, 256)?;
-    line.push_str(" --from many.names")?;
+    line.push_str(" --files-from many.names")?;
     called(rt, line.as_str(), true)
 }
 

@@ -64,10 +64,10 @@ fn records_before_what_is_wanted(rt: HostRuntime) -> Result<(), Fail> {
 /// bytes its records have.
 const TORN: &[(usize, &str, usize)] = &[
     (2381, "STAGE ABC001 1 25\nCOMPLETE 25\n", 2025),
-    (2380, "STAGE ABC001 1 24\nBREAKS OFF 2296\n", 1944),
-    (1300, "STAGE ABC001 1 12\nBREAKS OFF 1276\n", 972),
-    (1276, "STAGE ABC001 1 12\nBREAKS OFF 1276\n", 972),
-    (256, "STAGE ABC001 1 0\nBREAKS OFF 256\n", 0),
+    (2380, "STAGE ABC001 1 24\nTRUNCATED AT 2296\n", 1944),
+    (1300, "STAGE ABC001 1 12\nTRUNCATED AT 1276\n", 972),
+    (1276, "STAGE ABC001 1 12\nTRUNCATED AT 1276\n", 972),
+    (256, "STAGE ABC001 1 0\nTRUNCATED AT 256\n", 0),
 ];
 
 /// What stands of the stage is told so, and its records are the first ones.

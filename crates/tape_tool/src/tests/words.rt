@@ -23,7 +23,7 @@ fn push_word(alloc: Global, words: &mut Vec<String>, word: &str) -> Result<(), A
 const ORDERS: &[(&str, Option<&str>, bool)] = &[
     ("list", None, false),
     ("list reel.tap", Some("reel.tap"), false),
-    ("list --places", None, true),
+    ("list --offsets", None, true),
     ("list -- -odd.tap", Some("-odd.tap"), false),
 ];
 
@@ -33,8 +33,8 @@ fn orders(rt: HostRuntime) -> Result<(), Fail> {
         let words = words_of(rt.alloc(), line)?;
         let order = call_of(rt.alloc(), words.as_slice())?.order;
         assert!(rt;
-            matches!(order, Order::List(Listing { image: found, places })
-                if found == *image && places == *told),
+            matches!(order, Order::List(Listing { image: found, offsets })
+                if found == *image && offsets == *told),
             "{line}"
         );
     }
@@ -50,19 +50,23 @@ const SAID: &[(&str, i32, &str)] = &[
         2,
         "do echo \"$f\"; tape list \"$f\"; done",
     ),
-    ("list a.tap b.tap", 2, "Usage: tape list [--places] [IMAGE]"),
-    ("list -", 2, "leave IMAGE out to list standard input"),
+    (
+        "list a.tap b.tap",
+        2,
+        "Usage: tape list [--offsets] [IMAGE]",
+    ),
+    ("list -", 2, "omit IMAGE to read standard input"),
     ("list -- -", 2, "write './-' for a file of that name"),
     ("list --all", 2, "unexpected argument '--all' found"),
     ("--help", 0, "Usage: tape [OPTIONS] <COMMAND>"),
     ("--version", 0, "tape 0.1.0"),
-    ("list --help", 0, "Usage: tape list [--places] [IMAGE]"),
+    ("list --help", 0, "Usage: tape list [--offsets] [IMAGE]"),
     ("check --help", 0, "--explain"),
-    ("list --all", 2, "Usage: tape list [--places] [IMAGE]"),
+    ("list --all", 2, "Usage: tape list [--offsets] [IMAGE]"),
     ("help list", 0, "zcat reel.tap.gz | tape list"),
     ("init '' ABC 2", 2, "DIR is empty: write '.'"),
     ("write '' ABC 100000 A=B", 2, "DIR is empty: write '.'"),
-    ("check --null a.tap", 2, "--from <LIST>"),
+    ("check --null a.tap", 2, "--files-from <LIST>"),
     ("extract ABC001 1 a.txt", 2, "<IMAGE>..."),
     (
         "extract ABC001 1 - a.tap",

@@ -17,8 +17,8 @@ use std::io::Write;
 use std::{fs, io};
 use tape_label::Field;
 use tape_run::{
-    Fate, Heading, SetFile, ShelfFiles, WriteFailed, fate_text, file_line, file_name, files_on,
-    flush, left_over_line, write_text,
+    Heading, SetFile, ShelfFiles, UnpackOutcome, WriteFailed, file_line, file_name, files_on,
+    flush, left_over_line, unpack_outcome_text, write_text,
 };
 
 /// Gets every file back that is on the images that the words name. At a fault the site is where it
@@ -110,8 +110,20 @@ fn unpack_file<R: Host>(
     file: &SetFile,
 ) -> End {
     let file_id = match file.heading {
-        Heading::NotMet => return tell(rt, file, fate_text(Fate::NotMet), "", End::Incomplete),
-        Heading::Differs => return tell(rt, file, fate_text(Fate::Differs), "", End::Incomplete),
+        Heading::NotMet => return tell(
+            rt,
+            file,
+            unpack_outcome_text(UnpackOutcome::NotFound),
+            "",
+            End::Incomplete,
+        ),
+        Heading::Differs => return tell(
+            rt,
+            file,
+            unpack_outcome_text(UnpackOutcome::Conflict),
+            "",
+            End::Incomplete,
+        ),
         Heading::Named(file_id) => file_id,
     };
     let name = file_name(&file.set_id, file.file, &file_id);
@@ -131,7 +143,13 @@ fn unpack_to<R: Host>(
 ) -> End {
     let (out, stage) = (paths.out.as_str(), paths.stage.as_str());
     if is_there(rt, out) {
-        return tell(rt, file, fate_text(Fate::Kept), out, End::Done);
+        return tell(
+            rt,
+            file,
+            unpack_outcome_text(UnpackOutcome::Exists),
+            out,
+            End::Done,
+        );
     }
     let mut last = LastLine::new();
     match gather(rt, order, images, file, paths, &mut last) {
@@ -142,7 +160,13 @@ fn unpack_to<R: Host>(
         }
         End::Incomplete => tell(rt, file, last.text(), stage, End::Incomplete),
         end => {
-            let _ = tell(rt, file, fate_text(Fate::Failed), out, end);
+            let _ = tell(
+                rt,
+                file,
+                unpack_outcome_text(UnpackOutcome::Failed),
+                out,
+                end,
+            );
             end
         }
     }

@@ -28,9 +28,9 @@ pub const UNPACK: Outline = Outline {
     usage: None,
     words: &[
         Word("DIR", Kind::Text, help::FOLDER_OF_FILES),
-        Word("IMAGE", Kind::TextsOr("from"), help::SHELF),
-        Word("from", Kind::TextOption("LIST"), help::FROM),
-        Word("null", Kind::FlagOf("from"), help::NULL),
+        Word("IMAGE", Kind::TextsOr("files-from"), help::SHELF),
+        Word("files-from", Kind::TextOption("LIST"), help::FROM),
+        Word("null", Kind::FlagOf("files-from"), help::NULL),
         Word(
             "form",
             Kind::NameOption("FORM", FORMS, &["lines"]),

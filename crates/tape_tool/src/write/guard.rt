@@ -1,5 +1,4 @@
 //! What `write` looks at before it writes: no input of a set is one of its images.
-use crate::explain::Site;
 use crate::fault::{FileFault, OUT_OF_MEMORY};
 use crate::help;
 use crate::unfit::{Unfit, refused, same_file};
@@ -8,7 +7,6 @@ use crate::write::words::WriteOrder;
 use std::fs;
 use std::fs::Metadata;
 use std::rt::Runtime;
-use tape_label::Field;
 use tape_writer::system::{VOLUMES, image_path};
 
 /// Judges the files that the words name. None is opened, made or changed.
@@ -39,16 +37,6 @@ fn differ<R: Runtime>(rt: &R, files: &[&str], images: &[Metadata]) -> Result<(),
         }
     }
     Ok(())
-}
-
-/// The first file of which the identifier is none.
-pub fn wrong_file<'a>(order: &WriteOrder<'a>) -> Site<'a> {
-    for word in order.files.as_slice() {
-        if Field::<17>::new(split(word).0).is_err() {
-            return Site::File(*word);
-        }
-    }
-    Site::Unknown
 }
 
 /// The images of the set that are there already.

@@ -4,7 +4,7 @@ ghost use Rattle.std.specs.Prelude.{◌≡◌, ◌==◌, IfOk, IfErr};
 ghost use Rattle.std.specs.List.{before_first, after_first};
 ghost use Rattle.tape_tool.specs.Writing.{record_length, IsNoShape, plain_head};
 
-use super::guard::{look_ahead, wrong_file};
+use super::guard::look_ahead;
 use super::report::say;
 use super::words::{WRITE, WriteOrder};
 use crate::explain::Site;
@@ -17,20 +17,15 @@ use tape_label::{Field, Format, Head1};
 use tape_writer::system::{FolderPlan, InputFile, write_in_folder};
 use tape_writer::{Input, WriteFault};
 
-/// Writes files on volumes, where no file would be lost by it.
+/// Writes files on volumes, if no file would be lost by it. At a fault the site is where it came.
 pub fn write<'a, R: Runtime + AllocGlobal>(
     rt: &R,
     order: &WriteOrder<'a>,
     site: &mut Site<'a>,
 ) -> End {
+    *site = Site::Images(order.folder);
     match look_ahead(rt, order) {
-        Ok(()) => {
-            let written = write_set(rt, order);
-            if let Err(ToolFault::Label(_)) = written {
-                *site = wrong_file(order);
-            }
-            end_of(written)
-        }
+        Ok(()) => end_of(write_set(rt, order, site)),
         Err(unfit) => refuse_unfit(rt, &WRITE, unfit),
     }
 }
@@ -39,10 +34,15 @@ pub fn write<'a, R: Runtime + AllocGlobal>(
 ///
 /// Faults are looked for in this order: the shape, the files' identifiers, their inputs, and then
 /// what the engine finds.
-fn write_set<R: Runtime + AllocGlobal>(rt: &R, order: &WriteOrder<'_>) -> Result<(), ToolFault> {
+fn write_set<'a, R: Runtime + AllocGlobal>(
+    rt: &R,
+    order: &WriteOrder<'a>,
+    site: &mut Site<'a>,
+) -> Result<(), ToolFault> {
     let plan = plan_of(order)?;
-    check_ids(order)?;
-    let mut files = find_inputs(rt, order)?;
+    check_ids(order, site)?;
+    let mut files = find_inputs(rt, order, site)?;
+    *site = Site::Images(order.folder);
     write_files(rt, &plan, files.as_mut_slice())
 }
 
@@ -112,8 +112,9 @@ fn record_length(order: &WriteOrder<'_>) -> u32
 }
 
 /// Looks at the identifiers of all files. Nothing of them is kept: there may be thousands.
-fn check_ids(order: &WriteOrder<'_>) -> Result<(), ToolFault> {
+fn check_ids<'a>(order: &WriteOrder<'a>, site: &mut Site<'a>) -> Result<(), ToolFault> {
     for word in order.files.as_slice() {
+        *site = Site::Input(*word);
         head_for(word)?;
     }
     Ok(())
@@ -156,12 +157,14 @@ fn head_of(file_id: Field<17>) -> Head1
 }
 
 /// Looks for the inputs, in their order. None is read.
-fn find_inputs<'a, R: Runtime + AllocGlobal>(
-    rt: &'a R,
+fn find_inputs<'r, 'a: 'r, R: Runtime + AllocGlobal>(
+    rt: &'r R,
     order: &WriteOrder<'a>,
-) -> Result<Vec<Input<InputFile<'a, R>>>, ToolFault> {
+    site: &mut Site<'a>,
+) -> Result<Vec<Input<InputFile<'r, R>>>, ToolFault> {
     let mut inputs = Vec::new(rt.alloc());
     for word in order.files.as_slice() {
+        *site = Site::Input(*word);
         if inputs.push(input_of(rt, *word)?).is_err() {
             return Err(ToolFault::Write(WriteFault::OutOfMemory));
         }

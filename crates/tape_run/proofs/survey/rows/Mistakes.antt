@@ -19,5 +19,5 @@ wanted_row_told_as_complete : (κs : _) (a : _) (z : _) (s : _)
     → put_standing.Learnt-named κs a z s → a.0.now.items ≡ [] → a.1.0.now ≡ Missing 2
     → s.0.now.items ≡ codes "COMPLETE\t\t" → ⊥
 wanted_row_told_as_complete κs a z s l e missing w =
-    absurd (let n : 67 ≡ 87 = ap (λ v. slice_index v 0) (sym w ∙ l.items
+    absurd (let n : 67 ≡ 77 = ap (λ v. slice_index v 0) (sym w ∙ l.items
     ∙ ap (λ v. v ++ standing_cells a.1.0.now) e ∙ ap standing_cells missing) in omega arith)

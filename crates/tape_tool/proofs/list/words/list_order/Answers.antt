@@ -11,7 +11,7 @@ returns-in-Ok-clause-ok c =
     record {
       image = sym texts ∙ c.in-Ok.ensures.ok;
       named = c.in-Ok.ensures.named;
-      places = c.flag_of.ensures;
+      offsets = c.flag_of.ensures;
     }
 
 pub returns-in-Err-clause-err : goal.returns-in-Err-clause-err

@@ -1,0 +1,47 @@
+//! What the system says of a file at which a fault came.
+use super::Site;
+use crate::fault::{FileFault, ToolFault};
+use crate::write::run::split;
+use std::fs::File;
+use std::io::Read;
+use std::rt::Runtime;
+use std::{fs, io};
+use tape_image::ImageCause;
+use tape_writer::system::folder_of;
+
+/// Asks the system again for the file at which this fault came, and returns what it says. Returns
+/// `None` if it says nothing now, and for faults that are not those of a file that can be read.
+pub fn reason_of<R: Runtime>(rt: &R, fault: ToolFault, site: Site<'_>) -> Option<io::Error> {
+    match fault {
+        ToolFault::File(FileFault::NotOpened | FileFault::ReadFailed) => {}
+        ToolFault::Image(fault) if fault.cause == ImageCause::Device => {}
+        _ => return None,
+    }
+    match site {
+        Site::Image(path) | Site::List(Some(path)) | Site::Stage(path) => unread(rt, path),
+        Site::Input(word) => unread(rt, split(word).1),
+        Site::Out(path) => not_there(rt, folder_of(path)),
+        Site::Folder(path) | Site::Images(path) | Site::Volume(path, _, _) => not_there(rt, path),
+        Site::Unknown | Site::Lines | Site::Stdin | Site::List(None) => None,
+    }
+}
+
+/// Why nothing is found at this path.
+fn not_there<R: Runtime>(rt: &R, path: &str) -> Option<io::Error> {
+    fs::metadata(rt, path).err()
+}
+
+/// Why the file at this path cannot be read. A pipe or a device is not opened: that might wait.
+fn unread<R: Runtime>(rt: &R, path: &str) -> Option<io::Error> {
+    match fs::metadata(rt, path) {
+        Ok(found) if found.is_file() || found.is_dir() => {}
+        Ok(_) => return None,
+        Err(error) => return Some(error),
+    }
+    let mut file = match File::open(rt, path) {
+        Ok(file) => file,
+        Err(error) => return Some(error),
+    };
+    let mut byte = [0; 1];
+    file.read(&mut byte).err()
+}

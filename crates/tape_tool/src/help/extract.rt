@@ -1,0 +1,108 @@
+//! The texts of help for `extract`.
+
+/// What `extract` does.
+pub const ABOUT_EXTRACT: &str = "Recover one file from the images of its set";
+
+/// What SET is.
+pub const SET: &str = "Set identifier, up to 6 characters, as 'tape list' shows it in HDR1";
+
+/// What FILE is.
+pub const FILE: &str = "Number of the file in its set, 1 to 9999";
+
+/// What OUT is.
+pub const OUT: &str = "Output file; not touched until the file is complete";
+
+/// What IMAGE is, if there are several.
+pub const REELS: &str = "SIMH .tap images (at most 256; see --files-from)";
+
+/// What the form is.
+pub const FORM_OF_OUT: &str = "lines: end each record with a line feed; raw: do not";
+
+/// What the stage is.
+pub const STAGE: &str = "Save what is recovered in this file, and continue from it";
+
+/// What `--again` does.
+pub const AGAIN: &str = "Read the images repeatedly until a pass recovers nothing new";
+
+/// SET is none.
+pub const WRONG_SET: &str = "SET must have 1 to 6 characters, for example 'ABC001'";
+
+/// Too many images.
+pub const TOO_MANY_IMAGES: &str =
+    "extract takes up to 256 IMAGEs, and any number of names from a list:
+  find . -name '*.tap' | tape extract SET FILE OUT --files-from -";
+
+/// OUT is standard output.
+pub const OUT_IS_DASH: &str = "OUT must be a file, because the progress lines go to standard output:
+write './-' for a file of that name, or /dev/stdout to have both";
+
+/// OUT is the stage.
+pub const OUT_IS_STAGE: &str =
+    "OUT is the stage itself and would be overwritten: choose another name";
+
+/// OUT is the list.
+pub const OUT_IS_LIST: &str =
+    "OUT is the list of images and would be overwritten: choose another name";
+
+/// OUT is one of the images.
+pub const OUT_IS_IMAGE: &str =
+    "OUT is one of the images and would be overwritten. OUT comes before them:
+  tape extract ABC001 1 payroll.txt *.tap";
+
+/// Help after the arguments of `extract`.
+pub const AFTER_EXTRACT: &str =
+    "Name every image you have of the set, good or damaged. Images of other sets do
+no harm. With --again the order does not matter: a block that is unreadable on
+one copy is taken from another. Without it images are read once, in order, each
+only as far as needed; images after the one that completes the file are not
+read. Names from LIST come after the IMAGEs; empty lines are ignored.
+
+One line per image:
+  REEL n COMPLETE                 file complete
+  REEL n SECTION DONE             section complete; the file continues on
+                                  another reel
+  REEL n REEL ENDED               image ends early: add another copy
+  REEL n BAD ITEM                 a block or label is unreadable: add another
+                                  copy
+  REEL n LATER SECTION            a later section of the file: use --again, or
+                                  name it again after the others
+  REEL n EARLIER SECTION          nothing new
+  REEL n OTHER SET                belongs to another set
+  REEL n NOT ON REEL              does not contain this file
+  REEL n NOT LABELLED             no ECMA-13 labels, or a blank volume
+  REEL n NOT OPENED               check its name and your permissions
+  REEL n BLOCK COUNT LABEL SEEN   the trailer counts other blocks: one was lost
+                                  or is there twice
+  REEL n BROKEN                   not read, because a count before it was wrong:
+                                  use --again or --stage
+  REEL n BAD BLOCK CAUSE OFFSET   block contents do not fit the record format
+  REEL n BAD LABEL CAUSE          label cannot be read
+  REEL n SECTION DIFFERS          labels do not fit those read before
+  REEL n SPAN LEFT                file ends inside a record
+followed by ' IMAGE CAUSE OFFSET' if the image itself ended the reading ('tape
+--help' lists the causes). The last line is 'COMPLETE n' (n records), or 'AWAITS
+FILE SECTION BLOCK', the first block that is missing, counted from 0, and the
+part of it if some of its parts were read.
+
+With --again the numbers of the lines go on: the second pass over three images
+is REEL 4 to REEL 6. With --again or --stage nothing of an image that answers
+BLOCK COUNT is used. With --again and without --stage the records are held in
+memory until the file is complete.
+
+With --stage what is recovered is saved after each image, and the next run
+continues there. If a run is interrupted at any moment, the stage has what was
+saved last or what was just being saved.
+
+The records go to OUT.part, which is renamed to OUT when the file is complete,
+and removed otherwise. An OUT that is the stage, the list or one of the images
+is refused, and so is one that may be a tape ('tape: file fault 1'): an existing
+file that is not empty and has a name in .tap, begins as an image, or is
+compressed, an archive or a stage. If OUT is a pipe, a link or a device, the
+records are written to it at the end.
+
+Exit status: 0 complete, 1 error, 2 usage error, 3 incomplete
+
+Examples:
+  tape extract ABC001 1 payroll.txt *.tap --again
+  tape extract ABC001 1 payroll.txt *.tap --again --stage payroll.stage
+  find . -name '*.tap' | tape extract ABC001 1 out.txt --files-from - --again";
