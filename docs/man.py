@@ -245,7 +245,8 @@ def page():
     for name in COMMANDS:
         out += command_part(name, said)
     out += titled(said["AFTER"])
-    out += [".SH FILES"]
+    out += [".SH ENVIRONMENT", ".TP", ".B TAPE_EXPLAIN"]
+    out += [escaped("if set and not empty, errors are explained as with --explain"), ".SH FILES"]
     for name, text in FILES:
         out += [".TP", f".I {quoted(name)}", escaped(text)]
     out += [".SH BUGS", escaped(BUGS), ".SH SEE ALSO", *SEE_ALSO]
