@@ -1,4 +1,5 @@
 -- the definitions that a reader has to trust, in this order:
+pub mod Answers
 pub mod Tapes
 pub mod Kept
 pub mod Images

@@ -1,7 +1,9 @@
 //! Images and inputs that are files. The contracts make no claim about the contents of files.
+mod answers;
 mod bytes;
 mod fault;
 mod folder;
+mod host;
 mod image_file;
 mod image_files;
 mod input_file;
@@ -10,8 +12,10 @@ mod paths;
 mod write_behind;
 mod written;
 
+pub use answers::{LockFault, found, locked};
 pub use fault::{FileFault, SystemFault};
-pub use folder::{folder_of, name_in_folder, sync_folder_of};
+pub use folder::{folder_of, is_unable, name_in_folder, sync_folder_of};
+pub use host::Host;
 pub use image_file::ImageFile;
 pub use image_files::{Ended, ImageFiles, VOLUMES};
 pub use input_file::InputFile;

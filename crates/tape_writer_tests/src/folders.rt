@@ -12,7 +12,8 @@ use std::rt::Runtime;
 use std::test::Fail;
 use tape_blocks::{Form, Shape};
 use tape_writer::system::{
-    Ended, FileFault, FolderPlan, InputFile, SystemFault, image_path, make_image, write_in_folder,
+    Ended, FileFault, FolderPlan, Host, InputFile, SystemFault, image_path, make_image,
+    write_in_folder,
 };
 use tape_writer::{Input, Prefix, WriteFault};
 
@@ -33,7 +34,7 @@ fn put<R: Runtime>(rt: &R, path: &str, bytes: &[u8]) -> Result<(), Fail> {
 }
 
 /// The file has these bytes.
-fn holds<R: Runtime + AllocGlobal + Abort>(rt: &R, path: &str, bytes: &[u8]) -> Result<(), Fail> {
+fn holds<R: Host + Abort>(rt: &R, path: &str, bytes: &[u8]) -> Result<(), Fail> {
     let found = fs::read(rt, path)?;
     assert!(rt; found.as_slice() == bytes, "{path}");
     Ok(())
@@ -70,7 +71,7 @@ fn blank_images(rt: HostRuntime) -> Result<(), Fail> {
 }
 
 /// Writes the bytes as a file on volumes of this directory, and returns the volumes.
-fn ended<R: Runtime + AllocGlobal>(
+fn ended<R: Host>(
     rt: &R,
     folder: &str,
     capacity: u32,
@@ -92,7 +93,7 @@ fn ended<R: Runtime + AllocGlobal>(
 }
 
 /// The same, and returns their number and the size of the last one.
-fn write<R: Runtime + AllocGlobal>(
+fn write<R: Host>(
     rt: &R,
     folder: &str,
     capacity: u32,
@@ -141,7 +142,7 @@ fn images_that_are_there(rt: HostRuntime) -> Result<(), Fail> {
 }
 
 /// Writes the worked records, with this result.
-fn comes_to<R: Runtime + AllocGlobal + Abort>(
+fn comes_to<R: Host + Abort>(
     rt: &R,
     folder: &str,
     capacity: u32,
@@ -150,6 +151,29 @@ fn comes_to<R: Runtime + AllocGlobal + Abort>(
     let records = payroll(rt.alloc(), b"")?;
     let written = write(rt, folder, capacity, FIXED, records.as_slice());
     assert!(rt; written == wanted, "{folder}: {written:?}");
+    Ok(())
+}
+
+/// A blank volume that another run has locked, in either way, is not written.
+#[test]
+fn an_image_that_another_run_has(rt: HostRuntime) -> Result<(), Fail> {
+    let path = "locked/ABC001.tap";
+    fs::create_dir(&rt, "locked")?;
+    put(&rt, path, BLANK)?;
+    let wanted = Some(SystemFault::File(FileFault::Exists));
+    for shared in [true, false] {
+        let held = File::open(&rt, path)?;
+        let had = if shared {
+            held.try_lock_shared()
+        } else {
+            held.try_lock()
+        };
+        assert!(rt; had.is_ok());
+        let fault = write(&rt, "locked", 100_000, spanned(800), b"AB").err();
+        assert!(rt; fault == wanted, "{fault:?}");
+        holds(&rt, path, BLANK)?;
+    }
+    assert!(rt; write(&rt, "locked", 100_000, spanned(800), b"AB").is_ok());
     Ok(())
 }
 
@@ -193,7 +217,7 @@ fn counted_up(alloc: Global, count: usize) -> Result<Vec<u8>, AllocError> {
 }
 
 /// Returns true if this volume was returned, and the file has the bytes of the image.
-fn is_image<R: Runtime + AllocGlobal>(
+fn is_image<R: Host>(
     rt: &R,
     folder: &str,
     number: u16,
@@ -227,7 +251,7 @@ fn files_are_as_in_memory(rt: HostRuntime) -> Result<(), Fail> {
 }
 
 /// The bytes as one record are written to files as they are in memory.
-fn are_as_in_memory<R: Runtime + AllocGlobal + Abort>(
+fn are_as_in_memory<R: Host + Abort>(
     rt: &R,
     folder: &str,
     capacity: u32,

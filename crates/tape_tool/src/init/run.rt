@@ -2,15 +2,15 @@
 use super::words::Init;
 use crate::explain::Site;
 use crate::fault::{OUT_OF_MEMORY, ToolFault};
+use crate::host::Host;
 use crate::program::{End, end_of};
 use std::io;
 use std::io::Write;
-use std::rt::Runtime;
 use tape_run::{WriteFailed, flush, write_text};
 use tape_writer::system::{image_path, make_image};
 
 /// Makes the images, and says how many. At a fault the site is where it came.
-pub fn init<'a, R: Runtime + AllocGlobal>(rt: &R, order: &Init<'a>, site: &mut Site<'a>) -> End {
+pub fn init<'a, R: Host>(rt: &R, order: &Init<'a>, site: &mut Site<'a>) -> End {
     for number in 1..=order.count {
         *site = Site::Volume(order.folder, order.prefix, number);
         if let Err(fault) = make(rt, order, number) {
@@ -22,7 +22,7 @@ pub fn init<'a, R: Runtime + AllocGlobal>(rt: &R, order: &Init<'a>, site: &mut S
 }
 
 /// Makes the image of a volume.
-fn make<R: Runtime + AllocGlobal>(rt: &R, order: &Init<'_>, number: u16) -> Result<(), ToolFault> {
+fn make<R: Host>(rt: &R, order: &Init<'_>, number: u16) -> Result<(), ToolFault> {
     let Ok(path) = image_path(rt.alloc(), order.folder, order.prefix, number) else {
         return Err(OUT_OF_MEMORY);
     };

@@ -9,6 +9,7 @@ use super::report::say;
 use super::words::{WRITE, WriteOrder};
 use crate::explain::Site;
 use crate::fault::ToolFault;
+use crate::host::Host;
 use crate::program::{End, end_of, refuse_unfit};
 use std::io;
 use std::rt::Runtime;
@@ -18,11 +19,7 @@ use tape_writer::system::{FolderPlan, InputFile, write_in_folder};
 use tape_writer::{Input, WriteFault};
 
 /// Writes files on volumes, if no file would be lost by it. At a fault the site is where it came.
-pub fn write<'a, R: Runtime + AllocGlobal>(
-    rt: &R,
-    order: &WriteOrder<'a>,
-    site: &mut Site<'a>,
-) -> End {
+pub fn write<'a, R: Host>(rt: &R, order: &WriteOrder<'a>, site: &mut Site<'a>) -> End {
     *site = Site::Images(order.folder);
     match look_ahead(rt, order) {
         Ok(()) => end_of(write_set(rt, order, site)),
@@ -34,7 +31,7 @@ pub fn write<'a, R: Runtime + AllocGlobal>(
 ///
 /// Faults are looked for in this order: the shape, the files' identifiers, their inputs, and then
 /// what the engine finds.
-fn write_set<'a, R: Runtime + AllocGlobal>(
+fn write_set<'a, R: Host>(
     rt: &R,
     order: &WriteOrder<'a>,
     site: &mut Site<'a>,
@@ -47,7 +44,7 @@ fn write_set<'a, R: Runtime + AllocGlobal>(
 }
 
 /// Writes these files on volumes, and says on which.
-fn write_files<R: Runtime + AllocGlobal>(
+fn write_files<R: Host>(
     rt: &R,
     plan: &FolderPlan<'_>,
     files: &mut [Input<InputFile<'_, R>>],

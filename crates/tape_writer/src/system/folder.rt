@@ -6,9 +6,15 @@ use std::io::ErrorKind;
 /// Syncs the directory that this path is in. If the directory may not be read, or the file system
 /// has no such call, like some over a network, the system makes the names durable at a time of its
 /// own choice.
+///
+/// # Errors
+///
+/// Every other error of opening and syncing the directory.
 pub fn sync_folder_of<R: Files>(files: &R, path: &str) -> io::Result<()> {
-    let Ok(folder) = File::open(files, folder_of(path)) else {
-        return Ok(());
+    let folder = match File::open(files, folder_of(path)) {
+        Ok(folder) => folder,
+        Err(error) if error.kind() == ErrorKind::PermissionDenied => return Ok(()),
+        Err(error) => return Err(error),
     };
     match folder.sync_all() {
         Err(error) if is_unable(error.kind()) => Ok(()),
@@ -33,7 +39,7 @@ pub fn name_in_folder(path: &str) -> &str {
     }
 }
 
-/// Returns true if a file system reports this when it cannot sync directories.
-fn is_unable(kind: ErrorKind) -> bool {
+/// Returns true if a file system reports this when it cannot sync what it was asked to.
+pub fn is_unable(kind: ErrorKind) -> bool {
     matches!(kind, ErrorKind::InvalidInput | ErrorKind::Unsupported)
 }

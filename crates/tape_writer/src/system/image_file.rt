@@ -10,13 +10,13 @@ use crate::blank::Prefix;
 use crate::fault::WriteFault;
 use crate::system::fault::{FileFault, SystemFault};
 use crate::system::folder::sync_folder_of;
+use crate::system::host::Host;
 use crate::system::opening::open_image;
 use crate::system::paths::image_path;
 use crate::system::write_behind::{ROOM, WriteBehind};
-use std::fs::{Files, OpenFile};
+use std::fs::File;
 use std::io;
 use std::io::{Error, ErrorKind, Write};
-use std::rt::Runtime;
 
 /// Memory was refused.
 pub const NO_MEMORY: SystemFault = SystemFault::Write(WriteFault::OutOfMemory);
@@ -26,16 +26,16 @@ pub const NO_MEMORY: SystemFault = SystemFault::Write(WriteFault::OutOfMemory);
 /// Bytes are buffered and written together. A flush makes all of them durable, under the file's
 /// name. After a fault every later call is refused.
 #[derive(Drop)]
-pub struct ImageFile<'a, R: Runtime + AllocGlobal> {
+pub struct ImageFile<'a, R: Host> {
     rt: &'a R,
     folder: &'a str,
     prefix: Prefix,
     number: u16,
-    file: Option<WriteBehind<<R as Files>::File>>,
+    file: Option<WriteBehind<File>>,
     fault: Option<SystemFault>,
 }
 
-impl<'a, R: Runtime + AllocGlobal> ImageFile<'a, R> {
+impl<'a, R: Host> ImageFile<'a, R> {
     /// Creates the value for the volume with this number, from 1 to 999. Opens nothing.
     pub fn new(rt: &'a R, folder: &'a str, prefix: Prefix, number: u16) -> ImageFile<'a, R> {
         ImageFile {
@@ -102,7 +102,7 @@ impl<'a, R: Runtime + AllocGlobal> ImageFile<'a, R> {
     }
 
     /// Creates the file, or opens the existing one, if it is a blank volume.
-    fn open(&self) -> Result<<R as Files>::File, SystemFault> {
+    fn open(&self) -> Result<File, SystemFault> {
         let path = self.path()?;
         match open_image(self.rt, path.as_str(), self.prefix, self.number) {
             Ok(file) => Ok(file),
@@ -151,7 +151,7 @@ impl<'a, R: Runtime + AllocGlobal> ImageFile<'a, R> {
     }
 }
 
-impl<R: Runtime + AllocGlobal> Write for ImageFile<'_, R> {
+impl<R: Host> Write for ImageFile<'_, R> {
     fn write(&mut self, buf: &[u8]) -> io::Result<usize>
         ensures bound { WritesAtMost result buf.now }
         ensures bytes { WriteAppends None None result buf.now }

@@ -3,9 +3,9 @@ ghost use Rattle.std.specs.Prelude.{◌-◌};
 
 use crate::blank::{Prefix, blank_volume};
 use crate::store::ImageStore;
+use crate::system::host::Host;
 use crate::system::image_file::ImageFile;
 use std::alloc::{AllocError, Global};
-use std::rt::Runtime;
 use tape_label::{Field, Vol1};
 
 /// The maximum number of volumes of a set in a directory.
@@ -22,7 +22,7 @@ pub struct Ended {
 /// Lends the file of each image in turn. Closes and records each one that has ended. The contracts
 /// make no claim about the contents of files.
 #[derive(Drop)]
-pub struct ImageFiles<'a, R: Runtime + AllocGlobal> {
+pub struct ImageFiles<'a, R: Host> {
     rt: &'a R,
     folder: &'a str,
     prefix: Prefix,
@@ -31,7 +31,7 @@ pub struct ImageFiles<'a, R: Runtime + AllocGlobal> {
     ended: Vec<Ended>,
 }
 
-impl<'a, R: Runtime + AllocGlobal> ImageFiles<'a, R> {
+impl<'a, R: Host> ImageFiles<'a, R> {
     /// Creates the value for volumes with this prefix, in this directory. Opens nothing.
     pub fn new(
         rt: &'a R,
@@ -53,7 +53,7 @@ impl<'a, R: Runtime + AllocGlobal> ImageFiles<'a, R> {
     }
 }
 
-impl<'a, R: Runtime + AllocGlobal> ImageStore for ImageFiles<'a, R> {
+impl<'a, R: Host> ImageStore for ImageFiles<'a, R> {
     type Device = ImageFile<'a, R>;
 
     ghost holds = { λ files lent images. ⊥ };

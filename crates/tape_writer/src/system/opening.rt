@@ -3,56 +3,76 @@ ghost use Rattle.std.specs.Prelude.{◌≡◌, ◌↔◌, min, IfOk, IfSome, IsO
 ghost use Rattle.tape_writer.specs.Blank.{blank_image, blank_volume};
 
 use crate::blank::{BLANK, BlankImage, Prefix, blank_image, blank_volume};
+use crate::system::answers::{LockFault, locked};
 use crate::system::bytes::put_all;
 use crate::system::fault::FileFault;
-use std::fs::{Files, OpenOptions};
-use std::io::{ErrorKind, Read};
-use std::rt::Runtime;
+use crate::system::folder::sync_folder_of;
+use crate::system::host::Host;
+use std::fs::{File, OpenOptions};
+use std::io::{ErrorKind, Read, Seek, SeekFrom};
 use tape_image::fill;
 
-/// Creates the file of an image, or opens the existing one, if it is a blank volume.
-pub fn open_image<R: Runtime>(
+/// Creates the file of an image, or opens the existing one, if it is a blank volume. The file is
+/// locked for as long as it is open.
+pub fn open_image<R: Host>(
     rt: &R,
     path: &str,
     prefix: Prefix,
     number: u16,
-) -> Result<<R as Files>::File, FileFault> {
+) -> Result<File, FileFault> {
     match make_file(rt, path) {
         Err(FileFault::Exists) => open_blank(rt, path, prefix, number),
         made => made,
     }
 }
 
-/// Creates a file that must not exist.
-fn make_file<R: Runtime>(rt: &R, path: &str) -> Result<<R as Files>::File, FileFault> {
+/// Creates a file that must not exist, and locks it.
+fn make_file<R: Host>(rt: &R, path: &str) -> Result<File, FileFault> {
     let mut options = OpenOptions::new();
     options.write(true).create_new(true);
     match options.open(rt, path) {
-        Ok(file) => Ok(file),
+        Ok(file) => lock(file),
         Err(error) if error.kind() == ErrorKind::AlreadyExists => Err(FileFault::Exists),
         Err(_) => Err(FileFault::NotOpened),
     }
 }
 
-/// Opens an existing file at its start, if it is a blank volume.
-fn open_blank<R: Runtime>(
-    rt: &R,
-    path: &str,
-    prefix: Prefix,
-    number: u16,
-) -> Result<<R as Files>::File, FileFault> {
+/// Locks the file of an image. A volume that another run is writing is no longer blank.
+fn lock(file: File) -> Result<File, FileFault> {
+    match locked(file.try_lock()) {
+        Ok(()) => Ok(file),
+        Err(LockFault::InUse) => Err(FileFault::Exists),
+        Err(LockFault::Failed) => Err(FileFault::NotOpened),
+    }
+}
+
+/// Opens an existing file, if it is a blank volume, and empties it. Two runs may both see a blank
+/// volume, so the one that has the lock looks again.
+fn open_blank<R: Host>(rt: &R, path: &str, prefix: Prefix, number: u16) -> Result<File, FileFault> {
     let mut options = OpenOptions::new();
     options.read(true).write(true);
     let Ok(mut there) = options.open(rt, path) else {
         return Err(FileFault::NotOpened);
     };
-    if !is_blank(&mut there, prefix, number)? {
-        return Err(FileFault::Exists);
+    // A file that is not blank is not locked: another run may have just created it.
+    require_blank(&mut there, prefix, number)?;
+    let mut there = lock(there)?;
+    require_blank(&mut there, prefix, number)?;
+    if there.set_len(0).is_err() || there.seek(SeekFrom::Start(0)).is_err() {
+        return Err(FileFault::WriteFailed);
     }
-    options.read(false).truncate(true);
-    match options.open(rt, path) {
-        Ok(file) => Ok(file),
-        Err(_) => Err(FileFault::NotOpened),
+    Ok(there)
+}
+
+/// Refuses a file that is not a blank volume.
+fn require_blank(file: &mut File, prefix: Prefix, number: u16) -> Result<(), FileFault> {
+    if file.seek(SeekFrom::Start(0)).is_err() {
+        return Err(FileFault::ReadFailed);
+    }
+    if is_blank(file, prefix, number)? {
+        Ok(())
+    } else {
+        Err(FileFault::Exists)
     }
 }
 
@@ -74,20 +94,25 @@ fn is_blank<R: Read>(reader: &mut R, prefix: Prefix, number: u16) -> Result<bool
     }
 }
 
-/// Creates the image of the blank volume with this number, from 1 to 999, in a new file.
+/// Creates the image of the blank volume with this number, from 1 to 999, in a new file, and syncs
+/// the file and its directory.
 ///
 /// # Errors
 ///
 /// `Exists` if the path exists, `NotOpened` if the file cannot be created, `WriteFailed` if not all
-/// bytes could be written.
-pub fn make_image<R: Runtime>(
+/// bytes could be written, and if a sync fails.
+pub fn make_image<R: Host>(
     rt: &R,
     path: &str,
     prefix: Prefix,
     number: u16,
 ) -> Result<(), FileFault> {
     let mut file = make_file(rt, path)?;
-    put_all(&mut file, &image_of(prefix, number))
+    put_all(&mut file, &image_of(prefix, number))?;
+    if file.sync_all().is_err() || sync_folder_of(rt, path).is_err() {
+        return Err(FileFault::WriteFailed);
+    }
+    Ok(())
 }
 
 /// Returns the image of a blank volume.

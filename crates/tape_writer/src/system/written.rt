@@ -7,11 +7,11 @@ use crate::blank::{Prefix, blank_volume};
 use crate::fault::{SetFault, WriteFault};
 use crate::inputs::{Input, RefusedSet, SetPlan, write_set};
 use crate::system::fault::{FileFault, SystemFault};
+use crate::system::host::Host;
 use crate::system::image_file::NO_MEMORY;
 use crate::system::image_files::{Ended, ImageFiles, VOLUMES};
 use std::alloc::{AllocError, Global};
 use std::io::Read;
-use std::rt::Runtime;
 use tape_blocks::{Form, Shape};
 use tape_label::{Field, Vol1};
 
@@ -33,7 +33,7 @@ pub struct FolderPlan<'a> {
 /// # Errors
 ///
 /// Those of `write_set`, with the fault of the file instead of that of a device.
-pub fn write_in_folder<R: Runtime + AllocGlobal, I: Read>(
+pub fn write_in_folder<R: Host, I: Read>(
     rt: &R,
     plan: &FolderPlan<'_>,
     files: &mut [Input<I>],
@@ -79,7 +79,7 @@ fn set_id(prefix: Prefix) -> Field<6>
 
 /// Returns the fault of a refusal: instead of a device's fault, that of the file. Writes the
 /// buffered bytes of the current volume first.
-fn told<R: Runtime + AllocGlobal>(refused: RefusedSet<ImageFiles<'_, R>>) -> SystemFault {
+fn told<R: Host>(refused: RefusedSet<ImageFiles<'_, R>>) -> SystemFault {
     let RefusedSet {
         fault,
         images: _ended,

@@ -1,0 +1,45 @@
+-- What answers of the system mean: an error says nothing of what is there, but for one kind.
+use Rattle.std.specs.Prelude.{Option, Some, None, Result, Ok, Err, Bool, true, false, ◌||◌}
+use Rattle.std.specs.Prelude.{ℤ, pos, if◌then◌else◌}
+use Rattle.std.specs.Ordering.{int_eq}
+use Rattle.std.specs.declared.io.Error.{Error}
+use Rattle.std.specs.declared.io.ErrorKind.{ErrorKind}
+use Rattle.std.specs.declared.io.ErrorKind.TheVariants.{NotFound, Unsupported}
+use Rattle.std.specs.declared.fs.attrs.Metadata.{Metadata}
+use Rattle.std.specs.declared.fs.locks.TryLockError.{TryLockError}
+use Rattle.std.specs.declared.fs.locks.TryLockError.TheVariants as attempts
+use Rattle.std.specs.IoError.{error_kind, raw_os_error}
+use Rattle.tape_writer.specs.declared.system.answers.LockFault.{LockFault}
+use Rattle.tape_writer.specs.declared.system.answers.LockFault.TheVariants.{InUse, Failed}
+use Rattle.tape_writer.specs.declared.system.fault.FileFault.{FileFault}
+use Rattle.tape_writer.specs.declared.system.fault.FileFault.TheVariants.{NotOpened}
+
+-- only an error of this kind says that nothing is there
+abbrev pub absent_of : ErrorKind → Result (Option Metadata) FileFault
+absent_of NotFound = Ok None
+absent_of _ = Err NotOpened
+
+-- what a look found, if it could look
+abbrev pub found_of : Result Metadata Error → Result (Option Metadata) FileFault
+found_of (Ok there) = Ok (Some there)
+found_of (Err error) = absent_of (error_kind error)
+
+-- the error with number 37, ENOLCK, which is that of NFS without a service for locks
+abbrev pub is_enolck : Option ℤ → Bool
+is_enolck (Some code) = int_eq code (pos 37)
+is_enolck None = false
+
+-- an error of this kind
+abbrev pub is_unsupported : ErrorKind → Bool
+is_unsupported Unsupported = true
+is_unsupported _ = false
+
+-- only these errors say that the file system has no locks
+abbrev pub has_no_locks : Error → Bool
+has_no_locks error = is_unsupported (error_kind error) || is_enolck (raw_os_error error)
+
+-- whether a run may go on with a file that it tried to lock
+abbrev pub locked_of : Result (Unit {0}) TryLockError → Result (Unit {0}) LockFault
+locked_of (Ok _) = Ok tt
+locked_of (Err attempts.WouldBlock) = Err InUse
+locked_of (Err (attempts.Error error)) = if has_no_locks error then Ok tt else Err Failed

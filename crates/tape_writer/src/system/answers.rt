@@ -1,0 +1,62 @@
+//! What answers of the system mean: an error says nothing of what is there, but for one kind.
+ghost use Rattle.std.specs.Prelude.{◌≡◌};
+ghost use Rattle.tape_writer.specs.Answers.{found_of, has_no_locks, locked_of};
+
+use crate::system::fault::FileFault;
+use std::fs::{Metadata, TryLockError};
+use std::io;
+use std::io::ErrorKind;
+
+/// Returns what a look found: nothing only if the system says that nothing is there.
+///
+/// # Errors
+///
+/// `NotOpened` if the look failed in any other way: something may be there.
+pub fn found(look: io::Result<Metadata>) -> Result<Option<Metadata>, FileFault>
+    ensures { result ≡ found_of look }
+{
+    match look {
+        Ok(there) => Ok(Some(there)),
+        Err(error) if error.kind() == ErrorKind::NotFound => Ok(None),
+        Err(_) => Err(FileFault::NotOpened),
+    }
+}
+
+/// Why a file is not locked.
+#[derive(Clone, Copy, Debug, PartialEq, Eq)]
+pub enum LockFault {
+    /// Another run has it locked.
+    InUse,
+    /// The system did not say whether another run has it.
+    Failed,
+}
+
+/// Returns whether a run may go on with a file that it tried to lock: if it has the lock, or the
+/// file system has no locks.
+///
+/// # Errors
+///
+/// `InUse` if another run has the lock, `Failed` for every other error.
+pub fn locked(attempt: Result<(), TryLockError>) -> Result<(), LockFault>
+    ensures { result ≡ locked_of attempt }
+{
+    match attempt {
+        Ok(()) => Ok(()),
+        Err(TryLockError::WouldBlock) => Err(LockFault::InUse),
+        Err(TryLockError::Error(error)) if has_no_locks(&error) => Ok(()),
+        Err(TryLockError::Error(_)) => Err(LockFault::Failed),
+    }
+}
+
+/// The number of the error that NFS gives where it has no service for locks.
+const ENOLCK: i32 = 37;
+
+/// Whether the error says that the file system has no locks.
+fn has_no_locks(error: &io::Error) -> bool
+    ensures { result ≡ has_no_locks error.now }
+{
+    match error.raw_os_error() {
+        Some(code) if code == ENOLCK => true,
+        _ => error.kind() == ErrorKind::Unsupported,
+    }
+}

@@ -1,0 +1,8 @@
+//! What is asked of the system that a program runs on.
+use std::fs::{File, Files};
+use std::rt::Runtime;
+
+/// A system with memory, and with files that can be locked.
+pub trait Host: Runtime + AllocGlobal + Files<File = File> {}
+
+impl<R: Runtime + AllocGlobal + Files<File = File>> Host for R {}
