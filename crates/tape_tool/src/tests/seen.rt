@@ -49,6 +49,15 @@ const ROWS: &[Row<'_>] = &[
         "",
         Some("seen2.tap lost.tap? seen1.tap "),
     ),
+    // A section that is missing, and an image that is not there.
+    (
+        "check seen1.tap lost.tap",
+        3,
+        "IMAGE 1 12 MARKED\nIMAGE 2 0 NOT OPENED\n\
+            SECTION ABC001 1 1 ABC001 3 GOOD\nLACKS ABC001 1 2\n",
+        "",
+        Some("seen1.tap lost.tap? "),
+    ),
     (
         "survey lost.tap seen1.tap",
         3,
