@@ -167,6 +167,7 @@ cases_of_sinks = record {
     g.crash old.kept refl,
   );
   walk_gives = λ old new result g. (g.gives old.ahead refl, g.lends, g.counts);
+  walk_refuses = λ old new fault g. g.why;
   this = λ point other parts more is. is;
   only_this = λ point other parts more only. only other more (refl, refl);
   this_alone = λ point parts s alone.

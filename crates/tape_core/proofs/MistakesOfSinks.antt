@@ -32,10 +32,10 @@ abbrev empty : Portion
 empty = record { span = Whole; bytes = [] }
 
 -- new_sink_has_a_part: a new sink holds a part without bytes
-new_sink_has_a_part : (κs : _) (a : _) (z : _) (s : _) → new.Learnt κs a z s
+new_sink_has_a_part : (κs : _) (a : _) (z : _) (s : _) → new.Learnt-named κs a z s
     → portions z ≡ empty ∷ [] → ⊥
 new_sink_has_a_part κs a z s h w =
-    let e : empty ∷ [] ≡ [] = sym w ∙ h in absurd (cc)
+    let e : empty ∷ [] ≡ [] = sym w ∙ h.empty in absurd (cc)
 
 -- count_without_the_last: of two parts one is counted
 count_without_the_last : (κs : _) (a : _) (s : _) → count.Learnt κs a 1 s

@@ -250,7 +250,8 @@ pub record Walk : Type 0 where
 -- one call of such a walk
 abbrev pub Walks : Walk → Result (Option Part) SinkFault → Walk → Type 0
 Walks old result new = HasGiven (λ s ps. s.kept ≡ ps) (λ s. s.weight) (λ s. s.refused)
-    (λ s. coming s.comes) (λ s ps. s.ahead ≡ ps) (λ s. s.left) old result new
+    (λ s. coming s.comes) (λ s ps. s.ahead ≡ ps) (λ s. s.left)
+    (λ s fault t. s.left ≡ 7) old result new
 
 -- what comes back is this alone
 abbrev pub OneComesBack : List Portion → Returns
@@ -284,6 +285,8 @@ pub record CasesOfSinks : Type 0 where
   pub walk_gives : (old new : Walk) (result : Result (Option Part) SinkFault)
       → Walks old result new → GivesPart result old.ahead (λ ps. new.ahead ≡ ps)
       × Lends result old.left new.left × Counts result old.refused new.refused
+  pub walk_refuses : (old new : Walk) (fault : SinkFault) → Walks old (Err fault) new
+      → old.left ≡ 7
   -- what may come back after a crash: what could before, or this, or this alone
   pub this : (point other : Point) (parts more : List Portion) → IsThis point parts other more
       → (other ≡ point) × (more ≡ parts)

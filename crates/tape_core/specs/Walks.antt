@@ -1,6 +1,6 @@
 -- What a sink gives back.
 use Rattle.std.specs.Prelude.{◌≡◌, ℕ, ◌<◌, ◌≤◌, length, List, [], ◌∷◌, Option, Some, None, Result}
-use Rattle.std.specs.Prelude.{Ok, Err}
+use Rattle.std.specs.Prelude.{Ok, Err, IfErr}
 use Rattle.tape_blocks.specs.declared.parts.Part.{Part}
 use Rattle.tape_blocks.specs.Block.{Portion}
 use Rattle.tape_blocks.specs.Parts.{view}
@@ -27,9 +27,11 @@ abbrev pub Lends : Result (Option Part) SinkFault → ℕ → ℕ → Type 0
 Lends (Ok (Some part)) old new = (length part.bytes.now ≤ longest_block) × (new < old)
 Lends _ old new = Unit {0}
 
--- The sink holds what it held, and gave the next of the parts that were to come, or was refused.
+-- The sink holds what it held, and gave the next of the parts that were to come, or refused the
+-- call for its reason.
 pub record HasGiven {S : Type 0} (holds : S → List Portion → Type 0) (weighs refusals : S → ℕ)
-    (crashes : S → Crashes) (ahead : S → List Portion → Type 0) (left : S → ℕ) (old : S)
+    (crashes : S → Crashes) (ahead : S → List Portion → Type 0) (left : S → ℕ)
+    (refuses : S → SinkFault → S → Type 0) (old : S)
     (result : Result (Option Part) SinkFault) (new : S) : Type 0 where
   pub kept : (parts : List Portion) → holds old parts → holds new parts
   pub crash : (parts : List Portion) → holds old parts → AddsNothing (crashes old) (crashes new)
@@ -37,3 +39,4 @@ pub record HasGiven {S : Type 0} (holds : S → List Portion → Type 0) (weighs
   pub gives : (parts : List Portion) → ahead old parts → GivesPart result parts (ahead new)
   pub lends : Lends result (left old) (left new)
   pub counts : Counts result (refusals old) (refusals new)
+  pub why : IfErr result (λ fault. refuses old fault new)

@@ -37,9 +37,10 @@ pub struct MemorySink {
 impl MemorySink {
     ghost use Rattle.tape_core.specs.Memory.{portions};
 
-    /// An empty sink. It takes no memory.
+    /// Creates an empty sink. Does not allocate.
     pub fn new(alloc: Global) -> Self
         ensures empty { portions result ≡ [] }
+        ensures calm { result.refused ≡ 0 }
     {
         MemorySink {
             bytes: Vec::new(alloc),
@@ -192,6 +193,7 @@ impl PartSink for MemorySink {
             → AddsNothing lost lost }
         ensures refused { IfErr result (λ f.
             (f ≡ SinkFault.Full) ⊎ (f ≡ SinkFault.OutOfMemory)) }
+        ensures rewinds { OnOk result (self.new.given ≡ 0) }
     {
         let heavy = 5 + part.bytes.len() as u64;
         if heavy > MOST_STAGED - self.weight() {
@@ -206,7 +208,15 @@ impl PartSink for MemorySink {
         }
     }
 
-    fn cut_to(&mut self, point: &Checkpoint) -> Result<(), SinkFault> {
+    fn cut_to(&mut self, point: &Checkpoint) -> Result<(), SinkFault>
+        requires { point.now.staged ≤ weight_of (portions self.old) }
+        ensures taken { result ≡ Ok tt }
+        ensures ok { (front rest : List Portion) → front ++ rest ≡ portions self.old
+            → weight_of front ≡ point.now.staged → front ≡ portions self.new }
+        ensures weight { weight_of (portions self.new) ≤ point.now.staged }
+        ensures calm { self.new.refused ≡ self.old.refused }
+        ensures rewinds { self.new.given ≡ 0 }
+    {
         let number = self.front(point.staged);
         let end = self.end_of(number);
         self.entries.truncate(number);
@@ -234,6 +244,8 @@ impl PartWalk for MemorySink {
     ghost ahead = { λ sink parts. parts ≡ drop sink.given (portions sink) };
 
     ghost left = { λ sink. length (portions sink) - sink.given };
+
+    ghost refuses = { λ _ _ _. ⊥ };
 
     fn rewind(&mut self) {
         self.given = 0;

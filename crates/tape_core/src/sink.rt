@@ -14,6 +14,7 @@ ghost use Rattle.tape_core.specs.Known.{most_staged};
 ghost use Rattle.tape_core.specs.Point.{Point};
 ghost use Rattle.tape_core.specs.Stands.{weight_of};
 ghost use Rattle.tape_core.specs.Faults.{sink_fault_number};
+ghost use Rattle.tape_core.specs.declared.sink.SinkFault.{SinkFault};
 
 use crate::checkpoint::Checkpoint;
 use tape_blocks::Part;
@@ -141,14 +142,18 @@ pub trait PartSink {
 
 /// A sink whose parts can be read back.
 ///
-/// A walk begins at the first part. After a `put` or a `cut_to` nothing is known of a walk that was
-/// under way, and `rewind` begins another.
+/// A walk begins at the first part. The sinks in memory and on a disk begin another at each `put`
+/// and `cut_to`; of any other sink nothing is known then of a walk that was under way, and `rewind`
+/// begins another.
 pub trait PartWalk: PartSink {
     /// These parts are still to come.
     ghost ahead: { Self → List Portion → Type 0 };
 
     /// How much is still to come at most: a number of every sink.
     ghost left: { Self → ℕ };
+
+    /// Why a call that would lend a part was refused with this fault, by the sink before and after.
+    ghost refuses: { Self → SinkFault → Self → Type 0 };
 
     /// Begins again at the first part.
     fn rewind(&mut self)
@@ -167,5 +172,5 @@ pub trait PartWalk: PartSink {
     fn next_part(&mut self) -> Result<Option<Part<'_>>, SinkFault>
         ensures* after_borrow { sem 𝓛 (Rests Self.row self.entry (λ new.
             HasGiven Self.holds Self.weighs Self.refusals Self.crashes Self.ahead Self.left
-            self.old result new)) };
+            Self.refuses self.old result new)) };
 }

@@ -92,7 +92,7 @@ reel_stops set old mid new hs b bs OtherFile h l r = absurd h
 save_stops : (set : FileSet) (old mid new : Seen) (hs : List Happening) (bs : List (List ℕ))
     (fault : RunFault)
     → SaveFails fault mid new → Ran set old hs mid → StopsStep set old hs Save bs fault new
-save_stops set old mid new hs bs (Sink cause) h r = stayed set old mid new hs h.0 r
+save_stops set old mid new hs bs (Sink cause) h r = stayed set old mid new hs h r
 save_stops set old mid new hs bs NoSuchPoint h r = absurd h
 save_stops set old mid new hs bs TooFewReels h r = absurd h
 save_stops set old mid new hs bs OutOfMemory h r = same_there set old mid new hs h r
@@ -114,7 +114,7 @@ restart_stops : (set : FileSet) (old mid new : Seen) (hs : List Happening)
     (n : ℕ) (bs : List (List ℕ)) (fault : RunFault)
     → RestartFails n fault mid new → Ran set old hs mid
     → StopsStep set old hs (Restart n) bs fault new
-restart_stops set old mid new hs n bs (Sink cause) h r = stayed set old mid new hs h.0 r
+restart_stops set old mid new hs n bs (Sink cause) h r = stayed set old mid new hs h r
 restart_stops set old mid new hs n bs NoSuchPoint (le, e) r =
     (noted_positions set old mid hs n le r, same_there set old mid new hs e r)
 restart_stops set old mid new hs n bs TooFewReels h r = absurd h
@@ -157,7 +157,7 @@ reel_led t old new b bs OtherFile h s = absurd h
 
 save_led : (t : Lead) (old new : Seen) (bs : List (List ℕ)) (fault : RunFault)
     → SaveFails fault old new → StandsThere t old → StopsBy t Save bs fault new
-save_led t old new bs (Sink cause) h s = unmoved_there t old new h.0 s
+save_led t old new bs (Sink cause) h s = unmoved_there t old new h s
 save_led t old new bs NoSuchPoint h s = absurd h
 save_led t old new bs TooFewReels h s = absurd h
 save_led t old new bs OutOfMemory h s = still_there t old new h s
@@ -165,7 +165,7 @@ save_led t old new bs OtherFile h s = absurd h
 
 restart_led : (t : Lead) (old new : Seen) (n : ℕ) (bs : List (List ℕ)) (fault : RunFault)
     → RestartFails n fault old new → StandsThere t old → StopsBy t (Restart n) bs fault new
-restart_led t old new n bs (Sink cause) h s = unmoved_there t old new h.0 s
+restart_led t old new n bs (Sink cause) h s = unmoved_there t old new h s
 restart_led t old new n bs NoSuchPoint (le, e) s = still_there t old new e s
 restart_led t old new n bs TooFewReels h s = absurd h
 restart_led t old new n bs OutOfMemory h s = absurd h
@@ -183,7 +183,7 @@ reel_count b OtherFile old new h = absurd h
 
 save_count : (fault : RunFault) (old new : Seen) → SaveFails fault old new
     → new.failures ≡ old.failures
-save_count (Sink cause) old new h = h.0.count
+save_count (Sink cause) old new h = h.count
 save_count NoSuchPoint old new h = absurd h
 save_count TooFewReels old new h = absurd h
 save_count OutOfMemory old new h = ap (λ (s : Seen). s.failures) h
@@ -191,7 +191,7 @@ save_count OtherFile old new h = absurd h
 
 restart_count : (n : ℕ) (fault : RunFault) (old new : Seen) → RestartFails n fault old new
     → new.failures ≡ old.failures
-restart_count n (Sink cause) old new h = h.0.count
+restart_count n (Sink cause) old new h = h.count
 restart_count n NoSuchPoint old new h = ap (λ (s : Seen). s.failures) h.1
 restart_count n TooFewReels old new h = absurd h
 restart_count n OutOfMemory old new h = absurd h
@@ -265,7 +265,7 @@ kept_unmoved old new u k = rw (u.place, u.parts, u.notes) k
 
 pub kept_save_fails : (fault : RunFault) (old new : Seen) → SaveFails fault old new → IsKept old
     → IsKept new
-kept_save_fails (Sink cause) old new h k = kept_unmoved old new h.0 k
+kept_save_fails (Sink cause) old new h k = kept_unmoved old new h k
 kept_save_fails NoSuchPoint old new h k = absurd h
 kept_save_fails TooFewReels old new h k = absurd h
 kept_save_fails OutOfMemory old new h k = rw h k
@@ -273,7 +273,7 @@ kept_save_fails OtherFile old new h k = absurd h
 
 pub kept_restart_fails : (n : ℕ) (fault : RunFault) (old new : Seen) → RestartFails n fault old new
     → IsKept old → IsKept new
-kept_restart_fails n (Sink cause) old new h k = kept_unmoved old new h.0 k
+kept_restart_fails n (Sink cause) old new h k = kept_unmoved old new h k
 kept_restart_fails n NoSuchPoint old new h k = rw h.1 k
 kept_restart_fails n TooFewReels old new h k = absurd h
 kept_restart_fails n OutOfMemory old new h k = absurd h

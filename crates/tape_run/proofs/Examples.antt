@@ -235,12 +235,12 @@ cases_of_made = record {
   was_saved = λ old new s. (s.notes, s.place, s.parts, s.count, s.calm);
   went_back = λ old new w.
       (w.noted, w.place, w.front, w.weighs, w.notes, w.count, w.calm);
-  save_refused = λ cause old new f. (f.0.place, f.0.parts, f.0.notes, f.0.count, f.1);
+  save_refused = λ cause old new f. (f.place, f.parts, f.notes, f.count);
   save_fails = λ old new. (λ x. x, λ x. x, λ x. x, λ e. e);
-  restart_refused = λ cause old new f. (f.0.place, f.0.parts, f.0.notes, f.0.count, f.1);
+  restart_refused = λ cause old new f. (f.place, f.parts, f.notes, f.count);
   restart_fails = λ old new. (λ x. x, λ x. x, λ x. x);
   no_such_note = λ old new n f. f;
-  reel_refused = λ cause bytes old new c. (c.rose, c.grows, c.notes, c.count, c.same_file);
+  reel_refused = λ cause bytes old new c. (c.grows, c.notes, c.count, c.same_file);
   stopped_by = λ set old new xs h s. (s.at, s.refused, s.awaited, s.position);
   reel_fails = λ bytes old new. (λ x. x, λ x. x, λ x. x, λ e. e);
 }

@@ -89,9 +89,9 @@ cases_of_images = record {
   nothing_shows = λ key entry s. absurd (let e = s.volume.first in cc e);
   shown = λ xs key entry s. (s.blocks, s.stands);
   shown_labels = λ xs key entry s. (s.volume, s.head, s.second, s.ends);
-  headed = λ bytes key h. (h.set_id, h.file, h.sect);
-  ended = λ bytes key entry e. (e.file, e.sect, e.count, e.kind);
-  named = λ xs volume b. (b.first, b.named);
+  headed = λ bytes key h. (h.is, h.set_id, h.file, h.sect);
+  ended = λ bytes key entry e. (e.is, e.file, e.sect, e.count, e.kind);
+  named = λ xs volume b. (b.first, b.is, b.named);
 }
 
 each_volume : (id : List ℕ) (v : Volume) (files : List (List Section))

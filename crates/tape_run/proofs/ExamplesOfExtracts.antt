@@ -223,6 +223,7 @@ cases_of_outputs = record {
   lines = λ session behind shelf left form out now said says want e. (e.lines, e.are_turns);
   left_unread_now = λ session shelf left form stands said says want e. (e.most, e.all);
   lines_now = λ session shelf left form stands said says want e. (e.lines, e.are_turns);
+  ends_as_told = λ session shelf left form stands said says want e. e.ends session.sink refl;
   one_line_more = λ session behind shelf left form out now said says s. (s.few, s.lines);
   one_line_more_now = λ session shelf left form out now said says s. (s.few, s.lines);
   stopped_turns = λ session behind shelf left form out now said says s. (s.most, s.are_turns);

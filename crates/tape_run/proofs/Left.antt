@@ -39,7 +39,7 @@ same_left g goes a held = only_same _ (g.crashes a.sink)
 
 save_stays : (fault : RunFault) (old new : Seen) → SaveFails fault old new
     → (new.place ≡ old.place) × (new.parts ≡ old.parts)
-save_stays (Sink cause) old new h = (h.0.place, h.0.parts)
+save_stays (Sink cause) old new h = (h.place, h.parts)
 save_stays NoSuchPoint old new h = absurd h
 save_stays TooFewReels old new h = absurd h
 save_stays OutOfMemory old new h =

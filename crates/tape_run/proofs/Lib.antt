@@ -20,6 +20,7 @@ pub mod Made
 mod RunSoFar
 pub mod Lives
 pub mod SectionsMet
+pub mod Shown
 pub mod ShownSections
 pub mod Inserting
 pub mod KeepingPlaces

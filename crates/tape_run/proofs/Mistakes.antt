@@ -114,7 +114,7 @@ refused_note_kept : (S : _) (LS : _) (g : _) (d : _) (κs : _) (a : _) (cause : 
     → g.holds a.0.now.sink held
     → length s.0.now.notes ≡ length a.0.now.notes + 1 → ⊥
 refused_note_kept S LS g d κs a cause s held l w n =
-    let e : length s.0.now.notes ≡ length a.0.now.notes = ap length (l.err held w).2.0.notes in
+    let e : length s.0.now.notes ≡ length a.0.now.notes = ap length (l.err held w).2.notes in
     absurd (omega (arith, e, n))
 
 -- a session with two notes of its start, and no parts, is as `restart` asks of its notes

@@ -13,7 +13,7 @@ use Rattle.tape_run.proofs.check_line.image_line.Reads as image_line
 use Rattle.tape_run.proofs.check_line.section_line.Reads as section_line
 use Rattle.tape_run.proofs.check_line.lack_line.Reads as lack_line
 use Rattle.tape_run.proofs.extract.line.last_line.Reads as last_line
-use Rattle.tape_run.proofs.extract.line.reel_line.Reads as reel_line
+use Rattle.tape_run.specs.ReelLine.{reel_line}
 
 -- ---- writing
 
@@ -79,12 +79,10 @@ lack_told_by_its_file κs a z s h e w =
     (sym w ∙ h ∙ ap check_lines.lack_line e) in omega arith)
 
 -- not_opened_told_as_not_labelled: an image that was not opened is told as a reel without labels
-not_opened_told_as_not_labelled : (κs : _) (z : _) (s : _)
-    → reel_line.Learnt κs (1, (None, tt)) z s
-    → z.bytes ≡ codes "REEL 1 NOT LABELLED\n" → ⊥
+not_opened_told_as_not_labelled : reel_line 1 None ≡ codes "REEL 1 NOT LABELLED\n" → ⊥
 unfolding digits
-not_opened_told_as_not_labelled κs z s h w =
-    absurd (let d : 76 ≡ 79 = ap (λ v. slice_index v 11) (sym w ∙ h) in omega arith)
+not_opened_told_as_not_labelled w =
+    absurd (let d : 76 ≡ 79 = ap (λ v. slice_index v 11) (sym w) in omega arith)
 
 -- awaits_without_the_part: three parts of block 2 are there, and the last line does not say so
 awaits_without_the_part : (κs : _) (z : _) (s : _)

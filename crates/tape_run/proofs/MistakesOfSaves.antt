@@ -162,7 +162,7 @@ refused_save_loses_the_parts : (S : _) (R : _) (LS : _) (LR : _) (g : _) (d : _)
 refused_save_loses_the_parts S R LS LR g d h e κs a s part l was fresh two alone gone =
     let (now, has, fails) = stopped_first S R LS LR g d h e κs a s Save (Restart 0 ∷ [])
     (part ∷ []) (map h.remaining a.1.1.0.now) l was fresh two refl (λ note is. cc is) in
-    let n : 0 ≡ 1 = ap length (alone [] now gone has ∙ fails.0.parts) in
+    let n : 0 ≡ 1 = ap length (alone [] now gone has ∙ fails.parts) in
     absurd (omega (arith, n))
 
 -- refused_mount_loses_the_parts: the disk of the sink failed while a part of a mount was put, and

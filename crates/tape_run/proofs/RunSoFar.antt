@@ -1,12 +1,16 @@
 -- A run, as far as it has come.
 use Rattle.std.proofs.Common.{◌≡◌, ℕ, ◌+◌, ◌≤◌, Bool, true, false, List, [], ◌∷◌, ◌++◌, length}
-use Rattle.std.proofs.Common.{map, take, drop, Option, refl, sym, ap, subst, ◌∙◌}
-use Rattle.std.proofs.lemmas.List.{drop_all, map-append, take-append-drop, append_assoc}
+use Rattle.std.proofs.Common.{map, take, drop, Option, refl, sym, ap, subst, ◌∙◌, arith}
+use Rattle.std.proofs.lemmas.List.{drop_all, drop-drop, map-append, take-append-drop}
+use Rattle.std.proofs.lemmas.List.{append_assoc}
+use Rattle.std.proofs.Math.Seq.{take-add}
 use Rattle.tape_blocks.specs.Block.{Portion}
 use Rattle.tape_core.specs.Crash.{AddsOnly, Crashes}
 use Rattle.tape_core.proofs.Crashes.{only_same, only_then}
 use Rattle.tape_core.specs.declared.sink.PartSink.{Ghosts}
+use Rattle.tape_run.specs.Headline.{reels_in}
 use Rattle.tape_run.specs.declared.script.Step.{Step}
+use Rattle.tape_run.specs.declared.script.Step.TheVariants.{Reel, Save, Restart}
 use Rattle.tape_run.specs.Crash.{IsOf, StoodAt, LastAlone, is_saved}
 use Rattle.tape_run.specs.Made.{HasMade, IsMade}
 use Rattle.tape_run.specs.Runs.{Runs}
@@ -131,3 +135,26 @@ came_to_end {g = g} {which = which} {old = old} {new = new} {held = held} {reade
           (all_made _ _ _ _ steps n _ _ _ (map remaining (drop used reels)) past come.made),
       λ is. come.brings (sym (come.same ∙ ap (is_saved come.saved) (drop_all n steps past)) ∙ is),
     )
+
+-- ---- readers that were not taken
+
+reels_then : (steps more : List Step) → reels_in (steps ++ more) ≡ reels_in steps + reels_in more
+reels_then [] more = omega arith
+reels_then (Reel ∷ steps) more = omega (arith, reels_then steps more)
+reels_then (Save ∷ steps) more = reels_then steps more
+reels_then (Restart n ∷ steps) more = reels_then steps more
+
+-- how many readers are taken with one more step
+pub taken_then : (steps : List Step) (n : ℕ) (step : Step)
+    → drop n steps ≡ step ∷ drop (n + 1) steps → (used : ℕ) → used ≡ reels_in (take n steps)
+    → used + reels_in (step ∷ []) ≡ reels_in (take (n + 1) steps)
+taken_then steps n step here used is =
+    ap (λ m. m + reels_in (step ∷ [])) is ∙ sym (reels_then (take n steps) (step ∷ []))
+    ∙ ap reels_in (sym (take-add n 1 steps ∙ ap (λ rest. take n steps ++ take 1 rest) here))
+
+-- what is behind the readers taken before, and behind the next
+pub stays_behind : {R : Type 0} (used more : ℕ) (old mid new : List R)
+    → drop used mid ≡ drop used old → drop (used + more) new ≡ drop (used + more) mid
+    → drop (used + more) new ≡ drop (used + more) old
+stays_behind used more old mid new before now =
+    now ∙ (sym (drop-drop more used mid) ∙ ap (drop more) before ∙ drop-drop more used old)

@@ -19,7 +19,7 @@ use Rattle.tape_core.specs.Table.{saved, mount_of}
 use Rattle.tape_run.specs.Mount.{Happening, reads, foreign_reel, saves, restarts, IsMount}
 use Rattle.tape_run.specs.Mount.{after_mount}
 use Rattle.tape_core.specs.Stands.{weight_of}
-use Rattle.tape_core.specs.Weight.{IsFront, Rose}
+use Rattle.tape_core.specs.Weight.{IsFront}
 use Rattle.tape_run.specs.ByTable.{IsLed, IsCutAt}
 use Rattle.tape_run.proofs.ByTable.{led_nowhere}
 use Rattle.tape_run.specs.Under.{is_under}
@@ -144,7 +144,6 @@ pub cut_short : (mounted new : State) (held now : List Portion) (bytes : List �
     → ((set : FileSet) (parts : List Portion) (xs : List TapeItem) (h : Happening) → IsLawful set
     → IsMount set xs h → IsPlaced set p parts → is_under mounted set p.position xs 0 h)
     → rest_of mounted ≡ p → (rest_of new).set_id ≡ p.set_id → (rest_of new).file ≡ p.file
-    → Rose r1 r2
     → IsFront held now → mounted ≡ mount_of p → CutsTable mounted (rest_of new) held now bytes
     → RefusesImage mounted new held now bytes
     → CutShort bytes (record {
@@ -154,13 +153,12 @@ pub cut_short : (mounted new : State) (held now : List Portion) (bytes : List �
       failures = f1;
       refusals = r1;
     }) (record { place = rest_of new; parts = now; notes = notes; failures = f1; refusals = r2 })
-cut_short mounted new held now bytes p notes f1 r1 r2 begins same set_id file rose grows
+cut_short mounted new held now bytes p notes f1 r1 r2 begins same set_id file grows
     mount cuts r = record {
       count = refl;
       notes = refl;
       same_set = set_id;
       same_file = file;
-      rose = rose;
       grows = grows;
       stops = λ set xs end stop h l b m at.
           subst (λ (f : ℕ). StoppedBy set f p.position xs h (rest_of new) now) file

@@ -24,19 +24,21 @@ walked_same g s = record {
 
 -- whatever the next call answered, a crash brings back no more
 pub walk_crash : {S : Type 0} {g : Ghosts S} {ahead : S → List Portion → Type 0}
-    {left : S → ℕ} (old mid new : S) (result : Result (Option Part) SinkFault)
+    {left : S → ℕ} {refuses : S → SinkFault → S → Type 0} (old mid new : S)
+    (result : Result (Option Part) SinkFault)
     → Walked g old mid
-    → HasGiven g.holds g.weighs g.refusals g.crashes ahead left mid result new
+    → HasGiven g.holds g.weighs g.refusals g.crashes ahead left refuses mid result new
     → BringsNoMore g old new
 walk_crash old mid new result w h parts was =
     adds_then _ _ _ (w.crash parts was) (h.crash parts (w.kept parts was))
 
 -- the next call was not refused
 pub walk_on : {S : Type 0} {g : Ghosts S} {ahead : S → List Portion → Type 0}
-    {left : S → ℕ} (old mid new : S) (result : Result (Option Part) SinkFault)
+    {left : S → ℕ} {refuses : S → SinkFault → S → Type 0} (old mid new : S)
+    (result : Result (Option Part) SinkFault)
     (given : Option Part) → result ≡ Ok given
     → Walked g old mid
-    → HasGiven g.holds g.weighs g.refusals g.crashes ahead left mid result new
+    → HasGiven g.holds g.weighs g.refusals g.crashes ahead left refuses mid result new
     → Walked g old new
 walk_on {S} {g} old mid new result given is w h = record {
   calm = subst (λ r. Counts r (g.refusals mid) (g.refusals new)) is h.counts ∙ w.calm;

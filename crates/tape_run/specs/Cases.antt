@@ -20,7 +20,7 @@ use Rattle.tape_core.specs.Place.{IsPlaced, place_of}
 use Rattle.tape_core.specs.Point.{Point}
 use Rattle.tape_core.specs.Stands.{Stands, weight_of}
 use Rattle.tape_core.specs.Table.{saved, reader_of}
-use Rattle.tape_core.specs.Weight.{IsFront, Rose}
+use Rattle.tape_core.specs.Weight.{IsFront}
 use Rattle.tape_run.specs.declared.fault.RunFault.{RunFault}
 use Rattle.tape_run.specs.declared.fault.RunFault.TheVariants.{Sink, NoSuchPoint, TooFewReels}
 use Rattle.tape_run.specs.declared.fault.RunFault.TheVariants.{OutOfMemory, OtherFile}
@@ -253,20 +253,20 @@ pub record CasesOfMade : Type 0 where
   -- why one was not made, and what it left
   pub save_refused : (cause : SinkFault) (old new : Seen) → SaveFails (Sink cause) old new
       → (new.place ≡ old.place) × (new.parts ≡ old.parts) × (new.notes ≡ old.notes)
-      × (new.failures ≡ old.failures) × Rose old.refusals new.refusals
+      × (new.failures ≡ old.failures)
   pub save_fails : (old new : Seen) → (SaveFails NoSuchPoint old new → ⊥)
       × (SaveFails TooFewReels old new → ⊥) × (SaveFails OtherFile old new → ⊥)
       × (SaveFails OutOfMemory old new → new ≡ old)
   pub restart_refused : (cause : SinkFault) (old new : Seen) → RestartFails 0 (Sink cause) old new
       → (new.place ≡ old.place) × (new.parts ≡ old.parts) × (new.notes ≡ old.notes)
-      × (new.failures ≡ old.failures) × Rose old.refusals new.refusals
+      × (new.failures ≡ old.failures)
   pub restart_fails : (old new : Seen) → (RestartFails 0 TooFewReels old new → ⊥)
       × (RestartFails 0 OutOfMemory old new → ⊥) × (RestartFails 0 OtherFile old new → ⊥)
   pub no_such_note : (old new : Seen) (n : ℕ) → RestartFails n NoSuchPoint old new
       → (length old.notes ≤ n) × (new ≡ old)
   pub reel_refused : (cause : SinkFault) (bytes : List ℕ) (old new : Seen)
       → ReelFails bytes (Sink cause) old new
-      → Rose old.refusals new.refusals × IsFront old.parts new.parts × (new.notes ≡ old.notes)
+      → IsFront old.parts new.parts × (new.notes ≡ old.notes)
       × (new.failures ≡ old.failures) × (new.place.file ≡ old.place.file)
   pub stopped_by : (set : FileSet) (old new : Seen) (xs : List TapeItem) (h : Happening)
       (s : StoppedBy set old.place.file old.place.position xs h new.place new.parts)

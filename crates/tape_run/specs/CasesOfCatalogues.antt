@@ -34,6 +34,9 @@ use Rattle.tape_run.specs.Lacks.{line_of, good_end, entry_at}
 use Rattle.tape_run.specs.Noted.{noted, noted_all, KeepsPlaces, GoodIsShown}
 use Rattle.tape_run.specs.Passing.{Told, met_in}
 use Rattle.tape_run.specs.Reeling.{Took, AreMounted}
+use Rattle.tape_label.specs.Head1.{IsHead1}
+use Rattle.tape_label.specs.Trail1.{IsTrail1}
+use Rattle.tape_label.specs.Vol1.{IsVol1}
 use Rattle.tape_run.specs.Shown.{Shown, BeginsVolume, HeadsSection, EndsSection}
 use Rattle.tape_run.specs.WholeReels.{AreWholeCopies, IsToldWhole, IsShownOn, IsListedGood}
 use Rattle.tape_run.specs.WholeSet.{HasEach, IsWholeCopy, IsNoDevice, key_in}
@@ -119,12 +122,14 @@ pub record CasesOfImages : Type 0 where
       (s : Shown xs key entry) → BeginsVolume xs entry.volume × HeadsSection s.hdr1 key
       × HasKind s.hdr2 kinds.Hdr2 × EndsSection s.trailer key (length s.content) entry
   pub headed : (bytes : List ℕ) (key : SectionKey) (h : HeadsSection bytes key)
-      → (h.label.set_id ≡ key.set_id) × (h.label.sequence ≡ key.file) × (h.label.sect ≡ key.sect)
+      → IsHead1 bytes h.label × (h.label.set_id ≡ key.set_id) × (h.label.sequence ≡ key.file)
+      × (h.label.sect ≡ key.sect)
   pub ended : (bytes : List ℕ) (key : SectionKey) (entry : Entry)
-      (e : EndsSection bytes key 3 entry) → (e.label.head.sequence ≡ key.file)
+      (e : EndsSection bytes key 3 entry) → IsTrail1 bytes e.label
+      × (e.label.head.sequence ≡ key.file)
       × (e.label.head.sect ≡ key.sect) × (e.label.blocks ≡ 3) × (e.label.eof ≡ entry.eof)
   pub named : (xs : List TapeItem) (volume : List ℕ) (b : BeginsVolume xs volume)
-      → (xs ≡ block b.bytes ∷ b.more) × (b.label.volume ≡ volume)
+      → (xs ≡ block b.bytes ∷ b.more) × IsVol1 b.bytes b.label × (b.label.volume ≡ volume)
 
 -- of whole copies
 pub record CasesOfCopies : Type 0 where

@@ -45,7 +45,7 @@ use Rattle.tape_run.specs.Reeling.{is_doubtful, IsNoted, ReadsAndNotes}
 use Rattle.tape_run.specs.Reeling.{goes_back, IsKeptFor, AreFirstTurns, Took}
 use Rattle.tape_run.specs.Reeling.{step_behind, notes_behind, steps_of, AreTold, AreSteps}
 use Rattle.tape_run.specs.Reels.{Reads}
-use Rattle.tape_run.specs.Seen.{Seen, IsKept}
+use Rattle.tape_run.specs.Seen.{Seen, IsKept, seen}
 use Rattle.tape_run.specs.Steps.{Saved, WentBack}
 use Rattle.tape_run.specs.declared.script.Step.TheVariants.{Reel, Save, Restart}
 use Rattle.tape_core.specs.Point.{Point}
@@ -219,6 +219,11 @@ pub record CasesOfOutputs : Type 0 where
       (e : ExtractsListedNow session shelf left form stands said says want)
       → Appends said says (reel_lines 1 (map answer_of e.turns) ++ last_line want e.records)
       × AreTurns Took (λ r. r) shelf 0 e.turns left
+  pub ends_as_told : (session : Listed) (shelf left : Readers) (form : Form)
+      (stands said says : Known) (want : Option Want)
+      (e : ExtractsListedNow session shelf left form stands said says want)
+      → EndsNow session.core (seen as_sink session session.sink) e.turns want e.records form ⊤
+      stands
   -- a fault ends a report behind the line of at most one image more than those that were noted
   pub one_line_more : (session behind : Listed) (shelf left : Readers) (form : Form)
       (out now said says : Known)

@@ -74,7 +74,7 @@ pub record CasesOfAnswers : Type 0 where
   pub memory_left_all : (core : State) (old new : Option (List ℕ)) → Leaves OutOfMemory core old new
       → new ≡ old
   pub sink_left : (core : State) (cause : SinkFault) (old new : Option (List ℕ))
-      → Leaves (Sink cause) core old new → IfKnown old new (ReadsToBlock (mount_of core))
+      → Leaves (Sink cause) core old new → IfKnown old new (ReadsToBlock core)
   pub to_block : (core : State) (bytes left : List ℕ) (r : ReadsToBlock core bytes left)
       → AllByRecursion GoesOn (answers_to core r.items)
       × ((step_of (behind_items core r.items) (Some (block r.content))).0 ≡ Deliver)

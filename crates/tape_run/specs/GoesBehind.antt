@@ -22,7 +22,10 @@ use Rattle.tape_run.specs.Mount.{Happening, IsMount}
 use Rattle.tape_run.specs.Steps.{ReadBy}
 use Rattle.tape_run.specs.declared.intake.ReelAnswer.{ReelAnswer}
 use Rattle.tape_run.specs.Reels.{behind_items, answers_to, GoesOn, ReadsReel}
-use Rattle.tape_run.specs.ByTable.{delivered_parts, IsLed}
+use Rattle.tape_run.specs.ByTable.{delivered_parts, IsLed, IsCutAt}
+use Rattle.tape_run.specs.declared.fault.RunFault.{RunFault}
+use Rattle.tape_run.specs.declared.fault.RunFault.TheVariants.{Sink, NoSuchPoint, TooFewReels}
+use Rattle.tape_run.specs.declared.fault.RunFault.TheVariants.{OutOfMemory, OtherFile}
 use Rattle.tape_run.specs.Given.{IsGiven, counted}
 use Rattle.tape_run.specs.Seen.{Seen}
 
@@ -74,6 +77,24 @@ pub record ReeledBehind (bytes : List ℕ) (left : Option (List ℕ)) (failed : 
   pub grows : IsFront old.parts new.parts
   pub table : (xs : List TapeItem) (end : ℕ) (stop : Stop) → Begins 0 given xs end stop
       → IsLed xs (behind_of old.place) new.place old.parts new.parts
+
+-- A reel that is read on was read up to a part that the sink refused: the session is at this part.
+pub record CutBehind (bytes : List ℕ) (old new : Seen) : Type 0 where
+  pub count : new.failures ≡ old.failures
+  pub notes : new.notes ≡ old.notes
+  pub same_set : new.place.set_id ≡ old.place.set_id
+  pub same_file : new.place.file ≡ old.place.file
+  pub grows : IsFront old.parts new.parts
+  pub table : (xs : List TapeItem) (end : ℕ) (stop : Stop) → Begins 0 bytes xs end stop
+      → IsCutAt xs (behind_of old.place) new.place old.parts new.parts
+
+-- why a reel was not read on to its end: memory was refused before, or the sink refused a part
+abbrev pub ReelFailsBehind : List ℕ → RunFault → Seen → Seen → Type 0
+ReelFailsBehind bytes (Sink cause) old new = CutBehind bytes old new
+ReelFailsBehind bytes NoSuchPoint old new = ⊥
+ReelFailsBehind bytes TooFewReels old new = ⊥
+ReelFailsBehind bytes OutOfMemory old new = new ≡ old
+ReelFailsBehind bytes OtherFile old new = ⊥
 
 -- What a reel that is read on answers and leaves unread: of a complete file it reads nothing.
 abbrev pub ReadsBehind : Position → State → List ℕ → List ℕ → ReelAnswer → Type 0

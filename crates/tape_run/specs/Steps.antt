@@ -92,7 +92,6 @@ pub record CutShort (bytes : List ℕ) (old new : Seen) : Type 0 where
   pub notes : new.notes ≡ old.notes
   pub same_set : new.place.set_id ≡ old.place.set_id
   pub same_file : new.place.file ≡ old.place.file
-  pub rose : Rose old.refusals new.refusals
   pub grows : IsFront old.parts new.parts
   pub stops : (set : FileSet) (xs : List TapeItem) (end : ℕ) (stop : Stop) (h : Happening)
       → IsLawful set
@@ -108,7 +107,8 @@ pub record Unmoved (old new : Seen) : Type 0 where
   pub notes : new.notes ≡ old.notes
   pub count : new.failures ≡ old.failures
 
--- Why a reel was not read to its end: memory was refused before, or the sink refused a part.
+-- What a reel leaves that was not read to its end, since memory was refused before, or the sink
+-- refused a part. Whether the sink did refuse a call is in `Refuses`.
 abbrev pub ReelFails : List ℕ → RunFault → Seen → Seen → Type 0
 ReelFails bytes (Sink cause) old new = CutShort bytes old new
 ReelFails bytes NoSuchPoint old new = ⊥
@@ -138,17 +138,18 @@ RefusesRestart g n TooFewReels old new = ⊥
 RefusesRestart g n OutOfMemory old new = ⊥
 RefusesRestart g n OtherFile old new = ⊥
 
--- why nothing was noted
+-- what is left where nothing was noted; whether the sink did refuse a call is in `Refuses`
 abbrev pub SaveFails : RunFault → Seen → Seen → Type 0
-SaveFails (Sink cause) old new = Unmoved old new × Rose old.refusals new.refusals
+SaveFails (Sink cause) old new = Unmoved old new
 SaveFails NoSuchPoint old new = ⊥
 SaveFails TooFewReels old new = ⊥
 SaveFails OutOfMemory old new = new ≡ old
 SaveFails OtherFile old new = ⊥
 
--- why the session did not go back
+-- what is left where the session did not go back; whether the sink did refuse a call is in
+-- `RefusesRestart`
 abbrev pub RestartFails : ℕ → RunFault → Seen → Seen → Type 0
-RestartFails n (Sink cause) old new = Unmoved old new × Rose old.refusals new.refusals
+RestartFails n (Sink cause) old new = Unmoved old new
 RestartFails n NoSuchPoint old new = (length old.notes ≤ n) × (new ≡ old)
 RestartFails n TooFewReels old new = ⊥
 RestartFails n OutOfMemory old new = ⊥

@@ -30,7 +30,7 @@ use crate::text::{flush, write_text};
 pub use again::extract_again;
 use front::write_parts;
 use images::read_images;
-pub use line::{ReportLine, last_line, reel_line};
+pub use line::{ReelLine, ReportLine, last_line};
 pub use located::{Mounted, extract_located};
 pub use now::{Place, extract_now};
 pub use out_sink::OutSink;

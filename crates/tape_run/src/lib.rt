@@ -39,8 +39,8 @@ pub use crate::extract::images::Shelf;
 pub use catalogue::Catalogue;
 pub use check::check_to;
 pub use extract::{
-    Mounted, OutSink, Place, ReportLine, extract_again, extract_located, extract_now, extract_to,
-    last_line, reel_line, write_file,
+    Mounted, OutSink, Place, ReelLine, ReportLine, extract_again, extract_located, extract_now,
+    extract_to, last_line, write_file,
 };
 pub use fault::{EngineFault, ListFault, RunFault, Stopped, WriteFailed};
 pub use intake::ReelAnswer;

@@ -13,6 +13,7 @@ ghost use Rattle.tape_core.specs.Crash.{AddsOnly};
 ghost use Rattle.tape_run.specs.Back.{reels_of, AreVolumes};
 ghost use Rattle.tape_run.specs.Crash.{IsOf, StoodAt, LastAlone, is_saved};
 ghost use Rattle.tape_run.specs.Headline.{IsStart, IsRead, HasRun, HasStopped, LosesParts};
+ghost use Rattle.tape_run.specs.Headline.{reels_in};
 ghost use Rattle.tape_run.specs.Given.{written, IfTold};
 ghost use Rattle.tape_run.specs.Made.{IsMade, WritesFrom};
 ghost use Rattle.tape_run.specs.Causes.{IsCalm};
@@ -103,6 +104,11 @@ pub fn run<S: PartSink, R: Read>(
     ensures calm { OnOk result (IsCalm S.PartSink session.old session.new) }
     ensures cause { IfErr result (λ end. StopsFor S.PartSink steps.now end.step end.fault
         session.old session.new) }
+    // A reader that no step took is as it was.
+    ensures unread { OnOk result (drop (reels_in steps.now) reels.new
+        ≡ drop (reels_in steps.now) reels.old) }
+    ensures untaken { IfErr result (λ end. let taken = reels_in (take (end.step + 1) steps.now) in
+        drop taken reels.new ≡ drop taken reels.old) }
     // Whatever it answered: what a crash in it or behind it brings back could come back before, or
     // is where the session stood between two steps, or one of its notes there.
     ensures crash { IfSeen S.PartSink session.old (λ old. IsKept old
@@ -139,6 +145,9 @@ fn make<S: PartSink, R: Read>(
     ensures calm { OnOk result (IsCalm S.PartSink session.old session.new) }
     ensures cause { IfErr result (λ fault.
         RefusesStep S.PartSink step fault session.old session.new) }
+    ensures takes { IfOk result (λ now_used. now_used ≡ used + reels_in (step ∷ [])) }
+    ensures behind { drop (used + reels_in (step ∷ [])) reels.new
+        ≡ drop (used + reels_in (step ∷ [])) reels.old }
     ensures unwritten { OnErr result (failed.new ≡ failed.old) }
     ensures unread { OnErr result (map R.remaining (take used reels.new)
         ≡ map R.remaining (take used reels.old)) }

@@ -5,7 +5,7 @@ mod output;
 mod points;
 
 ghost use Rattle.std.specs.Prelude.{◌≡◌, [], ◌≢◌, List, Option, None, Ok, Err, IsOk, OnOk, IfOk};
-ghost use Rattle.std.specs.Prelude.{IfErr, IfSome, length, take, ◌++◌, ◌∷◌, ◌+◌};
+ghost use Rattle.std.specs.Prelude.{IfErr, IfSome, OnErr, length, take, ◌++◌, ◌∷◌, ◌+◌};
 ghost use Rattle.tape_image.specs.Reader.{IfKnown};
 ghost use Rattle.tape_blocks.specs.Block.{Portion};
 ghost use Rattle.tape_set.specs.Layout.{FileSet};
@@ -13,7 +13,7 @@ ghost use Rattle.tape_set.specs.Position.{want_at};
 ghost use Rattle.tape_core.specs.Known.{IsFileNumber};
 ghost use Rattle.tape_core.specs.Place.{rest_of};
 ghost use Rattle.tape_core.specs.Stands.{Stands, weight_of};
-ghost use Rattle.tape_core.specs.Table.{saved, reader_of};
+ghost use Rattle.tape_core.specs.Table.{saved, reader_of, mount_of};
 ghost use Rattle.tape_core.specs.Crash.{AddsOnly, ThisAlone};
 ghost use Rattle.tape_core.specs.Weight.{IsFront};
 ghost use Rattle.tape_run.specs.Crash.{IsHere, IsNoteOf, BringsNoMore};
@@ -97,8 +97,7 @@ impl<S: PartSink> Session<S> {
         }
     }
 
-    /// A session at a checkpoint, over a sink that holds the parts before it. It has no notes, and
-    /// takes no memory.
+    /// Resumes at a checkpoint, over a sink that holds the parts before it. Does not allocate.
     pub fn resume(alloc: Global, point: &Checkpoint, sink: S) -> Session<S>
         ensures sink { result.sink ≡ sink }
         ensures kept { (held : List Portion) → IsKept (seen S.PartSink result held) }
@@ -132,19 +131,18 @@ impl<S: PartSink> Session<S> {
         self.intake.sink
     }
 
-    /// Reads a reel: what its reader gives, up to the first item behind which no further one of the
-    /// reel can tell anything of the file, and nothing behind that. The parts of each block that
-    /// the file awaits go to the sink, one by one, from the awaited part on. Where the file is
-    /// complete nothing is read. The only memory taken is the image reader's buffer.
+    /// Reads a reel up to the first item after which no other one of the reel can say anything of
+    /// the file. The parts of each block that the file awaits go to the sink, one by one, from the
+    /// awaited part on. If the file is complete nothing is read. Allocates only the image reader's
+    /// buffer.
     ///
-    /// A fault of the image (also a reader that failed) ends the reading and is told in the answer;
-    /// what was read before it counts.
+    /// A fault of the image, or a reader that failed, ends the reading and is in the answer; what
+    /// was read before it counts.
     ///
     /// # Errors
     ///
-    /// `Sink`, where the sink refused a part: the sink holds what lies before that part, where the
-    /// session stands, and the next reel goes on there. `OutOfMemory`, where the image reader's
-    /// buffer was refused: nothing changed, and nothing was read.
+    /// `Sink` if the sink refused a part: the session is at that part, and the next reel goes on
+    /// there. `OutOfMemory` if the image reader's buffer was refused: nothing changed or was read.
     pub fn reel<R: Read>(&mut self, device: &mut R) -> Result<ReelAnswer, RunFault>
         ensures ok { IfOk result (λ answer. IfSeen S.PartSink self.old (λ old.
             IsSeen S.PartSink self.new (λ new. IsFront old.parts new.parts
@@ -155,8 +153,8 @@ impl<S: PartSink> Session<S> {
             IsSeen S.PartSink self.new (λ new. IsFront old.parts new.parts
             × (IsKept old → IsKept new) × IfSome (R.remaining device.old)
             (λ bytes. ReelFails bytes fault old new)))) }
-        // Whatever its reader tells, it is a session of the same file, with the same notes; a
-        // reader that failed is counted, and a call of the sink that was refused is told.
+        // Of any reader and sink: the session has the same file and notes; a reader that failed is
+        // counted, and a call of the sink that was refused is in the answer.
         ensures notes { self.new.notes ≡ self.old.notes }
         ensures file { (self.new.core.set_id ≡ self.old.core.set_id)
             × (self.new.core.file ≡ self.old.core.file) }
@@ -170,15 +168,15 @@ impl<S: PartSink> Session<S> {
         ensures answer { IfOk result (λ answer. IfKnown (R.remaining device.old)
             (R.remaining device.new)
             (λ bytes left. Reads self.old.core.position self.old.core bytes left answer)) }
-        // Whatever was read, Complete is answered exactly where nothing is wanted any more.
+        // Whatever was read, the answer is Complete exactly if nothing is wanted any more.
         ensures complete { IfOk result (λ answer. answer.answer ≡ Answer.Complete
             → self.new.core.position ≡ Position.Finished) }
         ensures finished { IfOk result (λ answer.
             self.new.core.position ≡ Position.Finished → answer.answer ≡ Answer.Complete) }
         ensures unread { IfErr result (λ fault.
-            Leaves fault self.old.core (R.remaining device.old) (R.remaining device.new)) }
-        // Whatever it answered: a crash in it or behind it brings back nothing that none before it
-        // could.
+            Leaves fault (mount_of self.old.core) (R.remaining device.old)
+            (R.remaining device.new)) }
+        // Whatever it answered: a crash in it or after it brings back nothing new.
         ensures crash { BringsNoMore S.PartSink self.old.sink self.new.sink }
     {
         if self.intake.core.want().is_none() {
@@ -201,12 +199,12 @@ impl<S: PartSink> Session<S> {
         }
     }
 
-    /// Notes where the session stands, in its list and, where the sink is durable, in the sink.
+    /// Notes where the session is, in its list and, if the sink is durable, in the sink.
     ///
     /// # Errors
     ///
-    /// `OutOfMemory`, where the list could not grow, before the sink is asked; `Sink`, where the
-    /// sink refused. Both leave the session as it was.
+    /// `OutOfMemory` if the list could not grow, before the sink is asked; `Sink` if the sink
+    /// refused. Both leave the session as it was.
     pub fn save(&mut self) -> Result<Checkpoint, RunFault>
         ensures ok { OnOk result (IfSeen S.PartSink self.old (λ old.
             IsSeen S.PartSink self.new (λ new. (IsKept old → IsKept new) × Saved old new))) }
@@ -214,9 +212,12 @@ impl<S: PartSink> Session<S> {
             → point ≡ saved (rest_of self.old.core) (weight_of held)) }
         ensures err { IfErr result (λ fault. IfSeen S.PartSink self.old (λ old.
             IsSeen S.PartSink self.new (λ new. SaveFails fault old new))) }
-        // Of any sink: the note stands behind the others, no call of the sink was refused, and a
-        // call that was refused is told.
+        // Of any sink: the session stays where it is; the note is of there, with the sink's weight,
+        // and comes last; no call of the sink was refused, or the one that was is in the answer.
         ensures notes { IfOk result (λ point. self.new.notes ≡ self.old.notes ++ point ∷ []) }
+        ensures at { IfOk result (λ point.
+            point ≡ saved (rest_of self.old.core) (S.weighs self.old.sink)) }
+        ensures place { self.new.core ≡ self.old.core }
         ensures calm { OnOk result
             (S.refusals self.new.sink ≡ S.refusals self.old.sink) }
         ensures refuses { IfErr result (λ fault. Refuses S.PartSink fault self.old self.new) }
@@ -247,16 +248,19 @@ impl<S: PartSink> Session<S> {
         }
     }
 
-    /// Notes where the session stands in its list alone, and has the sink keep nothing: for a sink
-    /// that comes back from a crash as it stands, such as one that was opened just now.
+    /// Notes in the session's list alone where it is, and has the sink keep nothing: for a sink
+    /// that comes back from a crash as it is, such as one that was opened just now.
     ///
     /// # Errors
     ///
-    /// `OutOfMemory`, where the list could not grow. It leaves the session as it was.
+    /// `OutOfMemory` if the list could not grow: nothing changed.
     pub fn note(&mut self) -> Result<(), RunFault>
         ensures sink { self.new.sink ≡ self.old.sink }
         ensures ok { OnOk result ((held : List Portion) → S.holds self.old.sink held
             → Saved (seen S.PartSink self.old held) (seen S.PartSink self.new held)) }
+        ensures notes { OnOk result (self.new.notes ≡ self.old.notes
+            ++ saved (rest_of self.old.core) (S.weighs self.old.sink) ∷ []) }
+        ensures place { self.new.core ≡ self.old.core }
         ensures err { IfErr result (λ fault. (fault ≡ RunFault.OutOfMemory)
             × (self.new ≡ self.old)) }
     {
@@ -275,21 +279,21 @@ impl<S: PartSink> Session<S> {
     }
 
     /// Goes back to the note of this number, counted from 0: the sink is cut to what it held then,
-    /// and the later notes are forgotten. It takes no memory.
+    /// and the later notes are forgotten. Does not allocate.
     ///
     /// # Errors
     ///
-    /// `NoSuchPoint`, where there are not so many notes; `Sink`, where the sink refused. Both leave
-    /// the session as it was, but that of a sink which answered `Device` nothing is said until it
-    /// is opened again.
+    /// `NoSuchPoint` if there are not so many notes; `Sink` if the sink refused. Both leave the
+    /// session as it was; a sink that answered `Device` has to be opened again.
     pub fn restart(&mut self, n: usize) -> Result<(), RunFault>
         ensures ok { OnOk result (IfSeen S.PartSink self.old (λ old. IsKept old
             → IsSeen S.PartSink self.new (λ new. IsKept new × WentBack n old new))) }
         ensures err { IfErr result (λ fault. IfSeen S.PartSink self.old (λ old. IsKept old
             → (fault ≢ RunFault.Sink SinkFault.Device → S.holds self.new.sink old.parts)
             × RestartFails n fault old (seen S.PartSink self.new old.parts))) }
-        // Of any sink: the later notes are forgotten, no call of the sink was refused, and a call
-        // that was refused is told.
+        // Of any sink: the later notes are gone, or the session stays where it is; no call of the
+        // sink was refused, or the one that was is in the answer.
+        ensures stays { OnErr result (self.new.core ≡ self.old.core) }
         ensures notes { OnOk result (self.new.notes ≡ take (n + 1) self.old.notes) }
         ensures calm { OnOk result
             (S.refusals self.new.sink ≡ S.refusals self.old.sink) }

@@ -1,6 +1,6 @@
 //! Texts of at most so many bytes, built without taking memory, and text that is written.
 
-ghost use Rattle.std.specs.Prelude.{◌≡◌, ◌≤◌, ◌+◌, ◌++◌, length, decimal, OnOk, OnErr};
+ghost use Rattle.std.specs.Prelude.{◌≡◌, ◌≤◌, ◌+◌, ◌++◌, length, decimal, OnOk, OnErr, IfSome};
 ghost use Rattle.std.specs.Io.KnownBytes.{Appends, Keeps};
 ghost use Rattle.arrayvec.specs.ArrayString.{array_string_len};
 ghost use Rattle.arrayvec.specs.ArrayVec.{array_vec_len};
@@ -10,6 +10,7 @@ ghost use Rattle.tape_image.specs.Written.{AppendsFront};
 
 use crate::fault::WriteFailed;
 use arrayvec::{ArrayString, ArrayVec};
+use std::fmt::{Display, Write as _};
 use std::io::Write;
 use tape_label::Field;
 
@@ -118,6 +119,24 @@ pub fn write_text<W: Write>(writer: &mut W, text: &[u8]) -> Result<(), WriteFail
         }
     }
     Ok(())
+}
+
+/// Writes a line, all of it at once.
+///
+/// # Errors
+///
+/// `WriteFailed` as `write_text`; and for a line of more than 1,024 bytes, which there is none.
+pub fn write_line<W: Write, D: Display>(writer: &mut W, line: &D) -> Result<(), WriteFailed>
+    ensures ok { OnOk result (IfSome (D.output line.now) (λ text.
+        Appends (W.contents writer.old) (W.contents writer.new) text)) }
+    ensures err { OnErr result (IfSome (D.output line.now) (λ text.
+        AppendsFront (W.contents writer.old) (W.contents writer.new) text)) }
+{
+    let mut text = ArrayString::<1024>::new();
+    match write!(text, "{line}") {
+        Ok(()) => write_text(writer, text.as_bytes()),
+        Err(_) => Err(WriteFailed),
+    }
 }
 
 /// Has the writer pass on all that it holds.

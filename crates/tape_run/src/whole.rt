@@ -5,10 +5,13 @@ ghost use Rattle.tape_blocks.specs.Block.{Portion};
 ghost use Rattle.tape_core.specs.Known.{IsFileNumber};
 ghost use Rattle.tape_core.specs.Place.{rest_of};
 ghost use Rattle.tape_core.specs.Memory.{portions};
+ghost use Rattle.tape_core.specs.Table.{reader_of};
 ghost use Rattle.tape_run.specs.Headline.{IsRead, IsStart, HasRun, HasStopped, LosesParts};
 ghost use Rattle.tape_run.specs.Lives.{IsResumed, LivesOn};
 ghost use Rattle.tape_run.specs.Given.{IfTold};
+ghost use Rattle.tape_run.specs.Runs.{StopsFor};
 ghost use Rattle.tape_run.specs.Seen.{Seen, IsSeen, IsSeenUnless};
+ghost use Rattle.tape_run.specs.Story.{Story};
 
 use crate::fault::Stopped;
 use crate::script::{Step, run};
@@ -44,6 +47,13 @@ pub fn read_file<R: Read>(
         × ((LosesParts steps.now end.step end.fault → ⊥) → now.parts ≡ portions read.0.sink)
         × HasStopped began steps.now bytes (map R.remaining reels.new) end.step end.fault
         now))) }
+    // Why it stopped: the step of that number was not made for a reason that its call promises, and
+    // no call of the sink was refused before.
+    ensures cause { IfOk result (λ read. IfErr read.1 (λ end. (began : Story MemorySink)
+        × (portions began.sink ≡ []) × (began.sink.refused ≡ 0) × (began.notes ≡ [])
+        × (began.core ≡ reader_of set_id file)
+        × StopsFor ⟦<MemorySink as PartSink>⟧ steps.now end.step end.fault began read.0)) }
+    ensures calm { IfOk result (λ read. OnOk read.1 (read.0.sink.refused ≡ 0)) }
     ensures number { IsFileNumber file → IsOk result }
     ensures refused { (IsFileNumber file → ⊥) → result ≡ Err CoreFault.FileNumber }
 {
@@ -75,6 +85,11 @@ pub fn go_on<S: PartSink, R: Read>(
         IfTold R.remaining reels.old (λ bytes.
         HasStopped began steps.now bytes (map R.remaining reels.new) end.step end.fault
         new))) }
+    // Why it stopped, of any sink: as above.
+    ensures cause { IfErr result.1 (λ end. (began : Story S) × (began.sink ≡ sink)
+        × (began.notes ≡ [])
+        × StopsFor S.PartSink steps.now end.step end.fault began result.0) }
+    ensures calm { OnOk result.1 (S.refusals result.0.sink ≡ S.refusals sink) }
     // Whatever it answered: what a crash behind it brings back, or one in it, is what was there, or
     // outlives this life.
     ensures crash { (held : List Portion) → S.holds sink held → IfTold R.remaining reels.old

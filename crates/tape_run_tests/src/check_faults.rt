@@ -7,7 +7,7 @@ use std::io;
 use std::io::{ErrorKind, Write};
 use std::process::Abort;
 use std::test::Fail;
-use tape_run::{EngineFault, check_to};
+use tape_run::{EngineFault, Wording, check_to, survey_to};
 
 /// The report of the worked image.
 const REPORT: &[u8] = b"IMAGE 1 12 MARKED
@@ -91,6 +91,25 @@ fn lines_are_passed_on_one_by_one(rt: HostRuntime) -> Result<(), Fail> {
     let answer = check_to(rt.alloc(), &mut images, &mut report);
     assert!(rt; answer == Ok(true));
     assert_eq!(rt; report.at.as_slice(), [18, 36, 88].as_slice());
+    Ok(())
+}
+
+/// A survey passes on the line of each image when it was read, 29 bytes each, and then the rest.
+#[test]
+fn lines_of_a_survey_are_passed_on_one_by_one(rt: HostRuntime) -> Result<(), Fail> {
+    let image = payroll(rt.alloc())?;
+    let bytes = image.bytes.as_slice();
+    let mut images = shelf_of(rt.alloc(), &mut [Some(bytes), Some(bytes)])?;
+    let mut report = Flushed {
+        taken: 0,
+        at: Vec::new(rt.alloc()),
+    };
+    let names = ["a.tap", "b.tap"];
+    survey_to(rt.alloc(), &mut images, &names, Wording::Words, &mut report)?;
+    assert!(rt; report.at.get(0) == Some(&29));
+    assert!(rt; report.at.get(1) == Some(&58));
+    assert!(rt; report.taken > 58);
+    assert!(rt; report.at.last() == Some(&report.taken));
     Ok(())
 }
 

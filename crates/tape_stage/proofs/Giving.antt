@@ -5,13 +5,19 @@ use Rattle.std.proofs.lemmas.List.{take-take, take_at, drop_at, drop-take, lengt
 use Rattle.std.proofs.lemmas.List.{length-drop, drop-drop}
 use Rattle.std.proofs.lemmas.Nat.{from_be_bytes-to_be_bytes_4}
 use Rattle.std.specs.Int.{to_be_bytes, from_be_bytes}
+use Rattle.std.proofs.Common.{Bool, ◌⊎◌, inl, inr}
+use Rattle.tape_core.specs.Weight.{Rose}
+use Rattle.tape_core.specs.declared.sink.SinkFault.{SinkFault}
+use Rattle.tape_core.specs.declared.sink.SinkFault.TheVariants.{Device, Failed}
+use Rattle.tape_stage.specs.declared.disk.Disk.{Ghosts}
 use Rattle.tape_blocks.specs.declared.parts.Span.{Span}
 use Rattle.tape_blocks.specs.declared.parts.Span.TheVariants.{Whole, First, Middle, Last}
 use Rattle.tape_blocks.specs.Block.{Portion}
 use Rattle.tape_stage.specs.Parts.{frame, frames, AllShort}
 use Rattle.tape_blocks.specs.Block.{indicator}
 use Rattle.tape_stage.specs.Staged.{Holding}
-use Rattle.tape_stage.specs.Frames.{AheadIn, IsFrameAt}
+use Rattle.tape_stage.specs.Frames.{AheadIn, IsFrameAt, NoFrameAt}
+use Rattle.tape_stage.specs.Stages.{LendsNone}
 
 span_same : (s t : Span) → indicator s ≡ indicator t → s ≡ t
 span_same Whole Whole e = refl
@@ -201,3 +207,17 @@ held_ahead weight parts bytes holding = record {
   where
     less : (n : ℕ) → 256 + n - 256 ≡ n
     less n = omega arith
+
+-- ---- a part that was not lent
+
+pub lends_none : {D : Type 0} (disk : Ghosts D) (failed : Bool) (walked weight : ℕ) (old new : D)
+    (fault : SinkFault) → (fault ≡ Device) ⊎ (fault ≡ Failed)
+    → (fault ≡ Device → Rose (disk.faults old) (disk.faults new))
+    → (disk.is_honest old → fault ≡ Failed
+    → NoFrameAt (256 + walked) (256 + weight) (disk.seen old))
+    → LendsNone disk failed walked weight old fault new
+lends_none disk failed walked weight old new fault (inl is) device none =
+    subst (λ f. LendsNone disk failed walked weight old f new) (sym is) (device is)
+lends_none disk failed walked weight old new fault (inr is) device none =
+    subst (λ f. LendsNone disk failed walked weight old f new) (sym is)
+    (inr (λ honest. none honest is))

@@ -7,7 +7,7 @@ use Rattle.tape_stage.specs.declared.disk.Disk.{Ghosts}
 use Rattle.tape_core.specs.Walks.{HasGiven}
 use Rattle.tape_blocks.specs.declared.parts.Part.{Part}
 use Rattle.tape_core.specs.declared.sink.SinkFault.{SinkFault}
-use Rattle.tape_stage.specs.Stages.{Holds, IsAhead, crashes_of}
+use Rattle.tape_stage.specs.Stages.{Holds, IsAhead, LendsNone, crashes_of}
 use Rattle.tape_stage.specs.declared.stage.Stage.{Stage}
 use Rattle.tape_stage.specs.declared.stage.part_reader.PartReader.{PartReader}
 use Rattle.tape_stage.specs.contracts.stage.part_reader.PartReader.{the_row}
@@ -15,8 +15,9 @@ use Rattle.tape_stage.specs.contracts.stage.part_reader.PartReader.{the_row}
 -- the stage gave its next part, or was refused
 abbrev pub StageGave : {D : Type 0} {disk : Ghosts D} → Stage D disk
     → Result (Option Part) SinkFault → Stage D disk → Type 0
-StageGave old result new = HasGiven (λ s parts. Holds s parts) (λ s. s.weight) (λ s. s.refused)
-    (λ s. crashes_of s) (λ s parts. IsAhead s parts) (λ s. s.weight - s.walked) old result new
+StageGave {D} {disk} old result new = HasGiven (λ s parts. Holds s parts) (λ s. s.weight) (λ s. s.refused)
+    (λ s. crashes_of s) (λ s parts. IsAhead s parts) (λ s. s.weight - s.walked)
+    (λ s fault t. LendsNone disk s.failed s.walked s.weight s.disk fault t.disk) old result new
 
 -- the reader reads the same stage, which gave its next part
 pub record HasRead {D : Type 0} {disk : Ghosts D} (old : PartReader D disk)

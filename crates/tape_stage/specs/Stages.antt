@@ -6,7 +6,9 @@ use Rattle.tape_blocks.specs.Block.{Portion}
 use Rattle.tape_core.specs.Crash.{Crashes}
 use Rattle.tape_core.specs.Stands.{weight_of}
 use Rattle.tape_core.specs.Weight.{Rose}
-use Rattle.tape_stage.specs.Frames.{AheadIn}
+use Rattle.tape_core.specs.declared.sink.SinkFault.{SinkFault}
+use Rattle.tape_core.specs.declared.sink.SinkFault.TheVariants as sink
+use Rattle.tape_stage.specs.Frames.{AheadIn, NoFrameAt}
 use Rattle.tape_stage.specs.Moments.{Passes}
 use Rattle.tape_stage.specs.Staged.{Staged, StandsLike, Holding, Ready}
 use Rattle.tape_core.specs.Point.{Point}
@@ -51,6 +53,14 @@ Holds {D} {disk} stage parts =
 abbrev pub IsAhead : {D : Type 0} {disk : Ghosts D} → Stage D disk → List Portion → Type 0
 IsAhead {D} {disk} stage parts = (stage.pending ≡ None → disk.is_honest stage.disk)
     × AheadIn (256 + stage.walked) (256 + stage.weight) (disk.seen stage.disk) parts
+
+-- Why no part comes off a disk where frames of this weight were walked up to here: it failed in the
+-- call, or before it; or what is there is no frame.
+abbrev pub LendsNone : {D : Type 0} → Ghosts D → Bool → ℕ → ℕ → D → SinkFault → D → Type 0
+LendsNone disk failed walked weight old sink.Device new = Rose (disk.faults old) (disk.faults new)
+LendsNone disk failed walked weight old sink.Failed new = (failed ≡ true)
+    ⊎ (disk.is_honest old → NoFrameAt (256 + walked) (256 + weight) (disk.seen old))
+LendsNone disk failed walked weight old _ new = ⊥
 
 -- how a stage stands once a call was refused: failed by the disk, or as it was
 abbrev pub HasRefused : {D : Type 0} {disk : Ghosts D} → Stage D disk → Stage D disk → StageFault

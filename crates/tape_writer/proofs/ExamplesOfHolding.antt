@@ -9,6 +9,7 @@ cases_of_holding = record {
   takes = λ bytes old new h. h.takes;
   counted = λ new h. omega (arith, h.size);
   counted_up_to = λ old new h full. omega (arith, h.size, full);
+  not_taken = λ bytes old new s. (s.size, s.failed, s.front);
   did_not_fail = λ old new h failed. let e : true ≡ false = sym failed ∙ h.stands in absurd (cc);
   passes = λ old new h. h.passed;
   none_held = λ old new h held. absurd (omega (arith, ap length held, ap length h.none));

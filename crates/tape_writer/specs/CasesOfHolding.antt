@@ -1,10 +1,11 @@
 -- Test cases for the definition of a write buffer. The function `laws::cases` has them as its
 -- contract, too.
 use Rattle.std.specs.Prelude.{◌≡◌, ℕ, ◌-◌, ◌^◌, true, false, List, [], ◌∷◌}
-use Rattle.std.specs.Prelude.{None, Some}
+use Rattle.std.specs.Prelude.{None, Some, ◌++◌}
 use Rattle.std.specs.Io.KnownBytes.{Appends}
 use Rattle.tape_writer.specs.Holding.{Holding, taken, TakesAll, PassesOn, fresh, FileTakes}
-use Rattle.tape_writer.specs.Holding.{FilePasses}
+use Rattle.tape_writer.specs.Holding.{FilePasses, Stops}
+use Rattle.tape_image.specs.Written.{AppendsFront}
 
 -- a write buffer, and the file of an image
 pub record CasesOfHolding : Type 0 where
@@ -27,6 +28,10 @@ pub record CasesOfHolding : Type 0 where
   }) new → new.size ≡ 7
   pub counted_up_to : (old new : Holding) → TakesAll (3 ∷ []) old new → old.size ≡ 2 ^ 64 - 1
       → new.size ≡ 2 ^ 64 - 1
+  -- what was not taken whole is not counted, and a front of it may be written
+  pub not_taken : (bytes : List ℕ) (old new : Holding) → Stops bytes old new
+      → (new.size ≡ old.size) × (new.failed ≡ true)
+      × AppendsFront old.device new.device (old.held ++ bytes)
   pub did_not_fail : (old new : Holding) → TakesAll [] old new → new.failed ≡ true → ⊥
   -- buffered bytes that are written follow the device's contents, and are no longer buffered
   pub passes : (old new : Holding) → PassesOn old new → Appends old.device new.device old.held

@@ -2,7 +2,7 @@
 use Rattle.std.specs.Prelude.{◌≡◌, ◌≤◌, ℕ, ◌+◌, List, length, map, Bool, true, false, Option, Some}
 use Rattle.std.specs.Prelude.{None}
 use Rattle.tape_image.specs.Tape.{TapeItem, block, mark}
-use Rattle.tape_writer.specs.Tapes.{Tapes, Ended, UnderWay}
+use Rattle.tape_writer.specs.Tapes.{Tapes, Ended, UnderWay, Failures}
 use Rattle.tape_writer.specs.declared.memory.Kept.{Kept}
 use Rattle.tape_writer.specs.declared.memory.Kept.TheVariants.{Block, Mark}
 
@@ -12,6 +12,10 @@ pub record InMemory : Type 0 where
   pub tapes : Tapes
   pub misused : ℕ
   pub refused : ℕ
+
+-- the calls that it failed: without a volume under way, and for want of memory
+abbrev pub failures_in : InMemory → Failures
+failures_in m = record { device = m.misused; memory = m.refused }
 
 -- an item in memory
 abbrev pub item_of : Kept → TapeItem

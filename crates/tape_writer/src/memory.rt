@@ -152,13 +152,29 @@ impl MemoryTapes {
 }
 
 impl TapeOut for MemoryTapes {
+    ghost use Rattle.std.specs.Prelude.{Err, IfErr, ◌∷◌};
+    ghost use Rattle.tape_image.specs.Tape.{IsTapeItem, block, mark};
+    ghost use Rattle.tape_writer.specs.Kept.{failures_in};
+    ghost use Rattle.tape_writer.specs.Tapes.{Takes, Changes, Closes, Keeps, Grows};
+    ghost use Rattle.tape_writer.specs.Tapes.{HasCause};
+
     ghost holds = { λ m tapes. m.tapes ≡ tapes };
 
-    ghost failures = { λ m. record { device = m.misused; memory = m.refused } };
+    ghost failures = { λ m. failures_in m };
 
     ghost asked = { λ _ _. Unit {0} };
 
-    fn block(&mut self, bytes: &[u8]) -> Result<(), OutFault> {
+    fn block(&mut self, bytes: &[u8]) -> Result<(), OutFault>
+        requires sized { IsTapeItem (block bytes.now) }
+        ensures ok { Takes (block bytes.now ∷ []) (λ t. self.old.tapes ≡ t) result
+            (λ t. self.new.tapes ≡ t) }
+        ensures err { Keeps (λ t. self.old.tapes ≡ t) result (λ t. self.new.tapes ≡ t) }
+        ensures count { Grows (failures_in self.old) (failures_in self.new) }
+        ensures cause { HasCause OutFault.Device OutFault.OutOfMemory
+            (failures_in self.old) result (failures_in self.new) }
+        ensures misuse { result ≡ Err OutFault.Device
+            → self.old.tapes ≡ Ended (all_volumes self.old.tapes) }
+    {
         let Some(items) = &mut self.current else {
             return Err(self.misuse());
         };
@@ -171,7 +187,16 @@ impl TapeOut for MemoryTapes {
         }
     }
 
-    fn mark(&mut self) -> Result<(), OutFault> {
+    fn mark(&mut self) -> Result<(), OutFault>
+        ensures ok { Takes (mark ∷ []) (λ t. self.old.tapes ≡ t) result
+            (λ t. self.new.tapes ≡ t) }
+        ensures err { Keeps (λ t. self.old.tapes ≡ t) result (λ t. self.new.tapes ≡ t) }
+        ensures count { Grows (failures_in self.old) (failures_in self.new) }
+        ensures cause { HasCause OutFault.Device OutFault.OutOfMemory
+            (failures_in self.old) result (failures_in self.new) }
+        ensures misuse { result ≡ Err OutFault.Device
+            → self.old.tapes ≡ Ended (all_volumes self.old.tapes) }
+    {
         let Some(items) = &mut self.current else {
             return Err(self.misuse());
         };
@@ -181,13 +206,27 @@ impl TapeOut for MemoryTapes {
         }
     }
 
-    fn change_volume(&mut self, _volume: &Vol1) -> Result<(), OutFault> {
+    fn change_volume(&mut self, _volume: &Vol1) -> Result<(), OutFault>
+        ensures ok { Changes [] (λ t. self.old.tapes ≡ t) result (λ t. self.new.tapes ≡ t) }
+        ensures err { Keeps (λ t. self.old.tapes ≡ t) result (λ t. self.new.tapes ≡ t) }
+        ensures count { Grows (failures_in self.old) (failures_in self.new) }
+        ensures cause { HasCause OutFault.Device OutFault.OutOfMemory
+            (failures_in self.old) result (failures_in self.new) }
+        ensures memory { IfErr result (λ fault. fault ≡ OutFault.OutOfMemory) }
+    {
         self.close()?;
         self.current = Some(Vec::new(self.alloc));
         Ok(())
     }
 
-    fn close(&mut self) -> Result<(), OutFault> {
+    fn close(&mut self) -> Result<(), OutFault>
+        ensures ok { Closes (λ t. self.old.tapes ≡ t) result (λ t. self.new.tapes ≡ t) }
+        ensures err { Keeps (λ t. self.old.tapes ≡ t) result (λ t. self.new.tapes ≡ t) }
+        ensures count { Grows (failures_in self.old) (failures_in self.new) }
+        ensures cause { HasCause OutFault.Device OutFault.OutOfMemory
+            (failures_in self.old) result (failures_in self.new) }
+        ensures memory { IfErr result (λ fault. fault ≡ OutFault.OutOfMemory) }
+    {
         let Some(items) = self.current.take() else {
             return Ok(());
         };

@@ -9,11 +9,11 @@ ghost use Rattle.tape_run.specs.Seen.{IsKept, IfSeen, IsSeen};
 ghost use Rattle.tape_run.specs.Reeling.{Takes, TakesAll, StopsReading, IsReported, is_doubtful};
 ghost use Rattle.tape_run.specs.Reeling.{IsNoted, WentToLast, IsKeptFor, Mounting, Took};
 
-use crate::extract::line::reel_line;
+use crate::extract::line::ReelLine;
 use crate::fault::{EngineFault, NO_MEMORY, RunFault};
 use crate::intake::ReelAnswer;
 use crate::session::Session;
-use crate::text::write_text;
+use crate::text::write_line;
 use std::alloc::AllocError;
 use std::io::{Read, Write};
 use tape_core::{Answer, PartSink, Reason};
@@ -137,7 +137,10 @@ fn take_image<S: PartSink, R: Read + Drop, P: Write>(
 {
     match image {
         Some(mut device) => take_reel(session, &mut device, number, back, spares, report),
-        None => Ok(write_text(report, reel_line(number, None).as_bytes())?),
+        None => {
+            let outcome = None;
+            Ok(write_line(report, &ReelLine { number, outcome })?)
+        }
     }
 }
 
@@ -161,7 +164,8 @@ fn take_reel<S: PartSink, R: Read, P: Write>(
     ensures calm { OnOk result (IsCalm S.PartSink session.old session.new) }
 {
     let answer = session.reel(device)?;
-    write_text(report, reel_line(number, Some(answer)).as_bytes())?;
+    let outcome = Some(answer);
+    write_line(report, &ReelLine { number, outcome })?;
     settle(session, &answer, back, spares)?;
     Ok(())
 }

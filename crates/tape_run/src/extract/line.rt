@@ -1,35 +1,113 @@
-//! The lines that `extract` reports, built without taking memory.
+//! The lines that `extract` reports.
 
-ghost use Rattle.std.specs.Prelude.{◌≡◌, ◌≤◌, ◌+◌, ◌++◌, length};
+ghost use Rattle.std.specs.Prelude.{◌≡◌, ◌≤◌, ◌++◌, Some};
 ghost use Rattle.arrayvec.specs.ArrayString.{array_string_len};
-ghost use Rattle.tape_run.specs.ReelLine.{two_numbers, reason_text, answer_text, end_text};
-ghost use Rattle.tape_run.specs.ReelLine.{outcome_text, reel_line, part_text, awaits_line};
-ghost use Rattle.tape_run.specs.ReelLine.{complete_line, last_line};
+ghost use Rattle.tape_run.specs.ReelLine.{answer_text, end_text, reason_text, reel_line};
+ghost use Rattle.tape_run.specs.ReelLine.{part_text, awaits_line, complete_line, last_line};
 
 use crate::intake::ReelAnswer;
 use crate::text::push_decimal;
 use arrayvec::ArrayString;
-use tape_blocks::BlockFault;
+use std::fmt;
 use tape_core::{Answer, Reason};
 use tape_image::ImageFault;
-use tape_label::LabelFault;
 use tape_set::Want;
 
-/// Room for the longest line, which is that of a count that differs at a fault of the image.
-pub type ReportLine = ArrayString<256>;
-
 /// The line of the image with this number: what its reading answered, or that it was not opened.
-pub fn reel_line(number: u64, outcome: Option<ReelAnswer>) -> ReportLine
-    ensures { result.bytes ≡ reel_line number outcome }
-{
-    let mut line = ReportLine::new();
-    line.push_str("REEL ");
-    push_decimal(&mut line, number);
-    line.push_str(" ");
-    put_outcome(&mut line, outcome);
-    line.push_str("\n");
-    line
+#[derive(Clone, Copy)]
+pub struct ReelLine {
+    pub number: u64,
+    pub outcome: Option<ReelAnswer>,
 }
+
+impl fmt::Display for ReelLine {
+    ghost output = { λ line. Some (reel_line line.number line.outcome) };
+
+    fn fmt<W: fmt::Write>(&self, f: &mut fmt::Formatter<W>) -> fmt::Result {
+        let number = self.number;
+        match self.outcome {
+            Some(told) => {
+                let answer = AnswerText(told.answer);
+                let end = EndText(told.fault);
+                write!(f, "REEL {number} {answer}{end}\n")
+            }
+            None => write!(f, "REEL {number} NOT OPENED\n"),
+        }
+    }
+}
+
+/// What ended a reading.
+#[derive(Clone, Copy)]
+struct AnswerText(Answer);
+
+impl fmt::Display for AnswerText {
+    ghost output = { λ text. Some (answer_text text.0) };
+
+    fn fmt<W: fmt::Write>(&self, f: &mut fmt::Formatter<W>) -> fmt::Result {
+        match self.0 {
+            Answer::Passed => write!(f, "PASSED"),
+            Answer::Deliver => write!(f, "DELIVER"),
+            Answer::SectionDone => write!(f, "SECTION DONE"),
+            Answer::Complete => write!(f, "COMPLETE"),
+            Answer::Useless(reason) => {
+                let reason = ReasonText(reason);
+                write!(f, "{reason}")
+            }
+        }
+    }
+}
+
+/// Why a reading gave nothing more.
+#[derive(Clone, Copy)]
+struct ReasonText(Reason);
+
+impl fmt::Display for ReasonText {
+    ghost output = { λ text. Some (reason_text text.0) };
+
+    fn fmt<W: fmt::Write>(&self, f: &mut fmt::Formatter<W>) -> fmt::Result {
+        match self.0 {
+            Reason::NotLabelled => write!(f, "NOT LABELLED"),
+            Reason::OtherSet => write!(f, "OTHER SET"),
+            Reason::NotOnReel => write!(f, "NOT ON REEL"),
+            Reason::LaterSection => write!(f, "LATER SECTION"),
+            Reason::EarlierSection => write!(f, "EARLIER SECTION"),
+            Reason::BadItem => write!(f, "BAD ITEM"),
+            Reason::ReelEnded => write!(f, "REEL ENDED"),
+            Reason::BadBlock(fault) => {
+                let number = fault.number();
+                let place = fault.place;
+                write!(f, "BAD BLOCK {number} {place}")
+            }
+            Reason::BlockCount { label, seen } => write!(f, "BLOCK COUNT {label} {seen}"),
+            Reason::SpanLeft => write!(f, "SPAN LEFT"),
+            Reason::SectionDiffers => write!(f, "SECTION DIFFERS"),
+            Reason::BadLabel(fault) => write!(f, "BAD LABEL {}", fault.number()),
+            Reason::Broken => write!(f, "BROKEN"),
+        }
+    }
+}
+
+/// The fault of the image that ended a reading, if one did.
+#[derive(Clone, Copy)]
+struct EndText(Option<ImageFault>);
+
+impl fmt::Display for EndText {
+    ghost output = { λ text. Some (end_text text.0) };
+
+    fn fmt<W: fmt::Write>(&self, f: &mut fmt::Formatter<W>) -> fmt::Result {
+        match self.0 {
+            Some(fault) => {
+                let number = fault.cause.number();
+                let place = fault.place;
+                write!(f, " IMAGE {number} {place}")
+            }
+            None => Ok(()),
+        }
+    }
+}
+
+/// Room for the longest last line.
+pub type ReportLine = ArrayString<256>;
 
 /// The last line: what is wanted, or that the file is complete, with so many records.
 pub fn last_line(want: Option<Want>, records: u64) -> ReportLine
@@ -78,112 +156,4 @@ fn put_part(line: &mut ReportLine, part: u32)
         line.push_str(" ");
         push_decimal(line, u64::from(part));
     }
-}
-
-/// What became of an image.
-fn put_outcome(line: &mut ReportLine, outcome: Option<ReelAnswer>)
-    requires room { array_string_len line.old ≤ 46 }
-    ensures text { line.new.bytes ≡ line.old.bytes ++ outcome_text outcome }
-    ensures len { array_string_len line.new ≤ 240 }
-{
-    match outcome {
-        Some(answer) => {
-            put_answer(line, answer.answer);
-            put_end(line, answer.fault);
-        }
-        None => line.push_str("NOT OPENED"),
-    }
-}
-
-/// What ended a reading.
-fn put_answer(line: &mut ReportLine, answer: Answer)
-    requires room { array_string_len line.old ≤ 46 }
-    ensures text { line.new.bytes ≡ line.old.bytes ++ answer_text answer }
-    ensures len { array_string_len line.new ≤ 146 }
-{
-    match answer {
-        Answer::Passed => line.push_str("PASSED"),
-        Answer::Deliver => line.push_str("DELIVER"),
-        Answer::SectionDone => line.push_str("SECTION DONE"),
-        Answer::Complete => line.push_str("COMPLETE"),
-        Answer::Useless(reason) => put_reason(line, reason),
-    }
-}
-
-/// Why a reading gave nothing more.
-fn put_reason(line: &mut ReportLine, reason: Reason)
-    requires room { array_string_len line.old ≤ 46 }
-    ensures text { line.new.bytes ≡ line.old.bytes ++ reason_text reason }
-    ensures len { array_string_len line.new ≤ 146 }
-{
-    match reason {
-        Reason::NotLabelled => line.push_str("NOT LABELLED"),
-        Reason::OtherSet => line.push_str("OTHER SET"),
-        Reason::NotOnReel => line.push_str("NOT ON REEL"),
-        Reason::LaterSection => line.push_str("LATER SECTION"),
-        Reason::EarlierSection => line.push_str("EARLIER SECTION"),
-        Reason::BadItem => line.push_str("BAD ITEM"),
-        Reason::ReelEnded => line.push_str("REEL ENDED"),
-        Reason::BadBlock(fault) => put_bad_block(line, fault),
-        Reason::BlockCount { label, seen } => {
-            put_numbers(line, "BLOCK COUNT ", u64::from(label), u64::from(seen));
-        }
-        Reason::SpanLeft => line.push_str("SPAN LEFT"),
-        Reason::SectionDiffers => line.push_str("SECTION DIFFERS"),
-        Reason::BadLabel(fault) => put_bad_label(line, fault),
-        Reason::Broken => line.push_str("BROKEN"),
-    }
-}
-
-/// The fault of a block, with its place.
-fn put_bad_block(line: &mut ReportLine, fault: BlockFault)
-    requires room { array_string_len line.old ≤ 46 }
-    ensures text { line.new.bytes ≡ line.old.bytes ++ reason_text (Reason.BadBlock fault) }
-    ensures len { array_string_len line.new ≤ 146 }
-{
-    put_numbers(
-        line,
-        "BAD BLOCK ",
-        u64::from(fault.number()),
-        fault.place as u64,
-    );
-}
-
-/// The fault of a label.
-fn put_bad_label(line: &mut ReportLine, fault: LabelFault)
-    requires room { array_string_len line.old ≤ 46 }
-    ensures text { line.new.bytes ≡ line.old.bytes ++ reason_text (Reason.BadLabel fault) }
-    ensures len { array_string_len line.new ≤ 146 }
-{
-    line.push_str("BAD LABEL ");
-    push_decimal(line, u64::from(fault.number()));
-}
-
-/// The fault of the image that ended the reading, if one did.
-fn put_end(line: &mut ReportLine, fault: Option<ImageFault>)
-    requires room { array_string_len line.old ≤ 146 }
-    ensures text { line.new.bytes ≡ line.old.bytes ++ end_text fault }
-    ensures len { array_string_len line.new ≤ 240 }
-{
-    if let Some(fault) = fault {
-        put_numbers(
-            line,
-            " IMAGE ",
-            u64::from(fault.cause.number()),
-            fault.place,
-        );
-    }
-}
-
-/// A word, and two numbers behind it.
-fn put_numbers(line: &mut ReportLine, word: &str, a: u64, b: u64)
-    requires room { array_string_len line.old ≤ 146 }
-    requires short { length word.now ≤ 12 }
-    ensures text { line.new.bytes ≡ line.old.bytes ++ two_numbers word.now a b }
-    ensures len { array_string_len line.new ≤ array_string_len line.old + 94 }
-{
-    line.push_str(word);
-    push_decimal(line, a);
-    line.push_str(" ");
-    push_decimal(line, b);
 }

@@ -1,13 +1,16 @@
 //! A sink that writes the records of a file as its parts come, and keeps none of them.
 
-ghost use Rattle.std.specs.Prelude.{◌≡◌, ◌≤◌, ◌<◌, ◌+◌, [], List, Some, length, OnOk, OnErr, IfOk};
-ghost use Rattle.std.specs.Prelude.{IfErr};
+ghost use Rattle.std.specs.Prelude.{◌≡◌, ◌≢◌, ◌≤◌, ◌<◌, ◌+◌, ◌++◌, ◌∷◌, [], List, Some, length};
+ghost use Rattle.std.specs.Prelude.{OnOk, OnErr, IfOk, IfErr, Ok, Err, true, false};
 ghost use Rattle.std.specs.Io.KnownBytes.{Appends};
 ghost use Rattle.tape_blocks.specs.Block.{Portion};
+ghost use Rattle.tape_blocks.specs.Packing.{longest_block};
 ghost use Rattle.tape_blocks.specs.Parts.{view};
 ghost use Rattle.tape_blocks.specs.Spans.{leaves, join};
 ghost use Rattle.tape_core.specs.Crash.{lost};
 ghost use Rattle.tape_core.specs.Known.{most_staged};
+ghost use Rattle.tape_core.specs.Stands.{weight_of};
+ghost use Rattle.tape_core.specs.Weight.{Rose};
 ghost use Rattle.tape_run.specs.Causes.{EndingFails};
 ghost use Rattle.tape_run.specs.RecordText.{part_text, output_of};
 ghost use Rattle.tape_run.specs.OutSinks.{TellsAlways, with_end, HasTaken};
@@ -63,6 +66,7 @@ impl<W: Write> OutSink<W> {
             result.failed [] }
         ensures form { result.form ≡ form }
         ensures out { result.out ≡ out }
+        ensures calm { result.refused ≡ 0 }
     {
         OutSink {
             out,
@@ -116,7 +120,31 @@ impl<W: Write> PartSink for OutSink<W> {
     ghost survived_now = { λ s t none. none };
 
     #[inline(always)]
-    fn put(&mut self, part: Part<'_>) -> Result<(), SinkFault> {
+    fn put(&mut self, part: Part<'_>) -> Result<(), SinkFault>
+        requires { length part.bytes.now ≤ longest_block }
+        ensures ok { OnOk result ((parts : List Portion)
+            → HasTaken W.contents self.old.form self.old.out self.old.weight self.old.records
+            self.old.begun self.old.failed parts
+            → HasTaken W.contents self.new.form self.new.out self.new.weight self.new.records
+            self.new.begun self.new.failed (parts ++ view part.entry ∷ [])) }
+        ensures err { OnErr result ((parts : List Portion)
+            → HasTaken W.contents self.old.form self.old.out self.old.weight self.old.records
+            self.old.begun self.old.failed parts
+            → HasTaken W.contents self.new.form self.new.out self.new.weight self.new.records
+            self.new.begun self.new.failed parts) }
+        ensures weight { OnOk result
+            (self.new.weight ≡ self.old.weight + (5 + length part.entry.bytes.now)) }
+        ensures same_weight { OnErr result (self.new.weight ≡ self.old.weight) }
+        ensures full { result ≡ Err SinkFault.Full
+            → most_staged < self.old.weight + (5 + length part.entry.bytes.now) }
+        ensures cause { OnErr result (Rose self.old.refused self.new.refused) }
+        ensures calm { OnOk result (self.new.refused ≡ self.old.refused) }
+        // Only a write that fails, in this call or before, is a reason beside the weight.
+        ensures device { result ≡ Err SinkFault.Device
+            → (self.old.failed ≡ false) × (self.new.failed ≡ true) }
+        ensures failed { result ≡ Err SinkFault.Failed → self.old.failed ≡ true }
+        ensures memory { result ≡ Err SinkFault.OutOfMemory → ⊥ }
+    {
         if self.failed {
             self.refused = self.refused.saturating_add(1);
             return Err(SinkFault::Failed);
@@ -142,7 +170,25 @@ impl<W: Write> PartSink for OutSink<W> {
     }
 
     /// What was written stays: a cut to all parts changes nothing, and any other is refused.
-    fn cut_to(&mut self, point: &Checkpoint) -> Result<(), SinkFault> {
+    fn cut_to(&mut self, point: &Checkpoint) -> Result<(), SinkFault>
+        requires { point.now.staged ≤ self.old.weight }
+        ensures ok { OnOk result ((front rest : List Portion)
+            → HasTaken W.contents self.old.form self.old.out self.old.weight self.old.records
+            self.old.begun self.old.failed (front ++ rest) → weight_of front ≡ point.now.staged
+            → HasTaken W.contents self.new.form self.new.out self.new.weight self.new.records
+            self.new.begun self.new.failed front) }
+        ensures weight { OnOk result (self.new.weight ≤ point.now.staged) }
+        ensures calm { OnOk result (self.new.refused ≡ self.old.refused) }
+        ensures refused { IfErr result (λ fault. (fault ≡ SinkFault.Failed)
+            × (point.now.staged ≢ self.old.weight)) }
+        ensures err { OnErr result ((parts : List Portion)
+            → HasTaken W.contents self.old.form self.old.out self.old.weight self.old.records
+            self.old.begun self.old.failed parts
+            → HasTaken W.contents self.new.form self.new.out self.new.weight self.new.records
+            self.new.begun self.new.failed parts) }
+        ensures same_weight { self.new.weight ≡ self.old.weight }
+        ensures cause { OnErr result (Rose self.old.refused self.new.refused) }
+    {
         if point.staged == self.weight {
             return Ok(());
         }
@@ -150,7 +196,10 @@ impl<W: Write> PartSink for OutSink<W> {
         Err(SinkFault::Failed)
     }
 
-    fn keep(&mut self, _point: &Checkpoint) -> Result<(), SinkFault> {
+    fn keep(&mut self, _point: &Checkpoint) -> Result<(), SinkFault>
+        ensures taken { result ≡ Ok tt }
+        ensures same { self.new ≡ self.old }
+    {
         Ok(())
     }
 

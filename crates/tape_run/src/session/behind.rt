@@ -2,10 +2,12 @@
 
 ghost use Rattle.std.specs.Prelude.{◌≡◌, IfOk, IfErr, IfSome};
 ghost use Rattle.tape_image.specs.Reader.{IfKnown};
+ghost use Rattle.tape_core.specs.Behind.{behind_of};
 ghost use Rattle.tape_core.specs.Weight.{IsFront};
 ghost use Rattle.tape_run.specs.Crash.{BringsNoMore};
 ghost use Rattle.tape_run.specs.Given.{is_device, counted};
-ghost use Rattle.tape_run.specs.GoesBehind.{ReeledBehind, ReadsBehind};
+ghost use Rattle.tape_run.specs.GoesBehind.{ReeledBehind, ReadsBehind, ReelFailsBehind};
+ghost use Rattle.tape_run.specs.Reels.{Leaves};
 ghost use Rattle.tape_run.specs.Seen.{IsKept, IfSeen, IsSeen};
 ghost use Rattle.tape_run.specs.Steps.{Refuses};
 
@@ -32,6 +34,10 @@ impl<S: PartSink> Session<S> {
             × (IsKept old → IsKept new) × IfSome (R.remaining device.old)
             (λ bytes. ReeledBehind bytes (R.remaining device.new) (is_device answer.fault)
             old new)))) }
+        ensures err { IfErr result (λ fault. IfSeen S.PartSink self.old (λ old.
+            IsSeen S.PartSink self.new (λ new. IsFront old.parts new.parts
+            × (IsKept old → IsKept new) × IfSome (R.remaining device.old)
+            (λ bytes. ReelFailsBehind bytes fault old new)))) }
         ensures notes { self.new.notes ≡ self.old.notes }
         ensures file { (self.new.core.set_id ≡ self.old.core.set_id)
             × (self.new.core.file ≡ self.old.core.file) }
@@ -39,8 +45,9 @@ impl<S: PartSink> Session<S> {
             self.new.failures ≡ counted (is_device answer.fault) self.old.failures) }
         ensures calm { IfOk result (λ _.
             S.refusals self.new.sink ≡ S.refusals self.old.sink) }
-        ensures refuses { IfErr result (λ fault.
-            Refuses S.PartSink fault self.old self.new) }
+        ensures refuses { IfErr result (λ fault. Refuses S.PartSink fault self.old self.new) }
+        ensures unread { IfErr result (λ fault. Leaves fault (behind_of self.old.core)
+            (R.remaining device.old) (R.remaining device.new)) }
         ensures answer { IfOk result (λ answer. IfKnown (R.remaining device.old)
             (R.remaining device.new)
             (λ bytes left. ReadsBehind self.old.core.position self.old.core bytes left answer)) }

@@ -1,6 +1,6 @@
 //! How calls change what a disk in memory holds.
 ghost use Rattle.std.specs.Prelude.{◌≡◌, ◌≤◌, ◌+◌, ◌-◌, [], ◌∷◌, ◌++◌, length, take, drop};
-ghost use Rattle.std.specs.Prelude.{replicate, true, OnOk, OnErr, IfOk};
+ghost use Rattle.std.specs.Prelude.{replicate, true, false, OnOk, OnErr, IfOk};
 ghost use Rattle.tape_stage.specs.Same.{SameContent, DidCall};
 
 use crate::disk::content::{Call, Content};
@@ -32,6 +32,7 @@ impl Content {
     pub fn new(alloc: Global, bytes: Vec<u8>) -> Self
         ensures bytes { result.bytes ≡ bytes }
         ensures calls { result.calls.items ≡ [] }
+        ensures unchanged { result.changed ≡ false }
     {
         Content {
             alloc,

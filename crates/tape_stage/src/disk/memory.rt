@@ -1,7 +1,8 @@
 //! A disk in memory, which keeps a record of its calls.
-ghost use Rattle.std.specs.Prelude.{◌≡◌, ◌≤◌, [], length, Some};
+ghost use Rattle.std.specs.Prelude.{◌≡◌, ◌≤◌, ◌+◌, ℕ, [], length, Some, None, true, false};
 ghost use Rattle.std.specs.Bool.{OnTrue, OnFalse};
 ghost use Rattle.tape_core.specs.Weight.{Rose};
+ghost use Rattle.tape_stage.specs.Disk.{Only};
 
 use crate::disk::DiskFault;
 use crate::disk::content::Content;
@@ -17,16 +18,21 @@ pub struct MemoryDisk {
 impl MemoryDisk {
     ghost use Rattle.tape_stage.specs.Memory.{memory_bytes, memory_leaves, memory_worst};
 
-    /// A disk that holds nothing. It takes no memory.
+    /// Creates a disk that holds nothing. Does not allocate.
     pub fn new(alloc: Global) -> Self
-        ensures { memory_bytes result ≡ [] }
+        ensures bytes { memory_bytes result ≡ [] }
+        ensures calm { result.failed ≡ 0 }
+        ensures runs { result.left ≡ None }
     {
         MemoryDisk::from_bytes(alloc, Vec::new(alloc))
     }
 
-    /// A disk with these bytes, all of them durable. It takes no memory.
+    /// Creates a disk with these bytes, all of them durable. Does not allocate.
     pub fn from_bytes(alloc: Global, bytes: Vec<u8>) -> Self
-        ensures { memory_bytes result ≡ bytes.items }
+        ensures bytes { memory_bytes result ≡ bytes.items }
+        ensures calm { result.failed ≡ 0 }
+        ensures runs { result.left ≡ None }
+        ensures durable { Only (memory_bytes result) (memory_leaves result) }
     {
         MemoryDisk {
             content: Content::new(alloc, bytes),
@@ -52,8 +58,12 @@ impl MemoryDisk {
         self.left = Some(count);
     }
 
-    /// The worst that a crash may leave: 255 wherever a byte is open, and nothing absent.
+    /// Returns the worst disk that a crash may leave: 255 wherever a byte is open, and nothing
+    /// absent. All its bytes are durable, and its calls succeed.
     pub fn crash(self) -> MemoryDisk
+        ensures calm { result.failed ≡ 0 }
+        ensures runs { result.left ≡ None }
+        ensures durable { Only (memory_bytes result) (memory_leaves result) }
         ensures possible { memory_leaves self (memory_bytes result) }
         ensures worst { memory_bytes result ≡ memory_worst self }
         ensures longest { length (memory_bytes self) ≤ length (memory_bytes result) }
@@ -66,8 +76,12 @@ impl MemoryDisk {
         }
     }
 
-    /// Whether the disk stands still by now; such a call fails.
+    /// Counts a call, and returns whether the disk stopped before it; such a call fails.
     pub(crate) fn is_stopped(&mut self) -> bool
+        ensures stops { self.old.left ≡ Some 0 → result ≡ true }
+        ensures runs { self.old.left ≡ None → (result ≡ false) × (self.new.left ≡ None) }
+        ensures counts { (n : ℕ) → self.old.left ≡ Some (n + 1)
+            → (result ≡ false) × (self.new.left ≡ Some n) }
         ensures content { self.new.content ≡ self.old.content }
         ensures yes { OnTrue result (Rose self.old.failed self.new.failed) }
         ensures no { OnFalse result (self.new.failed ≡ self.old.failed) }

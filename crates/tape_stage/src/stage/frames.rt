@@ -2,6 +2,7 @@
 
 ghost use Rattle.std.specs.Prelude.{◌≡◌, ◌+◌, ◌-◌, ◌≤◌, ◌<◌, ◌^◌, ◌∷◌, List, length, min, OnOk};
 ghost use Rattle.std.specs.Prelude.{OnErr, IfOk, MatchOption, ℕ, take, IsErrOf, true, false, IfErr};
+ghost use Rattle.std.specs.Prelude.{◌⊎◌};
 ghost use Rattle.std.specs.Int.{to_be_bytes};
 ghost use Rattle.std.proofs.Common.{w32};
 ghost use Rattle.tape_blocks.specs.Block.{Portion, indicator};
@@ -134,6 +135,7 @@ pub(crate) fn read_frame<D: Disk>(
     ensures none { D.is_honest disk.old → IsErrOf result SinkFault.Failed
         → NoFrameAt place end (D.seen disk.old) }
     ensures kinds { IsErrOf result SinkFault.Device → Rose (D.faults disk.old) (D.faults disk.new) }
+    ensures only { IfErr result (λ f. (f ≡ SinkFault.Device) ⊎ (f ≡ SinkFault.Failed)) }
     ensures calm { OnOk result (D.faults disk.new ≡ D.faults disk.old) }
     ensures reads { OnlyReads D.Disk disk.old disk.new }
     ensures honest { D.is_honest disk.old → D.is_honest disk.new }

@@ -190,6 +190,7 @@ impl<D: Disk> Stage<D> {
             → (back ≡ opened.1) × (there ≡ parts))) }
         ensures survives { D.is_honest disk → IfOk result (λ opened. Survives opened.0) }
         ensures weight { IfOk result (λ opened. opened.0.weight ≡ opened.1.staged) }
+        ensures calm { IfOk result (λ opened. opened.0.refused ≡ 0) }
         ensures any_moment { D.is_honest disk
             → IfOk result (λ opened. OpensOver D.Disk disk opened.0.disk) }
         ensures cause { IfErr result (λ refused. refused.fault ≡ StageFault.Device
@@ -255,6 +256,7 @@ impl<D: Disk> Stage<D> {
         ensures ok { D.is_honest disk → IfOk result
             (λ stage. (stage.acknowledged ≡ point.now) × IsStage stage [] []) }
         ensures holds { D.is_honest disk → IfOk result (λ stage. Holds stage []) }
+        ensures calm { IfOk result (λ stage. stage.refused ≡ 0) }
         ensures survives { D.is_honest disk → IfOk result (λ stage. Survives stage) }
         ensures returns { D.is_honest disk
             → IfOk result (λ stage. (back : Point) (there : List Portion) → Returns stage back there

@@ -14,7 +14,7 @@ ghost use Rattle.std.specs.Prelude.{IfErr, ◌≢◌};
 ghost use Rattle.tape_core.specs.Known.{most_staged};
 ghost use Rattle.tape_stage.specs.Moments.{Passes};
 ghost use Rattle.tape_stage.specs.Staged.{StagedIn, IsPut, FrontOf, KeepsFront};
-ghost use Rattle.tape_stage.specs.Stages.{IsStage, EndsCall, Holds, IsAhead, crashes_of};
+ghost use Rattle.tape_stage.specs.Stages.{IsStage, EndsCall, Holds, IsAhead, LendsNone, crashes_of};
 ghost use Rattle.tape_stage.specs.Disk.{SameFact};
 ghost use Rattle.tape_stage.specs.Parts.{longest_part};
 ghost use Rattle.tape_stage.specs.Faults.{sink_fault_of};
@@ -68,7 +68,12 @@ fn write_frame<D: Disk>(disk: &mut D, place: u64, part: Part<'_>) -> Result<(), 
 
 impl<D: Disk> Stage<D> {
     /// Adds a part. It is not acknowledged yet.
-    pub(crate) fn put_part(&mut self, part: Part<'_>) -> Result<(), StageFault>
+    ///
+    /// # Errors
+    ///
+    /// `Failed` if the disk failed before, and `Full` if the parts would weigh more than
+    /// 999,999,999,999,999: nothing is changed. `Device`: the stage has to be opened again.
+    pub fn put_part(&mut self, part: Part<'_>) -> Result<(), StageFault>
         requires { length part.bytes.now ≤ longest_part }
         ensures ok { D.is_honest self.old.disk → OnOk result ((acked parts : List Portion)
             → IsStage self.old acked parts
@@ -152,9 +157,13 @@ impl<D: Disk> PartSink for Stage<D> {
             → Rose (D.faults self.old.disk) (D.faults self.new.disk) }
         ensures failed { result ≡ Err SinkFault.Failed → self.old.failed ≡ true }
         ensures memory { result ≡ Err SinkFault.OutOfMemory → ⊥ }
+        ensures rewinds { OnOk result (self.new.walked ≡ 0) }
     {
         match self.put_part(part) {
-            Ok(()) => Ok(()),
+            Ok(()) => {
+                self.walked = 0;
+                Ok(())
+            }
             Err(fault) => {
                 self.refused = self.refused.saturating_add(1);
                 Err(sink_fault(fault))
@@ -204,9 +213,13 @@ impl<D: Disk> PartSink for Stage<D> {
             → Rose (D.faults self.old.disk) (D.faults self.new.disk) }
         ensures failed { result ≡ Err SinkFault.Failed → self.old.failed ≡ true }
         ensures memory { result ≡ Err SinkFault.OutOfMemory → ⊥ }
+        ensures rewinds { OnOk result (self.new.walked ≡ 0) }
     {
         match self.cut_back(point) {
-            Ok(()) => Ok(()),
+            Ok(()) => {
+                self.walked = 0;
+                Ok(())
+            }
             Err(fault) => {
                 self.refused = self.refused.saturating_add(1);
                 Err(sink_fault(fault))
@@ -223,6 +236,9 @@ impl<D: Disk> PartWalk for Stage<D> {
     ghost ahead = { λ s parts. IsAhead s parts };
 
     ghost left = { λ s. s.weight - s.walked };
+
+    ghost refuses = { λ s fault t.
+        LendsNone D.Disk s.failed s.walked s.weight s.disk fault t.disk };
 
     fn rewind(&mut self) {
         self.walked = 0;

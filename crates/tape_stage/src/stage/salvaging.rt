@@ -1,7 +1,7 @@
 //! A stage that is opened for reading alone, its frames whole or not.
 
 ghost use Rattle.std.specs.Prelude.{◌≡◌, ◌≤◌, ◌+◌, ◌-◌, ℕ, List, IfOk, IfErr};
-ghost use Rattle.std.specs.Prelude.{IfSome, Err};
+ghost use Rattle.std.specs.Prelude.{IfSome, Err, false};
 ghost use Rattle.tape_blocks.specs.Block.{Portion};
 ghost use Rattle.tape_core.specs.Crash.{lost};
 ghost use Rattle.tape_core.specs.Weight.{Rose};
@@ -13,7 +13,7 @@ ghost use Rattle.tape_stage.specs.Moments.{Untouched};
 ghost use Rattle.tape_stage.specs.OnlyReading.{OnlyReads};
 ghost use Rattle.tape_stage.specs.Salvaged.{Remains, RemainsNone, HoldsRest, RestAhead, FramedTo};
 ghost use Rattle.tape_stage.specs.Salvaged.{WalkedIn, standing};
-ghost use Rattle.tape_stage.specs.Stages.{EndsFinding};
+ghost use Rattle.tape_stage.specs.Stages.{EndsFinding, LendsNone};
 
 use crate::disk::Disk;
 use crate::stage::frames::{break_of, read_frame};
@@ -68,6 +68,7 @@ impl<D: Disk> Salvage<D> {
         ensures remains { D.is_honest disk → IfOk result (λ opened. (g : ℕ)
             × (parts : List Portion) × Remains (D.seen disk) g opened.1 opened.0.broken parts
             × HoldsRest opened.0 parts) }
+        ensures calm { IfOk result (λ opened. opened.0.refused ≡ 0) }
         ensures none { D.is_honest disk → IfErr result
             (λ refused. SaysNone refused.fault → RemainsNone (D.seen disk)) }
         ensures no_frame { IfErr result (λ refused. OnBadFrame refused.fault (λ place. ⊥)) }
@@ -167,6 +168,9 @@ impl<D: Disk> PartWalk for Salvage<D> {
     ghost ahead = { λ s parts. RestAhead s parts };
 
     ghost left = { λ s. s.weight - s.walked };
+
+    ghost refuses = { λ s fault t.
+        LendsNone D.Disk false s.walked s.weight s.disk fault t.disk };
 
     fn rewind(&mut self) {
         self.walked = 0;

@@ -136,9 +136,12 @@ impl<D: Disk> Stage<D> {
     /// # Errors
     ///
     /// `Failed` where the disk failed before, and `Full` where no generation is left: nothing is
-    /// changed. `Device`: the stage has to be opened again.
+    /// changed. `Device`: the checkpoint is pending, or acknowledged already, and the stage has to
+    /// be opened again.
     pub fn restart(&mut self, point: &Checkpoint) -> Result<(), StageFault>
         requires { point.now.staged ≤ self.old.weight }
+        ensures pending { IsErrOf result StageFault.Device
+            → (self.new.pending ≡ Some point.now) ⊎ (self.new.acknowledged ≡ point.now) }
         ensures not_pending { OnOk result (self.new.pending ≡ None) }
         ensures full { IsErrOf result StageFault.Full → most_generation ≤ self.old.generation }
         ensures ok { D.is_honest self.old.disk → OnOk result ((acked parts front : List Portion)

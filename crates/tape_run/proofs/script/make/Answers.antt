@@ -159,3 +159,23 @@ pub returns-in_err-restart-in-Restart-clause-cause :
 returns-in_err-restart-in-Restart-clause-cause g c =
     told_err _ _ _ c.from_residual-in_err-restart-in-Restart.ensures.1
     (rw c.in-Restart.is c.in_err-restart-in-Restart.ensures.refuses)
+
+-- ---- readers
+
+pub returns-in_ok-answer-in-Reel-clause-takes : goal.returns-in_ok-answer-in-Reel-clause-takes
+returns-in_ok-answer-in-Reel-clause-takes g c = rw c.in-Reel.is refl
+
+pub returns-in_ok-answer-in-Reel-clause-behind : goal.returns-in_ok-answer-in-Reel-clause-behind
+returns-in_ok-answer-in-Reel-clause-behind g c = rw c.in-Reel.is (drop-set-lt (c.args.used + 1)
+    c.args.reels.now c.args.used c.reel.new.device (omega arith))
+
+pub returns-in_err-answer-in-Reel-clause-behind : goal.returns-in_err-answer-in-Reel-clause-behind
+returns-in_err-answer-in-Reel-clause-behind g c = rw c.in-Reel.is (drop-set-lt (c.args.used + 1)
+    c.args.reels.now c.args.used c.reel.new.device (omega arith))
+
+pub returns-in_ok-save-in-Save-clause-takes : goal.returns-in_ok-save-in-Save-clause-takes
+returns-in_ok-save-in-Save-clause-takes g c = rw c.in-Save.is (omega arith)
+
+pub returns-in_ok-restart-in-Restart-clause-takes :
+    goal.returns-in_ok-restart-in-Restart-clause-takes
+returns-in_ok-restart-in-Restart-clause-takes g c = rw c.in-Restart.is (omega arith)

@@ -1,28 +1,35 @@
-use Rattle.std.proofs.Common.{◌+◌, [], ◌++◌, length, map, drop, refl, sym, ap, subst, ◌∙◌}
+use Rattle.std.proofs.Common.{◌≡◌, ◌+◌, [], ◌++◌, length, map, drop, refl, sym, ap, subst, ◌∙◌}
 use Rattle.std.proofs.Common.{length-append}
 use Rattle.std.proofs.Common.{arith}
-use Rattle.std.proofs.lemmas.List.{drop_more}
+use Rattle.std.proofs.lemmas.List.{drop_more, take_all}
 use Rattle.tape_run.specs.Given.{written}
 use Rattle.tape_run.specs.Seen.{seen}
-use Rattle.tape_run.specs.Headline.{IsRead}
+use Rattle.tape_run.specs.Headline.{IsRead, reels_in}
 use Rattle.tape_run.proofs.Headline.{ran_so}
 use Rattle.tape_run.proofs.Begin.{kept_new, is_read}
 use Rattle.tape_run.proofs.Back.{came_back, whole_records}
 use Rattle.tape_run.proofs.Causes.{calm_same, calm_then}
 use Rattle.tape_run.proofs.Made.{stops_here, lost_here, wrote, next_is}
 use Rattle.tape_run.proofs.RunSoFar.{none_made, one_more, adds_more, came_to_end, all_unread}
-use Rattle.tape_run.proofs.RunSoFar.{now_unread, adds_so_far}
+use Rattle.tape_run.proofs.RunSoFar.{now_unread, adds_so_far, taken_then, stays_behind}
 use Rattle.tape_run.proofs.Ended.{stopped_so}
 use Rattle.tape_run.proofs.script.run.Goals as goal
 
 pub loop-step-init : goal.loop-step-init
-loop-step-init g c =
-    ([], refl, refl, λ held was kept. none_made was kept, calm_same g.S.PartSink c.args.session.now)
+loop-step-init g c = (
+  [],
+  refl,
+  refl,
+  λ held was kept. none_made was kept,
+  calm_same g.S.PartSink c.args.session.now,
+  refl,
+  refl,
+)
 
 pub loop-step-preserved : goal.loop-step-preserved
 loop-step-preserved g c =
-    let (which, count, row, come, calm) = c.loop-step.invariant in
-    let (more, unread, writes, taken, makes) = c.in-Ok.ensures.ok in
+    let (which, count, row, come, calm, taken, behind) = c.loop-step.invariant in
+    let (more, unread, writes, first, makes) = c.in-Ok.ensures.ok in
     let steps = c.args.steps.now in
     let here = drop_more steps c.loop-step.step _ c.loop-step-test.true in (
       which ++ more,
@@ -32,15 +39,34 @@ loop-step-preserved g c =
       λ held was kept.
           let mid = come held was kept in
           let (now, has, (still, made)) = makes mid.now mid.has mid.kept in
-          now_unread _ taken (one_more steps c.loop-step.step mid here now has still made
+          now_unread _ first (one_more steps c.loop-step.step mid here now has still made
           (c.make.ensures.crash mid.now mid.has mid.kept)),
       calm_then g.S.PartSink c.args.session.now c.loop-step.session c.make.new.session calm
           c.in-Ok.ensures.calm,
+      c.in-Ok.ensures.takes ∙ taken_then steps c.loop-step.step _ here c.loop-step.used taken,
+      subst (λ n. drop n c.make.new.reels ≡ drop n c.args.reels.now) (sym c.in-Ok.ensures.takes)
+          (stays_behind c.loop-step.used _ _ _ _ behind c.in-Ok.ensures.behind),
     )
+
+pub returns-clause-unread : goal.returns-clause-unread
+returns-clause-unread g c =
+    let (which, count, row, come, calm, taken, behind) = c.loop-step.invariant in
+    subst (λ n. drop n c.loop-step.reels ≡ drop n c.args.reels.now)
+    (taken ∙ ap reels_in (take_all c.loop-step.step c.args.steps.now
+    (omega (arith, c.loop-step-test.false)))) behind
+
+pub returns-in-Err-clause-untaken : goal.returns-in-Err-clause-untaken
+returns-in-Err-clause-untaken g c =
+    let (which, count, row, come, calm, taken, behind) = c.loop-step.invariant in
+    let steps = c.args.steps.now in
+    let here = drop_more steps c.loop-step.step _ c.loop-step-test.true in
+    subst (λ n. drop n c.make.new.reels ≡ drop n c.args.reels.now)
+    (taken_then steps c.loop-step.step _ here c.loop-step.used taken)
+    (stays_behind c.loop-step.used _ _ _ _ behind c.in-Err.ensures.behind)
 
 pub returns-clause-runs : goal.returns-clause-runs
 returns-clause-runs g c = λ held was kept.
-    let (which, count, row, come, calm) = c.loop-step.invariant in
+    let (which, count, row, come, calm, taken, behind) = c.loop-step.invariant in
     let end = come held was kept in
     let (runs, last) = came_to_end c.args.steps.now c.loop-step.step g.R.Read.remaining
     c.loop-step.used c.loop-step.reels end (omega (arith, c.loop-step-test.false)) in
@@ -48,7 +74,7 @@ returns-clause-runs g c = λ held was kept.
 
 pub returns-clause-headline : goal.returns-clause-headline
 returns-clause-headline g c = λ held was kept.
-    let (which, count, row, come, calm) = c.loop-step.invariant in
+    let (which, count, row, come, calm, taken, behind) = c.loop-step.invariant in
     let end = come held was kept in
     let (runs, last) = came_to_end c.args.steps.now c.loop-step.step g.R.Read.remaining
     c.loop-step.used c.loop-step.reels end (omega (arith, c.loop-step-test.false)) in (
@@ -94,7 +120,7 @@ returns-clause-crash g c = λ held was kept. adds_so_far g.R.Read.remaining c.lo
 pub returns-in-Err-clause-faults : goal.returns-in-Err-clause-faults
 returns-in-Err-clause-faults g c = λ held was kept.
     let here = drop_more c.args.steps.now c.loop-step.step _ c.loop-step-test.true in
-    let (which, count, row, come, calm) = c.loop-step.invariant in
+    let (which, count, row, come, calm, taken, behind) = c.loop-step.invariant in
     let mid = come held was kept in
     let rem = g.R.Read.remaining in
     let used = c.loop-step.used in
@@ -137,11 +163,11 @@ returns-in-Err-clause-crash g c = λ held was kept.
 
 pub returns-clause-calm : goal.returns-clause-calm
 returns-clause-calm g c =
-    let (which, count, row, come, calm) = c.loop-step.invariant in calm
+    let (which, count, row, come, calm, taken, behind) = c.loop-step.invariant in calm
 
 pub returns-in-Err-clause-cause : goal.returns-in-Err-clause-cause
 returns-in-Err-clause-cause g c =
-    let (which, count, row, come, calm) = c.loop-step.invariant in
+    let (which, count, row, come, calm, taken, behind) = c.loop-step.invariant in
     let steps = c.args.steps.now in
     record {
       step = _;

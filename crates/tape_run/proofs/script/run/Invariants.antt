@@ -2,6 +2,7 @@ use Rattle.std.proofs.Common.{◌≡◌, Bool, List, length, map, take, drop}
 use Rattle.tape_blocks.specs.Block.{Portion}
 use Rattle.tape_run.specs.Causes.{IsCalm}
 use Rattle.tape_run.specs.Given.{written}
+use Rattle.tape_run.specs.Headline.{reels_in}
 use Rattle.tape_run.specs.Seen.{seen, IsKept}
 use Rattle.tape_run.proofs.RunSoFar.{HasCome}
 use Rattle.tape_run.proofs.script.run.Given as goal
@@ -15,3 +16,4 @@ invariant-loop-step g l = (which : List Bool) × (length which ≡ l.used)
     l.steps (map g.R.Read.remaining l.fn.reels) l.step l.session
     (map g.R.Read.remaining (take l.used l.reels))
     (map g.R.Read.remaining (drop l.used l.reels))) × IsCalm g.S.PartSink l.fn.session l.session
+    × (l.used ≡ reels_in (take l.step l.steps)) × (drop l.used l.reels ≡ drop l.used l.fn.reels)

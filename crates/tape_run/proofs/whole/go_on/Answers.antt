@@ -1,4 +1,4 @@
-use Rattle.std.proofs.Common.{map, sym, subst, arith}
+use Rattle.std.proofs.Common.{map, [], sym, ap, ◌∙◌, subst, arith}
 use Rattle.tape_run.specs.Lives.{LivesOn}
 use Rattle.tape_run.specs.Seen.{seen}
 use Rattle.tape_run.proofs.Lives.{lives_on, on_ok}
@@ -60,3 +60,15 @@ returns-clause-stopped g c = if_err c.run-result.result _ _ (λ fault run held w
     (c.resume-session.ensures.kept held) in
     (first, c.resume-session.ensures.resumed held, (now, has, λ bytes e. (stops bytes e).0)))
     c.run-result.ensures.stopped
+
+pub returns-clause-cause : goal.returns-clause-cause
+returns-clause-cause g c = if_err c.run-result.result _ _ (λ end stops. (
+  c.resume-session.result,
+  c.resume-session.ensures.sink,
+  (c.resume-session.ensures.resumed []).notes,
+  stops,
+)) c.run-result.ensures.cause
+
+pub returns-clause-calm : goal.returns-clause-calm
+returns-clause-calm g c = on_ok c.run-result.result _ _ (λ calm. calm.calm
+    ∙ ap g.S.PartSink.refusals c.resume-session.ensures.sink) c.run-result.ensures.calm

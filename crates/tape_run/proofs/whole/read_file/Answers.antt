@@ -1,6 +1,8 @@
 use Rattle.std.proofs.Common.{◌≡◌, [], refl, sym, ap, ◌∙◌}
 use Rattle.tape_core.specs.Memory.{portions}
 use Rattle.tape_core.specs.Place.{rest_of}
+use Rattle.tape_core.specs.declared.memory.MemorySink.{MemorySink}
+use Rattle.tape_run.proofs.Ended.{if_err}
 use Rattle.tape_run.proofs.Lives.{on_ok}
 use Rattle.tape_run.proofs.whole.read_file.Goals as goal
 
@@ -24,3 +26,18 @@ returns-clause-read g c = on_ok c.run-made.result _ _ (λ start bytes e.
       (reads bytes e).0,
     ))
     c.run-made.ensures.start
+
+pub returns-clause-cause : goal.returns-clause-cause
+returns-clause-cause g c = if_err c.run-made.result _ _ (λ end stops. (
+  c.in_ok-session.session,
+  ap portions c.in_ok-session.ensures.sink ∙ c.new-sink.ensures.empty,
+  ap (λ (sink : MemorySink). sink.refused) c.in_ok-session.ensures.sink ∙ c.new-sink.ensures.calm,
+  c.in_ok-session.ensures.start.no_notes,
+  c.in_ok-session.ensures.core,
+  stops,
+)) c.run-made.ensures.cause
+
+pub returns-clause-calm : goal.returns-clause-calm
+returns-clause-calm g c = on_ok c.run-made.result _ _ (λ calm. calm.calm
+    ∙ (ap (λ (sink : MemorySink). sink.refused) c.in_ok-session.ensures.sink
+    ∙ c.new-sink.ensures.calm)) c.run-made.ensures.calm

@@ -20,6 +20,7 @@ returns c =
           gives = λ all is. (drop (sink.given + 1) parts, is ∙ more, refl);
           lends = (c.lent.ensures.short, omega (arith, c.if-given-count.false, c.count.ensures));
           counts = refl;
+          why = tt;
         },
       ),
       record { after_borrow = tt },

@@ -13,28 +13,18 @@ use Rattle.tape_run.proofs.Ended.{told_err}
 use Rattle.tape_run.proofs.Left.{nothing_left, left_then}
 use Rattle.tape_run.proofs.extract.images.take_reel.Goals as goal
 
-pub returns-in_err-write_text-clause-err : goal.returns-in_err-write_text-clause-err
-returns-in_err-write_text-clause-err g c =
-    let text : c.as_bytes.result.now ≡ reel_line c.args.number (Some c.in_ok-answer.answer) =
-    search rules in
-    let part = subst (AppendsFront (g.P.Write.contents c.args.report.now)
-    (g.P.Write.contents c.write_text.new.writer)) text c.in_err-write_text.ensures.err in
-    on_err c.from_residual-in_err-write_text.result _
-    (part_line c.args.number (Some c.in_ok-answer.answer) _ _ part)
+pub returns-in_err-write_line-clause-err : goal.returns-in_err-write_line-clause-err
+returns-in_err-write_line-clause-err g c =
+    on_err c.from_residual-in_err-write_line.result _
+    (part_line c.args.number (Some c.in_ok-answer.answer) _ _ c.in_err-write_line.ensures.err)
 
 pub returns-in_err-settle-clause-err : goal.returns-in_err-settle-clause-err
 returns-in_err-settle-clause-err g c =
-    let text : c.as_bytes.result.now ≡ reel_line c.args.number (Some c.in_ok-answer.answer) =
-    search rules in
-    let line = subst (Appends (g.P.Write.contents c.args.report.now)
-    (g.P.Write.contents c.write_text.new.writer)) text c.in_ok-write_text.ensures.ok in
     on_err c.from_residual-in_err-settle.result _
-    (whole_line c.args.number (Some c.in_ok-answer.answer) _ _ line)
+    (whole_line c.args.number (Some c.in_ok-answer.answer) _ _ c.in_ok-write_line.ensures.ok)
 
 pub returns-clause-ok : goal.returns-clause-ok
 returns-clause-ok g c =
-    let text : c.as_bytes.result.now ≡ reel_line c.args.number (Some c.in_ok-answer.answer) =
-    search rules in
     let opened : Opened = record {
       had = g.R.Read.remaining c.args.device.now;
       left = g.R.Read.remaining c.reel.new.device;
@@ -45,8 +35,7 @@ returns-clause-ok g c =
     record {
       turn = Some opened;
       is_turn = (refl, (c.reel.new.device, refl));
-      line = subst (Appends (g.P.Write.contents c.args.report.now)
-          (g.P.Write.contents c.write_text.new.writer)) text c.in_ok-write_text.ensures.ok;
+      line = c.in_ok-write_line.ensures.ok;
       follows = λ held was kept.
           let (now, has, (front, keeps, reeled)) = c.in_ok-answer.ensures.ok held was in
           let back = c.args.back in
@@ -106,9 +95,9 @@ returns-in_err-answer-clause-left g c =
     c.args.back c.args.session.now c.reel.new.self held
     (c.reel.ensures.crash held was))
 
-pub returns-in_err-write_text-clause-left : goal.returns-in_err-write_text-clause-left
-returns-in_err-write_text-clause-left g c =
-    on_err c.from_residual-in_err-write_text.result _ (λ held was kept.
+pub returns-in_err-write_line-clause-left : goal.returns-in_err-write_line-clause-left
+returns-in_err-write_line-clause-left g c =
+    on_err c.from_residual-in_err-write_line.result _ (λ held was kept.
     nothing_left g.S.PartSink
     c.args.back c.args.session.now c.reel.new.self held
     (c.reel.ensures.crash held was))

@@ -102,7 +102,7 @@ returns-in-Err-clause-err g c =
             held now
             bytes p c.self.inside.notes.items c.self.inside.failures _ _
             (begins c.self.inside.intake.core c.mount.new.self c.mount.ensures.table
-            c.mount.ensures.same) c.mount.ensures.same set_id file end.cause front
+            c.mount.ensures.same) c.mount.ensures.same set_id file front
             (c.mount.ensures.table ∙ mount_rest c.self.inside.intake.core)
             t r) (some_both c.over-image.result.left _ _ refuses cuts),
       ),

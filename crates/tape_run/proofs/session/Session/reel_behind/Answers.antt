@@ -4,8 +4,10 @@ use Rattle.tape_core.specs.State.{State}
 use Rattle.tape_core.specs.Place.{rest_of}
 use Rattle.tape_core.specs.Weight.{IsFront}
 use Rattle.tape_run.specs.Given.{is_device, counted}
-use Rattle.tape_run.specs.GoesBehind.{ReeledBehind}
+use Rattle.tape_run.specs.ByTable.{IsCutAt}
+use Rattle.tape_run.specs.GoesBehind.{ReeledBehind, ReelFailsBehind}
 use Rattle.tape_run.specs.Story.{Story}
+use Rattle.tape_run.specs.declared.fault.RunFault.TheVariants.{Sink}
 use Rattle.tape_run.specs.Seen.{seen, IsKept, IfSeen, IsSeen}
 use Rattle.tape_run.proofs.GoesBehind.{not_read_behind, reeled_behind, behind_rest}
 use Rattle.tape_run.proofs.Sessions.{some_at, some_all, want_none, kept_grow, kept_place}
@@ -64,5 +66,45 @@ returns-in-Ok-read-clause-ok g c =
             (c.counted-self-inside.ensures ∙ ap (λ b. counted b c.self.inside.failures)
             c.is_device.ensures)
             (c.mount_behind.ensures.table ∙ behind_rest c.self.inside.intake.core) r) reads,
+      ),
+    ))
+
+pub returns-in-Err-clause-err : goal.returns-in-Err-clause-err
+returns-in-Err-clause-err g c =
+    let new : Story _ =
+    record {
+      core = c.read-read.new.self.core;
+      sink = c.read-read.new.self.sink;
+      notes = c.self.inside.notes.items;
+      failures = c.self.inside.failures;
+    } in
+    subst (λ z. IfSeen g.S.PartSink z (λ old. IsSeen g.S.PartSink new (λ is.
+    IsFront old.parts is.parts × (IsKept old → IsKept is)
+    × IfSome (g.R.Read.remaining c.args.device.now)
+    (λ bytes. ReelFailsBehind bytes (Sink c.in-Err.cause) old is))))
+    c.self.view_is (λ held was.
+    let p = rest_of c.self.inside.intake.core in
+    let end = c.in-Err.ensures in
+    let set_id = end.set_id ∙ ap (λ (z : State). z.set_id) c.mount_behind.ensures.same in
+    let file = end.file ∙ ap (λ (z : State). z.file) c.mount_behind.ensures.same in
+    let (now, has, front, refuses, cuts) = end.err held was in (
+      now,
+      has,
+      (
+        front,
+        (λ k. kept_place p (rest_of c.read-read.new.self.core) [] c.self.inside.notes.items now
+            set_id file (kept_grow p [] c.self.inside.notes.items held now front k)),
+        some_at _ c.over-image.result.left _ _ c.over-image.ensures.unread
+            (λ bytes t. record {
+              count = refl;
+              notes = refl;
+              same_set = set_id;
+              same_file = file;
+              grows = front;
+              table = λ xs end stop b. subst (λ (z : State). IsCutAt xs z
+                  (rest_of c.read-read.new.self.core) held now)
+                  (c.mount_behind.ensures.table ∙ behind_rest c.self.inside.intake.core)
+                  (t xs end stop b);
+            }) cuts,
       ),
     ))

@@ -1,8 +1,10 @@
-use Rattle.std.proofs.Common.{◌≡◌, ◌+◌, length, take, refl, ◌∙◌, arith}
+use Rattle.std.proofs.Common.{◌≡◌, ◌+◌, length, take, refl, sym, ap, subst, ◌∙◌, arith, rules}
+use Rattle.std.specs.Prelude.{Err}
 use Rattle.std.proofs.lemmas.List.{with_items_is, length-take-le}
 use Rattle.tape_core.proofs.Crashes.{only_same}
+use Rattle.tape_stage.specs.Frames.{AheadIn}
 use Rattle.tape_stage.proofs.Backs.{adds_read}
-use Rattle.tape_stage.proofs.Giving.{given, nothing_ahead}
+use Rattle.tape_stage.proofs.Giving.{given, lends_none, nothing_ahead}
 use Rattle.tape_stage.proofs.Held.{read_held}
 use Rattle.tape_stage.proofs.stage.putting.StagePartWalk.next_part.Goals as goal
 
@@ -23,6 +25,7 @@ returns-then-self-2 g c =
               (none.0, (is.0, none.1));
           lends = tt;
           counts = refl;
+          why = tt;
         },
       ),
       record { after_borrow = tt },
@@ -58,6 +61,36 @@ returns-in-Ok g c =
               (next.0, next.1, (λ none. e.honest (is.0 none), next.2));
           lends = (omega (arith, long, e.short), omega (arith, c.if-self-2.false, e.ends));
           counts = refl;
+          why = tt;
+        },
+      ),
+      record { after_borrow = tt },
+    )
+
+pub returns-in-Err : goal.returns-in-Err
+returns-in-Err g c =
+    let s = c.args.self.now in
+    let e = c.in-Err.ensures in
+    let d = c.read_frame.new.disk in
+    let calm = s.settled c.if-self.false in (
+      (
+        refl,
+        λ _. tt,
+        record {
+          kept = λ parts holds. read_held s.disk d s.in_second s.generation s.acknowledged
+              s.other_open s.weight s.failed s.pending parts (e.honest (holds.honest calm))
+              (e.reads.same (holds.honest calm)) (e.reads.any_moment (holds.honest calm)).now holds;
+          crash = λ parts holds. adds_read s d (e.reads.any_moment (holds.honest calm));
+          same_weight = refl;
+          gives = λ parts is. (
+            λ none. e.honest (is.0 none),
+            subst (λ bytes. AheadIn (256 + s.walked) (256 + s.weight) bytes parts)
+                (sym (e.reads.same (is.0 calm))) is.1,
+          );
+          lends = tt;
+          counts = search rules;
+          why = lends_none g.D.Disk s.failed s.walked s.weight s.disk d c.in-Err.fault e.only
+              (λ is. e.kinds (ap Err is)) (λ honest is. e.none honest (ap Err is));
         },
       ),
       record { after_borrow = tt },

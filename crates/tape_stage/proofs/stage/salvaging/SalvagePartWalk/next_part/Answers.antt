@@ -1,8 +1,11 @@
-use Rattle.std.proofs.Common.{◌≡◌, ◌+◌, length, take, refl, sym, ◌∙◌, subst, arith}
+use Rattle.std.proofs.Common.{◌≡◌, ◌+◌, length, take, refl, sym, ap, ◌∙◌, subst, arith, rules}
+use Rattle.std.proofs.Common.{false}
+use Rattle.std.specs.Prelude.{Err}
+use Rattle.tape_stage.specs.Frames.{AheadIn}
 use Rattle.std.proofs.lemmas.List.{with_items_is, length-take-le}
 use Rattle.tape_stage.specs.Staged.{Holding}
 use Rattle.tape_core.proofs.Crashes.{only_same}
-use Rattle.tape_stage.proofs.Giving.{given, nothing_ahead}
+use Rattle.tape_stage.proofs.Giving.{given, lends_none, nothing_ahead}
 use Rattle.tape_stage.proofs.stage.salvaging.SalvagePartWalk.next_part.Goals as goal
 
 pub returns-then-self : goal.returns-then-self
@@ -22,6 +25,7 @@ returns-then-self g c =
               (none.0, (is.0, none.1));
           lends = tt;
           counts = refl;
+          why = tt;
         },
       ),
       record { after_borrow = tt },
@@ -56,6 +60,36 @@ returns-in-Ok g c =
               (next.0, next.1, (e.honest is.0, next.2));
           lends = (omega (arith, long, e.short), omega (arith, c.if-self.false, e.ends));
           counts = refl;
+          why = tt;
+        },
+      ),
+      record { after_borrow = tt },
+    )
+
+pub returns-in-Err : goal.returns-in-Err
+returns-in-Err g c =
+    let s = c.args.self.now in
+    let e = c.in-Err.ensures in
+    let d = c.read_frame.new.disk in (
+      (
+        refl,
+        λ _. tt,
+        record {
+          kept = λ parts holds. (
+            e.honest holds.0,
+            subst (Holding s.weight parts) (sym (e.reads.same holds.0)) holds.1,
+          );
+          crash = λ parts holds. only_same _ _;
+          same_weight = refl;
+          gives = λ parts is. (
+            e.honest is.0,
+            subst (λ bytes. AheadIn (256 + s.walked) (256 + s.weight) bytes parts)
+                (sym (e.reads.same is.0)) is.1,
+          );
+          lends = tt;
+          counts = search rules;
+          why = lends_none g.D.Disk false s.walked s.weight s.disk d c.in-Err.fault e.only
+              (λ is. e.kinds (ap Err is)) (λ honest is. e.none honest (ap Err is));
         },
       ),
       record { after_borrow = tt },

@@ -1,0 +1,29 @@
+use Rattle.std.proofs.Common.{ap, ◌≡◌, ◌∙◌, ◌++◌, List, ℕ}
+use Rattle.std.specs.Prelude.{IfSome}
+use Rattle.std.specs.Io.KnownBytes.{Appends}
+use Rattle.tape_image.specs.Written.{AppendsFront}
+use Rattle.std.proofs.lemmas.Fmt.{contents_after_writes}
+use Rattle.tape_run.proofs.Shown.{on_ok_shown, on_err_shown, shown_as}
+use Rattle.tape_run.proofs.text.write_line.Goals as goal
+
+made : (g : _) (c : goal.After-write_text g)
+    → IfSome (g.D.Display.output c.args.line.now) (λ bs. c.as_bytes.result.now ≡ bs)
+made g c = shown_as (g.D.Display.output c.args.line.now) _ (λ bs. c.as_bytes.result.now ≡ bs)
+    (λ bs k. c.as_bytes.ensures.value ∙ c.deref.ensures.0
+    ∙ contents_after_writes _ (λ s. s.bytes) (λ _ _ _ t. t) _ bs _ k
+    ∙ ap (λ l. l ++ bs) c.new-text.ensures)
+    c.in-Ok.ensures.writes
+
+pub returns-in-Ok-clause-ok : goal.returns-in-Ok-clause-ok
+returns-in-Ok-clause-ok g c =
+    on_ok_shown c.write_text.result (g.D.Display.output c.args.line.now)
+    (Appends (g.W.Write.contents c.args.writer.now)
+    (g.W.Write.contents c.write_text.new.writer)) c.as_bytes.result.now (made g c)
+    c.write_text.ensures.ok
+
+pub returns-in-Ok-clause-err : goal.returns-in-Ok-clause-err
+returns-in-Ok-clause-err g c =
+    on_err_shown c.write_text.result (g.D.Display.output c.args.line.now)
+    (AppendsFront (g.W.Write.contents c.args.writer.now)
+    (g.W.Write.contents c.write_text.new.writer)) c.as_bytes.result.now (made g c)
+    c.write_text.ensures.err
