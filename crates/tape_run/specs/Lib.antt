@@ -85,6 +85,16 @@ pub mod MergeLines
 -- Laws of those.
 pub mod MergeLaws
 pub mod MergedCopies
+-- What is recovered of a file of which no image has all: to be believed, in this order.
+pub mod SalvageWalk
+pub mod SalvageCopies
+pub mod SalvageRecords
+pub mod SalvageLine
+pub mod SalvageBlocks
+pub mod SalvageImage
+pub mod Salvaging
+pub mod SalvageWhole
+pub mod SalvageSections
 -- Cases, which hold the definitions from below.
 pub mod Cases
 pub mod CasesOfRuns

@@ -1,0 +1,208 @@
+-- What was recovered after some items of an image.
+use Rattle.std.proofs.Common.{◌≡◌, ℕ, List, [], ◌∷◌, ◌++◌, Option, Some, None}
+use Rattle.std.proofs.Common.{true, false, refl, sym, ap, subst, ◌∙◌, append-nil}
+use Rattle.std.proofs.Common.{append_assoc}
+use Rattle.std.specs.Prelude.{IfSome}
+use Rattle.std.specs.Io.KnownBytes.{Appends}
+use Rattle.std.proofs.KnownBytes.{Appends-nil, Appends-trans}
+use Rattle.tape_image.specs.Tape.{TapeItem, mark}
+use Rattle.tape_image.specs.Begins.{Walks}
+use Rattle.tape_image.specs.Reader.{IfKnown}
+use Rattle.tape_image.specs.Step.{TakesItem, TakesEnd, TakesFault}
+use Rattle.tape_image.specs.declared.item.Ending.{Ending}
+use Rattle.tape_image.specs.declared.item.ImageFault.{ImageFault}
+use Rattle.tape_image.proofs.Walks.{known_start, known_item, known_end, known_fault, IfKnown-map}
+use Rattle.tape_run.specs.declared.section.ImageStop.TheVariants.{Fault}
+use Rattle.tape_run.specs.Added.{StopsBehind, stop_at}
+use Rattle.tape_run.proofs.NotedSoFar.{by_ending}
+use Rattle.tape_set.specs.Lawful.{FileForm}
+use Rattle.tape_run.specs.declared.section.SectionKey.{SectionKey}
+use Rattle.tape_run.specs.declared.salvage.recovery.Recovery.{Recovery}
+use Rattle.tape_run.specs.declared.salvage.walk.Expected.{Expected}
+use Rattle.tape_run.specs.declared.salvage.walk.Expected.TheVariants.{Outside}
+use Rattle.tape_run.specs.SalvageWalk.{step, expected_after}
+use Rattle.tape_run.specs.SalvageBlocks.{Salvaged, HasSalvaged, Recovers, salvaged_at, text_at}
+use Rattle.tape_run.specs.SalvageImage.{is_in, number_in, salvaged_from, text_from}
+use Rattle.tape_run.specs.SalvageImage.{RecoversSection}
+
+-- Of the bytes `all` the items up to a place were read, and `left` is left; the blocks of the
+-- section among them were taken.
+pub record SoFar {W : Type 0} (contents : W → Option (List ℕ)) (all left : Option (List ℕ))
+    (place : ℕ) (key : SectionKey) (most : ℕ) (form : Option FileForm) (expected : Expected)
+    (old new : Recovery W) (said says : Option (List ℕ)) : Type 0 where
+  pub items : List TapeItem
+  pub known : IfKnown all left (λ xs ys. Walks 0 xs items place ys)
+  pub expects : expected ≡ expected_after (Outside 0) items
+  pub recovers : Recovers contents old new said says
+      (λ g. salvaged_from key most form (Outside 0) g items)
+      (λ g. text_from key most form (Outside 0) g items)
+
+pub starts : {W : Type 0} (contents : W → Option (List ℕ)) (all left : Option (List ℕ))
+    (place : ℕ) (key : SectionKey) (most : ℕ) (form : Option FileForm) (recovery : Recovery W)
+    (said : Option (List ℕ)) → place ≡ 0 → left ≡ all
+    → SoFar contents all left place key most form (Outside 0) recovery recovery said said
+starts contents all left place key most form recovery said first same =
+    let P : ℕ → Type 0 = λ p. IfKnown all left (λ xs ys. Walks 0 xs [] p ys) in
+    record {
+      items = [];
+      known = subst P (sym first) (known_start all left 0 same);
+      expects = refl;
+      recovers = λ start g h. (h, Appends-nil said);
+    }
+
+pub expected_after-append : (s : Expected) (xs ys : List TapeItem)
+    → expected_after s (xs ++ ys) ≡ expected_after (expected_after s xs) ys
+expected_after-append s [] ys = refl
+expected_after-append s (x ∷ xs) ys = expected_after-append (step s x).0 xs ys
+
+pub salvaged_from-append : (key : SectionKey) (most : ℕ) (form : Option FileForm) (s : Expected) (g : Salvaged)
+    (xs ys : List TapeItem)
+    → salvaged_from key most form s g (xs ++ ys)
+    ≡ salvaged_from key most form (expected_after s xs) (salvaged_from key most form s g xs) ys
+salvaged_from-append key most form s g [] ys = refl
+salvaged_from-append key most form s g (x ∷ xs) ys =
+    salvaged_from-append key most form (step s x).0 (salvaged_at form g (number_in key most s) x) xs ys
+
+pub text_from-append : (key : SectionKey) (most : ℕ) (form : Option FileForm) (s : Expected) (g : Salvaged)
+    (xs ys : List TapeItem)
+    → text_from key most form s g (xs ++ ys)
+    ≡ text_from key most form s g xs
+    ++ text_from key most form (expected_after s xs) (salvaged_from key most form s g xs) ys
+text_from-append key most form s g [] ys = refl
+text_from-append key most form s g (x ∷ xs) ys =
+    let n = number_in key most s in
+    let t = text_at key.sect form g n x in
+    ap (λ (l : List ℕ). t ++ l)
+    (text_from-append key most form (step s x).0 (salvaged_at form g n x) xs ys)
+    ∙ sym (append_assoc t (text_from key most form (step s x).0 (salvaged_at form g n x) xs)
+    (text_from key most form (expected_after (step s x).0 xs)
+    (salvaged_from key most form (step s x).0 (salvaged_at form g n x) xs) ys))
+
+-- one more item was taken
+pub salvaged_more : {W : Type 0} (contents : W → Option (List ℕ)) (key : SectionKey) (most : ℕ)
+    (form : Option FileForm) (expected : Expected) (items : List TapeItem) (item : TapeItem)
+    (old mid new : Recovery W) (said says now : Option (List ℕ))
+    → expected ≡ expected_after (Outside 0) items
+    → Recovers contents old mid said says (λ g. salvaged_from key most form (Outside 0) g items)
+    (λ g. text_from key most form (Outside 0) g items)
+    → Recovers contents mid new says now
+    (λ g. salvaged_at form g (number_in key most expected) item)
+    (λ g. text_at key.sect form g (number_in key most expected) item)
+    → Recovers contents old new said now
+    (λ g. salvaged_from key most form (Outside 0) g (items ++ item ∷ []))
+    (λ g. text_from key most form (Outside 0) g (items ++ item ∷ []))
+salvaged_more contents key most form expected items item old mid new said says now at first next start g h =
+    let one = first start g h in
+    let g' = salvaged_from key most form (Outside 0) g items in
+    let two = next start g' one.0 in
+    let t = text_at key.sect form g' (number_in key most expected) item in (
+      subst (HasSalvaged contents start new)
+          (ap (λ s. salvaged_at form g' (number_in key most s) item) at
+          ∙ sym (salvaged_from-append key most form (Outside 0) g items (item ∷ []))) two.0,
+      subst (Appends said now)
+          (ap (λ (l : List ℕ). text_from key most form (Outside 0) g items ++ l)
+          (sym (append-nil t)
+          ∙ ap (λ s. text_at key.sect form g' (number_in key most s) item ++ []) at)
+          ∙ sym (text_from-append key most form (Outside 0) g items (item ∷ [])))
+          (Appends-trans said says now _ _ one.1 two.1),
+    )
+
+abbrev pub one_more : {W : Type 0} (contents : W → Option (List ℕ)) (all left next : Option (List ℕ))
+    (p q : ℕ) (key : SectionKey) (most : ℕ) (form : Option FileForm) (expected after : Expected)
+    (item : TapeItem) (old mid new : Recovery W) (said says now : Option (List ℕ))
+    → SoFar contents all left p key most form expected old mid said says
+    → IfKnown left next (TakesItem p item q) → after ≡ (step expected item).0
+    → Recovers contents mid new says now
+    (λ g. salvaged_at form g (number_in key most expected) item)
+    (λ g. text_at key.sect form g (number_in key most expected) item)
+    → SoFar contents all next q key most form after old new said now
+one_more contents all left next p q key most form expected after item old mid new said says now s takes e taken =
+    record {
+      items = s.items ++ item ∷ [];
+      known = known_item all left next 0 p q s.items item s.known takes;
+      expects = e ∙ (ap (λ z. (step z item).0) s.expects
+          ∙ sym (expected_after-append (Outside 0) s.items (item ∷ [])));
+      recovers = salvaged_more contents key most form expected s.items item old mid new said says now s.expects
+          s.recovers taken;
+    }
+
+-- the items were read
+placed : (all left : Option (List ℕ)) (q : ℕ) (items : List TapeItem)
+    → IfKnown all left (λ xs ys. Walks 0 xs items q ys)
+    → IfSome all (λ xs. (place : ℕ) × (ys : List ℕ) × Walks 0 xs items place ys)
+placed None left q items h = tt
+placed (Some xs) None q items h = absurd h
+placed (Some xs) (Some ys) q items h = (q, ys, h)
+
+-- the section's data ended
+pub ends_data : {W : Type 0} (contents : W → Option (List ℕ)) (all left next : Option (List ℕ))
+    (p q : ℕ) (key : SectionKey) (most : ℕ) (form : Option FileForm) (expected : Expected)
+    (item : TapeItem) (old mid new : Recovery W) (said says now : Option (List ℕ))
+    → SoFar contents all left p key most form expected old mid said says
+    → IfKnown left next (TakesItem p item q) → is_in key expected ≡ true → item ≡ mark
+    → Recovers contents mid new says now
+    (λ g. salvaged_at form g (number_in key most expected) item)
+    (λ g. text_at key.sect form g (number_in key most expected) item)
+    → RecoversSection contents all next key most form old new said now true
+ends_data contents all left next p q key most form expected item old mid new said says now s takes is e taken =
+    let more = one_more contents all left next p q key most form expected (step expected item).0 item old mid
+    new said says now s takes refl taken in
+    record {
+      items = more.items;
+      reads = record {
+        walked = placed all next q more.items more.known;
+        at_mark = λ _. (s.items, ap (λ x. s.items ++ x ∷ []) e, ap (is_in key) (sym s.expects) ∙ is);
+        all = λ f. absurd (cc);
+      };
+      recovers = more.recovers;
+    }
+
+-- all items were read
+pub at_end : {W : Type 0} (contents : W → Option (List ℕ)) (all left next : Option (List ℕ))
+    (p q : ℕ) (ending : Ending) (key : SectionKey) (most : ℕ) (form : Option FileForm) (expected : Expected)
+    (old new : Recovery W) (said says : Option (List ℕ))
+    → SoFar contents all left p key most form expected old new said says
+    → IfKnown left next (TakesEnd p [] ending q)
+    → RecoversSection contents all next key most form old new said says false
+at_end contents all left next p q ending key most form expected old new said says s takes = record {
+  items = s.items;
+  reads = record {
+    walked = placed all left p s.items s.known;
+    at_mark = λ f. absurd (cc);
+    all = λ _. (
+      stop_at ending,
+      IfKnown-map all next (TakesEnd 0 s.items ending q) (StopsBehind s.items (stop_at ending))
+          (by_ending s.items ending q) (known_end all left next 0 p q s.items ending s.known takes),
+    );
+  };
+  recovers = s.recovers;
+}
+
+pub at_fault : {W : Type 0} (contents : W → Option (List ℕ)) (all left next : Option (List ℕ))
+    (p : ℕ) (fault : ImageFault) (key : SectionKey) (most : ℕ) (form : Option FileForm)
+    (expected : Expected) (old new : Recovery W) (said says : Option (List ℕ))
+    → SoFar contents all left p key most form expected old new said says
+    → IfKnown left next (TakesFault p [] fault)
+    → RecoversSection contents all next key most form old new said says false
+at_fault contents all left next p fault key most form expected old new said says s takes = record {
+  items = s.items;
+  reads = record {
+    walked = placed all left p s.items s.known;
+    at_mark = λ f. absurd (cc);
+    all = λ _. (Fault fault, known_fault all left next 0 p s.items fault s.known takes);
+  };
+  recovers = s.recovers;
+}
+
+-- an item was taken by its number
+pub numbered : {W : Type 0} (contents : W → Option (List ℕ)) (key : SectionKey) (most : ℕ)
+    (form : Option FileForm) (expected : Expected) (n : Option ℕ) (item : TapeItem) (mid new : Recovery W)
+    (says now : Option (List ℕ)) → n ≡ number_in key most expected
+    → Recovers contents mid new says now (λ g. salvaged_at form g n item)
+    (λ g. text_at key.sect form g n item)
+    → Recovers contents mid new says now
+    (λ g. salvaged_at form g (number_in key most expected) item)
+    (λ g. text_at key.sect form g (number_in key most expected) item)
+numbered contents key most form expected n item mid new says now e taken =
+    subst (λ (m : Option ℕ). Recovers contents mid new says now (λ g. salvaged_at form g m item)
+    (λ g. text_at key.sect form g m item)) e taken

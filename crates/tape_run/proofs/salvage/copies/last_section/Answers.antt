@@ -1,0 +1,7 @@
+use Rattle.std.proofs.Common.{rules}
+use Rattle.tape_run.proofs.SalvageShelf.{last_up_to}
+use Rattle.tape_run.proofs.salvage.copies.last_section.Goals as goal
+
+pub loop-copy-preserved : goal.loop-copy-preserved
+loop-copy-preserved c = last_up_to c.args.copies.now c.loop-copy.copy-index c.copy-item.result
+    c.loop-copy.last _ (search rules) c.copy-item.is c.loop-copy.invariant (search rules)

@@ -1,0 +1,17 @@
+use Rattle.std.proofs.Common.{◌≡◌, ◌-◌, ◌≤◌}
+use Rattle.tape_image.specs.Begins.{image_limit}
+use Rattle.tape_image.specs.Reader.{going}
+use Rattle.tape_run.proofs.SalvagedSoFar.{SoFar}
+use Rattle.tape_run.proofs.salvage.image.recover_section.Given as goal
+
+abbrev pub invariant-items : goal.invariant-items
+invariant-items g l = record {
+  on : l.image.status ≡ going;
+  limit : l.image.place ≤ image_limit;
+  same_device : l.image.device ≡ l.fn.image.device;
+  so_far : SoFar g.W.Write.contents l.fn.image.left l.image.left l.image.place l.key l.most l.form
+      l.expected l.fn.recovery l.recovery (g.P.Write.contents l.fn.report) (g.P.Write.contents l.report);
+}
+
+abbrev pub decreases-items : goal.decreases-items
+decreases-items g l = image_limit - l.image.place

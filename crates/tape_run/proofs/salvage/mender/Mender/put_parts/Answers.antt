@@ -1,0 +1,67 @@
+use Rattle.std.proofs.Common.{◌≡◌, ℕ, ◌∷◌, [], List, map, Ok, sym, ap, subst, ◌∙◌}
+use Rattle.std.proofs.Common.{append-nil}
+use Rattle.std.proofs.lemmas.List.{map-append}
+use Rattle.tape_label.specs.declared.values.Format.{Format}
+use Rattle.tape_set.specs.Lawful.{FileForm}
+use Rattle.tape_blocks.specs.Block.{Portion, Holds}
+use Rattle.tape_blocks.specs.Judged.{judged}
+use Rattle.tape_blocks.specs.Parts.{view}
+use Rattle.tape_blocks.proofs.JudgedLaws.{judged_found}
+use Rattle.tape_core.specs.Parts.{parts_in}
+use Rattle.tape_core.proofs.BlockLaws.{parts_in_it}
+use Rattle.tape_run.proofs.Blocks.{stands_here}
+use Rattle.tape_run.specs.SalvageRecords.{HasPiece, with_parts}
+use Rattle.tape_run.proofs.SalvagePieces.{with_one_more}
+use Rattle.tape_run.proofs.salvage.mender.Mender.put_parts.Goals as goal
+
+pub new-part-items-requires : goal.new-part-items-requires
+new-part-items-requires g c =
+    let s = c.shape_of.result in
+    let e = c.shape_of.ensures in
+    let r = c.requires.checked in
+    let j : judged s.format s.rec_len s.offset r.0 c.args.block.now ≡ Ok r.1 =
+    rw (e.format, e.rec_len, e.offset) r.2 in
+    let h = judged_found s.format s.rec_len s.offset r.0 r.1 c.args.block.now s.some_record j in
+    (r.0, r.1, h.0, h.1, h.2)
+
+pub loop-part-preserved : goal.loop-part-preserved
+loop-part-preserved g c = λ start p h.
+    let l = c.loop-part in
+    let more = c.in_ok-put.ensures.ok start (with_parts p (map view l.yielded))
+    (l.invariant start p h) in
+    subst (HasPiece g.W.Write.contents start c.put.new.self)
+    (sym (ap (with_parts p) (map-append view l.yielded (c.in-Some.part ∷ []))
+    ∙ with_one_more p (map view l.yielded) (view c.in-Some.part))) more
+
+-- the parts of the block, by its shape
+held_in_form : (form : FileForm) (format : Format) (rec_len offset : ℕ) (block : List ℕ)
+    (parts : List Portion) → format ≡ form.format → rec_len ≡ form.rec_len → offset ≡ form.offset
+    → Holds format rec_len offset block parts
+    → Holds form.format form.rec_len form.offset block parts
+held_in_form form format rec_len offset block parts f r o h =
+    subst (λ z. Holds z form.rec_len form.offset block parts) f
+    (subst (λ z. Holds format z form.offset block parts) r
+    (subst (λ z. Holds format rec_len z block parts) o h))
+
+pub returns : goal.returns
+returns g c =
+    let s = c.shape_of.result in
+    let e = c.shape_of.ensures in
+    let r = c.requires.checked in
+    let form = c.args.form.now in
+    let j : judged s.format s.rec_len s.offset r.0 c.args.block.now ≡ Ok r.1 =
+    rw (e.format, e.rec_len, e.offset) r.2 in
+    let h = judged_found s.format s.rec_len s.offset r.0 r.1 c.args.block.now s.some_record j in
+    let at = stands_here c.new-part-items.result c.into_iter-part-iterator.result
+    c.loop-part.part-iterator c.loop-part.yielded h.0 [] (c.new-part-items.ensures h.0 h.1)
+    c.into_iter-part-iterator.ensures.into_iter_gives c.loop-part.yielded_by
+    c.in-None.ensures.steps.0 in
+    let same : map view c.loop-part.yielded ≡ parts_in form c.args.block.now =
+    sym (at ∙ append-nil (map view c.loop-part.yielded))
+    ∙ sym (parts_in_it form c.args.block.now h.0 (held_in_form form s.format s.rec_len s.offset
+    c.args.block.now h.0 e.format e.rec_len e.offset h.1)) in
+    record {
+      ok = λ start p was.
+          subst (λ z. HasPiece g.W.Write.contents start c.loop-part.self (with_parts p z)) same
+          (c.loop-part.invariant start p was);
+    }

@@ -1,0 +1,9 @@
+use Rattle.std.proofs.Common.{map}
+use Rattle.tape_blocks.specs.Parts.{view}
+use Rattle.tape_run.specs.SalvageRecords.{Piece, Start, HasPiece, with_parts}
+use Rattle.tape_run.proofs.salvage.mender.Mender.put_parts.Given as goal
+
+abbrev pub invariant-loop-part : goal.invariant-loop-part
+invariant-loop-part g l = (start : Start) (p : Piece)
+    → HasPiece g.W.Write.contents start l.fn.self p
+    → HasPiece g.W.Write.contents start l.self (with_parts p (map view l.yielded))

@@ -1,0 +1,47 @@
+use Rattle.std.proofs.Common.{◌≡◌, subst, arith}
+use Rattle.tape_run.specs.SalvageBlocks.{Recovers}
+use Rattle.tape_run.specs.Salvaging.{last_section, next_section, no_section_text, without_rest}
+use Rattle.tape_run.proofs.SalvageShelf.{none_taken, more_taken, ends_file, continues_file}
+use Rattle.tape_run.proofs.SalvageShelf.{on_ok}
+use Rattle.tape_run.proofs.salvage.recover_sections.Goals as goal
+
+pub loop-before-init : goal.loop-before-init
+loop-before-init g c =
+    none_taken g.W.Write.contents g.L.Shelf.gives g.R.Read.remaining c.args.copies.now
+    c.args.content _ _ _ _
+
+pub loop-before-preserved : goal.loop-before-preserved
+loop-before-preserved g c =
+    more_taken g.W.Write.contents g.L.Shelf.gives g.R.Read.remaining c.args.copies.now
+    c.args.content _ c.loop-before.before _ _ _ _ _ _ _ _ _ _ _ c.loop-before.invariant
+    c.in_ok-end.ensures.ok (c.ends_file.ensures.no c.if-ends_file.false)
+
+pub returns-then-ends_file : goal.returns-then-ends_file
+returns-then-ends_file g c = record {
+  ok = ends_file g.W.Write.contents g.L.Shelf.gives g.R.Read.remaining c.args.copies.now
+      c.args.content _ c.loop-before.before _ _ _ _ _ _ _ _ _ _ _
+      (omega (arith, c.loop-before-test.true, c.last_section-last.ensures)) c.loop-before.invariant
+      c.in_ok-end.ensures.ok (c.ends_file.ensures.yes c.if-ends_file.true)
+      c.form_of_file-form.ensures;
+}
+
+pub returns-in-Continues : goal.returns-in-Continues
+returns-in-Continues g c =
+    let n = c.loop-before.before in
+    let all : n ≡ last_section c.args.copies.now =
+    omega (
+      arith,
+      c.loop-before-test.false,
+      c.loop-before.auto.before-end,
+      c.last_section-last.ensures,
+    ) in
+    let next : c.saturating_add.result ≡ next_section n =
+    omega (arith, c.saturating_add.ensures, all, c.last_section-last.ensures) in
+    record {
+      ok = on_ok c.miss_section.result (λ missed. continues_file g.W.Write.contents
+          g.L.Shelf.gives g.R.Read.remaining c.args.copies.now c.args.content _ n _ _ _ _ _ _ _ _ _
+          all c.loop-before.invariant c.in-Continues.is c.form_of_file-form.ensures
+          (subst (λ m. Recovers g.W.Write.contents c.loop-before.recovery c.miss_section.new.self
+          (g.P.Write.contents c.loop-before.report) (g.P.Write.contents c.miss_section.new.report)
+          without_rest (no_section_text m)) next missed)) c.miss_section.ensures.ok;
+    }

@@ -1,0 +1,66 @@
+-- The copies of a file's sections on images, and how much of each is certain.
+use Rattle.std.specs.Prelude.{◌≡◌, ℕ, ◌+◌, ◌-◌, ◌==◌, ◌&&◌, Bool, if◌then◌else◌, List, []}
+use Rattle.std.specs.Prelude.{◌∷◌, ◌++◌, Option, Some, None, is_none, is_some}
+use Rattle.std.specs.Str.{bytes_eq}
+use Rattle.tape_image.specs.Tape.{TapeItem}
+use Rattle.tape_image.specs.Reader.{IfKnown}
+use Rattle.tape_set.specs.Lawful.{label_count}
+use Rattle.tape_run.specs.declared.section.ImageStop.{ImageStop}
+use Rattle.tape_run.specs.Added.{StopsBehind}
+use Rattle.tape_run.specs.declared.salvage.copies.SectionCopy.{SectionCopy}
+use Rattle.tape_run.specs.declared.salvage.walk.Closing.{Closing}
+use Rattle.tape_run.specs.SalvageWalk.{FoundSection, sections_in}
+
+-- it is a section of this file
+abbrev pub is_of : List ℕ → ℕ → FoundSection → Bool
+is_of set_id file t = bytes_eq t.0.key.set_id set_id && (t.0.key.file == file)
+
+-- a section found on the image with this number
+abbrev pub copy_of : ℕ → FoundSection → SectionCopy
+copy_of image t = record { image = image; section = t.0; closed = t.1 }
+
+-- the copies of the file's sections among those found on an image
+abbrev pub of_file : List ℕ → ℕ → ℕ → List FoundSection → List SectionCopy
+of_file set_id file image [] = []
+of_file set_id file image (t ∷ ts) =
+    if is_of set_id file t then copy_of image t ∷ of_file set_id file image ts
+    else of_file set_id file image ts
+
+-- how many of the data items are certainly blocks of the section: all if it closes, otherwise those
+-- before the first item after its HDR1 that could not be read
+abbrev pub believed : SectionCopy → ℕ
+believed s = believed_by s.closed s.section.certain s.section.blocks
+  where
+    believed_by : {A : Type 0} → Option A → Option ℕ → ℕ → ℕ
+    believed_by (Some closed) certain blocks = blocks
+    believed_by None (Some n) blocks = n
+    believed_by None None blocks = blocks
+
+-- the count of the trailer label, if that is not the number of the data items
+abbrev pub wrong_count : SectionCopy → Option ℕ
+wrong_count s = wrong_by s.closed s.section.blocks
+  where
+    wrong_by : Option Closing → ℕ → Option ℕ
+    wrong_by None blocks = None
+    wrong_by (Some closed) blocks =
+        if closed.count == label_count blocks then None else Some closed.count
+
+-- how many of its blocks were read
+abbrev pub blocks_read : SectionCopy → ℕ
+blocks_read s = if is_some s.closed then s.section.blocks - s.section.unreadable else believed s
+
+-- it closes, all of it was read, and its trailer label counts its blocks
+abbrev pub is_complete : SectionCopy → Bool
+is_complete s = is_some s.closed && (is_none s.section.certain && is_none (wrong_count s))
+
+-- a complete copy is before all others, and then one with more blocks read before one with fewer
+abbrev pub rank : SectionCopy → ℕ
+rank s = (if is_complete s then 4294967296 else 0) + blocks_read s
+
+-- All items of an image were read, and its sections of the file follow those found before.
+pub record FindsCopies (before after : Option (List ℕ)) (set_id : List ℕ) (file image : ℕ)
+    (old new : List SectionCopy) : Type 0 where
+  pub items : List TapeItem
+  pub stop : ImageStop
+  pub read : IfKnown before after (StopsBehind items stop)
+  pub seen : new ≡ old ++ of_file set_id file image (sections_in items)

@@ -1,0 +1,164 @@
+-- Reading the items of an image for the sections on it, past what could not be read.
+--
+-- A section extends from its first label to its trailer label. When no section is open, a block that
+-- reads as HDR1 begins one. It closes if its data and a tape mark are followed by a trailer label
+-- with its numbers; then the marks before and after its data were read, and all items between them
+-- are its data.
+use Rattle.std.specs.Prelude.{ℕ, ◌+◌, min, ◌==◌, ◌&&◌, nat_lt, Bool, if◌then◌else◌, List}
+use Rattle.std.specs.Prelude.{[], ◌∷◌, ◌++◌, Option, Some, None, Result, Ok, Err}
+use Rattle.tape_image.specs.Tape.{TapeItem, block, bad, mark}
+use Rattle.tape_label.specs.declared.label.LabelFault.{LabelFault}
+use Rattle.tape_label.specs.declared.values.Kind.{Kind}
+use Rattle.tape_label.specs.declared.values.Kind.TheVariants as kinds
+use Rattle.tape_label.specs.declared.values.Head1.{Head1}
+use Rattle.tape_label.specs.declared.values.Head2.{Head2}
+use Rattle.tape_label.specs.declared.values.Trail1.{Trail1}
+use Rattle.tape_label.specs.Kinds.{kind_at}
+use Rattle.tape_label.specs.Reading.{head1_at, head2_at, trail1_at}
+use Rattle.tape_set.specs.Lawful.{FileForm, binding_len}
+use Rattle.tape_core.specs.Known.{known_of}
+use Rattle.tape_core.specs.Range.{form_in_range}
+use Rattle.tape_run.specs.declared.salvage.walk.OpenSection.{OpenSection}
+use Rattle.tape_run.specs.declared.salvage.walk.Closing.{Closing}
+use Rattle.tape_run.specs.declared.salvage.walk.Expected.{Expected}
+use Rattle.tape_run.specs.declared.salvage.walk.Expected.TheVariants.{Outside, Second, Headers, Data}
+use Rattle.tape_run.specs.declared.salvage.walk.Expected.TheVariants.{Trailer, Trailers, Next, Over}
+
+-- a section that ended, and how, if a trailer label with its numbers was read
+abbrev pub FoundSection : Type 0
+FoundSection = OpenSection × Option Closing
+
+-- one more data item; no image has so many that the count stops
+abbrev pub with_item : OpenSection → OpenSection
+with_item u = record u { blocks = min (u.blocks + 1) 4294967295 }
+
+-- the first of these
+abbrev pub first_of : Option ℕ → ℕ → Option ℕ
+first_of None n = Some n
+first_of (Some m) n = Some m
+
+-- an item could not be read
+abbrev pub doubted : OpenSection → OpenSection
+doubted u = record u { certain = first_of u.certain u.blocks }
+
+-- a data item could not be read
+abbrev pub with_unreadable : OpenSection → OpenSection
+with_unreadable u = record (doubted u) { unreadable = min (u.unreadable + 1) 4294967295 }
+
+-- it is the trailer label of this section
+abbrev pub closes : OpenSection → Trail1 → Bool
+closes u t = (t.head.sect == u.key.sect) && (t.head.sequence == u.key.file)
+
+-- the section whose first label this is
+abbrev pub section_by : Head1 → OpenSection
+section_by h = record {
+  key = record { set_id = h.set_id; file = h.sequence; sect = h.sect };
+  file_id = h.file_id;
+  form = None;
+  blocks = 0;
+  certain = None;
+  unreadable = 0;
+}
+
+-- after a block at which a section may begin
+abbrev pub begun_by : Result Head1 LabelFault → Expected → Expected
+begun_by (Ok h) other = Second (section_by h)
+begun_by (Err _) other = other
+
+-- the form that a second label records, if its numbers are in range
+abbrev pub form_of : List ℕ → Head2 → FileForm
+form_of file_id g = known_of g.format (binding_len g.format g.rec_len) g.offset file_id
+
+abbrev pub form_by : List ℕ → Result Head2 LabelFault → Option FileForm
+form_by file_id (Ok g) = if form_in_range (form_of file_id g) then Some (form_of file_id g) else None
+form_by file_id (Err _) = None
+
+-- after a block at which a second label is expected
+abbrev pub second_by : OpenSection → Option Kind → Result Head2 LabelFault → Expected
+second_by u (Some kinds.Hdr2) g = Headers (record u { form = form_by u.file_id g })
+second_by u _ g = Headers u
+
+-- the section did not close, and another may begin here
+abbrev pub unclosed_by : OpenSection → Result Head1 LabelFault → Expected × Option FoundSection
+unclosed_by u h = (begun_by h (Outside 0), Some (u, None))
+
+-- after a block at which a trailer label is expected
+abbrev pub closed_by : OpenSection → Result Trail1 LabelFault → Result Head1 LabelFault
+    → Expected × Option FoundSection
+closed_by u (Ok t) h =
+    if closes u t
+    then (Trailers, Some (u, Some (record { eof = t.eof; count = t.blocks })))
+    else unclosed_by u h
+closed_by u (Err _) h = unclosed_by u h
+
+-- after two tape marks: a trailer label shows that the volume did not end there
+abbrev pub goes_on_by : Option Kind → Expected
+goes_on_by (Some kinds.Eof1) = Outside 0
+goes_on_by (Some kinds.Eov1) = Outside 0
+goes_on_by (Some kinds.Eof2) = Outside 0
+goes_on_by (Some kinds.Eov2) = Outside 0
+goes_on_by _ = Over
+
+-- after a block outside of sections
+abbrev pub outside_by : ℕ → Option Kind → Result Head1 LabelFault → Expected
+outside_by marks k h = if nat_lt marks 2 then begun_by h (Outside 0) else goes_on_by k
+
+-- after one more tape mark outside of sections
+abbrev pub outside_mark : ℕ → Expected
+outside_mark marks =
+    if marks == 0 then Outside 1 else (if marks == 1 then Outside 2 else Over)
+
+-- after an item outside of sections that could not be read
+abbrev pub outside_bad : ℕ → Expected
+outside_bad marks = if nat_lt marks 2 then Outside 0 else Outside marks
+
+-- what is expected after an item, and the section that ended there, if one did
+abbrev pub step : Expected → TapeItem → Expected × Option FoundSection
+step (Outside n) (block b) = (outside_by n (kind_at b) (head1_at b), None)
+step (Outside n) bad = (outside_bad n, None)
+step (Outside n) mark = (outside_mark n, None)
+step (Second u) (block b) = (second_by u (kind_at b) (head2_at b), None)
+step (Second u) bad = (Headers (doubted u), None)
+step (Second u) mark = (Data u, None)
+step (Headers u) (block b) = (Headers u, None)
+step (Headers u) bad = (Headers (doubted u), None)
+step (Headers u) mark = (Data u, None)
+step (Data u) (block b) = (Data (with_item u), None)
+step (Data u) bad = (Data (with_item (with_unreadable u)), None)
+step (Data u) mark = (Trailer u, None)
+step (Trailer u) (block b) = closed_by u (trail1_at b) (head1_at b)
+step (Trailer u) bad = (Outside 0, Some (u, None))
+step (Trailer u) mark = (Outside 1, Some (u, None))
+step Trailers (block b) = (Trailers, None)
+step Trailers bad = (Outside 0, None)
+step Trailers mark = (Next, None)
+step Next (block b) = (begun_by (head1_at b) (Outside 0), None)
+step Next bad = (Outside 0, None)
+step Next mark = (Over, None)
+step Over _ = (Over, None)
+
+-- the section that has begun and not ended, if the items end here
+abbrev pub open_section : Expected → Option FoundSection
+open_section (Headers u) = Some (u, None)
+open_section (Data u) = Some (u, None)
+open_section (Trailer u) = Some (u, None)
+open_section _ = None
+
+-- what is expected after these items
+abbrev pub expected_after : Expected → List TapeItem → Expected
+expected_after s [] = s
+expected_after s (x ∷ xs) = expected_after (step s x).0 xs
+
+-- a section that ended, as a list
+abbrev pub in_list : Option FoundSection → List FoundSection
+in_list None = []
+in_list (Some t) = t ∷ []
+
+-- the sections that end in these items, in order
+abbrev pub found_from : Expected → List TapeItem → List FoundSection
+found_from s [] = []
+found_from s (x ∷ xs) = in_list (step s x).1 ++ found_from (step s x).0 xs
+
+-- the sections on an image with these items
+abbrev pub sections_in : List TapeItem → List FoundSection
+sections_in items = found_from (Outside 0) items ++ in_list (open_section (expected_after (Outside 0) items))

@@ -1,0 +1,268 @@
+//! The copies of a file's sections on images, and how much of each is certain.
+
+ghost use Rattle.std.specs.Prelude.{◌≡◌, ◌++◌, ◌∷◌, max, [], List, OnOk, None, Some};
+ghost use Rattle.tape_image.specs.Reader.{going};
+ghost use Rattle.tape_run.specs.SalvageWalk.{in_list};
+ghost use Rattle.tape_run.specs.SalvageCopies.{FindsCopies, believed, of_file, is_of, wrong_count};
+ghost use Rattle.tape_run.specs.SalvageCopies.{rank};
+ghost use Rattle.tape_run.specs.Salvaging.{IsBest, IsChoice, firsts, is_considered, last_section};
+ghost use Rattle.tape_run.specs.Salvaging.{form_of_file};
+ghost use Rattle.tape_run.specs.declared.salvage.copies.SectionCopy.{SectionCopy};
+
+use crate::fault::{EngineFault, NO_MEMORY};
+use crate::salvage::walk::{Closing, Expected, FoundSection, OpenSection, step};
+use std::alloc::Global;
+use std::io::Read;
+use tape_core::Known;
+use tape_image::ImageReader;
+use tape_label::Field;
+
+/// A section found on an image.
+#[derive(Clone, Copy)]
+pub struct SectionCopy {
+    /// The image's number, counted from 0.
+    pub image: usize,
+    /// The section, and its data.
+    pub section: OpenSection,
+    /// How it ended. With `None` it did not close, and may have other data than were found.
+    pub closed: Option<Closing>,
+}
+
+impl SectionCopy {
+    /// Returns how many of its data items are certainly its blocks: all if it closes, otherwise
+    /// those before the first item that could not be read.
+    pub fn believed(&self) -> u32
+        ensures { result ≡ believed self.now }
+    {
+        match self.closed {
+            Some(_) => self.section.blocks,
+            None => self.section.certain.unwrap_or(self.section.blocks),
+        }
+    }
+
+    /// Returns the count of its trailer label, if that is not the number of its data items.
+    pub fn wrong_count(&self) -> Option<u32>
+        ensures { result ≡ wrong_count self.now }
+    {
+        match self.closed {
+            Some(closed) if closed.count != tape_set::label_count(self.section.blocks) => {
+                Some(closed.count)
+            }
+            _ => None,
+        }
+    }
+
+    /// Returns a greater number for a copy that is to be read rather than another: complete ones
+    /// first, otherwise by how many of its blocks were read.
+    pub fn rank(&self) -> u64
+        ensures { result ≡ rank self.now }
+    {
+        let read = match self.closed {
+            Some(_) => self.section.blocks.saturating_sub(self.section.unreadable),
+            None => self.believed(),
+        };
+        let complete = self.closed.is_some()
+            && self.section.certain.is_none()
+            && self.wrong_count().is_none();
+        if complete {
+            return 4_294_967_296 + u64::from(read);
+        }
+        u64::from(read)
+    }
+}
+
+/// Finds the sections of a file on an image, and adds them to `copies`.
+///
+/// # Errors
+///
+/// `Run(OutOfMemory)`.
+pub fn copies_on<R: Read>(
+    alloc: Global,
+    set_id: &Field<6>,
+    file: u16,
+    number: usize,
+    device: &mut R,
+    copies: &mut Vec<SectionCopy>,
+) -> Result<(), EngineFault>
+    ensures ok { OnOk result (FindsCopies (R.remaining device.old) (R.remaining device.new)
+        set_id.now file number copies.old.items copies.new.items) }
+{
+    let mut image = match ImageReader::new(alloc, device) {
+        Ok(image) => image,
+        Err(_) => return Err(NO_MEMORY),
+    };
+    let found = copies_in_items(&mut image, set_id, file, number, copies);
+    // The device belongs to the caller again.
+    image.into_device();
+    found
+}
+
+/// Finds the sections of a file on an image of which nothing was read yet.
+fn copies_in_items<R: Read>(
+    image: &mut ImageReader<'_, R>,
+    set_id: &Field<6>,
+    file: u16,
+    number: usize,
+    copies: &mut Vec<SectionCopy>,
+) -> Result<(), EngineFault>
+    requires going { image.old.status ≡ going }
+    requires first { image.old.place ≡ 0 }
+    ensures same_device { image.new.device ≡ image.old.device }
+    ensures ok { OnOk result (FindsCopies image.old.left image.new.left set_id.now file number
+        copies.old.items copies.new.items) }
+{
+    let mut expected = Expected::Outside(0);
+    'items: loop {
+        match image.next() {
+            Ok(Some(item)) => {
+                let (next, found) = step(expected, item);
+                add_copy(copies, set_id, file, number, found)?;
+                expected = next;
+            }
+            Ok(None) => return add_copy(copies, set_id, file, number, expected.open_section()),
+            Err(_) => return add_copy(copies, set_id, file, number, expected.open_section()),
+        }
+    }
+}
+
+/// Whether it is a section of this file.
+fn is_of(set_id: &Field<6>, file: u16, section: &OpenSection, closed: &Option<Closing>) -> bool
+    ensures { result ≡ is_of set_id.now file (section.now, closed.now) }
+{
+    section.key.set_id.bytes() == set_id.bytes() && section.key.file == file
+}
+
+/// Adds a section, if one was found and it belongs to the file.
+fn add_copy(
+    copies: &mut Vec<SectionCopy>,
+    set_id: &Field<6>,
+    file: u16,
+    image: usize,
+    found: Option<FoundSection>,
+) -> Result<(), EngineFault>
+    ensures ok { OnOk result (copies.new.items
+        ≡ copies.old.items ++ of_file set_id.now file image (in_list found)) }
+{
+    let Some((section, closed)) = found else {
+        return Ok(());
+    };
+    if !is_of(set_id, file, &section, &closed) {
+        return Ok(());
+    }
+    let copy = SectionCopy {
+        image,
+        section,
+        closed,
+    };
+    match copies.push(copy) {
+        Ok(()) => Ok(()),
+        Err(_) => Err(NO_MEMORY),
+    }
+}
+
+/// Returns the greatest number of a section among the copies.
+pub fn last_section(copies: &[SectionCopy]) -> u16
+    ensures { result ≡ last_section copies.now }
+{
+    let mut last = 0u16;
+    for copy in copies {
+        last = greater(last, copy.section.key.sect);
+    }
+    last
+}
+
+/// The greater of two numbers.
+fn greater(a: u16, b: u16) -> u16
+    ensures { result ≡ max a b }
+{
+    if a < b { b } else { a }
+}
+
+/// The best copy of a section so far, and the image of the last copy that was considered.
+#[derive(Clone, Copy)]
+struct Choice {
+    best: Option<SectionCopy>,
+    last: Option<usize>,
+}
+
+impl Choice {
+    /// Whether a copy is one of this section and the first on its image.
+    fn is_considered(&self, sect: u16, copy: &SectionCopy) -> bool
+        ensures { result ≡ is_considered sect self.now.last copy.now }
+    {
+        if copy.section.key.sect != sect {
+            return false;
+        }
+        match self.last {
+            Some(last) => last != copy.image,
+            None => true,
+        }
+    }
+
+    /// Chooses this copy if it is better than the best so far.
+    fn better(self, copy: &SectionCopy) -> Choice
+        ensures best { (cs : List SectionCopy) → IsBest cs self.best
+            → IsBest (cs ++ copy.now ∷ []) result.best }
+        ensures last { result.last ≡ Some copy.now.image }
+    {
+        let best = better_of(&self.best, copy);
+        Choice {
+            best: Some(best),
+            last: Some(copy.image),
+        }
+    }
+
+    /// Considers one more copy, if it is one of this section and the first on its image.
+    fn with(self, sect: u16, copy: &SectionCopy) -> Choice
+        ensures { (cs : List SectionCopy) → IsChoice sect cs self.best self.last
+            → IsChoice sect (cs ++ copy.now ∷ []) result.best result.last }
+    {
+        if self.is_considered(sect, copy) {
+            return self.better(copy);
+        }
+        self
+    }
+}
+
+/// The copy with the greater rank, or the first of two with one rank.
+fn better_of(best: &Option<SectionCopy>, copy: &SectionCopy) -> SectionCopy
+    ensures { (cs : List SectionCopy) → IsBest cs best.now
+        → IsBest (cs ++ copy.now ∷ []) (Some result) }
+{
+    match best {
+        None => *copy,
+        Some(other) => {
+            if copy.rank() <= other.rank() {
+                return *other;
+            }
+            *copy
+        }
+    }
+}
+
+/// Returns the copy of this section that is to be read. If the section is more than once on an
+/// image, only the first is considered: that is the one that `recover_section` reads.
+pub fn best_copy(copies: &[SectionCopy], sect: u16) -> Option<SectionCopy>
+    ensures { IsBest (firsts sect None copies.now) result }
+{
+    let mut choice = Choice {
+        best: None,
+        last: None,
+    };
+    for copy in copies {
+        choice = choice.with(sect, copy);
+    }
+    choice.best
+}
+
+/// Returns the form of the file's blocks that the first label with a form records.
+pub fn form_of_file(copies: &[SectionCopy]) -> Option<Known>
+    ensures { result ≡ form_of_file copies.now }
+{
+    for copy in copies {
+        if let Some(form) = copy.section.form {
+            return Some(form);
+        }
+    }
+    None
+}

@@ -1,0 +1,225 @@
+//! The complete records of blocks of which some are missing.
+
+ghost use Rattle.std.specs.Prelude.{◌≡◌, ◌≤◌, length, IfOk, OnOk, Ok, Bool, Some};
+ghost use Rattle.tape_blocks.specs.Judged.{judged};
+ghost use Rattle.tape_blocks.specs.Parts.{view};
+ghost use Rattle.tape_blocks.specs.Packing.{longest_block};
+ghost use Rattle.tape_core.specs.Parts.{goes_on_at, parts_in};
+ghost use Rattle.tape_run.specs.SalvageRecords.{Piece, Start, HasPiece, nothing, with_part};
+ghost use Rattle.tape_run.specs.SalvageRecords.{with_parts, torn, mended, found_fault, is_cut};
+
+use crate::extract::write_part;
+use crate::fault::{EngineFault, NO_MEMORY};
+use crate::text::write_text;
+use std::alloc::Global;
+use std::io::Write;
+use tape_blocks::{BlockFault, Form, Part, Parts, Shape, Span, check_block};
+use tape_core::Known;
+use tape_label::Format;
+
+/// Writes the records of blocks as they come, without the records of which a part is missing. Only
+/// the record that has begun and not ended is buffered.
+#[derive(Drop)]
+pub struct Mender<W> {
+    /// What the records are written to.
+    out: W,
+    /// How they are written.
+    form: Form,
+    /// The bytes of the record that has begun and not ended.
+    unfinished: Vec<u8>,
+    /// How many records were written.
+    records: u64,
+    /// Whether a record has begun and not ended.
+    begun: bool,
+    /// Whether something is missing and no record has begun since.
+    torn: bool,
+}
+
+/// The shape of a file's blocks, as far as a reader depends on it.
+fn shape_of(form: &Known) -> Shape
+    ensures format { result.format ≡ form.now.format }
+    ensures rec_len { result.rec_len ≡ form.now.rec_len }
+    ensures offset { result.offset ≡ form.now.offset }
+{
+    Shape {
+        format: form.format,
+        block_len: 0,
+        rec_len: form.rec_len,
+        offset: form.offset,
+        pad_full: false,
+    }
+}
+
+/// Whether the block begins with a part that continues a record: in format S its indicator is `2`
+/// or `3`.
+fn goes_on_at(format: Format, offset: u8, block: &[u8]) -> bool
+    ensures { result ≡ goes_on_at format offset block.now }
+{
+    match format {
+        Format::Fixed | Format::Counted => false,
+        Format::Spanned => {
+            let offset = usize::from(offset);
+            if offset >= block.len() {
+                return false;
+            }
+            matches!(block[offset], b'2' | b'3')
+        }
+    }
+}
+
+impl<W: Write> Mender<W> {
+    /// Creates a mender that writes to `out`, and has written nothing.
+    pub fn new(alloc: Global, out: W, form: Form) -> Mender<W>
+        ensures { HasPiece W.contents (record { had = W.contents out; form = form }) result nothing }
+    {
+        Mender {
+            out,
+            form,
+            unfinished: Vec::new(alloc),
+            records: 0,
+            begun: false,
+            torn: false,
+        }
+    }
+
+    /// Returns how many records were written.
+    pub fn records(&self) -> u64
+        ensures { result ≡ self.now.records }
+    {
+        self.records
+    }
+
+    /// Returns whether a record has begun and not ended.
+    pub fn is_begun(&self) -> bool
+        ensures { result ≡ self.now.begun }
+    {
+        self.begun
+    }
+
+    /// Returns whether something is missing before the block, and the block continues a record whose
+    /// beginning is missing.
+    pub fn is_cut(&self, form: &Option<Known>, block: &[u8]) -> bool
+        ensures { (p : Piece) → self.now.torn ≡ p.torn → result ≡ is_cut form.now p block.now }
+    {
+        match form {
+            Some(form) => self.torn && goes_on_at(form.format, form.offset, block),
+            None => false,
+        }
+    }
+
+    /// Returns what the records were written to.
+    pub fn into_out(self) -> W
+        ensures { result ≡ self.out }
+    {
+        self.out
+    }
+
+    /// Takes the next block: its records, or the block as it is if no form is given. Returns why it
+    /// holds no records in this form; then it counts as missing.
+    ///
+    /// # Errors
+    ///
+    /// `Run(OutOfMemory)` if a record that continues in the next block can't be buffered,
+    /// `WriteFailed` if a record can't be written.
+    pub fn take(
+        &mut self,
+        form: &Option<Known>,
+        block: &[u8],
+    ) -> Result<Option<BlockFault>, EngineFault>
+        requires short { length block.now ≤ longest_block }
+        ensures ok { IfOk result (λ fault. (start : Start) (p : Piece)
+            → HasPiece W.contents start self.old p
+            → HasPiece W.contents start self.new (mended form.now p block.now)
+            × (fault ≡ found_fault form.now p block.now)) }
+    {
+        match form {
+            Some(form) => self.take_records(form, block),
+            None => {
+                self.put(Part {
+                    span: Span::Whole,
+                    bytes: block,
+                })?;
+                Ok(None)
+            }
+        }
+    }
+
+    /// Takes the records of the next block.
+    fn take_records(
+        &mut self,
+        form: &Known,
+        block: &[u8],
+    ) -> Result<Option<BlockFault>, EngineFault>
+        requires short { length block.now ≤ longest_block }
+        ensures ok { IfOk result (λ fault. (start : Start) (p : Piece)
+            → HasPiece W.contents start self.old p
+            → HasPiece W.contents start self.new (mended (Some form.now) p block.now)
+            × (fault ≡ found_fault (Some form.now) p block.now)) }
+    {
+        let shape = shape_of(form);
+        let begun = if self.torn {
+            goes_on_at(form.format, form.offset, block)
+        } else {
+            self.begun
+        };
+        match check_block(&shape, begun, block) {
+            Ok(_) => {
+                self.put_parts(form, block)?;
+                Ok(None)
+            }
+            Err(fault) => {
+                self.tear();
+                Ok(Some(fault))
+            }
+        }
+    }
+
+    /// Notes that a block is missing here, and drops what there is of a record that has begun.
+    pub fn tear(&mut self)
+        ensures { (start : Start) (p : Piece) → HasPiece W.contents start self.old p
+            → HasPiece W.contents start self.new (torn p) }
+    {
+        self.unfinished.clear();
+        self.begun = false;
+        self.torn = true;
+    }
+
+    /// Takes the parts of a block that was checked.
+    fn put_parts(&mut self, form: &Known, block: &[u8]) -> Result<(), EngineFault>
+        requires short { length block.now ≤ longest_block }
+        requires checked { (begun : Bool) × (end : Bool) × (judged form.now.format form.now.rec_len
+            form.now.offset begun block.now ≡ Ok end) }
+        ensures ok { OnOk result ((start : Start) (p : Piece)
+            → HasPiece W.contents start self.old p
+            → HasPiece W.contents start self.new (with_parts p (parts_in form.now block.now))) }
+    {
+        for part in Parts::new(&shape_of(form), block) {
+            self.put(part)?;
+        }
+        Ok(())
+    }
+
+    /// Takes one part, unless it continues a record whose beginning is missing.
+    fn put(&mut self, part: Part<'_>) -> Result<(), EngineFault>
+        ensures ok { OnOk result ((start : Start) (p : Piece)
+            → HasPiece W.contents start self.old p
+            → HasPiece W.contents start self.new (with_part p (view part.entry))) }
+    {
+        if self.torn && part.span.continues() {
+            return Ok(());
+        }
+        self.torn = false;
+        self.begun = part.span.leaves();
+        if self.begun {
+            return match self.unfinished.extend_from_slice(part.bytes) {
+                Ok(()) => Ok(()),
+                Err(_) => Err(NO_MEMORY),
+            };
+        }
+        write_text(&mut self.out, &self.unfinished)?;
+        write_part(&mut self.out, part, self.form)?;
+        self.unfinished.clear();
+        self.records = self.records.saturating_add(1);
+        Ok(())
+    }
+}

@@ -1,0 +1,246 @@
+//! The data items of a section taken one after another, with a line for each gap.
+
+ghost use Rattle.std.specs.Prelude.{◌≡◌, ◌≤◌, length, OnOk};
+ghost use Rattle.std.specs.Io.KnownBytes.{Appends};
+ghost use Rattle.tape_image.specs.Reader.{tape_item};
+ghost use Rattle.tape_image.specs.Tape.{IsTapeItem};
+ghost use Rattle.tape_blocks.specs.Packing.{longest_block};
+ghost use Rattle.tape_run.specs.SalvageBlocks.{HasSalvaged, Recovers, none_salvaged, gap_text, torn_text};
+ghost use Rattle.tape_run.specs.SalvageBlocks.{refused_text, without_block, without_block_text};
+ghost use Rattle.tape_run.specs.SalvageBlocks.{with_block, with_block_text, salvaged_at, text_at};
+ghost use Rattle.tape_run.specs.Salvaging.{without_rest, rest_text, without_gap, with_count};
+ghost use Rattle.tape_run.specs.Salvaging.{count_text};
+
+use crate::fault::{EngineFault, WriteFailed};
+use crate::salvage::line::{count_line, gap_line, refused_line, torn_line};
+use crate::salvage::mender::Mender;
+use crate::text::write_text;
+use std::alloc::Global;
+use std::io::Write;
+use tape_blocks::{BlockFault, Form};
+use tape_core::Known;
+use tape_image::Item;
+
+/// Takes the data items of sections, and reports what is missing.
+#[derive(Drop)]
+pub struct Recovery<W> {
+    pub mender: Mender<W>,
+    /// The first block of a gap that is not reported yet.
+    pub gap: Option<u32>,
+    /// Whether something is missing.
+    pub missing: bool,
+}
+
+/// Writes the line of a gap, if there is one. `next` is the first block after it.
+fn write_gap<P: Write>(
+    report: &mut P,
+    sect: u16,
+    gap: Option<u32>,
+    next: u32,
+    records: u64,
+) -> Result<(), WriteFailed>
+    ensures ok { OnOk result (Appends (P.contents report.old) (P.contents report.new)
+        (gap_text sect gap next records)) }
+{
+    match gap {
+        Some(first) => {
+            let line = gap_line(sect, first, next.saturating_sub(1), records);
+            write_text(report, &line)
+        }
+        None => Ok(()),
+    }
+}
+
+/// Writes that a record is left out because of a cut at the start of this block, if `is`.
+fn write_torn<P: Write>(
+    report: &mut P,
+    is: bool,
+    sect: u16,
+    number: u32,
+    records: u64,
+) -> Result<(), WriteFailed>
+    ensures ok { OnOk result (Appends (P.contents report.old) (P.contents report.new)
+        (torn_text is sect number records)) }
+{
+    if is {
+        let line = torn_line(sect, number, records);
+        return write_text(report, &line);
+    }
+    Ok(())
+}
+
+/// Writes why a block holds no records, if there is a fault.
+fn write_refused<P: Write>(
+    report: &mut P,
+    sect: u16,
+    number: u32,
+    fault: &Option<BlockFault>,
+    begun: bool,
+    records: u64,
+) -> Result<(), WriteFailed>
+    ensures ok { OnOk result (Appends (P.contents report.old) (P.contents report.new)
+        (refused_text sect number fault.now begun records)) }
+{
+    match fault {
+        Some(fault) => {
+            write_torn(report, begun, sect, number, records)?;
+            let line = refused_line(sect, number, fault, records);
+            write_text(report, &line)
+        }
+        None => Ok(()),
+    }
+}
+
+impl<W: Write> Recovery<W> {
+    /// Creates a recovery that writes records to `out`, and has written nothing.
+    pub fn new(alloc: Global, out: W, form: Form) -> Recovery<W>
+        ensures { HasSalvaged W.contents (record { had = W.contents out; form = form }) result
+            none_salvaged }
+    {
+        Recovery {
+            mender: Mender::new(alloc, out, form),
+            gap: None,
+            missing: false,
+        }
+    }
+
+    /// Returns what the records were written to.
+    pub fn into_out(self) -> W
+        ensures { result ≡ self.mender.out }
+    {
+        self.mender.into_out()
+    }
+
+    /// Reports the gap that ends before the block `next`, if there is one.
+    pub fn end_gap<P: Write>(
+        &mut self,
+        sect: u16,
+        next: u32,
+        report: &mut P,
+    ) -> Result<(), EngineFault>
+        ensures ok { OnOk result (Recovers W.contents self.old self.new (P.contents report.old)
+            (P.contents report.new) without_gap (λ g. gap_text sect g.gap next g.piece.records)) }
+    {
+        write_gap(report, sect, self.gap, next, self.mender.records())?;
+        self.gap = None;
+        Ok(())
+    }
+
+    /// Notes that something is missing from this block on, and reports the unfinished record that is
+    /// left out, if there is one.
+    pub fn tear<P: Write>(
+        &mut self,
+        sect: u16,
+        number: u32,
+        report: &mut P,
+    ) -> Result<(), EngineFault>
+        ensures ok { OnOk result (Recovers W.contents self.old self.new (P.contents report.old)
+            (P.contents report.new) without_rest (rest_text sect number)) }
+    {
+        write_torn(
+            report,
+            self.mender.is_begun(),
+            sect,
+            number,
+            self.mender.records(),
+        )?;
+        self.mender.tear();
+        self.missing = true;
+        Ok(())
+    }
+
+    /// Takes a trailer label that counts other blocks, if there is such a count, and reports it.
+    pub fn take_count<P: Write>(
+        &mut self,
+        sect: u16,
+        label: Option<u32>,
+        blocks: u32,
+        report: &mut P,
+    ) -> Result<(), EngineFault>
+        ensures ok { OnOk result (Recovers W.contents self.old self.new (P.contents report.old)
+            (P.contents report.new) (with_count label) (λ _. count_text sect label blocks)) }
+    {
+        if let Some(label) = label {
+            write_text(report, &count_line(sect, label, blocks))?;
+            self.missing = true;
+        }
+        Ok(())
+    }
+
+    /// Takes a block of the section that could not be read.
+    fn miss_block<P: Write>(
+        &mut self,
+        sect: u16,
+        number: u32,
+        report: &mut P,
+    ) -> Result<(), EngineFault>
+        ensures ok { OnOk result (Recovers W.contents self.old self.new (P.contents report.old)
+            (P.contents report.new) (without_block number) (without_block_text sect number)) }
+    {
+        self.tear(sect, number, report)?;
+        if self.gap.is_none() {
+            self.gap = Some(number);
+        }
+        Ok(())
+    }
+
+    /// Takes the next block of the section.
+    fn take_block<P: Write>(
+        &mut self,
+        sect: u16,
+        number: u32,
+        form: &Option<Known>,
+        block: &[u8],
+        report: &mut P,
+    ) -> Result<(), EngineFault>
+        requires { length block.now ≤ longest_block }
+        ensures ok { OnOk result (Recovers W.contents self.old self.new (P.contents report.old)
+            (P.contents report.new) (with_block form.now block.now)
+            (with_block_text sect form.now number block.now)) }
+    {
+        let records = self.mender.records();
+        let begun = self.mender.is_begun();
+        write_gap(report, sect, self.gap, number, records)?;
+        write_torn(
+            report,
+            self.mender.is_cut(form, block),
+            sect,
+            number,
+            records,
+        )?;
+        let fault = self.mender.take(form, block)?;
+        write_refused(report, sect, number, &fault, begun, records)?;
+        self.gap = None;
+        self.missing = self.missing || fault.is_some();
+        Ok(())
+    }
+
+    /// Takes the next item of an image, which is the data item `number` of the section; with `None`
+    /// it is no data item of it.
+    ///
+    /// # Errors
+    ///
+    /// `Run(OutOfMemory)`; `WriteFailed` if a record or the report can't be written.
+    pub fn take_item<P: Write>(
+        &mut self,
+        sect: u16,
+        form: &Option<Known>,
+        number: Option<u32>,
+        item: Item<'_>,
+        report: &mut P,
+    ) -> Result<(), EngineFault>
+        requires { IsTapeItem (tape_item item) }
+        ensures ok { OnOk result (Recovers W.contents self.old self.new (P.contents report.old)
+            (P.contents report.new) (λ g. salvaged_at form.now g number (tape_item item.entry))
+            (λ g. text_at sect form.now g number (tape_item item.entry))) }
+    {
+        let Some(number) = number else {
+            return Ok(());
+        };
+        match item {
+            Item::Block(bytes) => self.take_block(sect, number, form, bytes, report),
+            Item::Bad => self.miss_block(sect, number, report),
+            Item::Mark => Ok(()),
+        }
+    }
+}

@@ -1,0 +1,278 @@
+//! Follows the items of an image past what could not be read: which section an item belongs to, and
+//! which of its blocks it is.
+
+ghost use Rattle.std.specs.Prelude.{◌≡◌};
+ghost use Rattle.tape_image.specs.Reader.{tape_item};
+ghost use Rattle.tape_image.specs.Tape.{block, bad, mark};
+ghost use Rattle.tape_run.specs.SalvageWalk as Walk;
+
+use crate::section::SectionKey;
+use tape_core::Known;
+use tape_image::Item;
+use tape_label::{
+    Field, Format, Head1, Head2, Kind, LabelFault, Trail1, kind, read_head1, read_head2,
+    read_trail1,
+};
+
+/// A section whose first label was read.
+#[derive(Clone, Copy)]
+pub struct OpenSection {
+    /// Which section it is.
+    pub key: SectionKey,
+    /// The file identifier of its HDR1.
+    pub file_id: Field<17>,
+    /// The form of its blocks that its HDR2 records, if it was read.
+    pub form: Option<Known>,
+    /// How many data items it has so far, including those that could not be read.
+    pub blocks: u32,
+    /// How many data items came before the first item after its HDR1 that could not be read.
+    pub certain: Option<u32>,
+    /// How many of its data items could not be read.
+    pub unreadable: u32,
+}
+
+/// What is expected next.
+#[derive(Clone, Copy)]
+pub enum Expected {
+    /// A section's first label, at any block. After two tape marks only a trailer label shows that
+    /// the volume continues.
+    Outside(u8),
+    /// A section's second label.
+    Second(OpenSection),
+    /// What follows a section's labels, up to a tape mark.
+    Headers(OpenSection),
+    /// A section's data, up to a tape mark.
+    Data(OpenSection),
+    /// A section's first trailer label.
+    Trailer(OpenSection),
+    /// What follows a trailer label, up to a tape mark.
+    Trailers,
+    /// The next section, or the mark that ends the volume.
+    Next,
+    /// Nothing: the volume has ended.
+    Over,
+}
+
+/// How a section ended.
+#[derive(Clone, Copy)]
+pub struct Closing {
+    /// Whether the file ends with it.
+    pub eof: bool,
+    /// The count of its trailer label: the last six digits.
+    pub count: u32,
+}
+
+/// A section that ended, and how. With `None` no trailer label with its numbers was read.
+pub type FoundSection = (OpenSection, Option<Closing>);
+
+impl OpenSection {
+    /// Counts one more data item. No image has so many that the count stops.
+    fn with_item(self) -> OpenSection
+        ensures { result ≡ Walk.with_item self }
+    {
+        OpenSection {
+            blocks: self.blocks.saturating_add(1),
+            ..self
+        }
+    }
+
+    /// Notes an item that could not be read: what follows is certain only if the section closes.
+    fn doubted(self) -> OpenSection
+        ensures { result ≡ Walk.doubted self }
+    {
+        match self.certain {
+            Some(_) => self,
+            None => OpenSection {
+                certain: Some(self.blocks),
+                ..self
+            },
+        }
+    }
+
+    /// Notes a data item that could not be read.
+    fn with_unreadable(self) -> OpenSection
+        ensures { result ≡ Walk.with_unreadable self }
+    {
+        let count = self.unreadable;
+        let doubted = self.doubted();
+        OpenSection {
+            unreadable: count.saturating_add(1),
+            ..doubted
+        }
+    }
+
+    /// Whether this is its trailer label.
+    fn closes(&self, trail: &Trail1) -> bool
+        ensures { result ≡ Walk.closes self.now trail.now }
+    {
+        trail.head.sect == self.key.sect && trail.head.sequence == self.key.file
+    }
+}
+
+/// After a block at which a section may begin; `other` if it does not.
+fn begun_by(read: Result<Head1, LabelFault>, other: Expected) -> Expected
+    ensures { result ≡ Walk.begun_by read other }
+{
+    match read {
+        Ok(head) => Expected::Second(OpenSection {
+            key: SectionKey {
+                set_id: head.set_id,
+                file: head.sequence,
+                sect: head.sect,
+            },
+            file_id: head.file_id,
+            form: None,
+            blocks: 0,
+            certain: None,
+            unreadable: 0,
+        }),
+        Err(_) => other,
+    }
+}
+
+/// The form of the file's blocks that a second label records.
+fn form_by(file_id: Field<17>, read: Result<Head2, LabelFault>) -> Option<Known>
+    ensures { result ≡ Walk.form_by file_id read }
+{
+    match read {
+        Ok(head) => {
+            let rec_len = match head.format {
+                Format::Fixed => head.rec_len,
+                Format::Counted | Format::Spanned => 0,
+            };
+            Known::from_parts(head.format, rec_len, head.offset, file_id)
+        }
+        Err(_) => None,
+    }
+}
+
+/// After a block at which a section's second label is expected. Some systems wrote none.
+fn second_by(section: OpenSection, kind: Option<Kind>, read: Result<Head2, LabelFault>) -> Expected
+    ensures { result ≡ Walk.second_by section kind read }
+{
+    match kind {
+        Some(Kind::Hdr2) => Expected::Headers(OpenSection {
+            form: form_by(section.file_id, read),
+            ..section
+        }),
+        _ => Expected::Headers(section),
+    }
+}
+
+/// After a block at which a section's trailer label is expected, and which is not its trailer label.
+fn unclosed_by(
+    section: OpenSection,
+    read: Result<Head1, LabelFault>,
+) -> (Expected, Option<FoundSection>)
+    ensures { result ≡ Walk.unclosed_by section read }
+{
+    (begun_by(read, Expected::Outside(0)), Some((section, None)))
+}
+
+/// After a block at which a section's trailer label is expected.
+fn closed_by(
+    section: OpenSection,
+    read: Result<Trail1, LabelFault>,
+    head: Result<Head1, LabelFault>,
+) -> (Expected, Option<FoundSection>)
+    ensures { result ≡ Walk.closed_by section read head }
+{
+    match read {
+        Ok(trail) if section.closes(&trail) => {
+            let closed = Closing {
+                eof: trail.eof,
+                count: trail.blocks,
+            };
+            (Expected::Trailers, Some((section, Some(closed))))
+        }
+        _ => unclosed_by(section, head),
+    }
+}
+
+/// After a block outside of sections, with so many tape marks before it.
+fn outside_by(marks: u8, kind: Option<Kind>, head: Result<Head1, LabelFault>) -> Expected
+    ensures { result ≡ Walk.outside_by marks kind head }
+{
+    if marks < 2 {
+        return begun_by(head, Expected::Outside(0));
+    }
+    match kind {
+        Some(Kind::Eof1 | Kind::Eov1 | Kind::Eof2 | Kind::Eov2) => Expected::Outside(0),
+        _ => Expected::Over,
+    }
+}
+
+/// After a block, with the section that ended there.
+fn block_step(expected: Expected, bytes: &[u8]) -> (Expected, Option<FoundSection>)
+    ensures { result ≡ Walk.step expected (block bytes.now) }
+{
+    match expected {
+        Expected::Outside(marks) => (outside_by(marks, kind(bytes), read_head1(bytes)), None),
+        Expected::Second(section) => (second_by(section, kind(bytes), read_head2(bytes)), None),
+        Expected::Headers(section) => (Expected::Headers(section), None),
+        Expected::Data(section) => (Expected::Data(section.with_item()), None),
+        Expected::Trailer(section) => closed_by(section, read_trail1(bytes), read_head1(bytes)),
+        Expected::Trailers => (Expected::Trailers, None),
+        Expected::Next => (begun_by(read_head1(bytes), Expected::Outside(0)), None),
+        Expected::Over => (Expected::Over, None),
+    }
+}
+
+/// After a tape mark, with the section that ended there.
+fn mark_step(expected: Expected) -> (Expected, Option<FoundSection>)
+    ensures { result ≡ Walk.step expected mark }
+{
+    match expected {
+        Expected::Outside(0) => (Expected::Outside(1), None),
+        Expected::Outside(1) => (Expected::Outside(2), None),
+        Expected::Outside(_) => (Expected::Over, None),
+        Expected::Second(section) | Expected::Headers(section) => (Expected::Data(section), None),
+        Expected::Data(section) => (Expected::Trailer(section), None),
+        Expected::Trailer(section) => (Expected::Outside(1), Some((section, None))),
+        Expected::Trailers => (Expected::Next, None),
+        Expected::Next | Expected::Over => (Expected::Over, None),
+    }
+}
+
+/// After an item that could not be read, with the section that ended there.
+fn bad_step(expected: Expected) -> (Expected, Option<FoundSection>)
+    ensures { result ≡ Walk.step expected bad }
+{
+    match expected {
+        Expected::Outside(marks) if marks < 2 => (Expected::Outside(0), None),
+        Expected::Outside(marks) => (Expected::Outside(marks), None),
+        Expected::Over => (Expected::Over, None),
+        Expected::Second(section) | Expected::Headers(section) => (
+            Expected::Headers(section.doubted()),
+            None,
+        ),
+        Expected::Data(section) => (Expected::Data(section.with_unreadable().with_item()), None),
+        Expected::Trailer(section) => (Expected::Outside(0), Some((section, None))),
+        Expected::Trailers | Expected::Next => (Expected::Outside(0), None),
+    }
+}
+
+/// Returns what is expected after an item, and the section that ended there, if one did.
+pub fn step(expected: Expected, item: Item<'_>) -> (Expected, Option<FoundSection>)
+    ensures { result ≡ Walk.step expected (tape_item item.entry) }
+{
+    match item {
+        Item::Block(bytes) => block_step(expected, bytes),
+        Item::Bad => bad_step(expected),
+        Item::Mark => mark_step(expected),
+    }
+}
+
+impl Expected {
+    /// Returns the section that has begun and not ended, if the items end here.
+    pub fn open_section(&self) -> Option<FoundSection>
+        ensures { result ≡ Walk.open_section self.now }
+    {
+        match *self {
+            Expected::Headers(section) | Expected::Data(section) | Expected::Trailer(section) => {
+                Some((section, None))
+            }
+            _ => None,
+        }
+    }
+}

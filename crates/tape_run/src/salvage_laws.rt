@@ -1,0 +1,71 @@
+//! What the definitions of `salvage` say together.
+
+ghost use Rattle.tape_run.specs.SalvageWhole.{RecoversWhole, AllWhole, FirstStays, NeverLess};
+ghost use Rattle.tape_run.specs.SalvageWhole.{WritesOutput};
+ghost use Rattle.tape_run.specs.SalvageImage.{RestHasNothing};
+ghost use Rattle.tape_run.specs.SalvageSections.{RecoversSectionOf, PassesSection, FindsSection};
+ghost use Rattle.tape_run.specs.SalvageSections.{RecoversFromVolume, RecoversFromReading};
+
+/// Of a file whose parts are in order, with any of its blocks missing, exactly the records are
+/// recovered all of whose parts are in blocks that were read.
+pub fn whole_records_are_recovered()
+    ensures { RecoversWhole }
+{}
+
+/// If no block is missing, these are all parts of the file.
+pub fn all_records_are_recovered()
+    ensures { AllWhole }
+{}
+
+/// From a section of a lawful set whose labels and tape marks were read, exactly the records of the
+/// blocks that were read are recovered. After it another section may begin.
+pub fn sections_are_recovered()
+    ensures { RecoversSectionOf }
+{}
+
+/// From another section nothing is recovered.
+pub fn other_sections_are_passed()
+    ensures { PassesSection }
+{}
+
+/// Such a section is found to close, with all of its data items counted, also those that could not
+/// be read.
+pub fn sections_are_found()
+    ensures { FindsSection }
+{}
+
+/// From a volume of a lawful set of which only data blocks could not be read, exactly the records
+/// of the section's blocks that were read are recovered.
+pub fn volumes_are_recovered()
+    ensures { RecoversFromVolume }
+{}
+
+/// What was recovered remains a prefix of what is recovered.
+pub fn recovered_records_stay()
+    ensures { FirstStays }
+{}
+
+/// Up to the first missing block nothing is left out, so no less is recovered than `extract`
+/// gathers up to there.
+pub fn never_less_than_up_to_the_gap()
+    ensures { NeverLess }
+{}
+
+/// The parts of a file are written as `extract` writes them, so a file of which nothing is missing
+/// is the same, byte for byte.
+pub fn parts_are_written_as_extracted()
+    ensures { WritesOutput }
+{}
+
+/// Reading stops at the mark after a section's data; the rest of an image on which the section is
+/// once has nothing more of it.
+pub fn the_rest_has_nothing_more()
+    ensures { RestHasNothing }
+{}
+
+/// From a reading of a volume of which only data blocks could not be read, and which ends at the
+/// mark after the section's data or has all items, exactly the records of the section's blocks that
+/// were read are recovered.
+pub fn readings_are_recovered()
+    ensures { RecoversFromReading }
+{}
