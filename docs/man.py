@@ -26,6 +26,11 @@ COMMANDS = {
         ("IMAGE", "IMAGES"), ("--files-from LIST", "FROM"), ("--null", "NULL")]),
     "survey": ("[--tsv] [--files-from LIST [--null]] [IMAGE]...", [
         ("IMAGE", "SHELF"), ("--files-from LIST", "FROM"), ("--null", "NULL"), ("--tsv", "ROWS")]),
+    "compare": ("[--files-from LIST [--null]] [IMAGE]...", [
+        ("IMAGE", "READINGS"), ("--files-from LIST", "FROM"), ("--null", "NULL")]),
+    "merge": ("[--files-from LIST [--null]] OUT [IMAGE]...", [
+        ("OUT", "MERGED_OUT"), ("IMAGE", "READINGS"), ("--files-from LIST", "FROM"),
+        ("--null", "NULL")]),
     "extract": ("[OPTIONS] SET FILE OUT [IMAGE]...", [
         ("SET", "SET"), ("FILE", "FILE"), ("OUT", "OUT"), ("IMAGE", "REELS"),
         ("--files-from LIST", "FROM"), ("--null", "NULL"),
@@ -49,7 +54,7 @@ DATE = "2026-11-26"
 
 # The files that the program creates: a name, and what it is.
 FILES = [
-    ("OUT.part", "the records of an unfinished output, next to OUT. It is renamed to OUT when the "
+    ("OUT.part", "an unfinished output, next to OUT. It is renamed to OUT when the "
      "file is complete. A run that was killed may leave it; it may be deleted."),
     ("PATH of --stage, DIR/SET.FILE.NAME.stage", "a stage: what was recovered so far. The next run "
      "continues from it."),
@@ -99,9 +104,15 @@ def read(*path):
         return file.read()
 
 
+def words_of(name):
+    """The file of the arguments of a command; those of `compare` are with `merge`'s."""
+    return os.path.join("merge" if name == "compare" else name, "words.rt")
+
+
 def texts():
     """The texts of help.rt and help/ by their names."""
-    below = [("help", f"{name}.rt") for name in ("extract", "lists", "stage", "survey", "unpack", "volumes")]
+    below = [("help", f"{name}.rt") for name in
+             ("extract", "lists", "merge", "stage", "survey", "unpack", "volumes")]
     parts = [("help.rt",), *below]
     source = "".join(read(SOURCE, *part) for part in parts)
     found = re.findall(r'pub const (\w+): &str =\s*"((?:[^"\\]|\\.)*)";', source, re.S)
@@ -214,7 +225,7 @@ def usage(name):
 def defaults(name):
     """What stands for the options of a command that are left out, as its help tells it."""
     found = re.findall(r'Word\(\s*"([\w-]+)",\s*Kind::\w+Option\([^()]*&\["(\w+)"\]\)',
-                       read(SOURCE, name, "words.rt"))
+                       read(SOURCE, words_of(name)))
     return {"--" + option: f" [default: {value}]" for option, value in found}
 
 
@@ -270,7 +281,7 @@ def tidied(lines):
 
 def words_of_source():
     """Each word of the commands with the name of its text, as the sources pair them."""
-    parts = [("words.rt",), *((name, "words.rt") for name in COMMANDS)]
+    parts = [("words.rt",), *((words_of(name),) for name in COMMANDS if name != "compare")]
     source = "".join(read(SOURCE, *part) for part in parts)
     rows = re.findall(r'Word\(\s*"([^"]+)",\s*Kind::(\w+).*?help::(\w+)', source, re.S)
     options = ("Flag", "FlagOf", "TextOption", "NumberOption", "NameOption")

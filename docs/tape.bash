@@ -3,7 +3,7 @@ _tape() {
     local cur=${COMP_WORDS[COMP_CWORD]} prev=${COMP_WORDS[COMP_CWORD-1]} command=${COMP_WORDS[1]}
     local word at place=1
     if [ "$COMP_CWORD" -eq 1 ]; then
-        COMPREPLY=($(compgen -W 'list check survey extract unpack stage init write help --help --version' -- "$cur"))
+        COMPREPLY=($(compgen -W 'list check survey compare merge extract unpack stage init write help --help --version' -- "$cur"))
         return
     fi
     # Bash takes '=' for a word of its own.
@@ -15,9 +15,9 @@ _tape() {
     --block | --record | --offset) return ;;
     esac
     case $command:$cur in
-    help:*) COMPREPLY=($(compgen -W 'list check survey extract unpack stage init write' -- "$cur")); return ;;
+    help:*) COMPREPLY=($(compgen -W 'list check survey compare merge extract unpack stage init write' -- "$cur")); return ;;
     list:-*) COMPREPLY=($(compgen -W '--offsets --explain --help' -- "$cur")); return ;;
-    check:-*) COMPREPLY=($(compgen -W '--files-from --null --explain --help' -- "$cur")); return ;;
+    check:-* | compare:-* | merge:-*) COMPREPLY=($(compgen -W '--files-from --null --explain --help' -- "$cur")); return ;;
     survey:-*) COMPREPLY=($(compgen -W '--files-from --null --tsv --explain --help' -- "$cur")); return ;;
     unpack:-*) COMPREPLY=($(compgen -W '--files-from --null --form --explain --help' -- "$cur")); return ;;
     stage:-*) COMPREPLY=($(compgen -W '--form --damaged --explain --help' -- "$cur")); return ;;
@@ -49,7 +49,7 @@ _tape() {
     *:--files-from) COMPREPLY=($(compgen -f -- "$cur")) ;;
     init:1:* | write:1:* | unpack:1:*) COMPREPLY=($(compgen -d -- "$cur")) ;;
     # No image is offered for OUT, which would be written over, nor for a stage.
-    extract:3:* | stage:[12]:* | *:--stage) COMPREPLY=($(compgen -f -X '*.[tT][aA][pP]' -- "$cur")) ;;
+    extract:3:* | merge:1:* | stage:[12]:* | *:--stage) COMPREPLY=($(compgen -f -X '*.[tT][aA][pP]' -- "$cur")) ;;
     *) COMPREPLY=($(compgen -f -- "$cur")) ;;
     esac
 }

@@ -16,7 +16,9 @@ named name = cond (bytes_eq name (codes "list")) verbs.List
     (cond (bytes_eq name (codes "extract")) verbs.Extract
     (cond (bytes_eq name (codes "unpack")) verbs.Unpack
     (cond (bytes_eq name (codes "stage")) verbs.Stage
-    (cond (bytes_eq name (codes "init")) verbs.Init verbs.Write))))))
+    (cond (bytes_eq name (codes "init")) verbs.Init
+    (cond (bytes_eq name (codes "write")) verbs.Write
+    (cond (bytes_eq name (codes "merge")) verbs.Merge verbs.Compare))))))))
 
 named_back : (verb : Verb) → named (name_of verb) ≡ verb
 named_back verbs.List = refl
@@ -27,6 +29,8 @@ named_back verbs.Unpack = refl
 named_back verbs.Stage = refl
 named_back verbs.Init = refl
 named_back verbs.Write = refl
+named_back verbs.Merge = refl
+named_back verbs.Compare = refl
 
 same_verb : (one two : Verb) → name_of one ≡ name_of two → one ≡ two
 same_verb one two e = sym (named_back one) ∙ ap named e ∙ named_back two

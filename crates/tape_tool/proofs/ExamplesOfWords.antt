@@ -214,6 +214,10 @@ check rows (orders.Init _) h =
     absurd (let n : 99 ≡ 105 = other _ _ 99 105 h.0 refl refl in omega arith)
 check rows (orders.Write _) h =
     absurd (let n : 99 ≡ 119 = other _ _ 99 119 h.0 refl refl in omega arith)
+check rows (orders.Merge _) h =
+    absurd (let n : 99 ≡ 109 = other _ _ 99 109 h.0 refl refl in omega arith)
+check rows (orders.Compare _) h =
+    absurd (let n : 104 ≡ 111 = ap (λ t. get_or t 1 0) h.0 in omega (arith, n))
 
 pub cases_of_orders : CasesOfOrders
 unfolding digits

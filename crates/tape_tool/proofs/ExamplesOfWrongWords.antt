@@ -14,6 +14,8 @@ use Rattle.tape_tool.specs.Words.{AreAtOdds, AreTooMany, IsSomeNumber, HavePaths
 use Rattle.tape_tool.specs.Words.{IsNoExtract, IsNoInit, IsNoUnpack, name_of}
 use Rattle.tape_tool.specs.declared.images.Named.{Named}
 use Rattle.tape_tool.specs.declared.words.Order.{Order}
+use Rattle.tape_tool.specs.declared.merge.words.Merge.{Merge}
+use Rattle.tape_tool.specs.Words.{AsksToMerge, IsNoMerge}
 use Rattle.tape_tool.specs.declared.words.Order.TheVariants as orders
 use Rattle.tape_tool.specs.Words.{IsNoOrderIn, IsNoOrderOf, IsOrderIn, IsOrderOf, NamesImages}
 use Rattle.tape_tool.specs.Words.{texts_of_one}
@@ -96,6 +98,8 @@ unknown verbs.Unpack = other _ _ 108 117 (omega arith) refl refl
 unknown verbs.Stage = other _ _ 108 115 (omega arith) refl refl
 unknown verbs.Init = other _ _ 108 105 (omega arith) refl refl
 unknown verbs.Write = other _ _ 108 119 (omega arith) refl refl
+unknown verbs.Merge = other _ _ 108 109 (omega arith) refl refl
+unknown verbs.Compare = other _ _ 108 99 (omega arith) refl refl
 
 pub none_named : IsDashOrMore [] → ⊥
 none_named (inl e) = absurd (let n : 0 ≡ 1 = ap length e in omega (arith, n))
@@ -131,6 +135,10 @@ one_at_most one texts is named (inr h) = two_of_one one (subst (λ ts. 2 ≤ len
 few : (named : Named) (rows : List Row) → NamesImages rows named → AreTooMany rows → ⊥
 few named rows n many = absurd (omega (arith, n.few, many))
 
+no_merge : (order : Merge) (rows : List Row) → AsksToMerge rows order → IsNoMerge rows → ⊥
+no_merge order rows asked (inl dash) = asked.named dash
+no_merge order rows asked (inr many) = few order.images rows asked.images many
+
 both : (name : List ℕ) (rows : List Row) (order : Order) → IsOrderOf name rows order
     → IsNoOrderOf name rows → ⊥
 both name rows (orders.List o) h =
@@ -145,6 +153,8 @@ both name rows (orders.Stage o) h =
     known_by verbs.Stage name rows h.0 (one_at_most o.out _ h.1.out h.1.named)
 both name rows (orders.Init o) h = known_by verbs.Init name rows h.0 (no_init o rows h.1)
 both name rows (orders.Write o) h = known_by verbs.Write name rows h.0 h.1.lawful
+both name rows (orders.Merge o) h = known_by verbs.Merge name rows h.0 (no_merge o rows h.1)
+both name rows (orders.Compare o) h = known_by verbs.Compare name rows h.0 (few o rows h.1)
 
 never_both : (met : Option (List ℕ × List Row)) (order : Order) → IsOrderIn met order
     → IsNoOrderIn met → ⊥

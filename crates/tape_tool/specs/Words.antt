@@ -30,6 +30,7 @@ use Rattle.tape_tool.specs.declared.unpack.words.Unpack.{Unpack}
 use Rattle.tape_tool.specs.declared.stage.words.StageOrder.{StageOrder}
 use Rattle.tape_tool.specs.declared.init.words.Init.{Init}
 use Rattle.tape_tool.specs.declared.write.words.WriteOrder.{WriteOrder}
+use Rattle.tape_tool.specs.declared.merge.words.Merge.{Merge}
 
 -- ---- a word
 
@@ -225,6 +226,16 @@ pub record AsksToWrite (rows : List Row) (order : WriteOrder) : Type 0 where
   pub form : IsForm rows order.form
   pub lawful : IsNoWrite rows → ⊥
 
+-- what `merge` is asked for
+pub record AsksToMerge (rows : List Row) (order : Merge) : Type 0 where
+  pub out : order.out.now ≡ text_in rows (codes "OUT")
+  pub named : text_in rows (codes "OUT") ≢ codes "-"
+  pub images : NamesImages rows order.images
+
+-- why `merge` is refused
+abbrev pub IsNoMerge : List Row → Type 0
+IsNoMerge rows = (text_in rows (codes "OUT") ≡ codes "-") ⊎ AreTooMany rows
+
 -- ---- a command line
 
 -- the name of a command
@@ -237,6 +248,8 @@ name_of verbs.Unpack = codes "unpack"
 name_of verbs.Stage = codes "stage"
 name_of verbs.Init = codes "init"
 name_of verbs.Write = codes "write"
+name_of verbs.Merge = codes "merge"
+name_of verbs.Compare = codes "compare"
 
 -- The order is that of the command with this name, and asks for what its rows say.
 abbrev pub IsOrderOf : List ℕ → List Row → Order → Type 0
@@ -248,6 +261,8 @@ IsOrderOf name rows (orders.Unpack order) = (name ≡ codes "unpack") × AsksToU
 IsOrderOf name rows (orders.Stage order) = (name ≡ codes "stage") × AsksForStage rows order
 IsOrderOf name rows (orders.Init order) = (name ≡ codes "init") × AsksToInit rows order
 IsOrderOf name rows (orders.Write order) = (name ≡ codes "write") × AsksToWrite rows order
+IsOrderOf name rows (orders.Merge order) = (name ≡ codes "merge") × AsksToMerge rows order
+IsOrderOf name rows (orders.Compare named) = (name ≡ codes "compare") × NamesImages rows named
 
 -- what is to be done by the command that the parser met, if it met one
 abbrev pub IsOrderIn : Option (List ℕ × List Row) → Order → Type 0
@@ -264,6 +279,8 @@ IsNoOrder verbs.Unpack rows = IsNoUnpack rows
 IsNoOrder verbs.Stage rows = IsDashOrMore (texts_in rows (codes "OUT"))
 IsNoOrder verbs.Init rows = IsNoInit rows
 IsNoOrder verbs.Write rows = IsNoWrite rows
+IsNoOrder verbs.Merge rows = IsNoMerge rows
+IsNoOrder verbs.Compare rows = AreTooMany rows
 
 -- and why a command line is: no command has the name that the parser met, or it refuses its rows
 abbrev pub IsNoOrderOf : List ℕ → List Row → Type 0

@@ -5,7 +5,7 @@ mod reason;
 use crate::fault::{ToolFault, number_of_file, number_of_write};
 use files::{
     FILE_OF_FOLDER, FILE_OF_IMAGE, FILE_OF_IMAGES, FILE_OF_INPUT, FILE_OF_LINES, FILE_OF_LIST,
-    FILE_OF_OUT, FILE_OF_STAGE, FILE_OF_VOLUME,
+    FILE_OF_NEW, FILE_OF_OUT, FILE_OF_STAGE, FILE_OF_VOLUME,
 };
 pub use reason::reason_of;
 use std::{fmt, io};
@@ -32,8 +32,12 @@ pub enum Site<'a> {
     Images(&'a str),
     /// The list of images in this file, or on standard input.
     List(Option<&'a str>),
+    /// The image with this number in a list.
+    Listed(usize),
     /// Where the records of a file go.
     Out(&'a str),
+    /// Where the merged image goes.
+    New(&'a str),
     /// Where recovered data is saved.
     Stage(&'a str),
     /// The directory that files are unpacked into.
@@ -48,6 +52,7 @@ impl fmt::Display for Site<'_> {
                 let [a, b, c] = prefix.characters.map(char::from);
                 write!(f, "  Image: {folder}/{a}{b}{c}{number:03}.tap")
             }
+            Site::Listed(number) => write!(f, "  Image: name {number} in the list"),
             _ => {
                 let (kind, name) = self.named();
                 write!(f, "  {kind}: {name}")
@@ -60,13 +65,13 @@ impl<'a> Site<'a> {
     /// What kind of thing it is, and its name.
     fn named(&self) -> (&'static str, &'a str) {
         match *self {
-            Site::Unknown | Site::Volume(_, _, _) => ("", ""),
+            Site::Unknown | Site::Volume(_, _, _) | Site::Listed(_) => ("", ""),
             Site::Lines => ("Output", "standard output"),
             Site::Stdin => ("Image", "standard input"),
             Site::Image(path) => ("Image", path),
             Site::Input(word) => ("Input", word),
             Site::List(path) => ("List", path.unwrap_or("standard input")),
-            Site::Out(path) => ("OUT", path),
+            Site::Out(path) | Site::New(path) => ("OUT", path),
             Site::Stage(path) => ("Stage", path),
             Site::Folder(path) | Site::Images(path) => ("DIR", path),
         }
@@ -121,6 +126,7 @@ fn is_at(fault: ToolFault, site: Site<'_>) -> bool {
 /// What the fault is, what was kept, and what to do next.
 pub fn text_of(fault: ToolFault, site: Site<'_>) -> &'static str {
     match fault {
+        ToolFault::Image(_) if matches!(site, Site::New(_) | Site::Lines) => MERGED_TOO_LONG,
         ToolFault::Image(fault) => image_text(fault),
         ToolFault::Label(fault) => nth(LABEL, fault.number()),
         ToolFault::Write(fault) => nth(WRITE, number_of_write(fault)),
@@ -145,10 +151,11 @@ fn image_text(fault: ImageFault) -> &'static str {
 /// The texts of a file's faults there.
 fn files_at(site: Site<'_>) -> &'static [&'static str] {
     match site {
-        Site::Stdin | Site::Image(_) => FILE_OF_IMAGE,
+        Site::Stdin | Site::Image(_) | Site::Listed(_) => FILE_OF_IMAGE,
         Site::Volume(_, _, _) => FILE_OF_VOLUME,
         Site::List(_) => FILE_OF_LIST,
         Site::Out(_) => FILE_OF_OUT,
+        Site::New(_) => FILE_OF_NEW,
         Site::Stage(_) => FILE_OF_STAGE,
         Site::Folder(_) => FILE_OF_FOLDER,
         Site::Lines => FILE_OF_LINES,
@@ -182,6 +189,12 @@ const NO_MEMORY: &str = "  Out of memory. What was written before it remains.
 /// The first bytes are not those of an image.
 const NO_IMAGE: &str = "  This does not look like a .tap image. Nothing was listed.
   Is it compressed (try 'zcat NAME | tape list'), or a different kind of file?
+";
+
+/// The merged image would be longer than an image may be.
+const MERGED_TOO_LONG: &str =
+    "  Merged, the images would have more than 4,294,967,295 bytes. Nothing was
+  created. Leave out the image that has good blocks in place of short bad ones.
 ";
 
 const IMAGE: &[&str] = &[
@@ -284,7 +297,7 @@ const STAGE: &[&str] = &[
 /// All texts.
 #[cfg(test)]
 pub const TEXTS: &[&[&str]] = &[
-    &[NEVER, NO_MEMORY, NO_IMAGE],
+    &[NEVER, NO_MEMORY, NO_IMAGE, MERGED_TOO_LONG],
     IMAGE,
     LABEL,
     WRITE,
@@ -295,6 +308,7 @@ pub const TEXTS: &[&[&str]] = &[
     FILE_OF_VOLUME,
     FILE_OF_LIST,
     FILE_OF_OUT,
+    FILE_OF_NEW,
     FILE_OF_STAGE,
     FILE_OF_FOLDER,
     RUN,

@@ -1,6 +1,7 @@
 //! The texts of help, and of usage errors that the program finds itself.
 mod extract;
 mod lists;
+mod merge;
 mod stage;
 mod survey;
 mod unpack;
@@ -12,6 +13,10 @@ pub use extract::{
 };
 pub use lists::{
     FROM, NO_IMAGE, NO_TEXT_IN_LIST, NUL_IN_LINES, NULL, TOO_MANY_TO_CHECK, TOO_MANY_TO_SURVEY,
+};
+pub use merge::{
+    ABOUT_COMPARE, ABOUT_MERGE, AFTER_COMPARE, AFTER_MERGE, MERGED_OUT, MERGED_OUT_IS_DASH,
+    ONE_READING, READINGS, TOO_MANY_TO_COMPARE, TOO_MANY_TO_MERGE,
 };
 pub use stage::{ABOUT_STAGE, AFTER_STAGE, DAMAGED, ONE_OUT, OUT_OF_STAGE, STAGE_READ};
 pub use survey::{ABOUT_SURVEY, AFTER_SURVEY, ROWS, SHELF};

@@ -19,6 +19,7 @@ mod check;
 mod extract;
 mod init;
 mod list;
+mod merge;
 mod stage;
 mod survey;
 mod unpack;

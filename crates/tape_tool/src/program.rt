@@ -15,6 +15,7 @@ use crate::help;
 use crate::host::Host;
 use crate::init::init;
 use crate::list::list;
+use crate::merge::{compare, merge};
 use crate::outline::{Outline, mistake};
 use crate::stage::{StageEnding, stage};
 use crate::survey::survey;
@@ -262,6 +263,8 @@ fn obey<'a, R: Host>(rt: &R, order: &Order<'a>, site: &mut Site<'a>) -> End {
         Order::Extract(order) => extract(rt, order, site),
         Order::Unpack(order) => unpack(rt, order, site),
         Order::Stage(order) => stage(rt, order, site),
+        Order::Merge(order) => merge(rt, order, site),
+        Order::Compare(named) => compare(rt, named, site),
     }
 }
 

@@ -16,6 +16,7 @@ use crate::help;
 use crate::images::{List, Named};
 use crate::init::words::{INIT, Init, init_order};
 use crate::list::words::{LIST, Listing, list_order};
+use crate::merge::words::{COMPARE, MERGE, Merge, compare_order, merge_order};
 use crate::outline::{Outline, command_of, mistake};
 use crate::stage::words::{STAGE, StageOrder, stage_order};
 use crate::survey::words::{SURVEY, Survey, survey_order};
@@ -165,6 +166,10 @@ pub enum Order<'a> {
     Unpack(Unpack<'a>),
     /// Tell what a stage holds.
     Stage(StageOrder<'a>),
+    /// Merge readings of one tape.
+    Merge(Merge<'a>),
+    /// Compare readings of one tape.
+    Compare(Named<'a>),
 }
 
 /// The commands.
@@ -178,6 +183,8 @@ enum Verb {
     Stage,
     Init,
     Write,
+    Merge,
+    Compare,
 }
 
 /// The program. Usage names it as its user does, whatever the file is called.
@@ -249,6 +256,8 @@ fn order_with<'a>(alloc: Global, verb: Verb, words: &ArgMatches<'a>) -> Result<O
         Verb::Stage => Order::Stage(stage_order(alloc, words)?),
         Verb::Init => Order::Init(init_order(alloc, words)?),
         Verb::Write => Order::Write(write_order(alloc, words)?),
+        Verb::Merge => Order::Merge(merge_order(alloc, words)?),
+        Verb::Compare => Order::Compare(compare_order(alloc, words)?),
     })
 }
 
@@ -266,6 +275,8 @@ fn verb_of(name: &str) -> Option<Verb>
         "stage" => Some(Verb::Stage),
         "init" => Some(Verb::Init),
         "write" => Some(Verb::Write),
+        "merge" => Some(Verb::Merge),
+        "compare" => Some(Verb::Compare),
         _ => None,
     }
 }
@@ -280,7 +291,7 @@ fn command<'a>(alloc: Global) -> Result<Command<'a>, AllocError> {
     let bare = command_of(alloc, &TAPE)?.version("0.1.0");
     let mut tape = bare.subcommand_required(true).arg(explain)?;
     let outlines = [
-        &LIST, &CHECK, &SURVEY, &EXTRACT, &UNPACK, &STAGE, &INIT, &WRITE,
+        &LIST, &CHECK, &SURVEY, &COMPARE, &MERGE, &EXTRACT, &UNPACK, &STAGE, &INIT, &WRITE,
     ];
     for outline in &outlines {
         tape = tape.subcommand(command_of(alloc, *outline)?)?;

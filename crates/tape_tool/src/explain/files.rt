@@ -90,6 +90,19 @@ pub const FILE_OF_OUT: &[&str] = &[
 ",
 ];
 
+pub const FILE_OF_NEW: &[&str] = &[
+    "  OUT already exists. It was not changed, and nothing was read.
+  With 'merge' OUT comes before the images: OUT IMAGE.. Choose a new name.
+",
+    "  OUT could not be created. Nothing was read.
+  Does its directory exist, and may you write there?
+",
+    NEVER,
+    "  Writing to OUT or standard output failed: the disk is full, or a pipe was
+  closed. Free some space, or choose an OUT on another disk, and try again.
+",
+];
+
 pub const FILE_OF_STAGE: &[&str] = &[
     NEVER,
     "  The stage could not be opened or created. No image was read. Check its name,

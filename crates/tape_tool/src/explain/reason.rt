@@ -20,9 +20,9 @@ pub fn reason_of<R: Runtime>(rt: &R, fault: ToolFault, site: Site<'_>) -> Option
     match site {
         Site::Image(path) | Site::List(Some(path)) | Site::Stage(path) => unread(rt, path),
         Site::Input(word) => unread(rt, split(word).1),
-        Site::Out(path) => not_there(rt, folder_of(path)),
+        Site::Out(path) | Site::New(path) => not_there(rt, folder_of(path)),
         Site::Folder(path) | Site::Images(path) | Site::Volume(path, _, _) => not_there(rt, path),
-        Site::Unknown | Site::Lines | Site::Stdin | Site::List(None) => None,
+        Site::Unknown | Site::Lines | Site::Stdin | Site::List(None) | Site::Listed(_) => None,
     }
 }
 

@@ -1,0 +1,109 @@
+//! `merge` and `compare` as the program runs them: over files, to a new file.
+
+use super::words::{COMPARE, MERGE, Merge};
+use crate::explain::Site;
+use crate::extract::{Draft, HELD, NOT_MADE};
+use crate::fault::{FileFault, OUT_OF_MEMORY, ToolFault};
+use crate::help;
+use crate::host::Host;
+use crate::images::{Images, Named, names_of};
+use crate::program::{End, refuse_unfit};
+use crate::unfit::{Unfit, refused};
+use std::io::{BufWriter, Sink, Write};
+use std::{fs, io};
+use tape_image::{ImageCause, ImageFault};
+use tape_run::{MergeEnd, MergeStop, Place, WriteFailed, merge_now};
+
+/// Merges the readings that are named, into a new image. At a fault the site is where it came.
+pub fn merge<'a, R: Host>(rt: &R, order: &Merge<'a>, site: &mut Site<'a>) -> End {
+    let mut text = String::new(rt.alloc());
+    let names = match readings_of(rt, &order.images, &mut text, site) {
+        Ok(names) => names,
+        Err(unfit) => return refuse_unfit(rt, &MERGE, unfit),
+    };
+    *site = Site::New(order.out);
+    if fs::symlink_metadata(rt, order.out).is_ok() {
+        return refuse_unfit(rt, &MERGE, refused(FileFault::Exists));
+    }
+    match Draft::make(rt.alloc(), rt, order.out) {
+        Ok(Some(draft)) => {
+            let Draft { mut name, file } = draft;
+            let end = match BufWriter::with_capacity(rt.alloc(), HELD, file) {
+                Ok(out) => merge_files(rt, &order.images, names.as_slice(), out, &mut name, site),
+                Err(_) => End::Faulted(OUT_OF_MEMORY),
+            };
+            name.clear();
+            end
+        }
+        Ok(None) => NOT_MADE,
+        Err(_) => End::Faulted(OUT_OF_MEMORY),
+    }
+}
+
+/// Compares the readings that are named. At a fault the site is where it came.
+pub fn compare<'a, R: Host>(rt: &R, named: &Named<'a>, site: &mut Site<'a>) -> End {
+    let mut text = String::new(rt.alloc());
+    match readings_of(rt, named, &mut text, site) {
+        Ok(names) => {
+            *site = Site::Lines;
+            merge_files(rt, named, names.as_slice(), io::sink(), &mut Nowhere, site)
+        }
+        Err(unfit) => refuse_unfit(rt, &COMPARE, unfit),
+    }
+}
+
+/// Where the merged image of `compare` goes.
+#[derive(Drop)]
+struct Nowhere;
+
+impl Place<Sink> for Nowhere {
+    ghost use Rattle.std.specs.Prelude.{None};
+
+    ghost stands = { λ _. None };
+
+    fn place(&mut self, _out: Sink) -> Result<(), WriteFailed> {
+        Ok(())
+    }
+}
+
+/// The names of the readings, of which there are two at least.
+fn readings_of<'t, 'a: 't, R: Host>(
+    rt: &R,
+    named: &Named<'a>,
+    text: &'t mut String,
+    site: &mut Site<'a>,
+) -> Result<Vec<&'t str>, Unfit> {
+    match names_of(rt, named, text, site) {
+        Ok(names) if names.len() < 2 => Err(Unfit::Words(help::ONE_READING)),
+        answer => answer,
+    }
+}
+
+/// Merges the images of these names. At a fault of one of them the site is that image.
+fn merge_files<'a, R: Host, W: Write + Drop, O: Place<W>>(
+    rt: &R,
+    named: &Named<'a>,
+    names: &[&str],
+    out: W,
+    place: &mut O,
+    site: &mut Site<'a>,
+) -> End {
+    let images = &mut Images::new(rt, names);
+    match merge_now(rt.alloc(), images, names, out, place, &mut io::writer(rt)) {
+        Ok(MergeEnd::Whole) => End::Done,
+        Ok(MergeEnd::Partial | MergeEnd::Differs) => End::Incomplete,
+        Err(MergeStop::NotOpened(number)) => {
+            *site = match named.words.get(number) {
+                Some(name) => Site::Image(*name),
+                None => Site::Listed(number.saturating_sub(named.words.len()).saturating_add(1)),
+            };
+            End::Faulted(ToolFault::File(FileFault::NotOpened))
+        }
+        Err(MergeStop::TooLong(place)) => End::Faulted(ToolFault::Image(ImageFault {
+            place,
+            cause: ImageCause::TooLong,
+        })),
+        Err(MergeStop::OutOfMemory) => End::Faulted(OUT_OF_MEMORY),
+        Err(MergeStop::WriteFailed) => End::Faulted(ToolFault::File(FileFault::WriteFailed)),
+    }
+}

@@ -1,0 +1,72 @@
+//! The arguments of `merge` and `compare`.
+
+ghost use Rattle.std.specs.Prelude.{IfOk, IfErr};
+ghost use Rattle.clap.specs.Words.{found_of, rows_of};
+ghost use Rattle.tape_tool.specs.Words.{AreTooMany, AsksToMerge, IsNoMerge, NamesImages, RefusedFor};
+
+use crate::help;
+use crate::images::Named;
+use crate::outline::{Kind, Outline, Word, mistake};
+use crate::words::{is_dash, named, text_of};
+use clap::{ArgMatches, Error};
+use std::alloc::Global;
+
+/// Which readings are merged, and into what.
+#[derive(Drop)]
+pub struct Merge<'a> {
+    /// The image that is created.
+    pub out: &'a str,
+    pub images: Named<'a>,
+}
+
+/// `merge`.
+pub const MERGE: Outline = Outline {
+    name: "merge",
+    called: "tape merge",
+    about: help::ABOUT_MERGE,
+    after_help: help::AFTER_MERGE,
+    usage: None,
+    words: &[
+        Word("OUT", Kind::Text, help::MERGED_OUT),
+        Word("IMAGE", Kind::TextsOr("files-from"), help::READINGS),
+        Word("files-from", Kind::TextOption("LIST"), help::FROM),
+        Word("null", Kind::FlagOf("files-from"), help::NULL),
+    ],
+};
+
+/// `compare`.
+pub const COMPARE: Outline = Outline {
+    name: "compare",
+    called: "tape compare",
+    about: help::ABOUT_COMPARE,
+    after_help: help::AFTER_COMPARE,
+    usage: None,
+    words: &[
+        Word("IMAGE", Kind::TextsOr("files-from"), help::READINGS),
+        Word("files-from", Kind::TextOption("LIST"), help::FROM),
+        Word("null", Kind::FlagOf("files-from"), help::NULL),
+    ],
+};
+
+/// Returns what the arguments of `merge` ask for.
+pub fn merge_order<'a>(alloc: Global, matches: &ArgMatches<'a>) -> Result<Merge<'a>, Error>
+    ensures ok { IfOk result (AsksToMerge (rows_of (found_of matches.now))) }
+    ensures err { IfErr result (RefusedFor (IsNoMerge (rows_of (found_of matches.now)))) }
+{
+    let out = text_of(matches, "OUT");
+    if is_dash(out) {
+        return Err(mistake(alloc, &MERGE, help::MERGED_OUT_IS_DASH));
+    }
+    Ok(Merge {
+        out,
+        images: named(alloc, matches, &MERGE, help::TOO_MANY_TO_MERGE)?,
+    })
+}
+
+/// Returns what the arguments of `compare` ask for.
+pub fn compare_order<'a>(alloc: Global, matches: &ArgMatches<'a>) -> Result<Named<'a>, Error>
+    ensures ok { IfOk result (NamesImages (rows_of (found_of matches.now))) }
+    ensures err { IfErr result (RefusedFor (AreTooMany (rows_of (found_of matches.now)))) }
+{
+    named(alloc, matches, &COMPARE, help::TOO_MANY_TO_COMPARE)
+}
