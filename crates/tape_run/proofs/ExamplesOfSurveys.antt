@@ -94,7 +94,7 @@ cases_of_surveys = record {
   left_unopened = λ c d v. v;
   unopened = λ s c d v. v;
   opened = λ before c d v. v;
-  viewed = λ before s c d v. (v.1.glance, v.1.noted, v.1.named, v.1.places, v.2, v.3);
+  viewed = λ before s c d v. (v.1.stop, v.1.glance, v.1.noted, v.1.named, v.1.places, v.2, v.3);
   no_location = λ c l image. refl;
   location = λ c image h e. ap (λ (o : Option Bool). if is_some o then []
       else insert_entry same_key [] (key_at h.set_id h.sequence h.sect) image) e;

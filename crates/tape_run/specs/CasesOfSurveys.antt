@@ -49,6 +49,8 @@ use Rattle.tape_run.specs.SurveyRows.{section_row, sight_cells, eof_cell, standi
 use Rattle.tape_run.specs.SurveyRows.{mixed_cell}
 use Rattle.tape_run.specs.Lacks.{good_end, entry_at, key_at}
 use Rattle.tape_run.specs.SurveyLocations.{Located, with_location, located_in, next_image}
+use Rattle.tape_image.specs.Reader.{IfKnown}
+use Rattle.tape_run.specs.Added.{StopsBehind}
 use Rattle.tape_run.specs.SurveyRead.{Found, nothing_found, is_whole_sight, IsViewed, AreViewed}
 use Rattle.tape_run.specs.SurveySets.{standing_of, is_all}
 use Rattle.tape_run.specs.Survey.{image_texts, TellsSight, Surveys, SurveysInPart, summary_at}
@@ -201,13 +203,15 @@ pub record CasesOfSurveys : Type 0 where
   pub unopened : (s : Sight) (c d : Found) → IsViewed None (Some s) c d → ⊥
   pub opened : (before : Option (List ℕ)) (c d : Found) → IsViewed (Some before) None c d → ⊥
   pub viewed : (before : Option (List ℕ)) (s : Sight) (c d : Found)
-      (v : IsViewed (Some before) (Some s) c d) → (s.glance ≡ glance_of v.1.items)
+      (v : IsViewed (Some before) (Some s) c d)
+      → IfKnown before v.0 (StopsBehind v.1.items s.stop) × (s.glance ≡ glance_of v.1.items)
       × (d.sections ≡ noted_all c.sections (met_in v.1.items))
       × (d.files ≡ filed_in c.files v.1.items)
       × (d.locations ≡ located_in c.images c.sections c.locations v.1.items)
       × (d.whole ≡ (c.whole && is_whole_sight s)) × (d.images ≡ next_image c.images)
   -- a section is on the image on which its label was found, unless it is known as good by then
-  pub no_location : (c : List Told) (l : List Located) (image : ℕ) → with_location c l image None ≡ l
+  pub no_location : (c : List Told) (l : List Located) (image : ℕ)
+      → with_location c l image None ≡ l
   pub location : (c : List Told) (image : ℕ) (h : Head1)
       → good_end (entry_at c (key_at h.set_id h.sequence h.sect)) ≡ None
       → with_location c [] image (Some h) ≡ (key_at h.set_id h.sequence h.sect, image) ∷ []
