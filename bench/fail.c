@@ -3,11 +3,14 @@
        cc -O2 -shared -fPIC -o fail.so fail.c
        FAIL=r3 LD_PRELOAD=./fail.so tape list reel.tap
 
-   FAIL is a letter and a number: a (allocations), o (files opened), r (reads), w (writes), y (syncs, of folders too),
-   n (new names), l (locks: another run has it). That call of the kind, counted from 1, fails; with a plus behind the
-   number all later ones fail too. FAIL=s fails none, but lets each read and write pass one byte alone; FAIL=u fails
-   each lock as a file system that has none. Where FAIL_COUNTS names a file, the numbers of calls are written into it at the end, in the order
+   FAIL is a letter and a number: a (allocations), o (files opened), r (reads), w (writes), y (syncs, of directories
+   too), n (new names), l (locks: another run has it), t (looks at files), h (second names), d (names removed),
+   c (files closed). That call of the kind, counted from 1, fails; with a plus after the number all later ones fail too.
+   A colon and a number after that is the error that it fails with, in the place of the one below. FAIL=s fails none,
+   but lets each read and write pass one byte alone; FAIL=u fails each lock as a file system that has none. Where FAIL_COUNTS names a file, the numbers of calls are written into it at the end, in the order
    of the letters, and behind them how many bytes the reads gave.
+
+   Where FAIL_PATH names a file, the path of the call that was refused last is written into it, where it has one.
 
    The C library's own calls do not come by here: the program is to do its input and output without stdio. */
 #define _GNU_SOURCE
@@ -19,15 +22,17 @@
 #include <stdlib.h>
 #include <string.h>
 #include <sys/file.h>
+#include <sys/stat.h>
 #include <sys/syscall.h>
 #include <sys/types.h>
 #include <sys/uio.h>
 #include <unistd.h>
 
-enum kind { ALLOCATION, OPEN, READ, WRITE, SYNC, NAME, LOCK, KINDS };
+enum kind { ALLOCATION, OPEN, READ, WRITE, SYNC, NAME, LOCK, LOOK, LINK, REMOVAL, CLOSE, KINDS };
 
-static const char letters[KINDS + 1] = "aorwynl";
+static const char letters[KINDS + 1] = "aorwynlthdc";
 static long counts[KINDS], given; /* calls of each kind; bytes that reads gave */
+static char refused[4096]; /* the path of the call that was refused last */
 
 void *__libc_malloc(size_t size);
 void *__libc_calloc(size_t count, size_t size);
@@ -45,22 +50,34 @@ static int is_refused(enum kind kind)
     return counts[kind] == number || (*end == '+' && counts[kind] > number);
 }
 
+/* the same of a call with a path */
+static int is_refused_at(enum kind kind, const char *path)
+{
+    int is = is_refused(kind);
+    if (is)
+        snprintf(refused, sizeof refused, "%s", path);
+    return is;
+}
+
 static size_t allowed(size_t count)
 {
     const char *word = getenv("FAIL");
     return word && word[0] == 's' && count > 1 ? 1 : count;
 }
 
+/* the error that is asked for, or this one */
+static int refuse(int error)
+{
+    const char *word = getenv("FAIL");
+    const char *colon = word ? strchr(word, ':') : NULL;
+    errno = colon ? atoi(colon + 1) : error;
+    return -1;
+}
+
 static void *no_memory(void)
 {
     errno = ENOMEM;
     return NULL;
-}
-
-static ssize_t no_device(void)
-{
-    errno = EIO;
-    return -1;
 }
 
 void *malloc(size_t size)
@@ -94,10 +111,8 @@ int posix_memalign(void **at, size_t alignment, size_t size)
 
 static int open_file(int folder, const char *path, int flags, mode_t mode)
 {
-    if (is_refused(OPEN)) {
-        errno = EACCES;
-        return -1;
-    }
+    if (is_refused_at(OPEN, path))
+        return refuse(EACCES);
     return (int)syscall(SYS_openat, folder, path, flags, mode);
 }
 
@@ -129,14 +144,14 @@ int openat64(int folder, const char *path, int flags, ...) __attribute__((alias(
 
 ssize_t read(int file, void *bytes, size_t count)
 {
-    ssize_t got = is_refused(READ) ? no_device() : syscall(SYS_read, file, bytes, allowed(count));
+    ssize_t got = is_refused(READ) ? refuse(EIO) : syscall(SYS_read, file, bytes, allowed(count));
     given += got > 0 ? got : 0;
     return got;
 }
 
 ssize_t write(int file, const void *bytes, size_t count)
 {
-    return is_refused(WRITE) ? no_device() : syscall(SYS_write, file, bytes, allowed(count));
+    return is_refused(WRITE) ? refuse(EIO) : syscall(SYS_write, file, bytes, allowed(count));
 }
 
 /* a part of what is given may always be taken: here the first piece that is not empty */
@@ -150,17 +165,17 @@ ssize_t writev(int file, const struct iovec *pieces, int count)
 
 int fsync(int file)
 {
-    return is_refused(SYNC) ? (int)no_device() : (int)syscall(SYS_fsync, file);
+    return is_refused(SYNC) ? refuse(EIO) : (int)syscall(SYS_fsync, file);
 }
 
 int fdatasync(int file)
 {
-    return is_refused(SYNC) ? (int)no_device() : (int)syscall(SYS_fdatasync, file);
+    return is_refused(SYNC) ? refuse(EIO) : (int)syscall(SYS_fdatasync, file);
 }
 
 int rename(const char *from, const char *to)
 {
-    return is_refused(NAME) ? (int)no_device() : (int)syscall(SYS_renameat2, AT_FDCWD, from, AT_FDCWD, to, 0);
+    return is_refused_at(NAME, from) ? refuse(EIO) : (int)syscall(SYS_renameat2, AT_FDCWD, from, AT_FDCWD, to, 0);
 }
 
 int flock(int file, int how)
@@ -169,19 +184,49 @@ int flock(int file, int how)
     int is_held = is_refused(LOCK);
     if (!is_held && (!word || word[0] != 'u'))
         return (int)syscall(SYS_flock, file, how);
-    errno = is_held ? EWOULDBLOCK : ENOLCK;
+    if (is_held)
+        return refuse(EWOULDBLOCK);
+    errno = ENOLCK;
     return -1;
+}
+
+int statx(int folder, const char *restrict path, int flags, unsigned mask, struct statx *restrict found)
+{
+    return is_refused_at(LOOK, path) ? refuse(ESTALE) : (int)syscall(SYS_statx, folder, path, flags, mask, found);
+}
+
+int link(const char *from, const char *to)
+{
+    return is_refused_at(LINK, from) ? refuse(EPERM) : (int)syscall(SYS_linkat, AT_FDCWD, from, AT_FDCWD, to, 0);
+}
+
+int unlink(const char *path)
+{
+    return is_refused_at(REMOVAL, path) ? refuse(EIO) : (int)syscall(SYS_unlinkat, AT_FDCWD, path, 0);
+}
+
+/* the file is closed even where the call fails, as on Linux */
+int close(int file)
+{
+    int is_wrong = is_refused(CLOSE);
+    int done = (int)syscall(SYS_close, file);
+    return is_wrong ? refuse(EIO) : done;
+}
+
+static void write_file(const char *path, const char *text, size_t length)
+{
+    long file = path ? syscall(SYS_openat, AT_FDCWD, path, O_WRONLY | O_CREAT | O_TRUNC, 0600) : -1;
+    if (file >= 0 && syscall(SYS_write, file, text, length) == (long)length)
+        syscall(SYS_close, file);
 }
 
 __attribute__((destructor)) static void tell_counts(void)
 {
-    char text[200];
-    const char *path = getenv("FAIL_COUNTS");
-    if (!path)
-        return;
-    int length = snprintf(text, sizeof text, "%ld %ld %ld %ld %ld %ld %ld %ld\n", counts[ALLOCATION], counts[OPEN],
-        counts[READ], counts[WRITE], counts[SYNC], counts[NAME], counts[LOCK], given);
-    long file = syscall(SYS_openat, AT_FDCWD, path, O_WRONLY | O_CREAT | O_TRUNC, 0600);
-    if (file >= 0 && syscall(SYS_write, file, text, (size_t)length) == length)
-        syscall(SYS_close, file);
+    char text[400];
+    int length = 0;
+    for (int kind = 0; kind < KINDS; kind++)
+        length += snprintf(text + length, sizeof text - (size_t)length, "%ld ", counts[kind]);
+    length += snprintf(text + length, sizeof text - (size_t)length, "%ld\n", given);
+    write_file(getenv("FAIL_COUNTS"), text, (size_t)length);
+    write_file(getenv("FAIL_PATH"), refused, strlen(refused));
 }

@@ -10,14 +10,16 @@ fail.c: alone, and with all later ones of its kind. Right is:
 - status 1 and one line on standard error, which is a fault that this refusal may have (none where
   writing that line was refused); or what the command says of an image that is not opened or read;
 - on standard output a front of the right lines, of whole ones where no write was refused;
-- of each image a front, and of an output file nothing: a part of it only with the fault of writing.
+- of each image a front, and of an output file nothing: a part of it only with the fault of writing;
+- an answer other than that with nothing refused, but for the refusals that `may_change_nothing` lists with
+  their reasons: a refusal that the program swallows is wrong.
 
-A refusal that changes nothing is counted by itself. One run more lets reads and writes pass one byte
-alone: nothing may change. Prints a line for wrong answers that are alike, and a table. The status is 1 where an
-answer was wrong. Commands that the program does not have are left out.
+One run more lets reads and writes pass one byte alone: nothing may change. Prints a line for wrong answers that are
+alike, and a table. The status is 1 where an answer was wrong. Commands that the program does not have are left out.
 """
 
 import argparse
+import errno
 import os
 import re
 import subprocess
@@ -31,8 +33,23 @@ from make_worked_image import block, first_label, mark, second_label, volume_lab
 
 HERE = Path(__file__).resolve().parent
 CRATE = HERE.parent / "crates" / "tape_tool"
-# allocations, openings, reads, writes, syncs, new names, locks, as fail.c counts them
-KINDS = "aorwynl"
+# allocations, openings, reads, writes, syncs, new names, locks, looks, second names, removals, closes, as fail.c
+# counts them
+KINDS = "aorwynlthdc"
+# the errors that each call is refused with
+ERRORS = {
+    "a": [errno.ENOMEM],
+    "o": [errno.EACCES, errno.EIO, errno.EMFILE],
+    "r": [errno.EIO],
+    "w": [errno.EIO, errno.ENOSPC],
+    "y": [errno.EIO, errno.EDQUOT],
+    "n": [errno.EIO],
+    "l": [errno.EWOULDBLOCK, errno.EIO, errno.EINTR],
+    "t": [errno.ESTALE, errno.EACCES],
+    "h": [errno.EPERM, errno.EIO],
+    "d": [errno.EIO],
+    "c": [errno.EIO, errno.EDQUOT],
+}
 
 
 @dataclass
@@ -61,6 +78,8 @@ class Answer:
     err: str
     files: dict
     counts: list
+    # the path of the call that was refused, where it has one
+    path: str = ""
 
 
 # ---- images ----
@@ -96,14 +115,17 @@ def volume(number, ends, records):
     return volume_label(f"ABC{number:03}") + section(number, ends, records) + mark() + word(0xFFFFFFFF)
 
 
-ONE, TWO = volume(1, False, range(1, 301)), volume(2, True, range(301, 601))
-LINES = b"".join(b"%04d" % i + b" " * 76 + b"\n" for i in range(1, 601))
+# the records are more than the program holds before it writes them, 65,536 bytes
+ONE, TWO = volume(1, False, range(1, 451)), volume(2, True, range(451, 901))
+LINES = b"".join(b"%04d" % i + b" " * 76 + b"\n" for i in range(1, 901))
 
 # ---- trials ----
 
 NO_MEMORY = {"run fault 4", "image fault 6 at 0"}
 LIST = {"a": NO_MEMORY, "o": {"file fault 2"}, "r": {"image fault 5"}, "w": {"file fault 4"}}
-INIT = {"a": {"run fault 4"}, "o": {"file fault 2"}, "w": {"file fault 4"}}
+# standard streams that are closed are looked after first
+INIT = {"a": {"run fault 4"}, "o": {"file fault 2", "file fault 4"}, "w": {"file fault 4"}, "y": {"file fault 4"},
+    "l": {"file fault 1", "file fault 2"}}
 WRITE = {
     "a": {"run fault 4", "write fault 10"},
     # an input is looked for first, and opened again when its turn comes
@@ -111,23 +133,28 @@ WRITE = {
     "r": {"file fault 3"},
     "w": {"write fault 9", "file fault 4"},
     "y": {"file fault 4"},
+    "t": {"file fault 2"},
+    "l": {"file fault 1", "file fault 2"},
 }
 EXTRACT = {
     "a": NO_MEMORY | {"run fault 1"},
-    "o": {"file fault 2"},
+    "o": {"file fault 2", "file fault 4"},
     "r": {"file fault 3"},
     "w": {"file fault 4"},
     "y": {"file fault 4"},
     "n": {"file fault 4"},
+    "l": {"file fault 2"},
+    "t": {"file fault 2", "file fault 4"},
 }
 STAGE = {
     "a": NO_MEMORY | {"stage fault 4"},
-    "o": {"file fault 2"},
+    "o": {"file fault 2", "file fault 4"},
     "r": {"stage fault 3"},
     "w": {"file fault 4"},
     "y": {"file fault 4"},
     "n": {"file fault 4"},
-    "l": {"stage fault 7"},
+    "l": {"stage fault 7", "file fault 2"},
+    "t": {"file fault 2", "file fault 4"},
 }
 REELS = r"(REEL \d+ .*\n)*"
 UNREAD = {"o": r"REEL \d+ NOT OPENED\n", "r": r"REEL \d+ (REEL ENDED|NOT LABELLED) IMAGE 5 \d+\n"}
@@ -152,17 +179,21 @@ SURVEY_REPORTS = {
 # memory, files and stages as above; a fault that a file came at is told by its line too
 UNPACK = {
     "a": NO_MEMORY | {"run fault 1", "stage fault 4"},
-    "o": {"file fault 2"},
+    "o": {"file fault 2", "file fault 4", "stage fault 3"},
     "w": {"file fault 4", "run fault 1", "stage fault 3"},
     "r": {"stage fault 1", "stage fault 3", "run fault 1"},
     "y": {"file fault 4", "run fault 1", "stage fault 3"},
     "n": {"file fault 4"},
-    "l": {"stage fault 7"},
+    "l": {"stage fault 7", "file fault 2"},
+    "t": {"file fault 2", "file fault 4"},
 }
 UNPACKED = "ABC001.1.PAYROLL"
 WANTED = r"FILE ABC001 1 (COMPLETE|AWAITS) .*\n"
 UNPACK_REPORTS = {kind: {0: WANTED, 3: f"({WANTED})?(INCOMPLETE IMAGES\n)?"} for kind in "orwyl"}
 FAILED = re.compile(r"FILE ABC001 1 FAILED .*\n\Z")
+LEFT = r"(tape: .* could not be removed\n)+"
+# a draft that a refusal left: the next run removes it
+DRAFT = re.compile(r"\.tape-\d+\.part")
 
 
 def stage_of(program):
@@ -220,17 +251,35 @@ def run(options, library, trial, refusal):
         work.mkdir()
         for name, content in trial.files.items():
             (work / name).write_bytes(content)
-        told = os.environ | {"LD_PRELOAD": str(library), "FAIL": refusal, "FAIL_COUNTS": str(counts)}
+        told = os.environ | {"LD_PRELOAD": str(library), "FAIL": refusal, "FAIL_COUNTS": str(counts),
+            "FAIL_PATH": str(Path(folder, "path"))}
         # a file, not a pipe: each run then has the same reads
         Path(folder, "stdin").write_bytes(trial.stdin)
         with open(Path(folder, "stdin"), "rb") as stdin:
             done = subprocess.run([options.program, *trial.words], cwd=work, env=told, stdin=stdin, capture_output=True, check=False)
         files = {path.name: path.read_bytes() for path in work.iterdir()}
         numbers = [int(count) for count in counts.read_text().split()] if counts.exists() else []
-        return Answer(done.returncode, done.stdout.decode(), done.stderr.decode(), files, numbers)
+        path = Path(folder, "path").read_text() if counts.exists() else ""
+        return Answer(done.returncode, done.stdout.decode(), done.stderr.decode(), files, numbers, path)
 
 
 # ---- judging ----
+
+
+def may_change_nothing(trial, kind, error, answer):
+    """Why a refusal may change nothing; None where it may not."""
+    path = answer.path
+    if kind == "c":
+        return "what has to be on the disk was synced before"
+    if kind == "h":
+        return "the name is taken by an empty file first"
+    if kind in "ly" and error == errno.EINTR:
+        return "the call is made again"
+    if kind == "o" and path == "/":
+        return "/dev/null is opened"
+    if kind == "o" and error == errno.EACCES and path == ".":
+        return "a directory that may not be read is not synced"
+    return None
 
 
 def may_be_silent(kind, all_later, right, answer):
@@ -244,6 +293,8 @@ def wrong_text(trial, kind, all_later, right, answer):
     if report and (answer.status == 3 or (answer.status == 0 and answer.files == right.files)):
         told = answer.err == "" and re.fullmatch(report[answer.status], answer.out)
         return None if told else "a report that does not tell the refusal"
+    if kind == "d" and (answer.status, answer.out) == (right.status, right.out):
+        return None if re.fullmatch(LEFT, answer.err) else "a file that could not be removed is not named"
     if answer.status != 1:
         return "the status"
     if answer.err != "" or not may_be_silent(kind, all_later, right, answer):
@@ -269,10 +320,12 @@ def wrong_place(trial, kind, right, answer):
     return None if answer.err == expected and answer.out == "".join(lines) else "the place, or what is listed before it"
 
 
-def wrong_files(trial, right, answer):
+def wrong_files(trial, kind, right, answer):
     for name, content in answer.files.items():
         before, whole = trial.files.get(name), right.files.get(name)
         if content in (before, whole) or name == trial.stays:
+            continue
+        if DRAFT.fullmatch(name) and (kind == "d" or not content):
             continue
         if whole is None or not whole.startswith(content):
             return f"the bytes of {name}"
@@ -286,7 +339,7 @@ def judge(trial, kind, all_later, right, answer):
     return (
         wrong_text(trial, kind, all_later, right, answer)
         or wrong_place(trial, kind, right, answer)
-        or wrong_files(trial, right, answer)
+        or wrong_files(trial, kind, right, answer)
     )
 
 
@@ -308,24 +361,43 @@ def print_wrong(trial, wrong):
 
 def refuse_each(options, library, trial, kind, number_of_calls, right):
     unchanged, wrong = 0, []
-    refusals = [f"{kind}{number}{behind}" for number in range(1, number_of_calls + 1) for behind in ("", "+")]
-    for refusal in refusals:
+    refusals = [
+        (f"{kind}{number}{later}:{error}", error)
+        for number in range(1, number_of_calls + 1) for later in ("", "+") for error in ERRORS[kind]
+    ]
+    for refusal, error in refusals:
         answer = run(options, library, trial, refusal)
         if same(answer, right):
             unchanged += 1
-            continue
-        why = judge(trial, kind, refusal.endswith("+"), right, answer)
+            why = None if may_change_nothing(trial, kind, error, answer) else f"nothing was changed ({answer.path})"
+        else:
+            why = judge(trial, kind, "+" in refusal, right, answer)
         if why:
             wrong.append((refusal, why, answer))
     print_wrong(trial, wrong)
     return len(refusals), unchanged, len(wrong)
 
 
+def due(trial, right):
+    """How many syncs and locks there have to be, at least: a call that is not made cannot be refused."""
+    written = re.search(r"INIT (\d+)\n|VOLUMES (\d+)\n", right.out)
+    if written:
+        volumes = int(written[1] or written[2])
+        return {"y": 2 * volumes, "l": volumes}
+    if trial.result and right.status == 0:
+        return {"y": 2, "l": 1}
+    return {}
+
+
 def try_all(options, library, trial):
     """A row of the table, and how many answers were wrong."""
     right = run(options, library, trial, "")
+    missing = [kind for kind, count in due(trial, right).items() if right.counts[KINDS.index(kind)] < count]
+    if missing:
+        print(f"{trial.name}: not so many calls as there have to be, of the kinds {missing}: {right.counts}")
     each = [refuse_each(options, library, trial, kind, right.counts[place], right) for place, kind in enumerate(KINDS)]
     runs, unchanged, wrong = (sum(numbers) for numbers in zip(*each))
+    wrong += len(missing)
     if not same(run(options, library, trial, "s"), right):
         wrong += 1
         print(f"{trial.name}: another answer where one byte passes at a time")
@@ -355,8 +427,9 @@ def main():
                 continue
             row, count = try_all(options, library, trial)
             rows, wrong = [*rows, row], wrong + count
-    print("| Trial | Allocations | Openings | Reads | Writes | Syncs | New names | Locks | Runs | Nothing changed | Wrong answers |")
-    print("|---|---|---|---|---|---|---|---|---|---|---|")
+    print("| Trial | Allocations | Openings | Reads | Writes | Syncs | New names | Locks | Looks | Second names | Removals | Closes "
+        "| Runs | Nothing changed, as it may | Wrong answers |")
+    print("|" + "---|" * (len(KINDS) + 4))
     print("\n".join(rows))
     return wrong != 0
 

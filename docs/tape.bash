@@ -1,9 +1,13 @@
 # Completion of tape(1) for bash.
 _tape() {
-    local cur=${COMP_WORDS[COMP_CWORD]} prev=${COMP_WORDS[COMP_CWORD-1]} command=${COMP_WORDS[1]}
-    local word at place=1
-    if [ "$COMP_CWORD" -eq 1 ]; then
-        COMPREPLY=($(compgen -W 'list check survey compare merge extract unpack stage init write help --help --version' -- "$cur"))
+    local cur=${COMP_WORDS[COMP_CWORD]} prev=${COMP_WORDS[COMP_CWORD-1]} start=1
+    # Options of the program may stand before the command.
+    while [ "$start" -lt "$COMP_CWORD" ] && [[ ${COMP_WORDS[start]} == -* ]]; do
+        start=$((start + 1))
+    done
+    local word at place=1 command=${COMP_WORDS[start]}
+    if [ "$COMP_CWORD" -eq "$start" ]; then
+        COMPREPLY=($(compgen -W 'list check survey compare merge extract unpack stage init write help --explain --help --version' -- "$cur"))
         return
     fi
     # Bash takes '=' for a word of its own.
@@ -31,7 +35,7 @@ _tape() {
     *:-*) COMPREPLY=($(compgen -W '--explain --help' -- "$cur")); return ;;
     esac
     # Which of the words without a name this one is.
-    for ((at = 2; at < COMP_CWORD; at++)); do
+    for ((at = start + 1; at < COMP_CWORD; at++)); do
         word=${COMP_WORDS[at]}
         case $word in
         --files-from | --form | --stage | --format | --block | --record | --offset) at=$((at + 1)) ;;
@@ -40,17 +44,16 @@ _tape() {
         esac
     done
     compopt -o filenames 2>/dev/null
-    local IFS=$'\n'
     case $command:$place in
     extract:1 | extract:2 | init:2 | init:3 | write:2 | write:3)
         case $prev in --files-from | --stage) ;; *) return ;; esac ;;
     esac
     case $command:$place:$prev in
-    *:--files-from) COMPREPLY=($(compgen -f -- "$cur")) ;;
-    init:1:* | write:1:* | unpack:1:*) COMPREPLY=($(compgen -d -- "$cur")) ;;
+    *:--files-from) mapfile -t COMPREPLY < <(compgen -f -- "$cur") ;;
+    init:1:* | write:1:* | unpack:1:*) mapfile -t COMPREPLY < <(compgen -d -- "$cur") ;;
     # No image is offered for OUT, which would be written over, nor for a stage.
-    extract:3:* | merge:1:* | stage:[12]:* | *:--stage) COMPREPLY=($(compgen -f -X '*.[tT][aA][pP]' -- "$cur")) ;;
-    *) COMPREPLY=($(compgen -f -- "$cur")) ;;
+    extract:3:* | merge:1:* | stage:[12]:* | *:--stage) mapfile -t COMPREPLY < <(compgen -f -X '*.[tT][aA][pP]' -- "$cur") ;;
+    *) mapfile -t COMPREPLY < <(compgen -f -- "$cur") ;;
     esac
 }
 complete -F _tape tape

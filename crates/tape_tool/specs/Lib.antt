@@ -1,4 +1,5 @@
 pub mod Fault
+pub mod Guards
 pub mod Telling
 pub mod Ends
 pub mod Cases

@@ -69,8 +69,17 @@ fn read_list<R: Runtime + AllocGlobal>(rt: &R, list: List<'_>) -> Result<String,
         Ok(text) if !list.null && text.as_str().contains('\0') => {
             Err(Unfit::Words(help::NUL_IN_LINES))
         }
+        Ok(text) if !list.null && is_of_windows(text.as_str()) => {
+            Err(Unfit::Words(help::ODD_LINES))
+        }
         Ok(text) => Ok(text),
     }
+}
+
+/// Whether a list of lines begins with a byte order mark, or a line of it ends with a carriage
+/// return.
+fn is_of_windows(text: &str) -> bool {
+    text.starts_with('\u{FEFF}') || text.contains("\r\n") || text.ends_with('\r')
 }
 
 /// The bytes of a list.

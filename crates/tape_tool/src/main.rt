@@ -29,7 +29,10 @@ mod write;
 mod host;
 mod images;
 mod laws;
+mod left;
+mod odd_word;
 mod staging;
+mod streams;
 #[cfg(test)]
 mod tests;
 mod unfit;

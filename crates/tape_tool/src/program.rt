@@ -16,8 +16,10 @@ use crate::host::Host;
 use crate::init::init;
 use crate::list::list;
 use crate::merge::{compare, merge};
+use crate::odd_word::odd_word;
 use crate::outline::{Outline, mistake};
 use crate::stage::{StageEnding, stage};
+use crate::streams::keep_numbers;
 use crate::survey::survey;
 use crate::telling::FaultLine;
 use crate::unfit::Unfit;
@@ -156,6 +158,11 @@ pub fn finish<R: Eprint>(rt: &R, end: End) -> u8
 
 /// Runs the program, tells a fault, and gives the exit status.
 pub fn run<R: Host>(rt: &R) -> u8 {
+    // Kept open to the end of the run.
+    let _kept = match keep_numbers(rt) {
+        Ok(kept) => kept,
+        Err(fault) => return finish(rt, End::Faulted(fault)),
+    };
     match words_of(rt) {
         Ok(words) => tell(rt, perform(rt, words.as_slice())),
         Err(end) => finish(rt, end),
@@ -168,7 +175,16 @@ fn words_of<R: Host>(rt: &R) -> Result<Vec<String>, End>
 {
     match env::args(rt) {
         Ok(words) => kept(words.collect(rt.alloc())),
-        Err(error) => Err(without_words(rt, error.kind())),
+        Err(error) => {
+            let end = without_words(rt, error.kind());
+            if end == End::WrongWords {
+                let mut room = [0; 4096];
+                if let Some(word) = odd_word(rt, &mut room) {
+                    let _ = rt.eprint(word);
+                }
+            }
+            Err(end)
+        }
     }
 }
 

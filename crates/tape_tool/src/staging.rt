@@ -7,6 +7,7 @@ ghost use Rattle.tape_stage.specs.Moments.{Untouched};
 ghost use Rattle.tape_stage.specs.Staged.{HoldsNone, KeepsStaged};
 ghost use Rattle.tape_stage.specs.Stages.{OpensOver};
 ghost use Rattle.tape_run.specs.Headline.{IsStart};
+ghost use Rattle.tape_tool.specs.Guards.{locked_stage};
 ghost use Rattle.tape_run.specs.Seen.{seen};
 ghost use Rattle.tape_tool.specs.Staging.{IsOfFile, StandsAt, GoesOn, Says, IsUnopened};
 ghost use Rattle.tape_tool.specs.Staging.{SaysNoStage, as_sink, first_point};
@@ -19,8 +20,8 @@ use tape_core::{Checkpoint, ReaderCore};
 use tape_label::Field;
 use tape_label::laws::same_field;
 use tape_run::{RunFault, Session};
-use tape_stage::{Disk, HeldFile, Refused, Stage, StageFault, held_file};
-use tape_writer::system::sync_folder_of;
+use tape_stage::{Disk, HeldFile, MemoryDisk, Refused, Stage, StageFault, held_file};
+use tape_writer::system::{LockFault, locked, sync_folder_of};
 
 /// Why there is no session over a stage.
 #[derive(Clone, Copy, PartialEq, Eq)]
@@ -186,6 +187,48 @@ fn resume<D: Disk>(
     }
 }
 
+/// A session as `open_session` gives it. What holds no stage, but begins as one of this file that
+/// was not made whole, as on a full disk, is made anew.
+fn open_or_make(
+    alloc: Global,
+    disk: HeldFile<File>,
+    set_id: Field<6>,
+    file: u16,
+) -> Result<FileSession, Refused<HeldFile<File>, StagingFault>> {
+    let Refused { mut disk, fault } = match open_session(alloc, disk, set_id, file) {
+        Ok(session) => return Ok(session),
+        Err(refused) => refused,
+    };
+    let is_no_stage = fault == StagingFault::Stage(StageFault::NoPoint);
+    if is_no_stage && is_unmade(alloc, &mut disk, set_id, file) && disk.cut(0).is_ok() {
+        return open_session(alloc, disk, set_id, file);
+    }
+    Err(Refused { disk, fault })
+}
+
+/// Whether each byte that the disk holds is zero, or the one that stands there in a new stage of
+/// this file before its first gate is opened. A file has zeros where its system lost what was
+/// written.
+fn is_unmade<D: Disk>(alloc: Global, disk: &mut D, set_id: Field<6>, file: u16) -> bool {
+    let Ok(core) = ReaderCore::new(set_id, file) else {
+        return false;
+    };
+    let Ok(made) = Stage::create(alloc, MemoryDisk::new(alloc), &core.save(0)) else {
+        return false;
+    };
+    let mut bytes = [0; 256];
+    let len = match disk.len() {
+        Ok(len) if len <= 256 => len as usize,
+        _ => return false,
+    };
+    if disk.read(0, &mut bytes[..len]).is_err() {
+        return false;
+    }
+    let new = made.into_disk();
+    let mut body = bytes[1..].iter().zip(new.bytes().iter().skip(1));
+    matches!(bytes[0], 0 | b'C') && body.all(|(byte, due)| *byte == 0 || byte == due)
+}
+
 /// Whether the checkpoint is one of this file, of a set of this identifier.
 pub fn same_file(point: &Checkpoint, set_id: Field<6>, file: u16) -> bool
     ensures { IsTrue result ↔ IsOfFile set_id file point.now }
@@ -211,7 +254,7 @@ pub fn session_in<R: Host>(
     set_id: Field<6>,
     file: u16,
 ) -> Result<FileSession, ToolFault> {
-    let kept = locked(rt, path)?;
+    let kept = locked_file(rt, path)?;
     let disk = match held_file(rt.alloc(), kept) {
         Ok(disk) => disk,
         Err(fault) => return Err(ToolFault::Stage(fault)),
@@ -220,7 +263,7 @@ pub fn session_in<R: Host>(
     if sync_folder_of(rt, path).is_err() {
         return Err(ToolFault::Stage(StageFault::Device));
     }
-    match open_session(rt.alloc(), disk, set_id, file) {
+    match open_or_make(rt.alloc(), disk, set_id, file) {
         Ok(mut session) => {
             // The stage stands here, and behind a reel that counted wrong it does so again.
             if let Err(fault) = session.note() {
@@ -232,17 +275,26 @@ pub fn session_in<R: Host>(
     }
 }
 
-/// The file at this path, made where none is there, and locked. A file system without locks has no
-/// answer, and then nobody is kept out.
-fn locked<R: Host>(rt: &R, path: &str) -> Result<File, ToolFault> {
+/// The file at this path, made where none is there, and locked.
+fn locked_file<R: Host>(rt: &R, path: &str) -> Result<File, ToolFault> {
     let mut options = OpenOptions::new();
     options.read(true).write(true).create(true);
     let Ok(file) = options.open(rt, path) else {
         return Err(ToolFault::File(FileFault::NotOpened));
     };
-    match file.try_lock() {
-        Err(TryLockError::WouldBlock) => Err(ToolFault::StageInUse),
-        _ => Ok(file),
+    locked_stage(file.try_lock())?;
+    Ok(file)
+}
+
+/// Whether a run may go on with a stage that it tried to lock. On a file system without locks
+/// nobody is kept out.
+pub fn locked_stage(attempt: Result<(), TryLockError>) -> Result<(), ToolFault>
+    ensures { result ≡ locked_stage attempt }
+{
+    match locked(attempt) {
+        Ok(()) => Ok(()),
+        Err(LockFault::InUse) => Err(ToolFault::StageInUse),
+        Err(LockFault::Failed) => Err(ToolFault::File(FileFault::NotOpened)),
     }
 }
 

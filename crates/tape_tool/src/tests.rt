@@ -6,6 +6,7 @@ mod desk;
 mod explain;
 mod extract_program;
 mod faults;
+mod guards;
 mod image;
 mod init;
 mod program;

@@ -1,7 +1,12 @@
-//! Why a command is not begun: its words name files that would be lost by it, or no files.
+//! Why a command is not begun: its words name files that would be lost by it, or no files. What is
+//! found under their names.
+ghost use Rattle.std.specs.Prelude.{◌≡◌, ◌⊎◌, None, Some, Ok, Err, IfErr, IsOk};
+
 use crate::fault::{FileFault, ToolFault};
-use std::fs::Metadata;
+use std::fs;
+use std::fs::{Files, Metadata};
 use std::os::unix::fs::MetadataExt;
+use tape_writer::system::found;
 
 /// Why files may not be used as the words ask for.
 #[derive(Clone, Copy)]
@@ -19,8 +24,92 @@ pub fn refused(fault: FileFault) -> Unfit {
     Unfit::Faulted(ToolFault::File(fault))
 }
 
+/// Returns what this path leads to, if anything.
+///
+/// # Errors
+///
+/// `Faulted` with `NotOpened` if the look failed: something may be there.
+pub fn look<R: Files>(files: &R, path: &str) -> Result<Option<Metadata>, Unfit> {
+    match found(fs::metadata(files, path)) {
+        Ok(there) => Ok(there),
+        Err(fault) => Err(refused(fault)),
+    }
+}
+
 /// Whether both are one file, whatever names or links led there. Of a file system that numbers no
 /// files nothing is known.
 pub fn same_file(one: &Metadata, other: &Metadata) -> bool {
     one.ino() != 0 && one.dev() == other.dev() && one.ino() == other.ino()
+}
+
+/// What tells a file from others, and a plain file from itself with other bytes in it.
+#[derive(Clone, Copy, PartialEq, Eq)]
+pub struct FileId {
+    device: u64,
+    number: u64,
+    length: u64,
+    /// When it was written last, in seconds and nanoseconds.
+    written: (i64, i64),
+}
+
+impl FileId {
+    /// The file of which this was found.
+    pub fn of(found: &Metadata) -> FileId {
+        let (length, written) = if found.is_file() {
+            (found.len(), (found.mtime(), found.mtime_nsec()))
+        } else {
+            (0, (0, 0))
+        };
+        FileId {
+            device: found.dev(),
+            number: found.ino(),
+            length,
+            written,
+        }
+    }
+
+    /// Whether it is this file, which may have other bytes now.
+    pub fn is_same(&self, other: &FileId) -> bool {
+        self.device == other.device && self.number == other.number
+    }
+
+    /// Whether nothing in it can be lost: it has no bytes, or keeps none.
+    pub fn is_empty(&self) -> bool {
+        self.length == 0
+    }
+}
+
+/// How a new file takes a name.
+#[derive(Clone, Copy, PartialEq, Eq)]
+pub enum Taking {
+    /// Only if nothing has it.
+    New,
+    /// From the file that has it.
+    Over,
+}
+
+/// Returns how a new file takes a name under which the first was found before the run, and the
+/// second now. What was not there before is never replaced.
+///
+/// # Errors
+///
+/// `Exists` if another file has the name now, or the same with other bytes; `NotOpened` if it
+/// could not be looked at.
+pub fn way_to_take(
+    before: Option<FileId>,
+    now: Result<Option<FileId>, FileFault>,
+) -> Result<Taking, FileFault>
+    ensures over { result ≡ Ok Taking.Over → now ≡ Ok before }
+    ensures new { result ≡ Ok Taking.New → (before ≡ None) ⊎ (now ≡ Ok None) }
+    ensures due { IfErr result (λ fault. (fault ≡ FileFault.Exists) ⊎ (now ≡ Err fault)) }
+    ensures same { now ≡ Ok before → IsOk result }
+    ensures absent { before ≡ None → result ≡ Ok Taking.New }
+{
+    match (before, now) {
+        (None, _) => Ok(Taking::New),
+        (Some(_), Ok(None)) => Ok(Taking::New),
+        (Some(before), Ok(Some(now))) if before == now => Ok(Taking::Over),
+        (Some(_), Ok(Some(_))) => Err(FileFault::Exists),
+        (Some(_), Err(fault)) => Err(fault),
+    }
 }

@@ -1,5 +1,5 @@
 //! `unpack`: every file of every set on images, into a folder.
-mod last_line;
+pub mod last_line;
 mod paths;
 mod run;
 pub mod words;

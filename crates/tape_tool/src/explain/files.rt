@@ -76,7 +76,7 @@ pub const FILE_OF_LIST: &[&str] = &[
 pub const FILE_OF_OUT: &[&str] = &[
     "  OUT already exists and might be a tape image, an archive or a stage. It was
   not changed. With 'extract' OUT comes before the images: SET FILE OUT IMAGE..
-  Choose another name, or remove the file.
+  Or another program created it meanwhile. Choose another name, or remove it.
 ",
     "  OUT could not be opened or created. Data saved in a stage is safe.
   Does its directory exist, and may you read and write there?

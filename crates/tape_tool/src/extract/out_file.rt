@@ -1,55 +1,87 @@
-//! The file that records are written to.
-use std::fs::{File, Files};
+//! The file that records are written to, in place.
+use crate::fault::FileFault;
+use crate::host::Host;
+use crate::unfit::FileId;
+use std::fs::{File, OpenOptions};
 use std::io::{Error, ErrorKind, Result, Write};
+use tape_writer::system::is_unable;
 
 /// A file that is made, or made empty, when something is first written to it or it is flushed.
 #[derive(Drop)]
-pub struct OutFile<'a, R: Files> {
-    files: &'a R,
+pub struct OutFile<'a, R: Host> {
+    rt: &'a R,
     path: &'a str,
-    file: Option<R::File>,
-    refused: bool,
+    /// What was found under its name, before anything was read.
+    before: Option<FileId>,
+    file: Option<File>,
+    refused: Option<FileFault>,
 }
 
-impl<'a, R: Files> OutFile<'a, R> {
+impl<'a, R: Host> OutFile<'a, R> {
     /// The file at this path, of which nothing is done yet.
-    pub fn new(files: &'a R, path: &'a str) -> OutFile<'a, R> {
+    pub fn new(rt: &'a R, path: &'a str, before: Option<FileId>) -> OutFile<'a, R> {
         OutFile {
-            files,
+            rt,
             path,
+            before,
             file: None,
-            refused: false,
+            refused: None,
         }
     }
 
-    /// Whether it could not be made.
-    pub fn is_refused(&self) -> bool {
+    /// Why it could not be made, where it could not.
+    pub fn refused(&self) -> Option<FileFault> {
         self.refused
     }
 
     /// Makes it, where that was not done yet. What could not be made is not tried again: a buffer
     /// that is dropped passes on what it holds once more.
     fn make(&mut self) -> Result<()> {
-        if self.refused {
+        if self.refused.is_some() {
             return Err(Error::from(ErrorKind::Other));
         }
         if self.file.is_some() {
             return Ok(());
         }
-        match File::create(self.files, self.path) {
+        match self.open() {
             Ok(file) => {
                 self.file = Some(file);
                 Ok(())
             }
-            Err(error) => {
-                self.refused = true;
-                Err(error)
+            Err(fault) => {
+                self.refused = Some(fault);
+                Err(Error::from(ErrorKind::Other))
             }
         }
     }
+
+    /// Opens the file that was found, or makes one, and makes it empty. Another file that came to be
+    /// there stays as it is.
+    fn open(&self) -> std::result::Result<File, FileFault> {
+        let mut options = OpenOptions::new();
+        options.write(true).create(self.before.is_none());
+        let Ok(file) = options.open(self.rt, self.path) else {
+            return Err(FileFault::NotOpened);
+        };
+        let Ok(there) = file.metadata() else {
+            return Err(FileFault::NotOpened);
+        };
+        let id = FileId::of(&there);
+        let is_meant = match self.before {
+            Some(before) => before.is_same(&id),
+            None => id.is_empty(),
+        };
+        if !is_meant {
+            return Err(FileFault::Exists);
+        }
+        if there.is_file() && file.set_len(0).is_err() {
+            return Err(FileFault::WriteFailed);
+        }
+        Ok(file)
+    }
 }
 
-impl<R: Files> Write for OutFile<'_, R> {
+impl<R: Host> Write for OutFile<'_, R> {
     fn write(&mut self, buf: &[u8]) -> Result<usize> {
         self.make()?;
         match &mut self.file {
@@ -58,10 +90,14 @@ impl<R: Files> Write for OutFile<'_, R> {
         }
     }
 
+    /// Has the disk keep what was written. What is no file on a disk has no such call.
     fn flush(&mut self) -> Result<()> {
         self.make()?;
-        match &mut self.file {
-            Some(file) => file.flush(),
+        match &self.file {
+            Some(file) => match file.sync_all() {
+                Err(error) if is_unable(error.kind()) => Ok(()),
+                done => done,
+            },
             None => Err(Error::from(ErrorKind::Other)),
         }
     }

@@ -1,7 +1,8 @@
 //! The program around the engines of `extract`: images, memory, the file.
 
 use crate::explain::Site;
-use crate::extract::out::{Draft, Way, way_of};
+use crate::extract::draft::Draft;
+use crate::extract::out::{Way, way_of};
 use crate::extract::out_file::OutFile;
 use crate::fault::{FileFault, OUT_OF_MEMORY, ToolFault};
 use crate::host::Host;
@@ -12,16 +13,12 @@ use crate::words::{EXTRACT, Extract, Task};
 use std::alloc::Global;
 use std::io;
 use std::io::{BufWriter, Write};
-use std::rt::Runtime;
 use tape_core::{MemorySink, PartWalk, SinkFault};
 use tape_run::{EngineFault, OutSink, RunFault, Session, extract_again, extract_now, extract_to};
 use tape_set::Want;
 
 /// How many bytes of the output are held before they are written, at most.
 pub const HELD: usize = 65_536;
-
-/// The output could not be made.
-pub const NOT_MADE: End = End::Faulted(ToolFault::File(FileFault::NotOpened));
 
 /// Gets the file back that the words name. At a fault the site is where it came.
 pub fn extract<'a, R: Host>(rt: &R, order: &Extract<'a>, site: &mut Site<'a>) -> End {
@@ -90,26 +87,28 @@ fn on_stage<'a, R: Host, P: Write>(
     end
 }
 
-/// A draft of the output, where it is written so and one can be made. Where none can, as in a
-/// folder that is not the user's, the output is written in place.
-pub fn draft_of<'a, R: Runtime + AllocGlobal>(
+/// A draft of the output, where it is written so and its folder takes new files. None where the
+/// output is written in place.
+pub fn draft_of<'a, R: Host>(
     rt: &'a R,
     out: &'a str,
     way: Way,
 ) -> Result<Option<Draft<'a, R>>, End> {
-    if let Way::InPlace = way {
+    if let Way::InPlace(_) = way {
         return Ok(None);
     }
-    match Draft::make(rt.alloc(), rt, out) {
-        Ok(None) if matches!(way, Way::New) => Err(NOT_MADE),
+    match Draft::make(rt.alloc(), rt, out, way.before()) {
+        Ok(None) if matches!(way, Way::New) => {
+            Err(End::Faulted(ToolFault::File(FileFault::NotOpened)))
+        }
         Ok(draft) => Ok(draft),
-        Err(_) => Err(End::Faulted(OUT_OF_MEMORY)),
+        Err(fault) => Err(End::Faulted(fault)),
     }
 }
 
 /// Gets the file back without a stage: it is gathered in memory, where what a reel in doubt gave
 /// can be taken back, since the session has a note where it begins.
-fn in_memory<'a, R: Runtime + AllocGlobal, P: Write>(
+fn in_memory<'a, R: Host, P: Write>(
     rt: &'a R,
     task: &Task<'a>,
     images: &mut Images<'_, R>,
@@ -128,7 +127,7 @@ fn in_memory<'a, R: Runtime + AllocGlobal, P: Write>(
 
 /// Gets the file back without a stage: its records are written as they come where there is a draft,
 /// and else gathered in memory.
-fn at_once<'a, R: Runtime + AllocGlobal, P: Write>(
+fn at_once<'a, R: Host, P: Write>(
     rt: &'a R,
     task: &Task<'a>,
     images: &mut Images<'_, R>,
@@ -137,27 +136,28 @@ fn at_once<'a, R: Runtime + AllocGlobal, P: Write>(
 ) -> End {
     match draft_of(rt, task.out, way) {
         Ok(Some(draft)) => into_draft(rt, task, images, report, draft),
-        Ok(None) => from_memory(rt, task, images, report),
+        Ok(None) => from_memory(rt, task, images, way, report),
         Err(end) => end,
     }
 }
 
 /// Gathers the file in memory, and writes it in place.
-fn from_memory<R: Runtime + AllocGlobal, P: Write>(
+fn from_memory<R: Host, P: Write>(
     rt: &R,
     task: &Task<'_>,
     images: &mut Images<'_, R>,
+    way: Way,
     report: &mut P,
 ) -> End {
     let sink = MemorySink::new(rt.alloc());
     match Session::new(rt.alloc(), task.set_id, task.file, sink) {
-        Ok(mut session) => in_place(rt, task, images, report, &mut session),
+        Ok(mut session) => in_place(rt, task, images, way, report, &mut session),
         Err(_) => End::WrongWords,
     }
 }
 
 /// Reads the images and writes the file's records to the draft as they come.
-fn into_draft<R: Runtime + AllocGlobal, P: Write>(
+fn into_draft<R: Host, P: Write>(
     rt: &R,
     task: &Task<'_>,
     images: &mut Images<'_, R>,
@@ -171,8 +171,7 @@ fn into_draft<R: Runtime + AllocGlobal, P: Write>(
         }
         Err(end) => end,
     };
-    name.clear();
-    end
+    name.ended(end)
 }
 
 /// A session whose records go to this file.
@@ -201,7 +200,7 @@ fn end_as_written(answer: Result<Option<Want>, EngineFault>) -> End {
 }
 
 /// Reads the images into the session, and writes the file where it is complete.
-fn gather<'a, R: Runtime + AllocGlobal, S: PartWalk + Drop, P: Write>(
+fn gather<'a, R: Host, S: PartWalk + Drop, P: Write>(
     rt: &'a R,
     task: &Task<'a>,
     images: &mut Images<'_, R>,
@@ -211,13 +210,13 @@ fn gather<'a, R: Runtime + AllocGlobal, S: PartWalk + Drop, P: Write>(
 ) -> End {
     match draft_of(rt, task.out, way) {
         Ok(Some(draft)) => drafted(rt, task, images, report, session, draft),
-        Ok(None) => in_place(rt, task, images, report, session),
+        Ok(None) => in_place(rt, task, images, way, report, session),
         Err(end) => end,
     }
 }
 
 /// Reads the images into the session, and writes the file to the draft where it is complete.
-fn drafted<R: Runtime + AllocGlobal, S: PartWalk + Drop, P: Write>(
+fn drafted<R: Host, S: PartWalk + Drop, P: Write>(
     rt: &R,
     task: &Task<'_>,
     images: &mut Images<'_, R>,
@@ -230,30 +229,31 @@ fn drafted<R: Runtime + AllocGlobal, S: PartWalk + Drop, P: Write>(
         Ok(mut out) => written_to(task, images, report, session, &mut out),
         Err(_) => End::Faulted(OUT_OF_MEMORY),
     };
-    draft.name.clear();
-    end
+    draft.name.ended(end)
 }
 
 /// Reads the images into the session, and writes the file in place where it is complete.
-fn in_place<R: Runtime + AllocGlobal, S: PartWalk + Drop, P: Write>(
+fn in_place<R: Host, S: PartWalk + Drop, P: Write>(
     rt: &R,
     task: &Task<'_>,
     images: &mut Images<'_, R>,
+    way: Way,
     report: &mut P,
     session: &mut Session<S>,
 ) -> End {
-    let Ok(mut out) = BufWriter::with_capacity(rt.alloc(), HELD, OutFile::new(rt, task.out)) else {
+    let file = OutFile::new(rt, task.out, way.before());
+    let Ok(mut out) = BufWriter::with_capacity(rt.alloc(), HELD, file) else {
         return End::Faulted(OUT_OF_MEMORY);
     };
     let end = written_to(task, images, report, session, &mut out);
-    if out.get_ref().is_refused() {
-        return NOT_MADE;
+    match out.get_ref().refused() {
+        Some(fault) => End::Faulted(ToolFault::File(fault)),
+        None => end,
     }
-    end
 }
 
 /// Reads the images into the session, and writes the file to the writer where it is complete.
-fn written_to<R: Runtime + AllocGlobal, S: PartWalk + Drop, W: Write, P: Write>(
+fn written_to<R: Host, S: PartWalk + Drop, W: Write, P: Write>(
     task: &Task<'_>,
     images: &mut Images<'_, R>,
     report: &mut P,

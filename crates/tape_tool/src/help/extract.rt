@@ -93,9 +93,10 @@ With --stage what is recovered is saved after each image, and the next run
 continues there. If a run is interrupted at any moment, the stage has what was
 saved last or what was just being saved.
 
-The records go to OUT.part, which is renamed to OUT when the file is complete,
-and removed otherwise. An OUT that is the stage, the list or one of the images
-is refused, and so is one that may be a tape ('tape: file fault 1'): an existing
+The records go to .tape-1.part in OUT's directory, which becomes OUT when the
+file is complete, and is removed otherwise. What a killed run left there is
+removed by the next. An OUT that is the stage, the list or one of the images is
+refused, and so is one that may be a tape ('tape: file fault 1'): an existing
 file that is not empty and has a name in .tap, begins as an image, or is
 compressed, an archive or a stage. If OUT is a pipe, a link or a device, the
 records are written to it at the end.

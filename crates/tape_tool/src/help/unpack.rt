@@ -38,8 +38,8 @@ One line per file:
            the images of each set in a directory of its own
   FILE ABC001 5 NOT FOUND
            no label of this file was found, only of a later one of its set
-  FILE ABC001 6 FAILED ../out/ABC001.6.INDEX
-           an error ended the run; the files before it are kept
+  FILE ABC001 6 FAILED file fault 2 ../out/ABC001.6.INDEX
+           this error; the other files are recovered if possible
 and a last line 'INCOMPLETE IMAGES' if an image could not be opened, or is not a
 whole volume in formats that tape reads. 'tape survey' shows which.
 

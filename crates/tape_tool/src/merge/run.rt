@@ -2,7 +2,7 @@
 
 use super::words::{COMPARE, MERGE, Merge};
 use crate::explain::Site;
-use crate::extract::{Draft, HELD, NOT_MADE};
+use crate::extract::{Draft, HELD, Way, draft_of};
 use crate::fault::{FileFault, OUT_OF_MEMORY, ToolFault};
 use crate::help;
 use crate::host::Host;
@@ -13,6 +13,7 @@ use std::io::{BufWriter, Sink, Write};
 use std::{fs, io};
 use tape_image::{ImageCause, ImageFault};
 use tape_run::{MergeEnd, MergeStop, Place, WriteFailed, merge_now};
+use tape_writer::system::found;
 
 /// Merges the readings that are named, into a new image. At a fault the site is where it came.
 pub fn merge<'a, R: Host>(rt: &R, order: &Merge<'a>, site: &mut Site<'a>) -> End {
@@ -22,21 +23,23 @@ pub fn merge<'a, R: Host>(rt: &R, order: &Merge<'a>, site: &mut Site<'a>) -> End
         Err(unfit) => return refuse_unfit(rt, &MERGE, unfit),
     };
     *site = Site::New(order.out);
-    if fs::symlink_metadata(rt, order.out).is_ok() {
-        return refuse_unfit(rt, &MERGE, refused(FileFault::Exists));
+    match found(fs::symlink_metadata(rt, order.out)) {
+        Ok(None) => {}
+        Ok(Some(_)) => return refuse_unfit(rt, &MERGE, refused(FileFault::Exists)),
+        Err(fault) => return refuse_unfit(rt, &MERGE, refused(fault)),
     }
-    match Draft::make(rt.alloc(), rt, order.out) {
+    match draft_of(rt, order.out, Way::New) {
         Ok(Some(draft)) => {
             let Draft { mut name, file } = draft;
             let end = match BufWriter::with_capacity(rt.alloc(), HELD, file) {
                 Ok(out) => merge_files(rt, &order.images, names.as_slice(), out, &mut name, site),
                 Err(_) => End::Faulted(OUT_OF_MEMORY),
             };
-            name.clear();
-            end
+            name.ended(end)
         }
-        Ok(None) => NOT_MADE,
-        Err(_) => End::Faulted(OUT_OF_MEMORY),
+        // What is new is never written in place.
+        Ok(None) => End::Faulted(ToolFault::File(FileFault::NotOpened)),
+        Err(end) => end,
     }
 }
 

@@ -4,12 +4,13 @@ use super::read_only::ReadOnly;
 use super::show::{show_damaged, show_stage};
 use super::words::{STAGE, StageOrder};
 use crate::explain::Site;
-use crate::extract::{Draft, HELD, NOT_MADE, OutFile, Way, draft_of, way_to_out};
+use crate::extract::{Draft, HELD, OutFile, Way, draft_of, way_to_out};
 use crate::fault::{FileFault, OUT_OF_MEMORY, ToolFault};
 use crate::host::Host;
 use crate::program::{End, damaged_end, end_of, refuse_unfit, stage_end};
+use crate::staging::locked_stage;
 use crate::unfit::Unfit;
-use std::fs::{File, TryLockError};
+use std::fs::File;
 use std::io;
 use std::io::{BufWriter, Write};
 use tape_stage::{HeldFile, held_file};
@@ -55,9 +56,7 @@ fn disk_of<R: Host>(rt: &R, path: &str) -> Result<StageDisk, ToolFault> {
     let Ok(file) = File::open(rt, path) else {
         return Err(ToolFault::File(FileFault::NotOpened));
     };
-    if let Err(TryLockError::WouldBlock) = file.try_lock_shared() {
-        return Err(ToolFault::StageInUse);
-    }
+    locked_stage(file.try_lock_shared())?;
     match held_file(rt.alloc(), ReadOnly { file }) {
         Ok(disk) => Ok(disk),
         Err(fault) => Err(ToolFault::Stage(fault)),
@@ -76,7 +75,7 @@ fn show_disk<'a, R: Host>(
     };
     match draft_of(rt, out, way) {
         Ok(Some(draft)) => show_drafted(rt, order, disk, draft),
-        Ok(None) => show_in_place(rt, order, disk, out),
+        Ok(None) => show_in_place(rt, order, disk, out, way),
         Err(end) => end,
     }
 }
@@ -93,20 +92,26 @@ fn show_drafted<R: Host>(
         Ok(mut file) => show_to(rt, order, disk, &mut file),
         Err(_) => End::Faulted(OUT_OF_MEMORY),
     };
-    draft.name.clear();
-    end
+    draft.name.ended(end)
 }
 
 /// The same, with the records written to what stands under the output's name.
-fn show_in_place<R: Host>(rt: &R, order: &StageOrder<'_>, disk: StageDisk, out: &str) -> End {
-    let Ok(mut file) = BufWriter::with_capacity(rt.alloc(), HELD, OutFile::new(rt, out)) else {
+fn show_in_place<R: Host>(
+    rt: &R,
+    order: &StageOrder<'_>,
+    disk: StageDisk,
+    out: &str,
+    way: Way,
+) -> End {
+    let file = OutFile::new(rt, out, way.before());
+    let Ok(mut file) = BufWriter::with_capacity(rt.alloc(), HELD, file) else {
         return End::Faulted(OUT_OF_MEMORY);
     };
     let end = show_to(rt, order, disk, &mut file);
-    if file.get_ref().is_refused() {
-        return NOT_MADE;
+    match file.get_ref().refused() {
+        Some(fault) => End::Faulted(ToolFault::File(fault)),
+        None => end,
     }
-    end
 }
 
 /// Tells what the disk holds, with the records written to this writer.

@@ -16,6 +16,7 @@ const AGAIN: &[Step<'_>] = &[
         End::Incomplete,
     ),
     Step::IsMissing("out.txt"),
+    Step::IsMissing(".tape-1.part"),
     Step::Ends(
         "extract ABC001 1 out.txt first_bad.tap second_bad.tap --again",
         End::Done,

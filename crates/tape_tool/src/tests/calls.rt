@@ -9,9 +9,10 @@ use crate::host::Host;
 use crate::program::{End, perform};
 use std::alloc::{AllocError, Global};
 use std::fs;
-use std::fs::File;
+use std::fs::{File, Permissions};
 use std::io::Write;
 use std::os::unix;
+use std::os::unix::fs::PermissionsExt;
 use std::process::Abort;
 use std::rt::Runtime;
 use std::test::Fail;
@@ -93,6 +94,10 @@ pub enum Step<'a> {
     HasText(&'a str, usize, &'a [u8]),
     /// There is no such file.
     IsMissing(&'a str),
+    /// The file gets these permissions.
+    Allow(&'a str, u32),
+    /// The file has these permissions.
+    IsAllowed(&'a str, u32),
 }
 
 /// Takes these steps, one behind the other: each comes to what it is to come to.
@@ -132,6 +137,12 @@ fn take<H: Host>(rt: &H, step: &Step<'_>) -> Result<bool, Fail> {
         Step::HasLength(path, length) => has_length(rt, path, length),
         Step::HasText(path, place, text) => has_text(rt, path, place, text),
         Step::IsMissing(path) => Ok(is_missing(rt, path)),
+        Step::Allow(path, mode) => {
+            Ok(fs::set_permissions(rt, path, Permissions::from_mode(mode)).is_ok())
+        }
+        Step::IsAllowed(path, mode) => {
+            Ok(fs::metadata(rt, path)?.permissions().mode() & 0o7777 == mode)
+        }
     }
 }
 

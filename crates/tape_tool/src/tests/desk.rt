@@ -19,6 +19,24 @@ const STANDARD_INPUT: &[u8] = b"\0\0\0\0\xff\xff\xff\xff";
 /// The end of the path of an image that takes no byte.
 const FULL: &str = "/FUL001.tap";
 
+/// What the system refuses, or does besides.
+#[derive(Clone, Copy)]
+pub enum Odd<'a> {
+    Nothing,
+    /// Looks at what has this name fail, in this way.
+    Look(&'a str, ErrorKind),
+    /// What has this name is not opened, for this reason.
+    Open(&'a str, ErrorKind),
+    /// A file gets no second name, for this reason.
+    Link(ErrorKind),
+    /// No file gets another name.
+    Rename,
+    /// No file is removed.
+    Remove,
+    /// As what has the first name is opened a file comes to be under the second.
+    Comes(&'a str, &'a str),
+}
+
 /// The system, with words and streams of its own.
 #[derive(Clone, Copy)]
 struct Desk<'a> {
@@ -26,11 +44,37 @@ struct Desk<'a> {
     words: &'a [String],
     /// Whether standard output takes anything.
     takes: bool,
+    odd: Odd<'a>,
     out: &'a RefCell<String>,
     told: &'a RefCell<String>,
     /// The paths that were opened, each with a space behind it, or a question mark and a space
     /// where it could not be.
     opened: &'a RefCell<String>,
+}
+
+/// What files that come to be have in them.
+pub const MINE: &[u8] = b"mine";
+
+impl Desk<'_> {
+    /// Fails a look at this path where it is to fail.
+    fn look(&self, path: &str) -> io::Result<()> {
+        match self.odd {
+            Odd::Look(name, kind) if path == name => Err(io::Error::from(kind)),
+            _ => Ok(()),
+        }
+    }
+
+    /// Does what is done as this path is opened.
+    fn open(&self, path: &str) -> io::Result<()> {
+        match self.odd {
+            Odd::Open(name, kind) if path == name => Err(io::Error::from(kind)),
+            Odd::Comes(name, other) if path == name => {
+                let mut file = File::create(&self.rt, other)?;
+                file.write_all(MINE)
+            }
+            _ => Ok(()),
+        }
+    }
 }
 
 /// Writes a value behind what stands on a page.
@@ -47,10 +91,12 @@ impl Files for Desk<'_> {
     type Dir = <HostRuntime as Files>::Dir;
 
     fn open_file(&self, how: &OpenOptions, path: &str) -> io::Result<File> {
-        let opened = if path.ends_with(FULL) {
-            OpenOptions::new().write(true).open(&self.rt, "/dev/full")
-        } else {
-            self.rt.open_file(how, path)
+        let opened = match self.open(path) {
+            Err(error) => Err(error),
+            Ok(()) if path.ends_with(FULL) => {
+                OpenOptions::new().write(true).open(&self.rt, "/dev/full")
+            }
+            Ok(()) => self.rt.open_file(how, path),
         };
         note(self.opened, path)?;
         note(self.opened, if opened.is_ok() { " " } else { "? " })?;
@@ -62,10 +108,12 @@ impl Files for Desk<'_> {
     }
 
     fn metadata(&self, path: &str) -> io::Result<Metadata> {
+        self.look(path)?;
         Files::metadata(&self.rt, path)
     }
 
     fn symlink_metadata(&self, path: &str) -> io::Result<Metadata> {
+        self.look(path)?;
         self.rt.symlink_metadata(path)
     }
 
@@ -74,11 +122,24 @@ impl Files for Desk<'_> {
     }
 
     fn rename(&self, from: &str, to: &str) -> io::Result<()> {
-        self.rt.rename(from, to)
+        match self.odd {
+            Odd::Rename => Err(io::Error::from(ErrorKind::Other)),
+            _ => self.rt.rename(from, to),
+        }
+    }
+
+    fn hard_link(&self, original: &str, link: &str) -> io::Result<()> {
+        match self.odd {
+            Odd::Link(kind) => Err(io::Error::from(kind)),
+            _ => self.rt.hard_link(original, link),
+        }
     }
 
     fn remove_file(&self, path: &str) -> io::Result<()> {
-        self.rt.remove_file(path)
+        match self.odd {
+            Odd::Remove => Err(io::Error::from(ErrorKind::Other)),
+            _ => self.rt.remove_file(path),
+        }
     }
 
     fn create_dir(&self, path: &str) -> io::Result<()> {
@@ -207,6 +268,11 @@ impl Seen {
 
 /// Calls the program by a line, where standard output takes what is printed, or takes nothing.
 pub fn called(rt: &HostRuntime, line: &str, takes: bool) -> Result<Seen, Fail> {
+    called_oddly(rt, line, takes, Odd::Nothing)
+}
+
+/// The same, on a system that is odd in this way.
+pub fn called_oddly(rt: &HostRuntime, line: &str, takes: bool, odd: Odd<'_>) -> Result<Seen, Fail> {
     let words = words_of(rt.alloc(), line)?;
     let out = RefCell::new(String::new(rt.alloc()));
     let told = RefCell::new(String::new(rt.alloc()));
@@ -215,14 +281,20 @@ pub fn called(rt: &HostRuntime, line: &str, takes: bool) -> Result<Seen, Fail> {
         rt: *rt,
         words: words.as_slice(),
         takes,
+        odd,
         out: &out,
         told: &told,
         opened: &opened,
     });
+    let opened = opened.into_inner();
+    // First of all the numbers of the standard streams are looked after.
+    let Some(opened) = opened.as_str().strip_prefix("/ ") else {
+        return Err(Fail::from("the root is opened first"));
+    };
     Ok(Seen {
         status,
         out: out.into_inner(),
         told: told.into_inner(),
-        opened: opened.into_inner(),
+        opened: opened.to_string(rt.alloc())?,
     })
 }

@@ -180,22 +180,25 @@ const HELD: &str = "extract ABC001 1 kept.bin held.tap";
 const DRAFTS: &[Step<'_>] = &[
     Step::PutWorked("whole.tap", 2484),
     Step::PutWorked("front.tap", 2288),
-    Step::Put("kept.txt.part", b"another"),
+    // One of a run that was killed goes.
+    Step::Put(".tape-1.part", b"another"),
     Step::Put("kept.txt", b"kept"),
+    // Its permissions stay, but not that it runs with the rights of its owner.
+    Step::Allow("kept.txt", 0o4640),
     Step::Ends("extract ABC001 1 kept.txt front.tap", End::Incomplete),
     Step::Holds("kept.txt", b"kept"),
-    Step::IsMissing("kept.txt.part2"),
+    Step::IsMissing(".tape-1.part"),
     Step::Ends("extract ABC001 1 kept.txt front.tap whole.tap", End::Done),
     Step::HasLength("kept.txt", 2025),
-    Step::IsMissing("kept.txt.part2"),
-    Step::Holds("kept.txt.part", b"another"),
+    Step::IsAllowed("kept.txt", 0o640),
+    Step::IsMissing(".tape-1.part"),
     // Through a link the file behind it is written.
     Step::Put("behind.txt", b"kept"),
     Step::Remove("before.txt"),
     Step::Link("before.txt", "behind.txt"),
     Step::Ends("extract ABC001 1 before.txt whole.tap", End::Done),
     Step::HasLength("behind.txt", 2025),
-    Step::IsMissing("before.txt.part"),
+    Step::IsMissing(".tape-1.part"),
     // A device takes nothing.
     Step::Fails(
         "extract ABC001 1 /dev/full whole.tap",

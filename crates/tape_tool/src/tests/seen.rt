@@ -72,7 +72,7 @@ const ROWS: &[Row<'_>] = &[
         0,
         "REEL 1 NOT OPENED\nREEL 2 SECTION DONE\nREEL 3 COMPLETE\nCOMPLETE 25\n",
         "",
-        Some("seen.txt.part lost.tap? seen1.tap seen2.tap . "),
+        Some(".tape-1.part lost.tap? seen1.tap seen2.tap . "),
     ),
     // An output that cannot be made is tried as a new file, in place, and no second time.
     (
@@ -80,7 +80,7 @@ const ROWS: &[Row<'_>] = &[
         1,
         "REEL 1 SECTION DONE\nREEL 2 COMPLETE\n",
         "tape: file fault 2\n",
-        Some("missing/a.txt.part? seen1.tap seen2.tap missing/a.txt? "),
+        Some("missing/.tape-1.part? seen1.tap seen2.tap missing/a.txt? "),
     ),
     (
         "write . SEE 100000 ONE=seen_one.txt TWO=seen_two.txt",
@@ -145,6 +145,8 @@ const ROWS: &[Row<'_>] = &[
     ),
     ("init . SEI 11", 0, "INIT 11\n", "", None),
     ("init . SEI 1", 1, "", "tape: file fault 1\n", None),
+    // An image that takes nothing is not told as made.
+    ("init . FUL 1", 1, "", "tape: file fault 4\n", None),
 ];
 
 /// What stands in files then.
@@ -188,7 +190,7 @@ const READERS: &[(&str, &str, &str)] = &[
     ("survey", "many.names ", "\nlost.tap: not opened\n"),
     (
         "extract ABC001 1 many.txt",
-        "many.names many.txt.part ",
+        "many.names .tape-1.part ",
         "\nREEL 300 NOT OPENED\nAWAITS 1 1 0\n",
     ),
     ("unpack many", "many.names ", ""),

@@ -28,6 +28,9 @@ const ALONE: &[Step<'_>] = &[
 fn two_runs_on_one_stage(rt: HostRuntime) -> Result<(), Fail> {
     take_all(&rt, FIRST)?;
     let first = File::open(&rt, "first.stage")?;
+    // A run that only shows the stage keeps others out too.
+    first.lock_shared()?;
+    each_fails(&rt, &[(SECOND, ToolFault::StageInUse)])?;
     first.lock()?;
     each_fails(&rt, &[(SECOND, ToolFault::StageInUse)])?;
     drop(first);
@@ -43,6 +46,7 @@ const DAYS: &[Step<'_>] = &[
         End::Incomplete,
     ),
     Step::HasLength("days.stage", 1531),
+    Step::IsMissing(".tape-1.part"),
     Step::Ends(
         "extract ABC001 1 days.txt tuesday.tap --stage days.stage",
         End::Done,
@@ -131,10 +135,37 @@ const REFUSED: &[Step<'_>] = &[
     Step::IsMissing("new.stage"),
 ];
 
+const UNMADE: &str = "extract ABC001 1 unmade.txt unmade.tap --stage unmade.stage";
+
+/// What is left where a stage was not made whole, as on a full disk, and what may be a user's.
+const NOT_MADE: &[Step<'_>] = &[
+    Step::PutWorked("unmade.tap", 2484),
+    Step::Put("unmade.stage", b"C"),
+    Step::Ends(UNMADE, End::Done),
+    Step::HasLength("unmade.stage", 2381),
+    Step::Put("unmade.stage", b"C000000000000001TPCK2ABC001"),
+    Step::Ends(UNMADE, End::Done),
+    Step::HasLength("unmade.stage", 2381),
+    Step::Put("unmade.stage", &[0; 256]),
+    Step::Ends(UNMADE, End::Done),
+    Step::HasLength("unmade.stage", 2381),
+    Step::Put("unmade.stage", &[0; 257]),
+    Step::Fails(UNMADE, ToolFault::Stage(StageFault::NoPoint)),
+    Step::HasLength("unmade.stage", 257),
+    Step::Put("unmade.stage", b"C000000000000001TPCK2ABC002"),
+    Step::Fails(UNMADE, ToolFault::Stage(StageFault::NoPoint)),
+    Step::Put("unmade.stage", b"O00"),
+    Step::Fails(UNMADE, ToolFault::Stage(StageFault::NoPoint)),
+    Step::Put("unmade.stage", b"Contents"),
+    Step::Fails(UNMADE, ToolFault::Stage(StageFault::NoPoint)),
+    Step::Holds("unmade.stage", b"Contents"),
+];
+
 const SCRIPTS: &[(&str, &[Step<'_>])] = &[
     ("a file over two days", DAYS),
     ("a reel in doubt before a good one", IN_DOUBT),
     ("stages that are refused", REFUSED),
+    ("stages that were not made", NOT_MADE),
 ];
 
 #[test]

@@ -1,7 +1,12 @@
 //! `unpack` as it is called.
-use super::calls::{Step, follow_all};
+use super::calls::{Step, follow_all, put, take_all};
+use super::image::{END, Image, MARK};
+use super::volumes::{EOF2, FIXED, VOL1, labels};
 use crate::fault::{FileFault, ToolFault};
 use crate::program::End;
+use crate::unpack::last_line::LastLine;
+use std::alloc::{AllocError, Global};
+use std::io::Write;
 use std::test::Fail;
 use tape_stage::StageFault;
 
@@ -12,7 +17,7 @@ const AT_ONCE: &[Step<'_>] = &[
     Step::Ends("unpack unpacked lost.tap", End::Incomplete),
     Step::Ends("unpack unpacked/ unpack1.tap unpack1.tap", End::Done),
     Step::HasLength("unpacked/ABC001.1.PAYROLL", 2025),
-    Step::IsMissing("unpacked/ABC001.1.PAYROLL.part"),
+    Step::IsMissing("unpacked/.tape-1.part"),
     Step::IsMissing("unpacked/ABC001.1.PAYROLL.stage"),
     Step::Put("unpacked/ABC001.1.PAYROLL", b"kept"),
     Step::Ends("unpack unpacked unpack1.tap", End::Done),
@@ -37,7 +42,7 @@ const DAY_BY_DAY: &[Step<'_>] = &[
     Step::HasText("days/ABC001.1.PAYROLL", 1944, b"0025  "),
 ];
 
-/// What is no stage stays, and ends the run.
+/// What is no stage stays, and a link in its place is not followed. The other files are unpacked.
 const FAILED: &[Step<'_>] = &[
     Step::Folder("failed"),
     Step::PutDamaged("failed1.tap", 1),
@@ -48,6 +53,36 @@ const FAILED: &[Step<'_>] = &[
     ),
     Step::Holds("failed/ABC001.1.PAYROLL.stage", b"noise"),
     Step::IsMissing("failed/ABC001.1.PAYROLL"),
+    Step::Remove("failed/ABC001.1.PAYROLL.stage"),
+    Step::Put("failed2.txt", b""),
+    Step::Link("failed/ABC001.1.PAYROLL.stage", "../failed2.txt"),
+    Step::Fails(
+        "unpack failed failed1.tap",
+        ToolFault::File(FileFault::NotOpened),
+    ),
+    Step::HasLength("failed2.txt", 0),
+    // A link that leads nowhere is something that is there.
+    Step::Link("failed/ABC001.1.PAYROLL", "lost.txt"),
+    Step::Ends("unpack failed failed1.tap", End::Done),
+    Step::IsMissing("failed/ABC001.1.PAYROLL"),
+];
+
+/// Two sets of one identifier, and a blank volume.
+const MISSED: &[Step<'_>] = &[
+    Step::Folder("missed"),
+    Step::Folder("missed1"),
+    Step::Folder("missed2"),
+    Step::Put("missed_one.bin", &[b'1'; 130]),
+    Step::Ends("write missed1 MIX 100000 ONE=missed_one.bin", End::Done),
+    Step::Ends("write missed2 MIX 100000 TWO=missed_one.bin", End::Done),
+    Step::Ends(
+        "unpack missed missed1/MIX001.tap missed2/MIX001.tap",
+        End::Incomplete,
+    ),
+    Step::IsMissing("missed/MIX001.1.ONE"),
+    Step::IsMissing("missed/MIX001.1.TWO"),
+    Step::Ends("init missed1 BLK 1", End::Done),
+    Step::Ends("unpack missed missed1/BLK001.tap", End::Incomplete),
 ];
 
 const WORDS: &[Step<'_>] = &[
@@ -72,7 +107,47 @@ fn every_file_is_unpacked(rt: HostRuntime) -> Result<(), Fail> {
             ("at once", AT_ONCE),
             ("day by day", DAY_BY_DAY),
             ("failed", FAILED),
+            ("missed", MISSED),
             ("words", WORDS),
         ],
     )
+}
+
+/// A volume with the second file of its set alone, which has no records.
+fn second_alone(alloc: Global) -> Result<Image, AllocError> {
+    let mut image = Image::new(alloc);
+    let header = "HDR1LEDGER           ABC00100010002000100 00000 00000 000000";
+    let trailer = "EOF1LEDGER           ABC00100010002000100 00000 00000 000000";
+    labels(&mut image, &[VOL1, header, FIXED])?;
+    image.word(&MARK)?;
+    labels(&mut image, &[trailer, EOF2])?;
+    image.word(&MARK)?;
+    image.word(&END)?;
+    Ok(image)
+}
+
+const SECOND: &[Step<'_>] = &[
+    Step::Folder("second"),
+    Step::Ends("unpack second second_alone.tap", End::Incomplete),
+    Step::HasLength("second/ABC001.2.LEDGER", 0),
+    Step::IsMissing("second/ABC001.1.LEDGER"),
+];
+
+#[test]
+fn a_file_that_was_not_met(rt: HostRuntime) -> Result<(), Fail> {
+    put(
+        &rt,
+        "second_alone.tap",
+        second_alone(rt.alloc())?.bytes.as_slice(),
+    )?;
+    take_all(&rt, SECOND)
+}
+
+/// The line that is kept is not cut.
+#[test]
+fn the_last_line_is_whole(rt: HostRuntime) -> Result<(), Fail> {
+    let mut last = LastLine::new();
+    last.write_all(b"REEL 1 COMPLETE\nCOMPLETE 12345678901234567890\n")?;
+    assert!(rt; last.text() == b"COMPLETE 12345678901234567890".as_slice());
+    Ok(())
 }

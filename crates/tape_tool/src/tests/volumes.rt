@@ -22,7 +22,7 @@ const EOF_THREE: &str = "EOF1PAYROLL          ABC00100010001000100 00000 00000 0
 
 const EOF_FIVE: &str = "EOF1PAYROLL          ABC00100010001000100 00000 00000 000005";
 
-const EOF2: &str = "EOF2F0080000080                                   00";
+pub const EOF2: &str = "EOF2F0080000080                                   00";
 
 const EOF2_400: &str = "EOF2F0040000080                                   00";
 

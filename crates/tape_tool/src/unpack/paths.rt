@@ -1,7 +1,5 @@
 //! Where a file is unpacked to, and where its stage is kept.
 use std::alloc::{AllocError, Global};
-use std::fs;
-use std::fs::Files;
 
 /// The paths of a file.
 #[derive(Drop)]
@@ -27,9 +25,4 @@ pub fn paths_of(alloc: Global, folder: &str, name: &[u8]) -> Result<Paths, Alloc
     stage.push_str(out.as_str())?;
     stage.push_str(".stage")?;
     Ok(Paths { out, stage })
-}
-
-/// Whether something of this name is there, a link that leads nowhere too.
-pub fn is_there<R: Files>(rt: &R, path: &str) -> bool {
-    fs::symlink_metadata(rt, path).is_ok()
 }

@@ -1,7 +1,7 @@
 //! `unpack` as the program runs it: from files into a folder.
 
 use super::last_line::LastLine;
-use super::paths::{Paths, is_there, paths_of};
+use super::paths::{Paths, paths_of};
 use super::words::{UNPACK, Unpack};
 use crate::explain::Site;
 use crate::extract::words::Task;
@@ -10,7 +10,9 @@ use crate::fault::{FileFault, OUT_OF_MEMORY, ToolFault};
 use crate::help;
 use crate::host::Host;
 use crate::images::{Images, names_of};
+use crate::left::remove;
 use crate::program::{End, check_end, end_of, refuse_unfit};
+use crate::telling::FaultLine;
 use crate::unfit::{Unfit, refused};
 use std::alloc::{AllocError, Global};
 use std::io::Write;
@@ -20,6 +22,7 @@ use tape_run::{
     Heading, SetFile, ShelfFiles, UnpackOutcome, WriteFailed, file_line, file_name, files_on,
     flush, left_over_line, unpack_outcome_text, write_text,
 };
+use tape_writer::system::found;
 
 /// Gets every file back that is on the images that the words name. At a fault the site is where it
 /// came.
@@ -55,22 +58,28 @@ fn is_folder<R: Host>(rt: &R, path: &str) -> Result<(), Unfit> {
 }
 
 /// Unpacks the files that were met, each from the images of its set, and says whether something is
-/// left over.
+/// left over. A file that fails does not keep the others from being tried: the first such fault is
+/// that of the run.
 fn unpack_all<R: Host>(rt: &R, order: &Unpack<'_>, names: &[&str], met: &ShelfFiles) -> End {
     let files = met.files.as_slice();
     let mut all = met.whole && !files.is_empty();
+    let mut failed = None;
     for file in files {
         match unpack_met(rt, order, names, met, file) {
-            End::Done => {}
-            End::Incomplete => all = false,
-            end => return end,
+            Ok(End::Done) => {}
+            Ok(End::Incomplete) => all = false,
+            Ok(end) => failed = failed.or(Some(end)),
+            Err(end) => return end,
         }
     }
     match say(rt, left_over_line(met.whole)) {
-        Ok(()) => check_end(Ok(all)),
+        Ok(()) => failed.unwrap_or(check_end(Ok(all))),
         Err(WriteFailed) => end_of(Err(ToolFault::File(FileFault::WriteFailed))),
     }
 }
+
+/// How the unpacking of a file ends, or how the run does with it.
+type Ended = Result<End, End>;
 
 /// Unpacks a file that was met, from the images of its set.
 fn unpack_met<R: Host>(
@@ -79,10 +88,10 @@ fn unpack_met<R: Host>(
     names: &[&str],
     met: &ShelfFiles,
     file: &SetFile,
-) -> End {
+) -> Ended {
     match names_of_set(rt.alloc(), names, met.sets.as_slice(), &file.set_id) {
         Ok(own) => unpack_file(rt, order, &mut Images::new(rt, own.as_slice()), file),
-        Err(_) => End::Faulted(OUT_OF_MEMORY),
+        Err(_) => Err(End::Faulted(OUT_OF_MEMORY)),
     }
 }
 
@@ -108,7 +117,7 @@ fn unpack_file<R: Host>(
     order: &Unpack<'_>,
     images: &mut Images<'_, R>,
     file: &SetFile,
-) -> End {
+) -> Ended {
     let file_id = match file.heading {
         Heading::NotMet => return tell(
             rt,
@@ -129,7 +138,7 @@ fn unpack_file<R: Host>(
     let name = file_name(&file.set_id, file.file, &file_id);
     match paths_of(rt.alloc(), order.folder, &name) {
         Ok(paths) => unpack_to(rt, order, images, file, &paths),
-        Err(_) => End::Faulted(OUT_OF_MEMORY),
+        Err(_) => Err(End::Faulted(OUT_OF_MEMORY)),
     }
 }
 
@@ -140,34 +149,53 @@ fn unpack_to<R: Host>(
     images: &mut Images<'_, R>,
     file: &SetFile,
     paths: &Paths,
-) -> End {
+) -> Ended {
     let (out, stage) = (paths.out.as_str(), paths.stage.as_str());
-    if is_there(rt, out) {
-        return tell(
-            rt,
-            file,
-            unpack_outcome_text(UnpackOutcome::Exists),
-            out,
-            End::Done,
-        );
-    }
     let mut last = LastLine::new();
-    match gather(rt, order, images, file, paths, &mut last) {
-        End::Done => {
-            // What it kept stands in the file now.
-            let _ = rt.remove_file(stage);
-            tell(rt, file, last.text(), out, End::Done)
-        }
-        End::Incomplete => tell(rt, file, last.text(), stage, End::Incomplete),
-        end => {
-            let _ = tell(
+    match unpacked(rt, order, images, file, paths, &mut last) {
+        Ok(end @ End::Done) => tell(rt, file, last.text(), out, end),
+        Ok(end) => tell(rt, file, last.text(), stage, end),
+        // It was there before, or came to be there under way.
+        Err(ToolFault::File(FileFault::Exists)) => {
+            tell(
                 rt,
                 file,
-                unpack_outcome_text(UnpackOutcome::Failed),
+                unpack_outcome_text(UnpackOutcome::Exists),
                 out,
-                end,
-            );
-            end
+                End::Done,
+            )
+        }
+        Err(OUT_OF_MEMORY) => Err(End::Faulted(OUT_OF_MEMORY)),
+        Err(fault) => tell_failed(rt, file, out, fault),
+    }
+}
+
+/// Gets a file back, unless something has its name, and removes the stage of one that is complete:
+/// what it kept stands in the file then.
+fn unpacked<R: Host>(
+    rt: &R,
+    order: &Unpack<'_>,
+    images: &mut Images<'_, R>,
+    file: &SetFile,
+    paths: &Paths,
+    last: &mut LastLine,
+) -> Result<End, ToolFault> {
+    let stage = paths.stage.as_str();
+    if found(fs::symlink_metadata(rt, paths.out.as_str()))?.is_some() {
+        return Err(ToolFault::File(FileFault::Exists));
+    }
+    // A stage is never looked for where a link leads.
+    let is_staged = match found(fs::symlink_metadata(rt, stage))? {
+        Some(there) if !there.is_file() => return Err(ToolFault::File(FileFault::NotOpened)),
+        there => there.is_some(),
+    };
+    match gather(rt, order, images, file, paths, is_staged, last) {
+        End::Faulted(fault) => Err(fault),
+        end => {
+            if end == End::Done {
+                remove(rt, stage);
+            }
+            Ok(end)
         }
     }
 }
@@ -180,6 +208,7 @@ fn gather<R: Host>(
     images: &mut Images<'_, R>,
     file: &SetFile,
     paths: &Paths,
+    is_staged: bool,
     last: &mut LastLine,
 ) -> End {
     let mut site = Site::Unknown;
@@ -192,7 +221,7 @@ fn gather<R: Host>(
         stage: None,
         again: false,
     };
-    if !is_there(rt, stage) {
+    if !is_staged {
         let end = extract_file(rt, &at_once, images, Way::New, last, &mut site);
         if end != End::Incomplete {
             return end;
@@ -207,14 +236,32 @@ fn gather<R: Host>(
 }
 
 /// Tells what became of a file, and ends so.
-fn tell<R: Host>(rt: &R, file: &SetFile, told: &[u8], path: &str, end: End) -> End {
+fn tell<R: Host>(rt: &R, file: &SetFile, told: &[u8], path: &str, end: End) -> Ended {
     let Ok(line) = file_line(rt.alloc(), &file.set_id, file.file, told, path) else {
-        return End::Faulted(OUT_OF_MEMORY);
+        return Err(End::Faulted(OUT_OF_MEMORY));
     };
     match say(rt, line.as_slice()) {
-        Ok(()) => end,
-        Err(WriteFailed) => end_of(Err(ToolFault::File(FileFault::WriteFailed))),
+        Ok(()) => Ok(end),
+        Err(WriteFailed) => Err(end_of(Err(ToolFault::File(FileFault::WriteFailed)))),
     }
+}
+
+/// Tells that a file failed, and by which fault.
+fn tell_failed<R: Host>(rt: &R, file: &SetFile, path: &str, fault: ToolFault) -> Ended {
+    let failed = unpack_outcome_text(UnpackOutcome::Failed);
+    let Ok(line) = format!(in rt.alloc(); "{}", FaultLine(fault)) else {
+        return Err(End::Faulted(OUT_OF_MEMORY));
+    };
+    // The fault's line without what stands before and behind the fault.
+    let text = line.as_str();
+    let reason = text.strip_prefix("tape: ").unwrap_or(text).trim_end();
+    let Ok(mut told) = Vec::from_slice(rt.alloc(), failed) else {
+        return Err(End::Faulted(OUT_OF_MEMORY));
+    };
+    if told.push(b' ').is_err() || told.extend_from_slice(reason.as_bytes()).is_err() {
+        return Err(End::Faulted(OUT_OF_MEMORY));
+    }
+    tell(rt, file, told.as_slice(), path, End::Faulted(fault))
 }
 
 /// Writes a line, and has it passed on.

@@ -1,10 +1,9 @@
 //! What `write` looks at before it writes: no input of a set is one of its images.
 use crate::fault::{FileFault, OUT_OF_MEMORY};
 use crate::help;
-use crate::unfit::{Unfit, refused, same_file};
+use crate::unfit::{Unfit, look, refused, same_file};
 use crate::write::run::split;
 use crate::write::words::WriteOrder;
-use std::fs;
 use std::fs::Metadata;
 use std::rt::Runtime;
 use tape_writer::system::{VOLUMES, image_path};
@@ -15,8 +14,9 @@ use tape_writer::system::{VOLUMES, image_path};
 ///
 /// `Words` where an input is an image that the set may be written to: the file itself, whatever
 /// name or link leads there. `Faulted` with `NotOpened` where a folder stands in the place of such
-/// an image, with `Exists` where anything else does that is no plain file, as a pipe or a device;
-/// with `OutOfMemory` where a growth was refused.
+/// an image, and where one of these files can't be looked at; with `Exists` where anything else
+/// does that is no plain file, as a pipe or a device; with `OutOfMemory` where a growth was
+/// refused.
 pub fn look_ahead<R: Runtime + AllocGlobal>(rt: &R, order: &WriteOrder<'_>) -> Result<(), Unfit> {
     let images = images_of(rt, order)?;
     differ(rt, order.files.as_slice(), images.as_slice())
@@ -29,8 +29,8 @@ fn differ<R: Runtime>(rt: &R, files: &[&str], images: &[Metadata]) -> Result<(),
     }
     for word in files {
         let (_, path) = split(word);
-        match fs::metadata(rt, path) {
-            Ok(input) if images.iter().any(|image| same_file(image, &input)) => {
+        match look(rt, path)? {
+            Some(input) if images.iter().any(|image| same_file(image, &input)) => {
                 return Err(Unfit::Words(help::INPUT_IS_IMAGE));
             }
             _ => {}
@@ -64,9 +64,9 @@ fn image_at<R: Runtime + AllocGlobal>(
     let Ok(path) = image_path(rt.alloc(), order.folder, order.prefix, number) else {
         return Err(no_memory());
     };
-    match fs::metadata(rt, path.as_str()) {
-        Ok(found) => plain(found),
-        Err(_) => Ok(None),
+    match look(rt, path.as_str())? {
+        Some(there) => plain(there),
+        None => Ok(None),
     }
 }
 

@@ -1,0 +1,134 @@
+#!/usr/bin/env python3
+"""Runs pairs of calls of the built program at the same time, and judges what they leave.
+Run by hand before a release; CI does not run it.
+
+    ./pairs.py [--program PATH] [--rounds N] [--seed N]
+
+Right is what the two calls, or one of them, would have left one after the other: every call that ends
+with status 0 has its files there, whole; a call that ends otherwise changed nothing that was there. Prints
+each wrong answer, and a table of the pairs. The status is 1 if one was wrong.
+"""
+
+import argparse
+import random
+import subprocess
+import sys
+import tempfile
+import time
+from dataclasses import dataclass
+from pathlib import Path
+
+sys.dont_write_bytecode = True
+from fail import CRATE, LINES, ONE, TWO, mark, volume_label, word
+
+BLANK = volume_label("ABC001") + mark() + mark() + word(0xFFFFFFFF)
+OTHER = b"another\n" * 4000
+EXTRACT = ["extract", "ABC001", "1", "OUT", "one.tap", "two.tap"]
+
+
+@dataclass
+class Pair:
+    """Two calls, the files there before, and the file that each of them makes, with its bytes."""
+
+    name: str
+    files: dict
+    first: list
+    second: list
+    made: str
+    # the bytes of that file behind the first and the second call
+    contents: tuple
+    # whether both may end with success
+    both: bool
+
+
+def alone(program, words, files, made):
+    """The bytes of the file that a call makes by itself."""
+    with tempfile.TemporaryDirectory(prefix="tape-pairs-") as folder:
+        for name, content in files.items():
+            Path(folder, name).write_bytes(content)
+        Path(folder, "d").mkdir()
+        subprocess.run([program, *words], cwd=folder, capture_output=True, check=True)
+        return Path(folder, made).read_bytes()
+
+
+def pairs(program):
+    reels = {"one.tap": ONE, "two.tap": TWO}
+    inputs = {"a": LINES, "b": OTHER}
+    write_a = ["write", ".", "ABC", "200000", "A=a"]
+    write_b = ["write", ".", "ABC", "200000", "B=b"]
+    unpack = ["unpack", "d", "one.tap", "two.tap"]
+    rows = [
+        ("write, on a blank volume", inputs | {"ABC001.tap": BLANK}, write_a, write_b, "ABC001.tap", False),
+        ("write, in an empty DIR", inputs, write_a, write_b, "ABC001.tap", False),
+        ("init and write", inputs, ["init", ".", "ABC", "1"], write_a, "ABC001.tap", True),
+        ("extract, one OUT", reels, EXTRACT, [*EXTRACT, "--form", "raw"], "OUT", False),
+        ("extract, an OUT that is there", reels | {"OUT": b"old\n"}, EXTRACT, [*EXTRACT, "--form", "raw"], "OUT", True),
+        ("extract, one stage", reels, [*EXTRACT, "--stage", "s"], [*EXTRACT, "--stage", "s"], "OUT", True),
+        ("unpack, one DIR", reels, unpack, [*unpack, "--form", "raw"], "d/ABC001.1.PAYROLL", True),
+    ]
+    return [
+        Pair(name, files, first, second, made, tuple(alone(program, words, files, made) for words in (first, second)), both)
+        for name, files, first, second, made, both in rows
+    ]
+
+
+def judge(pair, done, files):
+    """What is wrong, if anything is."""
+    ended = [status == 0 for status, _, _ in done]
+    found = files.get(pair.made)
+    if all(ended) and not pair.both:
+        return "both ended with success"
+    if any(ended) and found not in [content for content, is_done in zip(pair.contents, ended) if is_done]:
+        return f"{pair.made} is of no call that ended with success"
+    for status, out, err in done:
+        if status not in (0, 1, 3) or (status == 1 and not err.startswith("tape: ")):
+            return f"status {status}, {err!r}"
+    if not any(ended) and found not in (None, b"", pair.files.get(pair.made)):
+        return f"{pair.made} was changed, and no call ended with success"
+    left = [name for name in files if ".tape-" in name]
+    return f"{left} left" if left else None
+
+
+def run_pair(program, pair, pause):
+    with tempfile.TemporaryDirectory(prefix="tape-pairs-", dir="/dev/shm") as folder:
+        root = Path(folder)
+        for name, content in pair.files.items():
+            (root / name).write_bytes(content)
+        (root / "d").mkdir()
+        started = []
+        for words in (pair.first, pair.second):
+            started.append(subprocess.Popen([program, *words], cwd=folder, stdout=subprocess.PIPE, stderr=subprocess.PIPE, text=True))
+            time.sleep(pause)
+        done = []
+        for process in started:
+            out, err = process.communicate(timeout=60)
+            done.append((process.returncode, out, err))
+        files = {str(path.relative_to(root)): path.read_bytes() for path in root.rglob("*") if path.is_file()}
+        return done, files
+
+
+def main():
+    parser = argparse.ArgumentParser(description=__doc__.split("\n\n")[0])
+    parser.add_argument("--program", type=Path, default=CRATE / "out" / "tape_tool", help="the built `tape`")
+    parser.add_argument("--rounds", type=int, default=250)
+    parser.add_argument("--seed", type=int, default=1)
+    options = parser.parse_args()
+    program, chance = options.program.resolve(), random.Random(options.seed)
+    wrong = 0
+    print("| Pair | Rounds | Both | One | None | Wrong |\n|---|---|---|---|---|---|")
+    for pair in pairs(program):
+        counts, bad = [0, 0, 0], 0
+        for _ in range(options.rounds):
+            done, files = run_pair(program, pair, chance.choice((0, 0, chance.random() / 500)))
+            counts[2 - sum(status == 0 for status, _, _ in done)] += 1
+            why = judge(pair, done, files)
+            if why:
+                bad += 1
+                print(f"{pair.name}: {why}: {done}")
+        print(f"| {pair.name} | {options.rounds} | {' | '.join(map(str, counts))} | {bad} |")
+        wrong += bad
+    return wrong != 0
+
+
+if __name__ == "__main__":
+    sys.exit(main())

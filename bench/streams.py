@@ -1,0 +1,100 @@
+#!/usr/bin/env python3
+"""Calls the built program with each set of its standard streams closed, and judges what it leaves.
+Run by hand before a release; CI does not run it.
+
+    ./streams.py [--program PATH]
+
+Twenty calls are made with each of the seven sets of closed streams. A closed stream has to act as
+one that fails at each read and write: the exit status and all files have to be those of a call with
+a directory as standard input, and /dev/full as standard output and standard error, in the place of
+what is closed. Prints each wrong answer, and how many calls there were. The status is 1 if one was
+wrong.
+"""
+
+import argparse
+import itertools
+import os
+import subprocess
+import sys
+import tempfile
+from pathlib import Path
+
+sys.dont_write_bytecode = True
+from fail import CRATE, LINES, ONE, TWO, stage_of
+
+CLOSED = [set(numbers) for count in (1, 2, 3) for numbers in itertools.combinations((0, 1, 2), count)]
+STAND_INS = {0: ("/", os.O_RDONLY), 1: ("/dev/full", os.O_WRONLY), 2: ("/dev/full", os.O_WRONLY)}
+
+
+def calls(program):
+    """Words, and the files there before."""
+    reels = {"one.tap": ONE, "two.tap": TWO}
+    kept = {"kept.stage": stage_of(program)}
+    names = {"names": b"one.tap\ntwo.tap\n"}
+    old = {"OUT": b"older\n"}
+    extract = ["extract", "ABC001", "1", "OUT"]
+    return [
+        (["--help"], {}),
+        (["--version"], {}),
+        (["lost"], {}),
+        (["list"], {}),
+        (["list", "one.tap"], reels),
+        (["list", "lost.tap", "--explain"], reels),
+        (["check", "one.tap", "two.tap"], reels),
+        (["check", "--files-from", "names"], reels | names),
+        (["check", "--files-from", "-"], reels),
+        (["survey", "one.tap", "two.tap"], reels),
+        (["survey", "one.tap", "--tsv"], reels),
+        ([*extract, "one.tap", "two.tap"], reels | old),
+        ([*extract, "one.tap"], reels),
+        ([*extract, "two.tap", "one.tap", "--again"], reels | old),
+        ([*extract, "one.tap", "one.tap", "--stage", "new.stage"], reels),
+        ([*extract, "two.tap", "--stage", "kept.stage"], reels | kept),
+        (["stage", "kept.stage", "OUT"], kept),
+        (["unpack", ".", "two.tap", "one.tap"], reels),
+        (["init", ".", "ABC", "3"], {}),
+        (["write", ".", "ABC", "100000", "PAYROLL=lines"], {"lines": LINES}),
+    ]
+
+
+def run(program, words, files, closed, stand_ins):
+    """The status and the files of a call whose streams are closed, or have others in their place."""
+
+    def prepare():
+        for number in closed:
+            os.close(number)
+            if stand_ins:
+                path, flags = STAND_INS[number]
+                assert os.open(path, flags) == number
+
+    with tempfile.TemporaryDirectory(prefix="tape-streams-") as folder:
+        for name, content in files.items():
+            Path(folder, name).write_bytes(content)
+        done = subprocess.run(
+            [program, *words], cwd=folder, stdin=subprocess.DEVNULL, stdout=subprocess.DEVNULL,
+            stderr=subprocess.DEVNULL, preexec_fn=prepare, check=False, timeout=60,
+        )
+        return done.returncode, {path.name: path.read_bytes() for path in Path(folder).iterdir()}
+
+
+def main():
+    parser = argparse.ArgumentParser(description=__doc__.split("\n\n")[0])
+    parser.add_argument("--program", type=Path, default=CRATE / "out" / "tape_tool", help="the built `tape`")
+    options = parser.parse_args()
+    program = options.program.resolve()
+    count = wrong = 0
+    for words, files in calls(program):
+        for closed in CLOSED:
+            count += 1
+            answer = run(program, words, files, closed, False)
+            right = run(program, words, files, closed, True)
+            if answer != right:
+                wrong += 1
+                changed = [name for name in right[1].keys() | answer[1].keys() if right[1].get(name) != answer[1].get(name)]
+                print(f"{' '.join(words)}, {sorted(closed)} closed: status {answer[0]}, not {right[0]}; files {changed}")
+    print(f"{count} calls, {wrong} wrong")
+    return wrong != 0
+
+
+if __name__ == "__main__":
+    sys.exit(main())

@@ -1,0 +1,295 @@
+//! The draft of an output: a new file, which takes the output's name when it is complete.
+
+ghost use Rattle.std.specs.Prelude.{◌≡◌, None, Bool};
+ghost use Rattle.tape_tool.specs.Guards.{is_written_in_place};
+
+use crate::fault::{FileFault, OUT_OF_MEMORY, ToolFault};
+use crate::host::Host;
+use crate::left::remove;
+use crate::program::End;
+use crate::unfit::{FileId, Taking, way_to_take};
+use std::alloc::{AllocError, Global};
+use std::fs::{File, OpenOptions, Permissions};
+use std::io::{BufWriter, Error, ErrorKind, Write};
+use std::os::unix::fs::{MetadataExt, PermissionsExt, fchown};
+use std::{fs, io};
+use tape_run::{Place, WriteFailed};
+use tape_writer::system::{LockFault, found, locked, sync_folder_of};
+
+/// Whether an output for which no draft could be made, for this reason, may be written in place: in
+/// a folder that takes no new file. In a folder that is not there nothing can be lost.
+pub fn is_written_in_place(kind: ErrorKind, there: bool) -> bool
+    ensures { result ≡ is_written_in_place kind there }
+{
+    match kind {
+        ErrorKind::PermissionDenied | ErrorKind::ReadOnlyFilesystem => true,
+        ErrorKind::NotFound => !there,
+        _ => false,
+    }
+}
+
+/// A new file. What is written to it is passed on; of what is in it nothing is claimed.
+#[derive(Drop)]
+pub struct DraftFile {
+    file: File,
+}
+
+impl Write for DraftFile {
+    fn write(&mut self, buf: &[u8]) -> io::Result<usize> {
+        self.file.write(buf)
+    }
+
+    fn flush(&mut self) -> io::Result<()> {
+        self.file.flush()
+    }
+}
+
+/// The name of an output, and that of the draft that is to take it.
+#[derive(Drop)]
+pub struct OutName<'a, R: Host> {
+    rt: &'a R,
+    draft: String,
+    name: &'a str,
+    /// The draft, which is locked as long as this is open: until it has its name or is removed.
+    _lock: File,
+    /// What was found under the output's name, before anything was read.
+    before: Option<FileId>,
+    /// Whether the draft has a name of its own.
+    is_draft: bool,
+    /// Whether something else has the output's name.
+    is_taken: bool,
+}
+
+impl<'a, R: Host> OutName<'a, R> {
+    fn new(
+        rt: &'a R,
+        draft: String,
+        name: &'a str,
+        lock: File,
+        before: Option<FileId>,
+    ) -> OutName<'a, R> {
+        OutName {
+            rt,
+            draft,
+            name,
+            _lock: lock,
+            before,
+            is_draft: true,
+            is_taken: false,
+        }
+    }
+
+    /// Gives a draft the owner and the permissions of the file that it is to replace, as far as this
+    /// user may. What is run with the rights of its owner is not made of other bytes.
+    fn keep_rights(&self, draft: &File) -> io::Result<()> {
+        let there = fs::metadata(self.rt, self.name)?;
+        let _ = fchown(draft, Some(there.uid()), Some(there.gid()));
+        let _ = draft.set_permissions(Permissions::from_mode(there.mode() & 0o777));
+        Ok(())
+    }
+
+    /// Has the draft stand under the output's name, on the disk. Then the name is the disk's too.
+    fn take(&mut self, file: &File) -> io::Result<()> {
+        file.sync_all()?;
+        match way_to_take(self.before, self.now()) {
+            Ok(Taking::New) => self.take_new()?,
+            Ok(Taking::Over) => {
+                self.rt.rename(self.draft.as_str(), self.name)?;
+                self.is_draft = false;
+            }
+            Err(fault) => {
+                self.is_taken = fault == FileFault::Exists;
+                return Err(Error::from(ErrorKind::Other));
+            }
+        }
+        sync_folder_of(self.rt, self.name)
+    }
+
+    /// What has the output's name now, if anything.
+    fn now(&self) -> Result<Option<FileId>, FileFault> {
+        match found(fs::symlink_metadata(self.rt, self.name))? {
+            Some(there) => Ok(Some(FileId::of(&there))),
+            None => Ok(None),
+        }
+    }
+
+    /// Takes a name that nothing has: a second name is given to the draft, and its own removed. On
+    /// a file system without second names an empty file takes the name first.
+    fn take_new(&mut self) -> io::Result<()> {
+        match self.rt.hard_link(self.draft.as_str(), self.name) {
+            Ok(()) => {
+                self.clear();
+                return Ok(());
+            }
+            Err(error) if error.kind() == ErrorKind::AlreadyExists => {
+                self.is_taken = true;
+                return Err(error);
+            }
+            Err(_) => {}
+        }
+        if let Err(error) = File::create_new(self.rt, self.name) {
+            self.is_taken = error.kind() == ErrorKind::AlreadyExists;
+            return Err(error);
+        }
+        if let Err(error) = self.rt.rename(self.draft.as_str(), self.name) {
+            remove(self.rt, self.name);
+            return Err(error);
+        }
+        self.is_draft = false;
+        Ok(())
+    }
+
+    /// Removes the draft, where it did not take the name.
+    fn clear(&mut self) {
+        if self.is_draft {
+            remove(self.rt, self.draft.as_str());
+            self.is_draft = false;
+        }
+    }
+
+    /// Ends a run that came to this end: removes the draft, and says whether it was another file
+    /// that kept it from its name.
+    pub fn ended(&mut self, end: End) -> End {
+        self.clear();
+        if self.is_taken {
+            return End::Faulted(ToolFault::File(FileFault::Exists));
+        }
+        end
+    }
+}
+
+impl<R: Host> Place<BufWriter<DraftFile>> for OutName<'_, R> {
+    ghost stands = { λ _. None };
+
+    fn place(&mut self, out: BufWriter<DraftFile>) -> Result<(), WriteFailed> {
+        match self.take(&out.get_ref().file) {
+            Ok(()) => Ok(()),
+            Err(_) => Err(WriteFailed),
+        }
+    }
+}
+
+/// A draft that takes the output's name when it is flushed: all is written then.
+#[derive(Drop)]
+pub struct Draft<'a, R: Host> {
+    pub name: OutName<'a, R>,
+    pub file: DraftFile,
+}
+
+/// So many names of drafts are tried, at most.
+const MOST_DRAFTS: u16 = 9_999;
+
+impl<'a, R: Host> Draft<'a, R> {
+    /// Makes a draft in the output's folder, with the owner and the permissions of the file that it
+    /// is to replace. None where the output may be written in place.
+    ///
+    /// # Errors
+    ///
+    /// `File` with `NotOpened` where none can be made, `OUT_OF_MEMORY`.
+    pub fn make(
+        alloc: Global,
+        rt: &'a R,
+        name: &'a str,
+        before: Option<FileId>,
+    ) -> Result<Option<Draft<'a, R>>, ToolFault> {
+        for number in 1..=MOST_DRAFTS {
+            let Ok(draft) = draft_name(alloc, name, number) else {
+                return Err(OUT_OF_MEMORY);
+            };
+            match make_new(rt, draft.as_str()) {
+                Ok(Some(file)) => {
+                    let Ok(lock) = file.try_clone() else {
+                        remove(rt, draft.as_str());
+                        break;
+                    };
+                    let mut name = OutName::new(rt, draft, name, lock, before);
+                    if before.is_some() && name.keep_rights(&file).is_err() {
+                        name.clear();
+                        break;
+                    }
+                    return Ok(Some(Draft {
+                        name,
+                        file: DraftFile { file },
+                    }));
+                }
+                Ok(None) => {}
+                Err(kind) if is_written_in_place(kind, before.is_some()) => return Ok(None),
+                Err(_) => break,
+            }
+        }
+        Err(ToolFault::File(FileFault::NotOpened))
+    }
+}
+
+impl<R: Host> Write for Draft<'_, R> {
+    fn write(&mut self, buf: &[u8]) -> io::Result<usize> {
+        self.file.write(buf)
+    }
+
+    fn flush(&mut self) -> io::Result<()> {
+        self.file.flush()?;
+        self.name.take(&self.file.file)
+    }
+}
+
+/// The name of the draft with this number: short, since that of the output may be as long as names
+/// are, and of this program alone.
+fn draft_name(alloc: Global, name: &str, number: u16) -> Result<String, AllocError> {
+    let folder = match name.rfind('/') {
+        Some(end) => &name[..end + 1],
+        None => "",
+    };
+    format!(in alloc; "{folder}.tape-{number}.part")
+}
+
+/// Makes a file of this name and locks it, for as long as the draft is open. None where another run
+/// has a file of this name. One that a run left which was killed has no lock, and is removed.
+fn make_new<R: Host>(rt: &R, path: &str) -> Result<Option<File>, ErrorKind> {
+    if let Err(error) = fs::symlink_metadata(rt, path) {
+        if error.kind() != ErrorKind::NotFound {
+            return Err(error.kind());
+        }
+    } else if !remove_left(rt, path) {
+        return Ok(None);
+    }
+    match File::create_new(rt, path) {
+        Ok(file) => lock_new(rt, path, file),
+        Err(error) if error.kind() == ErrorKind::AlreadyExists => Ok(None),
+        Err(error) => Err(error.kind()),
+    }
+}
+
+/// Locks a file that was made now. None where another run took it for one that was left, which it
+/// then removes.
+fn lock_new<R: Host>(rt: &R, path: &str, file: File) -> Result<Option<File>, ErrorKind> {
+    match locked(file.try_lock()) {
+        Ok(()) if has_name(rt, &file, path) => Ok(Some(file)),
+        Ok(()) | Err(LockFault::InUse) => Ok(None),
+        Err(LockFault::Failed) => {
+            remove(rt, path);
+            Err(ErrorKind::Other)
+        }
+    }
+}
+
+/// Removes a plain file of this name that no run has locked, and says whether it did.
+fn remove_left<R: Host>(rt: &R, path: &str) -> bool {
+    let mut options = OpenOptions::new();
+    options.read(true).write(true);
+    match fs::symlink_metadata(rt, path) {
+        Ok(there) if there.is_file() => {}
+        _ => return false,
+    }
+    let Ok(file) = options.open(rt, path) else {
+        return false;
+    };
+    file.try_lock().is_ok() && has_name(rt, &file, path) && rt.remove_file(path).is_ok()
+}
+
+/// Whether the open file is the one that has this name.
+fn has_name<R: Host>(rt: &R, file: &File, path: &str) -> bool {
+    match (file.metadata(), fs::symlink_metadata(rt, path)) {
+        (Ok(open), Ok(named)) => FileId::of(&open).is_same(&FileId::of(&named)),
+        _ => false,
+    }
+}

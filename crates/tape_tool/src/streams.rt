@@ -1,0 +1,47 @@
+//! The numbers of the standard streams, which no other file may get.
+use crate::fault::{FileFault, OUT_OF_MEMORY, ToolFault};
+use crate::host::Host;
+use std::fs::File;
+use std::io;
+use std::os::fd::AsRawFd;
+
+/// The number of standard error, the last of them.
+const LAST: i32 = 2;
+
+/// The number of the error of a process that has as many files open as it may.
+const EMFILE: i32 = 24;
+
+/// Keeps files open under the numbers of those standard streams that are closed. Otherwise the next
+/// file that is opened gets such a number, and what is printed goes into it.
+///
+/// Reading from these files fails, and so does writing to them, as on a closed stream.
+///
+/// # Errors
+///
+/// `File` with `NotOpened` if no file can be opened although a number is free, `OUT_OF_MEMORY`.
+pub fn keep_numbers<R: Host>(rt: &R) -> Result<Vec<File>, ToolFault> {
+    let mut kept = Vec::new(rt.alloc());
+    for _ in 0..=LAST {
+        match neither_read_nor_written(rt) {
+            Ok(file) if file.as_raw_fd() > LAST => break,
+            Ok(file) => {
+                if kept.push(file).is_err() {
+                    return Err(OUT_OF_MEMORY);
+                }
+            }
+            // No number is free, so no file gets one.
+            Err(error) if error.raw_os_error() == Some(EMFILE) => break,
+            Err(_) => return Err(ToolFault::File(FileFault::NotOpened)),
+        }
+    }
+    Ok(kept)
+}
+
+/// Opens a folder, for reading: of a folder no bytes can be read. Where the root may not be read it
+/// is a device that takes nothing and has nothing.
+fn neither_read_nor_written<R: Host>(rt: &R) -> io::Result<File> {
+    match File::open(rt, "/") {
+        Ok(folder) => Ok(folder),
+        Err(_) => File::open(rt, "/dev/null"),
+    }
+}
