@@ -17,6 +17,7 @@ use crate::init::init;
 use crate::list::list;
 use crate::merge::{compare, merge};
 use crate::outline::{Outline, mistake};
+use crate::salvage::salvage;
 use crate::stage::{StageEnding, stage};
 use crate::survey::survey;
 use crate::telling::FaultLine;
@@ -262,6 +263,7 @@ fn obey<'a, R: Host>(rt: &R, order: &Order<'a>, site: &mut Site<'a>) -> End {
         Order::Write(order) => write(rt, order, site),
         Order::Extract(order) => extract(rt, order, site),
         Order::Unpack(order) => unpack(rt, order, site),
+        Order::Salvage(order) => salvage(rt, order, site),
         Order::Stage(order) => stage(rt, order, site),
         Order::Merge(order) => merge(rt, order, site),
         Order::Compare(named) => compare(rt, named, site),

@@ -9,6 +9,7 @@ mod faults;
 mod image;
 mod init;
 mod program;
+mod salvage_program;
 mod seen;
 mod showing;
 mod staged_program;
