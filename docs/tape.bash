@@ -7,23 +7,29 @@ _tape() {
     done
     local word at place=1 command=${COMP_WORDS[start]}
     if [ "$COMP_CWORD" -eq "$start" ]; then
-        COMPREPLY=($(compgen -W 'list check survey compare merge extract unpack stage init write help --explain --help --version' -- "$cur"))
+        COMPREPLY=($(compgen -W 'list check survey compare merge extract unpack salvage stage init write help --explain --help --version' -- "$cur"))
         return
     fi
     # Bash takes '=' for a word of its own.
     [ "$cur" = '=' ] && cur=''
     [ "$prev" = '=' ] && prev=${COMP_WORDS[COMP_CWORD-2]}
+    case $command:$prev in
+    salvage:--form) COMPREPLY=($(compgen -W 'lines raw blocks' -- "$cur")); return ;;
+    esac
     case $prev in
     --form) COMPREPLY=($(compgen -W 'lines raw' -- "$cur")); return ;;
     --format) COMPREPLY=($(compgen -W 'F D S' -- "$cur")); return ;;
     --block | --record | --offset) return ;;
     esac
     case $command:$cur in
-    help:*) COMPREPLY=($(compgen -W 'list check survey compare merge extract unpack stage init write' -- "$cur")); return ;;
+    help:*) COMPREPLY=($(compgen -W 'list check survey compare merge extract unpack salvage stage init write' -- "$cur")); return ;;
     list:-*) COMPREPLY=($(compgen -W '--offsets --explain --help' -- "$cur")); return ;;
     check:-* | compare:-* | merge:-*) COMPREPLY=($(compgen -W '--files-from --null --explain --help' -- "$cur")); return ;;
     survey:-*) COMPREPLY=($(compgen -W '--files-from --null --tsv --explain --help' -- "$cur")); return ;;
     unpack:-*) COMPREPLY=($(compgen -W '--files-from --null --form --explain --help' -- "$cur")); return ;;
+    salvage:-*)
+        COMPREPLY=($(compgen -W '--files-from --null --form --explain --help' -- "$cur"))
+        return ;;
     stage:-*) COMPREPLY=($(compgen -W '--form --damaged --explain --help' -- "$cur")); return ;;
     extract:-*)
         COMPREPLY=($(compgen -W '--files-from --null --form --stage --again --explain --help' -- "$cur"))
@@ -45,14 +51,14 @@ _tape() {
     done
     compopt -o filenames 2>/dev/null
     case $command:$place in
-    extract:1 | extract:2 | init:2 | init:3 | write:2 | write:3)
+    extract:1 | extract:2 | salvage:1 | salvage:2 | init:2 | init:3 | write:2 | write:3)
         case $prev in --files-from | --stage) ;; *) return ;; esac ;;
     esac
     case $command:$place:$prev in
     *:--files-from) mapfile -t COMPREPLY < <(compgen -f -- "$cur") ;;
     init:1:* | write:1:* | unpack:1:*) mapfile -t COMPREPLY < <(compgen -d -- "$cur") ;;
     # No image is offered for OUT, which would be written over, nor for a stage.
-    extract:3:* | merge:1:* | stage:[12]:* | *:--stage) mapfile -t COMPREPLY < <(compgen -f -X '*.[tT][aA][pP]' -- "$cur") ;;
+    extract:3:* | salvage:3:* | merge:1:* | stage:[12]:* | *:--stage) mapfile -t COMPREPLY < <(compgen -f -X '*.[tT][aA][pP]' -- "$cur") ;;
     *) mapfile -t COMPREPLY < <(compgen -f -- "$cur") ;;
     esac
 }

@@ -15,10 +15,11 @@ named name = cond (bytes_eq name (codes "list")) verbs.List
     (cond (bytes_eq name (codes "survey")) verbs.Survey
     (cond (bytes_eq name (codes "extract")) verbs.Extract
     (cond (bytes_eq name (codes "unpack")) verbs.Unpack
+    (cond (bytes_eq name (codes "salvage")) verbs.Salvage
     (cond (bytes_eq name (codes "stage")) verbs.Stage
     (cond (bytes_eq name (codes "init")) verbs.Init
     (cond (bytes_eq name (codes "write")) verbs.Write
-    (cond (bytes_eq name (codes "merge")) verbs.Merge verbs.Compare))))))))
+    (cond (bytes_eq name (codes "merge")) verbs.Merge verbs.Compare)))))))))
 
 named_back : (verb : Verb) → named (name_of verb) ≡ verb
 named_back verbs.List = refl
@@ -26,6 +27,7 @@ named_back verbs.Check = refl
 named_back verbs.Survey = refl
 named_back verbs.Extract = refl
 named_back verbs.Unpack = refl
+named_back verbs.Salvage = refl
 named_back verbs.Stage = refl
 named_back verbs.Init = refl
 named_back verbs.Write = refl

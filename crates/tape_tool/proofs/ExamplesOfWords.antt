@@ -19,10 +19,12 @@ use Rattle.tape_tool.specs.declared.extract.words.Extract.{Extract}
 use Rattle.tape_tool.specs.declared.init.words.Init.{Init}
 use Rattle.tape_tool.specs.declared.images.Named.{Named}
 use Rattle.tape_tool.specs.declared.unpack.words.Unpack.{Unpack}
+use Rattle.tape_tool.specs.declared.salvage.words.SalvageOrder.{SalvageOrder}
 use Rattle.tape_tool.specs.declared.words.Order.{Order}
 use Rattle.tape_tool.specs.declared.words.Order.TheVariants as orders
 use Rattle.tape_tool.specs.CasesOfWords.{CasesOfWords, CasesOfOrders, shelf}
-use Rattle.tape_tool.specs.Words.{AsksToExtract, AsksToInit, AsksToUnpack, IsDashOrMore, IsFlag}
+use Rattle.tape_tool.specs.Words.{AsksToExtract, AsksToInit, AsksToSalvage, AsksToUnpack}
+use Rattle.tape_tool.specs.Words.{IsDashOrMore, IsFlag}
 use Rattle.tape_tool.specs.Words.{IsNoExtract, IsNoInit, IsNoSet, IsNoUnpack, IsOrderIn}
 use Rattle.tape_tool.specs.Words.{NamesImages}
 use Rattle.tape_tool.specs.Words.{RefusedFor, is_in_rows, texts_of_one}
@@ -193,6 +195,12 @@ pub no_init : (order : Init) (rows : List Row) → AsksToInit rows order → IsN
 no_init order rows asked (inl none) = asked.named none
 no_init order rows asked (inr wrong) = wrong asked.is_prefix
 
+pub no_salvage : (order : SalvageOrder) (rows : List Row) → AsksToSalvage rows order
+    → IsNoExtract rows → ⊥
+no_salvage order rows asked (inl (inl none)) = asked.set none
+no_salvage order rows asked (inl (inr dash)) = asked.named dash
+no_salvage order rows asked (inr many) = absurd (omega (arith, asked.images.few, many))
+
 -- the names of two commands that begin otherwise
 other : (one two : List ℕ) (m n : ℕ) → one ≡ two → get_or one 0 0 ≡ m → get_or two 0 0 ≡ n → m ≡ n
 other one two m n same at_one at_two = sym at_one ∙ ap (λ t. get_or t 0 0) same ∙ at_two
@@ -208,6 +216,8 @@ check rows (orders.Extract _) h =
     absurd (let n : 99 ≡ 101 = other _ _ 99 101 h.0 refl refl in omega arith)
 check rows (orders.Unpack _) h =
     absurd (let n : 99 ≡ 117 = other _ _ 99 117 h.0 refl refl in omega arith)
+check rows (orders.Salvage _) h =
+    absurd (let n : 99 ≡ 115 = other _ _ 99 115 h.0 refl refl in omega arith)
 check rows (orders.Stage _) h =
     absurd (let n : 99 ≡ 115 = other _ _ 99 115 h.0 refl refl in omega arith)
 check rows (orders.Init _) h =

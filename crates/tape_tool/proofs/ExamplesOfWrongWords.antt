@@ -20,7 +20,8 @@ use Rattle.tape_tool.specs.declared.words.Order.TheVariants as orders
 use Rattle.tape_tool.specs.Words.{IsNoOrderIn, IsNoOrderOf, IsOrderIn, IsOrderOf, NamesImages}
 use Rattle.tape_tool.specs.Words.{texts_of_one}
 use Rattle.tape_tool.proofs.Commands.{known, known_by}
-use Rattle.tape_tool.proofs.ExamplesOfWords.{never_dash, no_extract, no_init, no_unpack}
+use Rattle.tape_tool.proofs.ExamplesOfWords.{never_dash, no_extract, no_init, no_salvage}
+use Rattle.tape_tool.proofs.ExamplesOfWords.{no_unpack}
 
 pub missing : {text : List ℕ} → None ≡ Some text → ⊥
 missing e = cc
@@ -95,6 +96,7 @@ unknown verbs.Check = other _ _ 108 99 (omega arith) refl refl
 unknown verbs.Survey = other _ _ 108 115 (omega arith) refl refl
 unknown verbs.Extract = other _ _ 108 101 (omega arith) refl refl
 unknown verbs.Unpack = other _ _ 108 117 (omega arith) refl refl
+unknown verbs.Salvage = other _ _ 108 115 (omega arith) refl refl
 unknown verbs.Stage = other _ _ 108 115 (omega arith) refl refl
 unknown verbs.Init = other _ _ 108 105 (omega arith) refl refl
 unknown verbs.Write = other _ _ 108 119 (omega arith) refl refl
@@ -149,6 +151,8 @@ both name rows (orders.Survey o) h =
 both name rows (orders.Extract o) h =
     known_by verbs.Extract name rows h.0 (no_extract o rows h.1)
 both name rows (orders.Unpack o) h = known_by verbs.Unpack name rows h.0 (no_unpack o rows h.1)
+both name rows (orders.Salvage o) h =
+    known_by verbs.Salvage name rows h.0 (no_salvage o rows h.1)
 both name rows (orders.Stage o) h =
     known_by verbs.Stage name rows h.0 (one_at_most o.out _ h.1.out h.1.named)
 both name rows (orders.Init o) h = known_by verbs.Init name rows h.0 (no_init o rows h.1)

@@ -27,6 +27,8 @@ use Rattle.tape_tool.specs.declared.survey.words.Survey.{Survey}
 use Rattle.tape_tool.specs.declared.extract.words.Extract.{Extract}
 use Rattle.tape_tool.specs.declared.extract.words.Task.{Task}
 use Rattle.tape_tool.specs.declared.unpack.words.Unpack.{Unpack}
+use Rattle.tape_tool.specs.declared.salvage.words.SalvageOrder.{SalvageOrder}
+use Rattle.tape_run.specs.declared.salvage.Content.TheVariants.{Records, Blocks}
 use Rattle.tape_tool.specs.declared.stage.words.StageOrder.{StageOrder}
 use Rattle.tape_tool.specs.declared.init.words.Init.{Init}
 use Rattle.tape_tool.specs.declared.write.words.WriteOrder.{WriteOrder}
@@ -163,6 +165,18 @@ pub record AsksToUnpack (rows : List Row) (order : Unpack) : Type 0 where
 abbrev pub IsNoUnpack : List Row → Type 0
 IsNoUnpack rows = (text_in rows (codes "DIR") ≡ []) ⊎ AreTooMany rows
 
+-- what `salvage` is asked for
+pub record AsksToSalvage (rows : List Row) (order : SalvageOrder) : Type 0 where
+  pub set_id : order.task.set_id ≡ padded_set (text_in rows (codes "SET"))
+  pub set : IsNoSet (text_in rows (codes "SET")) → ⊥
+  pub file : (n : ℕ) → IsNumber 16 rows (codes "FILE") n → order.task.file ≡ n
+  pub out : order.out.now ≡ text_in rows (codes "OUT")
+  pub named : text_in rows (codes "OUT") ≢ codes "-"
+  pub blocks : order.task.content ≡ Blocks
+      → first_of (codes "form") rows ≡ Some (codes "blocks")
+  pub form : order.task.content ≡ Records → IsForm rows order.task.form
+  pub images : NamesImages rows order.images
+
 -- what `stage` is asked for
 pub record AsksForStage (rows : List Row) (order : StageOrder) : Type 0 where
   pub stage : order.stage.now ≡ text_in rows (codes "PATH")
@@ -245,6 +259,7 @@ name_of verbs.Check = codes "check"
 name_of verbs.Survey = codes "survey"
 name_of verbs.Extract = codes "extract"
 name_of verbs.Unpack = codes "unpack"
+name_of verbs.Salvage = codes "salvage"
 name_of verbs.Stage = codes "stage"
 name_of verbs.Init = codes "init"
 name_of verbs.Write = codes "write"
@@ -258,6 +273,7 @@ IsOrderOf name rows (orders.Check named) = (name ≡ codes "check") × NamesImag
 IsOrderOf name rows (orders.Survey order) = (name ≡ codes "survey") × AsksToSurvey rows order
 IsOrderOf name rows (orders.Extract order) = (name ≡ codes "extract") × AsksToExtract rows order
 IsOrderOf name rows (orders.Unpack order) = (name ≡ codes "unpack") × AsksToUnpack rows order
+IsOrderOf name rows (orders.Salvage order) = (name ≡ codes "salvage") × AsksToSalvage rows order
 IsOrderOf name rows (orders.Stage order) = (name ≡ codes "stage") × AsksForStage rows order
 IsOrderOf name rows (orders.Init order) = (name ≡ codes "init") × AsksToInit rows order
 IsOrderOf name rows (orders.Write order) = (name ≡ codes "write") × AsksToWrite rows order
@@ -276,6 +292,7 @@ IsNoOrder verbs.Check rows = AreTooMany rows
 IsNoOrder verbs.Survey rows = AreTooMany rows
 IsNoOrder verbs.Extract rows = IsNoExtract rows
 IsNoOrder verbs.Unpack rows = IsNoUnpack rows
+IsNoOrder verbs.Salvage rows = IsNoExtract rows
 IsNoOrder verbs.Stage rows = IsDashOrMore (texts_in rows (codes "OUT"))
 IsNoOrder verbs.Init rows = IsNoInit rows
 IsNoOrder verbs.Write rows = IsNoWrite rows

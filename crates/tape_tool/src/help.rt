@@ -2,6 +2,7 @@
 mod extract;
 mod lists;
 mod merge;
+mod salvage;
 mod stage;
 mod survey;
 mod unpack;
@@ -18,6 +19,9 @@ pub use lists::{
 pub use merge::{
     ABOUT_COMPARE, ABOUT_MERGE, AFTER_COMPARE, AFTER_MERGE, MERGED_OUT, MERGED_OUT_IS_DASH,
     ONE_READING, READINGS, TOO_MANY_TO_COMPARE, TOO_MANY_TO_MERGE,
+};
+pub use salvage::{
+    ABOUT_SALVAGE, AFTER_SALVAGE, FORM_OF_SALVAGED, OUT_OF_SALVAGE, TOO_MANY_TO_SALVAGE,
 };
 pub use stage::{ABOUT_STAGE, AFTER_STAGE, DAMAGED, ONE_OUT, OUT_OF_STAGE, STAGE_READ};
 pub use survey::{ABOUT_SURVEY, AFTER_SURVEY, ROWS, SHELF};

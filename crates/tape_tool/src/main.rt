@@ -20,6 +20,7 @@ mod extract;
 mod init;
 mod list;
 mod merge;
+mod salvage;
 mod stage;
 mod survey;
 mod unpack;

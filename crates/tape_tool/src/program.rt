@@ -18,6 +18,7 @@ use crate::list::list;
 use crate::merge::{compare, merge};
 use crate::odd_word::odd_word;
 use crate::outline::{Outline, mistake};
+use crate::salvage::salvage;
 use crate::stage::{StageEnding, stage};
 use crate::streams::keep_numbers;
 use crate::survey::survey;
@@ -278,6 +279,7 @@ fn obey<'a, R: Host>(rt: &R, order: &Order<'a>, site: &mut Site<'a>) -> End {
         Order::Write(order) => write(rt, order, site),
         Order::Extract(order) => extract(rt, order, site),
         Order::Unpack(order) => unpack(rt, order, site),
+        Order::Salvage(order) => salvage(rt, order, site),
         Order::Stage(order) => stage(rt, order, site),
         Order::Merge(order) => merge(rt, order, site),
         Order::Compare(named) => compare(rt, named, site),

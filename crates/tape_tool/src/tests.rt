@@ -10,6 +10,7 @@ mod guards;
 mod image;
 mod init;
 mod program;
+mod salvage_program;
 mod seen;
 mod showing;
 mod staged_program;

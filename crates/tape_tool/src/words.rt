@@ -11,13 +11,14 @@ ghost use Rattle.tape_tool.specs.Words.{NamesImages, IsDashOrMore};
 
 use crate::check::words::{CHECK, check_order};
 use crate::extract::words::extract_order;
-pub use crate::extract::words::{EXTRACT, Extract, Task};
+pub use crate::extract::words::{EXTRACT, Extract, Task, set_id_of};
 use crate::help;
 use crate::images::{List, Named};
 use crate::init::words::{INIT, Init, init_order};
 use crate::list::words::{LIST, Listing, list_order};
 use crate::merge::words::{COMPARE, MERGE, Merge, compare_order, merge_order};
 use crate::outline::{Outline, command_of, mistake};
+use crate::salvage::words::{SALVAGE, SalvageOrder, salvage_order};
 use crate::stage::words::{STAGE, StageOrder, stage_order};
 use crate::survey::words::{SURVEY, Survey, survey_order};
 use crate::unpack::words::{UNPACK, Unpack, unpack_order};
@@ -164,6 +165,8 @@ pub enum Order<'a> {
     Extract(Extract<'a>),
     /// Get every file back from images.
     Unpack(Unpack<'a>),
+    /// Recover what is readable of a file.
+    Salvage(SalvageOrder<'a>),
     /// Tell what a stage holds.
     Stage(StageOrder<'a>),
     /// Merge readings of one tape.
@@ -180,6 +183,7 @@ enum Verb {
     Survey,
     Extract,
     Unpack,
+    Salvage,
     Stage,
     Init,
     Write,
@@ -253,6 +257,7 @@ fn order_with<'a>(alloc: Global, verb: Verb, words: &ArgMatches<'a>) -> Result<O
         Verb::Survey => Order::Survey(survey_order(alloc, words)?),
         Verb::Extract => Order::Extract(extract_order(alloc, words)?),
         Verb::Unpack => Order::Unpack(unpack_order(alloc, words)?),
+        Verb::Salvage => Order::Salvage(salvage_order(alloc, words)?),
         Verb::Stage => Order::Stage(stage_order(alloc, words)?),
         Verb::Init => Order::Init(init_order(alloc, words)?),
         Verb::Write => Order::Write(write_order(alloc, words)?),
@@ -272,6 +277,7 @@ fn verb_of(name: &str) -> Option<Verb>
         "survey" => Some(Verb::Survey),
         "extract" => Some(Verb::Extract),
         "unpack" => Some(Verb::Unpack),
+        "salvage" => Some(Verb::Salvage),
         "stage" => Some(Verb::Stage),
         "init" => Some(Verb::Init),
         "write" => Some(Verb::Write),
@@ -291,7 +297,8 @@ fn command<'a>(alloc: Global) -> Result<Command<'a>, AllocError> {
     let bare = command_of(alloc, &TAPE)?.version("0.1.0");
     let mut tape = bare.subcommand_required(true).arg(explain)?;
     let outlines = [
-        &LIST, &CHECK, &SURVEY, &COMPARE, &MERGE, &EXTRACT, &UNPACK, &STAGE, &INIT, &WRITE,
+        &LIST, &CHECK, &SURVEY, &COMPARE, &MERGE, &EXTRACT, &UNPACK, &SALVAGE, &STAGE, &INIT,
+        &WRITE,
     ];
     for outline in &outlines {
         tape = tape.subcommand(command_of(alloc, *outline)?)?;

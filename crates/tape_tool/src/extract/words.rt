@@ -93,7 +93,7 @@ fn task_of<'a>(alloc: Global, matches: &ArgMatches<'a>) -> Result<Task<'a>, Erro
 }
 
 /// A set's identifier: 1 to 6 bytes, with spaces behind them.
-fn set_id_of(text: &str) -> Option<Field<6>>
+pub fn set_id_of(text: &str) -> Option<Field<6>>
     ensures some { IfSome result (λ id. id ≡ padded_set text.now) }
     ensures given { IsSome result → IsNoSet text.now → ⊥ }
     ensures none { IfNone result (IsNoSet text.now) }

@@ -1,0 +1,520 @@
+#!/usr/bin/env python3
+"""Damaged sets, and what `tape salvage` recovers of their files. Run by hand; CI does not run it.
+
+    ./salvage.py [--program PATH] [--seed N] [--sets N] [--keep FOLDER] [--hand] [--times]
+
+Each set is made here from docs/FORMATS.md alone: files in the three formats on one to four volumes, each volume on one
+or two images. Blocks, labels and tape marks are made unreadable, images are cut at any byte, left out, and shuffled;
+blocks are lost or doubled, so that a trailer label counts wrongly; images of other sets lie among them.
+
+A model in this file, written from the description of the report in docs/FORMATS.md, says what must be written and
+printed. For each file the output must be equal byte for byte, and so must the lines and the exit status. The model has
+two parts that do not depend on each other: the lines are made block by block, and the output is also calculated from
+the records that the set was made of, as those of which every block was read. If `tape extract --again` completes a file
+from the same images, and no volume has two of them, `salvage` must report COMPLETE with the same bytes.
+
+--hand: images that `extract` does not read (formats U, V and VBS, no HDR2), made by hand, with --form blocks.
+--times: a reel of 200 MB, `salvage` against `extract`.
+
+Prints each wrong answer, and counts; the exit status is 1 if there is one.
+"""
+
+import argparse
+import random
+import resource
+import struct
+import subprocess
+import sys
+import tempfile
+import time
+from pathlib import Path
+
+sys.dont_write_bytecode = True
+from reels import File, Reel, block, file_of, label, packed, strangers, volumes_of, word
+
+HERE = Path(__file__).resolve().parent
+MARK, BAD = "mark", "bad"
+
+
+# ---- reading an image
+
+def items_of(image):
+    """The items of an image: a block's bytes, MARK or BAD. They end at the end marker, or at the first fault."""
+    found, at = [], 0
+    while at + 4 <= len(image):
+        head = struct.unpack_from("<I", image, at)[0]
+        if head == 0xFFFFFFFF:
+            break
+        if head == 0:
+            found.append(MARK)
+            at += 4
+            continue
+        size = head & 0xFFFFFF
+        end = at + 4 + size + size % 2
+        if image[end:end + 4] != struct.pack("<I", head):
+            break
+        found.append(BAD if head >> 31 else image[at + 4:at + 4 + size])
+        at = end + 4
+    return found
+
+
+def is_block(item):
+    return isinstance(item, bytes)
+
+
+def digits(text):
+    return int(text) if text.isdigit() else None
+
+
+def first_label(item, names):
+    """The set identifier, file, section and block count of an HDR1, EOF1 or EOV1."""
+    if not is_block(item) or len(item) != 80 or item[:4] not in names:
+        return None
+    section, file, count = digits(item[27:31]), digits(item[31:35]), digits(item[54:60])
+    if not section or not file or count is None:
+        return None
+    return {"name": item[:4], "set": item[21:27], "section": section, "file": file, "count": count}
+
+
+def form_in(item):
+    """The format and the record length in an HDR2."""
+    if not is_block(item) or item[:4] != b"HDR2" or item[4:5] not in b"FDS":
+        return None
+    return chr(item[4]), int(item[10:15])
+
+
+class Section:
+    """A section found on an image."""
+
+    def __init__(self, head, image):
+        self.head, self.image, self.form, self.data, self.doubt, self.closing = head, image, None, [], None, None
+
+    def believed(self):
+        return len(self.data) if self.closing or self.doubt is None else self.doubt
+
+    def miscount(self):
+        counted = self.closing and self.closing["count"] != len(self.data) % 1_000_000
+        return self.closing["count"] if counted else None
+
+    def rank(self):
+        good = sum(is_block(item) for item in self.data)
+        if not self.closing:
+            return self.believed()
+        return good + (2**32 if self.doubt is None and self.miscount() is None else 0)
+
+
+def next_mark(items, at):
+    while at < len(items) and items[at] is not MARK:
+        at += 1
+    return at
+
+
+def sections_on(items, image):
+    """The sections of an image, as the report's description has it: by the marks, and past what cannot be read."""
+    found, at, marks, is_next = [], 0, 0, False
+    while at < len(items):
+        item = items[at]
+        at += 1
+        if item is MARK:
+            marks += 1
+            if is_next or marks > 2:
+                break
+            continue
+        is_next = False
+        if item is BAD:
+            marks = marks if marks == 2 else 0
+            continue
+        if marks == 2:
+            if item[:4] not in (b"EOF1", b"EOV1", b"EOF2", b"EOV2"):
+                break
+            marks = 0
+            continue
+        marks = 0
+        head = first_label(item, (b"HDR1",))
+        if not head:
+            continue
+        section = Section(head, image)
+        begin = next_mark(items, at)
+        if begin == len(items) and begin == at:
+            break
+        found.append(section)
+        labels = items[at:begin]
+        section.form = form_in(labels[0]) if labels else None
+        end = next_mark(items, begin + 1)
+        section.data = items[begin + 1:end]
+        unread = [number for number, it in enumerate(section.data) if it is BAD]
+        section.doubt = 0 if BAD in labels else unread[0] if unread else None
+        if end + 1 >= len(items):
+            break
+        trailer = first_label(items[end + 1], (b"EOF1", b"EOV1"))
+        at = end + 1
+        if trailer and (trailer["section"], trailer["file"]) == (head["section"], head["file"]):
+            section.closing = trailer
+            while at < len(items) and is_block(items[at]):
+                at += 1
+            is_next = at < len(items) and items[at] is MARK
+            at += 1
+    return found
+
+
+# ---- what is recovered
+
+def parts_of(form, data):
+    """The parts of a block: whether each begins a record and whether it ends one, and its bytes."""
+    letter, length = form
+    at = 0
+    while at < len(data):
+        if letter == "F":
+            if at + length > len(data):
+                return
+            yield True, True, data[at:at + length]
+            at += length
+        elif data[at:at + 1] == b"^":
+            return
+        elif letter == "D":
+            size = int(data[at:at + 4])
+            yield True, True, data[at + 4:at + size]
+            at += size
+        else:
+            size = int(data[at + 1:at + 5])
+            yield data[at:at + 1] in b"01", data[at:at + 1] in b"03", data[at + 5:at + size]
+            at += size
+
+
+def broken_at(data, begun):
+    """Where a block of format S has a segment that does not fit to what is before it, or None."""
+    at = 0
+    while at < len(data) and data[at:at + 1] != b"^":
+        if (data[at:at + 1] in b"23") != begun:
+            return at
+        begun = data[at:at + 1] in b"12"
+        at += int(data[at + 1:at + 5])
+    return None
+
+
+class Recovered:
+    """The records and lines so far."""
+
+    def __init__(self):
+        self.records, self.open, self.torn, self.lines, self.missing = [], None, False, [], False
+        self.had = set()
+
+    def tear(self, section, number):
+        if self.open is not None:
+            self.lines.append(f"TORN {section} {number} {len(self.records)}")
+        self.open, self.torn, self.missing = None, True, True
+
+    def take(self, section, number, form, data):
+        parts = [(True, True, data)] if form is None else list(parts_of(form, data))
+        if self.torn and form and form[0] == "S" and data[:1] in (b"2", b"3"):
+            self.lines.append(f"TORN {section} {number} {len(self.records)}")
+        if form and form[0] == "S":
+            broken = broken_at(data, data[:1] in (b"2", b"3") if self.torn else self.open is not None)
+            if broken is not None:
+                self.tear(section, number)
+                self.lines.append(f"REFUSED {section} {number} 6 {broken} {len(self.records)}")
+                return
+        for begins, ends, content in parts:
+            if self.torn and not begins:
+                continue
+            self.torn = False
+            self.open = (self.open or b"") + content
+            if ends:
+                self.records.append(self.open)
+                self.open = None
+
+    def gap(self, section, first, last):
+        if first is not None:
+            self.lines.append(f"GAP {section} {first} {last} {len(self.records)}")
+
+
+def recovered(images, set_id, file, blocks):
+    """What must be recovered of a file from these images; None stands for one that cannot be opened."""
+    made, sections = Recovered(), []
+    for number, image in enumerate(images):
+        if image is None:
+            made.lines.append(f"IMAGE {number + 1} NOT OPENED")
+            continue
+        own = {}
+        for section in sections_on(items_of(image), number):
+            if (section.head["set"], section.head["file"]) == (set_id.ljust(6).encode(), file):
+                own.setdefault(section.head["section"], section)
+                sections.append(section)
+        for section in own.values():
+            section.is_first = True
+    known = next((it.form for it in sections if it.form), None)
+    last, goes_on = max((it.head["section"] for it in sections), default=0), True
+    for number in range(1, last + 1):
+        copies = [it for it in sections if it.head["section"] == number and hasattr(it, "is_first")]
+        goes_on = False
+        if not copies:
+            made.tear(number, 0)
+            made.lines.append(f"GAP {number} - - {len(made.records)}")
+            continue
+        copy = max(copies, key=lambda it: (it.rank(), -it.image))
+        form = None if blocks else copy.form or known
+        if form is None and not blocks:
+            made.tear(number, 0)
+            made.lines.append(f"NO FORM {number} {len(made.records)}")
+            continue
+        made.lines.append(f"SECTION {number} {copy.image + 1} {len(copy.data)}")
+        first = None
+        for at, item in enumerate(copy.data[:copy.believed()]):
+            if item is BAD:
+                made.tear(number, at)
+                first = at if first is None else first
+                continue
+            made.gap(number, first, at - 1)
+            first = None
+            made.take(number, at, form, item)
+            made.had.add((number, at))
+        if not copy.closing:
+            made.tear(number, copy.believed())
+            made.lines.append(f"GAP {number} {copy.believed()} - {len(made.records)}")
+            if copy.believed() < len(copy.data):
+                made.lines.append(f"UNSURE {number} {copy.believed()} {len(copy.data) - 1}")
+            continue
+        made.gap(number, first, len(copy.data) - 1)
+        if copy.miscount() is not None:
+            made.missing = True
+            made.lines.append(f"COUNT {number} {copy.miscount()} {len(copy.data)}")
+        if copy.closing["name"] == b"EOF1":
+            if made.open is not None:
+                made.tear(number, len(copy.data))
+            break
+        goes_on = True
+    else:
+        if goes_on:
+            made.tear(last + 1, 0)
+            made.lines.append(f"GAP {last + 1} - - {len(made.records)}")
+    made.lines.append(f"{'SALVAGED' if made.missing else 'COMPLETE'} {len(made.records)}")
+    return made
+
+
+def records_with(file, places, had):
+    """Of the records that the file was made of those of which every block was read."""
+    whole, so_far, is_whole = [], b"", True
+    for number, data in enumerate(file.blocks):
+        for begins, ends, content in parts_of((file.shape[0], file.shape[2]), data):
+            is_whole = (is_whole or begins) and places[number] in had
+            so_far = content if begins else so_far + content
+            if ends:
+                whole += [so_far] if is_whole else []
+                is_whole = True
+    return whole
+
+
+# ---- damage
+
+def damaged_image(rng, reel, way):
+    """An image of a volume, damaged in this way, and whether blocks are lost or doubled on it."""
+    items = list(reel.items)
+    data = [at for at, item in enumerate(items) if item.kind == "data"]
+    miscounts = False
+    if way == "count" and data:
+        at = rng.choice(data)
+        items[at:at + 1] = [] if rng.random() < 0.5 else [items[at], items[at]]
+        miscounts = True
+    copy = Reel(reel.name, reel.set_id, items)
+    if way in ("data", "both"):
+        copy.bad |= set(rng.sample(data, min(len(data), rng.choice([1, 1, 2, 3, 6]))))
+    if way in ("any", "both"):
+        copy.bad |= set(rng.sample(range(len(items)), min(len(items), rng.choice([1, 1, 2, 3]))))
+    if way == "run" and data:
+        first = rng.choice(data)
+        copy.bad |= {at for at in range(first, min(first + rng.randint(2, 12), len(items))) if at in data}
+    if way == "cut":
+        copy.cut = rng.randint(0, sum(len(item.spelling) for item in items))
+    return copy.image(), miscounts
+
+
+WAYS = ["whole", "whole", "data", "data", "run", "any", "both", "cut", "count"]
+
+
+class Trial:
+    """What was asked of the program, and what was wrong."""
+
+    def __init__(self, options, folder):
+        self.options, self.folder, self.wrong, self.seen = options, Path(folder), 0, 0
+        self.states = {}
+
+    def is_so(self, holds, what):
+        self.seen += 1
+        if not holds:
+            self.wrong += 1
+            print(what)
+
+    def run(self, *words):
+        return subprocess.run([self.options.program, *map(str, words)], cwd=self.folder, capture_output=True, check=False)
+
+
+def check_file(trial, set_id, number, images, names, form):
+    """One file of a set, salvaged from these images."""
+    expected = recovered(images, set_id, number, form == "blocks")
+    out = trial.folder / "out"
+    out.unlink(missing_ok=True)
+    done = trial.run("salvage", set_id, number, "out", *names, "--form", form)
+    end = b"\n" if form == "lines" else b""
+    text = b"".join(record + end for record in expected.records)
+    lines = "".join(line + "\n" for line in expected.lines)
+    status = 3 if expected.missing else 0
+    got = out.read_bytes() if out.exists() else None
+    what = f"{set_id} {number} {form} {' '.join(names)}:"
+    trial.is_so((done.returncode, done.stderr) == (status, b""), f"{what} status {done.returncode}, expected {status}, {done.stderr!r}")
+    trial.is_so(done.stdout.decode() == lines, f"{what} lines\n{done.stdout.decode()}expected\n{lines}")
+    trial.is_so(got == text, f"{what} {got and len(got)} bytes of output, expected {len(text)}")
+    trial.states[status] = trial.states.get(status, 0) + 1
+    return expected, got, status
+
+
+def check_set(trial, rng, number):
+    """A set, damaged, and each of its files."""
+    set_id = f"SET{number % 1000:03}"
+    files = [file_of(rng, at, f" 85{rng.randint(1, 365):03}") for at in range(1, rng.randint(1, 3) + 1)]
+    volumes = volumes_of(set_id, files, rng, f"V{number % 1000:03}")
+    images, names, is_single, miscounts = [], [], True, False
+    for at, items in enumerate(volumes, 1):
+        if len(volumes) > 1 and rng.random() < 0.1:
+            continue
+        count = 2 if rng.random() < 0.3 else 1
+        is_single = is_single and count == 1
+        for copy in range(count):
+            image, is_wrong = damaged_image(rng, Reel("", set_id, items), rng.choice(WAYS))
+            images.append(image)
+            names.append(f"{at}{'ab'[copy]}.tap")
+            miscounts = miscounts or is_wrong
+    others = strangers(rng)
+    if rng.random() < 0.3:
+        name = rng.choice(sorted(others))
+        images.append(others[name])
+        names.append(name)
+    if rng.random() < 0.1 or not images:
+        images.append(None)
+        names.append("not there.tap")
+    order = list(range(len(images)))
+    rng.shuffle(order)
+    images, names = [images[at] for at in order], [names[at] for at in order]
+    for name, image in zip(names, images):
+        if image is not None:
+            (trial.folder / name).write_bytes(image)
+    for file in files:
+        form = rng.choice(["lines", "lines", "lines", "raw", "blocks"])
+        expected, got, status = check_file(trial, set_id, file.number, images, names, form)
+        places = [(item.section, item.number) for items in volumes for item in items if item.kind == "data" and item.file == file.number]
+        if form != "blocks" and not miscounts:
+            whole = records_with(file, places, expected.had)
+            trial.is_so(whole == expected.records, f"{set_id} {file.number}: the records of the file with all blocks are others")
+        if form == "lines" and is_single:
+            (trial.folder / "again").unlink(missing_ok=True)
+            done = trial.run("extract", set_id, file.number, "again", *names, "--again")
+            if done.returncode == 0:
+                trial.is_so(status == 0 and (trial.folder / "again").read_bytes() == got, f"{set_id} {file.number}: extract completes it")
+        if form == "lines" and status == 0:
+            trial.is_so(got == file.text, f"{set_id} {file.number}: COMPLETE, and not the file")
+    for name, image in zip(names, images):
+        if image is not None:
+            (trial.folder / name).unlink()
+
+
+# ---- by hand
+
+def by_hand(trial):
+    """Images in formats that are not read, and without HDR2: their blocks as they are."""
+    def volume(letters, blocks, has_second, standard="4"):
+        items = [label(("VOL1", 4), ("HAND01", 6), ("", 69), (standard, 1))]
+        file = File(1, "BY.HAND", (letters, 4096, 0), " 85100")
+        second = [file.second("HDR2")[:]] if has_second else []
+        items += [file.first("HDR1", "HAND01", 1, 0), *second, word(0)]
+        items += [block(data) for data in blocks]
+        ends = [file.second("EOF2")] if has_second else []
+        items += [word(0), file.first("EOF1", "HAND01", 1, len(blocks)), *ends, word(0), word(0)]
+        return items
+
+    def counted(text):
+        return struct.pack(">HH", len(text) + 4, 0) + text
+
+    def variable(*records):
+        body = b"".join(counted(record) for record in records)
+        return struct.pack(">HH", len(body) + 4, 0) + body
+
+    rng = random.Random(7)
+    texts = [bytes(rng.choices(range(256), k=rng.randint(1, 900))) for _ in range(12)]
+    spanned = [struct.pack(">HH", 4 + 4 + 20, 0) + struct.pack(">HBB", 4 + 20, flag, 0) + texts[at][:20].ljust(20)
+        for at, flag in enumerate([1, 3, 2, 0])]
+    kinds = {
+        "U": (texts, True),
+        "V": ([variable(*texts[at:at + 3]) for at in range(0, 12, 3)], True),
+        "VBS": (spanned, True),
+        "no HDR2": ([text.ljust(512, b"\0")[:512] for text in texts], False),
+    }
+    for kind, (blocks, has_second) in kinds.items():
+        items = volume(kind[0], blocks, has_second, "3" if not has_second else "4")
+        for damage in (None, 1, len(blocks) - 1):
+            made = list(items)
+            if damage is not None:
+                at = len(items) - len(blocks) - (3 if not has_second else 4) - 1 + damage
+                at = items.index(block(blocks[damage]))
+                made[at] = bytes([*made[at][:3], made[at][3] | 0x80, *made[at][4:-1], made[at][-1] | 0x80])
+            image = b"".join(made)
+            (trial.folder / "hand.tap").write_bytes(image)
+            expected, got, status = check_file(trial, "HAND01", 1, [image], ["hand.tap"], "blocks")
+            left = b"".join(data for at, data in enumerate(blocks) if at != damage)
+            trial.is_so(got == left and status == (0 if damage is None else 3), f"{kind}: the blocks are others")
+            expected, got, status = check_file(trial, "HAND01", 1, [image], ["hand.tap"], "lines")
+            trial.is_so(status == 3 and got == b"", f"{kind}: records of a format that is not read")
+            extracted = trial.run("extract", "HAND01", 1, "extracted", "hand.tap")
+            trial.is_so(extracted.returncode == 3, f"{kind}: extract ends with {extracted.returncode}")
+
+
+# ---- times
+
+def times(trial):
+    """A reel of 200 MB of which every 50th block cannot be read, and `extract` of the whole one."""
+    file = File(1, "LARGE", ("F", 32720, 80), " 85100")
+    data = block(bytes(range(48, 58)) * 3272)
+    bad = bytes([*data[:3], data[3] | 0x80, *data[4:-1], data[-1] | 0x80])
+    count = 6_112
+    head = label(("VOL1", 4), ("LARGE1", 6), ("", 69), ("4", 1)) + file.first("HDR1", "LARGE1", 1, 0) + file.second("HDR2") + word(0)
+    tail = word(0) + file.first("EOF1", "LARGE1", 1, count) + file.second("EOF2") + word(0) * 2
+    (trial.folder / "whole.tap").write_bytes(head + data * count + tail)
+    (trial.folder / "bad.tap").write_bytes(head + b"".join(bad if at % 50 == 49 else data for at in range(count)) + tail)
+    (trial.folder / "gap.tap").write_bytes(head + b"".join(bad if 2_000 <= at < 5_000 else data for at in range(count)) + tail)
+    for words in (["extract", "LARGE1", "1", "out", "whole.tap"], ["salvage", "LARGE1", "1", "out", "whole.tap"],
+            ["salvage", "LARGE1", "1", "out", "bad.tap"], ["salvage", "LARGE1", "1", "out", "gap.tap"]):
+        best = None
+        for _ in range(3):
+            (trial.folder / "out").unlink(missing_ok=True)
+            before = resource.getrusage(resource.RUSAGE_CHILDREN)
+            began = time.monotonic()
+            done = trial.run(*words)
+            after = resource.getrusage(resource.RUSAGE_CHILDREN)
+            took = (after.ru_utime + after.ru_stime - before.ru_utime - before.ru_stime, time.monotonic() - began)
+            best = took if best is None or took < best else best
+        print(f"{' '.join(words)}: CPU {best[0]:.2f} s, wall {best[1]:.2f} s, status {done.returncode}, {done.stdout.count(b'GAP')} gaps")
+
+
+def main():
+    parser = argparse.ArgumentParser(description=__doc__.splitlines()[0])
+    parser.add_argument("--program", default=str(HERE.parent / "crates/tape_tool/out/tape_tool"))
+    parser.add_argument("--seed", type=int, default=1)
+    parser.add_argument("--sets", type=int, default=500)
+    parser.add_argument("--keep")
+    parser.add_argument("--hand", action="store_true")
+    parser.add_argument("--times", action="store_true")
+    options = parser.parse_args()
+    options.program = str(Path(options.program).resolve())
+    with tempfile.TemporaryDirectory() as made:
+        trial = Trial(options, options.keep or made)
+        if options.hand:
+            by_hand(trial)
+        elif options.times:
+            times(trial)
+        else:
+            for number in range(options.sets):
+                check_set(trial, random.Random(options.seed * 1_000_000 + number), number)
+        print(f"{trial.seen} answers, {trial.wrong} wrong; by status {trial.states}")
+        return 1 if trial.wrong else 0
+
+
+if __name__ == "__main__":
+    sys.exit(main())

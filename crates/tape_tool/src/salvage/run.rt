@@ -1,0 +1,53 @@
+//! `salvage` as the program runs it: over files, into a new file.
+
+use super::words::{SALVAGE, SalvageOrder};
+use crate::explain::Site;
+use crate::extract::{Draft, HELD, NOT_MADE, Way, draft_of};
+use crate::fault::{FileFault, OUT_OF_MEMORY};
+use crate::host::Host;
+use crate::images::{Images, names_of};
+use crate::program::{End, check_end, refuse_unfit};
+use crate::unfit::refused;
+use std::io::BufWriter;
+use std::{fs, io};
+use tape_run::salvage_to;
+
+/// Recovers what is readable of the file that the words name. At a fault the site is where it came.
+pub fn salvage<'a, R: Host>(rt: &R, order: &SalvageOrder<'a>, site: &mut Site<'a>) -> End {
+    let mut text = String::new(rt.alloc());
+    match names_of(rt, &order.images, &mut text, site) {
+        Ok(names) => {
+            *site = Site::Out(order.out);
+            salvage_images(rt, order, names.as_slice())
+        }
+        Err(unfit) => refuse_unfit(rt, &SALVAGE, unfit),
+    }
+}
+
+/// Recovers it from the images of these names. An existing file is never written over: it may have
+/// more of the file than there is now.
+fn salvage_images<R: Host>(rt: &R, order: &SalvageOrder<'_>, names: &[&str]) -> End {
+    if fs::symlink_metadata(rt, order.out).is_ok() {
+        return refuse_unfit(rt, &SALVAGE, refused(FileFault::Exists));
+    }
+    let draft = match draft_of(rt, order.out, Way::New) {
+        Ok(Some(draft)) => draft,
+        Ok(None) => return NOT_MADE,
+        Err(end) => return end,
+    };
+    let Draft { mut name, file } = draft;
+    let images = &mut Images::new(rt, names);
+    let end = match BufWriter::with_capacity(rt.alloc(), HELD, file) {
+        Ok(out) => check_end(salvage_to(
+            rt.alloc(),
+            &order.task,
+            images,
+            out,
+            &mut name,
+            &mut io::writer(rt),
+        )),
+        Err(_) => End::Faulted(OUT_OF_MEMORY),
+    };
+    name.clear();
+    end
+}
