@@ -56,6 +56,7 @@ pub use report::{Report, check_set};
 pub use script::{Step, run};
 pub use section::{Entry, ImageLine, ImageStop, Lack, SectionKey, SectionLine, SectionState};
 pub use session::Session;
+pub use survey::gaps::numbers_line;
 pub use survey::locations::Locations;
 pub use survey::{Wording, survey_to};
 pub use text::{flush, write_text};
