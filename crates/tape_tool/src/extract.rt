@@ -7,4 +7,4 @@ pub mod words;
 
 pub use out::{Draft, Way, way_to_out};
 pub use out_file::OutFile;
-pub use run::{HELD, NOT_MADE, draft_of, extract, extract_file};
+pub use run::{HELD, NOT_MADE, draft_of, extract, extract_file, extract_whole};
