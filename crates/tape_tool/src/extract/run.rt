@@ -60,9 +60,9 @@ fn extract_from<'a, R: Host>(
 /// The names in the order in which the images are read. If they are to be read again, and each is a
 /// file, they are surveyed before, and those on which a section of the file begins come first.
 fn names_to_read<'n, R: Host>(
-    rt: &R,
+    rt: &'n R,
     task: &Task<'_>,
-    names: &[&'n str],
+    names: &'n [&'n str],
 ) -> Result<Vec<&'n str>, RunFault> {
     let ordered = if task.again && names.len() > 1 && are_files(rt, names) {
         let met = files_on(rt.alloc(), &mut Images::new(rt, names))?;
