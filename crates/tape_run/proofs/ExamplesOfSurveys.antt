@@ -2,6 +2,7 @@
 use Rattle.std.proofs.Common.{◌≡◌, Bool, List, [], ◌∷◌, ◌++◌, Option, refl, ap, ◌∙◌}
 use Rattle.std.specs.Prelude.{map, is_some, if◌then◌else◌}
 use Rattle.indexmap.specs.IndexMap.{insert_entry}
+use Rattle.std.specs.Fmt.{digits}
 use Rattle.std.specs.List.{flat_map}
 use Rattle.tape_image.specs.Tape.{TapeItem, block, mark}
 use Rattle.tape_label.specs.Kinds.{kind_at}
@@ -9,6 +10,7 @@ use Rattle.tape_label.specs.Reading.{vol1_at}
 use Rattle.tape_run.specs.Lacks.{lack_of, key_at}
 use Rattle.tape_run.specs.Noted.{same_key}
 use Rattle.tape_run.specs.SurveyGlance.{is_ebcdic}
+use Rattle.tape_run.specs.SurveyWording.{found_text}
 use Rattle.tape_run.specs.SurveyLaws.{IsVolumeInOrder, end_marks}
 use Rattle.tape_run.specs.CasesOfSurveys.{CasesOfGlances, CasesOfWholes, CasesOfSurveys}
 
@@ -85,6 +87,7 @@ no_volume v =
     absurd (cc e)
 
 pub cases_of_surveys : CasesOfSurveys
+unfolding digits
 cases_of_surveys = record {
   section = λ items s. (s.is_head, s.second, s.is_trail, s.sect, s.file, s.no_mark);
   begun = λ items sections b. (b.is_label, b.further, b.each);
@@ -95,6 +98,16 @@ cases_of_surveys = record {
   unopened = λ s c d v. v;
   opened = λ before c d v. v;
   viewed = λ before s c d v. (v.1.stop, v.1.glance, v.1.noted, v.1.named, v.1.places, v.2, v.3);
+  gap_of_one = refl;
+  gap_of_many = refl;
+  row_of_many = refl;
+  no_gap = λ y. refl;
+  unpacked_gap = refl;
+  gap_at_first = λ d set_id. refl;
+  gap_after_one = λ d set_id e. ap (λ b. if b then 2 else 1) e;
+  gap_goes_on = λ d set_id e. ap (λ b. if b then 2 else 1) e;
+  not_found = λ y d set_id e. ap (λ b. if b then found_text y d set_id 1 else []) e;
+  first_found = λ y d set_id e. ap (λ b. if b then found_text y d set_id 1 else []) e;
   no_location = λ c l image. refl;
   location = λ c image h e. ap (λ (o : Option Bool). if is_some o then []
       else insert_entry same_key [] (key_at h.set_id h.sequence h.sect) image) e;

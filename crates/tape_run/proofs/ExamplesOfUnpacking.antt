@@ -1,18 +1,21 @@
 -- The cases of unpacking.
-use Rattle.std.proofs.Common.{refl, ap}
+use Rattle.std.proofs.Common.{refl, ap, map}
 use Rattle.std.specs.Prelude.{if◌then◌else◌, option_map}
 use Rattle.std.specs.Fmt.{digits}
 use Rattle.tape_run.specs.declared.unpack.Heading.TheVariants.{Differs, Named}
+use Rattle.tape_run.specs.declared.unpack.SetFile.{SetFile}
 use Rattle.tape_run.specs.CasesOfUnpacking.{CasesOfUnpacking}
+use Rattle.tape_run.specs.Unpacking.{file_by}
 
 pub cases_of_unpacking : CasesOfUnpacking
 unfolding digits
 cases_of_unpacking = record {
-  no_label = refl;
   one_file = λ n e. ap (λ b. if b then Differs else Named n.head.file_id) e;
   two_files = λ n e. ap (λ b. if b then Differs else Named n.head.file_id) e;
   files = λ d. refl;
-  own_labels = λ d set_id file. refl;
+  no_label = λ d set_id file e. ap (file_by d set_id file) e;
+  own_labels = λ d set_id file n e.
+      ap (λ o. map (λ (f : SetFile). f.heading) (file_by d set_id file o)) e;
   no_files = refl;
   name = refl;
   escaped = refl;
@@ -21,7 +24,6 @@ cases_of_unpacking = record {
   line = refl;
   no_path = refl;
   kept = refl;
-  not_met = refl;
   failed = refl;
   left_over = refl;
   nothing_left = refl;

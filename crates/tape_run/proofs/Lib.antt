@@ -54,6 +54,7 @@ mod ListExamples
 mod PlacedSoFar
 mod PlacedExamples
 mod Reporting
+pub mod SurveyGaps
 mod SurveyJoins
 mod SurveyLooks
 mod SurveyTexts

@@ -217,8 +217,8 @@ held_front (Some bytes) (Some left) core answer key waits set file ends r =
     (reads_waits core.position core bytes left answer waits r)
 
 -- what the image that was mounted left: its front, where its bytes are known
-abbrev pub front_of : (whole had : Option (List ℕ)) (key : FileKey) → IfKnown whole had (PassesTo key)
-    → List TapeItem
+abbrev pub front_of : (whole had : Option (List ℕ)) (key : FileKey)
+    → IfKnown whole had (PassesTo key) → List TapeItem
 front_of None had key p = []
 front_of (Some bytes) None key p = absurd p
 front_of (Some bytes) (Some left) key p = p.front
@@ -342,7 +342,8 @@ follows_more old [] mid new s same r = (new, subst (λ z. ReadsOn s z new) same 
 follows_more old (t ∷ ss) mid new s (next, first, f) r =
     (next, first, follows_more next ss mid new s f r)
 
-abbrev given_of : (old : Seen) (ss : List Stretch) (new : Seen) → FollowsOn old ss new → List (List ℕ)
+abbrev given_of : (old : Seen) (ss : List Stretch) (new : Seen) → FollowsOn old ss new
+    → List (List ℕ)
 given_of old [] new f = []
 given_of old (s ∷ ss) new (mid, r, f) = r.given ∷ given_of mid ss new f
 
@@ -597,12 +598,14 @@ section_failed {S} {L} {R} g gives remaining session mid new shelf left next who
     (inl (same, p)) none =
     let t = more_read g gives remaining session mid new shelf left next whole
     (held_behind whole s.stretches) held after s p (inl (refl, same)) in
-    sections_read g gives remaining session new shelf next next whole after after t (inl refl) t.held
+    sections_read g gives remaining session new shelf next next whole after after t (inl refl)
+    t.held
 section_failed {S} {L} {R} g gives remaining session mid new shelf left next whole held after s
     (inr (inl (number, device, gave, p))) none =
     let t = more_read g gives remaining session mid new shelf left next whole (remaining device)
     held after s p (inr (number, device, gave, refl)) in
-    sections_read g gives remaining session new shelf next next whole after after t (inl refl) t.held
+    sections_read g gives remaining session new shelf next next whole after after t (inl refl)
+    t.held
 section_failed {S} {L} {R} g gives remaining session mid new shelf left next whole held after s
     (inr (inr (number, gave, same, is))) none =
     subst (λ z. ReadsSections g gives remaining session z shelf next whole after) (sym same)

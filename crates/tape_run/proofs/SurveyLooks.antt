@@ -79,7 +79,8 @@ looks_start all left place image sections files located g first same none = reco
 
 pub looks_more : (all left next : Option (List ℕ)) (p q image : ℕ) (item : TapeItem)
     (sections : List Told) (files : List Filed) (located : List Located) (phase after : Phase)
-    (g h : Glance) (mid told : List Told) (named filed : List Filed) (there locations : List Located)
+    (g h : Glance) (mid told : List Told) (named filed : List Filed)
+    (there locations : List Located)
     → LookedSoFar all left p image sections files located phase g mid named there
     → IfKnown left next (TakesItem p item q) → after ≡ (step phase item).0
     → told ≡ noted_all mid (in_list (step phase item).1)

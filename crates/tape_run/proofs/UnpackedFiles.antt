@@ -10,7 +10,7 @@ use Rattle.tape_run.specs.declared.unpack.SetFile.{SetFile}
 use Rattle.tape_run.specs.Lacks.{SetFiles}
 use Rattle.tape_run.specs.Reeling.{Mounting}
 use Rattle.tape_run.specs.SurveyRead.{Found, nothing_found, IsViewed, AreViewed}
-use Rattle.tape_run.specs.Unpacking.{file_of, files_from, set_files, set_of, ViewsAll}
+use Rattle.tape_run.specs.Unpacking.{file_at, files_from, set_files, set_of, ViewsAll}
 use Rattle.tape_run.proofs.Listing.{take_get}
 use Rattle.tape_run.proofs.SurveyTexts.{viewed_more}
 
@@ -63,19 +63,19 @@ views_all size gives remaining shelf left number d sets all s = record {
 
 files_behind : (d : Found) (set_id : List ℕ) (file left : ℕ) → 0 < left
     → files_from d set_id file left
-    ≡ file_of d set_id file ∷ files_from d set_id (file + 1) (left - 1)
+    ≡ file_at d set_id file ++ files_from d set_id (file + 1) (left - 1)
 files_behind d set_id file zero some = absurd (omega arith)
 files_behind d set_id file (suc n) some =
     let one : n ≡ suc n - 1 = omega arith in
-    ap (λ m. file_of d set_id file ∷ files_from d set_id (file + 1) m) one
+    ap (λ m. file_at d set_id file ++ files_from d set_id (file + 1) m) one
 
 -- one more file was added
 pub file_added : (d : Found) (set_id : List ℕ) (old new goal : List SetFile) (before greatest : ℕ)
-    → before < greatest → new ≡ old ++ file_of d set_id (before + 1) ∷ []
+    → before < greatest → new ≡ old ++ file_at d set_id (before + 1)
     → old ++ files_from d set_id (before + 1) (greatest - before) ≡ goal
     → new ++ files_from d set_id (before + 1 + 1) (greatest - (before + 1)) ≡ goal
 file_added d set_id old new goal before greatest within put was =
-    let here = file_of d set_id (before + 1) ∷ [] in
+    let here = file_at d set_id (before + 1) in
     let fewer : greatest - (before + 1) ≡ greatest - before - 1 = omega (arith, within) in
     let some : 0 < greatest - before = omega (arith, within) in
     ap (λ ls. ls ++ files_from d set_id (before + 1 + 1) (greatest - (before + 1))) put

@@ -29,7 +29,7 @@ use Rattle.tape_run.specs.declared.survey.course.Course.TheVariants.{Follows, Bl
 use Rattle.tape_run.specs.declared.survey.sets.Standing.TheVariants.{Complete, Damaged, Behind}
 use Rattle.tape_run.specs.declared.survey.sets.Standing.TheVariants.{Missing}
 use Rattle.tape_run.specs.declared.survey.Wording.{Wording}
-use Rattle.tape_run.specs.declared.survey.Wording.TheVariants.{Rows}
+use Rattle.tape_run.specs.declared.survey.Wording.TheVariants.{Words, Rows}
 use Rattle.tape_run.specs.declared.survey.view.Sight.{Sight}
 use Rattle.tape_run.specs.CasesOfCatalogues.{met}
 use Rattle.tape_run.specs.CasesOfExtracts.{Known, Readers}
@@ -43,6 +43,8 @@ use Rattle.tape_run.specs.SurveyGlance.{glance_of, blank_glance, first_of, is_eb
 use Rattle.tape_run.specs.SurveyGlance.{late_with, unread_with, unread_by, or_else, is_kind_vol1}
 use Rattle.tape_run.specs.SurveyLaws.{course_of, has_left, end_marks, IsSectionInOrder, IsBegun}
 use Rattle.tape_run.specs.SurveyLaws.{IsVolumeInOrder, IsFirstAstray, LeavesThere, EndedIsVolume}
+use Rattle.tape_run.specs.SurveyGaps.{is_found, gap_first, gap_text, numbers_line}
+use Rattle.tape_run.specs.SurveyWording.{found_text, file_text}
 use Rattle.tape_run.specs.SurveyWording.{image_text, summary, sections_text, end_text}
 use Rattle.tape_run.specs.SurveyLine.{trimmed_text, named}
 use Rattle.tape_run.specs.SurveyRows.{section_row, sight_cells, eof_cell, standing_cells}
@@ -209,6 +211,23 @@ pub record CasesOfSurveys : Type 0 where
       × (d.files ≡ filed_in c.files v.1.items)
       × (d.locations ≡ located_in c.images c.sections c.locations v.1.items)
       × (d.whole ≡ (c.whole && is_whole_sight s)) × (d.images ≡ next_image c.images)
+  -- numbers that were not found are told before the next file that was
+  pub gap_of_one : gap_text Words (codes "ABC001") 1 2 ≡ codes "  file 1: not found\n"
+  pub gap_of_many : gap_text Words (codes "ABC001") 1 9999 ≡ codes "  files 1-9998: not found\n"
+  pub row_of_many : gap_text Rows (codes "ABC001") 2 5
+      ≡ codes "FILE\tABC001\t2-4\t\t\tMISSING\t1\t\t\n"
+  pub no_gap : (y : Wording) → gap_text y (codes "ABC001") 3 3 ≡ []
+  pub unpacked_gap : numbers_line (codes "ABC001") 1 9999
+      ≡ codes "FILE ABC001 1-9998 NOT FOUND\n"
+  pub gap_at_first : (d : Found) (set_id : List ℕ) → gap_first d set_id 0 ≡ 1
+  pub gap_after_one : (d : Found) (set_id : List ℕ) → is_found d set_id 1 ≡ true
+      → gap_first d set_id 1 ≡ 2
+  pub gap_goes_on : (d : Found) (set_id : List ℕ) → is_found d set_id 1 ≡ false
+      → gap_first d set_id 1 ≡ 1
+  pub not_found : (y : Wording) (d : Found) (set_id : List ℕ) → is_found d set_id 1 ≡ false
+      → file_text y d set_id 1 ≡ []
+  pub first_found : (y : Wording) (d : Found) (set_id : List ℕ) → is_found d set_id 1 ≡ true
+      → file_text y d set_id 1 ≡ found_text y d set_id 1
   -- a section is on the image on which its label was found, unless it is known as good by then
   pub no_location : (c : List Told) (l : List Located) (image : ℕ)
       → with_location c l image None ≡ l

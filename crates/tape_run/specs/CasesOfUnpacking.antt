@@ -1,17 +1,19 @@
 -- What the definitions of unpacking say of cases. The call `laws::cases` has them as its contract.
-use Rattle.std.specs.Prelude.{◌≡◌, ◌≢◌, ℕ, ◌<◌, ◌^◌, List, [], ◌∷◌, length, true, false, Some, None}
+use Rattle.std.specs.Prelude.{◌≡◌, ◌≢◌, ℕ, ◌<◌, ◌^◌, List, [], ◌∷◌, ◌++◌, length, true, false}
+use Rattle.std.specs.Prelude.{Some, None}
 use Rattle.std.specs.Prelude.{codes, map}
 use Rattle.tape_label.specs.declared.values.Head1.{Head1}
 use Rattle.tape_run.specs.declared.survey.view.Sight.{Sight}
 use Rattle.tape_run.specs.declared.survey.files.FileNote.{FileNote}
-use Rattle.tape_run.specs.declared.unpack.Heading.TheVariants.{NotMet, Differs, Named}
+use Rattle.tape_run.specs.declared.unpack.Heading.TheVariants.{Differs, Named}
+use Rattle.tape_run.specs.declared.unpack.SetFile.{SetFile}
 use Rattle.tape_run.specs.declared.unpack.ShelfFiles.{ShelfFiles}
 use Rattle.tape_run.specs.declared.unpack.line.UnpackOutcome.TheVariants as outcomes
 use Rattle.tape_run.specs.CasesOfExtracts.{Readers}
 use Rattle.tape_run.specs.Reeling.{Took}
 use Rattle.tape_run.specs.SurveyFiles.{note_at, file_key}
 use Rattle.tape_run.specs.SurveyRead.{Found, nothing_found, AreViewed}
-use Rattle.tape_run.specs.Unpacking.{heading_of, file_of, set_files, files_of, file_name, FilesOn}
+use Rattle.tape_run.specs.Unpacking.{heading_of, file_at, set_files, files_of, file_name, FilesOn}
 use Rattle.tape_run.specs.Unpacking.{set_of}
 use Rattle.tape_run.specs.UnpackLine.{file_line, unpack_outcome_text, left_over_line}
 use Rattle.tape_run.specs.UnpackLaws.{NamesDiffer, NamesStay, AreBytes, IsNameOfOne}
@@ -19,15 +21,18 @@ use Rattle.tape_run.specs.UnpackLaws.{NamesDiffer, NamesStay, AreBytes, IsNameOf
 -- what unpacking says of files, names and lines
 pub record CasesOfUnpacking : Type 0 where
   -- what header labels tell
-  pub no_label : heading_of None ≡ NotMet
-  pub one_file : (n : FileNote) → n.differs ≡ false → heading_of (Some n) ≡ Named n.head.file_id
-  pub two_files : (n : FileNote) → n.differs ≡ true → heading_of (Some n) ≡ Differs
-  -- each set has its files from 1 on, up to the greatest, and a file is told by its own labels
+  pub one_file : (n : FileNote) → n.differs ≡ false → heading_of n ≡ Named n.head.file_id
+  pub two_files : (n : FileNote) → n.differs ≡ true → heading_of n ≡ Differs
+  -- each set has its files from 1 on, up to the greatest, and a file is told by its own labels; a
+  -- number of which no label was found is none
   pub files : (d : Found) → set_files d ((codes "ABC001", 2) ∷ (codes "DEF001", 1) ∷ [])
-      ≡ file_of d (codes "ABC001") 1 ∷ file_of d (codes "ABC001") 2
-      ∷ file_of d (codes "DEF001") 1 ∷ []
-  pub own_labels : (d : Found) (set_id : List ℕ) (file : ℕ)
-      → (file_of d set_id file).heading ≡ heading_of (note_at d.files (file_key set_id file))
+      ≡ (file_at d (codes "ABC001") 1 ++ (file_at d (codes "ABC001") 2 ++ []))
+      ++ ((file_at d (codes "DEF001") 1 ++ []) ++ [])
+  pub no_label : (d : Found) (set_id : List ℕ) (file : ℕ)
+      → note_at d.files (file_key set_id file) ≡ None → file_at d set_id file ≡ []
+  pub own_labels : (d : Found) (set_id : List ℕ) (file : ℕ) (n : FileNote)
+      → note_at d.files (file_key set_id file) ≡ Some n
+      → map (λ (f : SetFile). f.heading) (file_at d set_id file) ≡ heading_of n ∷ []
   pub no_files : files_of nothing_found ≡ []
   -- names
   pub name : file_name (codes "ABC001") 1 (codes "PAYROLL          ") ≡ codes "ABC001.1.PAYROLL"
@@ -44,7 +49,6 @@ pub record CasesOfUnpacking : Type 0 where
   pub no_path : file_line (codes "AB 001") 2 (unpack_outcome_text outcomes.Conflict) []
       ≡ codes "FILE AB 001 2 CONFLICT\n"
   pub kept : unpack_outcome_text outcomes.Exists ≡ codes "EXISTS"
-  pub not_met : unpack_outcome_text outcomes.NotFound ≡ codes "NOT FOUND"
   pub failed : unpack_outcome_text outcomes.Failed ≡ codes "FAILED"
   pub left_over : left_over_line false ≡ codes "INCOMPLETE IMAGES\n"
   pub nothing_left : left_over_line true ≡ []

@@ -43,8 +43,8 @@ pub record PassesTo (key : FileKey) (bytes left : List ℕ) : Type 0 where
   pub walks : Walks 0 bytes front at left
   pub passed : ArePassed key front
 
--- The image that is mounted, if one is, has these bytes, and later files' sessions read on where its
--- reader is.
+-- The image that is mounted, if one is, has these bytes, and later files' sessions read on where
+-- its reader is.
 abbrev pub IsHeld : {R : Type 0} → (R → Option (List ℕ)) → Option (Mounted R) → Option (List ℕ)
     → Type 0
 IsHeld remaining None whole = ⊤
@@ -82,8 +82,8 @@ AreGivenOf (s ∷ ss) (g ∷ given) =
     IfKnown s.whole s.had (λ bytes had. IsGiven s.failed had s.left g) × AreGivenOf ss given
 AreGivenOf ss given = ⊥
 
--- The items of each image: those before, and those that the bytes given begin with. Each reader told
--- its bytes.
+-- The items of each image: those before, and those that the bytes given begin with. Each reader
+-- told its bytes.
 abbrev pub AreTapesOf : List Stretch → List (List ℕ) → List (List TapeItem) → Type 0
 AreTapesOf [] [] [] = ⊤
 AreTapesOf (s ∷ ss) (g ∷ given) (xs ∷ tapes) = IsSome s.whole
@@ -132,8 +132,8 @@ pub record GathersOf (stretches : List Stretch) (old new : Seen) : Type 0 where
 
 -- ---- which images
 
--- Each stretch is of the image that is mounted, which has these bytes, or of one that the shelf gave,
--- and this is mounted then. The shelf may have given one more.
+-- Each stretch is of the image that is mounted, which has these bytes, or of one that the shelf
+-- gave, and this is mounted then. The shelf may have given one more.
 abbrev pub AreFrom : {L R : Type 0} → Mounting L R → (R → Option (List ℕ)) → Option (List ℕ) → L
     → List Stretch → L → Type 0
 AreFrom gives remaining whole shelf [] last = (last ≡ shelf)
@@ -150,7 +150,8 @@ held_behind whole (s ∷ ss) = held_behind s.whole ss
 
 -- ---- calls
 
--- A stretch of the image with these bytes was read; if a section ended well the image stays mounted.
+-- A stretch of the image with these bytes was read; if a section ended well the image stays
+-- mounted.
 pub record ReadsPart {S R : Type 0} (g : Ghosts S) (remaining : R → Option (List ℕ))
     (whole : Option (List ℕ)) (old new : Story S) (after : Option (Mounted R)) : Type 0 where
   pub stretch : Stretch

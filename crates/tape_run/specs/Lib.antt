@@ -49,6 +49,7 @@ pub mod WholeReels
 pub mod OneEntry
 pub mod CheckExamples
 -- Surveys of images: to be believed, in this order.
+pub mod SurveyGaps
 pub mod SurveyGlance
 pub mod SurveyFiles
 pub mod SurveyRead

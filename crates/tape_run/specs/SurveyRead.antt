@@ -17,8 +17,8 @@ use Rattle.tape_run.specs.SurveyFiles.{Filed, filed_in}
 use Rattle.tape_run.specs.SurveyGlance.{glance_of}
 use Rattle.tape_run.specs.SurveyLocations.{Located, located_in, next_image}
 
--- what is known of sections and of files, whether nothing on the images is left over, on which image
--- each section is, and how many images there were
+-- what is known of sections and of files, whether nothing on the images is left over, on which
+-- image each section is, and how many images there were
 pub record Found : Type 0 where
   pub sections : List Told
   pub files : List Filed
@@ -52,8 +52,8 @@ abbrev pub is_whole_sight : Sight → Bool
 is_whole_sight s = is_ended s.glance.course && (is_none s.glance.unread && is_end s.stop)
 
 -- All items that a reader of the image with this number gave were looked at, and the sections and
--- the header labels that they tell were noted, and where the sections are. Before the call the reader
--- had the bytes `before`, and then the bytes `after`.
+-- the header labels that they tell were noted, and where the sections are. Before the call the
+-- reader had the bytes `before`, and then the bytes `after`.
 pub record ViewsItems (before after : Option (List ℕ)) (image : ℕ) (sections : List Told)
     (files : List Filed) (located : List Located) (sight : Sight) (told : List Told)
     (filed : List Filed) (locations : List Located) : Type 0 where

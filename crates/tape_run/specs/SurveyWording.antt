@@ -1,11 +1,12 @@
 -- What a survey says, in words or in rows.
-use Rattle.std.specs.Prelude.{ℕ, zero, suc, ◌+◌, Bool, List, [], ◌++◌, Option}
+use Rattle.std.specs.Prelude.{ℕ, zero, suc, ◌+◌, ◌-◌, Bool, if◌then◌else◌, List, [], ◌++◌, Option}
 use Rattle.std.specs.List.{flat_map}
 use Rattle.tape_run.specs.declared.survey.Wording.{Wording}
 use Rattle.tape_run.specs.declared.survey.Wording.TheVariants.{Words, Rows}
 use Rattle.tape_run.specs.declared.survey.view.Sight.{Sight}
 use Rattle.tape_run.specs.Lacks.{SetFiles, sets_from}
 use Rattle.tape_run.specs.Passing.{Told}
+use Rattle.tape_run.specs.SurveyGaps.{is_found, gap_first, gap_text}
 use Rattle.tape_run.specs.SurveyLine.{image_line}
 use Rattle.tape_run.specs.SurveyRead.{Found}
 use Rattle.tape_run.specs.SurveyRows.{image_row, section_row, file_row}
@@ -16,10 +17,18 @@ abbrev pub image_text : Wording → List ℕ → Option Sight → List ℕ
 image_text Words name sight = image_line name sight
 image_text Rows name sight = image_row name sight
 
--- what is said of a file
+-- what is said of a file of which a label was found
+abbrev pub found_text : Wording → Found → List ℕ → ℕ → List ℕ
+found_text Words d set_id file = file_line d set_id file
+found_text Rows d set_id file = file_row d set_id file
+
+-- what is said of a file, and before it of the numbers since the last file that was found; of one
+-- that was not found nothing is said here
 abbrev pub file_text : Wording → Found → List ℕ → ℕ → List ℕ
-file_text Words d set_id file = file_line d set_id file
-file_text Rows d set_id file = file_row d set_id file
+file_text y d set_id file =
+    if is_found d set_id file
+    then gap_text y set_id (gap_first d set_id (file - 1)) file ++ found_text y d set_id file
+    else []
 
 -- of n files of a set, from this one on
 abbrev pub file_texts : Wording → Found → List ℕ → ℕ → ℕ → List ℕ

@@ -2,7 +2,7 @@
 use Rattle.std.specs.Prelude.{ℕ, Bool, true, false, List, [], ◌∷◌, ◌++◌, codes, decimal}
 use Rattle.tape_run.specs.declared.unpack.line.UnpackOutcome.{UnpackOutcome}
 use Rattle.tape_run.specs.declared.unpack.line.UnpackOutcome.TheVariants.{Exists, Conflict}
-use Rattle.tape_run.specs.declared.unpack.line.UnpackOutcome.TheVariants.{NotFound, Failed}
+use Rattle.tape_run.specs.declared.unpack.line.UnpackOutcome.TheVariants.{Failed}
 use Rattle.tape_run.specs.Identifier.{identifier_text}
 use Rattle.tape_run.specs.SurveyLine.{name_text}
 
@@ -10,7 +10,6 @@ use Rattle.tape_run.specs.SurveyLine.{name_text}
 abbrev pub unpack_outcome_text : UnpackOutcome → List ℕ
 unpack_outcome_text Exists = codes "EXISTS"
 unpack_outcome_text Conflict = codes "CONFLICT"
-unpack_outcome_text NotFound = codes "NOT FOUND"
 unpack_outcome_text Failed = codes "FAILED"
 
 -- the words in front: set and number

@@ -6,7 +6,7 @@ use Rattle.std.specs.List.{flat_map}
 use Rattle.tape_run.specs.declared.survey.view.Sight.{Sight}
 use Rattle.tape_run.specs.declared.survey.files.FileNote.{FileNote}
 use Rattle.tape_run.specs.declared.unpack.Heading.{Heading}
-use Rattle.tape_run.specs.declared.unpack.Heading.TheVariants.{NotMet, Differs, Named}
+use Rattle.tape_run.specs.declared.unpack.Heading.TheVariants.{Differs, Named}
 use Rattle.tape_run.specs.declared.unpack.SetFile.{SetFile}
 use Rattle.tape_run.specs.declared.unpack.ShelfFiles.{ShelfFiles}
 use Rattle.tape_run.specs.Lacks.{SetFiles, sets_from, lack_of}
@@ -15,26 +15,30 @@ use Rattle.tape_run.specs.SurveyFiles.{note_at, file_key}
 use Rattle.tape_run.specs.SurveyLine.{trimmed_len}
 use Rattle.tape_run.specs.SurveyRead.{Found, nothing_found, AreViewed}
 
--- what header labels tell of which this is known
-abbrev pub heading_of : Option FileNote → Heading
-heading_of None = NotMet
-heading_of (Some note) = if note.differs then Differs else Named note.head.file_id
+-- what the header labels of a file say, of which this is known
+abbrev pub heading_of : FileNote → Heading
+heading_of note = if note.differs then Differs else Named note.head.file_id
 
--- a file, and what is known of it
-abbrev pub file_of : Found → List ℕ → ℕ → SetFile
-file_of d set_id file = record {
+-- a file, if this is known of its labels; if none of them was found it is none
+abbrev pub file_by : Found → List ℕ → ℕ → Option FileNote → List SetFile
+file_by d set_id file None = []
+file_by d set_id file (Some note) = record {
   set_id = set_id;
   file = file;
-  heading = heading_of (note_at d.files (file_key set_id file));
+  heading = heading_of note;
   lacks = is_some (lack_of d.sections set_id file);
-}
+} ∷ []
 
--- n files of a set, from this one on
+-- the file with this number, if a label of it was found
+abbrev pub file_at : Found → List ℕ → ℕ → List SetFile
+file_at d set_id file = file_by d set_id file (note_at d.files (file_key set_id file))
+
+-- the files found under n numbers of a set, from this one on
 abbrev pub files_from : Found → List ℕ → ℕ → ℕ → List SetFile
 files_from d set_id file zero = []
-files_from d set_id file (suc n) = file_of d set_id file ∷ files_from d set_id (file + 1) n
+files_from d set_id file (suc n) = file_at d set_id file ++ files_from d set_id (file + 1) n
 
--- the files of sets, each from 1 to the greatest number that was met
+-- the files of sets, each from 1 to the greatest number that was found
 abbrev pub set_files : Found → List SetFiles → List SetFile
 set_files d sets = flat_map (λ x. files_from d x.0 1 x.1) sets
 

@@ -59,6 +59,7 @@ pub use salvage::{Content, SalvageTask, salvage_to};
 pub use script::{Step, run};
 pub use section::{Entry, ImageLine, ImageStop, Lack, SectionKey, SectionLine, SectionState};
 pub use session::Session;
+pub use survey::gaps::numbers_line;
 pub use survey::locations::Locations;
 pub use survey::{Wording, survey_to};
 pub use text::{flush, write_text};

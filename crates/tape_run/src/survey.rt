@@ -13,6 +13,7 @@ ghost use Rattle.tape_run.specs.Survey.{SurveysInPart};
 
 mod course;
 pub(crate) mod files;
+pub(crate) mod gaps;
 mod glance;
 mod line;
 pub(crate) mod locations;

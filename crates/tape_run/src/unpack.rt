@@ -3,11 +3,10 @@
 pub mod line;
 pub mod name;
 
-ghost use Rattle.std.specs.Prelude.{◌≡◌, ◌<◌, ◌+◌, ◌++◌, ◌∷◌, [], length, take, IfOk, OnOk};
-ghost use Rattle.std.specs.Prelude.{option_map};
+ghost use Rattle.std.specs.Prelude.{◌≡◌, ◌<◌, ◌+◌, ◌++◌, length, take, IfOk, OnOk};
 ghost use Rattle.std.specs.Result.{IsOkUnless};
 ghost use Rattle.tape_run.specs.SurveyRead.{nothing_found};
-ghost use Rattle.tape_run.specs.Unpacking.{heading_of, file_of, files_from, set_files, files_of};
+ghost use Rattle.tape_run.specs.Unpacking.{heading_of, file_at, files_from, set_files, files_of};
 ghost use Rattle.tape_run.specs.Unpacking.{set_of, FilesOn, ViewsAll};
 ghost use Rattle.tape_run.specs.declared.fault.RunFault.TheVariants as faults;
 
@@ -23,14 +22,12 @@ use std::io::Read;
 use tape_label::Field;
 use tape_set::Sequence;
 
-/// What header labels tell under the number of a file.
+/// What the header labels under the number of a file say.
 #[derive(Clone, Copy)]
 pub enum Heading {
-    /// None was met.
-    NotMet,
-    /// Labels of different files were met.
+    /// They are of different files.
     Differs,
-    /// Those that were met are of one file, with this file identifier.
+    /// They are of one file, with this file identifier.
     Named(Field<17>),
 }
 
@@ -48,8 +45,8 @@ pub struct SetFile {
 /// What was met on the images of a shelf.
 #[derive(Drop)]
 pub struct ShelfFiles {
-    /// The files: set by set in the order in which the sets were met first, and file by file from 1
-    /// to the greatest number that was met.
+    /// The files of which a label was found: set by set in the order in which the sets were found
+    /// first, and by their numbers.
     pub files: Sequence<SetFile>,
     /// For each image the set of the section that begins first on it, where one does. Of a file of
     /// another set it has nothing.
@@ -125,18 +122,17 @@ fn set_of(sight: Option<Sight>) -> Option<Field<6>>
     }
 }
 
-/// What header labels tell of which this is known.
-fn heading_of(note: Option<&FileNote>) -> Heading
-    ensures { result ≡ heading_of (option_map (λ n. n.now) note.entry) }
+/// Returns what the header labels of a file say, of which this is known.
+fn heading_of(note: &FileNote) -> Heading
+    ensures { result ≡ heading_of note.now }
 {
-    match note {
-        None => Heading::NotMet,
-        Some(note) if note.differs => Heading::Differs,
-        Some(note) => Heading::Named(note.head.file_id),
+    if note.differs {
+        return Heading::Differs;
     }
+    Heading::Named(note.head.file_id)
 }
 
-/// Adds a file to those before it.
+/// Adds a file to those before it, if a label of it was found.
 fn add_file(
     files: &mut Vec<SetFile>,
     findings: &Findings,
@@ -144,10 +140,13 @@ fn add_file(
     file: u16,
 ) -> Result<(), AllocError>
     ensures { OnOk result (files.new.items
-        ≡ files.old.items ++ file_of findings.now set_id file ∷ []) }
+        ≡ files.old.items ++ file_at findings.now set_id file) }
 {
     let key = FileKey { set_id, file };
-    let heading = heading_of(findings.files.get(&key));
+    let Some(note) = findings.files.get(&key) else {
+        return Ok(());
+    };
+    let heading = heading_of(note);
     let lacks = lack_of(&findings.sections, set_id, file).is_some();
     let added = files.push(SetFile {
         set_id,

@@ -29,6 +29,8 @@ mod listed_labels;
 #[cfg(test)]
 mod listing;
 #[cfg(test)]
+mod located;
+#[cfg(test)]
 mod long;
 #[cfg(test)]
 mod now;

@@ -15,9 +15,9 @@ use tape_set::Want;
 
 /// A name, under which an output comes to stand where it is free.
 #[derive(Drop)]
-struct Name {
-    is_free: bool,
-    there: Option<Narrow>,
+pub struct Name {
+    pub is_free: bool,
+    pub there: Option<Narrow>,
 }
 
 impl Place<Narrow> for Name {

@@ -13,20 +13,10 @@ use tape_run::{
 fn line_of(alloc: Global, file: &SetFile) -> Result<Vec<u8>, AllocError> {
     let (set_id, number) = (&file.set_id, file.file);
     match file.heading {
-        Heading::NotMet => file_line(
-            alloc,
-            set_id,
-            number,
-            unpack_outcome_text(UnpackOutcome::NotFound),
-            "",
-        ),
-        Heading::Differs => file_line(
-            alloc,
-            set_id,
-            number,
-            unpack_outcome_text(UnpackOutcome::Conflict),
-            "",
-        ),
+        Heading::Differs => {
+            let told = unpack_outcome_text(UnpackOutcome::Conflict);
+            file_line(alloc, set_id, number, told, "")
+        }
         Heading::Named(file_id) => {
             let name = file_name(set_id, number, &file_id);
             file_line(alloc, set_id, number, &name, "out/a\n")
@@ -76,10 +66,7 @@ fn files_of_shelves(rt: HostRuntime) -> Result<(), Fail> {
         |image| Some(image.bytes.as_slice()),
     );
     let payroll = "FILE ABC001 1 ABC001.1.PAYROLL out/a?\n";
-    let thirds = "FILE AB. 01 1 NOT FOUND
-FILE AB. 01 2 NOT FOUND
-FILE AB. 01 3 AB%2E_01.3.TH_RD out/a?
-";
+    let thirds = "FILE AB. 01 3 AB%2E_01.3.TH_RD out/a?\n";
     let mixed = "FILE ABC001 1 CONFLICT\n";
     found(&rt, &[], true, "")?;
     found(&rt, &[None], false, "")?;

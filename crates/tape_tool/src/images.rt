@@ -12,7 +12,8 @@ use std::alloc::{AllocError, Global};
 use std::fs::{File, Files};
 use std::io::{BufReader, ErrorKind, Read};
 use std::rt::Runtime;
-use tape_run::Shelf;
+use tape_label::Field;
+use tape_run::{SectionKey, Shelf, ShelfFiles};
 
 /// What names the images of a run.
 #[derive(Drop)]
@@ -169,8 +170,60 @@ fn no_memory() -> Unfit {
     Unfit::Faulted(OUT_OF_MEMORY)
 }
 
+/// Returns the names in the order in which the images of a file are read: first those on which its
+/// sections begin, in the order of the sections, and then all others in the order of their names;
+/// of these, unless `all`, only images of the set. No name comes twice.
+pub fn in_reading_order<'n>(
+    alloc: Global,
+    names: &[&'n str],
+    met: &ShelfFiles,
+    key: (Field<6>, u16),
+    all: bool,
+) -> Result<Vec<&'n str>, AllocError> {
+    let (set_id, file) = key;
+    let mut order = Vec::new(alloc);
+    let mut taken = Vec::new(alloc);
+    for _ in names {
+        taken.push(false)?;
+    }
+    for sect in 1..=LAST_SECTION {
+        let Some(at) = met.locations.get(&SectionKey { set_id, file, sect }) else {
+            break;
+        };
+        take_name(&mut order, &mut taken, names, *at)?;
+    }
+    for (at, set) in met.sets.as_slice().iter().enumerate() {
+        if all || *set == Some(set_id) {
+            take_name(&mut order, &mut taken, names, at)?;
+        }
+    }
+    Ok(order)
+}
+
+/// Adds the name with this number, unless it was taken.
+fn take_name<'n>(
+    order: &mut Vec<&'n str>,
+    taken: &mut Vec<bool>,
+    names: &[&'n str],
+    at: usize,
+) -> Result<(), AllocError> {
+    if let (Some(name), Some(taken)) = (names.get(at), taken.get_mut(at)) {
+        if !*taken {
+            *taken = true;
+            order.push(*name)?;
+        }
+    }
+    Ok(())
+}
+
+/// The greatest number of a section.
+const LAST_SECTION: u16 = 9_999;
+
 /// How many bytes of an image are read ahead, at most.
 pub const READ_AHEAD: usize = 32_768;
+
+/// An image that is open, behind a buffer.
+pub type Image<R> = BufReader<<R as Files>::File>;
 
 /// The images of a run, by their names: each is opened when it is mounted, behind a buffer.
 #[derive(Drop)]

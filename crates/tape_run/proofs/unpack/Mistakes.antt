@@ -3,9 +3,11 @@ use Rattle.std.proofs.Common.{◌≡◌, ◌∙◌, ℕ, List, [], ◌∷◌, �
 use Rattle.std.proofs.Common.{arith, codes}
 use Rattle.std.specs.Prelude.{Ok, Option, Some, None, slice_index, option_map}
 use Rattle.std.specs.Fmt.{digits}
+use Rattle.tape_run.specs.declared.survey.files.FileNote.{FileNote}
 use Rattle.tape_run.specs.declared.survey.view.Sight.{Sight}
 use Rattle.tape_run.specs.declared.unpack.line.UnpackOutcome.TheVariants as outcomes
 use Rattle.tape_run.specs.Reeling.{Mounting}
+use Rattle.tape_run.specs.SurveyFiles.{note_at, file_key}
 use Rattle.tape_run.specs.SurveyRead.{Found, nothing_found, AreViewed}
 use Rattle.tape_run.specs.Unpacking as unpacking
 use Rattle.tape_run.specs.UnpackLine as lines
@@ -82,13 +84,15 @@ left_over_turned R L LR LL g d h i j κs a met s l empty told =
     absurd (let e : false ≡ true = sym told ∙ f.whole ∙ ap (λ (x : Found). x.whole) none in cc e)
 
 -- first_file_left_out: a set has one file, and none is added
-first_file_left_out : (κs : _) (a : _) (s : _) → add_files.Learnt κs a (Ok tt) s
-    → a.1.1.1.0 ≡ 1 → a.0.now.items ≡ [] → s.0.now.items ≡ [] → ⊥
-first_file_left_out κs a s h one old new =
+first_file_left_out : (κs : _) (a : _) (s : _) (n : FileNote) → add_files.Learnt κs a (Ok tt) s
+    → a.1.1.1.0 ≡ 1 → a.0.now.items ≡ []
+    → note_at a.1.0.now.files (file_key a.1.1.0 1) ≡ Some n → s.0.now.items ≡ [] → ⊥
+first_file_left_out κs a s n h one old note new =
     let d = a.1.0.now in
     absurd (let e : 0 ≡ 1 = ap length (sym new ∙ h
     ∙ ap (λ xs. xs ++ unpacking.files_from d a.1.1.0 1 a.1.1.1.0) old
-    ∙ ap (λ n. [] ++ unpacking.files_from d a.1.1.0 1 n) one) in omega arith)
+    ∙ ap (λ n. [] ++ unpacking.files_from d a.1.1.0 1 n) one
+    ∙ ap (λ o. unpacking.file_by d a.1.1.0 1 o ++ []) note) in omega arith)
 
 abbrev told : Option (List ℕ) → ℕ
 told (Some set_id) = 1

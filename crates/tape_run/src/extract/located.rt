@@ -77,8 +77,8 @@ pub fn extract_located<W: Write + Drop, R: Read + Drop, L: Shelf<R>, O: Place<W>
     Ok(None)
 }
 
-/// Reads the sections of the session's file, each from the image on which it begins. Returns whether
-/// the file is complete.
+/// Reads the sections of the session's file, each from the image on which it begins. Returns
+/// whether the file is complete.
 fn read_sections<S: PartSink, R: Read + Drop, L: Shelf<R>>(
     session: &mut Session<S>,
     images: &mut L,
@@ -112,8 +112,8 @@ fn read_sections<S: PartSink, R: Read + Drop, L: Shelf<R>>(
     Ok(true)
 }
 
-/// Reads a section from an image: on from where this is, if it is the one that is mounted and it was
-/// left by an earlier file of the set, or from its front. Returns the image, if a section ended.
+/// Reads a section from an image: on from where this is, if it is the one that is mounted and an
+/// earlier file of the set left it there, or from its front. Returns the image, if a section ended.
 fn read_section<S: PartSink, R: Read + Drop, L: Shelf<R>>(
     session: &mut Session<S>,
     images: &mut L,

@@ -1,11 +1,14 @@
 //! What a survey says behind its images: of sections, sets and files, in words or in rows.
 ghost use Rattle.std.specs.List.{flat_map};
-ghost use Rattle.std.specs.Prelude.{◌≡◌, ◌<◌, ◌+◌, ◌++◌, length, take, IfOk, OnOk};
-ghost use Rattle.tape_run.specs.SurveyWording.{file_text, file_texts, set_front, set_text};
+ghost use Rattle.std.specs.Prelude.{◌≡◌, ◌<◌, ◌+◌, ◌-◌, ◌++◌, length, take, IfOk, OnOk};
+ghost use Rattle.tape_run.specs.SurveyGaps.{gap_first, gap_text};
+ghost use Rattle.tape_run.specs.SurveyWording.{found_text, file_text, file_texts, set_front};
+ghost use Rattle.tape_run.specs.SurveyWording.{set_text};
 ghost use Rattle.tape_run.specs.SurveyWording.{set_texts, sets_text, sections_text};
 ghost use Rattle.tape_run.specs.SurveyRows.{section_row};
 
 use super::Wording;
+use super::gaps::{gap_first, gap_text, is_found};
 use super::rows::{file_row, section_row};
 use super::sets::{file_line, set_line};
 use super::view::Findings;
@@ -16,9 +19,9 @@ use crate::text::Text;
 use std::alloc::{AllocError, Global};
 use tape_label::Field;
 
-/// What is said of a file.
-fn file_text(findings: &Findings, wording: Wording, set_id: Field<6>, file: u16) -> Text
-    ensures { result.items ≡ file_text wording findings.now set_id file }
+/// Returns what is said of a file of which a label was found.
+fn found_text(findings: &Findings, wording: Wording, set_id: Field<6>, file: u16) -> Text
+    ensures { result.items ≡ found_text wording findings.now set_id file }
 {
     match wording {
         Wording::Words => file_line(findings, set_id, file),
@@ -44,10 +47,33 @@ fn add_file(
     set_id: Field<6>,
     file: u16,
 ) -> Result<(), AllocError>
+    requires { 0 < file }
     ensures { OnOk result (texts.new.items
         ≡ texts.old.items ++ file_text wording findings.now set_id file) }
 {
-    let text = file_text(findings, wording, set_id, file);
+    if is_found(findings, set_id, file) {
+        return add_found(texts, findings, wording, set_id, file);
+    }
+    Ok(())
+}
+
+/// Adds the text of a file, and before it that of the numbers since the last file that was found.
+fn add_found(
+    texts: &mut Vec<u8>,
+    findings: &Findings,
+    wording: Wording,
+    set_id: Field<6>,
+    file: u16,
+) -> Result<(), AllocError>
+    requires { 0 < file }
+    ensures { OnOk result (texts.new.items ≡ texts.old.items
+        ++ (gap_text wording set_id (gap_first findings.now set_id (file - 1)) file
+        ++ found_text wording findings.now set_id file)) }
+{
+    let first = gap_first(findings, set_id, file);
+    let gap = gap_text(wording, set_id, first, file);
+    texts.extend_from_slice(&gap)?;
+    let text = found_text(findings, wording, set_id, file);
     texts.extend_from_slice(&text)
 }
 

@@ -44,8 +44,8 @@ pub(crate) struct Findings {
     images: usize,
 }
 
-// In contracts findings are what is known of sections and files, whether all images are whole, where
-// the sections are, and how many images there were.
+// In contracts findings are what is known of sections and files, whether all images are whole,
+// where the sections are, and how many images there were.
 impl Model for Findings {
     ghost use Rattle.tape_run.specs.SurveyRead.{Found};
 

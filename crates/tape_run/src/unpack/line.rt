@@ -16,8 +16,6 @@ pub enum UnpackOutcome {
     Exists,
     /// Labels of different files have its number.
     Conflict,
-    /// No label of it was found.
-    NotFound,
     /// An error ended the run.
     Failed,
 }
@@ -29,7 +27,6 @@ pub fn unpack_outcome_text(outcome: UnpackOutcome) -> &'static [u8]
     match outcome {
         UnpackOutcome::Exists => b"EXISTS",
         UnpackOutcome::Conflict => b"CONFLICT",
-        UnpackOutcome::NotFound => b"NOT FOUND",
         UnpackOutcome::Failed => b"FAILED",
     }
 }

@@ -6,15 +6,18 @@ use crate::extract::out::{Way, way_of};
 use crate::extract::out_file::OutFile;
 use crate::fault::{FileFault, OUT_OF_MEMORY, ToolFault};
 use crate::host::Host;
-use crate::images::{Images, names_of};
+use crate::images::{Image, Images, in_reading_order, names_of};
 use crate::program::{End, end_of, extract_end, refuse_unfit};
 use crate::staging::session_in;
 use crate::words::{EXTRACT, Extract, Task};
 use std::alloc::Global;
-use std::io;
 use std::io::{BufWriter, Write};
+use std::{fs, io};
 use tape_core::{MemorySink, PartWalk, SinkFault};
-use tape_run::{EngineFault, OutSink, RunFault, Session, extract_again, extract_now, extract_to};
+use tape_run::{
+    EngineFault, Locations, Mounted, OutSink, RunFault, Session, WriteFailed, extract_again,
+    extract_located, extract_now, extract_to, files_on, last_line, write_text,
+};
 use tape_set::Want;
 
 /// How many bytes of the output are held before they are written, at most.
@@ -39,13 +42,47 @@ fn extract_from<'a, R: Host>(
     names: &[&str],
     site: &mut Site<'a>,
 ) -> End {
-    match way_of(rt, order, names) {
-        Ok(way) => {
-            let images = &mut Images::new(rt, names);
-            extract_file(rt, &order.task, images, way, &mut io::writer(rt), site)
-        }
-        Err(unfit) => refuse_unfit(rt, &EXTRACT, unfit),
+    let way = match way_of(rt, order, names) {
+        Ok(way) => way,
+        Err(unfit) => return refuse_unfit(rt, &EXTRACT, unfit),
+    };
+    let names = match names_to_read(rt, &order.task, names) {
+        Ok(names) => names,
+        Err(fault) => return end_of(Err(ToolFault::Run(fault))),
+    };
+    let images = &mut Images::new(rt, names.as_slice());
+    extract_file(rt, &order.task, images, way, &mut io::writer(rt), site)
+}
+
+/// The names in the order in which the images are read. If they are to be read again, and each is a
+/// file, they are surveyed before, and those on which a section of the file begins come first.
+fn names_to_read<'n, R: Host>(
+    rt: &'n R,
+    task: &Task<'_>,
+    names: &'n [&'n str],
+) -> Result<Vec<&'n str>, RunFault> {
+    let ordered = if task.again && names.len() > 1 && are_files(rt, names) {
+        let met = files_on(rt.alloc(), &mut Images::new(rt, names))?;
+        in_reading_order(rt.alloc(), names, &met, (task.set_id, task.file), true)
+    } else {
+        Vec::from_slice(rt.alloc(), names)
+    };
+    match ordered {
+        Ok(names) => Ok(names),
+        Err(_) => Err(RunFault::OutOfMemory),
     }
+}
+
+/// Whether each of these is a plain file, or is not there: only these can be read twice.
+fn are_files<R: Host>(rt: &R, names: &[&str]) -> bool {
+    for name in names {
+        if let Ok(found) = fs::metadata(rt, *name) {
+            if !found.is_file() {
+                return false;
+            }
+        }
+    }
+    true
 }
 
 /// Gets a file back. At a fault the site is where it came.
@@ -266,4 +303,43 @@ fn written_to<R: Host, S: PartWalk + Drop, W: Write, P: Write>(
         extract_to(session, images, task.form, out, report)
     };
     extract_end(answer)
+}
+
+/// Gets a file back from the images on which its sections are, and reports the last line if it is
+/// complete. An image that stays mounted is read on.
+pub fn extract_whole<'a, R: Host, P: Write>(
+    rt: &'a R,
+    task: &Task<'a>,
+    images: &mut Images<'_, R>,
+    mounted: &mut Option<Mounted<Image<R>>>,
+    locations: &Locations,
+    report: &mut P,
+) -> End {
+    let draft = match draft_of(rt, task.out, Way::New) {
+        Ok(Some(draft)) => draft,
+        Ok(None) => return End::Faulted(ToolFault::File(FileFault::NotOpened)),
+        Err(end) => return end,
+    };
+    let Draft { mut name, file } = draft;
+    let end = match session_into(rt.alloc(), task, file) {
+        Ok(session) => {
+            match extract_located(session, images, mounted, locations, task.form, &mut name) {
+                Ok(Some(records)) => {
+                    end_reported(write_text(report, last_line(None, records).as_bytes()))
+                }
+                Ok(None) => End::Incomplete,
+                Err(fault) => end_as_written(Err(fault)),
+            }
+        }
+        Err(end) => end,
+    };
+    name.ended(end)
+}
+
+/// How it ends where the file is complete.
+fn end_reported(reported: Result<(), WriteFailed>) -> End {
+    match reported {
+        Ok(()) => End::Done,
+        Err(WriteFailed) => End::Faulted(ToolFault::File(FileFault::WriteFailed)),
+    }
 }

@@ -2,8 +2,8 @@
 
 use super::words::{SALVAGE, SalvageOrder};
 use crate::explain::Site;
-use crate::extract::{Draft, HELD, NOT_MADE, Way, draft_of};
-use crate::fault::{FileFault, OUT_OF_MEMORY};
+use crate::extract::{Draft, HELD, Way, draft_of};
+use crate::fault::{FileFault, OUT_OF_MEMORY, ToolFault};
 use crate::host::Host;
 use crate::images::{Images, names_of};
 use crate::program::{End, check_end, refuse_unfit};
@@ -11,6 +11,7 @@ use crate::unfit::refused;
 use std::io::BufWriter;
 use std::{fs, io};
 use tape_run::salvage_to;
+use tape_writer::system::found;
 
 /// Recovers what is readable of the file that the words name. At a fault the site is where it came.
 pub fn salvage<'a, R: Host>(rt: &R, order: &SalvageOrder<'a>, site: &mut Site<'a>) -> End {
@@ -27,12 +28,15 @@ pub fn salvage<'a, R: Host>(rt: &R, order: &SalvageOrder<'a>, site: &mut Site<'a
 /// Recovers it from the images of these names. An existing file is never written over: it may have
 /// more of the file than there is now.
 fn salvage_images<R: Host>(rt: &R, order: &SalvageOrder<'_>, names: &[&str]) -> End {
-    if fs::symlink_metadata(rt, order.out).is_ok() {
-        return refuse_unfit(rt, &SALVAGE, refused(FileFault::Exists));
+    match found(fs::symlink_metadata(rt, order.out)) {
+        Ok(None) => {}
+        Ok(Some(_)) => return refuse_unfit(rt, &SALVAGE, refused(FileFault::Exists)),
+        Err(fault) => return refuse_unfit(rt, &SALVAGE, refused(fault)),
     }
     let draft = match draft_of(rt, order.out, Way::New) {
         Ok(Some(draft)) => draft,
-        Ok(None) => return NOT_MADE,
+        // What is new is never written in place.
+        Ok(None) => return End::Faulted(ToolFault::File(FileFault::NotOpened)),
         Err(end) => return end,
     };
     let Draft { mut name, file } = draft;
@@ -48,6 +52,5 @@ fn salvage_images<R: Host>(rt: &R, order: &SalvageOrder<'_>, names: &[&str]) -> 
         )),
         Err(_) => End::Faulted(OUT_OF_MEMORY),
     };
-    name.clear();
-    end
+    name.ended(end)
 }

@@ -5,24 +5,38 @@ use super::paths::{Paths, paths_of};
 use super::words::{UNPACK, Unpack};
 use crate::explain::Site;
 use crate::extract::words::Task;
-use crate::extract::{Way, extract_file};
+use crate::extract::{Way, extract_file, extract_whole};
 use crate::fault::{FileFault, OUT_OF_MEMORY, ToolFault};
 use crate::help;
 use crate::host::Host;
-use crate::images::{Images, names_of};
+use crate::images::{Image, Images, in_reading_order, names_of};
 use crate::left::remove;
 use crate::program::{End, check_end, end_of, refuse_unfit};
 use crate::telling::FaultLine;
 use crate::unfit::{Unfit, refused};
-use std::alloc::{AllocError, Global};
-use std::io::Write;
+use std::io::{BufWriter, Write};
 use std::{fs, io};
 use tape_label::Field;
 use tape_run::{
-    Heading, SetFile, ShelfFiles, UnpackOutcome, WriteFailed, file_line, file_name, files_on,
-    flush, left_over_line, unpack_outcome_text, write_text,
+    Heading, Mounted, SetFile, ShelfFiles, UnpackOutcome, WriteFailed, file_line, file_name,
+    files_on, flush, left_over_line, numbers_line, unpack_outcome_text, write_text,
 };
 use tape_writer::system::found;
+
+/// How many bytes of the report are held before they are written, at most.
+const LINES: usize = 8_192;
+
+/// The report could not be written.
+const NOT_REPORTED: End = End::Faulted(ToolFault::File(FileFault::WriteFailed));
+
+/// What files are unpacked from: the images by their names, what was met on them, and the image
+/// that stays mounted from file to file.
+#[derive(Drop)]
+struct Source<'n, D> {
+    names: &'n [&'n str],
+    met: &'n ShelfFiles,
+    mounted: Option<Mounted<D>>,
+}
 
 /// Gets every file back that is on the images that the words name. At a fault the site is where it
 /// came.
@@ -42,9 +56,17 @@ fn unpack_images<R: Host>(rt: &R, order: &Unpack<'_>, names: &[&str]) -> End {
     if let Err(unfit) = is_folder(rt, order.folder) {
         return refuse_unfit(rt, &UNPACK, unfit);
     }
-    match files_on(rt.alloc(), &mut Images::new(rt, names)) {
-        Ok(met) => unpack_all(rt, order, names, &met),
-        Err(fault) => end_of(Err(ToolFault::Run(fault))),
+    let Ok(mut report) = BufWriter::with_capacity(rt.alloc(), LINES, io::writer(rt)) else {
+        return End::Faulted(OUT_OF_MEMORY);
+    };
+    let met = match files_on(rt.alloc(), &mut Images::new(rt, names)) {
+        Ok(met) => met,
+        Err(fault) => return end_of(Err(ToolFault::Run(fault))),
+    };
+    let end = unpack_all(rt, order, names, &met, &mut report);
+    match (end, flush(&mut report)) {
+        (End::Done | End::Incomplete, Err(WriteFailed)) => NOT_REPORTED,
+        (end, _) => end,
     }
 }
 
@@ -57,105 +79,101 @@ fn is_folder<R: Host>(rt: &R, path: &str) -> Result<(), Unfit> {
     }
 }
 
-/// Unpacks the files that were met, each from the images of its set, and says whether something is
-/// left over. A file that fails does not keep the others from being tried: the first such fault is
-/// that of the run.
-fn unpack_all<R: Host>(rt: &R, order: &Unpack<'_>, names: &[&str], met: &ShelfFiles) -> End {
+/// Unpacks the files that were found, and reports whether every image was read to its end. A file
+/// that fails does not keep the others from being tried: the run ends with the first such fault.
+fn unpack_all<R: Host, P: Write>(
+    rt: &R,
+    order: &Unpack<'_>,
+    names: &[&str],
+    met: &ShelfFiles,
+    report: &mut P,
+) -> End {
     let files = met.files.as_slice();
     let mut all = met.whole && !files.is_empty();
+    let shelf = &mut Source {
+        names,
+        met,
+        mounted: None,
+    };
     let mut failed = None;
+    let mut before = None;
     for file in files {
-        match unpack_met(rt, order, names, met, file) {
+        let first = number_after(before, &file.set_id);
+        if first < file.file {
+            all = false;
+            let line = numbers_line(&file.set_id, first, file.file);
+            if write_text(report, &line).is_err() {
+                return NOT_REPORTED;
+            }
+        }
+        match unpack_file(rt, order, shelf, file, report) {
             Ok(End::Done) => {}
             Ok(End::Incomplete) => all = false,
             Ok(end) => failed = failed.or(Some(end)),
             Err(end) => return end,
         }
+        before = Some((file.set_id, file.file));
     }
-    match say(rt, left_over_line(met.whole)) {
+    match write_text(report, left_over_line(met.whole)) {
         Ok(()) => failed.unwrap_or(check_end(Ok(all))),
-        Err(WriteFailed) => end_of(Err(ToolFault::File(FileFault::WriteFailed))),
+        Err(WriteFailed) => NOT_REPORTED,
     }
 }
 
-/// How the unpacking of a file ends, or how the run does with it.
+/// How the unpacking of a file ends, or as an error how the run ends with it.
 type Ended = Result<End, End>;
 
-/// Unpacks a file that was met, from the images of its set.
-fn unpack_met<R: Host>(
-    rt: &R,
-    order: &Unpack<'_>,
-    names: &[&str],
-    met: &ShelfFiles,
-    file: &SetFile,
-) -> Ended {
-    match names_of_set(rt.alloc(), names, met.sets.as_slice(), &file.set_id) {
-        Ok(own) => unpack_file(rt, order, &mut Images::new(rt, own.as_slice()), file),
-        Err(_) => Err(End::Faulted(OUT_OF_MEMORY)),
+/// Returns the number after that of the file before, if this is of the set, or else 1.
+fn number_after(before: Option<(Field<6>, u16)>, set_id: &Field<6>) -> u16 {
+    match before {
+        Some((set, number)) if set == *set_id => number.saturating_add(1),
+        _ => 1,
     }
 }
 
-/// The names of the images that are of this set.
-fn names_of_set<'n>(
-    alloc: Global,
-    names: &[&'n str],
-    sets: &[Option<Field<6>>],
-    set_id: &Field<6>,
-) -> Result<Vec<&'n str>, AllocError> {
-    let mut own = Vec::new(alloc);
-    for (name, set) in names.iter().zip(sets) {
-        if *set == Some(*set_id) {
-            own.push(*name)?;
-        }
-    }
-    Ok(own)
-}
-
-/// Unpacks a file, and tells what became of it.
-fn unpack_file<R: Host>(
+/// Unpacks a file, and reports what became of it.
+fn unpack_file<R: Host, P: Write>(
     rt: &R,
     order: &Unpack<'_>,
-    images: &mut Images<'_, R>,
+    shelf: &mut Source<'_, Image<R>>,
     file: &SetFile,
+    report: &mut P,
 ) -> Ended {
     let file_id = match file.heading {
-        Heading::NotMet => return tell(
-            rt,
-            file,
-            unpack_outcome_text(UnpackOutcome::NotFound),
-            "",
-            End::Incomplete,
-        ),
-        Heading::Differs => return tell(
-            rt,
-            file,
-            unpack_outcome_text(UnpackOutcome::Conflict),
-            "",
-            End::Incomplete,
-        ),
+        Heading::Differs => {
+            return tell(
+                rt,
+                file,
+                unpack_outcome_text(UnpackOutcome::Conflict),
+                "",
+                End::Incomplete,
+                report,
+            );
+        }
         Heading::Named(file_id) => file_id,
     };
     let name = file_name(&file.set_id, file.file, &file_id);
     match paths_of(rt.alloc(), order.folder, &name) {
-        Ok(paths) => unpack_to(rt, order, images, file, &paths),
+        Ok(paths) => unpack_to(rt, order, shelf, file, &paths, report),
         Err(_) => Err(End::Faulted(OUT_OF_MEMORY)),
     }
 }
 
 /// Unpacks a file to these paths, unless something of its name is there.
-fn unpack_to<R: Host>(
+fn unpack_to<R: Host, P: Write>(
     rt: &R,
     order: &Unpack<'_>,
-    images: &mut Images<'_, R>,
+    shelf: &mut Source<'_, Image<R>>,
     file: &SetFile,
     paths: &Paths,
+    report: &mut P,
 ) -> Ended {
     let (out, stage) = (paths.out.as_str(), paths.stage.as_str());
     let mut last = LastLine::new();
-    match unpacked(rt, order, images, file, paths, &mut last) {
-        Ok(end @ End::Done) => tell(rt, file, last.text(), out, end),
-        Ok(end) => tell(rt, file, last.text(), stage, end),
-        // It was there before, or came to be there under way.
+    match unpacked(rt, order, shelf, file, paths, &mut last) {
+        Ok(end @ End::Done) => tell(rt, file, last.text(), out, end, report),
+        Ok(end) => tell(rt, file, last.text(), stage, end, report),
+        // It existed before, or was created meanwhile.
         Err(ToolFault::File(FileFault::Exists)) => {
             tell(
                 rt,
@@ -163,19 +181,20 @@ fn unpack_to<R: Host>(
                 unpack_outcome_text(UnpackOutcome::Exists),
                 out,
                 End::Done,
+                report,
             )
         }
         Err(OUT_OF_MEMORY) => Err(End::Faulted(OUT_OF_MEMORY)),
-        Err(fault) => tell_failed(rt, file, out, fault),
+        Err(fault) => tell_failed(rt, file, out, fault, report),
     }
 }
 
-/// Gets a file back, unless something has its name, and removes the stage of one that is complete:
-/// what it kept stands in the file then.
+/// Recovers a file, unless something has its name, and removes the stage of one that is complete:
+/// the file has what the stage kept.
 fn unpacked<R: Host>(
     rt: &R,
     order: &Unpack<'_>,
-    images: &mut Images<'_, R>,
+    shelf: &mut Source<'_, Image<R>>,
     file: &SetFile,
     paths: &Paths,
     last: &mut LastLine,
@@ -189,7 +208,7 @@ fn unpacked<R: Host>(
         Some(there) if !there.is_file() => return Err(ToolFault::File(FileFault::NotOpened)),
         there => there.is_some(),
     };
-    match gather(rt, order, images, file, paths, is_staged, last) {
+    match gather(rt, order, shelf, file, paths, is_staged, last) {
         End::Faulted(fault) => Err(fault),
         end => {
             if end == End::Done {
@@ -200,12 +219,13 @@ fn unpacked<R: Host>(
     }
 }
 
-/// Gets a file back: at once where the images have it so, and else on its stage, round by round.
-/// The last line of both is kept.
+/// Recovers a file: a file whose sections are all whole from the images on which these are, in one
+/// reading of each; any other file, and one that was not complete then, on its stage, round by
+/// round. The last line of both is kept.
 fn gather<R: Host>(
     rt: &R,
     order: &Unpack<'_>,
-    images: &mut Images<'_, R>,
+    shelf: &mut Source<'_, Image<R>>,
     file: &SetFile,
     paths: &Paths,
     is_staged: bool,
@@ -221,8 +241,10 @@ fn gather<R: Host>(
         stage: None,
         again: false,
     };
-    if !is_staged {
-        let end = extract_file(rt, &at_once, images, Way::New, last, &mut site);
+    if !file.lacks && !is_staged {
+        let images = &mut Images::new(rt, shelf.names);
+        let locations = &shelf.met.locations;
+        let end = extract_whole(rt, &at_once, images, &mut shelf.mounted, locations, last);
         if end != End::Incomplete {
             return end;
         }
@@ -232,27 +254,45 @@ fn gather<R: Host>(
         again: true,
         ..at_once
     };
+    let key = (file.set_id, file.file);
+    let Ok(names) = in_reading_order(rt.alloc(), shelf.names, shelf.met, key, false) else {
+        return End::Faulted(OUT_OF_MEMORY);
+    };
+    let images = &mut Images::new(rt, names.as_slice());
     extract_file(rt, &staged, images, Way::New, last, &mut site)
 }
 
-/// Tells what became of a file, and ends so.
-fn tell<R: Host>(rt: &R, file: &SetFile, told: &[u8], path: &str, end: End) -> Ended {
+/// Reports what became of a file, and ends so.
+fn tell<R: Host, P: Write>(
+    rt: &R,
+    file: &SetFile,
+    told: &[u8],
+    path: &str,
+    end: End,
+    report: &mut P,
+) -> Ended {
     let Ok(line) = file_line(rt.alloc(), &file.set_id, file.file, told, path) else {
         return Err(End::Faulted(OUT_OF_MEMORY));
     };
-    match say(rt, line.as_slice()) {
+    match write_text(report, line.as_slice()) {
         Ok(()) => Ok(end),
-        Err(WriteFailed) => Err(end_of(Err(ToolFault::File(FileFault::WriteFailed)))),
+        Err(WriteFailed) => Err(NOT_REPORTED),
     }
 }
 
-/// Tells that a file failed, and by which fault.
-fn tell_failed<R: Host>(rt: &R, file: &SetFile, path: &str, fault: ToolFault) -> Ended {
+/// Reports that a file failed, and by which fault.
+fn tell_failed<R: Host, P: Write>(
+    rt: &R,
+    file: &SetFile,
+    path: &str,
+    fault: ToolFault,
+    report: &mut P,
+) -> Ended {
     let failed = unpack_outcome_text(UnpackOutcome::Failed);
     let Ok(line) = format!(in rt.alloc(); "{}", FaultLine(fault)) else {
         return Err(End::Faulted(OUT_OF_MEMORY));
     };
-    // The fault's line without what stands before and behind the fault.
+    // The fault's line without the program's name and the line feed.
     let text = line.as_str();
     let reason = text.strip_prefix("tape: ").unwrap_or(text).trim_end();
     let Ok(mut told) = Vec::from_slice(rt.alloc(), failed) else {
@@ -261,12 +301,5 @@ fn tell_failed<R: Host>(rt: &R, file: &SetFile, path: &str, fault: ToolFault) ->
     if told.push(b' ').is_err() || told.extend_from_slice(reason.as_bytes()).is_err() {
         return Err(End::Faulted(OUT_OF_MEMORY));
     }
-    tell(rt, file, told.as_slice(), path, End::Faulted(fault))
-}
-
-/// Writes a line, and has it passed on.
-fn say<R: Host>(rt: &R, line: &[u8]) -> Result<(), WriteFailed> {
-    let report = &mut io::writer(rt);
-    write_text(report, line)?;
-    flush(report)
+    tell(rt, file, told.as_slice(), path, End::Faulted(fault), report)
 }

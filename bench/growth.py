@@ -1,0 +1,310 @@
+#!/usr/bin/env python3
+"""How the work of `tape` grows with files, volumes and sections: bytes read and written, calls and instructions, no seconds.
+By hand; the gate does not run it. Run it before a release.
+
+    ./growth.py [--program PATH] [--files N] [--large] [--instructions]
+
+Makes sets of volumes by docs/FORMATS.md, runs the built program over them, and compares what the system counted for it
+(/proc/PID/io, strace for syncs) with a bound. Prints a line for each measurement, with `WRONG` if it is over its bound or
+if the program's answer is not the expected one; the status is 1 if there was such a line.
+
+--files N       how many files there are on one image (5,000)
+--large         also 9,999 files on an image of 11.7 MB, and 2,000 files over ten images
+--instructions  also counts instructions by valgrind (some minutes)
+"""
+
+import argparse
+import os
+import random
+import re
+import shutil
+import struct
+import subprocess
+import sys
+import tempfile
+from pathlib import Path
+
+sys.dont_write_bytecode = True
+MARK = struct.pack("<I", 0)
+END = struct.pack("<I", 0xFFFFFFFF)
+
+
+def block(data):
+    length = struct.pack("<I", len(data))
+    return length + data + b"\0" * (len(data) % 2) + length
+
+
+def label(text):
+    return block(text.ljust(80).encode())
+
+
+def section(set_id, file, sect, blocks, ends, length=800, record=80):
+    """A file section of so many blocks; `ends` says whether the file ends with it."""
+    name = f"F{file}"
+
+    def first(kind, count):
+        return label(f"{kind}{name:17.17}{set_id:6.6}{sect:04}{file:04}000100 85100 00000 {count:06}")
+
+    def second(kind):
+        return label(f"{kind}F{length:05}{record:05}{'':35}00")
+
+    trailer = "EOF" if ends else "EOV"
+    data = b"".join(block(content(file, sect, i, length)) for i in range(blocks))
+    return (first("HDR1", 0) + second("HDR2") + MARK + data + MARK + first(trailer + "1", blocks)
+        + second(trailer + "2") + MARK)
+
+
+def content(file, sect, number, length):
+    return bytes([65 + (file + 7 * sect + number) % 26]) * length
+
+
+def records_of(file, sections, length=800, record=80):
+    """What `unpack` writes of a file, given how many blocks each of its sections has."""
+    text = b"".join(content(file, s + 1, i, length) for s, n in enumerate(sections) for i in range(n))
+    return b"".join(text[at:at + record] + b"\n" for at in range(0, len(text), record))
+
+
+def volume(name, sections):
+    return label(f"VOL1{name:6.6}{'':69}4") + b"".join(sections) + MARK + END
+
+
+class Counted:
+    """What a run answered, and what the system counted for it."""
+
+    def __init__(self, words, folder):
+        with open(folder / "out.txt", "wb") as out:
+            child = subprocess.Popen([str(w) for w in words], cwd=folder, stdin=subprocess.DEVNULL, stdout=out,
+                stderr=subprocess.STDOUT)
+            os.waitid(os.P_PID, child.pid, os.WEXITED | os.WNOWAIT)
+            io = dict(line.split(": ") for line in Path(f"/proc/{child.pid}/io").read_text().splitlines())
+            _, status, use = os.wait4(child.pid, 0)
+            child.returncode = os.waitstatus_to_exitcode(status)
+        self.status = child.returncode
+        self.memory = use.ru_maxrss / 1024
+        self.read, self.wrote = int(io["rchar"]), int(io["wchar"])
+        self.reads, self.writes = int(io["syscr"]), int(io["syscw"])
+        self.text = (folder / "out.txt").read_bytes()
+
+
+class Bench:
+    def __init__(self, options, folder):
+        self.program, self.folder, self.wrong = str(Path(options.program).resolve()), folder, 0
+        self.large, self.files = options.large, options.files
+
+    def fresh(self, name):
+        path = self.folder / name
+        shutil.rmtree(path, ignore_errors=True)
+        path.mkdir()
+        return path
+
+    def line(self, what, figure, bound, right=True):
+        good = right and figure <= bound
+        self.wrong += not good
+        print(f"{what}: {figure:,.2f}, at most {bound:,.2f}{'' if right else ', answer not as expected'}"
+            f"{'' if good else ' WRONG'}", flush=True)
+
+    def write(self, folder, images):
+        """Writes images into a folder; returns their names and size."""
+        names = []
+        for at, image in enumerate(images):
+            names.append(folder / f"{at:04}.tap")
+            names[-1].write_bytes(image)
+        return names, sum(len(image) for image in images)
+
+    # ---- unpack
+
+    def unpack(self, what, images, expected, bound, order=None):
+        folder = self.fresh("unpack")
+        names, size = self.write(folder, images)
+        if order:
+            names = order(names)
+        (folder / "out").mkdir()
+        (folder / "list").write_text("".join(f"{n}\n" for n in names))
+        run = Counted([self.program, "unpack", "out", "--files-from", "list"], folder)
+        right = run.status == 0 and len(os.listdir(folder / "out")) == len(expected)
+        for name, text in expected.items():
+            path = folder / "out" / name
+            right = right and path.exists() and path.read_bytes() == text
+        self.line(f"unpack, {what}: times read", run.read / size, bound, right)
+
+    def one_image(self, count):
+        sections = [section("SETAAA", f + 1, 1, 1, True) for f in range(count)]
+        expected = {f"SETAAA.{f + 1}.F{f + 1}": records_of(f + 1, [1]) for f in range(count)}
+        self.unpack(f"{count:,} files on one image", [volume("VOL001", sections)], expected, 2.2)
+
+    def many_images(self, count, images):
+        each = count // images
+        made = [volume(f"VOL{i:03}", [section("SETAAA", f + 1, 1, 1, True)
+            for f in range(i * each, (i + 1) * each)]) for i in range(images)]
+        expected = {f"SETAAA.{f + 1}.F{f + 1}": records_of(f + 1, [1]) for f in range(count)}
+        for how, order in ORDERS:
+            self.unpack(f"{count:,} files on {images} images, {how}", made, expected, 2.2, order)
+
+    def spanning(self, volumes):
+        """Each volume ends with the first section of a file whose second section begins the next one."""
+        made, expected, file = [], {}, 0
+        for at in range(volumes):
+            own = [section("SETAAA", file, 2, 30, True)] if at else []
+            for _ in range(4):
+                file += 1
+                own.append(section("SETAAA", file, 1, 20, True))
+                expected[f"SETAAA.{file}.F{file}"] = records_of(file, [20])
+            if at + 1 < volumes:
+                file += 1
+                own.append(section("SETAAA", file, 1, 30, False))
+                expected[f"SETAAA.{file}.F{file}"] = records_of(file, [30, 30])
+            made.append(volume(f"V{at:05}", own))
+        for how, order in ORDERS:
+            self.unpack(f"{file} files over {volumes} volumes, {how}", made, expected, 2.2, order)
+
+    def cut_copy(self, count):
+        """The first half of an image is named before the whole of it."""
+        sections = [section("SETAAA", f + 1, 1, 2, True) for f in range(count)]
+        whole = volume("VOL001", sections)
+        expected = {f"SETAAA.{f + 1}.F{f + 1}": records_of(f + 1, [2]) for f in range(count)}
+        folder = self.fresh("unpack")
+        names, size = self.write(folder, [whole[:len(whole) // 2], whole])
+        (folder / "out").mkdir()
+        run = Counted([self.program, "unpack", "out", *names], folder)
+        right = run.status == 3 and all((folder / "out" / n).exists() and (folder / "out" / n).read_bytes() == t
+            for n, t in expected.items())
+        self.line(f"unpack, {count} files, half of an image named before the whole: times read", run.read / size,
+            2.2, right)
+
+    def incomplete(self, volumes):
+        """The last volume of a file is missing; then the same call again."""
+        made = [volume(f"V{at:05}", [section("SETAAA", 1, at + 1, 100, at + 1 == volumes)])
+            for at in range(volumes)][:-1]
+        folder = self.fresh("unpack")
+        names, size = self.write(folder, made)
+        (folder / "out").mkdir()
+        for call, read, wrote in (("first", 2.5, 1.2), ("second", 2.2, 0.1)):
+            run = Counted([self.program, "unpack", "out", *names], folder)
+            right = run.status == 3
+            self.line(f"unpack, last of {volumes} volumes missing, {call} call: times read", run.read / size, read, right)
+            self.line(f"unpack, last of {volumes} volumes missing, {call} call: times written", run.wrote / size, wrote,
+                right)
+
+    # ---- extract --again
+
+    def again(self, volumes):
+        made = [volume(f"V{at:05}", [section("SETAAA", 1, at + 1, 2, at + 1 == volumes)]) for at in range(volumes)]
+        text = records_of(1, [2] * volumes)
+        for how, order in ORDERS:
+            folder = self.fresh("again")
+            names, _ = self.write(folder, made)
+            words = [self.program, "extract", "SETAAA", "1", "OUT", *order(names), "--again", "--stage", "stage"]
+            calls = subprocess.run(["strace", "-f", "-e", "trace=fsync,fdatasync", "-o", "calls", *map(str, words)],
+                cwd=folder, stdin=subprocess.DEVNULL, capture_output=True, check=False)
+            syncs = len(re.findall(r"f(?:data)?sync\(", (folder / "calls").read_text()))
+            right = calls.returncode == 0 and (folder / "OUT").read_bytes() == text
+            readings = calls.stdout.count(b"REEL ")
+            self.line(f"extract --again, {volumes} volumes, {how}: readings of an image", readings / volumes, 3, right)
+            self.line(f"extract --again, {volumes} volumes, {how}: syncs a volume", syncs / volumes, 8, right)
+
+    # ---- reports
+
+    def sparse(self, sets):
+        """One file numbered 9,999 in each set."""
+        made = [volume(f"V{at:05}", [section(f"S{at:05}", 9999, 1, 1, True)]) for at in range(sets)]
+        folder = self.fresh("sparse")
+        names, size = self.write(folder, made)
+        run = Counted([self.program, "survey", *names], folder)
+        self.line(f"survey, {sets} sets with file 9,999 alone: MB of memory", run.memory, 16, run.status == 3)
+        self.line(f"survey, {sets} sets with file 9,999 alone: MB of text", len(run.text) / 1e6, 1, run.status == 3)
+        (folder / "out").mkdir()
+        run = Counted([self.program, "unpack", "out", *names], folder)
+        self.line(f"unpack, {sets} sets with file 9,999 alone: write calls a set", run.writes / sets, 30)
+
+    def items(self, count):
+        image = volume("VOL001", [section("SETAAA", 1, 1, count, True, 20, 20)])
+        folder = self.fresh("items")
+        names, size = self.write(folder, [image])
+        for command in ("list", "check", "survey"):
+            run = Counted([self.program, command, *names], folder)
+            self.line(f"{command}, {count:,} blocks of 20: times read", run.read / size, 1.02, run.status == 0)
+            self.line(f"{command}, {count:,} blocks of 20: MB of memory", run.memory, 4, run.status == 0)
+
+    # ---- stages
+
+    def stages(self, length):
+        image = volume("VOL001", [section("SETAAA", 1, 1, 6_000_000 // length, False, length, length)])
+        folder = self.fresh("stage")
+        names, size = self.write(folder, [image])
+        run = Counted([self.program, "extract", "SETAAA", "1", "OUT", *names, "--stage", "stage"], folder)
+        staged = (folder / "stage").stat().st_size
+        run = Counted([self.program, "stage", "stage"], folder)
+        self.line(f"stage, parts of {length:,}: times read", run.read / staged, 2.05, run.status == 3)
+
+    # ---- instructions
+
+    def instructions(self, *words, folder):
+        log = folder / "valgrind"
+        subprocess.run(["valgrind", "--tool=callgrind", "--callgrind-out-file=/dev/null", f"--log-file={log}",
+            *map(str, words)], cwd=folder, stdin=subprocess.DEVNULL, stdout=subprocess.DEVNULL, check=False)
+        return int(re.search(r"Collected : (\d+)", log.read_text()).group(1))
+
+    def ratios(self):
+        for length, record, blocks, bounds in ((80, 80, 20_000, (1.15, 1.5)), (8160, 80, 400, (1.15, 2.0))):
+            folder = self.fresh("instructions")
+            image = volume("VOL001", [section("SETAAA", 1, 1, blocks, True, length, record)])
+            small = volume("VOL001", [section("SETAAA", 1, 1, 1, True, length, record)])
+            (folder / "large.tap").write_bytes(image)
+            (folder / "small.tap").write_bytes(small)
+
+            def count(*words):
+                for name in ("OUT", "stage"):
+                    (folder / name).unlink(missing_ok=True)
+                return self.instructions(self.program, *words, folder=folder)
+
+            def each(command):
+                return (count(*command("large.tap")) - count(*command("small.tap"))) / blocks
+
+            check = each(lambda image: ("check", image))
+            survey = each(lambda image: ("survey", image))
+            extract = each(lambda image: ("extract", "SETAAA", "1", "OUT", image))
+            stage = each(lambda image: ("extract", "SETAAA", "1", "OUT", image, "--stage", "stage"))
+            print(f"instructions a block of {length:,}: check {check:,.0f}, survey {survey:,.0f}, extract {extract:,.0f}, "
+                f"extract --stage {stage:,.0f}")
+            self.line(f"survey over check, blocks of {length:,}", survey / check, bounds[0])
+            self.line(f"extract --stage over extract, blocks of {length:,}", stage / extract, bounds[1])
+
+
+def shuffled(names):
+    mixed = list(names)
+    random.Random(5).shuffle(mixed)
+    return mixed
+
+
+ORDERS = (("in order", list), ("reversed", lambda names: names[::-1]), ("shuffled", shuffled))
+
+
+def main():
+    here = Path(__file__).resolve().parent
+    parser = argparse.ArgumentParser(description="how the work of tape grows")
+    parser.add_argument("--program", default=here / "../crates/tape_tool/out/tape_tool")
+    parser.add_argument("--files", type=int, default=5000)
+    parser.add_argument("--large", action="store_true")
+    parser.add_argument("--instructions", action="store_true")
+    options = parser.parse_args()
+    memory = "/dev/shm" if os.path.isdir("/dev/shm") else None
+    with tempfile.TemporaryDirectory(dir=memory) as folder:
+        bench = Bench(options, Path(folder))
+        for count in (100, 1000, options.files, *((9999,) if options.large else ())):
+            bench.one_image(count)
+        bench.many_images(2000 if options.large else 200, 10)
+        bench.spanning(12)
+        bench.cut_copy(100)
+        bench.incomplete(20)
+        bench.again(60)
+        bench.sparse(50)
+        bench.items(100_000)
+        for length in (80, 20_000, 40_000, 99_999):
+            bench.stages(length)
+        if options.instructions:
+            bench.ratios()
+    sys.exit(bench.wrong > 0)
+
+
+if __name__ == "__main__":
+    main()

@@ -1,0 +1,48 @@
+-- Numbers of files of which no label was found.
+use Rattle.std.specs.Prelude.{ℕ, zero, suc, ◌+◌, ◌-◌, Bool, if◌then◌else◌, List, [], ◌++◌, nat_lt}
+use Rattle.std.specs.Prelude.{is_some, codes, decimal}
+use Rattle.tape_run.specs.declared.survey.Wording.{Wording}
+use Rattle.tape_run.specs.declared.survey.Wording.TheVariants.{Words, Rows}
+use Rattle.tape_run.specs.Identifier.{identifier_text}
+use Rattle.tape_run.specs.SurveyFiles.{note_at, file_key}
+use Rattle.tape_run.specs.SurveyLine.{trimmed_text}
+use Rattle.tape_run.specs.SurveyRead.{Found}
+
+-- a header label of the file was found
+abbrev pub is_found : Found → List ℕ → ℕ → Bool
+is_found d set_id file = is_some (note_at d.files (file_key set_id file))
+
+-- the first number after the last file up to this number that was found, or 1
+abbrev pub gap_first : Found → List ℕ → ℕ → ℕ
+gap_first d set_id zero = 1
+gap_first d set_id (suc n) =
+    if is_found d set_id (suc n) then suc (suc n) else gap_first d set_id n
+
+-- the numbers from the first one up to the one before a file
+abbrev pub numbers_text : ℕ → ℕ → List ℕ
+numbers_text first file = decimal first
+    ++ (if nat_lt first (file - 1) then codes "-" ++ decimal (file - 1) else [])
+
+-- the line of `unpack` for such numbers
+abbrev pub numbers_line : List ℕ → ℕ → ℕ → List ℕ
+numbers_line set_id first file = codes "FILE " ++ identifier_text set_id ++ codes " "
+    ++ numbers_text first file ++ codes " NOT FOUND\n"
+
+-- the line of `survey`
+abbrev pub gap_line : ℕ → ℕ → List ℕ
+gap_line first file = (if nat_lt (first + 1) file then codes "  files " else codes "  file ")
+    ++ numbers_text first file ++ codes ": not found\n"
+
+-- their row
+abbrev pub gap_row : List ℕ → ℕ → ℕ → List ℕ
+gap_row set_id first file = codes "FILE\t" ++ trimmed_text set_id ++ codes "\t"
+    ++ numbers_text first file ++ codes "\t\t\tMISSING\t1\t\t\n"
+
+-- what is said of them
+abbrev pub gap_by : Wording → List ℕ → ℕ → ℕ → List ℕ
+gap_by Words set_id first file = gap_line first file
+gap_by Rows set_id first file = gap_row set_id first file
+
+-- what is said of the numbers from the first one up to the one before a file, if there are some
+abbrev pub gap_text : Wording → List ℕ → ℕ → ℕ → List ℕ
+gap_text y set_id first file = if nat_lt first file then gap_by y set_id first file else []

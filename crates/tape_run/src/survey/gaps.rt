@@ -1,0 +1,110 @@
+//! Numbers between those of files that were found.
+ghost use Rattle.std.specs.Prelude.{◌≡◌, ◌≤◌, ◌<◌, ◌-◌, ◌++◌};
+ghost use Rattle.arrayvec.specs.ArrayVec.{array_vec_len};
+ghost use Rattle.tape_run.specs.SurveyGaps.{is_found, gap_first, numbers_text, gap_line, gap_row};
+ghost use Rattle.tape_run.specs.SurveyGaps.{gap_text, numbers_line};
+
+use super::Wording;
+use super::files::FileKey;
+use super::view::Findings;
+use crate::text::{Text, put, put_decimal, put_identifier, put_trimmed};
+use tape_label::Field;
+
+/// Whether a header label of a file was found.
+pub(crate) fn is_found(findings: &Findings, set_id: Field<6>, file: u16) -> bool
+    ensures { result ≡ is_found findings.now set_id file }
+{
+    findings.files.get(&FileKey { set_id, file }).is_some()
+}
+
+/// The first number after the last file before this one that was found, or 1.
+pub(crate) fn gap_first(findings: &Findings, set_id: Field<6>, file: u16) -> u16
+    requires { 0 < file }
+    ensures value { result ≡ gap_first findings.now set_id (file - 1) }
+    ensures few { result ≤ file }
+{
+    let mut first = file;
+    'back: while first > 1 {
+        if is_found(findings, set_id, first - 1) {
+            return first;
+        }
+        first -= 1;
+    }
+    first
+}
+
+/// The numbers from the first one up to the one before a file.
+fn put_numbers(text: &mut Text, first: u16, file: u16)
+    requires some { first < file }
+    requires room { array_vec_len text.old ≤ 100 }
+    ensures items { text.new.items ≡ text.old.items ++ numbers_text first file }
+    ensures len { array_vec_len text.new ≤ 200 }
+{
+    put_decimal(text, u64::from(first));
+    let last = file - 1;
+    if first < last {
+        put(text, b"-");
+        put_decimal(text, u64::from(last));
+    }
+}
+
+/// Returns the line of `unpack` for numbers of which no label was found: from the first one up to
+/// the one before a file.
+pub fn numbers_line(set_id: &Field<6>, first: u16, file: u16) -> Text
+    requires { first < file }
+    ensures { result.items ≡ numbers_line set_id.now first file }
+{
+    let mut text = Text::new();
+    put(&mut text, b"FILE ");
+    put_identifier(&mut text, set_id);
+    put(&mut text, b" ");
+    put_numbers(&mut text, first, file);
+    put(&mut text, b" NOT FOUND\n");
+    text
+}
+
+/// The line of numbers of which no label was found.
+fn gap_line(first: u16, file: u16) -> Text
+    requires { first < file }
+    ensures { result.items ≡ gap_line first file }
+{
+    let mut text = Text::new();
+    put(
+        &mut text,
+        if first + 1 < file {
+            b"  files "
+        } else {
+            b"  file "
+        },
+    );
+    put_numbers(&mut text, first, file);
+    put(&mut text, b": not found\n");
+    text
+}
+
+/// The row of numbers of which no label was found.
+fn gap_row(set_id: Field<6>, first: u16, file: u16) -> Text
+    requires { first < file }
+    ensures { result.items ≡ gap_row set_id first file }
+{
+    let mut text = Text::new();
+    put(&mut text, b"FILE\t");
+    put_trimmed(&mut text, &set_id);
+    put(&mut text, b"\t");
+    put_numbers(&mut text, first, file);
+    put(&mut text, b"\t\t\tMISSING\t1\t\t\n");
+    text
+}
+
+/// What is said of the numbers from the first one up to the one before a file.
+pub(crate) fn gap_text(wording: Wording, set_id: Field<6>, first: u16, file: u16) -> Text
+    ensures { result.items ≡ gap_text wording set_id first file }
+{
+    if first >= file {
+        return Text::new();
+    }
+    match wording {
+        Wording::Words => gap_line(first, file),
+        Wording::Rows => gap_row(set_id, first, file),
+    }
+}
