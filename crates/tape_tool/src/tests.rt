@@ -9,6 +9,7 @@ mod faults;
 mod guards;
 mod image;
 mod init;
+mod merge_program;
 mod program;
 mod salvage_program;
 mod seen;
