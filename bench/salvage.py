@@ -197,7 +197,7 @@ class Recovered:
 
     def __init__(self):
         self.records, self.open, self.torn, self.lines, self.missing = [], None, False, [], False
-        self.had = set()
+        self.had, self.cuts = set(), set()
 
     def tear(self, section, number):
         if self.open is not None:
@@ -269,6 +269,7 @@ def recovered(images, set_id, file, blocks):
             made.take(number, at, form, item)
             made.had.add((number, at))
         if not copy.closing:
+            made.cuts.add(number)
             made.tear(number, copy.believed())
             made.lines.append(f"GAP {number} {copy.believed()} - {len(made.records)}")
             if copy.believed() < len(copy.data):
@@ -291,12 +292,16 @@ def recovered(images, set_id, file, blocks):
     return made
 
 
-def records_with(file, places, had):
-    """Of the records that the file was made of those of which every block was read."""
+def records_with(file, places, made):
+    """The records of the file of which every block was read. Where a section does not close nobody can know that no
+    block follows, so a record that continues in the next section is not among them."""
     whole, so_far, is_whole = [], b"", True
     for number, data in enumerate(file.blocks):
+        begins_section = number > 0 and places[number][0] != places[number - 1][0]
+        is_cut = begins_section and places[number - 1][0] in made.cuts
         for begins, ends, content in parts_of((file.shape[0], file.shape[2]), data):
-            is_whole = (is_whole or begins) and places[number] in had
+            is_whole = (begins or is_whole and not is_cut) and places[number] in made.had
+            is_cut = False
             so_far = content if begins else so_far + content
             if ends:
                 whole += [so_far] if is_whole else []
@@ -402,7 +407,7 @@ def check_set(trial, rng, number):
         expected, got, status = check_file(trial, set_id, file.number, images, names, form)
         places = [(item.section, item.number) for items in volumes for item in items if item.kind == "data" and item.file == file.number]
         if form != "blocks" and not miscounts:
-            whole = records_with(file, places, expected.had)
+            whole = records_with(file, places, expected)
             trial.is_so(whole == expected.records, f"{set_id} {file.number}: the records of the file with all blocks are others")
         if form == "lines" and is_single:
             (trial.folder / "again").unlink(missing_ok=True)
