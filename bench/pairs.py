@@ -39,6 +39,8 @@ class Pair:
     contents: tuple
     # whether both may end with success
     both: bool
+    # a word that only one of them may print: that it made the file
+    once: str = ""
 
 
 def alone(program, words, files, made):
@@ -67,7 +69,8 @@ def pairs(program):
         ("unpack, one DIR", reels, unpack, [*unpack, "--form", "raw"], "d/ABC001.1.PAYROLL", True),
     ]
     return [
-        Pair(name, files, first, second, made, tuple(alone(program, words, files, made) for words in (first, second)), both)
+        Pair(name, files, first, second, made, tuple(alone(program, words, files, made) for words in (first, second)), both,
+            "COMPLETE" if first[0] == "unpack" else "")
         for name, files, first, second, made, both in rows
     ]
 
@@ -78,6 +81,8 @@ def judge(pair, done, files):
     found = files.get(pair.made)
     if all(ended) and not pair.both:
         return "both ended with success"
+    if pair.once and sum(pair.once in out for _, out, _ in done) > 1:
+        return f"both made {pair.made}"
     if any(ended) and found not in [content for content, is_done in zip(pair.contents, ended) if is_done]:
         return f"{pair.made} is of no call that ended with success"
     for status, out, err in done:

@@ -66,6 +66,7 @@ def run(program, words, files, closed, stand_ins):
             if stand_ins:
                 path, flags = STAND_INS[number]
                 assert os.open(path, flags) == number
+                os.set_inheritable(number, True)
 
     with tempfile.TemporaryDirectory(prefix="tape-streams-") as folder:
         for name, content in files.items():
