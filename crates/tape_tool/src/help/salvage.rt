@@ -20,7 +20,7 @@ pub const AFTER_SALVAGE: &str = "Examples:
   tape salvage ABC001 1 ../out/payroll.part *.tap > ../out/payroll.gaps
   tape salvage ABC001 2 ../out/dump.bin old.tap --form blocks
 
-Try 'tape extract --again' first: it writes a file only if all of it is there.
+Try 'tape extract --again' first: it writes a file only if nothing is missing.
 'salvage' writes the records of every block that could be read, in order, and
 prints a line for each gap. A record with a missing part is left out. With
 --form blocks each block is written as it is, also for files in a record format

@@ -19,12 +19,18 @@ const MENDED: &[Step<'_>] = &[
     Step::HasText("merged.tap", 676, b"\x90\x01\x00\x00"),
     Step::Ends("extract ABC001 1 merged.txt merged.tap", End::Done),
     Step::HasLength("merged.txt", 2025),
-    Step::Ends("merge turned.tap merge2.tap merge1.tap", End::Done),
-    Step::Ends("extract ABC001 1 turned.txt turned.tap", End::Done),
+    Step::Ends("merge merge_turned.tap merge2.tap merge1.tap", End::Done),
+    Step::Ends(
+        "extract ABC001 1 merge_turned.txt merge_turned.tap",
+        End::Done,
+    ),
     // One reading twice is as good as once.
-    Step::Ends("merge still.tap merge1.tap merge1.tap", End::Incomplete),
+    Step::Ends(
+        "merge merge_still.tap merge1.tap merge1.tap",
+        End::Incomplete,
+    ),
     Step::HasText(
-        "still.tap",
+        "merge_still.tap",
         676,
         b"\x01\x00\x00\x80\x00\x00\x01\x00\x00\x80",
     ),
@@ -48,11 +54,17 @@ const DIFFERENT: &[Step<'_>] = &[
     Step::PutWorked("other1.tap", 2484),
     Step::PutLost("other2.tap"),
     Step::Ends("compare other1.tap other2.tap", End::Incomplete),
-    Step::Ends("merge none.tap other1.tap other2.tap", End::Incomplete),
-    Step::IsMissing("none.tap"),
-    Step::IsMissing("none.tap.part"),
-    Step::Ends("merge counted.tap other2.tap other2.tap", End::Incomplete),
-    Step::HasText("counted.tap", 4, b"VOL1"),
+    Step::Ends(
+        "merge merge_none.tap other1.tap other2.tap",
+        End::Incomplete,
+    ),
+    Step::IsMissing("merge_none.tap"),
+    Step::IsMissing("merge_none.tap.part"),
+    Step::Ends(
+        "merge merge_counted.tap other2.tap other2.tap",
+        End::Incomplete,
+    ),
+    Step::HasText("merge_counted.tap", 4, b"VOL1"),
 ];
 
 /// A reading that ends with a fault, and one of no items.
@@ -60,16 +72,19 @@ const CUT: &[Step<'_>] = &[
     Step::PutWorked("cut1.tap", 2000),
     Step::PutWorked("cut2.tap", 2484),
     Step::Put("cut3.tap", b""),
-    Step::Ends("merge cut.tap cut1.tap cut1.tap", End::Incomplete),
-    Step::HasLength("cut.tap", 1884),
-    Step::Ends("merge whole.tap cut1.tap cut2.tap cut3.tap", End::Done),
-    Step::IsWorked("whole.tap"),
+    Step::Ends("merge merge_cut.tap cut1.tap cut1.tap", End::Incomplete),
+    Step::HasLength("merge_cut.tap", 1884),
+    Step::Ends(
+        "merge merge_whole.tap cut1.tap cut2.tap cut3.tap",
+        End::Done,
+    ),
+    Step::IsWorked("merge_whole.tap"),
 ];
 
 const WORDS: &[Step<'_>] = &[
     Step::PutWorked("word1.tap", 2484),
     Step::Put("merge.names", b"word1.tap\nword1.tap\n"),
-    Step::Put("lost.names", b"word1.tap\nlost.tap\n"),
+    Step::Put("merge_lost.names", b"word1.tap\nlost.tap\n"),
     Step::Ends("merge", End::WrongWords),
     Step::Ends("merge new1.tap", End::WrongWords),
     Step::Ends("merge new1.tap word1.tap", End::WrongWords),
@@ -81,7 +96,7 @@ const WORDS: &[Step<'_>] = &[
         ToolFault::File(FileFault::NotOpened),
     ),
     Step::Fails(
-        "merge new1.tap --files-from lost.names",
+        "merge new1.tap --files-from merge_lost.names",
         ToolFault::File(FileFault::NotOpened),
     ),
     Step::Fails(

@@ -157,9 +157,9 @@ fn is_without_words<H: Abort + AllocGlobal>(rt: &H, kind: ErrorKind, wanted: End
 
 #[test]
 fn words_that_are_no_text(rt: HostRuntime) {
-    let told = "error: a name on the command line is not UTF-8 text: find it by
+    let told = "error: a name on the command line is not valid UTF-8. Find it with
   ls | grep -axv '.*'
-and rename it, or list it by 'tape list < NAME'\n";
+and rename it, or use 'tape list < NAME'\n";
     is_without_words(&rt, ErrorKind::InvalidData, End::WrongWords, told);
     let no_memory = End::Faulted(OUT_OF_MEMORY);
     is_without_words(&rt, ErrorKind::OutOfMemory, no_memory, "");

@@ -246,6 +246,10 @@ fn gather<R: Host>(
         let locations = &shelf.met.locations;
         let end = extract_whole(rt, &at_once, images, &mut shelf.mounted, locations, last);
         if end != End::Incomplete {
+            if end != End::Done {
+                // Of an image that a fault left mounted nothing is proved.
+                shelf.mounted = None;
+            }
             return end;
         }
     }
