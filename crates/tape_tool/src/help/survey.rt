@@ -34,9 +34,10 @@ identifier. tape cannot separate them: keep the images of each set in a
 directory of its own.
 
 The last line appears only if nothing is missing, each image is a volume from
-its label to its end in formats that tape reads, and no two files have one
-number. No label says whether more files follow the last one found. The wording
-may change; the exit status and the columns of --tsv will not.
+its label to its end in formats that tape reads, and no number has labels of
+different files. Contents are not compared: 'tape compare' does that. No label
+says whether more files follow the last one found. The wording may change; the
+exit status and the columns of --tsv will not.
 
 With --tsv these rows; a column whose value is not known is empty:
   IMAGE name state volume set system items files bad end words
