@@ -72,7 +72,7 @@ def strings(path):
 
 def places():
     """For each place its sentences."""
-    for page in sorted([*TOP.glob("*.md"), *TOP.glob("docs/*.md"), *TOP.glob("bench/*.md"),
+    for page in sorted([*TOP.glob("*.md"), *TOP.glob("docs/*.md"), *TOP.glob("bench/*.md"), *TOP.glob("trials/*.md"),
                         *TOP.glob("release/*.md"), *TOP.glob("crates/*/README.md")]):
         if page.name != "DEFINITIONS.md":
             yield str(page.relative_to(TOP)), [s for p in paragraphs(page) for s in sentences(p)]

@@ -1,7 +1,7 @@
 #!/usr/bin/env python3
 """Merges random readings with the program and with a model written apart from it.
 
-    bench/merge.py PROGRAM CASES [SEED]
+    trials/merge.py PROGRAM CASES [SEED]
 
 Each case makes a tape of blocks, marks and unreadable items, and two to four readings of it. In a
 reading an item may have become unreadable; it may also be cut short, end with a fault, or not be a

@@ -100,7 +100,7 @@ def main():
     differences = 0
     with tempfile.TemporaryDirectory(prefix="tape-compare-") as folder:
         lister = Path(folder) / "lister"
-        subprocess.run(["cc", "-O2", "-Wall", "-o", lister, HERE / "lister.c"], check=True)
+        subprocess.run(["cc", "-O2", "-Wall", "-o", lister, HERE.parent / "bench" / "lister.c"], check=True)
         for name, data in cases:
             ours, theirs = outcome([options.program.resolve(), "list"], data), outcome([lister], data)
             if ours != theirs:

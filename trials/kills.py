@@ -25,7 +25,8 @@ from pathlib import Path
 
 sys.dont_write_bytecode = True
 import fail
-from timing import build
+sys.path.insert(0, str(Path(__file__).resolve().parent.parent / "bench"))
+from timing import build  # noqa: E402
 
 RECORDS = 30_000
 SHAPE = ["--format", "F", "--block", "800", "--record", "80", "--form", "raw"]

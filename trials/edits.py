@@ -1,5 +1,5 @@
 #!/usr/bin/env python3
-"""Tries mistakes in groups: bench/edits.py [CRATE...]; or lists them: bench/edits.py --lemmas
+"""Tries mistakes in groups: trials/edits.py [CRATE...]; or lists them: trials/edits.py --lemmas
 
 Each file of crates/CRATE/must-fail and by-hand puts one mistake into the code, and the prover has to
 refuse it. One check here holds an edit of each function: a function is judged by what those that it

@@ -4,7 +4,7 @@ By hand; the gate does not run it, since there it would have to prove these test
 
     ./whole.py
 
-In a copy of the repository the files of bench/whole stand among the tests of tape_tool. `rt try` compiles and
+In a copy of the repository the files of trials/whole stand among the tests of tape_tool. `rt try` compiles and
 runs them, over a system that is the real one but for its words and streams, and that notes what is opened.
 Prints what `rt` says of each test; the status is 1 where one failed.
 """
@@ -16,7 +16,7 @@ import tempfile
 from pathlib import Path
 
 REPOSITORY = Path(__file__).resolve().parent.parent
-TABLES = REPOSITORY / "bench" / "whole"
+TABLES = REPOSITORY / "trials" / "whole"
 ENDING = ".rt.txt"
 
 
