@@ -63,7 +63,8 @@ def pairs(program):
         ("write, on a blank volume", inputs | {"ABC001.tap": BLANK}, write_a, write_b, "ABC001.tap", False),
         ("write, in an empty DIR", inputs, write_a, write_b, "ABC001.tap", False),
         ("init and write", inputs, ["init", ".", "ABC", "1"], write_a, "ABC001.tap", True),
-        ("extract, one OUT", reels, EXTRACT, [*EXTRACT, "--form", "raw"], "OUT", False),
+        # the second may begin when the first has ended, and then replaces OUT
+        ("extract, one OUT", reels, EXTRACT, [*EXTRACT, "--form", "raw"], "OUT", True),
         ("extract, an OUT that is there", reels | {"OUT": b"old\n"}, EXTRACT, [*EXTRACT, "--form", "raw"], "OUT", True),
         ("extract, one stage", reels, [*EXTRACT, "--stage", "s"], [*EXTRACT, "--stage", "s"], "OUT", True),
         ("unpack, one DIR", reels, unpack, [*unpack, "--form", "raw"], "d/ABC001.1.PAYROLL", True),
