@@ -275,8 +275,12 @@ def may_change_nothing(trial, kind, error, answer):
         return "the name is taken by an empty file first"
     if kind in "ly" and error == errno.EINTR:
         return "the call is made again"
+    if kind == "a":
+        return "whether the environment asks for explanations is not known then"
     if kind == "o" and path == "/":
         return "/dev/null is opened"
+    if kind == "o" and error == errno.EACCES and DRAFT.fullmatch(Path(path).name):
+        return "the directory takes no new file, so the output is written in place"
     if kind == "o" and error == errno.EACCES and path == ".":
         return "a directory that may not be read is not synced"
     return None
