@@ -277,6 +277,8 @@ def may_change_nothing(trial, kind, error, answer):
         return "the call is made again"
     if kind == "a":
         return "whether the environment asks for explanations is not known then"
+    if kind == "r" and trial.words[0] in ("stage", "unpack"):
+        return "what could not be read ahead of a stage is read by itself"
     if kind == "o" and path == "/":
         return "/dev/null is opened"
     if kind == "o" and error == errno.EACCES and DRAFT.fullmatch(Path(path).name):
