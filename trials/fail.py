@@ -161,7 +161,8 @@ UNREAD = {"o": r"REEL \d+ NOT OPENED\n", "r": r"REEL \d+ (REEL ENDED|NOT LABELLE
 EXTRACT_REPORTS = {
     kind: {0: REELS + line + REELS + r"COMPLETE \d+\n", 3: REELS + line + REELS + r"AWAITS .*\n"} for kind, line in UNREAD.items()
 }
-CHECK = {"a": NO_MEMORY, "w": {"file fault 4"}}
+# nothing can be opened, so closed standard streams cannot be guarded
+CHECK = {"a": NO_MEMORY, "o": {"file fault 2"}, "w": {"file fault 4"}}
 # the list itself, which is opened and read before the images
 CHECK_LIST = CHECK | {"o": {"file fault 2"}, "r": {"file fault 3"}}
 IMAGES = r"(IMAGE .*\n)*"
@@ -281,6 +282,8 @@ def may_change_nothing(trial, kind, error, answer):
         return "what could not be read ahead of a stage is read by itself"
     if kind == "o" and path == "/":
         return "/dev/null is opened"
+    if kind == "o" and path == "/dev/null" and error == errno.EMFILE:
+        return "no number is free, so no file can get that of a standard stream"
     if kind == "o" and error == errno.EACCES and DRAFT.fullmatch(Path(path).name):
         return "the directory takes no new file, so the output is written in place"
     if kind == "o" and error == errno.EACCES and path == ".":
