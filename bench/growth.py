@@ -77,10 +77,8 @@ class Counted:
                 stderr=subprocess.STDOUT)
             os.waitid(os.P_PID, child.pid, os.WEXITED | os.WNOWAIT)
             io = dict(line.split(": ") for line in Path(f"/proc/{child.pid}/io").read_text().splitlines())
-            _, status, use = os.wait4(child.pid, 0)
-            child.returncode = os.waitstatus_to_exitcode(status)
+            child.wait()
         self.status = child.returncode
-        self.memory = use.ru_maxrss / 1024
         self.read, self.wrote = int(io["rchar"]), int(io["wchar"])
         self.reads, self.writes = int(io["syscr"]), int(io["syscw"])
         self.text = (folder / "out.txt").read_bytes()
@@ -90,6 +88,16 @@ class Bench:
     def __init__(self, options, folder):
         self.program, self.folder, self.wrong = str(Path(options.program).resolve()), folder, 0
         self.large, self.files = options.large, options.files
+
+    def memory(self, words, folder):
+        """The greatest memory of a run, in MB: that of a small program's child, since a child's begins with its parent's."""
+        measure = self.folder / "measure"
+        if not measure.exists():
+            subprocess.run(["cc", "-O2", "-o", measure, Path(__file__).resolve().parent / "measure.c"], check=True)
+        report = folder / "report.txt"
+        subprocess.run([measure, report, *words], cwd=folder, stdin=subprocess.DEVNULL, stdout=subprocess.DEVNULL,
+            stderr=subprocess.DEVNULL, check=True)
+        return int(report.read_text().split()[2]) / 1024
 
     def fresh(self, name):
         path = self.folder / name
@@ -209,8 +217,9 @@ class Bench:
         made = [volume(f"V{at:05}", [section(f"S{at:05}", 9999, 1, 1, True)]) for at in range(sets)]
         folder = self.fresh("sparse")
         names, size = self.write(folder, made)
-        run = Counted([self.program, "survey", *names], folder)
-        self.line(f"survey, {sets} sets with file 9,999 alone: MB of memory", run.memory, 16, run.status == 3)
+        words = [self.program, "survey", *names]
+        run = Counted(words, folder)
+        self.line(f"survey, {sets} sets with file 9,999 alone: MB of memory", self.memory(words, folder), 16, run.status == 3)
         self.line(f"survey, {sets} sets with file 9,999 alone: MB of text", len(run.text) / 1e6, 1, run.status == 3)
         (folder / "out").mkdir()
         run = Counted([self.program, "unpack", "out", *names], folder)
@@ -221,9 +230,10 @@ class Bench:
         folder = self.fresh("items")
         names, size = self.write(folder, [image])
         for command in ("list", "check", "survey"):
-            run = Counted([self.program, command, *names], folder)
+            words = [self.program, command, *names]
+            run = Counted(words, folder)
             self.line(f"{command}, {count:,} blocks of 20: times read", run.read / size, 1.02, run.status == 0)
-            self.line(f"{command}, {count:,} blocks of 20: MB of memory", run.memory, 4, run.status == 0)
+            self.line(f"{command}, {count:,} blocks of 20: MB of memory", self.memory(words, folder), 4, run.status == 0)
 
     # ---- stages
 
