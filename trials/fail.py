@@ -373,6 +373,8 @@ def refuse_each(options, library, trial, kind, number_of_calls, right):
     refusals = [
         (f"{kind}{number}{later}:{error}", error)
         for number in range(1, number_of_calls + 1) for later in ("", "+") for error in ERRORS[kind]
+        # a call that is always interrupted is made again for ever
+        if (later, error) != ("+", errno.EINTR)
     ]
     for refusal, error in refusals:
         answer = run(options, library, trial, refusal)
