@@ -128,8 +128,8 @@ INIT = {"a": {"run fault 4"}, "o": {"file fault 2", "file fault 4"}, "w": {"file
     "l": {"file fault 1", "file fault 2"}}
 WRITE = {
     "a": {"run fault 4", "write fault 10"},
-    # an input is looked for first, and opened again when its turn comes
-    "o": {"file fault 2", "file fault 3"},
+    # an input is looked for first, and opened again when its turn comes; a directory is opened to be synced
+    "o": {"file fault 2", "file fault 3", "file fault 4"},
     "r": {"file fault 3"},
     "w": {"write fault 9", "file fault 4"},
     "y": {"file fault 4"},
@@ -191,7 +191,7 @@ UNPACK = {
 UNPACKED = "ABC001.1.PAYROLL"
 WANTED = r"FILE ABC001 1 (COMPLETE|AWAITS) .*\n"
 UNPACK_REPORTS = {kind: {0: WANTED, 3: f"({WANTED})?(INCOMPLETE IMAGES\n)?"} for kind in "orwyl"}
-FAILED = re.compile(r"FILE ABC001 1 FAILED .*\n\Z")
+FAILED = re.compile(r"FILE ABC001 1 FAILED .*\n(INCOMPLETE IMAGES\n)?\Z")
 LEFT = r"(tape: .* could not be removed\n)+"
 # a draft that a refusal left: the next run removes it
 DRAFT = re.compile(r"\.tape-\d+\.part")
@@ -267,6 +267,10 @@ def run(options, library, trial, refusal):
 # ---- judging ----
 
 
+def reads_again(trial):
+    return "--again" in trial.words or trial.words[0] == "unpack"
+
+
 def may_change_nothing(trial, kind, error, answer):
     """Why a refusal may change nothing; None where it may not."""
     path = answer.path
@@ -284,8 +288,12 @@ def may_change_nothing(trial, kind, error, answer):
         return "/dev/null is opened"
     if kind == "o" and path == "/dev/null" and error == errno.EMFILE:
         return "no number is free, so no file can get that of a standard stream"
-    if kind == "o" and error == errno.EACCES and DRAFT.fullmatch(Path(path).name):
+    if kind in "ot" and error == errno.EACCES and DRAFT.fullmatch(Path(path).name):
         return "the directory takes no new file, so the output is written in place"
+    if kind in "ort" and reads_again(trial) and (path.endswith(".tap") or kind == "r"):
+        return "an image is read again"
+    if kind == "t" and path in (trial.result, f"./{trial.result}") and trial.result not in trial.files:
+        return "a name that nothing had is taken by a link, which looks for itself"
     if kind == "o" and error == errno.EACCES and path == ".":
         return "a directory that may not be read is not synced"
     return None
@@ -298,6 +306,11 @@ def may_be_silent(kind, all_later, right, answer):
 
 def wrong_text(trial, kind, all_later, right, answer):
     """Why status, fault line and lines are wrong; None where they are right."""
+    if kind in "lt" and (answer.status, answer.out, answer.err) == (right.status, right.out, right.err):
+        # another name was taken for the draft, since this one may be that of another run
+        return None if any(DRAFT.fullmatch(name) for name in answer.files) else "a refusal that is not told"
+    if reads_again(trial) and kind in "or" and (answer.status, answer.err) == (0, ""):
+        return None if re.fullmatch(REELS + r"COMPLETE \d+\n", answer.out) or answer.out == right.out else "the lines"
     report = trial.reports.get(kind)
     if report and (answer.status == 3 or (answer.status == 0 and answer.files == right.files)):
         told = answer.err == "" and re.fullmatch(report[answer.status], answer.out)
@@ -338,7 +351,7 @@ def wrong_files(trial, kind, right, answer):
             continue
         if whole is None or not whole.startswith(content):
             return f"the bytes of {name}"
-        if name == trial.result and answer.err not in ("tape: file fault 4\n", ""):
+        if name == trial.result and content and answer.err not in ("tape: file fault 4\n", ""):
             return f"a part of {name} without the fault of writing"
     gone = trial.files.keys() - answer.files.keys()
     return f"no {gone.pop()}" if gone else None
