@@ -196,11 +196,20 @@ int fdatasync(int file)
     return synced(file, SYS_fdatasync);
 }
 
-int rename(const char *from, const char *to)
+static int named(int done, const char *to)
 {
-    int done = (int)syscall(SYS_renameat2, AT_FDCWD, from, AT_FDCWD, to, 0);
     struct stat is;
     if (done == 0 && stat(to, &is) == 0)
         note('N', unsynced[place_of(is.st_ino)] != 0, to, strlen(to));
     return done;
+}
+
+int rename(const char *from, const char *to)
+{
+    return named((int)syscall(SYS_renameat2, AT_FDCWD, from, AT_FDCWD, to, 0), to);
+}
+
+int link(const char *from, const char *to)
+{
+    return named((int)syscall(SYS_linkat, AT_FDCWD, from, AT_FDCWD, to, 0), to);
 }
