@@ -1,9 +1,9 @@
 #!/usr/bin/env python3
 """Writes the list of definitions in docs/DEFINITIONS.md from the definitions themselves.
 
-READ names the definitions that have to be believed for the headline, in reading order. For each
-the list has its arguments and the comment above it in crates/NAME/specs/. The rest of the page is
-written by hand and stays.
+READ names the definitions that have to be believed for the headline, in reading order. The list has
+the arguments of each and the comment above it in crates/NAME/specs/; definitions that a comment does
+not add much to have their names only. The rest of the page is written by hand and stays.
 
     docs/definitions.py           writes the list
     docs/definitions.py --check   says if the list is out of date, with status 1
@@ -25,32 +25,51 @@ Definition = collections.namedtuple("Definition", "name words comment")
 # Definitions of the standard library that the page names.
 OF_STD = {"Appends", "Keeps", "Consumes", "IsAtEnd"}
 
-# What to read, in order: a heading, and files of a crate, each with the names that count or none
-# if all do.
+# Of a file all definitions count, and these have their comments on the page.
+Main = collections.namedtuple("Main", "names")
+
+# What to read, in order: a heading, and files of a crate, each with the names that count, or None if
+# all do.
 READ = [
-    ("What items bytes begin with", "tape_image",
-     {"Tape": None, "Word": None, "Spelling": None, "Begins": None}),
+    ("What items bytes begin with", "tape_image", {
+        "Tape": None,
+        "Word": Main(["IsWord", "block_len", "extent_of"]),
+        "Spelling": Main(["item_of", "IsFramed", "IsSpelling", "Leads", "EndsHere", "Spells"]),
+        "Begins": Main(["Stop", "Stops", "Stands", "Walks", "Begins"])}),
     ("Which characters a label has where", "tape_label", {
-        "Positions": None, "Digits": ["digits"], "Formats": None, "Kinds": None,
-        "VolumeLabels": ["IsOfVolume"], "Head1": None, "Head2": None, "Trail1": None,
-        "Reading": ["begins_as"]}),
-    ("Which parts a block has, in which order", "tape_blocks",
-     {"Block": None, "Spans": None, "Tight": ["Filled", "parts_of_all", "Chain"]}),
-    ("What is on a volume, and which sets are valid", "tape_set",
-     {"Layout": None, "Lawful": None}),
-    ("Positions, and how far one reading gets", "tape_set",
-     {"Position": None, "Before": None, "Reading": None, "Reach": None}),
+        "Positions": None, "Digits": ["digits"], "Formats": None,
+        "Kinds": Main(["identifier", "HasKind", "kind_at"]),
+        "VolumeLabels": ["IsOfVolume"], "Head1": None, "Head2": None,
+        "Trail1": Main(["IsTrail1"]), "Reading": ["begins_as"]}),
+    ("Which parts a block has, in which order", "tape_blocks", {
+        "Block": Main(["Portion", "head", "IsUnit", "IsPadding", "Holds"]),
+        "Spans": Main(["leaves", "InOrder", "join_after", "join"]),
+        "Tight": ["Filled", "parts_of_all", "Chain"]}),
+    ("What is on a volume, and which sets are valid", "tape_set", {
+        "Layout": Main(["Section", "Volume", "FileSet", "Entry", "section_entries", "entries_on",
+                        "up_to_data", "items"]),
+        "Lawful": Main(["IsVolumeLabel", "IsVolume", "label_count", "IsHeader", "IsTrailer",
+                        "IsSection", "FileForm", "HasForm", "Ends", "IsFile", "GoesOn",
+                        "IsLawful"])}),
+    ("Positions, and how far one reading gets", "tape_set", {
+        "Position": Main(["awaiting", "at_part", "IsBefore"]),
+        "Before": Main(["parts_before", "IsIn"]),
+        "Reading": None,
+        "Reach": Main(["passes", "good_run", "behind", "moved", "far_in", "far", "far_over"])}),
     ("Which reels are not of the set", "tape_core",
      {"Foreign": ["is_of_set", "labels_of_set", "is_vol1", "starts_set"]}),
     ("What happened, and where it leads", "tape_run", {
-        "Mount": None, "History": None, "Given": None, "Seen": ["Seen"],
-        "Headline": ["begins", "IsRead"]}),
-    ("What is in memory", "tape_core", {"Memory": ["portions"], "Entries": None}),
+        "Mount": None, "History": None, "Given": Main(["IsGiven", "AreGivenBy"]),
+        "Seen": ["Seen"], "Headline": ["begins", "IsRead"]}),
+    ("What is in memory", "tape_core",
+     {"Memory": ["portions"], "Entries": Main(["part_at", "IsLaid"])}),
     ("For any tape: the reading table", "tape_core", {
-        "Table": None, "Labels": None, "Parts": None, "Stands": ["weight_of"],
-        "Weight": ["IsFront"], "Place": ["rest_of"]}),
-    ("For any tape: where the table leads over reels and steps", "tape_run",
-     {"Reels": ["behind_items"], "ByTable": None, "Lead": None}),
+        "Table": Main(["Outcome", "step_of", "reader_of", "mounted", "saved", "restart_of"]),
+        "Labels": Main([]), "Parts": Main(["parts_in", "begun_before", "other_front"]),
+        "Stands": ["weight_of"], "Weight": ["IsFront"], "Place": ["rest_of"]}),
+    ("For any tape: where the table leads over reels and steps", "tape_run", {
+        "Reels": ["behind_items"], "ByTable": Main(["parts_at", "IsLed", "StopsInside"]),
+        "Lead": Main(["Lead", "lead", "AreItems", "StandsThere", "LeadsBy", "StopsBy"])}),
 ]
 
 
@@ -103,12 +122,15 @@ def definitions(crate, file):
 def listed(crate, file, names):
     """The entries of a file, and the names that it should define and does not."""
     found = list(definitions(crate, file))
-    wanted = [each for each in found if names is None or each.name in names]
+    main = isinstance(names, Main)
+    named = names.names if main else names
+    counted = [each for each in found if main or names is None or each.name in named]
+    shown = [each for each in counted if each.comment and (named is None or each.name in named)]
     out = [f"  - `{' '.join([each.name, *each.words])}`: {each.comment.rstrip('.')}"
-           for each in wanted if each.comment]
-    rest = [f"`{each.name}`" for each in wanted if not each.comment]
-    out += [f"  - and {', '.join(rest)}"] * bool(rest)
-    return out, sorted(set(names or []) - {each.name for each in found})
+           for each in shown]
+    rest = [f"`{each.name}`" for each in counted if each not in shown]
+    out += [f"  - and {', '.join(rest)}" if out else f"  - {', '.join(rest)}"] * bool(rest)
+    return out, sorted(set(named or []) - {each.name for each in found})
 
 
 def the_list():
@@ -118,7 +140,11 @@ def the_list():
         out += [f"### {number}. {heading}", ""]
         for file, names in files.items():
             entries, unknown = listed(crate, file, names)
-            out += [f"- `{crate}/specs/{file}`", *entries]
+            if len(entries) == 1:
+                entries = [f"- `{crate}/specs/{file}`: {entries[0].removeprefix('  - ')}"]
+            else:
+                entries = [f"- `{crate}/specs/{file}`", *entries]
+            out += entries
             missing += [f"definitions.py: {file} of {crate} does not define {name}"
                         for name in unknown]
         out.append("")
