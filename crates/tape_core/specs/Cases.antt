@@ -1,5 +1,5 @@
--- What the definitions of a reader and of sinks say of cases, so that none of them says less, or
--- asks more, than it should. The call `laws::cases` has them as its contract.
+-- Examples for the definitions of readers and sinks, so that none of them says less, or requires
+-- more, than it should. They are the contract of the call `laws::cases`.
 use Rattle.std.specs.Prelude.{◌≡◌, ◌≢◌, ◌<◌, ◌≤◌, ◌+◌, ◌⊎◌, ℕ, Bool, true, false, List, []}
 use Rattle.std.specs.Prelude.{◌∷◌, ◌++◌, length, drop, replicate, codes, slice_get, Option, Some}
 use Rattle.std.specs.Prelude.{None, Result, Ok, Err}
@@ -78,12 +78,12 @@ pub record CasesOfForeign : Type 0 where
   pub bad_first : (id : List ℕ) (rest : List TapeItem) → starts_set id (bad ∷ rest) ≡ false
   pub plain_first : begins_set (block (65 ∷ []) ∷ block hdr1 ∷ []) ≡ false
   pub header_first : begins_set (block hdr1 ∷ block hdr1 ∷ []) ≡ false
-  -- broken off behind its volume label, or with anything but an HDR1 there
+  -- a reel that ends after its volume label, or has something other than an HDR1 there
   pub label_alone : begins_set (block vol1 ∷ []) ≡ false
   pub mark_behind : (rest : List TapeItem) → begins_set (block vol1 ∷ mark ∷ rest) ≡ false
   pub bad_behind : (rest : List TapeItem) → begins_set (block vol1 ∷ bad ∷ rest) ≡ false
   pub second_behind : begins_set (block vol1 ∷ block hdr2 ∷ block hdr1 ∷ []) ≡ false
-  -- what is left of one behind its volume label, and what is left of one that is not read
+  -- the rest of a reel after its volume label, and the rest of one that is not read
   pub left_behind_label : (id : List ℕ) (rest : List TapeItem)
       → IsForeignAt id rest (awaiting 2 1) VolumeLabels → labels_of_set id rest ≡ false
   pub left_unread : (id : List ℕ) (rest : List TapeItem) → IsForeignAt id rest start Over
@@ -91,7 +91,7 @@ pub record CasesOfForeign : Type 0 where
       → IsForeignAt id rest Finished NextFile
   pub never_on_it : (id : List ℕ) (rest : List TapeItem) → IsForeignAt id rest start NextFile → ⊥
 
--- ---- where a reader stands
+-- ---- positions of a reader
 
 abbrev pub five_bytes : Portion
 five_bytes = record { span = First; bytes = codes "ABCDE" }
@@ -102,7 +102,7 @@ no_bytes = record { span = Whole; bytes = [] }
 -- of states, checkpoints and the parts beside them
 pub record CasesOfPlaces : Type 0 where
   pub weight : weight_of (five_bytes ∷ no_bytes ∷ []) ≡ 15
-  -- nothing is known at the start of a file, and elsewhere something that all its sections tell
+  -- nothing is known at the start of a file, and elsewhere what all its sections agree on
   pub start_unknown : (set : FileSet) (file : ℕ) → KnownAt set file start None
   pub start_known : (set : FileSet) (file : ℕ) (form : FileForm)
       → KnownAt set file start (Some form) → ⊥
@@ -110,18 +110,18 @@ pub record CasesOfPlaces : Type 0 where
   pub end_unknown : (set : FileSet) (file : ℕ) → KnownAt set file Finished None → ⊥
   pub behind_known : (set : FileSet) (file : ℕ) (form : FileForm)
       → KnownAt set file (awaiting 1 1) (Some form) → FileTells set file form
-  -- each section of the file tells its form
+  -- each section of the file has its form
   pub told_by_sections : (set : FileSet) (file sect : ℕ) (form : FileForm) (s : Section)
       → FileTells set file form → section_of set file sect ≡ Some s → TellsForm form s
-  -- what is true of each checkpoint
+  -- the invariant of checkpoints
   pub point_fits : (point : Point) → IsPoint point → IsFileNumber point.file
       × StandFits point.position point.begun point.known × (point.staged ≤ most_staged)
-  -- parts in memory lie one behind another
+  -- parts in memory follow one another
   pub parts_in_order : parts_from 0 (record { span = First; end = 2 }
       ∷ record { span = Whole; end = 2 } ∷ record { span = Whole; end = 3 } ∷ [])
       (65 ∷ 66 ∷ 67 ∷ []) ≡ record { span = First; bytes = 65 ∷ 66 ∷ [] }
       ∷ record { span = Whole; bytes = [] } ∷ record { span = Whole; bytes = 67 ∷ [] } ∷ []
-  -- what is said of a reader that stands in a file, and that this is all
+  -- what is known of a reader with a position in a file, and that this is all
   pub at : (set : FileSet) (core : State) → IsAt set core
       → (core.set_id ≡ set.set_id) × (is_broken core.phase ≡ false)
       × IsIn set core.file core.position
@@ -146,10 +146,10 @@ pub record CasesOfPlaces : Type 0 where
   -- and of a reader with parts
   pub placed : (set : FileSet) (core : State) (parts : List Portion) → IsPlaced set core parts
       → IsAt set core × (parts ≡ before set core.file core.position)
-  -- a checkpoint tells a reader with no reading under way, and of one that broke this is kept
+  -- a checkpoint describes a reader without a reading under way; a broken reader stays broken in it
   pub read_is : (reading 2 (true ∷ false ∷ [])).volume ≡ 2
   pub read_of : (reading 2 (true ∷ false ∷ [])).good ≡ true ∷ false ∷ []
-  -- the checkpoint inside a block awaits its part, with the weight that it is given
+  -- the checkpoint inside a block expects its part, with the weight that was passed
   pub in_block : (point : Point) → point.known ≡ None
       → ((inside_block point (awaiting 2 1) 3 true 20).position ≡ Awaits 2 1 3)
       × ((inside_block point (awaiting 2 1) 3 true 20).begun ≡ false)
@@ -164,7 +164,7 @@ pub record CasesOfPlaces : Type 0 where
       × ((rest_of core).file ≡ core.file) × ((rest_of core).position ≡ core.position)
       × ((rest_of core).begun ≡ core.begun) × ((rest_of core).known ≡ core.known)
 
--- ---- what a step leaves
+-- ---- the effect of a step
 
 -- of steps, restarts and shapes
 pub record CasesOfSteps : Type 0 where
@@ -181,8 +181,8 @@ pub record CasesOfSteps : Type 0 where
       × (IsFinal out.0 → (more : List Bool)
       → far set out.1.file p (reading k (good ++ more)) ≡ out.1.position)
   pub goes_on : (IsFinal Passed → ⊥) × (IsFinal Deliver → ⊥) × IsFinal Complete
-  -- a delivered block is the one of the section at the position awaited, and its parts from the
-  -- awaited one on are the next ones of the file
+  -- a delivered block is the one of the section at the expected position, and its parts from the
+  -- expected one on are the next parts of the file
   pub delivered_block : (set : FileSet) (item : TapeItem) (old new : State)
       (d : Delivers set item old new)
       → (old.position ≡ Awaits d.sect d.place d.part)
@@ -201,7 +201,7 @@ pub record CasesOfSteps : Type 0 where
   pub passed_gives_none : (set : FileSet) (item : TapeItem) (old new : State)
       → Gives set item Passed old new
       → before set new.file new.position ≡ before set old.file old.position
-  -- lawful or not, a delivered block holds the awaited part
+  -- in valid and invalid sets, a delivered block contains the expected part
   pub checked_block : (arrived : Option TapeItem) (old new : State) (c : Checked arrived old new)
       → (arrived ≡ Some (block c.bytes)) × (new.known ≡ Some c.form)
       × Holds c.form.format c.form.rec_len c.form.offset c.bytes c.parts
@@ -218,8 +218,8 @@ pub record CasesOfSteps : Type 0 where
 
 -- ---- sinks
 
--- a sink, told by the parts that come back of it and by whether something does, now and since each
--- moment, and by the moment
+-- a sink, described by the parts that may remain after a crash and whether anything remains, now
+-- and since each moment
 pub record Comes : Type 0 where
   pub back : List Portion
   pub survives : Bool
@@ -227,7 +227,7 @@ pub record Comes : Type 0 where
   pub back_since : ℕ → List Portion
   pub survived : ℕ → Bool
 
--- what crashes do to such a sink
+-- the effect of crashes on such a sink
 abbrev pub coming : Comes → Crashes
 coming s = record {
   returns = λ c ps. ps ≡ s.back;
@@ -237,8 +237,8 @@ coming s = record {
   survived = λ t. s.survived t ≡ true;
 }
 
--- a walk over a sink, told by what it has: the parts kept and those to come, a weight, a count of
--- refused calls, what comes back, and what is left
+-- a walk over a sink: the parts of the sink and those to come, a weight, a count of refused calls,
+-- and what may remain after a crash
 pub record Walk : Type 0 where
   pub kept : List Portion
   pub ahead : List Portion
@@ -253,7 +253,7 @@ Walks old result new = HasGiven (λ s ps. s.kept ≡ ps) (λ s. s.weight) (λ s.
     (λ s. coming s.comes) (λ s ps. s.ahead ≡ ps) (λ s. s.left)
     (λ s fault t. s.left ≡ 7) old result new
 
--- what comes back is this alone
+-- this alone remains
 abbrev pub OneComesBack : List Portion → Returns
 OneComesBack parts back there = there ≡ parts
 
@@ -262,13 +262,13 @@ pub record CasesOfSinks : Type 0 where
   pub front : IsFront (five_bytes ∷ []) (five_bytes ∷ no_bytes ∷ [])
   pub no_front : IsFront (no_bytes ∷ []) (five_bytes ∷ no_bytes ∷ []) → ⊥
   pub longer : IsFront (five_bytes ∷ []) [] → ⊥
-  -- a count that stands did not rise, but at its greatest value; and none falls
+  -- a count that is unchanged did not rise, unless it is at its greatest value; and none falls
   pub stands_still : Rose 3 3 → ⊥
   pub falls : Rose 3 2 → ⊥
   pub rises : Rose 3 4
   pub stays_greatest : Rose 18446744073709551615 18446744073709551615
-  -- what was given is the next part, what is refused is still to come, and none is given where
-  -- some are to come
+  -- the part returned is the next one, a refused part is still to come, and a part is returned if
+  -- one is to come
   pub given_is_next : (part : Part) (p : Portion) (parts : List Portion)
       → GivesPart (Ok (Some part)) (p ∷ []) (λ ps. ps ≡ parts) → (p ≡ view part) × (parts ≡ [])
   pub refused_is_ahead : (fault : SinkFault) (parts ahead : List Portion)
@@ -278,7 +278,8 @@ pub record CasesOfSinks : Type 0 where
   pub counted : (fault : SinkFault) → Counts (Err fault) 3 3 → ⊥
   pub lent : (part : Part) (old new : ℕ) → Lends (Ok (Some part)) old new
       → (length part.bytes.now ≤ longest_block) × (new < old)
-  -- a walk keeps the parts and their weight, and brings nothing new back after a crash
+  -- a walk changes neither the parts nor their weight, and adds nothing to what may remain after a
+  -- crash
   pub walk_keeps : (old new : Walk) (result : Result (Option Part) SinkFault)
       → Walks old result new → (new.kept ≡ old.kept) × (new.weight ≡ old.weight)
       × AddsNothing (coming old.comes) (coming new.comes)
@@ -287,7 +288,7 @@ pub record CasesOfSinks : Type 0 where
       × Lends result old.left new.left × Counts result old.refused new.refused
   pub walk_refuses : (old new : Walk) (fault : SinkFault) → Walks old (Err fault) new
       → old.left ≡ 7
-  -- what may come back after a crash: what could before, or this, or this alone
+  -- what may remain after a crash: what could before, or this, or this alone
   pub this : (point other : Point) (parts more : List Portion) → IsThis point parts other more
       → (other ≡ point) × (more ≡ parts)
   pub only_this : (point other : Point) (parts more : List Portion)
@@ -296,7 +297,7 @@ pub record CasesOfSinks : Type 0 where
   pub this_alone : (point : Point) (parts : List Portion) (s : Comes)
       → ThisAlone point parts (coming s)
       → (s.back ≡ parts) × (s.back_since s.moment ≡ parts)
-  -- of a call that adds nothing, and of one that adds these: now, and since each moment up to it
+  -- for a call that adds nothing, and for one that adds these parts: now, and at each moment since
   pub adds_nothing : (old new : Comes) → AddsNothing (coming old) (coming new)
       → (new.back ≡ old.back) × (old.survives ≡ true → new.survives ≡ true)
   pub added_nothing : (old new : Comes) (t : ℕ) → t ≤ old.moment
@@ -310,7 +311,7 @@ pub record CasesOfSinks : Type 0 where
       → AddsOnly (OneComesBack these) (coming old) (coming new)
       → ((new.back_since t ≡ old.back_since t) ⊎ (new.back_since t ≡ these))
       × (old.survived t ≡ true → new.survived t ≡ true)
-  -- of what is lost in every crash nothing comes back
+  -- if every crash loses all, nothing remains
   pub lost_now : (back : Point) (there : List Portion) → lost.returns back there → ⊥
   pub lost_since : (t : ℕ) (back : Point) (there : List Portion)
       → lost.returned t back there → ⊥

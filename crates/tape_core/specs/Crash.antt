@@ -1,15 +1,15 @@
--- What a crash may bring back.
+-- What may remain after a crash.
 use Rattle.std.specs.Prelude.{◌≡◌, ◌⊎◌, ℕ, ◌≤◌, List}
 use Rattle.tape_blocks.specs.Block.{Portion}
 use Rattle.tape_core.specs.Point.{Point}
 
--- what may come back after a crash: a checkpoint, and parts
+-- what may remain after a crash: a checkpoint, and parts
 abbrev pub Returns : Type 1
 Returns = Point → List Portion → Type 0
 
--- What crashes do to a sink. After one now it may come back with these, and whatever is left it
--- comes back with something; the moment is a number that doesn't fall; and the same of a crash now,
--- or at any moment from that one on, during a call or between two.
+-- The effect of crashes on a sink: whether it may contain this after a crash now, and whether it
+-- then always contains something; the current moment, a number that never falls; and the same for a
+-- crash now or at any moment from a given one on, during a call or between two calls.
 pub record Crashes : Type 1 where
   pub returns : Returns
   pub survives : Type 0
@@ -17,7 +17,7 @@ pub record Crashes : Type 1 where
   pub returned : ℕ → Returns
   pub survived : ℕ → Type 0
 
--- nothing comes back
+-- nothing remains
 abbrev pub lost : Crashes
 lost = record {
   returns = λ back there. ⊥;
@@ -31,18 +31,18 @@ lost = record {
 abbrev pub IsThis : Point → List Portion → Returns
 IsThis point parts back there = (back ≡ point) × (there ≡ parts)
 
--- nothing may come back but this checkpoint with these parts
+-- only this checkpoint with these parts may remain
 abbrev pub OnlyThis : Point → List Portion → Returns → Type 0
 OnlyThis point parts new = (back : Point) (there : List Portion)
     → new back there → IsThis point parts back there
 
--- nothing may come back but this checkpoint with these parts, now and from this moment on
+-- only this checkpoint with these parts may remain, now and from this moment on
 abbrev pub ThisAlone : Point → List Portion → Crashes → Type 0
 ThisAlone point parts now =
     OnlyThis point parts now.returns × OnlyThis point parts (now.returned now.moment)
 
--- No more may come back than these, of a crash now and at any moment since old; and where something
--- comes back whatever a crash leaves it does so still, and did at each such moment.
+-- Only these may be added to what may remain, after a crash now or at any moment since old; and if
+-- something remains after every crash in old, it does now, and did at each such moment.
 pub record AddsOnly (these : Returns) (old new : Crashes) : Type 0 where
   pub now : (back : Point) (there : List Portion) → new.returns back there
       → old.returns back there ⊎ these back there
@@ -52,7 +52,7 @@ pub record AddsOnly (these : Returns) (old new : Crashes) : Type 0 where
   pub survives : old.survives → new.survives
   pub survived : (t : ℕ) → t ≤ old.moment → old.survived t → new.survived t
 
--- nothing more may come back, of a crash now and at any moment since old; and where something comes
--- back whatever a crash leaves it does so still, and did at each such moment
+-- nothing is added to what may remain, after a crash now or at any moment since old; and if
+-- something remains after every crash in old, it does now, and did at each such moment
 abbrev pub AddsNothing : Crashes → Crashes → Type 0
 AddsNothing old new = AddsOnly (λ back there. ⊥) old new

@@ -1,4 +1,4 @@
--- Parts whose bytes lie one behind another.
+-- Parts whose bytes follow one another.
 use Rattle.std.specs.Prelude.{◌≡◌, ◌≤◌, ℕ, ◌+◌, List, [], ◌∷◌, length, slice_range, Option, Some}
 use Rattle.std.specs.Prelude.{None}
 use Rattle.std.proofs.Props.{props}
@@ -8,11 +8,11 @@ use Rattle.tape_blocks.specs.Block.{Portion}
 use Rattle.tape_blocks.specs.Packing.{longest_block}
 use Rattle.tape_core.specs.declared.event.Entry.{Entry}
 
--- the part that an entry tells, which begins at `start` of the bytes
+-- the part of an entry, which begins at `start` of the bytes
 abbrev pub part_at : ℕ → Entry → List ℕ → Portion
 part_at start e bytes = record { span = e.span; bytes = slice_range bytes start e.end }
 
--- the parts that the entries tell, of which the first begins at `start` of the bytes
+-- the parts of the entries, the first of which begins at `start` of the bytes
 abbrev pub parts_from : ℕ → List Entry → List ℕ → List Portion
 parts_from start [] bytes = []
 parts_from start (e ∷ es) bytes = part_at start e bytes ∷ parts_from e.end es bytes

@@ -1,4 +1,4 @@
--- How the reader's state lies to a reading of a lawful set's volume: what is still to come of the
+-- How the reader's state relates to a reading of a valid set's volume: what is still to come of the
 -- volume in each phase.
 use Rattle.std.specs.Prelude.{◌≡◌, ◌≢◌, ◌<◌, ◌≤◌, ◌⊎◌, ℕ, List, [], ◌∷◌, ◌++◌, ◌+◌, Bool, true}
 use Rattle.std.specs.Prelude.{false, Option, Some, None, map, drop, length, is_some, slice_get}
@@ -38,24 +38,24 @@ use Rattle.tape_core.specs.Table.{Outcome, other_numbers}
 
 -- ---- the reader and its file
 
--- All sections of the file tell this form.
+-- All sections of the file have this form.
 abbrev pub FileTells : FileSet → ℕ → FileForm → Type 0
 FileTells set file form = (sect : ℕ) (s : Section) → section_of set file sect ≡ Some s
     → TellsForm form s
 
--- what is known at a position: nothing at the file's start, and else the form of the file
+-- what is known at a position: nothing at the file's start, otherwise the form of the file
 abbrev pub KnownAt : FileSet → ℕ → Position → Option FileForm → Type 0
 KnownAt set file p known = MatchBool (is_start p) (known ≡ None)
     ((form : FileForm) × (known ≡ Some form) × FileTells set file form)
 
--- The position is one of the file, and what is begun and known is so there.
+-- The position is one of the file, with the matching state of the record and the matching form.
 pub record StandsAt (set : FileSet) (file : ℕ) (p : Position) (begun : Bool)
     (known : Option FileForm) : Type 0 where
   pub inside : IsIn set file p
   pub span : begun ≡ begun_behind false (before set file p)
   pub tells : KnownAt set file p known
 
--- The reader is one of the set, stands in its file, and is not broken.
+-- The reader is one of the set, has a position in its file, and is not broken.
 pub record IsAt (set : FileSet) (core : State) : Type 0 where
   pub of_set : core.set_id ≡ set.set_id
   pub sound : is_broken core.phase ≡ false
@@ -66,24 +66,24 @@ pub record IsAt (set : FileSet) (core : State) : Type 0 where
 abbrev pub reading : ℕ → List Bool → Reading
 reading k good = record { volume = k; good = good }
 
--- what stands on a volume from these sections on
+-- the contents of a volume from these sections on
 abbrev pub to_come : List Placed → List Entry
 to_come later = all_entries later ++ a_mark ∷ []
 
--- todo is what is left of volume k behind what was read, of which none is bad but data blocks
+-- todo is the rest of volume k after what was read; only data blocks of what was read are bad
 pub record Left (set : FileSet) (k : ℕ) (good : List Bool) (todo : List Entry) : Type 0 where
   pub done : List Entry
   pub whole : done ++ todo ≡ entries set k
   pub count : length done ≡ length good
   pub fine : passes good done ≡ true
 
--- later are the sections on volume k behind some of earlier files
+-- later are the sections on volume k after some of earlier files
 pub record Among (set : FileSet) (k file : ℕ) (later : List Placed) : Type 0 where
   pub past : List Placed
   pub all : past ++ later ≡ on k (sections set)
   pub earlier_files : AllByRecursion (λ x. x.file < file) past
 
--- the labels tell this of the section's file, if they were read
+-- the form in the labels of the section's file, if they were read
 abbrev pub Tells : Option FileForm → Section → Type 0
 Tells None s = Unit {0}
 Tells (Some form) s = TellsForm form s
@@ -98,13 +98,14 @@ FitsHeading heading b = (t : Trail1) × IsTrail1 b t × (other_numbers heading t
 abbrev pub IsNoHeader : List ℕ → Type 0
 IsNoHeader b = (h : Head1) → IsHead1 b h → ⊥
 
--- What is left leads nowhere from the phase: no HDR1 can come where the next file is expected ..
+-- The rest cannot move the position in this phase: no HDR1 can come where the next file is expected
+-- ..
 abbrev pub BarrenNext : List Entry → Type 0
 BarrenNext (a_label b ∷ es) = IsNoHeader b
 BarrenNext (a_data_block b ∷ es) = IsNoHeader b
 BarrenNext _ = Unit {0}
 
--- .. behind a trailer ..
+-- .. after a trailer ..
 abbrev pub BarrenTrailers : List Entry → Type 0
 BarrenTrailers [] = Unit {0}
 BarrenTrailers (a_mark ∷ es) = BarrenNext es
@@ -116,24 +117,24 @@ BarrenTrailer heading (a_label b ∷ es) = FitsHeading heading b → BarrenTrail
 BarrenTrailer heading (a_data_block b ∷ es) = FitsHeading heading b → BarrenTrailers es
 BarrenTrailer heading _ = Unit {0}
 
--- .. and in data passed over, where a mark may be read or be bad
+-- .. and in skipped data, where a mark may be read or be bad
 abbrev pub BarrenData : Heading → List Entry → Type 0
 BarrenData heading [] = Unit {0}
 BarrenData heading (a_mark ∷ es) = BarrenTrailer heading es × BarrenData heading es
 BarrenData heading (_ ∷ es) = BarrenData heading es
 
--- ---- the phases, of a reading of volume k that began where this part of this block was awaited
+-- ---- the phases, for a reading of volume k that began when this part of this block was expected
 
 module _ (set : FileSet) (file sect block part k : ℕ) where
   abbrev pub Here : Position
   Here = Awaits sect block part
 
-  -- The section is the one that is awaited, or of an earlier file.
+  -- The section is the one needed, or belongs to an earlier file.
   abbrev pub IsChosen : Bool → Placed → Type 0
   IsChosen true x = (x.file ≡ file) × (x.sect ≡ sect)
   IsChosen false x = x.file < file
 
-  -- A section is under way, with this left of it.
+  -- A section is being read, and this is the rest of it.
   pub record Inside (good : List Bool) (heading : Heading) (wanted : Bool) (x : Placed)
       (rest : List Entry) : Type 0 where
     pub later : List Placed
@@ -147,11 +148,11 @@ module _ (set : FileSet) (file sect block part k : ℕ) where
     pub fine : passes good (before_data set file sect s) ≡ true
     pub rest : drop (length (before_data set file sect s)) good ≡ seen
 
-  -- the block that is awaited after the data blocks of which seen tells
+  -- the block expected after the data blocks that `seen` describes
   abbrev pub block_after : List Bool → ℕ
   block_after seen = block + good_run (drop block seen)
 
-  -- Behind the header of the section awaited, with these of its blocks to come.
+  -- After the header of the section needed, with these of its blocks to come.
   pub record InData (good : List Bool) (heading : Heading) (form : FileForm) (count : ℕ)
       (position : Position) (x : Placed) : Type 0 where
     pub seen : List Bool
@@ -166,7 +167,7 @@ module _ (set : FileSet) (file sect block part k : ℕ) where
     pub awaited : position ≡ stopped Here sect block (block_after seen)
     pub not_behind : count ≤ block_after seen
 
-  -- Behind the data of the section awaited and the mark that closes it.
+  -- After the data of the section needed and the mark that closes it.
   pub record AtTrailer (good : List Bool) (heading : Heading) (form : FileForm)
       (position : Position) (x : Placed) : Type 0 where
     pub seen : List Bool
@@ -178,7 +179,7 @@ module _ (set : FileSet) (file sect block part k : ℕ) where
     pub all_awaited : block_after seen ≡ length x.section.blocks
     pub awaited : position ≡ stopped Here sect block (length x.section.blocks)
 
-  -- A mark was read as bad and passed as data: whatever comes, this reading goes no further.
+  -- An unreadable mark was taken for data: whatever comes, this reading gets no further.
   pub record Astray (good : List Bool) (Barren : List Entry → Type 0) : Type 0 where
     pub todo : List Entry
     pub done : List Entry
@@ -191,7 +192,7 @@ module _ (set : FileSet) (file sect block part k : ℕ) where
   abbrev pub Waits : Position → Type 0
   Waits position = position ≡ Here
 
-  -- The phase and the position after the items of which good tells.
+  -- The phase and the position after the items that good describes.
   abbrev pub Follows : Phase → Position → List Bool → Type 0
   Follows Over position good = (more : List Bool) → far set file Here (reading k (good ++ more))
       ≡ position
@@ -239,8 +240,8 @@ FollowsFrom set file Finished k good phase position = position ≡ Finished
 FollowsFrom set file (Awaits sect b part) k good phase position =
     Follows set file sect b part k phase position good
 
--- The reader follows a reading of volume k that began at p, and good tells which of the items so
--- far were read well.
+-- The reader follows a reading of volume k that began at p, and good says which of the items so far
+-- were read well.
 pub record IsReading (set : FileSet) (p : Position) (k : ℕ) (good : List Bool)
     (core : State) : Type 0 where
   pub from : IsIn set core.file p
@@ -255,13 +256,13 @@ IsFinal Passed = ⊥
 IsFinal Deliver = ⊥
 IsFinal _ = Unit {0}
 
--- No more of this reading changes the position.
+-- The rest of this reading does not change the position.
 abbrev pub IsDone : FileSet → Position → ℕ → List Bool → State → Type 0
 IsDone set p k good core = (more : List Bool) → far set core.file p (reading k (good ++ more))
     ≡ core.position
 
--- The block that was awaited came: it holds its parts in the file's form, and those of them that
--- were not delivered before are the next ones of the file.
+-- The expected block came: it contains its parts in the file's form, and those not delivered before
+-- are the next parts of the file.
 pub record Delivers (set : FileSet) (item : TapeItem) (old new : State) : Type 0 where
   pub sect : ℕ
   pub place : ℕ
@@ -286,7 +287,7 @@ abbrev pub Gives : FileSet → TapeItem → Answer → State → State → Type 
 Gives set item Deliver old new = Delivers set item old new
 Gives set item _ old new = before set new.file new.position ≡ before set old.file old.position
 
--- What a step keeps and gives, good being what was read with its item.
+-- What a step preserves and delivers; good says what was read together with its item.
 pub record Kept (set : FileSet) (p : Position) (k : ℕ) (good : List Bool) (item : TapeItem)
     (core : State) (out : Outcome) : Type 0 where
   pub reads : IsReading set p k good out.1
@@ -294,7 +295,7 @@ pub record Kept (set : FileSet) (p : Position) (k : ℕ) (good : List Bool) (ite
   pub gives : Gives set item out.0 core out.1
   pub done : IsFinal out.0 → IsDone set p k good out.1
 
--- A step that changes nothing but what is expected, behind a whole volume.
+-- After a complete volume a step changes only what is expected next.
 pub record Idle (set : FileSet) (p : Position) (k : ℕ) (good : List Bool) (core : State)
     (out : Outcome) : Type 0 where
   pub reads : IsReading set p k good out.1
@@ -302,8 +303,8 @@ pub record Idle (set : FileSet) (p : Position) (k : ℕ) (good : List Bool) (cor
   pub same_position : out.1.position ≡ core.position
   pub silent : out.0 ≢ Deliver
 
--- The block that came was delivered, lawful or not: it holds parts in order in the form that is
--- known now, of those at least the one awaited, and the position is behind it.
+-- The block was delivered, in a valid or invalid set: it contains parts in order in the form that
+-- is now known, at least up to the expected one, and the position is after the block.
 pub record Checked (arrived : Option TapeItem) (old new : State) : Type 0 where
   pub bytes : List ℕ
   pub form : FileForm

@@ -1,4 +1,4 @@
--- Reels that are none of the set.
+-- Reels that do not belong to the set.
 use Rattle.std.specs.Prelude.{◌≡◌, ◌≢◌, ◌&&◌, Bool, true, false, if◌then◌else◌, ℕ, List, ◌∷◌}
 use Rattle.std.specs.Prelude.{Option, Some, Result, Ok, Err}
 use Rattle.std.specs.Str.{bytes_eq}
@@ -40,19 +40,19 @@ abbrev pub starts_set : List ℕ → List TapeItem → Bool
 starts_set set_id (block b ∷ rest) = is_vol1 (kind_at b) && labels_of_set set_id rest
 starts_set set_id _ = false
 
--- what is still to come of a reel that is none of the set, by what is expected
+-- the rest of a reel that does not belong to the set, by what is expected next
 abbrev pub IsForeignIn : List ℕ → List TapeItem → Phase → Type 0
 IsForeignIn set_id rest Over = Unit {0}
 IsForeignIn set_id rest Volume = starts_set set_id rest ≡ false
 IsForeignIn set_id rest VolumeLabels = labels_of_set set_id rest ≡ false
 IsForeignIn set_id rest _ = ⊥
 
--- the same at a position; a file that is complete wants nothing
+-- the same at a position; a complete file needs nothing
 abbrev pub IsForeignAt : List ℕ → List TapeItem → Position → Phase → Type 0
 IsForeignAt set_id rest Finished phase = Unit {0}
 IsForeignAt set_id rest (Awaits sect place part) phase = IsForeignIn set_id rest phase
 
--- A step over a foreign reel changes nothing but what is expected.
+-- A step over a foreign reel changes only what is expected next.
 pub record Unmoved (set : FileSet) (rest : List TapeItem) (core : State)
     (out : Outcome) : Type 0 where
   pub at : IsAt set out.1

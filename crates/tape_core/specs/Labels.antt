@@ -1,4 +1,4 @@
--- Which blocks are taken for which labels, and how what labels tell is compared.
+-- Which blocks count as which labels, and how labels are compared.
 use Rattle.std.specs.Prelude.{ℕ, ◌==◌, ◌&&◌, not, Bool, false, if◌then◌else◌, List, length, Option}
 use Rattle.std.specs.Prelude.{Some, None}
 use Rattle.std.specs.Str.{bytes_eq}
@@ -14,11 +14,11 @@ use Rattle.tape_core.specs.declared.event.Heading.{Heading}
 abbrev pub not_of_kind : List ℕ → LabelFault
 not_of_kind block = if length block == 80 then faults.Identifier else faults.NotEighty
 
--- what is kept of an HDR1 while its section is under way
+-- what is remembered of an HDR1 while its section is being read
 abbrev pub heading_of : Head1 → Heading
 heading_of h = record { sequence = h.sequence; sect = h.sect; file_id = h.file_id }
 
--- what the labels of a section tell of its file
+-- what the labels of a section say of its file
 abbrev pub form_at : Heading → Head2 → FileForm
 form_at heading g =
     record {

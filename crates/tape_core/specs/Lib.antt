@@ -1,21 +1,21 @@
--- What has to be believed of a reader over a lawful set: its state, how it stands in its file and
--- follows a reading, what stands, and which reels are foreign.
+-- Definitions to believe for a reader over a valid set: its state, how it follows a reading, valid
+-- checkpoints, and which reels are foreign.
 pub mod State
 pub mod Follows
 pub mod Stands
 pub mod Place
 pub mod Foreign
--- Checkpoints: what is true of each, and the same as tests.
+-- Checkpoints: their invariant, and the same as tests.
 pub mod Known
 pub mod Point
 pub mod Range
--- Sinks: what their calls promise, and what the one in memory keeps.
+-- Sinks: the contracts of their calls, and what the sink in memory contains.
 pub mod Weight
 pub mod Crash
 pub mod Walks
 pub mod Entries
 pub mod Memory
--- The reading table, which is what a step does of any items.
+-- The reading table: the effect of a step for any items.
 pub mod Arrive
 pub mod Labels
 pub mod Parts

@@ -1,4 +1,4 @@
--- What a sink in memory keeps.
+-- The contents of a sink in memory.
 use Rattle.std.specs.Prelude.{List}
 use Rattle.tape_blocks.specs.Block.{Portion}
 use Rattle.tape_core.specs.Entries.{parts_from}

@@ -1,4 +1,4 @@
--- Where a reader stands from reel to reel, and for which parts.
+-- The state of a reader between two reels, and the parts before its position.
 use Rattle.std.specs.Prelude.{◌≡◌, List}
 use Rattle.tape_blocks.specs.Block.{Portion}
 use Rattle.tape_set.specs.Layout.{FileSet}
@@ -9,7 +9,7 @@ use Rattle.tape_core.specs.State.{State}
 use Rattle.tape_core.specs.Point.{Point}
 use Rattle.tape_core.specs.Follows.{IsAt}
 
--- what is kept of the phase: only whether it is broken
+-- what remains of the phase: only whether the reader is broken
 abbrev pub resting : Phase → Phase
 resting Broken = Broken
 resting _ = Over
@@ -18,7 +18,7 @@ resting _ = Over
 abbrev pub rest_of : State → State
 rest_of core = record core { phase = resting core.phase }
 
--- the state that a checkpoint tells
+-- the state that a checkpoint describes
 abbrev pub place_of : Point → State
 place_of c =
     record {
@@ -31,7 +31,7 @@ place_of c =
       phase = Over;
     }
 
--- The reader stands in a file of the set, and these are the parts before it.
+-- The reader has a position in a file of the set, and these are the parts before it.
 pub record IsPlaced (set : FileSet) (core : State) (parts : List Portion) : Type 0 where
   pub at : IsAt set core
   pub all : parts ≡ before set core.file core.position

@@ -1,4 +1,4 @@
--- The rules that a checkpoint keeps, as tests.
+-- The invariant of a checkpoint, as tests.
 use Rattle.std.specs.Prelude.{ℕ, nat_le, ◌==◌, ◌&&◌, ◌||◌, not, Bool, true, Option, Some, None}
 use Rattle.tape_label.specs.declared.values.Format.{Format}
 use Rattle.tape_label.specs.declared.values.Format.TheVariants.{Fixed, Counted, Spanned}
@@ -10,13 +10,13 @@ use Rattle.tape_set.specs.Lawful.{FileForm, most_blocks}
 use Rattle.tape_core.specs.Known.{may_span, is_finished, most_staged}
 use Rattle.tape_core.specs.Point.{Point}
 
--- records of format F have a length, from 1 to 99,999; in the other formats none is told
+-- records of format F have a length, from 1 to 99,999; in the other formats it is 0
 abbrev pub length_in_range : Format → ℕ → Bool
 length_in_range Fixed rec_len = nat_le 1 rec_len && nat_le rec_len longest_block
 length_in_range Counted rec_len = rec_len == 0
 length_in_range Spanned rec_len = rec_len == 0
 
--- what is known of a file has its digits
+-- the numbers of a form are in range
 abbrev pub form_in_range : FileForm → Bool
 form_in_range form = length_in_range form.format form.rec_len && nat_le form.offset 99
 
@@ -26,12 +26,12 @@ position_in_range (Awaits sect block part) = nat_le 1 sect && nat_le sect 9999
     && nat_le block most_blocks && nat_le part longest_block
 position_in_range Finished = true
 
--- something is known of the file exactly where it is not at its start
+-- the form is known exactly if the position is not the file's start
 abbrev pub known_where_due : Option FileForm → Position → Bool
 known_where_due None position = is_start position
 known_where_due (Some form) position = not (is_start position)
 
--- a record may be begun before the end of a file of format S
+-- a record may be unfinished before the end of a file of format S
 abbrev pub may_begin : Option FileForm → Position → Bool
 may_begin known position = may_span known && not (is_finished position)
 

@@ -20,25 +20,25 @@ abbrev pub is_broken : Phase → Bool
 is_broken Broken = true
 is_broken _ = false
 
--- whether data of the section awaited follow
+-- whether data of the section needed come next
 abbrev pub wants_data : Phase → Bool
 wants_data (DataWanted heading form seen) = true
 wants_data _ = false
 
--- the form that the labels of the section awaited told, where they were read
+-- the form in the labels of the section needed, if they were read
 abbrev pub told : Phase → Option FileForm
 told (Headers heading wanted) = wanted
 told (DataWanted heading form seen) = Some form
 told (TrailerWanted heading form) = Some form
 told _ = None
 
--- a record that is begun may run on by what the labels told, if they were read
+-- an unfinished record may continue by the labels, if they were read
 abbrev pub ToldFits : Bool → Option FileForm → Type 0
 ToldFits begun None = Unit {0}
 ToldFits begun (Some form) = begun ≡ true → is_spanned form.format ≡ true
 
--- What is true of every reader: its file has a number, it stands where a reader may stand, and
--- where a record is begun the labels that were read since tell that records may run on.
+-- The invariant of every reader: its file has a number, its position is valid, and if a record is
+-- unfinished, the labels read since then allow records to continue.
 pub record IsState (file : ℕ) (position : Position) (begun : Bool) (known : Option FileForm)
     (phase : Phase) : Type 0 where
   pub numbered : IsFileNumber file

@@ -1,4 +1,4 @@
--- What the reader answers to each item, and the state that it goes on in.
+-- The reader's answer to each item, and the state after it.
 use Rattle.std.specs.Prelude.{◌≡◌, ℕ, ◌+◌, ◌==◌, nat_lt, ◌&&◌, not, Bool, true, false}
 use Rattle.std.specs.Prelude.{if◌then◌else◌, List, Option, Some, None, Result, Ok, Err}
 use Rattle.std.specs.Str.{bytes_eq}
@@ -53,7 +53,7 @@ Outcome = Answer × State
 abbrev pub in_phase : State → Phase → State
 in_phase core phase = record core { phase = phase }
 
--- what came was expected, and now this is
+-- the item was expected; sets what is expected next
 abbrev pub passed : State → Phase → Outcome
 passed core phase = (Passed, in_phase core phase)
 
@@ -61,24 +61,24 @@ passed core phase = (Passed, in_phase core phase)
 abbrev pub useless : State → Reason → Outcome
 useless core why = (Useless why, in_phase core Over)
 
--- the same, and no reading goes on until a restart
+-- the same, and no reading begins before a restart
 abbrev pub broken : State → Reason → Outcome
 broken core why = (Useless why, in_phase core Broken)
 
--- the position, with what is begun and known there
+-- the position, with the record state and the form there
 abbrev pub moved_to : State → Position → Bool → FileForm → Phase → State
 moved_to core position begun form phase =
     record core { position = position; begun = begun; known = Some form; phase = phase }
 
--- ---- the rules, in the order in which a volume stands
+-- ---- the rules, in the order in which a volume is laid out
 
--- VOL1 is expected, and any other block is no front of a labelled volume
+-- VOL1 is expected; a reel that begins with any other block is not a labelled volume
 abbrev pub first_label : State → Option Kind → Outcome
 first_label core (Some kinds.Vol1) = passed core VolumeLabels
 first_label core _ = useless core NotLabelled
 
 -- HDR1: set, file, section and file identifier are compared, in this order; a section of an earlier
--- file is passed over
+-- file is skipped
 abbrev pub at_head1 : State → Result Head1 LabelFault → Outcome
 at_head1 core (Err fault) = useless core (BadLabel fault)
 at_head1 core (Ok h) =
@@ -95,63 +95,63 @@ abbrev pub first_labels : State → List ℕ → Option Kind → Outcome
 first_labels core bytes (Some kinds.Hdr1) = at_head1 core (head1_at bytes)
 first_labels core bytes _ = useless core NotLabelled
 
--- HDR2 of the section awaited: format, record length and offset are those that are known
+-- HDR2 of the section needed: format, record length and offset are those that are known
 abbrev pub at_head2 : State → Heading → Result Head2 LabelFault → Outcome
 at_head2 core heading (Err fault) = useless core (BadLabel fault)
 at_head2 core heading (Ok g) =
     if other_shape core.known (form_at heading g) then useless core SectionDiffers
     else passed core (Headers heading (Some (form_at heading g)))
 
--- HDR2 is expected, and of a section passed over its kind alone is looked at
+-- HDR2 is expected; in a skipped section only its kind is checked
 abbrev pub second_label : State → Heading → Bool → List ℕ → Option Kind → Outcome
 second_label core heading false bytes (Some kinds.Hdr2) = passed core (Headers heading None)
 second_label core heading true bytes (Some kinds.Hdr2) = at_head2 core heading (head2_at bytes)
 second_label core heading wanted bytes _ = useless core (BadLabel (not_of_kind bytes))
 
--- the mark behind the headers: data follow, of the section awaited or of one passed over
+-- the mark after the headers: data follow, of the section needed or of a skipped one
 abbrev pub data_phase : Heading → Option FileForm → Phase
 data_phase heading None = DataPassed heading
 data_phase heading (Some form) = DataWanted heading form 0
 
--- the block awaited is the next one of the file
+-- the expected block is the next one of the file
 abbrev pub delivered : State → Heading → FileForm → Bool → Outcome
 delivered core heading form end =
     let behind = DataWanted heading form (block_of core.position + 1) in
     (Deliver, moved_to core (next_block core.position) end form behind)
 
--- the block awaited, where it leaves a record begun or not, or is not the one
+-- the expected block, if it leaves a record unfinished or not, or is not the one
 abbrev pub found_awaited : State → Heading → FileForm → Result Bool Reason → Outcome
 found_awaited core heading form (Err why) = useless core why
 found_awaited core heading form (Ok end) = delivered core heading form end
 
--- the block awaited, by what its check found; it may not be another than the one of which some
--- parts were delivered
+-- the expected block, by the result of its check; it must be the one of which some parts were
+-- delivered
 abbrev pub at_judged : State → Heading → FileForm → List ℕ → Result Bool BlockFault → Outcome
 at_judged core heading form bytes (Err fault) = useless core (BadBlock fault)
 at_judged core heading form bytes (Ok end) =
     if other_front form (part_of core.position) core.begun bytes then useless core SectionDiffers
     else delivered core heading form end
 
--- the block awaited is checked, and behind the greatest number there is none
+-- the expected block is checked; there is none after the greatest number
 abbrev pub at_awaited : State → Heading → FileForm → List ℕ → Outcome
 at_awaited core heading form bytes =
     if not (nat_lt (block_of core.position) most_blocks) then useless core SectionDiffers
     else at_judged core heading form bytes (judged form.format form.rec_len form.offset
     (begun_before form (part_of core.position) core.begun bytes) bytes)
 
--- a block of the section awaited: one that was delivered before is passed
+-- a block of the section needed: one that was delivered before is skipped
 abbrev pub at_data : State → Heading → FileForm → ℕ → List ℕ → Outcome
 at_data core heading form seen bytes =
     if nat_lt seen (block_of core.position) then passed core (DataWanted heading form (seen + 1))
     else at_awaited core heading form bytes
 
--- an item that could not be read: one that was delivered before is passed
+-- an unreadable item: one that was delivered before is skipped
 abbrev pub at_bad_data : State → Heading → FileForm → ℕ → Outcome
 at_bad_data core heading form seen =
     if nat_lt seen (block_of core.position) then passed core (DataWanted heading form (seen + 1))
     else useless core BadItem
 
--- the mark behind the data: no block that was delivered before may be missing
+-- the mark after the data: no block that was delivered before may be missing
 abbrev pub at_data_end : State → Heading → FileForm → ℕ → Outcome
 at_data_end core heading form seen =
     if nat_lt seen (block_of core.position) then useless core SectionDiffers
@@ -162,15 +162,15 @@ abbrev pub other_numbers : Heading → Trail1 → Bool
 other_numbers heading t =
     not ((t.head.sequence == heading.sequence) && (t.head.sect == heading.sect))
 
--- the trailer of a section passed over: its numbers are those of the header
+-- the trailer of a skipped section: its numbers are those of the header
 abbrev pub at_passed_trailer : State → Heading → Result Trail1 LabelFault → Outcome
 at_passed_trailer core heading (Err fault) = useless core (BadLabel fault)
 at_passed_trailer core heading (Ok t) =
     if other_numbers heading t then useless core SectionDiffers
     else passed core Trailers
 
--- EOF1 ends the file, which leaves no record begun; EOV1 ends the section, and the next one has a
--- number
+-- EOF1 ends the file, which leaves no record unfinished; EOV1 ends the section, if the next one has
+-- a number
 abbrev pub at_end : State → FileForm → Bool → Outcome
 at_end core form true =
     if core.begun then useless core SpanLeft
@@ -179,7 +179,7 @@ at_end core form false =
     if not (nat_lt (sect_of core.position) 9999) then useless core SectionDiffers
     else (SectionDone, moved_to core (next_section core.position) core.begun form Over)
 
--- the trailer of the section awaited, of which all blocks were seen: its numbers, then its count
+-- the trailer of the section needed, all of whose blocks were seen: its numbers, then its count
 abbrev pub at_wanted_trailer :
     State → Heading → FileForm → Result Trail1 LabelFault → Outcome
 at_wanted_trailer core heading form (Err fault) = useless core (BadLabel fault)
@@ -189,7 +189,7 @@ at_wanted_trailer core heading form (Ok t) =
     then broken core (BlockCount t.blocks (block_of core.position))
     else at_end core form t.eof
 
--- ---- the table: what comes, by what is expected
+-- ---- the table: the item, by what is expected
 
 -- a block
 abbrev pub at_block : State → Phase → List ℕ → Outcome
@@ -249,12 +249,12 @@ abbrev pub at_arrival : State → Phase → Option TapeItem → Outcome
 at_arrival core phase None = at_reel_end core phase
 at_arrival core phase (Some item) = at_item core phase item
 
--- a file that is complete stays so, whatever comes
+-- a complete file stays complete, whatever the item
 abbrev pub unless_complete : State → Position → Outcome → Outcome
 unless_complete core Finished other = (Complete, core)
 unless_complete core (Awaits sect b part) other = other
 
--- one step: what comes is an item, or none at the reel's end
+-- one step, for an item, or for none at the reel's end
 abbrev pub step_of : State → Option TapeItem → Outcome
 step_of core arrived = unless_complete core core.position (at_arrival core core.phase arrived)
 
@@ -288,13 +288,13 @@ pub record IsShapeOf (form : FileForm) (shape : Shape) : Type 0 where
   pub block_len : shape.block_len ≡ 0
   pub pad_full : shape.pad_full ≡ false
 
--- the shape is that of what is known, and there is none where nothing is
+-- the shape is that of what is known, and there is none if nothing is
 abbrev pub Shows : Option FileForm → Option Shape → Type 0
 Shows None None = Unit {0}
 Shows (Some form) (Some shape) = IsShapeOf form shape
 Shows _ _ = ⊥
 
--- the checkpoint of where the reader stands, with the weight of the parts kept
+-- the checkpoint of the reader's position, with the weight of the parts kept
 abbrev pub saved : State → ℕ → Point
 saved core staged = record {
   set_id = core.set_id;
@@ -305,7 +305,7 @@ saved core staged = record {
   staged = staged;
 }
 
--- the reader where the checkpoint stands, with no reading under way
+-- the reader at the checkpoint's position, with no reading under way
 abbrev pub restarted : State → Point → State
 restarted core point = record core {
   position = point.position;

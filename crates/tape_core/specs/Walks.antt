@@ -1,4 +1,4 @@
--- What a sink gives back.
+-- What a sink returns.
 use Rattle.std.specs.Prelude.{◌≡◌, ℕ, ◌<◌, ◌≤◌, length, List, [], ◌∷◌, Option, Some, None, Result}
 use Rattle.std.specs.Prelude.{Ok, Err, IfErr}
 use Rattle.tape_blocks.specs.declared.parts.Part.{Part}
@@ -9,7 +9,7 @@ use Rattle.tape_core.specs.Crash.{AddsNothing, Crashes}
 use Rattle.tape_core.specs.Weight.{Rose}
 use Rattle.tape_core.specs.declared.sink.SinkFault.{SinkFault}
 
--- what was to come, by what was answered: nothing, the part given and others, or the same
+-- what was to come, by the answer: nothing, the part returned and others, or the same
 abbrev pub GivesPart : Result (Option Part) SinkFault → List Portion → (List Portion → Type 0)
     → Type 0
 GivesPart (Ok None) parts Ahead = (parts ≡ []) × Ahead []
@@ -27,7 +27,7 @@ abbrev pub Lends : Result (Option Part) SinkFault → ℕ → ℕ → Type 0
 Lends (Ok (Some part)) old new = (length part.bytes.now ≤ longest_block) × (new < old)
 Lends _ old new = Unit {0}
 
--- The sink holds what it held, and gave the next of the parts that were to come, or refused the
+-- The sink's contents are unchanged, and it returned the next of the parts to come, or refused the
 -- call for its reason.
 pub record HasGiven {S : Type 0} (holds : S → List Portion → Type 0) (weighs refusals : S → ℕ)
     (crashes : S → Crashes) (ahead : S → List Portion → Type 0) (left : S → ℕ)

@@ -1,4 +1,4 @@
-//! Checkpoints, what they know of the file, and which of them there are.
+//! Checkpoints, what they know of the file, and their valid values.
 
 ghost use Rattle.std.specs.Prelude.{◌≡◌, ◌↔◌, ◌<◌, ◌≤◌, ◌-◌, ◌++◌, ℕ, List, true, false, length};
 ghost use Rattle.std.specs.Prelude.{take, drop, is_some, IfSome, IsSome};
@@ -17,29 +17,30 @@ use std::marker::Model;
 use tape_label::{Field, Format};
 use tape_set::Position;
 
-/// Where the reading of a file stands, and how much of it is kept.
+/// A position in the reading of a file, with the weight of the parts kept before it.
 ///
-/// Its numbers have their digits, something is known of the file exactly where it is not at its
-/// start, a record is begun only in format S and never at the file's end: the type holds that, and
-/// whoever makes one proves it.
+/// Invariant, which whoever creates a checkpoint proves: its numbers are in range; the form of the
+/// file is known exactly if the position is not its start; a record is unfinished only in format S,
+/// and never at the file's end.
 #[derive(Clone, Copy, Debug, PartialEq, Eq)]
 pub struct Checkpoint {
     /// The number of the file in its set, 1 to 9,999.
     pub file: u16,
-    /// Whether a record is begun there.
+    /// Whether a record is unfinished there.
     pub begun: bool,
     /// The weight of the parts before the position, at most 999,999,999,999,999: 5 for each part,
     /// and one for each of its bytes.
     pub staged: u64,
     /// The identifier of the file set.
     pub set_id: Field<6>,
-    /// What is awaited: a section of 1 to 9,999, and a part of at most 99,999; or nothing more.
+    /// The next part expected: a section of 1 to 9,999, and a part of at most 99,999; `None` at the
+    /// file's end.
     pub position: Position,
-    /// What is known of the file; nothing at its start.
+    /// What is known of the file; `None` at its start.
     pub known: Option<Known>,
 }
 
-// In contracts it is the record of these six.
+// Contracts see it as the record of these six fields.
 impl Model for Checkpoint {
     ghost use Rattle.tape_core.specs.Point.{Point, IsPoint, point_of};
 
@@ -67,7 +68,8 @@ impl Checkpoint {
     ghost use Rattle.tape_core.specs.Follows.{IsAt, Delivers};
     ghost use Rattle.tape_core.specs.Stands.{Stands, weight_of, inside_block};
 
-    /// The checkpoint of these; `None` where they are out of range, as the type tells it.
+    /// Returns the checkpoint with these values, or `None` if they violate the invariant of the
+    /// type.
     pub fn from_parts(
         set_id: Field<6>,
         file: u16,
@@ -79,7 +81,7 @@ impl Checkpoint {
         ensures value { IfSome result (λ point. point
             ≡ point_of set_id file position begun known staged) }
         ensures rules { IsSome result ↔ IsPoint (point_of set_id file position begun known staged) }
-        // The same as a function of what was given.
+        // The result as a function of the arguments.
         ensures range { is_some result
             ≡ in_range (point_of set_id file position begun known staged) }
     {
@@ -89,7 +91,7 @@ impl Checkpoint {
         Some(Checkpoint::of(set_id, file, position, begun, known, staged))
     }
 
-    /// The checkpoint of these, which are in range.
+    /// Returns the checkpoint with these values, which must satisfy the invariant.
     pub(crate) fn of(
         set_id: Field<6>,
         file: u16,
@@ -113,7 +115,7 @@ impl Checkpoint {
         }
     }
 
-    /// What is awaited. To callers that hold a checkpoint it also tells what is true of it.
+    /// Returns the position. The contract also gives callers the invariant of the checkpoint.
     pub fn position(&self) -> Position
         ensures value { result ≡ self.now.position }
         ensures fits { IsPoint self.now }
@@ -121,9 +123,9 @@ impl Checkpoint {
         self.position
     }
 
-    /// The checkpoint inside a block: this is the one behind the block, `p` awaited the block, and
-    /// of its parts `part` are kept now, `staged` being the weight of all that is kept. `begun`
-    /// tells whether the last of them leaves a record begun.
+    /// Returns the checkpoint inside a block, if `self` is the checkpoint after that block. `p` is
+    /// a position in the block, `part` the number of its parts that are kept, `staged` the weight
+    /// of all parts kept, and `begun` says whether the last of them leaves a record unfinished.
     pub fn inside_block(&self, p: Position, part: u32, begun: bool, staged: u64) -> Checkpoint
         requires numbers { PositionFits p }
         requires waits { is_finished p ≡ false }
@@ -131,8 +133,8 @@ impl Checkpoint {
         requires known { is_some self.now.known ≡ true }
         requires light { staged ≤ most_staged }
         ensures value { result ≡ inside_block self.now p part begun staged }
-        // Where that block was delivered, and so many of its parts and no others are kept, the
-        // checkpoint stands.
+        // If that block was delivered, and exactly `part` of its parts are kept, the checkpoint is
+        // valid.
         ensures stands { (set : FileSet) (old new : State) (item : TapeItem) (n : ℕ)
             → self.now ≡ saved new n → p ≡ old.position → IsAt set old
             → new.set_id ≡ set.set_id → new.file ≡ old.file
@@ -146,7 +148,7 @@ impl Checkpoint {
         self.in_block(p, part, begun, staged)
     }
 
-    /// The checkpoint inside a block, as its value tells it.
+    /// The checkpoint inside a block, as a value.
     fn in_block(&self, p: Position, part: u32, begun: bool, staged: u64) -> Checkpoint
         requires numbers { PositionFits p }
         requires waits { is_finished p ≡ false }
@@ -155,22 +157,23 @@ impl Checkpoint {
         requires light { staged ≤ most_staged }
         ensures value { result ≡ inside_block self.now p part begun staged }
     {
-        // Of a file of another format no record is begun anywhere: callers need not know which.
+        // In a file of another format no record is ever unfinished: callers need not know the
+        // format.
         let begun = begun && may_span(&self.known);
         let position = p.at_part(part);
         Checkpoint::of(self.set_id, self.file, position, begun, self.known, staged)
     }
 }
 
-/// What all sections of a file have alike, as their HDR1 and HDR2 told. Its numbers have their
-/// digits: the type holds that, and whoever makes one proves it.
+/// What all sections of a file have in common, as their HDR1 and HDR2 say. Invariant, which whoever
+/// creates a value proves: its numbers are in range.
 #[derive(Clone, Copy, Debug, PartialEq, Eq)]
 pub struct Known {
     /// F, D or S.
     pub format: Format,
-    /// The record length of format F, 1 to 99,999; 0 in the others, where it binds no reader.
+    /// The record length of format F, 1 to 99,999; 0 in the other formats, where readers ignore it.
     pub rec_len: u32,
-    /// How many characters stand before the first record of each block, 0 to 99.
+    /// The number of characters before the first record of each block, 0 to 99.
     pub offset: u8,
     /// The file identifier.
     pub file_id: Field<17>,
@@ -201,12 +204,12 @@ impl Model for Known {
 }
 
 impl Known {
-    /// What is known of a file by these; `None` where they are out of range: a record length of
-    /// format F is 1 to 99,999, that of the others 0, and an offset is at most 99.
+    /// Returns the form with these values, or `None` if one is out of range: the record length is 1
+    /// to 99,999 in format F and 0 in the others, and the offset at most 99.
     pub fn from_parts(format: Format, rec_len: u32, offset: u8, file_id: Field<17>) -> Option<Known>
         ensures value { IfSome result (λ known. known ≡ known_of format rec_len offset file_id) }
         ensures rules { IsSome result ↔ IsForm format rec_len offset }
-        // The same as a function of what was given.
+        // The result as a function of the arguments.
         ensures range { is_some result ≡ form_in_range (known_of format rec_len offset file_id) }
     {
         if !(length_in_range(format, rec_len) && offset <= 99) {
@@ -221,7 +224,7 @@ impl Known {
     }
 }
 
-/// Whether records of this format may have this length.
+/// Returns whether this record length is possible in this format.
 fn length_in_range(format: Format, rec_len: u32) -> bool
     ensures { result ≡ length_in_range format rec_len }
 {
@@ -263,7 +266,7 @@ fn position_in_range(position: Position) -> bool
     }
 }
 
-/// Whether something is known exactly where the file is not at its start.
+/// Returns whether the form is known exactly if the position is not the file's start.
 fn known_where_due(known: &Option<Known>, position: Position) -> bool
     ensures { result ≡ known_where_due known.now position }
 {
@@ -273,7 +276,7 @@ fn known_where_due(known: &Option<Known>, position: Position) -> bool
     }
 }
 
-/// Whether a record may be begun there.
+/// Returns whether a record may be unfinished there.
 fn may_begin(known: &Option<Known>, position: Position) -> bool
     ensures { result ≡ may_begin known.now position }
 {

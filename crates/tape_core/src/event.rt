@@ -1,4 +1,4 @@
-//! What comes from reels, what is answered, and what a reader expects.
+//! The events that come from reels, the answers to them, and what a reader expects next.
 
 ghost use Rattle.std.specs.Prelude.{◌≡◌};
 ghost use Rattle.tape_core.specs.Faults.{number};
@@ -8,7 +8,7 @@ use tape_blocks::{BlockFault, Span};
 use tape_label::{Field, LabelFault};
 use thiserror::Error;
 
-/// What comes next from the reel that is mounted.
+/// The next event from the mounted reel.
 #[derive(Clone, Copy, Debug)]
 pub enum Event<'a> {
     /// A block that was read well.
@@ -17,28 +17,28 @@ pub enum Event<'a> {
     Bad,
     /// A tape mark.
     Mark,
-    /// Nothing more comes from this reel: its end, or a fault of its reader.
+    /// Nothing more comes from this reel: it ended, or its reader failed.
     ReelEnd,
 }
 
-/// What a step answers. A reading goes on after `Passed` and `Deliver`, and is over after the
+/// The answer to an event. A reading continues after `Passed` and `Deliver`, and is over after the
 /// others.
 #[derive(Clone, Copy, Debug, PartialEq, Eq)]
 pub enum Answer {
-    /// What came was expected, and gives nothing.
+    /// The item was expected, and contains no part that is needed.
     Passed,
-    /// The block just given is the one that was awaited, and it holds its parts: those from the
-    /// awaited part on are the next ones of the file. The position is behind the block now.
+    /// The block just passed in is the expected one, and its contents were checked: its parts from
+    /// the expected one on are the next parts of the file. The position is now after the block.
     Deliver,
-    /// The section is whole, and the file goes on in the next one.
+    /// The section is complete, and the file continues in the next section.
     SectionDone,
     /// The file is whole.
     Complete,
-    /// This reading gives nothing more. The position stays.
+    /// This reading yields nothing more. The position is unchanged.
     Useless(Reason),
 }
 
-/// Why a reading gives nothing more.
+/// Why a reading yields nothing more.
 #[derive(Clone, Copy, Debug, PartialEq, Eq)]
 pub enum Reason {
     /// The reel does not begin with VOL1, further volume labels and HDR1 (ECMA-13, 4th edition,
@@ -56,7 +56,8 @@ pub enum Reason {
     BadItem,
     /// The reel ended, or no reading is under way.
     ReelEnded,
-    /// The block awaited does not hold records as the labels say, or not what follows in the file.
+    /// The expected block does not contain records as the labels describe them, or not those that
+    /// come next in the file.
     BadBlock(BlockFault),
     /// The trailer label counts other blocks than were seen. Nothing is read until a restart.
     BlockCount {
@@ -67,16 +68,18 @@ pub enum Reason {
     },
     /// The file's last section ends inside a record.
     SpanLeft,
-    /// The section is not as those before it told, as its own header told, or too long; or its
-    /// block cannot be the one of which some parts were delivered.
+    /// The section's labels differ from those of earlier sections, or its trailer from its own
+    /// header; or the section is too long; or the block cannot be the one of which some parts were
+    /// delivered.
     SectionDiffers,
-    /// A block that has to be a label does not read as it. A tape mark there is `Identifier`.
+    /// A block that should be a label cannot be read as one. For a tape mark in its place the cause
+    /// is `Identifier`.
     BadLabel(LabelFault),
     /// After a `BlockCount` nothing is read until a restart.
     Broken,
 }
 
-/// Why a reader is not made, or does not go to a checkpoint.
+/// Why a reader is not created, or does not return to a checkpoint.
 #[derive(Clone, Copy, Debug, PartialEq, Eq, Error)]
 pub enum CoreFault {
     /// Files are numbered from 1 to 9,999.
@@ -99,7 +102,7 @@ impl CoreFault {
     }
 }
 
-/// What is kept of an HDR1 while its section is under way.
+/// What is remembered of an HDR1 while its section is being read.
 #[derive(Clone, Copy, Debug)]
 pub(crate) struct Heading {
     /// The number of the file in its set.
@@ -110,8 +113,8 @@ pub(crate) struct Heading {
     pub file_id: Field<17>,
 }
 
-/// What is expected next on the reel that is mounted. Of the section awaited, the form that its
-/// labels told is kept until its end; of a section passed over, the numbers of its HDR1.
+/// What is expected next on the mounted reel. For the section needed, the form from its labels is
+/// remembered until its end; for a skipped section, the numbers of its HDR1.
 #[derive(Clone, Copy, Debug)]
 pub(crate) enum Phase {
     /// Nothing: no reading is under way.
@@ -122,29 +125,29 @@ pub(crate) enum Phase {
     Volume,
     /// A further volume label, or HDR1.
     VolumeLabels,
-    /// HDR2, of the section awaited (`true`) or of one passed over.
+    /// HDR2 of the section needed (`true`) or of a skipped one.
     Header2(Heading, bool),
-    /// Further headers, or the mark behind them. The form is that of the section awaited.
+    /// Further headers, or the mark after them. The form is that of the section needed.
     Headers(Heading, Option<Known>),
-    /// Data of a section passed over, or the mark behind them.
+    /// Data of a skipped section, or the mark after them.
     DataPassed(Heading),
-    /// Data of the section awaited, of which so many blocks were seen, or the mark behind them.
+    /// Data of the section needed, of which this many blocks were seen, or the mark after them.
     DataWanted(Heading, Known, u32),
-    /// EOF1 or EOV1 of a section passed over.
+    /// EOF1 or EOV1 of a skipped section.
     TrailerPassed(Heading),
-    /// EOF1 or EOV1 of the section awaited.
+    /// EOF1 or EOV1 of the section needed.
     TrailerWanted(Heading, Known),
-    /// Further trailers of a section passed over, or the mark behind them.
+    /// Further trailers of a skipped section, or the mark after them.
     Trailers,
     /// HDR1 of the next section, or the second mark.
     NextFile,
 }
 
-/// How a part stands in its record, and where its bytes end.
+/// How a part belongs to its record, and where its bytes end.
 #[derive(Clone, Copy)]
 pub(crate) struct Entry {
-    /// How it stands in its record.
+    /// How the part belongs to its record.
     pub span: Span,
-    /// How many bytes the parts up to it have together.
+    /// The total number of bytes of all parts up to and including this one.
     pub end: usize,
 }

@@ -1,4 +1,4 @@
-//! What the definitions say of cases, as the contract of a call that does nothing.
+//! Examples for the definitions, proved as contracts of calls that do nothing.
 
 ghost use Rattle.std.specs.Prelude.{◌≡◌, Some};
 ghost use Rattle.tape_image.specs.Tape.{TapeItem};
@@ -7,8 +7,8 @@ ghost use Rattle.tape_core.specs.Table.{step_of};
 ghost use Rattle.tape_core.specs.Behind.{AreInOrder, PassesTo, expected_over, passed_over};
 ghost use Rattle.tape_core.specs.Cases.{CasesOfForeign, CasesOfPlaces, CasesOfSteps, CasesOfSinks};
 
-/// What the definitions of a reader and of sinks say of cases: which reels are foreign, where a
-/// reader stands, what a step leaves, and what a sink answers.
+/// Examples for the definitions of readers and sinks: which reels are foreign, valid positions, the
+/// effect of a step, and what a sink returns.
 pub fn cases()
     ensures foreign { CasesOfForeign }
     ensures places { CasesOfPlaces }
@@ -16,8 +16,8 @@ pub fn cases()
     ensures sinks { CasesOfSinks }
 {}
 
-/// What a reader of one file reads, a reader of a later file of the set passes over; and where the
-/// first one ended a section well, the later one expects what stands behind a trailer label.
+/// The section that a reader of one file reads is skipped by a reader of a later file of the set;
+/// if the first reader completed the section, the second then expects what follows a trailer label.
 pub fn passes_over()
     ensures { (first later : State) (x : TapeItem) → AreInOrder first later
         → later.phase ≡ passed_over first.phase

@@ -1,6 +1,6 @@
-//! The reading of one file of a set, as a row of events: what comes from the reels goes in, and it
-//! answers which blocks are the next ones of the file. Beside it the sinks that the parts of the
-//! blocks go to, and the checkpoints that both can go back to.
+//! Reads one file of a set as a sequence of events: it takes what comes from the reels, and answers
+//! which blocks are the next ones of the file. It also has the sinks that receive the parts of the
+//! blocks, and the checkpoints that both can return to.
 #![tactic(auto)]
 
 mod checkpoint;

@@ -16,19 +16,19 @@ use crate::sink::{PartSink, PartWalk, SinkFault};
 use std::alloc::{AllocError, Global};
 use tape_blocks::Part;
 
-/// Keeps the parts in memory. After a crash nothing comes back of it.
+/// A sink in memory. Nothing survives a crash.
 ///
-/// All bytes lie in one piece of memory, and beside them, in another, an entry of 16 bytes for each
-/// part. Each piece grows by doubling.
+/// All bytes are in one allocation, and an entry of 16 bytes for each part is in another. Each
+/// allocation grows by doubling.
 #[derive(Drop)]
 pub struct MemorySink {
-    /// The bytes of all parts, one part behind another.
+    /// The bytes of all parts, one part after another.
     bytes: Vec<u8>,
     /// For each part its entry, in order.
     entries: Vec<Entry>,
     /// How many calls were refused.
     refused: u64,
-    /// How many parts the walk under way has given.
+    /// The number of parts that the current walk has returned.
     given: usize,
     ghost laid: { IsLaid entries.items bytes.items } by { laid_one_way entries.items bytes.items },
     ghost light: { 5 * length entries.items + length bytes.items ≤ most_staged },
@@ -50,7 +50,7 @@ impl MemorySink {
         }
     }
 
-    /// How many parts are kept.
+    /// Returns the number of parts.
     #[inline(always)]
     pub fn count(&self) -> usize
         ensures { result ≡ length (portions self.now) }
@@ -58,7 +58,7 @@ impl MemorySink {
         self.entries.len()
     }
 
-    /// The part of this number, counted from 0; `None` behind the last.
+    /// Returns the part with this number, counted from 0, or `None` after the last.
     pub fn part(&self, number: usize) -> Option<Part<'_>>
         ensures { viewed result ≡ slice_get (portions self.now) number }
     {
@@ -69,7 +69,7 @@ impl MemorySink {
         }
     }
 
-    /// The part of this number, lent.
+    /// Lends the part with this number.
     #[inline(always)]
     fn lent(&self, number: usize) -> Part<'_>
         requires { number < length (portions self.now) }
@@ -84,7 +84,7 @@ impl MemorySink {
         }
     }
 
-    /// Where the bytes of the first parts end, so many.
+    /// Returns where the bytes of the first `n` parts end.
     #[inline(always)]
     fn end_of(&self, number: usize) -> usize
         requires { number ≤ length (portions self.now) }
@@ -96,7 +96,7 @@ impl MemorySink {
         self.entries[number - 1].end
     }
 
-    /// What the first parts weigh, so many.
+    /// Returns the weight of the first parts.
     #[inline(always)]
     fn weight_to(&self, number: usize) -> u64
         requires { number ≤ length (portions self.now) }
@@ -120,7 +120,7 @@ impl MemorySink {
         number
     }
 
-    /// Adds a part behind the others, or nothing where there is no memory for it.
+    /// Appends a part. If there is no memory for it, nothing changes.
     #[inline(always)]
     fn add(&mut self, part: Part<'_>) -> Result<(), AllocError>
         requires short { length part.bytes.now ≤ longest_block }

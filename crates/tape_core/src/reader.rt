@@ -24,25 +24,25 @@ use tape_blocks::Shape;
 use tape_label::Field;
 use tape_set::{Position, Want};
 
-/// Reads one file of a set, item by item, from reels that are mounted in any order. It keeps its
-/// position in the file, takes no memory, and keeps no byte of a record.
+/// Reads one file of a set, item by item, from reels that are mounted in any order. It tracks the
+/// position in the file; it does not allocate, and stores no byte of a record.
 #[derive(Debug, Drop)]
 pub struct ReaderCore {
     /// The identifier of the file set.
     set_id: Field<6>,
     /// The number of the file in its set.
     file: u16,
-    /// What is awaited.
+    /// The position: the next part expected.
     position: Position,
-    /// Whether a record is begun there.
+    /// Whether a record is unfinished there.
     begun: bool,
-    /// What is known of the file; nothing at its start.
+    /// What is known of the file; `None` at its start.
     known: Option<Known>,
     /// What is expected next on the reel.
     phase: Phase,
 }
 
-// In contracts it is the record of these six.
+// Contracts see it as the record of these six fields.
 impl Model for ReaderCore {
     ghost use Rattle.tape_core.specs.State.{State, IsState};
 
@@ -71,15 +71,16 @@ impl ReaderCore {
     ghost use Rattle.tape_core.specs.Stands.{Stands, weight_of};
     ghost use Rattle.tape_core.specs.Known.{IsFileNumber, most_staged};
 
-    /// A reader of this file of the set, at the file's start. Files are numbered from 1.
+    /// Creates a reader of this file of the set, at the file's start. Files are numbered from 1.
     ///
     /// # Errors
     ///
-    /// `FileNumber` where the file's number is not 1 to 9,999.
+    /// Returns `FileNumber` if the file's number is not 1 to 9,999.
     pub fn new(set_id: Field<6>, file: u16) -> Result<ReaderCore, CoreFault>
         ensures begins { IsFileNumber file → result ≡ Ok (Table.reader_of set_id file) }
         ensures value { IfOk result (λ core. core ≡ Table.reader_of set_id file) }
-        // It stands at the start of its file, in each set of this identifier that has the file.
+        // Its position is the start of the file, in each set with this identifier that has the
+        // file.
         ensures stands { IfOk result (λ core. (set : FileSet) → set_id ≡ set.set_id
             → IsIn set file start → IsAt set core) }
         ensures refused { (IsFileNumber file → ⊥) → result ≡ Err CoreFault.FileNumber }
@@ -97,26 +98,26 @@ impl ReaderCore {
         })
     }
 
-    /// A reel is mounted, and a reading of it begins. A reader that is broken stays so, and one
-    /// whose file is complete wants no reel.
+    /// Begins a reading of a new reel. A broken reader stays broken, and a reader whose file is
+    /// complete needs no reel.
     pub fn mount(&mut self)
         ensures table { self.new ≡ Table.mount_of self.old }
-        // A reader that stands in a file of a set follows each reading that begins.
+        // A reader with a position in a file of a set follows each reading that begins.
         ensures begins { (set : FileSet) (k : ℕ) → IsAt set self.old
             → IsReading set self.old.position k [] self.new }
-        // The same of a reel that is none of the set.
+        // The same for a reel that does not belong to the set.
         ensures foreign { (set : FileSet) (reel : List TapeItem) → IsAt set self.old
             → starts_set set.set_id reel ≡ Bool.false
             → IsForeignAt set.set_id reel self.new.position self.new.phase }
-        // All but what is expected stays.
+        // Only what is expected next changes.
         ensures same { rest_of self.new ≡ rest_of self.old }
     {
         self.begin()
     }
 
-    /// A reading goes on behind a trailer label, where a reader of an earlier file of the set ended
-    /// a section well: of what was read before nothing is missed. A reader that is broken stays so,
-    /// and one whose file is complete wants no reel.
+    /// Begins a reading after a trailer label, where a reader of an earlier file of the set
+    /// completed a section: nothing that was read before is missed. A broken reader stays broken,
+    /// and a reader whose file is complete needs no reel.
     pub fn mount_behind(&mut self)
         ensures table { self.new ≡ behind_of self.old }
         ensures same { rest_of self.new ≡ rest_of self.old }
@@ -124,7 +125,7 @@ impl ReaderCore {
         self.begin_behind()
     }
 
-    /// A reading goes on behind a trailer label.
+    /// The reading continues after a trailer label.
     fn begin_behind(&mut self)
         ensures table { self.new ≡ behind_of self.old }
     {
@@ -135,52 +136,52 @@ impl ReaderCore {
         };
     }
 
-    /// Takes what comes next from the reel, and answers what it is for the file.
+    /// Processes the next event from the reel, and returns what it means for the file.
     ///
-    /// While the file is complete the answer is `Complete`, whatever comes. After a `BlockCount` it
-    /// is `Useless(Broken)` until `restart`, and with no reading under way `Useless(ReelEnded)`.
-    /// `Useless` never moves the position. `Reason` tells which refusal comes when.
+    /// If the file is complete, the answer is always `Complete`. After `BlockCount` it is
+    /// `Useless(Broken)` until `restart`, and if no reading is under way, `Useless(ReelEnded)`.
+    /// `Useless` never moves the position. `Reason` says which refusal comes when.
     #[inline(always)]
     pub fn step(&mut self, event: Event<'_>) -> Answer
         ensures table { (result, self.new) ≡ Table.step_of self.old (arrival event.entry) }
-        // The next item of a volume of a lawful set, or a bad one in its place, makes the reading
-        // that is followed longer by one; what is delivered are the next parts of the file.
+        // The next item of a volume of a valid set, or a bad item in its place, extends the reading
+        // that is followed by one item; the parts delivered are the next ones of the file.
         ensures item { (set : FileSet) (p : Position) (k : ℕ) (good : List Bool) (g : Bool)
             (item : TapeItem) → IsLawful set → IsSome (nth set.volumes k)
             → slice_get (items set k) (length good) ≡ Some item
             → arrival event.entry ≡ Some (if g then item else bad)
             → IsReading set p k good self.old
             → Kept set p k (good ++ g ∷ []) (if g then item else bad) self.old (result, self.new) }
-        // What stands behind a whole volume changes nothing.
+        // Items after a complete volume change nothing.
         ensures behind { (set : FileSet) (p : Position) (k : ℕ) (good : List Bool)
             (item : TapeItem) → IsLawful set → IsSome (nth set.volumes k)
             → length good ≡ length (items set k) → passes good (entries set k) ≡ Bool.true
             → arrival event.entry ≡ Some item
             → IsReading set p k good self.old → Idle set p k good self.old (result, self.new) }
-        // A reel that is none of the set changes nothing.
+        // A reel that does not belong to the set changes nothing.
         ensures foreign { (set : FileSet) (item : TapeItem) (rest : List TapeItem)
             → arrival event.entry ≡ Some item → IsAt set self.old
             → IsForeignAt set.set_id (item ∷ rest) self.old.position self.old.phase
             → Unmoved set rest self.old (result, self.new) }
         // Complete is answered at the end of the file alone.
         ensures complete { result ≡ Answer.Complete → self.new.position ≡ Position.Finished }
-        // Whatever is read: a block that is delivered was checked, and holds the part awaited.
+        // For any input: a delivered block was checked, and contains the expected part.
         ensures checked { result ≡ Answer.Deliver
             → Checked (arrival event.entry) self.old self.new }
-        // Whatever is read, it stays the reader of its file.
+        // For any input: it remains the reader of its file.
         ensures set_id { self.new.set_id ≡ self.old.set_id }
         ensures file { self.new.file ≡ self.old.file }
-        // The end of the reel leaves all but what is expected, and ends the reading.
+        // The end of the reel ends the reading; only what is expected next changes.
         ensures left { arrival event.entry ≡ None
             → (rest_of self.new ≡ rest_of self.old) × IsFinal result }
     {
         self.advance(event)
     }
 
-    /// What is wanted next; `None` exactly when the file is complete.
+    /// Returns what is needed next, or `None` exactly if the file is complete.
     pub fn want(&self) -> Option<Want>
         ensures value { result ≡ want_at self.now.file self.now.position }
-        // It is wanted where the reading that is followed comes to.
+        // It is the position that the reading reaches.
         ensures far { (set : FileSet) (p : Position) (k : ℕ) (good : List Bool) → IsLawful set
             → IsSome (nth set.volumes k) → IsReading set p k good self.now
             → result ≡ want_at self.now.file (far set self.now.file p (reading k good)) }
@@ -188,10 +189,10 @@ impl ReaderCore {
         self.position.want(self.file)
     }
 
-    /// What is awaited.
+    /// Returns the position.
     pub fn position(&self) -> Position
         ensures value { result ≡ self.now.position }
-        // It is where the reading that is followed comes to.
+        // It is the position that the reading reaches.
         ensures far { (set : FileSet) (p : Position) (k : ℕ) (good : List Bool) → IsLawful set
             → IsSome (nth set.volumes k) → IsReading set p k good self.now
             → result ≡ far set self.now.file p (reading k good) }
@@ -199,8 +200,8 @@ impl ReaderCore {
         self.position
     }
 
-    /// The shape of the file's blocks, as far as it binds a reader: 0 for the block length and
-    /// `false` for full padding. `None` at the file's start.
+    /// Returns the shape of the file's blocks as far as readers check it: block length 0 and full
+    /// padding `false`. `None` at the file's start.
     pub fn shape(&self) -> Option<Shape>
         ensures { Table.Shows self.now.known result }
     {
@@ -210,12 +211,12 @@ impl ReaderCore {
         }
     }
 
-    /// Where the reading stands. `staged` is the weight of the parts that are kept, at most
-    /// 999,999,999,999,999. That the reader is broken is not told.
+    /// Returns a checkpoint of the position. `staged` is the weight of the parts kept, at most
+    /// 999,999,999,999,999. The checkpoint does not record whether the reader is broken.
     pub fn save(&self, staged: u64) -> Checkpoint
         requires { staged ≤ most_staged }
         ensures value { result ≡ Table.saved self.now staged }
-        // With the weight of the parts before the position it stands.
+        // If `staged` is the weight of the parts before the position, the checkpoint is valid.
         ensures stands { (set : FileSet) → IsAt set self.now
             → staged ≡ weight_of (before set self.now.file self.now.position)
             → Stands set self.now.file result (before set self.now.file self.now.position) }
@@ -230,16 +231,16 @@ impl ReaderCore {
         )
     }
 
-    /// Goes back, or on, to where the checkpoint stands. A reading under way is over, and what was
-    /// broken is so no more.
+    /// Moves the reader to the checkpoint. This ends a reading under way, and a broken reader is
+    /// usable again.
     ///
     /// # Errors
     ///
-    /// `OtherFile` where the checkpoint is one of another set or file; then nothing changes, and a
-    /// reading under way goes on.
+    /// Returns `OtherFile` if the checkpoint is one of another set or file; then nothing changes,
+    /// and a reading under way continues.
     pub fn restart(&mut self, checkpoint: &Checkpoint) -> Result<(), CoreFault>
         ensures value { (result, self.new) ≡ Table.restart_of self.old checkpoint.now }
-        // Of its own set and file it takes every checkpoint.
+        // It accepts every checkpoint of its own set and file.
         ensures taken { checkpoint.now.set_id ≡ self.old.set_id
             → checkpoint.now.file ≡ self.old.file → result ≡ Ok tt }
         ensures there { OnOk result (rest_of self.new ≡ place_of checkpoint.now) }
@@ -250,7 +251,7 @@ impl ReaderCore {
 }
 
 impl ReaderCore {
-    /// What came was expected, and now this is.
+    /// The item was expected; sets what is expected next.
     pub(crate) fn passed(&mut self, phase: Phase) -> Answer
         requires { ToldFits self.old.begun (told phase) }
         ensures table { (result, self.new) ≡ Table.passed self.old phase }
@@ -269,7 +270,7 @@ impl ReaderCore {
         Answer::Useless(why)
     }
 
-    /// The reading is over, and none begins before a restart.
+    /// Ends the reading, and allows no other before a restart.
     pub(crate) fn broken(&mut self, why: Reason) -> Answer
         ensures table { (result, self.new) ≡ Table.broken self.old why }
         ensures silent { result ≢ Answer.Deliver }
@@ -278,7 +279,7 @@ impl ReaderCore {
         Answer::Useless(why)
     }
 
-    /// The number of the section awaited; 0 where the file is complete.
+    /// Returns the number of the expected section; 0 if the file is complete.
     pub(crate) fn sect(&self) -> u16
         ensures { result ≡ sect_of self.now.position }
     {
@@ -288,7 +289,7 @@ impl ReaderCore {
         }
     }
 
-    /// The number of the block awaited; 0 where the file is complete.
+    /// Returns the number of the expected block; 0 if the file is complete.
     pub(crate) fn block(&self) -> u32
         ensures { result ≡ block_of self.now.position }
     {
@@ -298,7 +299,7 @@ impl ReaderCore {
         }
     }
 
-    /// How many parts of the block awaited were delivered; 0 where the file is complete.
+    /// Returns how many parts of the expected block were delivered; 0 if the file is complete.
     pub(crate) fn part(&self) -> u32
         ensures { result ≡ part_of self.now.position }
     {

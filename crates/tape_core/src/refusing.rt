@@ -8,13 +8,13 @@ use crate::checkpoint::Checkpoint;
 use crate::sink::{PartSink, SinkFault};
 use tape_blocks::Part;
 
-/// Passes each call of a sink on to another, but for one that it refuses: `put` and `keep` with
-/// `Device`, `cut_to` with `Failed`. A refused call leaves the sink within.
+/// Passes each call on to another sink, except one, which it refuses: `put` and `keep` with
+/// `Device`, `cut_to` with `Failed`. A refused call does not reach the inner sink.
 #[derive(Drop)]
 pub struct Refusing<S> {
     /// The sink within.
     inner: S,
-    /// How many calls come before the one that is refused.
+    /// The number of calls before the one that is refused.
     left: usize,
     /// How many calls were refused here.
     refused: u64,

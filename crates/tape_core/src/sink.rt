@@ -1,4 +1,4 @@
-//! Where the parts of a file go, and how they come back.
+//! Sinks, which receive the parts of a file and return them.
 
 ghost use Rattle.std.specs.Prelude.{◌≡◌, ◌≢◌, ◌<◌, ◌≤◌, ◌+◌, ◌++◌, ◌∷◌, [], ℕ, List, length, OnOk};
 ghost use Rattle.std.specs.Prelude.{OnErr, IfErr, Err};
@@ -26,13 +26,13 @@ pub enum SinkFault {
     /// There was no memory for the part.
     #[error("out of memory")]
     OutOfMemory,
-    /// The device behind the sink failed in this call.
+    /// The device of the sink failed in this call.
     #[error("the sink's device failed")]
     Device,
     /// All parts would weigh more than 999,999,999,999,999.
     #[error("the sink is full")]
     Full,
-    /// An earlier call failed, and since then nothing is known of what is held.
+    /// An earlier call failed, and since then the contents are unknown.
     #[error("the sink failed before")]
     Failed,
 }
@@ -53,27 +53,27 @@ impl SinkFault {
 
 /// Takes the parts of a file, in order.
 ///
-/// What a sink holds is said by a relation. Of a sink that cannot be believed nothing is held, and
-/// then nothing is promised but its weight and its count of refused calls.
+/// Receives the parts of a file, in order. `holds` relates a sink to its contents. An untrusted
+/// sink holds no list of parts; then only its weight and its count of refused calls are specified.
 pub trait PartSink {
-    /// It holds these parts.
+    /// The sink contains these parts.
     ghost holds: { Self → List Portion → Type 0 };
 
-    /// What it says that it weighs: a number of every sink.
+    /// The weight that the sink reports, for any sink.
     ghost weighs: { Self → ℕ };
 
     /// How many calls it refused.
     ghost refusals: { Self → ℕ };
 
-    /// What crashes do to it: with what it may come back, now and since each moment.
+    /// What may remain after a crash: now, and at each moment since a given one.
     ghost crashes: { Self → Crashes };
 
-    /// Adds a part of at most 99,999 bytes behind the others.
+    /// Appends a part of at most 99,999 bytes.
     ///
     /// # Errors
     ///
-    /// `Full` where all parts would weigh more than 999,999,999,999,999; then what the sink's
-    /// memory or device refused. At every fault the sink holds what it held.
+    /// Returns `Full` if the total weight would exceed 999,999,999,999,999, otherwise the refusal
+    /// of the sink's memory or device. On error the contents are unchanged.
     fn put(&mut self, part: Part<'_>) -> Result<(), SinkFault>
         requires { length part.bytes.now ≤ longest_block }
         ensures ok { OnOk result ((parts : List Portion) → holds self.old parts
@@ -90,11 +90,12 @@ pub trait PartSink {
         ensures crash { (parts : List Portion) → holds self.old parts
             → AddsNothing (crashes self.old) (crashes self.new) };
 
-    /// Keeps the first parts, those that weigh together what the checkpoint tells, and no others.
+    /// Keeps the first parts, up to the weight recorded in the checkpoint, and drops the others.
     ///
     /// # Errors
     ///
-    /// What the sink's device refused. At every fault but `Device` the sink holds what it held.
+    /// Returns the refusal of the sink's device. On any error but `Device` the contents are
+    /// unchanged.
     fn cut_to(&mut self, point: &Checkpoint) -> Result<(), SinkFault>
         requires { point.now.staged ≤ weighs self.old }
         ensures weight { OnOk result (weighs self.new ≤ point.now.staged) }
@@ -109,11 +110,11 @@ pub trait PartSink {
             → weight_of front ≡ point.now.staged
             → AddsOnly (IsThis point.now front) (crashes self.old) (crashes self.new) };
 
-    /// Notes a checkpoint of all parts, where the sink outlives a crash.
+    /// Saves a checkpoint of all parts, if the sink survives a crash.
     ///
     /// # Errors
     ///
-    /// What the sink's device refused. The sink holds what it held.
+    /// Returns the refusal of the sink's device. The contents are unchanged.
     fn keep(&mut self, point: &Checkpoint) -> Result<(), SinkFault>
         requires { point.now.staged ≡ weighs self.old }
         ensures same_weight { weighs self.new ≡ weighs self.old }
@@ -125,13 +126,13 @@ pub trait PartSink {
         ensures kept { OnOk result ((parts : List Portion) → holds self.old parts
             → ThisAlone point.now parts (crashes self.new)) };
 
-    /// What the parts weigh: 5 for each, and one for each byte.
+    /// Returns the weight of the parts: their bytes and 5 for each.
     fn weight(&self) -> u64
         ensures value { result ≡ weighs self.now }
         ensures of { (parts : List Portion) → holds self.now parts → result ≡ weight_of parts }
         ensures limit { result ≤ most_staged };
 
-    /// What a crash now brings back is among what one might have brought back since a moment.
+    /// What a crash now may leave is among what one may have left since an earlier moment.
     ghost returned_now: { (sink : Self) (t : ℕ) (back : Point) (there : List Portion)
         → (crashes sink).returns back there → (crashes sink).returned t back there };
 
@@ -142,14 +143,14 @@ pub trait PartSink {
 
 /// A sink whose parts can be read back.
 ///
-/// A walk begins at the first part. The sinks in memory and on a disk begin another at each `put`
-/// and `cut_to`; of any other sink nothing is known then of a walk that was under way, and `rewind`
-/// begins another.
+/// Returns a walk that begins at the first part. In the sinks in memory and on disk each `put` and
+/// `cut_to` starts the walk again; of other sinks nothing is known about a walk that was under way,
+/// and `rewind` starts it again.
 pub trait PartWalk: PartSink {
     /// These parts are still to come.
     ghost ahead: { Self → List Portion → Type 0 };
 
-    /// How much is still to come at most: a number of every sink.
+    /// An upper bound of what is still to come, for any sink.
     ghost left: { Self → ℕ };
 
     /// Why a call that would lend a part was refused with this fault, by the sink before and after.
@@ -164,11 +165,11 @@ pub trait PartWalk: PartSink {
         ensures same_weight { Self.weighs self.new ≡ Self.weighs self.old }
         ensures calm { Self.refusals self.new ≡ Self.refusals self.old };
 
-    /// Lends the next part; `None` behind the last, and again from then on.
+    /// Lends the next part, or returns `None` after the last, however often it is called.
     ///
     /// # Errors
     ///
-    /// What the sink's device refused. The same part is still to come.
+    /// Returns the refusal of the sink's device. The same part is still to come.
     fn next_part(&mut self) -> Result<Option<Part<'_>>, SinkFault>
         ensures* after_borrow { sem 𝓛 (Rests Self.row self.entry (λ new.
             HasGiven Self.holds Self.weighs Self.refusals Self.crashes Self.ahead Self.left

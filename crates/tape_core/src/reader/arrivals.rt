@@ -1,4 +1,4 @@
-//! What comes from a reel, while it is awaited and when it is there.
+//! How a reader processes the items of a reel.
 
 ghost use Rattle.std.specs.Prelude.{◌≡◌, ◌≢◌, false, Some, ◌<◌, ◌≤◌, ◌⊎◌, Bool, List, true, length};
 ghost use Rattle.std.specs.Prelude.{OnOk, IfOk, Ok, not};
@@ -25,7 +25,7 @@ use tape_label::{Format, LabelFault, is_volume_label, kind, read_head1, read_tra
 use tape_set::Position;
 
 impl ReaderCore {
-    /// One step. A file that is complete stays so, whatever comes.
+    /// One step. A complete file stays complete, whatever the item.
     #[inline(always)]
     pub(crate) fn advance(&mut self, event: Event<'_>) -> Answer
         ensures table { (result, self.new) ≡ Table.step_of self.old (arrival event.entry) }
@@ -59,7 +59,7 @@ impl ReaderCore {
         }
     }
 
-    /// A block that is none of the data of the section awaited.
+    /// A block that is not data of the section needed.
     fn at_other_block(&mut self, block: &[u8]) -> Answer
         requires other { wants_data self.old.phase ≡ false }
         ensures table { (result, self.new) ≡ Table.at_block self.old self.old.phase block.now }
@@ -104,7 +104,7 @@ impl ReaderCore {
         }
     }
 
-    /// The mark behind the headers.
+    /// The mark after the headers.
     fn data_follow(&mut self, heading: Heading, wanted: Option<Known>) -> Answer
         requires { ToldFits self.old.begun wanted }
         ensures table { (result, self.new)
@@ -156,7 +156,7 @@ impl ReaderCore {
         };
     }
 
-    /// Goes to a checkpoint of this file.
+    /// Moves to a checkpoint of this file.
     pub(crate) fn go_to(&mut self, checkpoint: &Checkpoint) -> Result<(), CoreFault>
         ensures value { (result, self.new) ≡ Table.restart_of self.old checkpoint.now }
     {
@@ -172,8 +172,8 @@ impl ReaderCore {
 }
 
 impl ReaderCore {
-    /// A block: one that was delivered before is passed. What is expected is changed in place,
-    /// since nearly all that a reel holds are such blocks.
+    /// A block: one that was delivered before is skipped. What is expected is changed in place,
+    /// since nearly all items of a reel are such blocks.
     #[inline(always)]
     pub(crate) fn at_data(&mut self, block: &[u8]) -> Answer
         requires wanted { wants_data self.old.phase ≡ true }
@@ -203,8 +203,8 @@ impl ReaderCore {
         }
     }
 
-    /// An item that could not be read, behind so many blocks: one that was delivered before may be
-    /// bad, the one awaited may not.
+    /// An unreadable item after `seen` blocks: the reading stops only if it is the expected block
+    /// or a later one.
     pub(crate) fn at_bad_data(&mut self, heading: Heading, form: Known, seen: u32) -> Answer
         requires told { ToldFits self.old.begun (Some form) }
         ensures table { (result, self.new) ≡ Table.at_bad_data self.old heading form seen }
@@ -217,7 +217,7 @@ impl ReaderCore {
         }
     }
 
-    /// The mark behind so many blocks: all that were delivered before have to stand before it.
+    /// The mark after the data: all blocks that were delivered before must precede it.
     pub(crate) fn at_data_end(&mut self, heading: Heading, form: Known, seen: u32) -> Answer
         requires told { ToldFits self.old.begun (Some form) }
         ensures table { (result, self.new) ≡ Table.at_data_end self.old heading form seen }
@@ -231,8 +231,8 @@ impl ReaderCore {
     }
 }
 
-/// Whether a block leaves a record begun, where it is the one of this number, or why it is not. So
-/// many of its parts were delivered, and `begun` is said of the next.
+/// Whether a block leaves a record unfinished, if it has this number, or why it is refused. `part`
+/// of its parts were delivered, and `begun` is the state before the next part.
 #[inline(always)]
 fn judge_awaited(
     form: &Known,
@@ -265,7 +265,7 @@ fn judge_awaited(
     }
 }
 
-/// The shape of the file's blocks, as far as it binds a reader.
+/// The shape of the file's blocks, as far as readers check it.
 pub(crate) fn shape_of(known: &Known) -> Shape
     ensures format { result.format ≡ known.now.format }
     ensures rec_len { result.rec_len ≡ known.now.rec_len }
@@ -282,7 +282,7 @@ pub(crate) fn shape_of(known: &Known) -> Shape
     }
 }
 
-/// Whether the block's first unit goes on with a record: in format S its indicator is `2` or `3`.
+/// Whether the block's first unit continues a record: in format S its indicator is `2` or `3`.
 fn goes_on_at(format: Format, offset: u8, block: &[u8]) -> bool
     ensures { result ≡ Parts'.goes_on_at format offset block.now }
 {
@@ -298,8 +298,8 @@ fn goes_on_at(format: Format, offset: u8, block: &[u8]) -> bool
     }
 }
 
-/// Whether a record is begun where the block begins, of which so many parts were delivered;
-/// `begun` is said of the part that is awaited.
+/// Whether a record is unfinished where the block begins, if `part` of its parts were delivered;
+/// `begun` is the state before the expected part.
 pub(crate) fn begun_before(known: &Known, part: u32, begun: bool, block: &[u8]) -> bool
     ensures { result ≡ Parts'.begun_before known.now part begun block.now }
 {
@@ -317,8 +317,9 @@ fn differs(a: bool, b: bool) -> bool
     if a { !b } else { b }
 }
 
-/// Whether the block, which was checked, cannot be the one of which so many parts were delivered:
-/// it has no more, or behind these no record is begun where one is, or the other way.
+/// Whether the block, which was checked, cannot be the one of which `part` parts were delivered: it
+/// has too few, or after these parts the record is unfinished where it should not be, or the other
+/// way round.
 pub(crate) fn other_front(known: &Known, part: u32, begun: bool, block: &[u8]) -> bool
     requires { (before : Bool) × (end : Bool)
         × (judged known.now.format known.now.rec_len known.now.offset before block.now ≡ Ok end) }

@@ -1,4 +1,4 @@
-//! Which labels go on with a file.
+//! Which labels continue a file.
 
 ghost use Rattle.std.specs.Prelude.{◌≡◌, ◌≢◌, true, false, Some, ℕ, List};
 ghost use Rattle.tape_label.specs.Kinds.{kind_at};
@@ -68,7 +68,7 @@ impl ReaderCore {
         }
     }
 
-    /// HDR2 is expected. Of a section passed over its kind alone is looked at.
+    /// HDR2 is expected. In a skipped section only its kind is checked.
     pub(crate) fn second_label(&mut self, heading: Heading, wanted: bool, block: &[u8]) -> Answer
         ensures table { (result, self.new)
             ≡ Table.second_label self.old heading wanted block.now (kind_at block.now) }
@@ -81,7 +81,7 @@ impl ReaderCore {
         }
     }
 
-    /// HDR2 of the section awaited.
+    /// HDR2 of the section needed.
     fn at_head2(&mut self, heading: Heading, block: &[u8]) -> Answer
         ensures table { (result, self.new) ≡ Table.at_head2 self.old heading (head2_at block.now) }
         ensures silent { result ≢ Answer.Deliver }
@@ -98,7 +98,7 @@ impl ReaderCore {
         }
     }
 
-    /// The trailer of a section passed over: its numbers show whether a mark was lost.
+    /// The trailer of a skipped section: its numbers show whether a mark was lost.
     pub(crate) fn at_passed_trailer(
         &mut self,
         heading: Heading,
@@ -114,7 +114,7 @@ impl ReaderCore {
         }
     }
 
-    /// The trailer of the section awaited, of which all blocks were seen.
+    /// The trailer of the section needed, all of whose blocks were seen.
     pub(crate) fn at_wanted_trailer(
         &mut self,
         heading: Heading,
@@ -164,7 +164,7 @@ impl ReaderCore {
         if self.sect() >= 9_999 {
             return self.useless(Reason::SectionDiffers);
         }
-        // A section without blocks tells it as well.
+        // This applies to a section without blocks too.
         self.known = Some(form);
         self.position = self.position.next_section();
         self.phase = Phase::Over;
@@ -183,7 +183,7 @@ pub(crate) fn not_of_kind(block: &[u8]) -> LabelFault
     }
 }
 
-/// What is kept of an HDR1.
+/// What is remembered of an HDR1.
 pub(crate) fn heading_of(head: &Head1) -> Heading
     ensures { result ≡ Labels.heading_of head.now }
 {
@@ -218,7 +218,7 @@ pub(crate) fn other_shape(known: &Option<Known>, form: &Known) -> bool
     }
 }
 
-/// What HDR1 and HDR2 of a section tell of its file.
+/// The form that HDR1 and HDR2 of a section describe.
 pub(crate) fn form_at(heading: &Heading, head: &Head2) -> Known
     requires { (which : Kind) × (label : List ℕ) × IsHead2 label which head.now }
     ensures { result ≡ Labels.form_at heading.now head.now }
