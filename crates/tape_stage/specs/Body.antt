@@ -1,4 +1,4 @@
--- The 127 bytes behind a gate: a generation, a checkpoint and spaces.
+-- The 127 bytes after a gate: a generation, a checkpoint and spaces.
 use Rattle.std.specs.Prelude.{ℕ, ◌^◌, ◌<◌, List, ◌++◌, take, drop, replicate, Option, Some}
 use Rattle.std.specs.Prelude.{None, if◌then◌else◌}
 use Rattle.std.specs.Str.{all_ascii_digits}
@@ -22,17 +22,17 @@ Slot = ℕ × Point
 abbrev pub point_text : Point → List ℕ
 point_text c = text_of (pieces Two (fields_of c))
 
--- what is written behind a gate: a generation of 15 digits, its checkpoint's text and 32 spaces
+-- what is written after a gate: a generation of 15 digits, its checkpoint's text and 32 spaces
 unfoldable pub body_text : ℕ → Point → List ℕ
 body_text g point = digits 15 g ++ (point_text point ++ replicate 32 32)
 
--- this generation and the checkpoint, where there is one
+-- this generation and the checkpoint, if there is one
 abbrev pub with_generation : ℕ → Option Point → Option Slot
 with_generation g None = None
 with_generation g (Some point) = Some (g, point)
 
--- what a body says: its generation is digits, and its text that of a checkpoint; what follows is
--- not looked at
+-- what a body contains: its generation is digits, and its text that of a checkpoint; the rest is
+-- ignored
 unfoldable pub body_of : List ℕ → Option Slot
 body_of body =
     if all_ascii_digits (take 15 body)

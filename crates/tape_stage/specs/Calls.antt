@@ -1,5 +1,5 @@
--- A disk as the calls that it was given: what a read gives after them, and what a crash may leave
--- at each moment.
+-- A disk as the calls that were made on it: what a read returns after them, and what a crash may
+-- leave at each moment.
 use Rattle.std.specs.Prelude.{◌≡◌, ◌⊎◌, ℕ, zero, suc, ◌+◌, ◌≤◌, Bool, true, false, List, [], ◌∷◌}
 use Rattle.std.specs.Prelude.{◌++◌, length, take, drop}
 use mathlib.Core.Logic.{inr}
@@ -12,12 +12,12 @@ use Rattle.tape_stage.specs.Disk.{Torn, CutShort}
 use Rattle.tape_stage.specs.declared.disk.content.Call.{Call}
 use Rattle.tape_stage.specs.declared.disk.content.Call.TheVariants.{Look, Write, Cut, Sync}
 
--- what stood first: kept apart once there was a change
+-- the original contents: saved once there was a change
 abbrev pub kept_or : Bool → List ℕ → List ℕ → List ℕ
 kept_or true kept bytes = kept
 kept_or false kept bytes = bytes
 
--- what a read gives after a call
+-- what a read returns after a call
 abbrev pub after : List ℕ → Call → List ℕ
 after seen Look = seen
 after seen (Write place bytes) = take place seen ++ bytes.items ++ drop
@@ -51,7 +51,7 @@ since_by seen left (call ∷ calls) zero c = left c
 since_by seen left (call ∷ calls) (suc t) c = since_by (after seen call)
     (left_after seen left call) calls t c
 
--- on a disk that held these bytes first, all of them durable
+-- on a disk that began with these bytes, all of them durable
 abbrev pub IsImage : List ℕ → List Call → List ℕ → Type 0
 IsImage first calls c = left_by first (λ d. d ≡ first) calls c
 
@@ -80,7 +80,7 @@ fit_one_way seen [] = Prim.hlevel props
 fit_one_way seen (call ∷ calls) = Prim.hlevel
     (props, fits_one_way seen call, fit_one_way (after seen call) calls)
 
--- the worst of what a crash may leave: 255 wherever a byte is open, and nothing absent
+-- the worst that a crash may leave: 255 wherever a byte is open, and nothing absent
 abbrev pub worst_after : List ℕ → List ℕ → Call → List ℕ
 worst_after seen worst Look = worst
 worst_after seen worst (Write place bytes) = take place worst ++ replicate (length bytes.items) 255
@@ -242,8 +242,8 @@ pub only_image : (first : List ℕ) (calls : List Call) (c : List ℕ)
     → WasImage first calls (length calls) c → IsImage first calls c
 only_image first calls c was = only first (λ d. d ≡ first) calls c was
 
--- The record of a disk in memory is right: its calls lead from what stood first to what is there,
--- and to the worst of what a crash may leave.
+-- The record of a disk in memory is right: its calls lead from the original contents to the current
+-- ones, and to the worst that a crash may leave.
 pub record IsRight (first worst bytes : List ℕ) (calls : List Call) : Type 0 where
   pub seen : seen_by first calls ≡ bytes
   pub fit : AllFit first calls

@@ -1,5 +1,5 @@
--- What the definitions of disks and stages say of cases, so that none of them says less than it
--- should, and none that is asked for asks more. The call `laws::cases` has them as its contract.
+-- Examples for the definitions of disks and stages, so that none of them says less than it should,
+-- and no requirement asks for more. They are the contract of the call `laws::cases`.
 use Rattle.std.specs.Prelude.{◌≡◌, ◌⊎◌, ◌≤◌, ◌+◌, ◌-◌, ◌==◌, ℕ, List, [], ◌∷◌, ◌++◌, take, drop}
 use Rattle.std.specs.Prelude.{length, min, replicate, codes, Some, None, Bool, true, false, not}
 use Rattle.std.specs.Prelude.{Option, Result, Ok, Err}
@@ -45,15 +45,15 @@ use Rattle.tape_stage.specs.Stages.{EndsCall, OpensOver, Returned, Survived, cra
 
 -- what a crash may leave of a write and of a cut
 pub record CasesOfCrashes : Type 0 where
-  -- of a write of four bytes behind one: nothing of it,
+  -- of a write of four bytes after one: nothing of it,
   pub torn_nothing : Torn 1 4 (7 ∷ []) (7 ∷ [])
   -- all of it,
   pub torn_all : Torn 1 4 (7 ∷ []) (7 ∷ 1 ∷ 2 ∷ 3 ∷ 4 ∷ [])
-  -- or two of the bytes, and others than were written
+  -- or two of the bytes, even other ones than were written
   pub torn_short : Torn 1 4 (7 ∷ []) (7 ∷ 1 ∷ 255 ∷ [])
-  -- of a write over the first two of three any bytes stand there
+  -- a write over the first two of three bytes may leave any bytes there
   pub torn_inside : Torn 0 2 (7 ∷ 8 ∷ 9 ∷ []) (0 ∷ 255 ∷ 9 ∷ [])
-  -- but nothing before it or behind it is another, and the file gets no shorter
+  -- but no byte before or after it changes, and the file does not get shorter
   pub front_stays : Torn 1 2 (7 ∷ 8 ∷ 9 ∷ []) (6 ∷ 1 ∷ 2 ∷ []) → ⊥
   pub rest_stays : Torn 0 1 (7 ∷ 8 ∷ []) (7 ∷ 9 ∷ []) → ⊥
   pub none_is_lost : Torn 0 1 (7 ∷ []) [] → ⊥
@@ -65,37 +65,37 @@ pub record CasesOfCrashes : Type 0 where
   pub cut_front_stays : CutShort 1 (1 ∷ 2 ∷ []) (9 ∷ 2 ∷ []) → ⊥
   pub cut_no_more : CutShort 1 (1 ∷ 2 ∷ []) [] → ⊥
   pub cut_no_longer : CutShort 1 (1 ∷ []) (1 ∷ 2 ∷ []) → ⊥
-  -- what is written is there, and nothing else is another
+  -- what is written is read, and no other byte changes
   pub written : (new : List ℕ) → disk.Holds (1 ∷ 2 ∷ 3 ∷ []) 1 (9 ∷ []) new → new ≡ 1 ∷ 9 ∷ 3 ∷ []
-  -- what a crash may leave besides is no more of the same, and not that file alone
+  -- a crash may leave nothing else, and not only that file
   pub more_is_more : NoMore (λ c. c ≡ []) (λ c. Unit {0}) → ⊥
   pub other_is_other : Only [] (λ c. Unit {0}) → ⊥
-  -- what may be left behind a step is what the step makes of what might be left before
+  -- what may be left after a step is what the step makes of what might be left before
   pub stepped : Follows (λ d c. (d ≡ []) × (c ≡ 7 ∷ [])) (λ c. c ≡ []) (λ c. c ≡ 7 ∷ [])
   pub not_stepped : Follows (λ d c. ⊥) (λ c. c ≡ []) (λ c. c ≡ []) → ⊥
-  -- and what a step allows may be left behind it
+  -- and what a step allows may be left after it
   pub allowed : Allows (λ d c. (d ≡ []) × (c ≡ 7 ∷ [])) (λ c. c ≡ []) (λ c. c ≡ 7 ∷ [])
   pub not_allowed : Allows (λ d c. c ≡ 7 ∷ []) (λ c. c ≡ []) (λ c. c ≡ []) → ⊥
   pub allowed_of_nothing : Allows (λ d c. c ≡ 7 ∷ []) (λ c. ⊥) (λ c. ⊥)
-  -- bytes that are held are read at their place, also behind the end,
+  -- buffered bytes are read at their place, even past the end,
   pub held_over : with_held 1 (8 ∷ 9 ∷ []) (1 ∷ 2 ∷ 3 ∷ 4 ∷ []) ≡ 1 ∷ 8 ∷ 9 ∷ 4 ∷ []
   pub held_behind : with_held 2 (7 ∷ []) (1 ∷ 2 ∷ []) ≡ 1 ∷ 2 ∷ 7 ∷ []
   -- a crash may leave none of them, or others in their place, but no other byte before them,
   pub held_lost : LeftTorn (λ c. c ≡ 1 ∷ []) 1 (7 ∷ []) (1 ∷ [])
   pub held_torn : LeftTorn (λ c. c ≡ 1 ∷ []) 1 (7 ∷ []) (1 ∷ 255 ∷ [])
   pub held_there : LeftTorn (λ c. c ≡ 1 ∷ []) 1 (7 ∷ []) (2 ∷ []) → ⊥
-  -- and nothing where the disk behind leaves nothing
+  -- and nothing if the disk itself leaves nothing
   pub held_of_nothing : LeftTorn (λ c. ⊥) 0 (7 ∷ []) [] → ⊥
-  -- of a disk in memory that was cut from two bytes to one: both, until it is synced, and no more
-  -- once it is
+  -- of a disk in memory that was cut from two bytes to one: both, until it is synced, and then only
+  -- the one
   pub cut_in_memory : IsImage (1 ∷ 2 ∷ []) (Cut 1 ∷ []) (1 ∷ 2 ∷ [])
   pub synced_in_memory : (c : List ℕ) → IsImage (1 ∷ 2 ∷ []) (Cut 1 ∷ Sync ∷ []) c → c ≡ 1 ∷ []
   pub before_it_was_synced : WasImage (1 ∷ 2 ∷ []) (Cut 1 ∷ Sync ∷ []) 1 (1 ∷ 2 ∷ [])
   pub since_it_was_synced : WasImage (1 ∷ 2 ∷ []) (Cut 1 ∷ Sync ∷ []) 2 (1 ∷ 2 ∷ []) → ⊥
   -- and the worst has 255 where a byte is open
   pub worst_in_memory : worst_by (1 ∷ 2 ∷ []) (1 ∷ 2 ∷ []) (Cut 1 ∷ []) ≡ 1 ∷ 255 ∷ []
-  -- of one without a call a crash leaves the bytes that it began with, now and since then, and
-  -- these are there while nothing changes them
+  -- without a call a crash leaves the original bytes, now and since then, and these are read while
+  -- nothing changes them
   pub left_in_memory : (d : MemoryDisk) (c : List ℕ) → d.content.calls.items ≡ []
       → memory_leaves d c → c ≡ first_of d.content
   pub left_since_then : (d : MemoryDisk) (c : List ℕ) → d.content.calls.items ≡ []
@@ -103,8 +103,8 @@ pub record CasesOfCrashes : Type 0 where
   pub began_with : (d : MemoryDisk) → d.content.changed ≡ false
       → first_of d.content ≡ memory_bytes d
 
--- a disk that is no more than its moment: what a crash may leave of it then, and what one may have
--- left since an earlier moment
+-- a disk reduced to its moment: what a crash may leave of it then, and what one may have left since
+-- an earlier moment
 abbrev pub disk_of : (ℕ → List ℕ → Type 0) → (ℕ → ℕ → List ℕ → Type 0) → Ghosts ℕ
 disk_of may_leave left_since = record {
   is_honest = λ d. Unit {0};
@@ -118,24 +118,23 @@ disk_of may_leave left_since = record {
 
 -- what a crash may have left at some moment
 pub record CasesOfMoments : Type 0 where
-  -- a call during which a crash might have left the byte 7 does not pass as one behind which no
-  -- byte is left,
+  -- a call during which a crash might have left the byte 7 is not one after which no byte is left,
   pub not_in_between : Passes (disk_of (λ d c. ⊥) (λ d t c. (d ≡ 1) × (c ≡ 7 ∷ []))) 0 1
       (λ c. c ≡ []) → ⊥
-  -- nor one behind which a crash may leave it,
+  -- nor one after which a crash may leave it,
   pub not_behind : Passes (disk_of (λ d c. (d ≡ 1) × (c ≡ 7 ∷ [])) (λ d t c. ⊥)) 0 1
       (λ c. c ≡ []) → ⊥
   -- nor one that goes back in time
   pub not_backwards : Passes (disk_of (λ d c. ⊥) (λ d t c. ⊥)) 1 0 (λ c. ⊥) → ⊥
   -- but what might have been left before the call, it may have left
   pub left_before : Passes (disk_of (λ d c. ⊥) (λ d t c. c ≡ 7 ∷ [])) 0 1 (λ c. ⊥)
-  -- so it is where bytes are held: earlier what the disk behind left, now that with these torn in
+  -- so it is for buffered bytes: earlier what the disk itself left, now that with these torn in
   pub held_before : LeftSince (λ t c. c ≡ 5 ∷ []) (λ c. ⊥) 0 (7 ∷ []) 0 (5 ∷ [])
   pub held_now : LeftSince (λ t c. ⊥) (λ c. c ≡ []) 0 (7 ∷ []) 0 (7 ∷ [])
   pub held_never : LeftSince (λ t c. ⊥) (λ c. ⊥) 0 (7 ∷ []) 0 [] → ⊥
-  -- as time goes on, nothing that might have been left is forgotten,
+  -- as time passes, nothing that might have been left is forgotten,
   pub not_forgotten : Elapses 0 1 (λ t c. Unit {0}) (λ t c. ⊥) (λ c. ⊥) → ⊥
-  -- nothing else was there,
+  -- nothing else was left,
   pub not_invented : Elapses 0 1 (λ t c. ⊥) (λ t c. Unit {0}) (λ c. ⊥) → ⊥
   -- and no moment comes again
   pub not_again : Elapses 1 0 (λ t c. ⊥) (λ t c. ⊥) (λ c. ⊥) → ⊥
@@ -163,11 +162,11 @@ abbrev pub worked_text : List ℕ
 worked_text =
     codes "TPCK2ABC00100030002000000000700001R11S0000012PAYROLL          000000000000085   "
 
--- what bytes stand for
+-- what bytes represent
 pub record CasesOfFiles : Type 0 where
-  -- no bytes stand for nothing
+  -- no bytes represent nothing
   pub nothing_staged : HoldsNone []
-  -- a slot counts where its gate, at 0 or at 128, is O
+  -- a slot is valid if its gate, at 0 or at 128, is O
   pub first_gate : gate_at false (79 ∷ []) ≡ 79
   pub second_gate : gate_at true (replicate 128 32 ++ 79 ∷ []) ≡ 79
   pub closed_gate : (body : List ℕ) → read_slot 67 body ≡ None
@@ -177,48 +176,48 @@ pub record CasesOfFiles : Type 0 where
   -- so at a tie the first slot does not lose by the second, and the second loses by the first
   pub first_wins : (a : Point) → Loses false 3 (Some (3, a))
   pub second_loses : (a : Point) → Loses true 3 (Some (3, a)) → ⊥
-  -- which slot counts, and whether the other one is open, is what the bytes say
+  -- the bytes determine which slot is current, and whether the other one is open
   pub found : (f : Found) (bytes : List ℕ) → IsFound f bytes
       → (slot_at f.in_second bytes ≡ Some (f.generation, f.point))
       × Loses f.in_second f.generation (slot_at (not f.in_second) bytes)
       × (f.other_open ≡ (gate_at (not f.in_second) bytes == 79))
-  -- a checkpoint's text, and what is written behind a gate
+  -- a checkpoint's text, and what is written after a gate
   pub text : point_text worked_point ≡ worked_text
   pub body : body_text 9 worked_point ≡ codes "000000000000009" ++ (worked_text ++ replicate 32 32)
-  -- what is staged is told by the slot that counts, and its frames are there, whole,
+  -- the current slot determines what is staged, and all its frames are intact,
   pub staged_is_there : (bytes : List ℕ) (g : ℕ) (point : Point) (parts : List Portion)
       → Staged bytes g point parts
       → (best (slot_at false bytes) (slot_at true bytes) ≡ Some (g, point))
       × (256 + point.staged ≤ length bytes)
       × (take point.staged (drop 256 bytes) ≡ frames parts)
-  -- and is none that stands nowhere
+  -- and no frame is where there is none
   pub none_holds : (bytes : List ℕ) (g : ℕ) (point : Point) (parts : List Portion)
       → HoldsNone bytes → Staged bytes g point parts → ⊥
-  -- bytes that stand like others stand for what these do
+  -- bytes equal to others represent the same
   pub stands_like : (read c : List ℕ) (g : ℕ) (point : Point) (parts : List Portion)
       → StandsLike read c → Staged read g point parts → Staged c g point parts
-  -- what is kept staged stands where it stood, and what follows may be cut
+  -- what is staged and kept is unchanged, and what follows may be cut
   pub staged_stays : (old new : List ℕ) (g : ℕ) (point : Point) (parts : List Portion)
       → KeepsStaged old new → Staged old g point parts
       → (take (256 + point.staged) new ≡ take (256 + point.staged) old)
       × (length new ≤ length old)
-  -- frames that are kept are all there
+  -- frames that are kept are all intact
   pub frames_stay : (old new : List ℕ) → KeepsFrames old new
       → (drop 256 new ≡ drop 256 old) × (length old ≤ length new)
-  -- where a frame is bad, parts are framed before it by the slot that counts, and none there
+  -- if a frame is bad, the current slot counts parts, those before it are intact, and it is not
   pub bad_place : (bytes : List ℕ) (place : ℕ) (b : IsBadPlace bytes place)
       → WalkedTo place bytes
       × NoFrameAt place (min (256 + b.point.staged) (length bytes)) bytes
       × (best (slot_at false bytes) (slot_at true bytes) ≡ Some (b.generation, b.point))
   pub walked : (bytes : List ℕ) (place : ℕ) (w : WalkedTo place bytes) → (256 ≤ place)
       × (take (place - 256) (drop 256 bytes) ≡ frames w.parts)
-  -- a frame of one byte, A, stands in its six; in five none does, and none behind another digit
+  -- a frame of one byte, A, has six bytes; there is none in five, and none after another digit
   pub a_frame : IsFrameAt 0 6 (48 ∷ 0 ∷ 0 ∷ 0 ∷ 1 ∷ 65 ∷ []) Whole (65 ∷ [])
   pub no_room : NoFrameAt 0 5 (48 ∷ 0 ∷ 0 ∷ 0 ∷ 1 ∷ 65 ∷ [])
   pub no_digit : NoFrameAt 0 6 (52 ∷ 0 ∷ 0 ∷ 0 ∷ 1 ∷ 65 ∷ [])
   pub no_frame : (bytes : List ℕ) (place end : ℕ) (span : Span) (content : List ℕ)
       → NoFrameAt place end bytes → IsFrameAt place end bytes span content → ⊥
-  -- the same frame is that of one part, of weight 6, at the front of two
+  -- the same frame is that of one part, of weight 6, the first of two
   pub frame_of : frames (record { span = Whole; bytes = 65 ∷ [] } ∷ [])
       ≡ 48 ∷ 0 ∷ 0 ∷ 0 ∷ 1 ∷ 65 ∷ []
   -- each part of a frame is short enough
@@ -226,29 +225,29 @@ pub record CasesOfFiles : Type 0 where
       × (length b.bytes ≤ longest_block)
   pub front_of_two : (a b : Portion) → length a.bytes ≡ 1 → IsFront 6 (a ∷ []) (a ∷ b ∷ [])
 
--- what calls leave of any disk, and what comes back of a stage on it
+-- what calls leave of any disk, and what is left of a stage on it
 pub record CasesOfStages {D : Type 0} (g : Ghosts D) : Type 0 where
-  -- of what was left untouched reads give what they gave, and a crash leaves what it might have
+  -- of what was untouched, reads return what they did, and a crash leaves what it might have
   pub untouched_stays : (old new : D) → Untouched g old new
       → (g.seen new ≡ g.seen old) × ((c : List ℕ) → g.may_leave new c → g.may_leave old c)
       × ((c : List ℕ) → g.left_since new (g.moment old) c
       → g.left_since old (g.moment old) c ⊎ g.may_leave old c)
-  -- so it is of what was only read of an honest disk,
+  -- so it is for what was only read of an honest disk,
   pub only_read_stays : (old new : D) → OnlyReads g old new → g.is_honest old
       → (g.seen new ≡ g.seen old) × ((c : List ℕ) → g.may_leave new c → g.may_leave old c)
-  -- and any disk stays as long, and becomes no honest one
+  -- and any disk keeps its length, and does not become honest
   pub read_is_as_long : (old new : D) → OnlyReads g old new
       → (g.length_of new ≡ g.length_of old) × (g.is_honest new → g.is_honest old)
-  -- a disk is as honest as another where each is that the other is
+  -- a disk is as honest as another if each is honest exactly if the other is
   pub as_honest : (old new : D) → disk.SameFact (g.is_honest old) (g.is_honest new)
       → (g.is_honest old → g.is_honest new) × (g.is_honest new → g.is_honest old)
-  -- of a stage all parts are framed, the first of them are acknowledged, and it has not failed
+  -- all parts of a stage are framed, the first of them are acknowledged, and it has not failed
   pub is_stage : (stage : Stage D g) (acked parts : List Portion) → IsStage stage acked parts
       → (stage.failed ≡ false) × (stage.acknowledged.staged ≤ stage.weight)
       × Holding stage.weight parts (g.seen stage.disk)
       × Ready stage.in_second stage.generation stage.acknowledged acked stage.other_open
       (g.seen stage.disk) (g.may_leave stage.disk)
-  -- what it holds is what it would read, on a disk that is honest unless a save failed
+  -- it contains what it would read, on a disk that is honest unless a save failed
   pub holds : (stage : Stage D g) (parts : List Portion) → Holds stage parts
       → (stage.pending ≡ None → g.is_honest stage.disk)
       × Holding stage.weight parts (g.seen stage.disk)
@@ -257,13 +256,13 @@ pub record CasesOfStages {D : Type 0} (g : Ghosts D) : Type 0 where
   pub ahead : (stage : Stage D g) (parts : List Portion) → IsAhead stage parts
       → (stage.pending ≡ None → g.is_honest stage.disk)
       × AheadIn (256 + stage.walked) (256 + stage.weight) (g.seen stage.disk) parts
-  -- what is ready is acknowledged, and alike in all that a crash may leave
+  -- what is ready is acknowledged, and the same in all that a crash may leave
   pub ready : (second : Bool) (n : ℕ) (point : Point) (parts : List Portion) (other_open : Bool)
       (disk : D) → Ready second n point parts other_open (g.seen disk) (g.may_leave disk)
       → StagedIn second n point parts (g.seen disk)
       × (other_open ≡ (gate_at (not second) (g.seen disk) == 79)) × ((c : List ℕ)
       → g.may_leave disk c → take (256 + point.staged) c ≡ take (256 + point.staged) (g.seen disk))
-  -- a reader of parts has the stage that it had, which gave its next part
+  -- a reader of parts has the stage that it had, which returned its next part
   pub has_read : (old new : PartReader D g) (result : Result (Option Part) SinkFault)
       → HasRead old result new → (new.stage.ghost_name ≡ old.stage.ghost_name)
       × StageGave old.stage.now result new.stage.now
@@ -273,7 +272,7 @@ pub record CasesOfStages {D : Type 0} (g : Ghosts D) : Type 0 where
   pub part_given : (old new : Stage D g) (part : Part) (p : Portion) (parts : List Portion)
       → StageGave old (Ok (Some part)) new → IsAhead old (p ∷ parts)
       → (view part ≡ p) × IsAhead new parts
-  -- whatever a crash may leave now that stands for a checkpoint and parts comes back,
+  -- whatever a crash may leave now that represents a checkpoint and parts comes back,
   pub what_is_left_returns : (stage : Stage D g) (bytes : List ℕ) (n : ℕ) (back : Point)
       (there : List Portion) → g.may_leave stage.disk bytes → Staged bytes n back there
       → Returns stage back there
@@ -285,7 +284,7 @@ pub record CasesOfStages {D : Type 0} (g : Ghosts D) : Type 0 where
   pub something_returns : (stage : Stage D g) (bytes : List ℕ) → Survives stage
       → g.may_leave stage.disk bytes
       → (back : Point) × (there : List Portion) × Returns stage back there
-  -- the same of what a crash left since a moment, and of what it may leave now
+  -- the same for what a crash left since a moment, and for what it may leave now
   pub what_was_left_returned : (stage : Stage D g) (t : ℕ) (bytes : List ℕ) (n : ℕ) (back : Point)
       (there : List Portion) → g.left_since stage.disk t bytes ⊎ g.may_leave stage.disk bytes
       → Staged bytes n back there → Returned stage t back there
@@ -302,7 +301,7 @@ pub record CasesOfStages {D : Type 0} (g : Ghosts D) : Type 0 where
       × ((crashes_of stage).survives → Survives stage)
       × ((crashes_of stage).survived t → Survived stage t)
       × ((crashes_of stage).moment ≡ g.moment stage.disk)
-  -- a stage that failed stands still, and so does one that is full
+  -- a stage that failed does not change, and neither does one that is full
   pub failed_stays : (old new : Stage D g) → HasRefused old new Failed
       → (new ≡ old) × (old.failed ≡ true)
   pub full_stays : (old new : Stage D g) → HasRefused old new Full → new ≡ old
@@ -313,11 +312,11 @@ pub record CasesOfStages {D : Type 0} (g : Ghosts D) : Type 0 where
   pub end_ok : (old new : Stage D g) → EndsCall {A = Unit {0}} old (Ok tt) new
       → (old.failed ≡ false) × (new.refused ≡ old.refused)
       × (g.is_honest old.disk → g.is_honest new.disk)
-  -- and one is refused with Device where the disk failed, which became no honest one
+  -- and one is refused with Device if the disk failed, which did not become honest
   pub end_refused : (old new : Stage D g) → EndsCall {A = Unit {0}} old (Err Device) new
       → HasRefused old new Device × Rose (g.faults old.disk) (g.faults new.disk)
       × (g.is_honest new.disk → g.is_honest old.disk)
-  -- a crash while a stage is opened left what it might have before, or what stands for the same
+  -- a crash while a stage is opened left what it might have before, or what represents the same
   pub opened_over : (old new : D) (c : List ℕ) → OpensOver g old new
       → g.left_since new (g.moment old) c
       → g.left_since old (g.moment old) c ⊎ (g.may_leave old c ⊎ StandsLike (g.seen old) c)

@@ -1,6 +1,6 @@
--- What a caller draws from each law of texts and stages, so that none has a premise that nothing
--- meets; and what bytes of a generation or the next one are. The call `laws::cases` has them as its
--- contract, too.
+-- What a caller can conclude from each law of texts and stages, so that no law has a premise that
+-- is never true; and what bytes of a generation or the next one are. They are the contract of the
+-- call `laws::cases`, too.
 use Rattle.std.specs.Prelude.{◌≡◌, ◌⊎◌, ◌≤◌, ℕ, List, length, false, true}
 use Rattle.tape_blocks.specs.Block.{Portion}
 use Rattle.tape_set.specs.Position.{block_of, part_of}
@@ -15,14 +15,14 @@ use Rattle.tape_stage.specs.Text.{IsPointText, KnownFits}
 
 -- of laws, and of two generations
 pub record CasesOfLaws : Type 0 where
-  -- what was acknowledged stands in its slot, or the next generation in the other
+  -- what was acknowledged is in its slot, or the next generation is in the other
   pub of_either : (point next : Point) (parts more : List Portion) (bytes : List ℕ)
       → IsEither false 3 point next parts more bytes
       → StagedIn false 3 point parts bytes ⊎ StagedIn true 4 next more bytes
   pub by_either : (point next : Point) (parts more : List Portion) (bytes : List ℕ)
       → StagedIn false 3 point parts bytes ⊎ StagedIn true 4 next more bytes
       → IsEither false 3 point next parts more bytes
-  -- bytes stand for one checkpoint with its parts, under one generation
+  -- bytes represent one checkpoint with its parts, under one generation
   pub once : (bytes : List ℕ) (g h : ℕ) (point next : Point) (parts more : List Portion)
       → StandsOnce bytes → Staged bytes g point parts → Staged bytes h next more
       → (g ≡ h) × (point ≡ next) × (parts ≡ more)

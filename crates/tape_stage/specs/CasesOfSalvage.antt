@@ -1,5 +1,5 @@
--- What the definitions of what remains of a stage say of cases. The call `laws::cases` has them as
--- its contract, too.
+-- Examples for the definitions of what remains of a damaged stage. They are the contract of the
+-- call `laws::cases`, too.
 use Rattle.std.specs.Prelude.{◌≡◌, ◌-◌, ◌+◌, ◌≤◌, ◌<◌, min, ℕ, List, [], ◌∷◌, ◌++◌, length, take}
 use Rattle.std.specs.Prelude.{drop, replicate, Option, Some, None, false, true}
 use Rattle.tape_blocks.specs.declared.parts.Span.TheVariants.{Whole}
@@ -17,38 +17,38 @@ use Rattle.tape_stage.specs.declared.stage.salvage.Salvage.{Salvage}
 abbrev pub one_part : Portion
 one_part = record { span = Whole; bytes = 65 ∷ [] }
 
--- a frame whose last byte lacks
+-- a frame without its last byte
 abbrev pub cut_frame : List ℕ
 cut_frame = replicate 256 32 ++ 48 ∷ 0 ∷ 0 ∷ 0 ∷ 1 ∷ []
 
--- a frame, and one behind another digit
+-- a frame, and one after another digit
 abbrev pub frame_and_none : List ℕ
 frame_and_none = replicate 256 32
     ++ 48 ∷ 0 ∷ 0 ∷ 0 ∷ 1 ∷ 65 ∷ 52 ∷ 0 ∷ 0 ∷ 0 ∷ 1 ∷ 66 ∷ []
 
 -- of any disk
 pub record CasesOfSalvage {D : Type 0} (g : Ghosts D) : Type 0 where
-  -- of a frame whose last byte lacks nothing remains, and it is not whole
+  -- nothing remains of a frame without its last byte, and it is not whole
   pub cut_off : FramedTo 6 (Some 256) [] cut_frame
   pub not_whole : (parts : List Portion) → FramedTo 6 None parts cut_frame → ⊥
   -- of two frames whose second has no digit of a span the first remains
   pub one_remains : FramedTo 12 (Some 262) (one_part ∷ []) frame_and_none
-  -- and nothing breaks off where they should end behind it
+  -- and nothing is damaged if they should end after it
   pub no_break : FramedTo 6 None (one_part ∷ []) frame_and_none
   pub not_broken : (parts : List Portion) → FramedTo 6 (Some 262) parts frame_and_none → ⊥
-  -- of what is staged all remains, and where nothing breaks off it is staged
+  -- all that is staged remains, and if nothing is damaged it is staged
   pub all_remains : (bytes : List ℕ) (n : ℕ) (point : Point) (parts : List Portion)
       → Staged bytes n point parts → Remains bytes n point None parts
   pub all_staged : (bytes : List ℕ) (n : ℕ) (point : Point) (parts : List Portion)
       → Remains bytes n point None parts → Staged bytes n point parts
-  -- what remains before a break is told by the slot that counts, and stands there whole
+  -- the current slot counts what remains before the damage, and it is intact
   pub before_break : (bytes : List ℕ) (n : ℕ) (point : Point) (place : ℕ) (parts : List Portion)
       → Remains bytes n point (Some place) parts
       → (best (slot_at false bytes) (slot_at true bytes) ≡ Some (n, point))
       × (256 ≤ place) × (place < 256 + point.staged)
       × (take (place - 256) (drop 256 bytes) ≡ frames parts)
       × NoFrameAt place (min (256 + point.staged) (length bytes)) bytes
-  -- nothing remains is not said of something
+  -- if a part remains, it is false that nothing remains
   pub none_remains : (bytes : List ℕ) (n : ℕ) (point : Point) (broken : Option ℕ)
       (parts : List Portion) → RemainsNone bytes → Remains bytes n point broken parts → ⊥
   -- and what remains does so once
@@ -56,7 +56,7 @@ pub record CasesOfSalvage {D : Type 0} (g : Ghosts D) : Type 0 where
       (parts more : List Portion) → RemainsOnce bytes → Remains bytes n point broken parts
       → Remains bytes m next other more
       → (n ≡ m) × (point ≡ next) × (broken ≡ other) × (parts ≡ more)
-  -- what is held of it is what the disk would read, if it can be believed
+  -- its contents are what the disk would read, if it is honest
   pub holds_rest : (s : Salvage D g) (parts : List Portion) → HoldsRest s parts
       → g.is_honest s.disk × Holding s.weight parts (g.seen s.disk)
   pub rest_ahead : (s : Salvage D g) (parts : List Portion) → RestAhead s parts

@@ -1,4 +1,4 @@
--- What the calls of a disk do to what a read gives, and to what a crash may leave.
+-- How the calls of a disk change what a read returns, and what a crash may leave.
 use Rattle.std.specs.Prelude.{◌≡◌, ◌⊎◌, ℕ, ◌+◌, ◌≤◌, max, min, List, ◌++◌, length, take, drop}
 
 -- new is old with these bytes at this place
@@ -13,8 +13,8 @@ pub record Torn (place n : ℕ) (old new : List ℕ) : Type 0 where
   pub no_shorter : length old ≤ length new
   pub no_longer : length new ≤ max (length old) (place + n)
 
--- after a cut that a crash cuts short: the old bytes up to the cut's place, and any bytes or none
--- behind it, no more than there were
+-- after a cut that a crash interrupts: the old bytes up to the cut, followed by any bytes or none,
+-- no more than before
 pub record CutShort (n : ℕ) (old new : List ℕ) : Type 0 where
   pub no_shorter : min n (length old) ≤ length new
   pub no_longer : length new ≤ length old
@@ -36,15 +36,15 @@ NoMore old new = (c : List ℕ) → new c → old c
 abbrev pub Only : List ℕ → (List ℕ → Type 0) → Type 0
 Only file outcomes = (c : List ℕ) → outcomes c → c ≡ file
 
--- Time goes on: a crash since t might have left what it might have left before, or what it may
--- leave now.
+-- Time passes: a crash since t might have left what it might have left before, or what it may leave
+-- now.
 pub record Elapses (before now : ℕ) (past since : ℕ → List ℕ → Type 0)
     (may_leave : List ℕ → Type 0) : Type 0 where
   pub later : before ≤ now
   pub nothing_else : (t : ℕ) (c : List ℕ) → t ≤ before → since t c → past t c ⊎ may_leave c
   pub keeps : (t : ℕ) (c : List ℕ) → t ≤ before → past t c → since t c
 
--- so it goes on from one disk to the next
+-- so it is from one disk to the next
 abbrev pub IsLater : {D : Type 0} → (D → ℕ) → (D → ℕ → List ℕ → Type 0) → (D → List ℕ → Type 0) → D
     → D → Type 0
 IsLater moment left_since may_leave old new = Elapses (moment old) (moment new) (left_since old)

@@ -1,4 +1,4 @@
--- The faults of a stage: their fixed numbers, and what they say.
+-- The faults of a stage: their fixed numbers, and their meaning.
 use Rattle.std.specs.Prelude.{ℕ}
 use Rattle.tape_stage.specs.declared.stage.StageFault.{StageFault}
 use Rattle.tape_stage.specs.declared.stage.StageFault.TheVariants.{NoPoint, BadFrame, Device}
@@ -33,7 +33,7 @@ abbrev pub IsNotDevice : StageFault → Type 0
 IsNotDevice Device = ⊥
 IsNotDevice _ = Unit {0}
 
--- what the place of a bad frame has, where the fault names one
+-- what is true of the offset of a bad frame, if the fault has one
 abbrev pub OnBadFrame : StageFault → (ℕ → Type 0) → Type 0
 OnBadFrame (BadFrame place) P = P place
 OnBadFrame _ P = Unit {0}

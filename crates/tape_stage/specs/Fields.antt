@@ -1,4 +1,4 @@
--- The fields of a checkpoint's text, and the checkpoint that has given fields.
+-- The fields of a checkpoint's text, and the checkpoint with given fields.
 use Rattle.std.specs.Prelude.{Bool, if◌then◌else◌, replicate, Option, Some}
 use Rattle.std.specs.Prelude.{None, is_some}
 use Rattle.tape_label.specs.declared.values.Format.{Format}
@@ -15,15 +15,15 @@ use Rattle.tape_stage.specs.declared.point.Fields.{Fields}
 
 -- ---- the fields of a checkpoint
 
--- the numbers of the block and the part; zeros where the file is whole
+-- the numbers of the block and the part; zeros if the file is complete
 abbrev pub place_of : Position → Place
 place_of p = record { block = block_of p; part = part_of p }
 
--- the state, and whether a record is begun and anything known
+-- the state, and whether a record is unfinished and the form is known
 abbrev pub flags_of : Position → Bool → Option FileForm → Flags
 flags_of p begun known = record { done = is_finished p; begun = begun; known = is_some known }
 
--- what is said of the file; where nothing is known a blank, zeros and blanks
+-- the fields of the file's form; if it is not known, spaces and zeros
 abbrev pub form_of : Option FileForm → Form
 form_of None = record { format = None; rec_len = 0; offset = 0; file_id = replicate 17 32 }
 form_of (Some form) =
@@ -49,16 +49,16 @@ fields_of c = record {
 
 -- ---- the checkpoint of fields
 
--- the end of the file, or what is awaited
+-- the end of the file, or what is expected next
 abbrev pub position_by : Fields → Position
 position_by f = if f.flags.done then Finished else Awaits f.sect f.place.block f.place.part
 
--- what is said of the file, in a format
+-- the fields of the file's form, in a format
 abbrev pub form_as : Form → Format → FileForm
 form_as form format =
     record { file_id = form.file_id; format = format; rec_len = form.rec_len; offset = form.offset }
 
--- what is known by the format that is named
+-- what is known, by the format in the text
 abbrev pub known_as : Form → Option Format → Option FileForm
 known_as form None = None
 known_as form (Some format) = Some (form_as form format)
@@ -67,7 +67,7 @@ known_as form (Some format) = Some (form_as form format)
 abbrev pub known_by : Form → Option FileForm
 known_by form = known_as form form.format
 
--- the checkpoint that these fields tell
+-- the checkpoint in these fields
 abbrev pub point_by : Fields → Point
 point_by f = record {
   set_id = f.set_id;

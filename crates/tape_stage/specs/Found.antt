@@ -1,4 +1,4 @@
--- What the slots of a stage file say.
+-- The contents of the slots of a stage file.
 use Rattle.std.specs.Prelude.{◌≡◌, ℕ, ◌+◌, min, length, true, false, not, List, Some, ◌==◌}
 use Rattle.tape_stage.specs.Staged.{best, WalkedTo}
 use Rattle.tape_stage.specs.Frames.{NoFrameAt}
@@ -12,8 +12,8 @@ pub record IsFound (found : Found) (bytes : List ℕ) : Type 0 where
   pub other : Loses found.in_second found.generation (slot_at (not found.in_second) bytes)
   pub gate : found.other_open ≡ (gate_at (not found.in_second) bytes == 79)
 
--- The frames behind the slot that counts are those of some parts up to this place, and no frame
--- stands there that ends by the staged end and the file's.
+-- The frames that the current slot counts are those of some parts up to this place, and there is no
+-- frame there that ends by the staged end and the file's end.
 pub record IsBadPlace (bytes : List ℕ) (place : ℕ) : Type 0 where
   pub generation : ℕ
   pub point : Point

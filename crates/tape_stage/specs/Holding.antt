@@ -1,19 +1,19 @@
--- Bytes that are held before a disk.
+-- Bytes that are buffered before they are written to a disk.
 use Rattle.std.specs.Prelude.{◌≡◌, ◌⊎◌, ℕ, ◌+◌, ◌≤◌, List, ◌++◌, length, take, drop, max}
 use Rattle.std.proofs.Common.{inr, ⊎_elim, refl, arith, length-append, length-drop}
 use Rattle.std.proofs.lemmas.List.{length-take-le}
 use Rattle.tape_stage.specs.Disk.{Torn}
 use Rattle.tape_stage.specs.Calls.{over}
 
--- what a read gives with the held bytes over it
+-- what a read returns with the buffered bytes written over it
 abbrev pub with_held : ℕ → List ℕ → List ℕ → List ℕ
 with_held start bytes old = take start old ++ bytes ++ drop (start + length bytes) old
 
--- what a crash may leave, with the held write torn in
+-- what a crash may leave, with the buffered write torn in
 abbrev pub LeftTorn : (List ℕ → Type 0) → ℕ → List ℕ → List ℕ → Type 0
 LeftTorn leaves start bytes c = (d : List ℕ) × leaves d × Torn start (length bytes) d c
 
--- what a crash since then might have left, or may leave now with the held write torn in
+-- what a crash since then might have left, or may leave now with the buffered write torn in
 abbrev pub LeftSince : (ℕ → List ℕ → Type 0) → (List ℕ → Type 0) → ℕ → List ℕ → ℕ → List ℕ → Type 0
 LeftSince left leaves start bytes t c = left t c ⊎ LeftTorn leaves start bytes c
 
@@ -41,7 +41,7 @@ pub held_over : (start : ℕ) (bytes old : List ℕ) (long : ℕ) → long ≡ l
     → Torn start (length bytes) old (with_held start bytes old)
 held_over start bytes old long same le = over start bytes old (omega (arith, same, le))
 
--- what may be left now is one of what was left since an earlier moment
+-- what may be left now is among what was left since an earlier moment
 pub held_counts : (left : ℕ → List ℕ → Type 0) (leaves : List ℕ → Type 0) (start : ℕ)
     (bytes : List ℕ) (t : ℕ) (c : List ℕ) → LeftTorn leaves start bytes c
     → LeftSince left leaves start bytes t c

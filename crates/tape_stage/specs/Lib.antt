@@ -18,12 +18,12 @@ pub mod Found
 pub mod Frames
 pub mod Faults
 pub mod Reads
--- stages that are only read, and what remains of those whose frames break off:
+-- stages that are only read, and what remains of damaged ones:
 pub mod OnlyReading
 pub mod Salvaged
--- bytes held before a disk:
+-- write buffers:
 pub mod Holding
--- laws of those, which are proved:
+-- laws of these, which are proved:
 pub mod Laws
 pub mod StageLaws
 -- cases, which hold the definitions from below:

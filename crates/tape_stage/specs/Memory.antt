@@ -1,4 +1,4 @@
--- What a disk in memory stands for.
+-- What a disk in memory contains.
 use Rattle.std.specs.Prelude.{ℕ, List}
 use Rattle.tape_stage.specs.Calls.{kept_or, worst_by, IsImage, WasImage}
 use Rattle.tape_stage.specs.declared.disk.content.Content.{Content}

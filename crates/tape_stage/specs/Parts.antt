@@ -1,4 +1,4 @@
--- Frames of parts, and fronts of a weight.
+-- Frames of parts, and first parts of a given weight.
 use Rattle.std.specs.Prelude.{◌≡◌, ℕ, ◌≤◌, List, [], ◌∷◌, ◌++◌, length}
 use Rattle.std.specs.List.{flat_map}
 use Rattle.std.specs.Int.{to_be_bytes}
@@ -24,7 +24,7 @@ abbrev pub AllShort : List Portion → Type 0
 AllShort [] = Unit {0}
 AllShort (part ∷ parts) = (length part.bytes ≤ longest_part) × AllShort parts
 
--- the first of the parts, of this weight
+-- the first parts of this weight
 pub record IsFront (weight : ℕ) (front parts : List Portion) : Type 0 where
   pub rest : List Portion
   pub whole : parts ≡ front ++ rest

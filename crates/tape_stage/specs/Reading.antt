@@ -1,5 +1,5 @@
--- What reading a checkpoint's text answers, as a function of the text: the checkpoint, or the first
--- of the tests that fails, in the order of the lines.
+-- The result of reading a checkpoint's text, as a function of the text: the checkpoint, or the
+-- first of the tests that fails, in the order of the lines.
 use Rattle.std.specs.Prelude.{ℕ, ◌+◌, ◌-◌, ◌==◌, List, length, codes, replicate, drop}
 use Rattle.std.specs.Prelude.{slice_range, slice_index, Bool, true, false, if◌then◌else◌, Option}
 use Rattle.std.specs.Prelude.{Some, None, Result, Ok, Err}
@@ -21,7 +21,7 @@ use Rattle.tape_stage.specs.declared.point.Fields.{Fields}
 use Rattle.tape_stage.specs.Fields.{point_by}
 use Rattle.tape_stage.specs.Range.{is_right}
 
--- the next step, where none has failed yet
+-- the next step, if none has failed yet
 infixl 10 ◌>>=◌
 abbrev pub ◌>>=◌ : {A B : Type 0} → Result A PointFault → (A → Result B PointFault)
     → Result B PointFault
@@ -34,7 +34,7 @@ number_at text first last =
     if all_ascii_digits (positions text first last)
     then Ok (number_of (positions text first last)) else Err (faults.Field first)
 
--- which of two characters stands at this position
+-- which of two characters is at this position
 abbrev pub flag_at : List ℕ → ℕ → ℕ → ℕ → Result Bool PointFault
 flag_at text position one other =
     let c = slice_index text (position - 1)
@@ -65,7 +65,7 @@ place_at Two text = do
   part ← number_at text 30 34
   Ok record { block = block; part = part }
 
--- the state and the two digits behind it
+-- the state and the next two digits
 unfoldable pub flags_at : List ℕ → ℕ → Result Flags PointFault
 flags_at text first = do
   done ← flag_at text first 68 82
@@ -73,7 +73,7 @@ flags_at text first = do
   known ← flag_at text (first + 2) 49 48
   Ok record { done = done; begun = begun; known = known }
 
--- what is said of the file
+-- the fields of the file's form
 unfoldable pub form_at : List ℕ → ℕ → Result Form PointFault
 form_at text first = do
   format ← format_at text first
@@ -93,12 +93,12 @@ staged_at text first = do
   _ ← tail_at text (first + 15)
   Ok staged
 
--- where the state stands
+-- the position of the state
 abbrev pub state_position : Version → ℕ
 state_position One = 26
 state_position Two = 35
 
--- all fields behind the version
+-- all fields after the version
 unfoldable pub fields_at : Version → List ℕ → Result Fields PointFault
 fields_at version text = do
   file ← number_at text 12 15
@@ -133,7 +133,7 @@ text_at text =
 
 -- ---- the whole answer
 
--- the checkpoint of the fields, where they are those of one
+-- the checkpoint of the fields, if they are those of one
 abbrev pub right_point : Fields → Result Point PointFault
 right_point f = if is_right f then Ok (point_by f) else Err faults.Range
 
@@ -141,6 +141,6 @@ right_point f = if is_right f then Ok (point_by f) else Err faults.Range
 unfoldable pub reading : List ℕ → Result Point PointFault
 reading text = text_at text >>= λ read. right_point read.1
 
--- the checkpoint whose text it is, whichever the version; none where it is that of none
+-- the checkpoint with this text, in either version; none if there is no such checkpoint
 abbrev pub point_in : List ℕ → Option Point
 point_in text = result_ok (reading text)

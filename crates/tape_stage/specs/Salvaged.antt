@@ -1,4 +1,4 @@
--- What remains of a stage whose frames break off.
+-- What remains of a damaged stage.
 use Rattle.std.specs.Prelude.{◌≡◌, ℕ, ◌+◌, ◌-◌, ◌≤◌, ◌<◌, min, length, true, false, List}
 use Rattle.std.specs.Prelude.{Option, Some, None, IfSome}
 use Rattle.tape_blocks.specs.Block.{Portion}
@@ -8,26 +8,26 @@ use Rattle.tape_stage.specs.Staged.{Holding, best, slot_at}
 use Rattle.tape_stage.specs.declared.disk.Disk.{Ghosts}
 use Rattle.tape_stage.specs.declared.stage.salvage.Salvage.{Salvage}
 
--- Behind 256 bytes the frames should weigh so much, and break off before: no frame stands at this
--- place that ends where they should, and where the file does, or before.
+-- After 256 bytes there should be frames of this weight, and they are damaged: at this place there
+-- is no frame that ends where they should, and where the file does, or before.
 pub record BreaksAt (staged place : ℕ) (bytes : List ℕ) : Type 0 where
   pub low : 256 ≤ place
   pub high : place < 256 + staged
   pub none : NoFrameAt place (min (256 + staged) (length bytes)) bytes
 
--- what the frames weigh that stand there: what they should, or what is before the break
+-- the weight of the intact frames: the full weight, or that of the frames before the damage
 abbrev pub standing : ℕ → Option ℕ → ℕ
 standing staged None = staged
 standing staged (Some place) = place - 256
 
--- The frames are those of these parts up to where they should end, or up to where they break off.
+-- The frames are those of these parts up to where they should end, or up to the damage.
 pub record FramedTo (staged : ℕ) (broken : Option ℕ) (parts : List Portion)
     (bytes : List ℕ) : Type 0 where
   pub holds : Holding (standing staged broken) parts bytes
   pub breaks : IfSome broken (λ place. BreaksAt staged place bytes)
 
--- What remains of a stage: the checkpoint of the slot that counts, and the parts whose frames stand
--- there, all that it tells or those before the break.
+-- What remains of a stage: the checkpoint of the current slot, and the parts with intact frames,
+-- all that it counts or those before the damage.
 pub record Remains (bytes : List ℕ) (g : ℕ) (point : Point) (broken : Option ℕ)
     (parts : List Portion) : Type 0 where
   pub slot : best (slot_at false bytes) (slot_at true bytes) ≡ Some (g, point)

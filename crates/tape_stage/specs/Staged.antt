@@ -1,4 +1,4 @@
--- What the bytes of a stage file stand for.
+-- What the bytes of a stage file represent.
 use Rattle.std.specs.Prelude.{◌≡◌, ◌⊎◌, ℕ, ◌+◌, ◌≤◌, ◌<◌, ◌-◌, Bool, true, false, not, List, ◌∷◌}
 use Rattle.std.specs.Prelude.{length, take, drop, get_or, ◌++◌, replicate, Option, Some, None}
 use Rattle.std.specs.Prelude.{if◌then◌else◌, ◌==◌, nat_lt}
@@ -24,7 +24,7 @@ gate_at second bytes = get_or bytes (slot_place second) 0
 abbrev pub body_at : Bool → List ℕ → List ℕ
 body_at second bytes = take 127 (drop (slot_place second + 1) bytes)
 
--- a slot counts where its gate is open and its body reads
+-- a slot is valid if its gate is open and its body can be read
 abbrev pub read_slot : ℕ → List ℕ → Option Slot
 read_slot gate body = if gate == 79 then body_of body else None
 
@@ -43,7 +43,7 @@ pub record Holding (weight : ℕ) (parts : List Portion) (bytes : List ℕ) : Ty
   pub frames_are : take weight (drop 256 bytes) ≡ frames parts
   pub short : AllShort parts
 
--- The bytes stand for a generation, its checkpoint and its parts.
+-- The bytes represent a generation, its checkpoint and its parts.
 pub record Staged (bytes : List ℕ) (g : ℕ) (point : Point) (parts : List Portion) : Type 0 where
   pub slot : best (slot_at false bytes) (slot_at true bytes) ≡ Some (g, point)
   pub parts_are : Holding point.staged parts bytes
@@ -68,14 +68,14 @@ pub record IsClosed (second : Bool) (g : ℕ) (point : Point) (parts : List Port
   pub staged : StagedIn second g point parts bytes
   pub closed : gate_at (not second) bytes ≡ 79 → ⊥
 
--- and the next generation stands behind it, for parts that are there
+-- and the next generation follows it, for parts that are there
 pub record IsFilled (second : Bool) (g : ℕ) (point next : Point) (parts more : List Portion)
     (bytes : List ℕ) : Type 0 where
   pub closed : IsClosed second g point parts bytes
   pub body : body_at (not second) bytes ≡ body_text (g + 1) next
   pub holds : Holding next.staged more bytes
 
--- Between two calls: what is acknowledged stands on the disk, alike in all that a crash may leave.
+-- Between two calls: what is acknowledged is on the disk, the same in all that a crash may leave.
 pub record Ready (second : Bool) (g : ℕ) (point : Point) (parts : List Portion) (other_open : Bool)
     (seen : List ℕ) (may_leave : List ℕ → Type 0) : Type 0 where
   pub staged : StagedIn second g point parts seen
@@ -83,7 +83,7 @@ pub record Ready (second : Bool) (g : ℕ) (point : Point) (parts : List Portion
   pub alike : (c : List ℕ) → may_leave c → take (256 + point.staged) c ≡ take
       (256 + point.staged) seen
 
--- the other slot is current now, and the older one's gate stands open
+-- the other slot is current now, and the older one's gate is open
 pub record IsNext (second : Bool) (g : ℕ) (next : Point) (parts : List Portion)
     (bytes : List ℕ) : Type 0 where
   pub staged : StagedIn (not second) g next parts bytes
@@ -94,13 +94,13 @@ abbrev pub IsEither : Bool → ℕ → Point → Point → List Portion → List
 IsEither second g point next parts more bytes = StagedIn second g point parts bytes
     ⊎ StagedIn (not second) (g + 1) next more bytes
 
--- a part's frame stands at a place now
+-- a part's frame is at a place now
 pub record IsPut (place : ℕ) (part : Portion) (old new : List ℕ) : Type 0 where
   pub front : take place new ≡ take place old
   pub frame_is : take (5 + length part.bytes) (drop place new) ≡ frame part
   pub long : place + (5 + length part.bytes) ≤ length new
 
--- the front of what might have been left
+-- the first bytes of what might have been left
 abbrev pub FrontOf : ℕ → (List ℕ → Type 0) → List ℕ → Type 0
 FrontOf place may_leave c = (d : List ℕ) × may_leave d × (take place c ≡ take place d)
 
@@ -111,17 +111,17 @@ pub record WalkedTo (place : ℕ) (bytes : List ℕ) : Type 0 where
   pub frames_are : take (place - 256) (drop 256 bytes) ≡ frames parts
   pub short : AllShort parts
 
--- stands for what the other stands for
+-- represents what the other represents
 abbrev pub StandsLike : List ℕ → List ℕ → Type 0
 StandsLike read c = (g : ℕ) (point : Point) (parts : List Portion) → Staged read g point parts
     → Staged c g point parts
 
--- what is staged stands where it stood, and at most what follows it was cut
+-- what is staged is unchanged, and at most what follows it was cut
 abbrev pub KeepsStaged : List ℕ → List ℕ → Type 0
 KeepsStaged old new = (g : ℕ) (point : Point) (parts : List Portion) → Staged old g point parts
     → CutShort (256 + point.staged) old new
 
--- a slot that was never written, behind its gate
+-- a slot that was never written, after its gate
 abbrev pub blank : List ℕ
 blank = replicate 15 48 ++ replicate 112 32
 
@@ -130,16 +130,16 @@ abbrev pub IsNoHeader : List ℕ → Type 0
 IsNoHeader header = (span : Span) (size : ℕ) → size ≤ longest_part
     → header ≡ indicator span ∷ to_be_bytes w32 size → ⊥
 
--- the bytes stand for no checkpoint with its parts
+-- the bytes do not represent a checkpoint with its parts
 abbrev pub HoldsNone : List ℕ → Type 0
 HoldsNone bytes = (g : ℕ) (point : Point) (parts : List Portion) → Staged bytes g point parts → ⊥
 
--- the frames stand as they stood
+-- the frames are unchanged
 pub record KeepsFrames (old new : List ℕ) : Type 0 where
   pub rest : drop 256 new ≡ drop 256 old
   pub long : length old ≤ length new
 
--- the bytes before a place stand as they stood
+-- the bytes before a place are unchanged
 pub record KeepsFront (place : ℕ) (old new : List ℕ) : Type 0 where
   pub front : take place new ≡ take place old
   pub long : length old ≤ length new

@@ -1,4 +1,4 @@
--- What a stage stands for.
+-- The contents and the states of a stage.
 use Rattle.std.specs.Prelude.{◌≡◌, ◌⊎◌, ℕ, ◌+◌, ◌≤◌, Bool, true, false, List, Option, None}
 use Rattle.std.specs.Prelude.{Result, OnOk, IfErr, IsErrOf}
 use Rattle.tape_stage.specs.declared.disk.Disk.{Ghosts}
@@ -43,7 +43,7 @@ pub record AreHeld {D : Type 0} (disk : Ghosts D) (at : D) (in_second : Bool) (g
   pub ready : failed ≡ false → (acked : List Portion)
       × IsStaged disk at in_second generation point other_open weight failed acked parts
 
--- the stage holds these parts
+-- the stage contains these parts
 abbrev pub Holds : {D : Type 0} {disk : Ghosts D} → Stage D disk → List Portion → Type 0
 Holds {D} {disk} stage parts =
     AreHeld disk stage.disk stage.in_second stage.generation stage.acknowledged
@@ -54,15 +54,15 @@ abbrev pub IsAhead : {D : Type 0} {disk : Ghosts D} → Stage D disk → List Po
 IsAhead {D} {disk} stage parts = (stage.pending ≡ None → disk.is_honest stage.disk)
     × AheadIn (256 + stage.walked) (256 + stage.weight) (disk.seen stage.disk) parts
 
--- Why no part comes off a disk where frames of this weight were walked up to here: it failed in the
--- call, or before it; or what is there is no frame.
+-- Why a disk yields no part after frames of this weight: it failed in the call or before it, or
+-- there is no frame.
 abbrev pub LendsNone : {D : Type 0} → Ghosts D → Bool → ℕ → ℕ → D → SinkFault → D → Type 0
 LendsNone disk failed walked weight old sink.Device new = Rose (disk.faults old) (disk.faults new)
 LendsNone disk failed walked weight old sink.Failed new = (failed ≡ true)
     ⊎ (disk.is_honest old → NoFrameAt (256 + walked) (256 + weight) (disk.seen old))
 LendsNone disk failed walked weight old _ new = ⊥
 
--- how a stage stands once a call was refused: failed by the disk, or as it was
+-- the state of a stage after a call was refused: failed by the disk, or unchanged
 abbrev pub HasRefused : {D : Type 0} {disk : Ghosts D} → Stage D disk → Stage D disk → StageFault
     → Type 0
 HasRefused old new Device = (old.failed ≡ false) × (new.failed ≡ true) × (new.weight ≡ old.weight)
@@ -70,9 +70,9 @@ HasRefused old new Full = new ≡ old
 HasRefused old new Failed = (new ≡ old) × (old.failed ≡ true)
 HasRefused old new _ = ⊥
 
--- How a call ends: Ok only of a stage that had not failed, and on a disk as honest as it was; else
--- refused as above, with Device only where the disk failed. No disk becomes an honest one, and the
--- count of what was refused to the stage as a sink stays.
+-- How a call ends: Ok only if the stage had not failed, and on a disk as honest as before;
+-- otherwise refused as above, with Device only if the disk failed. No disk becomes honest, and the
+-- count of refusals to the stage as a sink is unchanged.
 pub record EndsCall {A D : Type 0} {disk : Ghosts D} (old : Stage D disk)
     (result : Result A StageFault) (new : Stage D disk) : Type 0 where
   pub was_alive : OnOk result (old.failed ≡ false)
@@ -82,8 +82,8 @@ pub record EndsCall {A D : Type 0} {disk : Ghosts D} (old : Stage D disk)
   pub honest : OnOk result (disk.is_honest old.disk → disk.is_honest new.disk)
   pub back : disk.is_honest new.disk → disk.is_honest old.disk
 
--- How opening or making one ends: with Full or Failed never, with Device only where the disk
--- failed, and with Ok on a disk as honest as it was. No disk becomes an honest one.
+-- How opening or creating one ends: never with Full or Failed, with Device only if the disk failed,
+-- and with Ok on a disk as honest as before. No disk becomes honest.
 pub record EndsFinding {A D : Type 0} (disk : Ghosts D) (old : D) (result : Result A StageFault)
     (new : D) : Type 0 where
   pub not_full : IsErrOf result Full → ⊥
@@ -92,12 +92,12 @@ pub record EndsFinding {A D : Type 0} (disk : Ghosts D) (old : D) (result : Resu
   pub honest : OnOk result (disk.is_honest old → disk.is_honest new)
   pub back : disk.is_honest new → disk.is_honest old
 
--- a crash now may leave a file that stands for this checkpoint and these parts
+-- a crash now may leave a file that represents this checkpoint and these parts
 abbrev pub Returns : {D : Type 0} {disk : Ghosts D} → Stage D disk → Point → List Portion → Type 0
 Returns {D} {disk} stage back there = (bytes : List ℕ) × disk.may_leave stage.disk bytes
     × ((g : ℕ) × Staged bytes g back there)
 
--- each file that a crash now may leave stands for something
+-- each file that a crash now may leave represents something
 abbrev pub Survives : {D : Type 0} {disk : Ghosts D} → Stage D disk → Type 0
 Survives {D} {disk} stage = (bytes : List ℕ) → disk.may_leave stage.disk bytes → (g : ℕ)
     × (point : Point) × (parts : List Portion) × Staged bytes g point parts
@@ -107,13 +107,13 @@ abbrev pub WasLeft : {D : Type 0} {disk : Ghosts D} → Stage D disk → ℕ →
 WasLeft {D} {disk} stage t bytes =
     disk.left_since stage.disk t bytes ⊎ disk.may_leave stage.disk bytes
 
--- it may have left a file that stands for this checkpoint and these parts
+-- it may have left a file that represents this checkpoint and these parts
 abbrev pub Returned : {D : Type 0} {disk : Ghosts D} → Stage D disk → ℕ → Point → List Portion
     → Type 0
 Returned {D} {disk} stage t back there = (bytes : List ℕ) × WasLeft stage t bytes
     × ((g : ℕ) × Staged bytes g back there)
 
--- each file that it may have left stands for something
+-- each file that it may have left represents something
 abbrev pub Survived : {D : Type 0} {disk : Ghosts D} → Stage D disk → ℕ → Type 0
 Survived {D} {disk} stage t = (bytes : List ℕ) → WasLeft stage t bytes → (g : ℕ)
     × (point : Point) × (parts : List Portion) × Staged bytes g point parts
@@ -136,7 +136,7 @@ pub record IsOpened {D : Type 0} (disk : Ghosts D) (found : Found) (old new : D)
       (disk.seen new) (disk.may_leave new)
 
 -- A crash at any moment from the one disk to the other left what it might have left before, or what
--- still stands for what was read.
+-- still represents what was read.
 abbrev pub OpensOver : {D : Type 0} → Ghosts D → D → D → Type 0
 OpensOver disk old new = Passes disk old new
     (λ c. disk.may_leave old c ⊎ StandsLike (disk.seen old) c)

@@ -25,7 +25,7 @@ abbrev pub place_pieces : Version → Place → List Piece
 place_pieces One place = number 6 place.block ∷ []
 place_pieces Two place = number 10 place.block ∷ number 5 place.part ∷ []
 
--- `D` where the whole file was delivered, else `R`
+-- `D` if the whole file was delivered, otherwise `R`
 abbrev pub state_letter : Bool → ℕ
 state_letter done = if done then 68 else 82
 
@@ -73,13 +73,13 @@ pub record Fit (version : Version) (f : Fields) : Type 0 where
   pub offset : f.form.offset < 10 ^ 2
   pub staged : f.staged < 10 ^ 15
 
--- what is known of a file are numbers that its labels may tell
+-- the form of the file has numbers that labels may have
 abbrev pub KnownFits : Option FileForm → Type 0
 KnownFits None = Unit {0}
 KnownFits (Some form) = IsForm form.format form.rec_len form.offset
 
--- The checkpoint has a text in this version: it keeps the rules of checkpoints and so does what is
--- known of its file, and its place fits the version.
+-- The checkpoint has a text in this version: it satisfies the invariants of checkpoints and of
+-- forms, and its place fits the version.
 pub record IsWritable (version : Version) (c : Point) : Type 0 where
   pub right : IsPoint c
   pub known : KnownFits c.known

@@ -1,4 +1,4 @@
-//! Disks: what a stage's file is to it.
+//! Disks, which store a stage's bytes.
 
 pub mod changes;
 pub mod content;
@@ -21,23 +21,23 @@ pub enum DiskFault {
 }
 
 pub trait Disk {
-    /// Whether what follows, the length and the count aside, can be believed. A sync that failed
+    /// Whether the contract of each call holds, apart from the length and the count. A failed sync
     /// may end that.
     ghost is_honest: { Self → Type 0 };
 
     /// How many bytes there are.
     ghost length_of: { Self → ℕ };
 
-    /// The bytes that reads give.
+    /// The bytes that reads return.
     ghost seen: { Self → List ℕ };
 
     /// What a crash at this moment may leave.
     ghost may_leave: { Self → List ℕ → Type 0 };
 
-    /// The moment, as a number that doesn't fall.
+    /// The current moment, a number that never falls.
     ghost moment: { Self → ℕ };
 
-    /// What a crash at some moment from that one on might have left, during a call or between two.
+    /// What a crash at any moment since `t` might have left, during a call or between two calls.
     ghost left_since: { Self → ℕ → List ℕ → Type 0 };
 
     /// How often the disk has failed.
@@ -47,7 +47,7 @@ pub trait Disk {
     ///
     /// # Errors
     ///
-    /// `Device`. What there is stays.
+    /// Returns `Device` on failure. The bytes are unchanged.
     fn len(&mut self) -> Result<u64, DiskFault>
         ensures value { IfOk result (λ n. n ≡ length_of self.old) }
         ensures same_length { length_of self.new ≡ length_of self.old }
@@ -63,7 +63,7 @@ pub trait Disk {
     ///
     /// # Errors
     ///
-    /// `Device`. What there is stays; the buffer may then hold any bytes.
+    /// Returns `Device` on failure. The bytes are unchanged; the buffer may then contain anything.
     fn read(&mut self, place: u64, buf: &mut [u8]) -> Result<(), DiskFault>
         requires { place + length buf.old ≤ length_of self.old }
         ensures bytes { is_honest self.old
@@ -76,12 +76,13 @@ pub trait Disk {
         ensures calm { OnOk result (faults self.new ≡ faults self.old) }
         ensures honest { SameFact (is_honest self.old) (is_honest self.new) };
 
-    /// Writes over what is there, and past the end. Until a sync, a crash may leave any bytes in
-    /// the range.
+    /// Overwrites bytes, and extends the disk if needed. Until a sync, a crash may leave any bytes
+    /// in the range.
     ///
     /// # Errors
     ///
-    /// `Device`. Any bytes may then stand in the range; what stands before and behind it stays.
+    /// Returns `Device` on failure. The range may then contain any bytes; what precedes and follows
+    /// it is unchanged.
     fn write_at(&mut self, place: u64, bytes: &[u8]) -> Result<(), DiskFault>
         requires { place ≤ length_of self.old }
         ensures written { is_honest self.old
@@ -108,7 +109,8 @@ pub trait Disk {
     ///
     /// # Errors
     ///
-    /// `Device`. Any bytes, or none, may then stand behind that length; before it nothing changes.
+    /// Returns `Device` on failure. Any bytes, or none, may then follow that length; before it
+    /// nothing changes.
     fn cut(&mut self, len: u64) -> Result<(), DiskFault>
         requires { len ≤ length_of self.old }
         ensures cut { is_honest self.old → OnOk result (seen self.new ≡ take len (seen self.old)) }
@@ -122,12 +124,12 @@ pub trait Disk {
         ensures calm { OnOk result (faults self.new ≡ faults self.old) }
         ensures honest { SameFact (is_honest self.old) (is_honest self.new) };
 
-    /// After it, a crash leaves what a read gives.
+    /// After a sync, a crash leaves what a read returns.
     ///
     /// # Errors
     ///
-    /// `Device`. From then on the disk need not be honest: a system may have let go of what it
-    /// could not keep, and answer the next sync with Ok.
+    /// Returns `Device` on failure. From then on the disk need not be honest: a system may have
+    /// dropped what it could not write, and answer the next sync with Ok.
     fn sync(&mut self) -> Result<(), DiskFault>
         ensures durable { is_honest self.old
             → OnOk result (Only (seen self.old) (may_leave self.new)) }
@@ -146,7 +148,7 @@ pub trait Disk {
     /// What is read is what a crash may leave.
     ghost seen_now: { (disk : Self) → is_honest disk → may_leave disk (seen disk) };
 
-    /// This moment is one of those since an earlier one.
+    /// The current moment is one of those since an earlier one.
     ghost counts_now: { (disk : Self) (t : ℕ) (c : List ℕ) → is_honest disk → t ≤ moment disk
         → may_leave disk c → left_since disk t c };
 

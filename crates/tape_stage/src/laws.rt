@@ -37,7 +37,7 @@ pub fn early_points_have_both_texts()
     ensures { HasBothTexts }
 {}
 
-/// The bytes of a stage stand for at most one generation, checkpoint and list of parts.
+/// The bytes of a stage represent at most one generation, checkpoint and list of parts.
 pub fn stands_once()
     ensures { (bytes : List ℕ) → StandsOnce bytes }
 {}
@@ -48,24 +48,24 @@ pub fn remains_once()
     ensures { (bytes : List ℕ) → RemainsOnce bytes }
 {}
 
-/// Bytes of which a named slot stands for a checkpoint and its parts stand for these.
+/// Bytes with a given slot that represents a checkpoint and its parts represent these.
 pub fn named_slots_stand()
     ensures { (bytes : List ℕ) → NamedStands bytes }
 {}
 
-/// Bytes of one generation or the next stand for one of the two checkpoints, with its parts.
+/// Bytes of one generation or the next represent one of the two checkpoints, with its parts.
 pub fn either_stands()
     ensures { (bytes : List ℕ) → EitherStands bytes }
 {}
 
-/// Bytes that stand for one of two checkpoints are read as one of them, with its parts.
+/// Bytes that represent one of two checkpoints are read as one of them, with its parts.
 pub fn reads_one_of()
     ensures { (bytes : List ℕ) → ReadsOneOf bytes }
 {}
 
-/// What the definitions of disks and stages say of cases: what a crash may leave, at which moments,
-/// what bytes stand for, what comes back of a stage, what faults say, what the laws are for, and
-/// what remains of a stage whose frames break off.
+/// Examples for the definitions of disks and stages: what a crash may leave, at which moments, what
+/// bytes represent, what is left of a stage, which number a fault has, the use of the laws, and
+/// what remains of a damaged stage.
 pub fn cases<D: Disk>()
     ensures crashes { CasesOfCrashes }
     ensures moments { CasesOfMoments }

@@ -37,18 +37,18 @@ pub struct Place {
     pub part: u64,
 }
 
-/// `D` or `R`, and the two digits behind it.
+/// `D` or `R`, and the next two digits.
 #[derive(Clone, Copy)]
 pub struct Flags {
     /// Whether the whole file was delivered.
     pub done: bool,
-    /// Whether a record is begun.
+    /// Whether a record is unfinished.
     pub begun: bool,
     /// Whether anything is known of the file.
     pub known: bool,
 }
 
-/// What is said of the file.
+/// The fields of the file's form.
 #[derive(Clone, Copy)]
 pub struct Form {
     /// F, D or S, or a space.
@@ -61,7 +61,7 @@ pub struct Form {
     pub file_id: Field<17>,
 }
 
-/// All fields behind the version, which are the same in both versions.
+/// All fields after the version, which are the same in both versions.
 #[derive(Clone, Copy)]
 pub struct Fields {
     /// The file set identifier.
@@ -72,9 +72,9 @@ pub struct Fields {
     pub sect: u64,
     /// The block and the part.
     pub place: Place,
-    /// The state, and what is begun and known.
+    /// The state, and whether a record is unfinished and the form is known.
     pub flags: Flags,
-    /// What is said of the file.
+    /// The fields of the file's form.
     pub form: Form,
     /// The weight of the parts that are staged.
     pub staged: u64,
@@ -84,13 +84,13 @@ pub struct Fields {
 ///
 /// # Errors
 ///
-/// `Length` where the text does not have 80 characters; then `Mark` and `Version` by its first five
-/// characters; then `Field` with the first position of the first field that has a wrong character;
-/// then `Range` where the fields are not those of a checkpoint.
+/// Returns `Length` if the text does not have 80 characters; then `Mark` and `Version` by its first
+/// five characters; then `Field` with the first position of the first field that has a wrong
+/// character; then `Range` if the fields are not those of a checkpoint.
 pub fn read_point(text: &[u8]) -> Result<Checkpoint, PointFault>
-    // What is read is spelled so in one of the versions,
+    // The result has this text in one of the versions,
     ensures found { IfOk result (λ c. (version : Version) × IsPointText version text.now c) }
-    // what is spelled so in one of them is read,
+    // each text in one of the versions is read,
     ensures only { (version : Version) (c : Point) → IsPointText version text.now c → result
         ≡ Ok c }
     // and anything else has the first fault.
@@ -118,10 +118,10 @@ pub fn write_point(point: &Checkpoint) -> [u8; 80]
     fields_text(&fields_of(point))
 }
 
-/// A file identifier that says nothing.
+/// A file identifier of spaces, which means none.
 const SPACES: [u8; 17] = [b' '; 17];
 
-/// The state, and whether a record is begun and anything known.
+/// The state, and whether a record is unfinished and the form is known.
 fn flags_of(position: Position, begun: bool, known: &Option<Known>) -> Flags
     ensures { result ≡ flags_of position begun known.now }
 {
@@ -132,7 +132,7 @@ fn flags_of(position: Position, begun: bool, known: &Option<Known>) -> Flags
     }
 }
 
-/// What is said of the file.
+/// The fields of the file's form.
 fn form_of(known: &Option<Known>) -> Form
     ensures value { result ≡ form_of known.now }
     ensures rec_len { result.rec_len < 100000 }
@@ -203,7 +203,7 @@ pub(crate) fn fields_of(point: &Checkpoint) -> Fields
 /// The greatest number of a block.
 const MOST_BLOCKS: u64 = 4_294_967_295;
 
-/// Whether the section, the block and the part are such as the state has.
+/// Whether the section, the block and the part are possible in this state.
 fn place_agrees(fields: &Fields) -> bool
     ensures { result ≡ place_agrees fields.now }
 {
@@ -213,14 +213,14 @@ fn place_agrees(fields: &Fields) -> bool
     fields.place.block <= MOST_BLOCKS
 }
 
-/// Whether nothing is said of the file.
+/// Whether the fields of the file's form are empty.
 fn is_blank(form: &Form) -> bool
     ensures { result ≡ is_blank form.now }
 {
     form.rec_len == 0 && form.offset == 0 && form.file_id.bytes() == SPACES.as_slice()
 }
 
-/// The position that these fields tell.
+/// Returns the position in these fields.
 fn position_by(fields: &Fields) -> Position
     requires agrees { place_agrees fields.now ≡ true }
     requires fits { Fit Two fields.now }
@@ -236,7 +236,7 @@ fn position_by(fields: &Fields) -> Position
     }
 }
 
-/// What is known of the file, which may be nothing; no answer where the fields do not agree.
+/// Returns the form in these fields, which may be none; `None` if the fields do not agree.
 fn known_by(form: &Form, known: bool) -> Option<Option<Known>>
     requires rec_len { form.now.rec_len < 100000 }
     requires offset { form.now.offset < 100 }

@@ -13,7 +13,7 @@
 //! Of two slots that count the one with the greater generation is meant. To save is to write the
 //! other one, in an order that leaves one of the two whole at any moment:
 //!
-//! 1. its gate is closed where it stands open; sync, which keeps the frames put before, too
+//! 1. its gate is closed if it is open; sync, which also makes the frames durable
 //! 2. its generation and its checkpoint are written; sync
 //! 3. its gate is opened; sync
 
@@ -44,19 +44,20 @@ pub(crate) const MOST_GENERATION: u64 = 999_999_999_999_999;
 /// The greatest weight of staged parts.
 pub(crate) const MOST_STAGED: u64 = 999_999_999_999_999;
 
-/// What stands in the gate of a slot that counts. Any other byte is a closed gate.
+/// The byte in the gate of a valid slot. Any other byte means that the gate is closed.
 pub(crate) const OPEN: u8 = b'O';
 
-/// What is written in a gate to close it.
+/// The byte that is written to close a gate.
 pub(crate) const CLOSED: u8 = b'C';
 
 /// Why a stage refused a call.
 #[derive(Clone, Copy, Debug, PartialEq, Eq, Error)]
 pub enum StageFault {
-    /// The disk holds no stage: it is too short, or no slot of it counts.
+    /// The disk does not contain a stage: it is too short, or no slot is valid.
     #[error("no checkpoint is staged")]
     NoPoint,
-    /// Of the parts that the checkpoint tells, the frame at this place of the disk is none.
+    /// One of the parts that the checkpoint counts has no valid frame; the frame should be at this
+    /// byte offset.
     #[error("no frame of a part stands at {0}")]
     BadFrame(u64),
     /// The disk failed in this call.
@@ -65,7 +66,7 @@ pub enum StageFault {
     /// There was no memory for the buffer or for the first slots.
     #[error("out of memory")]
     OutOfMemory,
-    /// The disk failed in an earlier call. The stage has to be opened again.
+    /// The disk failed in an earlier call. The stage must be opened again.
     #[error("the stage failed before")]
     Failed,
     /// The weight or the generation would be above 999,999,999,999,999. Nothing was changed.
@@ -105,14 +106,14 @@ impl From<AllocError> for StageFault {
     }
 }
 
-/// Parts of a file on a disk, and a checkpoint for the first of them that a crash leaves.
+/// Parts of a file on a disk, and a checkpoint whose parts survive a crash.
 #[derive(Drop)]
 pub struct Stage<D: Disk> {
     pub(crate) disk: D,
-    /// Which generation is acknowledged, and whether it stands in the second slot.
+    /// The acknowledged generation, and whether it is in the second slot.
     pub(crate) generation: u64,
     pub(crate) in_second: bool,
-    /// Whether the gate of the other slot stands open.
+    /// Whether the gate of the other slot is open.
     pub(crate) other_open: bool,
     /// The checkpoint that was acknowledged last.
     pub(crate) acknowledged: Checkpoint,
@@ -122,9 +123,9 @@ pub struct Stage<D: Disk> {
     pub(crate) weight: u64,
     /// Whether the disk failed.
     pub(crate) failed: bool,
-    /// Where a part is read to that is lent.
+    /// A buffer for the part that is lent.
     pub(crate) buffer: Vec<u8>,
-    /// What the parts weigh that a walk has lent.
+    /// The weight of the parts that a walk has lent.
     pub(crate) walked: u64,
     /// How many calls were refused to it as a sink.
     pub(crate) refused: u64,
@@ -136,8 +137,7 @@ pub struct Stage<D: Disk> {
     ghost bounded_generation: { generation ≤ most_generation },
 }
 
-/// The slot that is meant, its generation and its checkpoint, and whether the other slot's gate
-/// stands open.
+/// The current slot, its generation and its checkpoint, and whether the other slot's gate is open.
 #[derive(Clone, Copy)]
 pub(crate) struct Found {
     pub(crate) in_second: bool,
@@ -147,7 +147,7 @@ pub(crate) struct Found {
 }
 
 impl Found {
-    /// What the parts weigh that the checkpoint tells.
+    /// The weight of the parts that the checkpoint counts.
     pub(crate) fn staged(&self) -> u64
         ensures value { result ≡ self.now.point.staged }
         ensures bound { result ≤ most_staged }

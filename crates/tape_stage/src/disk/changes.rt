@@ -1,4 +1,4 @@
-//! How calls change what a disk in memory holds.
+//! How calls change the contents of a disk in memory.
 ghost use Rattle.std.specs.Prelude.{◌≡◌, ◌≤◌, ◌+◌, ◌-◌, [], ◌∷◌, ◌++◌, length, take, drop};
 ghost use Rattle.std.specs.Prelude.{replicate, true, false, OnOk, OnErr, IfOk};
 ghost use Rattle.tape_stage.specs.Same.{SameContent, DidCall};
@@ -44,7 +44,7 @@ impl Content {
         }
     }
 
-    /// Keeps what stood first apart, before the first change.
+    /// Saves a copy of the original contents before the first change.
     fn keep_first(&mut self) -> Result<(), AllocError>
         ensures same { SameContent self.old self.new }
         ensures ok { OnOk result (self.new.changed ≡ true) }
@@ -69,7 +69,7 @@ impl Content {
         Ok(())
     }
 
-    /// Writes, and notes it.
+    /// Writes, and records the call.
     pub fn write(&mut self, place: usize, bytes: &[u8]) -> Result<(), AllocError>
         requires { place ≤ length self.old.bytes.items }
         ensures ok { OnOk result ((b : _) × (b.items ≡ bytes.now)
@@ -90,7 +90,7 @@ impl Content {
         Ok(())
     }
 
-    /// Cuts, and notes it.
+    /// Cuts, and records the call.
     pub fn cut(&mut self, len: usize) -> Result<(), AllocError>
         requires { len ≤ length self.old.bytes.items }
         ensures ok { OnOk result (DidCall (Call.Cut len) self.old self.new) }
@@ -107,7 +107,7 @@ impl Content {
         Ok(())
     }
 
-    /// Notes a sync: what is there is durable.
+    /// Records a sync: the contents are durable.
     pub fn sync(&mut self) -> Result<(), AllocError>
         ensures ok { OnOk result (DidCall Call.Sync self.old self.new) }
         ensures err { OnErr result (SameContent self.old self.new) }

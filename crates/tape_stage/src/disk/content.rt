@@ -1,4 +1,4 @@
-//! What a disk in memory holds, with a record of the calls that made it so.
+//! The contents of a disk in memory, with a record of the calls that led to them.
 ghost use Rattle.std.specs.Prelude.{◌≡◌};
 ghost use Rattle.tape_stage.specs.Calls.{kept_or, IsRight, right_one_way};
 

@@ -12,16 +12,15 @@ use std::alloc::{AllocError, Global};
 use std::fs::OpenFile;
 use std::io::{Read, Seek, SeekFrom, Write};
 
-/// A file as a disk, each call at once one of the file.
+/// A file as a disk; each call is one call on the file.
 ///
-/// It counts its length itself, so that no call asks for a place that was never there, and names
-/// each failure of the file `Device`: an error, an interruption, and an end or a write that takes
-/// nothing where bytes are due. What becomes of the bytes of a file nothing here can say: it claims
-/// no honesty, and what is proved of stages on honest disks is a promise for a file whose system
-/// keeps what it synced.
+/// It tracks its length itself, so it never asks for bytes past the end, and reports each failure
+/// of the file as `Device`: an error, an interruption, an early end, or a write of no bytes. A
+/// contract cannot speak of a file's bytes, so it claims no honesty; what is proved of stages on
+/// honest disks holds for a file if its system keeps what was synced.
 ///
-/// Behind a sync that failed every call but `len` is `Device`: a system may have dropped what it
-/// could not keep, and answer the next sync with Ok.
+/// After a failed sync every call but `len` is `Device`: a system may have dropped what it could
+/// not write, and answer the next sync with Ok.
 #[derive(Drop)]
 pub struct FileDisk<F> {
     file: F,
@@ -31,12 +30,12 @@ pub struct FileDisk<F> {
 }
 
 impl<F: Seek + Drop> FileDisk<F> {
-    /// The whole file, which has to be open for reading and writing. Nobody else may change its
+    /// Uses the whole file, which must be open for reading and writing. Nobody else may change its
     /// length.
     ///
     /// # Errors
     ///
-    /// `Device`, where the file does not tell its length; it is dropped.
+    /// Returns `Device` if the file's length is not available; the file is dropped.
     pub fn new(file: F) -> Result<FileDisk<F>, DiskFault>
         ensures long { IfSome (F.stream_position file) (λ _. IfSome (F.stream_bytes file)
             (λ bytes. IfOk result (λ disk. disk.len ≡ length bytes))) }
@@ -219,7 +218,7 @@ impl<F: Read + Write + Seek + OpenFile> Disk for FileDisk<F> {
         }
     }
 
-    // The length and the bytes: both belong to what a crash leaves.
+    // The length and the bytes: a crash may leave either unwritten.
     fn sync(&mut self) -> Result<(), DiskFault>
         ensures same_length { self.new.len ≡ self.old.len }
         ensures cause { OnErr result (Rose self.old.failed self.new.failed) }
@@ -276,7 +275,7 @@ pub(crate) fn write_from<W: Write + Seek>(
     }
 }
 
-/// Writes all bytes. A write that takes nothing is a failure, and so is an interruption.
+/// Writes all bytes. A write of no bytes is an error, and so is an interruption.
 fn write_whole<W: Write>(file: &mut W, bytes: &[u8]) -> Result<(), DiskFault> {
     let mut rest = bytes;
     'writes: while !rest.is_empty() {
@@ -289,20 +288,19 @@ fn write_whole<W: Write>(file: &mut W, bytes: &[u8]) -> Result<(), DiskFault> {
     Ok(())
 }
 
-/// How many bytes are held before they are written, and how many are read ahead, at most.
+/// The maximum number of bytes buffered for writing, and the number of bytes read ahead.
 const ROOM: usize = 32_768;
 
-/// A file as a disk, up to 32,768 bytes of which are held before they are written, and as many read
-/// ahead.
+/// A file as a disk, with 32,768 bytes of write buffer and as many of read-ahead.
 pub type HeldFile<F> = ReadAhead<WriteBehind<FileDisk<F>>>;
 
-/// The whole file, behind windows. It has to be open for reading and writing, and nobody else may
+/// Uses the whole file, with buffers. It must be open for reading and writing, and nobody else may
 /// change its length.
 ///
 /// # Errors
 ///
-/// `OutOfMemory`, where there is no room for the windows: nothing was asked of the file. `Device`,
-/// where it does not tell its length. It is dropped.
+/// Returns `OutOfMemory` if there is no memory for the buffers (the file was not used), and
+/// `Device` if the file's length is not available. The file is dropped.
 pub fn held_file<F: Read + Write + Seek + OpenFile + Drop>(
     alloc: Global,
     file: F,
@@ -320,8 +318,8 @@ pub fn held_file<F: Read + Write + Seek + OpenFile + Drop>(
     Ok(ReadAhead::over(WriteBehind::over(disk, behind), ahead))
 }
 
-/// The room for what is read ahead.
-// What stands in it matters to nobody: so many bytes in a proof would.
+/// The buffer for reading ahead.
+// No contract describes its contents: in a proof that many bytes would be slow.
 fn read_room(alloc: Global) -> Result<Vec<u8>, AllocError> {
     vec![in alloc; 0u8; ROOM]
 }

@@ -18,7 +18,7 @@ pub struct MemoryDisk {
 impl MemoryDisk {
     ghost use Rattle.tape_stage.specs.Memory.{memory_bytes, memory_leaves, memory_worst};
 
-    /// Creates a disk that holds nothing. Does not allocate.
+    /// Creates an empty disk. Does not allocate.
     pub fn new(alloc: Global) -> Self
         ensures bytes { memory_bytes result ≡ [] }
         ensures calm { result.failed ≡ 0 }
@@ -41,7 +41,7 @@ impl MemoryDisk {
         }
     }
 
-    /// The bytes that reads give.
+    /// The bytes that reads return.
     pub fn bytes(&self) -> &[u8]
         ensures { result.now ≡ memory_bytes self.now }
     {

@@ -7,14 +7,14 @@ ghost use Rattle.tape_stage.specs.OnlyReading.{Looks};
 
 use crate::disk::{Disk, DiskFault};
 
-/// A disk of which bytes are read ahead, as many as there is room for, so that small reads in a row
-/// are one read of it. A write and a cut forget them.
+/// A disk with read-ahead, so that consecutive small reads need one read of the disk. Writes and
+/// cuts drop the bytes read ahead.
 #[derive(Drop)]
 pub struct ReadAhead<D: Disk> {
     pub(crate) disk: D,
     pub(crate) start: u64,
     pub(crate) bytes: Vec<u8>,
-    /// How many of the bytes were read. Those behind them are anything.
+    /// How many bytes of the buffer were read. Those after them are undefined.
     pub(crate) held: usize,
     pub(crate) failed: u64,
     ghost fits: { held ≤ length bytes.items },
@@ -23,7 +23,7 @@ pub struct ReadAhead<D: Disk> {
         ≡ take held bytes.items },
 }
 
-/// Reads so many bytes from a place on, to the front of a room.
+/// Reads this many bytes at an offset into the first bytes of a buffer.
 fn read_front<D: Disk>(
     disk: &mut D,
     place: u64,
@@ -62,7 +62,7 @@ impl<D: Disk> ReadAhead<D> {
         self.disk
     }
 
-    /// Fills the buffer with the bytes from a place on, if all of them were read ahead.
+    /// Fills the buffer with the bytes at an offset, if all of them were read ahead.
     fn give(&self, place: u64, buf: &mut [u8]) -> bool
         ensures same_size { length buf.new ≡ length buf.old }
         ensures bytes { D.is_honest self.now.disk → OnTrue result (buf.new
@@ -80,7 +80,7 @@ impl<D: Disk> ReadAhead<D> {
         true
     }
 
-    /// Forgets what was read ahead.
+    /// Drops what was read ahead.
     fn forget(&mut self)
         ensures disk { self.new.disk ≡ self.old.disk }
         ensures bytes { self.new.bytes ≡ self.old.bytes }
@@ -92,8 +92,8 @@ impl<D: Disk> ReadAhead<D> {
         self.start = 0;
     }
 
-    /// Reads ahead from a place on, as much as there is and has room. Where that fails it goes
-    /// unseen: nobody asked for all of these bytes.
+    /// Reads ahead at an offset, as much as exists and fits. A failure is ignored: nobody asked for
+    /// all of these bytes.
     fn look_ahead(&mut self, place: u64)
         requires there { place ≤ D.length_of self.old.disk }
         ensures looks { Looks D.Disk self.old.disk self.new.disk }
@@ -103,7 +103,7 @@ impl<D: Disk> ReadAhead<D> {
             return;
         };
         let count = (len - place).min(self.bytes.len() as u64) as usize;
-        // The read writes over what is held, even where it fails.
+        // The read overwrites the buffer, even if it fails.
         self.held = 0;
         self.start = 0;
         if read_front(&mut self.disk, place, self.bytes.as_mut_slice(), count).is_ok() {

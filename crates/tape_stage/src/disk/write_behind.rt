@@ -1,4 +1,4 @@
-//! Bytes that are held before they are written to a disk.
+//! A write buffer in front of a disk.
 ghost use Rattle.std.specs.Prelude.{◌≡◌, ◌+◌, ◌<◌, ◌≤◌, ◌^◌, [], ◌++◌, length, max, ℕ, List};
 ghost use Rattle.std.specs.Prelude.{OnOk, OnErr, vec_capacity};
 ghost use Rattle.std.specs.Bool.{OnTrue};
@@ -10,13 +10,13 @@ ghost use Rattle.tape_stage.specs.Holding.{held_long, held_over, held_counts, he
 
 use crate::disk::{Disk, DiskFault};
 
-/// A disk before which bytes are held, as many as there is room for, so that small writes in a row
-/// are one write of it. What is held is written when a write goes on elsewhere or does not fit, and
-/// before a read, a cut and a sync, so a read sees it and a sync keeps it.
+/// A disk with a write buffer that merges adjacent small writes. The buffer is written when a write
+/// is not adjacent or does not fit, and before a read, a cut and a sync; so reads return what was
+/// buffered, and a sync makes it durable.
 ///
-/// Where that fails the call is `Device`, and the bytes are held on: what a read gives is not
-/// changed by a failure, and the next call writes them again. A disk that is let go does not write
-/// what it holds: no sync has kept it.
+/// If writing the buffer fails, the call is `Device` and the bytes stay buffered: a failure does
+/// not change what a read returns, and the next call tries to write them again. Dropping the disk
+/// drops the buffer, which no sync has promised to keep.
 #[derive(Drop)]
 pub struct WriteBehind<D: Disk> {
     pub(crate) disk: D,
@@ -29,8 +29,8 @@ pub struct WriteBehind<D: Disk> {
 }
 
 impl<D: Disk> WriteBehind<D> {
-    /// Nothing is held. The room is for as many bytes as it has capacity for; what stands in it
-    /// goes.
+    /// Creates a disk with an empty write buffer, as large as the capacity of `room`; the contents
+    /// of `room` are dropped.
     pub fn over(disk: D, room: Vec<u8>) -> WriteBehind<D>
         ensures disk { result.disk ≡ disk }
         ensures bytes { result.bytes.items ≡ [] }
@@ -46,14 +46,14 @@ impl<D: Disk> WriteBehind<D> {
         }
     }
 
-    /// Hands the disk back. What is held is not written: no sync has kept it.
+    /// Returns the disk. What is buffered is not written: no sync has promised to keep it.
     pub fn into_disk(self) -> D
         ensures { result ≡ self.disk }
     {
         self.disk
     }
 
-    /// Writes what is held. Where that fails it is held on, and the next call tries it again.
+    /// Writes the buffer. If that fails, the bytes stay buffered, and the next call tries again.
     fn pass_on(&mut self) -> Result<(), DiskFault>
         ensures empty { OnOk result (self.new.bytes.items ≡ []) }
         ensures start { OnOk result (self.new.start ≡ 0) }
@@ -76,7 +76,8 @@ impl<D: Disk> WriteBehind<D> {
         }
     }
 
-    /// Whether a write of so many bytes goes on where those end that are held, and fits.
+    /// Whether a write of this length at this offset is adjacent to the end of the buffer, and
+    /// fits.
     fn takes(&self, place: u64, size: usize) -> bool
         ensures fits { OnTrue result
             (length self.now.bytes.items + size ≤ vec_capacity self.now.bytes) }
@@ -87,7 +88,7 @@ impl<D: Disk> WriteBehind<D> {
             && place - self.start == self.bytes.len() as u64
     }
 
-    /// Adds bytes to those that are held.
+    /// Appends bytes to the buffer.
     fn add(&mut self, bytes: &[u8])
         requires fits { length self.old.bytes.items + length bytes.now
             ≤ vec_capacity self.old.bytes }
@@ -114,7 +115,7 @@ impl<D: Disk> WriteBehind<D> {
         DiskFault::Device
     }
 
-    /// Holds bytes to be written from a place on, or writes them where there are too many.
+    /// Buffers bytes to be written at an offset, or writes them if they do not fit.
     fn hold(&mut self, place: u64, bytes: &[u8]) -> Result<(), DiskFault>
         requires there { place ≤ ⟦<Self as Disk>⟧.length_of self.old }
         requires low { place + length bytes.now < 2 ^ 64 }

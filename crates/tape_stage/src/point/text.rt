@@ -29,7 +29,7 @@ pub enum PointFault {
     /// Its version is neither `1` nor `2`.
     #[error("the version is not known")]
     Version,
-    /// A character of the field that begins at this position is none that the field may hold.
+    /// A character of the field that begins at this position is not allowed there.
     #[error("the field at position {0} has a wrong character")]
     Field(u8),
     /// Each field is one by itself, but together they are those of no checkpoint.
@@ -68,7 +68,7 @@ pub(crate) fn number_at(text: &[u8], first: u8, last: u8) -> Result<u64, PointFa
     }
 }
 
-/// Which of two characters stands at the position.
+/// Returns which of two characters is at the position.
 pub(crate) fn flag_at(text: &[u8], position: u8, yes: u8, no: u8) -> Result<bool, PointFault>
     requires first { 1 ≤ position }
     requires last { position ≤ length text.now }
@@ -111,7 +111,7 @@ pub(crate) fn tail_at(text: &[u8], first: u8) -> Result<(), PointFault>
     Err(PointFault::Field(first))
 }
 
-/// The characters from a position on, as a field.
+/// Returns the characters from a position on, as a field.
 pub(crate) fn field_at<const N: usize>(text: &[u8], first: u8) -> Field<N>
     requires first { 1 ≤ first }
     requires last { first + N ≤ length text.now + 1 }
@@ -134,7 +134,7 @@ fn version_by(digit: u8) -> Result<Version, PointFault>
     }
 }
 
-/// Where the state stands.
+/// The position of the state.
 fn state_position(version: Version) -> u8
     ensures value { result ≡ state_position version }
     ensures low { 26 ≤ result }
@@ -146,7 +146,7 @@ fn state_position(version: Version) -> u8
     }
 }
 
-/// All fields behind the version.
+/// All fields after the version.
 #[tactic(auto, unfolding(crate::specs::Reading::fields_at))]
 fn fields_at(version: Version, text: &[u8]) -> Result<Fields, PointFault>
     requires { length text.now ≡ 80 }
@@ -205,7 +205,7 @@ pub(crate) fn place_at(version: Version, text: &[u8]) -> Result<Place, PointFaul
     }
 }
 
-/// The state and the two digits behind it.
+/// The state and the next two digits.
 #[tactic(auto, unfolding(crate::specs::Reading::flags_at))]
 pub(crate) fn flags_at(text: &[u8], first: u8) -> Result<Flags, PointFault>
     requires size { length text.now ≡ 80 }
@@ -218,7 +218,7 @@ pub(crate) fn flags_at(text: &[u8], first: u8) -> Result<Flags, PointFault>
     Ok(Flags { done, begun, known })
 }
 
-/// What is said of the file.
+/// The fields of the file's form.
 #[tactic(auto, unfolding(crate::specs::Reading::form_at))]
 pub(crate) fn form_at(text: &[u8], first: u8) -> Result<Form, PointFault>
     requires size { length text.now ≡ 80 }
@@ -260,7 +260,7 @@ pub(crate) fn put<const N: usize>(text: &mut ArrayVec<u8, N>, piece: &[u8])
     }
 }
 
-/// Adds a number in so many digits.
+/// Appends a number with this many digits.
 fn put_number<const W: usize>(text: &mut ArrayVec<u8, 80>, number: u64)
     requires fits { number < 10 ^ W }
     requires room { array_vec_len text.old + W ≤ 80 }
@@ -270,7 +270,7 @@ fn put_number<const W: usize>(text: &mut ArrayVec<u8, 80>, number: u64)
     put(text, &digits_of::<W>(number));
 }
 
-/// What was put together.
+/// Returns the text.
 pub(crate) fn whole<const N: usize>(text: ArrayVec<u8, N>) -> [u8; N]
     requires { array_vec_len text ≡ N }
     ensures { result ≡ text.entry.items }
@@ -281,7 +281,7 @@ pub(crate) fn whole<const N: usize>(text: ArrayVec<u8, N>) -> [u8; N]
     }
 }
 
-/// `D` where the whole file was delivered, else `R`.
+/// `D` if the whole file was delivered, otherwise `R`.
 fn state_letter(done: bool) -> u8
     ensures { result ≡ state_letter done }
 {

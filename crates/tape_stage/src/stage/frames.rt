@@ -40,7 +40,7 @@ fn span_by(digit: u8) -> Option<Span>
     }
 }
 
-/// What a header tells.
+/// The contents of a header.
 pub(crate) fn header_of(header: &[u8; 5]) -> Option<(Span, u64)>
     ensures { MatchOption result (IsNoHeader header.now)
         (λ found. (found.1 ≤ longest_part)
@@ -54,7 +54,7 @@ pub(crate) fn header_of(header: &[u8; 5]) -> Option<(Span, u64)>
     Some((span, u64::from(size)))
 }
 
-/// The size of the part that a header tells of.
+/// The size of the part that follows a header.
 fn part_size(header: &[u8; 5]) -> Option<u64>
     ensures { MatchOption result (IsNoHeader header.now)
         (λ size. (size ≤ longest_part) × ((span : Span)
@@ -66,8 +66,8 @@ fn part_size(header: &[u8; 5]) -> Option<u64>
     }
 }
 
-/// Walks frames that should weigh so much, as far as the file goes: the first place where no frame
-/// stands that ends where they should or before; `None` where all of them stand.
+/// Walks frames of this total weight, as far as the file goes. Returns the first offset without a
+/// frame that ends within that weight, or `None` if all frames are valid.
 pub(crate) fn walk<D: Disk>(disk: &mut D, staged: u64, limit: u64) -> Result<Option<u64>, DiskFault>
     requires low { 256 ≤ limit }
     requires there { limit ≡ min (256 + staged) (D.length_of disk.old) }
@@ -99,7 +99,7 @@ pub(crate) fn walk<D: Disk>(disk: &mut D, staged: u64, limit: u64) -> Result<Opt
     Ok(None)
 }
 
-/// Where the frames break off that should weigh so much, if they do.
+/// Returns where the frames of this total weight are damaged, if they are.
 pub(crate) fn break_of<D: Disk>(disk: &mut D, staged: u64) -> Result<Option<u64>, DiskFault>
     requires long { 256 ≤ D.length_of disk.old }
     requires fits { staged ≤ most_staged }
@@ -115,8 +115,8 @@ pub(crate) fn break_of<D: Disk>(disk: &mut D, staged: u64) -> Result<Option<u64>
     walk(disk, staged, (256 + staged).min(len))
 }
 
-/// Reads the frame at a place into the buffer: its span, and how many bytes its part has. `Failed`
-/// where no frame stands there.
+/// Reads the frame at an offset into the buffer, and returns its span and the length of its part.
+/// Returns `Failed` if there is no frame.
 pub(crate) fn read_frame<D: Disk>(
     disk: &mut D,
     buffer: &mut [u8],
@@ -161,7 +161,7 @@ pub(crate) fn read_frame<D: Disk>(
 }
 
 impl<D: Disk> Stage<D> {
-    /// Cuts what lies behind the first parts of this weight; nothing of it is acknowledged.
+    /// Cuts what follows the first parts of this weight, none of which is acknowledged.
     pub(crate) fn cut_parts(&mut self, staged: u64) -> Result<(), StageFault>
         requires alive { self.old.failed ≡ false }
         requires behind { self.old.acknowledged.staged ≤ staged }
@@ -183,7 +183,7 @@ impl<D: Disk> Stage<D> {
             → Rose (D.faults self.old.disk) (D.faults self.new.disk) }
         ensures honest { SameFact (D.is_honest self.old.disk) (D.is_honest self.new.disk) }
     {
-        // No sync: what stands behind the told weight is nothing, whether a crash leaves it or not.
+        // No sync: what follows that weight does not count, whether a crash leaves it or not.
         match self.disk.cut(256 + staged) {
             Ok(()) => {
                 self.walked = 0;
@@ -197,8 +197,8 @@ impl<D: Disk> Stage<D> {
         }
     }
 
-    /// Keeps the first parts, of the weight that the checkpoint tells: at once where no
-    /// acknowledged part goes, and under the checkpoint as a new generation otherwise.
+    /// Keeps the first parts, up to the weight in the checkpoint: at once if no acknowledged part
+    /// is dropped, otherwise by saving the checkpoint as a new generation.
     pub(crate) fn cut_back(&mut self, point: &Checkpoint) -> Result<(), StageFault>
         requires { point.now.staged ≤ self.old.weight }
         ensures ok { D.is_honest self.old.disk → OnOk result ((acked parts front : List Portion)

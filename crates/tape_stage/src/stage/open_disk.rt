@@ -39,7 +39,7 @@ pub(crate) fn body_bytes(generation: u64, point: Checkpoint) -> [u8; 127]
     whole(body)
 }
 
-/// What the bytes behind a gate say, if they say something.
+/// Returns what the bytes after a gate represent, if they are valid.
 pub(crate) fn read_body(body: &[u8]) -> Option<(u64, Checkpoint)>
     requires { length body.now ≡ 127 }
     ensures says { body_of body.now ≡ result }
@@ -79,7 +79,7 @@ pub(crate) fn write_kept<D: Disk>(disk: &mut D, place: u64, bytes: &[u8]) -> Res
     disk.sync()
 }
 
-/// Cuts what follows the staged end, and keeps that.
+/// Cuts what follows the staged end, and syncs.
 pub(crate) fn cut_kept<D: Disk>(disk: &mut D, end: u64) -> Result<(), DiskFault>
     requires { end ≤ D.length_of disk.old }
     ensures cut { D.is_honest disk.old → OnOk result
@@ -91,12 +91,12 @@ pub(crate) fn cut_kept<D: Disk>(disk: &mut D, end: u64) -> Result<(), DiskFault>
     ensures short { OnOk result (D.length_of disk.new ≡ end) }
     ensures synced { EndsSynced D.Disk disk.old result disk.new }
 {
-    // Synced, so that what is put behind the end is not taken for what stood there before.
+    // Synced, so that what is appended later is not confused with what was there before.
     disk.cut(end)?;
     disk.sync()
 }
 
-/// Finds what is staged, reserves the buffer, and cuts what follows.
+/// Finds what is staged, allocates the buffer, and cuts what follows.
 fn recover<D: Disk>(alloc: Global, disk: &mut D) -> Result<(Found, Vec<u8>), StageFault>
     ensures found { D.is_honest disk.old → IfOk result
         (λ opened. IsOpened D.Disk opened.0 disk.old disk.new) }
@@ -153,13 +153,13 @@ fn make<D: Disk>(alloc: Global, disk: &mut D, point: Checkpoint) -> Result<(), S
     ensures ends { EndsFinding D.Disk disk.old result disk.new }
     ensures not_none { IfErr result (λ fault. SaysNone fault → ⊥) }
 {
-    // The gate is opened when both slots are kept.
+    // The gate is opened when both slots are durable.
     let header = header(alloc, point)?;
     write_kept(disk, 0, &header)?;
     Ok(write_kept(disk, 0, &[OPEN])?)
 }
 
-/// What was handed in, and why it was refused.
+/// The disk that was passed in, and why it was refused.
 #[derive(Drop)]
 pub struct Refused<D, F> {
     pub disk: D,
@@ -167,12 +167,12 @@ pub struct Refused<D, F> {
 }
 
 impl<D: Disk> Stage<D> {
-    /// Finds the stage that a disk holds, and cuts what follows it. It may crash too.
+    /// Opens the stage on a disk, and cuts what follows it. It may be interrupted by a crash too.
     ///
     /// # Errors
     ///
-    /// `NoPoint` where no slot counts; `BadFrame` where the frames that the checkpoint tells break
-    /// off; `OutOfMemory`; `Device`. Each hands the disk back, and all but `Device` with nothing
+    /// Returns `NoPoint` if no slot is valid; `BadFrame` if a frame that the checkpoint counts is
+    /// damaged; `OutOfMemory`; `Device`. Each returns the disk, and all but `Device` with nothing
     /// written to it.
     pub fn open_disk(
         alloc: Global,
@@ -201,19 +201,19 @@ impl<D: Disk> Stage<D> {
             (λ refused. OnBadFrame refused.fault (IsBadPlace (D.seen disk))) }
         ensures any_moment_err { D.is_honest disk
             → IfErr result (λ refused. OpensOver D.Disk disk refused.disk) }
-        // What was opened lost at most what follows its staged end.
+        // The opened stage lost at most what follows its staged end.
         ensures cut { D.is_honest disk → IfOk result (λ opened.
             D.seen opened.0.disk ≡ take (256 + opened.1.staged) (D.seen disk)) }
-        // Where the disk didn't fail a refusal wrote nothing.
+        // Unless the disk failed, a refusal wrote nothing.
         ensures untouched { D.is_honest disk → IfErr result (λ refused. IsNotDevice refused.fault
             → Untouched D.Disk disk refused.disk) }
-        // To what is no stage nothing is written, even where the disk failed.
+        // A disk without a stage is never written to, even if the disk failed.
         ensures foreign { D.is_honest disk → HoldsNone (D.seen disk)
             → IfErr result (λ refused. Untouched D.Disk disk refused.disk) }
-        // Where it failed what is staged stands where it stood.
+        // If it failed, what is staged is unchanged.
         ensures kept { D.is_honest disk
             → IfErr result (λ refused. KeepsStaged (D.seen disk) (D.seen refused.disk)) }
-        // On any disk, one that can't be believed too.
+        // On any disk, even a dishonest one.
         ensures same_length { IfErr result (λ refused. IsNotDevice refused.fault
             → D.length_of refused.disk ≡ D.length_of disk) }
     {
@@ -239,7 +239,7 @@ impl<D: Disk> Stage<D> {
         }
     }
 
-    /// Makes a stage on a disk that holds nothing.
+    /// Creates a stage on an empty disk.
     ///
     /// # Errors
     ///

@@ -20,7 +20,7 @@ use crate::stage::open_disk::read_body;
 use crate::stage::{Found, OPEN, StageFault};
 use tape_core::Checkpoint;
 
-/// What a slot says, where its gate is open.
+/// Returns the contents of a slot, if its gate is open.
 fn read_slot(gate: u8, body: &[u8]) -> Option<(u64, Checkpoint)>
     requires { length body.now ≡ 127 }
     ensures says { read_slot gate body.now ≡ result }
@@ -33,7 +33,7 @@ fn read_slot(gate: u8, body: &[u8]) -> Option<(u64, Checkpoint)>
     None
 }
 
-/// What the first or the second slot says.
+/// Returns the contents of the first or the second slot.
 fn slot(bytes: &[u8], second: bool) -> Option<(u64, Checkpoint)>
     requires { length bytes.now ≡ 256 }
     ensures says { slot_at second bytes.now ≡ result }
@@ -106,8 +106,8 @@ pub(crate) fn find_on<D: Disk>(disk: &mut D) -> Result<Found, StageFault>
     ensures reads { OnlyReads D.Disk disk.old disk.new }
     ensures ends { EndsFinding D.Disk disk.old result disk.new }
 {
-    // Before anything is read: what reads give is then what a crash leaves, and the cut that
-    // follows rests on slots that stay.
+    // Synced before anything is read: reads then return what a crash leaves, and the cut that
+    // follows relies on slots that stay.
     disk.sync()?;
     let len = disk.len()?;
     if len < 256 {

@@ -18,11 +18,11 @@ impl<'s, D: Disk> PartReader<'s, D> {
     ghost use Rattle.std.specs.Borrow.{sem};
     ghost use Rattle.tape_stage.specs.Reads.{ReadsAs};
 
-    /// Lends the next part; `None` behind the last.
+    /// Lends the next part, or returns `None` after the last.
     ///
     /// # Errors
     ///
-    /// Those of `PartWalk::next_part`: the same part is still to come.
+    /// The errors are those of `PartWalk::next_part`: the same part is still to come.
     pub fn next(&mut self) -> Result<Option<Part<'_>>, SinkFault>
         ensures* after { sem 𝓛 (ReadsAs D.row D.Disk self.entry result) }
     {

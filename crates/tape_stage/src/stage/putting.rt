@@ -1,4 +1,4 @@
-//! A stage as a sink: how parts are put, kept and walked.
+//! A stage as a sink: appending parts, saving and walking.
 
 ghost use Rattle.std.specs.Prelude.{◌≡◌, ◌+◌, ◌≤◌, ◌<◌, ◌^◌, ◌∷◌, ◌++◌, [], List, length};
 ghost use Rattle.std.specs.Prelude.{OnOk, OnErr, IsErrOf, ◌-◌, Err, true};
@@ -37,7 +37,7 @@ fn digit(span: Span) -> u8
     }
 }
 
-/// What stands in front of a part: its span, and its length in four bytes.
+/// The header of a part: its span, and its length in four bytes.
 fn header(span: Span, size: u32) -> [u8; 5]
     ensures { result ≡ indicator span ∷ to_be_bytes w32 size }
 {
@@ -59,20 +59,20 @@ fn write_frame<D: Disk>(disk: &mut D, place: u64, part: Part<'_>) -> Result<(), 
     ensures cause { OnErr result (Rose (D.faults disk.old) (D.faults disk.new)) }
     ensures honest { SameFact (D.is_honest disk.old) (D.is_honest disk.new) }
 {
-    // No sync: the part counts when a checkpoint that tells it is saved, and saving begins with a
-    // sync.
+    // No sync: the part counts once a checkpoint that includes it is saved, and saving begins with
+    // a sync.
     let header = header(part.span, part.bytes.len() as u32);
     disk.write_at(place, &header)?;
     disk.write_at(place + 5, part.bytes)
 }
 
 impl<D: Disk> Stage<D> {
-    /// Adds a part. It is not acknowledged yet.
+    /// Appends a part. It is not acknowledged yet.
     ///
     /// # Errors
     ///
-    /// `Failed` if the disk failed before, and `Full` if the parts would weigh more than
-    /// 999,999,999,999,999: nothing is changed. `Device`: the stage has to be opened again.
+    /// Returns `Failed` if the disk failed before, and `Full` if the parts would weigh more than
+    /// 999,999,999,999,999: nothing is changed. After `Device` the stage must be opened again.
     pub fn put_part(&mut self, part: Part<'_>) -> Result<(), StageFault>
         requires { length part.bytes.now ≤ longest_part }
         ensures ok { D.is_honest self.old.disk → OnOk result ((acked parts : List Portion)

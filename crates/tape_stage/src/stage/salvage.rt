@@ -1,4 +1,4 @@
-//! What remains of a stage whose frames break off.
+//! The readable parts of a damaged stage.
 
 ghost use Rattle.std.specs.Prelude.{◌≡◌, ◌+◌, ◌≤◌, length};
 ghost use Rattle.tape_core.specs.Known.{most_staged};
@@ -6,17 +6,17 @@ ghost use Rattle.tape_stage.specs.Parts.{longest_part};
 
 use crate::disk::Disk;
 
-/// The parts of a stage, up to the place where its frames break off. It is only read.
+/// The parts of a stage before the first damaged frame. The stage is only read.
 #[derive(Drop)]
 pub struct Salvage<D: Disk> {
     pub(crate) disk: D,
-    /// Where the frames break off, if they do.
+    /// The byte offset of the damage, if there is any.
     pub(crate) broken: Option<u64>,
-    /// What the parts weigh that remain.
+    /// The weight of the parts that remain.
     pub(crate) weight: u64,
-    /// Where a part is read to that is lent.
+    /// A buffer for the part that is lent.
     pub(crate) buffer: Vec<u8>,
-    /// What the parts weigh that a walk has lent.
+    /// The weight of the parts that a walk has lent.
     pub(crate) walked: u64,
     /// How many calls were refused to it as a sink.
     pub(crate) refused: u64,
@@ -27,8 +27,8 @@ pub struct Salvage<D: Disk> {
 }
 
 impl<D: Disk> Salvage<D> {
-    /// The place of the byte where no frame stands that ends by the staged end, counted from 0;
-    /// `None` where all frames stand that the checkpoint tells.
+    /// Returns the byte offset of the first damaged frame, counted from 0, or `None` if all frames
+    /// that the checkpoint counts are intact.
     pub fn broken(&self) -> Option<u64>
         ensures value { result ≡ self.now.broken }
     {

@@ -36,7 +36,7 @@ fn standing(staged: u64, broken: Option<u64>) -> u64
     }
 }
 
-/// The checkpoint of the slot that counts, and where its frames break off, if they do.
+/// Returns the checkpoint of the current slot, and where its frames are damaged, if they are.
 fn remains<D: Disk>(disk: &mut D) -> Result<(Checkpoint, Option<u64>), StageFault>
     ensures found { D.is_honest disk.old → IfOk result (λ found. (g : ℕ) × (parts : List Portion)
         × Remains (D.seen disk.old) g found.0 found.1 parts) }
@@ -54,13 +54,13 @@ fn remains<D: Disk>(disk: &mut D) -> Result<(Checkpoint, Option<u64>), StageFaul
 }
 
 impl<D: Disk> Salvage<D> {
-    /// Opens what a disk holds of a stage for reading: the checkpoint that was acknowledged last,
-    /// and its parts, or those before the place where the frames break off. Nothing is written and
-    /// nothing cut. A byte that is another inside a part no frame tells.
+    /// Opens a stage for reading: the checkpoint that was acknowledged last, and its parts, or
+    /// those before the first damaged frame. Nothing is written or cut. A changed byte inside a
+    /// part is not detected.
     ///
     /// # Errors
     ///
-    /// `NoPoint` where no slot counts; `OutOfMemory`; `Device`. Each hands the disk back.
+    /// Returns `NoPoint` if no slot is valid; `OutOfMemory`; `Device`. Each returns the disk.
     pub fn open_disk(
         alloc: Global,
         disk: D,
@@ -100,7 +100,7 @@ impl<D: Disk> Salvage<D> {
         Ok((salvage, point))
     }
 
-    /// Refuses a call that would change what is held.
+    /// Refuses a call that would change the contents.
     fn refuse(&mut self) -> SinkFault
         ensures fault { result ≡ SinkFault.Failed }
         ensures keeps { (parts : List Portion) → HoldsRest self.old parts
@@ -113,8 +113,8 @@ impl<D: Disk> Salvage<D> {
     }
 }
 
-/// A sink that takes nothing more: each call that would change it is refused with `Failed`. No
-/// crash leaves it to be gone on with.
+/// A read-only sink: it refuses each call that would change it with `Failed`. It makes no claim
+/// about crashes.
 impl<D: Disk> PartSink for Salvage<D> {
     ghost holds = { λ s parts. HoldsRest s parts };
 

@@ -18,7 +18,7 @@ use crate::stage::{CLOSED, MOST_GENERATION, OPEN, Stage, StageFault};
 use tape_core::Checkpoint;
 
 impl<D: Disk> Stage<D> {
-    /// The generation that is saved next. `Failed` where the disk failed, and `Full` where there is
+    /// Returns the next generation to save: `Failed` if the disk failed, and `Full` if there is
     /// none.
     fn next_generation(&self) -> Result<u64, StageFault>
         ensures next { IfOk result (λ generation. generation ≡ self.now.generation + 1) }
@@ -37,7 +37,7 @@ impl<D: Disk> Stage<D> {
         Ok(self.generation + 1)
     }
 
-    /// Makes a checkpoint the acknowledged one; the parts stay.
+    /// Makes a checkpoint the acknowledged one; the parts are unchanged.
     pub(crate) fn acknowledge(&mut self, point: &Checkpoint) -> Result<(), StageFault>
         requires { point.now.staged ≤ self.old.weight }
         ensures pending { IsErrOf result StageFault.Device → self.new.pending ≡ Some point.now }
@@ -90,7 +90,7 @@ impl<D: Disk> Stage<D> {
     /// The checkpoint that was acknowledged last: by making, opening, saving or going back.
     pub fn acknowledged(&self) -> Checkpoint
         ensures value { result ≡ self.now.acknowledged }
-        // Whatever a crash leaves now stands for it and its parts.
+        // Whatever a crash leaves now represents the checkpoint and its parts.
         ensures stands { D.is_honest self.now.disk → (acked parts : List Portion)
             → IsStage self.now acked parts
             → (bytes : List ℕ) → D.may_leave self.now.disk bytes
@@ -99,7 +99,7 @@ impl<D: Disk> Stage<D> {
         self.acknowledged
     }
 
-    /// The checkpoint that was being saved when the disk failed, where one was.
+    /// Returns the checkpoint that was being saved when the disk failed, if there was one.
     pub fn pending(&self) -> Option<Checkpoint>
         ensures { result ≡ self.now.pending }
     {
@@ -110,8 +110,8 @@ impl<D: Disk> Stage<D> {
     ///
     /// # Errors
     ///
-    /// `Failed` where the disk failed before, and `Full` where no generation is left: nothing is
-    /// changed. `Device`: the checkpoint is pending, and the stage has to be opened again.
+    /// Returns `Failed` if the disk failed before, and `Full` if no generation is left: nothing is
+    /// changed. After `Device` the checkpoint is pending, and the stage must be opened again.
     pub fn save(&mut self, point: &Checkpoint) -> Result<(), StageFault>
         requires { point.now.staged ≡ self.old.weight }
         ensures pending { IsErrOf result StageFault.Device → self.new.pending ≡ Some point.now }
@@ -135,9 +135,9 @@ impl<D: Disk> Stage<D> {
     ///
     /// # Errors
     ///
-    /// `Failed` where the disk failed before, and `Full` where no generation is left: nothing is
-    /// changed. `Device`: the checkpoint is pending, or acknowledged already, and the stage has to
-    /// be opened again.
+    /// Returns `Failed` if the disk failed before, and `Full` if no generation is left: nothing is
+    /// changed. After `Device` the checkpoint is pending or already acknowledged, and the stage
+    /// must be opened again.
     pub fn restart(&mut self, point: &Checkpoint) -> Result<(), StageFault>
         requires { point.now.staged ≤ self.old.weight }
         ensures pending { IsErrOf result StageFault.Device
@@ -156,7 +156,8 @@ impl<D: Disk> Stage<D> {
         ensures ends { EndsCall self.old result self.new }
     {
         let staged = point.staged;
-        // Saved first and then cut: a cut before could take parts that the older checkpoint tells.
+        // Saved first and then cut: cutting first could drop parts that the older checkpoint
+        // counts.
         match self.acknowledge(point) {
             Ok(()) => self.cut_parts(staged),
             Err(fault) => Err(fault),
@@ -164,14 +165,14 @@ impl<D: Disk> Stage<D> {
     }
 }
 
-/// Where the gate of a slot stands.
+/// Returns the offset of a slot's gate.
 fn gate_place(second: bool) -> u64
     ensures { result ≡ slot_place second }
 {
     if second { 128 } else { 0 }
 }
 
-/// Closes the gate of the slot that is not current, where it stands open; syncs in either case.
+/// Closes the gate of the older slot, if it is open; syncs in either case.
 pub(crate) fn close_gate<D: Disk>(
     disk: &mut D,
     in_second: bool,
@@ -189,16 +190,15 @@ pub(crate) fn close_gate<D: Disk>(
     ensures long { OnOk result (D.length_of disk.new ≡ D.length_of disk.old) }
     ensures synced { EndsSynced D.Disk disk.old result disk.new }
 {
-    // A gate that is closed is left alone: a write of it that a crash tears could leave it open
-    // over a body that was never acknowledged. The sync is due in either case, since it keeps the
-    // frames.
+    // A closed gate is not written again: a torn write could leave it open before a body that was
+    // never acknowledged. The sync is needed in either case, since it makes the frames durable.
     if is_open {
         return write_kept(disk, gate_place(!in_second), &[CLOSED]);
     }
     disk.sync()
 }
 
-/// Writes the next generation and its checkpoint behind the gate, which is closed.
+/// Writes the next generation and its checkpoint after the gate, which is closed.
 pub(crate) fn fill_slot<D: Disk>(
     disk: &mut D,
     in_second: bool,
@@ -243,12 +243,12 @@ pub(crate) fn open_gate<D: Disk>(disk: &mut D, in_second: bool) -> Result<(), Di
     ensures long { OnOk result (D.length_of disk.new ≡ D.length_of disk.old) }
     ensures synced { EndsSynced D.Disk disk.old result disk.new }
 {
-    // One byte, behind the sync of all that it makes count: a crash leaves it open or not.
+    // One byte, after the sync of all that it makes valid: a crash leaves it open or not.
     write_kept(disk, gate_place(!in_second), &[OPEN])
 }
 
-/// Puts the next generation in the place of the older slot. At a crash it stands for the current
-/// generation, or the next one.
+/// Replaces the older slot by the next generation. A crash leaves the current generation or the
+/// next one.
 pub(crate) fn replace_slot<D: Disk>(
     disk: &mut D,
     in_second: bool,
@@ -273,7 +273,7 @@ pub(crate) fn replace_slot<D: Disk>(
     ensures synced { EndsSynced D.Disk disk.old result disk.new }
 {
     // Each step is synced before the next begins: the gate is closed before its body changes, and
-    // opened when that is kept.
+    // opened when the body is durable.
     close_gate(disk, in_second, is_open)?;
     fill_slot(disk, in_second, generation, next)?;
     open_gate(disk, in_second)
